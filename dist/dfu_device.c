@@ -1198,11 +1198,11 @@ join_7:
 
 /* dfu_slots::open::check::<#c4c4734aca759fff> */
 static void dfu_slots_open_check(unsigned char *a0, unsigned char *a1) {
-    _Alignas(1) unsigned char r3_3[16];
+    _Alignas(1) unsigned char r3_4[16];
     uint8_t r5, r11;
     unsigned char *r2;
-    uint32_t r93_2, r93_3, r1_9_0_copyload, v3, v4;
-    uint8_t r1_2_0_copyload, v51, v5;
+    uint32_t r72_2, r72_3, r1_9_0_copyload, v3, v4;
+    uint8_t r1_2_0_copyload, v50, v5;
     uint8_t r12 = dfu_slots_open_is_sized(a1);
     if (r12) goto join_3;
     goto then_1;
@@ -1225,16 +1225,17 @@ join_3:
     return;
 join_6:;
     uint64_t r3_2 = load64(r2);
-    uint32_t r93 = (uint32_t)r3_2 >> 1;
-    uint8_t r16 = dfu_slots_places_is_newest(a1, 0, r93, r5, r11);
-    r93_2 = (uint32_t)(r16 ? 0 : r93);
-    r93_3 = (uint32_t)(r16 ? r93 : 0);
-    if (r93_2 != 0) goto dfu_slots_places_has_newest_exit;
-    uint8_t r24 = dfu_slots_places_is_newest(a1, 0, r93_3, r5, r11);
+    uint8_t r15 = dfu_slots_places_is_newest(a1, 0, (uint32_t)r3_2 >> 1, r5, r11);
+    uint64_t r3_3 = load64(r2);
+    uint32_t r72 = (uint32_t)r3_3 >> 1;
+    r72_2 = (uint32_t)(r15 ? 0 : r72);
+    r72_3 = (uint32_t)(r15 ? r72 : 0);
+    if (r72_2 != 0) goto dfu_slots_places_has_newest_exit;
+    uint8_t r24 = dfu_slots_places_is_newest(a1, 0, r72_3, r5, r11);
     if (r24) goto join_9;
     goto then_7;
 dfu_slots_places_has_newest_exit:;
-    uint8_t r33 = dfu_slots_places_is_newest(a1, r93_2, r93_3, r11, r5);
+    uint8_t r33 = dfu_slots_places_is_newest(a1, r72_2, r72_3, r11, r5);
     if (r33) goto join_9;
 then_7:
     *a0 = 1;
@@ -1243,38 +1244,38 @@ then_7:
     store32(a0 + 8, 0);
     return;
 join_9:
-    dfu_slots_read_header_of(r3_3, a1, r93_2);
-    r1_2_0_copyload = r3_3[1];
-    r1_9_0_copyload = load32u(r3_3 + 12);
+    dfu_slots_read_header_of(r3_4, a1, r72_2);
+    r1_2_0_copyload = r3_4[1];
+    r1_9_0_copyload = load32u(r3_4 + 12);
     if (r1_2_0_copyload != 2) goto join_3_2;
-    v51 = 0;
-    v3 = r93_3;
-    v4 = r93_2;
+    v50 = 0;
+    v3 = r72_3;
+    v4 = r72_2;
     v5 = 0;
     goto v2;
 join_3_2:;
-    uint32_t r1_6_0_copyload = load32u(r3_3 + 4);
-    uint32_t r1_8_0_copyload = load32u(r3_3 + 8);
-    uint8_t r1_5_0_copyload = r3_3[3];
-    uint8_t r1_4_0_copyload = r3_3[2];
+    uint32_t r1_6_0_copyload = load32u(r3_4 + 4);
+    uint32_t r1_8_0_copyload = load32u(r3_4 + 8);
+    uint8_t r1_5_0_copyload = r3_4[3];
+    uint8_t r1_4_0_copyload = r3_4[2];
     uint32_t r26 = dfu_slots_read_capacity_of(a1);
     if (((((r1_2_0_copyload == 1) & (r1_6_0_copyload <= r26)) ? (r1_4_0_copyload == 0) : 0) ? (r1_5_0_copyload == 0) : 0) ? (r1_8_0_copyload == 0) : 0) goto dfu_slots_read_header_len_exit;
     goto v1;
 dfu_slots_read_header_len_exit:
     if (r1_9_0_copyload == 0) {
-        v51 = 0;
-        v3 = r93_3;
-        v4 = r93_2;
+        v50 = 0;
+        v3 = r72_3;
+        v4 = r72_2;
         v5 = 0;
         goto v2;
     }
 v1:
-    v51 = 1;
+    v50 = 1;
     v3 = 0;
     v4 = 0;
     v5 = 3;
 v2:
-    *a0 = v51;
+    *a0 = v50;
     a0[1] = v5;
     store32(a0 + 4, v4);
     store32(a0 + 8, v3);
@@ -5007,12 +5008,12 @@ int32_t dfu_core_next(const struct dfu_config *config, const struct dfu_record *
     _Alignas(8) unsigned char r10[112];
     _Alignas(8) unsigned char r7[24];
     _Alignas(4) unsigned char r18[16];
-    _Alignas(4) unsigned char r17_2[12];
+    _Alignas(4) unsigned char r16[12];
     unsigned char *r4, *r13, *r62, *v2, *r69;
     uint16_t r54;
     uint8_t r5_0_0_copyload;
     uint32_t r6_0_0_copyload, common_ret_op;
-    uint64_t r11_4_0_copyload, r11_5_0_copyload, r2514_2;
+    uint64_t r11_4_0_copyload, r11_5_0_copyload, a1_2;
     r4 = (unsigned char *)((uintptr_t)a2 + (uintptr_t)(uint64_t)((a2 == NULL) ? 4096 : 0));
     r13 = (unsigned char *)((uintptr_t)a4 + (uintptr_t)(uint64_t)((a4 == NULL) ? 4096 : 0));
     memset(r5, 0, 136);
@@ -5071,27 +5072,27 @@ join_7:
     r11_5_0_copyload = load64(r10 + 88);
     uint8_t r72 = dfu_asks_next_and_took_is_sound(r6_0_0_copyload, r69);
     if (!r72) goto dfu_asks_asking_Asking_next_exit_thread;
-    memset(r17_2, 0, 12);
-    uint64_t r2514 = a5 >> 1;
-    r2514_2 = (uint64_t)((r11_4_0_copyload < r2514) ? 0 : r2514);
-    if ((r2514_2 + r2514) < (r11_5_0_copyload + r11_4_0_copyload)) goto dfu_asks_next_and_took_is_spare_exit_thread;
-    uint8_t r51 = r13[(size_t)r2514_2];
-    if (r51 == 165) goto arm_10;
+    memset(r16, 0, 12);
+    uint64_t r2412 = a5 >> 1;
+    a1_2 = (uint64_t)((r11_4_0_copyload < r2412) ? 0 : r2412);
+    if ((a1_2 + r2412) < (r11_5_0_copyload + r11_4_0_copyload)) goto dfu_asks_next_and_took_is_spare_exit_thread;
+    uint8_t r45 = r13[(size_t)a1_2];
+    if (r45 == 165) goto arm_7;
     goto arm_8;
-arm_10:
+arm_7:
     store64(r7, (uint64_t)(uintptr_t)r13);
     store64(r7 + 8, a5);
     r7[16] = r5_0_0_copyload;
     memset(r7 + 17, 0, 3);
     store32(r7 + 20, r6_0_0_copyload);
-    dfu_slots_open_check(r17_2, r7);
-    uint8_t r71 = *r17_2;
-    if (r71 == 0) goto dfu_asks_next_and_took_is_spare_exit;
+    dfu_slots_open_check(r16, r7);
+    uint8_t r65 = *r16;
+    if (r65 == 0) goto dfu_asks_next_and_took_is_spare_exit;
 dfu_asks_next_and_took_is_spare_exit_thread:
     goto dfu_asks_asking_Asking_next_exit_thread35;
 dfu_asks_next_and_took_is_spare_exit:;
-    uint32_t r8_2_0_copyload = load32(r17_2 + 8);
-    if (r2514_2 == (uint64_t)r8_2_0_copyload) goto arm_8;
+    uint32_t r8_2_0_copyload = load32(r16 + 8);
+    if (a1_2 == (uint64_t)r8_2_0_copyload) goto arm_8;
     goto dfu_asks_asking_Asking_next_exit_thread35;
 dfu_asks_asking_Asking_next_exit_thread:
     common_ret_op = 0xfffffffcU;

@@ -1,11 +1,12 @@
 /* SPDX-License-Identifier: MIT OR Apache-2.0
  *
- * The body of dfuse_file.h: DfuSe files, and the hosts of DfuSe (dfuse_host.h) and of USB DFU 1.1 (dfu_host.h).
+ * The body of dfuse_watch.h: the hosts of USB DFU 1.1 (dfu_host.h) and of DfuSe (dfuse_host.h), DfuSe files (dfuse_file.h), and
+ * when a device is given up (dfu_watch.h and this one).
  *
  * Made by dist/make/library of the proved crate. Nobody edits it: change the crate, and make it anew by dist/generate. Compile it as C11
  * beside its header. Memory is arrays of bytes here, laid out as on a 64-bit processor with the low byte first: a size is a uint64_t,
  * and a pointer takes 8 bytes. */
-#include "dfuse_file.h"
+#include "dfuse_watch.h"
 
 #include <stddef.h>
 #include <stdint.h>
@@ -76,6 +77,30 @@ _Static_assert(offsetof(struct dfu_action, code) == 24, "another layout");
 _Static_assert(offsetof(struct dfu_action, setup) == 28, "another layout");
 _Static_assert(sizeof(struct dfu_action) == 40, "another layout");
 _Static_assert(_Alignof(struct dfu_action) == 8, "another layout");
+_Static_assert(offsetof(struct dfu_watch, silent) == 0, "another layout");
+_Static_assert(offsetof(struct dfu_watch, resets) == 4, "another layout");
+_Static_assert(offsetof(struct dfu_watch, stalled) == 8, "another layout");
+_Static_assert(offsetof(struct dfu_watch, sent) == 9, "another layout");
+_Static_assert(offsetof(struct dfu_watch, anew) == 10, "another layout");
+_Static_assert(sizeof(struct dfu_watch) == 12, "another layout");
+_Static_assert(_Alignof(struct dfu_watch) == 4, "another layout");
+_Static_assert(offsetof(struct dfu_facts, reached) == 0, "another layout");
+_Static_assert(offsetof(struct dfu_facts, gone) == 1, "another layout");
+_Static_assert(offsetof(struct dfu_facts, many) == 2, "another layout");
+_Static_assert(offsetof(struct dfu_facts, stopped) == 3, "another layout");
+_Static_assert(offsetof(struct dfu_facts, open) == 4, "another layout");
+_Static_assert(offsetof(struct dfu_facts, upgrade) == 5, "another layout");
+_Static_assert(offsetof(struct dfu_facts, again) == 6, "another layout");
+_Static_assert(offsetof(struct dfu_facts, same) == 7, "another layout");
+_Static_assert(sizeof(struct dfu_facts) == 8, "another layout");
+_Static_assert(_Alignof(struct dfu_facts) == 1, "another layout");
+_Static_assert(offsetof(struct dfuse_file, targets) == 0, "another layout");
+_Static_assert(offsetof(struct dfuse_file, setting) == 4, "another layout");
+_Static_assert(offsetof(struct dfuse_file, device) == 8, "another layout");
+_Static_assert(offsetof(struct dfuse_file, product) == 10, "another layout");
+_Static_assert(offsetof(struct dfuse_file, vendor) == 12, "another layout");
+_Static_assert(sizeof(struct dfuse_file) == 16, "another layout");
+_Static_assert(_Alignof(struct dfuse_file) == 4, "another layout");
 _Static_assert(offsetof(struct dfuse_map, name) == 0, "another layout");
 _Static_assert(offsetof(struct dfuse_map, ranges) == 8, "another layout");
 _Static_assert(sizeof(struct dfuse_map) == 16, "another layout");
@@ -123,13 +148,11 @@ _Static_assert(offsetof(struct dfuse_action, more) == 16, "another layout");
 _Static_assert(offsetof(struct dfuse_action, setup) == 20, "another layout");
 _Static_assert(sizeof(struct dfuse_action) == 32, "another layout");
 _Static_assert(_Alignof(struct dfuse_action) == 8, "another layout");
-_Static_assert(offsetof(struct dfuse_file, targets) == 0, "another layout");
-_Static_assert(offsetof(struct dfuse_file, setting) == 4, "another layout");
-_Static_assert(offsetof(struct dfuse_file, device) == 8, "another layout");
-_Static_assert(offsetof(struct dfuse_file, product) == 10, "another layout");
-_Static_assert(offsetof(struct dfuse_file, vendor) == 12, "another layout");
-_Static_assert(sizeof(struct dfuse_file) == 16, "another layout");
-_Static_assert(_Alignof(struct dfuse_file) == 4, "another layout");
+_Static_assert(offsetof(struct dfuse_watch, silent) == 0, "another layout");
+_Static_assert(offsetof(struct dfuse_watch, waits) == 4, "another layout");
+_Static_assert(offsetof(struct dfuse_watch, sent) == 8, "another layout");
+_Static_assert(sizeof(struct dfuse_watch) == 12, "another layout");
+_Static_assert(_Alignof(struct dfuse_watch) == 4, "another layout");
 
 struct i32_i32 { uint32_t a; uint32_t b; };
 struct i64_i1 { uint64_t a; uint8_t b; };
@@ -176,6 +199,9 @@ static _Alignas(1) const uint8_t static_3[114] = {
     0x6c, 0x6f, 0x63, 0x6b, 0x73, 0x20, 0x6e, 0x6f, 0x2d, 0x6d, 0x65, 0x6d, 0x6f, 0x72, 0x79, 0x20, 0x76, 0x65, 0x72, 0x69,
     0x66, 0x69, 0x65, 0x64, 0x20, 0x64, 0x69, 0x66, 0x66, 0x65, 0x72, 0x65, 0x6e, 0x74
 };
+static _Alignas(4) const uint8_t switch_table_dfu_host_session_Session_on_result[11] = {
+    0x11, 0x11, 0x11, 0x11, 0x11, 0xc, 0xe, 0x11, 0x11, 0x11, 0x11
+};
 static _Alignas(8) const uint64_t switch_table_dfu_host_name[11] = {
     0, 0xa, 0x16, 0x1e, 0x26, 0x2e, 0x3d, 0x46, 0x56, 0x60, 0x69
 };
@@ -183,6 +209,8 @@ static _Alignas(8) const uint64_t switch_table_dfu_host_name_1[11] = {
     9, 0x15, 0x1d, 0x25, 0x2d, 0x3c, 0x45, 0x55, 0x5f, 0x68, 0x72
 };
 
+static uint8_t dfu_host_c_watching_is_download(unsigned char *a0);
+static uint8_t dfu_host_c_watching_is_other(unsigned char *a0, unsigned char *a1);
 static void dfuse_file_file_read(unsigned char *a0, unsigned char *a1, uint64_t a2);
 static void dfu_suffix_parse_read_small(unsigned char *a0, unsigned char *a1, uint64_t a2);
 static void dfu_suffix_crc_Crc_update_small(unsigned char *a0, unsigned char *a1, uint64_t a2);
@@ -217,8 +245,9 @@ static uint8_t core_slice_scan_any_in_run(unsigned char *a0, uint64_t a1, uint64
 static uint8_t core_cmp_slices_groups_equal_i8_core_cmp_numbers_U8PartialEq(unsigned char *a0, uint64_t a1, unsigned char *a2, uint64_t a3);
 static void dfu_host_progress_Progress_restarted(unsigned char *a0, unsigned char *a1);
 static void dfu_host_progress_Progress_spent(unsigned char *a0, unsigned char *a1, unsigned char *a2, uint16_t a3);
-static void dfu_host_task_Task_listed(unsigned char *a0, unsigned char *a1, unsigned char *a2);
+static void dfu_host_task_Task_on_status(unsigned char *a0, unsigned char *a1, unsigned char *a2, unsigned char *a3, unsigned char *a4);
 static void dfu_host_task_Task_troubled(unsigned char *a0, unsigned char *a1, unsigned char *a2);
+static void dfu_host_task_Task_listed(unsigned char *a0, unsigned char *a1, unsigned char *a2);
 static void dfu_host_c_dfuse_holding_map_of(unsigned char *a0, unsigned char *a1, uint64_t a2);
 static void dfu_host_c_dfuse_holding_session_of(unsigned char *a0, unsigned char *a1, unsigned char *a2, unsigned char *a3, uint64_t a4);
 static void dfuse_host_asking_ask(unsigned char *a0, unsigned char *a1);
@@ -256,16 +285,59 @@ static void dfuse_host_plan_Plan_to_compare_front(unsigned char *a0, unsigned ch
 static void dfuse_host_plan_Plan_unsure_of(unsigned char *a0, unsigned char *a1, unsigned char *a2, uint8_t a3, uint64_t a4);
 static void dfuse_host_session_Session_spent(unsigned char *a0, unsigned char *a1, unsigned char *a2, uint16_t a3);
 
+/* dfu_host_c::watching::is_download */
+static uint8_t dfu_host_c_watching_is_download(unsigned char *a0) {
+    uint8_t r1_0_in;
+    uint32_t r10 = load32(a0);
+    if (r10 != 0) {
+        r1_0_in = 0;
+        goto join_6;
+    }
+    uint8_t r20 = a0[28];
+    if (r20 != 33) {
+        r1_0_in = 0;
+        goto join_6;
+    }
+    uint8_t r33 = a0[29];
+    r1_0_in = r33 == 1;
+join_6:
+    return r1_0_in;
+}
+
+/* dfu_host_c::watching::is_other */
+static uint8_t dfu_host_c_watching_is_other(unsigned char *a0, unsigned char *a1) {
+    uint8_t r1_0_in;
+    uint8_t r9 = a1[4];
+    if (r9 == 0) {
+        r1_0_in = 0;
+        goto join_6;
+    }
+    uint8_t r16 = a1[6];
+    if (r16 != 0) {
+        r1_0_in = 0;
+        goto join_6;
+    }
+    uint8_t r26 = a1[5];
+    if (r26 != 0) {
+        r1_0_in = 1;
+        goto join_6;
+    }
+    uint8_t r33 = a0[9];
+    r1_0_in = r33 == 0;
+join_6:
+    return r1_0_in;
+}
+
 /* dfuse_file::file::read */
 static void dfuse_file_file_read(unsigned char *a0, unsigned char *a1, uint64_t a2) {
     _Alignas(8) unsigned char r9[72];
     unsigned char *const r5 = r9;
     _Alignas(8) unsigned char r8[48];
     unsigned char *const r5_2 = r8;
-    unsigned char *v1, *r5_2_0_r27_sroa_idx, *r5_32_0_r27_sroa_idx, *r5_4_0_r27_sroa_idx, *r5_5_0_r27_sroa_idx, *r5_5_3_0_r5_5_0_r27_sroa_idx_sroa_idx, *r4_2_0_r21_sroa_idx, *r4_3_0_r21_sroa_idx;
-    uint64_t r2_0, wide_665, r19, r3_0_0, r3_5_0, r5_5_0_0_copyload, r5_5_3_0_copyload, r3_0_0_2, r3_5_0_2, r6_26_0, r6_27_0;
+    unsigned char *v1, *r5_2_0_r25_sroa_idx, *r5_32_0_r25_sroa_idx, *r5_4_0_r25_sroa_idx, *r5_5_0_r25_sroa_idx, *r5_5_3_0_r5_5_0_r25_sroa_idx_sroa_idx, *r4_2_0_r19_sroa_idx, *r4_3_0_r19_sroa_idx, *r21;
+    uint64_t r2_0, wide_1293, r19, r3_0_0, r3_5_0, r5_5_0_0_copyload, r5_5_3_0_copyload, r3_0_0_2, r3_5_0_2, r6_26_0, r6_27_0;
     uint16_t r7_0_0, r7_0_0_2, r7_0_0_3, r6_17_1_0, r6_17_8_0, r6_17_9_0;
-    uint8_t r98, r7_0, r0_5_0, r5_4_0, r6_0_0, r6_9_0, r6_24_0;
+    uint8_t r98, r7_0, r4_0_0_copyload_pn, r5_4_0, r6_0_0, r6_9_0, r6_24_0;
     uint32_t r5_2_0_copyload, r6_0;
     dfu_suffix_parse_read_small(r5, a1, a2);
     uint8_t r14 = *r5;
@@ -430,49 +502,50 @@ arm_1:;
         r6_27_0 = 0;
         goto dfuse_file_file_read_file_exit;
     }
-    wide_665 = (uint64_t)(uintptr_t)(a1 + 11);
+    wide_1293 = (uint64_t)(uintptr_t)(a1 + 11);
     r19 = r2_0 + 0xfffffffffffffff5ULL;
-    r5_2_0_r27_sroa_idx = r9 + 32;
-    r5_32_0_r27_sroa_idx = r9 + 40;
-    r5_4_0_r27_sroa_idx = r9 + 48;
-    r5_5_0_r27_sroa_idx = r9 + 56;
-    r5_5_3_0_r5_5_0_r27_sroa_idx_sroa_idx = r9 + 64;
-    r4_2_0_r21_sroa_idx = r8 + 32;
-    r4_3_0_r21_sroa_idx = r8 + 40;
-    r3_0_0 = wide_665;
+    r5_2_0_r25_sroa_idx = r9 + 32;
+    r5_32_0_r25_sroa_idx = r9 + 40;
+    r5_4_0_r25_sroa_idx = r9 + 48;
+    r5_5_0_r25_sroa_idx = r9 + 56;
+    r5_5_3_0_r5_5_0_r25_sroa_idx_sroa_idx = r9 + 64;
+    r4_2_0_r19_sroa_idx = r8 + 32;
+    r4_3_0_r19_sroa_idx = r8 + 40;
+    r21 = r8 + 1;
+    r3_0_0 = wide_1293;
     r3_5_0 = r19;
     r7_0 = 0;
 loop_2_2:
     if (r7_0 >= r98) goto dfuse_file_targets_check_targets_exit;
     dfuse_file_headings_take_heading(r9, (unsigned char *)(uintptr_t)r3_0_0, r3_5_0);
-    uint8_t r24 = *r9;
-    if (r24 != 1) goto arm_7;
+    uint8_t r22 = *r9;
+    if (r22 != 1) goto arm_7;
     uint8_t r4_0_0_copyload_2 = r9[1];
-    r0_5_0 = r4_0_0_copyload_2;
+    r4_0_0_copyload_pn = r4_0_0_copyload_2;
     goto dfuse_file_targets_check_targets_exit_thread;
 arm_7:
-    r5_2_0_copyload = load32(r5_2_0_r27_sroa_idx);
-    uint64_t r5_32_0_copyload = load64(r5_32_0_r27_sroa_idx);
-    uint64_t r5_4_0_copyload = load64(r5_4_0_r27_sroa_idx);
-    r5_5_0_0_copyload = load64(r5_5_0_r27_sroa_idx);
-    r5_5_3_0_copyload = load64(r5_5_3_0_r5_5_0_r27_sroa_idx_sroa_idx);
+    r5_2_0_copyload = load32(r5_2_0_r25_sroa_idx);
+    uint64_t r5_32_0_copyload = load64(r5_32_0_r25_sroa_idx);
+    uint64_t r5_4_0_copyload = load64(r5_4_0_r25_sroa_idx);
+    r5_5_0_0_copyload = load64(r5_5_0_r25_sroa_idx);
+    r5_5_3_0_copyload = load64(r5_5_3_0_r5_5_0_r25_sroa_idx_sroa_idx);
     r3_0_0_2 = r5_32_0_copyload;
     r3_5_0_2 = r5_4_0_copyload;
     r6_0 = 0;
 loop_2:
     if (r6_0 == r5_2_0_copyload) goto dfuse_file_elements_check_elements_exit;
     dfuse_file_elements_take_element(r8, (unsigned char *)(uintptr_t)r3_0_0_2, r3_5_0_2);
-    uint8_t r20_2 = *r8;
-    if (r20_2 != 0) goto dfuse_file_elements_check_elements_exit_thread;
-    uint64_t r4_2_0_copyload = load64(r4_2_0_r21_sroa_idx);
-    uint64_t r4_3_0_copyload = load64(r4_3_0_r21_sroa_idx);
+    uint8_t r18 = *r8;
+    if (r18 != 0) goto dfuse_file_elements_check_elements_exit_thread;
+    uint64_t r4_2_0_copyload = load64(r4_2_0_r19_sroa_idx);
+    uint64_t r4_3_0_copyload = load64(r4_3_0_r19_sroa_idx);
     r3_0_0_2 = r4_2_0_copyload;
     r3_5_0_2 = r4_3_0_copyload;
     r6_0 = r6_0 + 1;
     goto loop_2;
 dfuse_file_elements_check_elements_exit_thread:;
-    uint8_t r5_0_0_copyload = r8[1];
-    r0_5_0 = r5_0_0_copyload;
+    uint8_t r5_0_0_copyload = *r21;
+    r4_0_0_copyload_pn = r5_0_0_copyload;
     goto dfuse_file_targets_check_targets_exit_thread;
 dfuse_file_elements_check_elements_exit:
     if (r3_5_0_2 == 0) {
@@ -481,13 +554,13 @@ dfuse_file_elements_check_elements_exit:
         r7_0 = (uint8_t)(r7_0 + 1);
         goto loop_2_2;
     }
-    r0_5_0 = 11;
+    r4_0_0_copyload_pn = 11;
 dfuse_file_targets_check_targets_exit_thread:
     r6_17_1_0 = 0;
     r6_17_8_0 = 0;
     r6_17_9_0 = 0;
     r6_0_0 = 1;
-    r6_9_0 = r0_5_0;
+    r6_9_0 = r4_0_0_copyload_pn;
     r6_24_0 = 0;
     r6_26_0 = 0;
     r6_27_0 = 0;
@@ -510,7 +583,7 @@ dfuse_file_targets_check_targets_exit:
     r6_0_0 = 0;
     r6_9_0 = 0;
     r6_24_0 = r98;
-    r6_26_0 = wide_665;
+    r6_26_0 = wide_1293;
     r6_27_0 = r19;
     goto dfuse_file_file_read_file_exit;
 arm_2:
@@ -779,7 +852,7 @@ join_9:;
 static void dfuse_file_elements_take_element(unsigned char *a0, unsigned char *a1, uint64_t a2) {
     uint32_t r26, r26_2;
     unsigned char *r16;
-    uint64_t wide_665, r19, r49;
+    uint64_t wide_1293, r19, r49;
     if (a2 < 8) goto then_1;
     goto join_3;
 then_1:
@@ -791,7 +864,7 @@ join_3:
     r26 = load32u(a1);
     r26_2 = load32u(a1 + 4);
     r16 = a1 + 8;
-    wide_665 = (uint64_t)(uintptr_t)r16;
+    wide_1293 = (uint64_t)(uintptr_t)r16;
     r19 = a2 + 0xfffffffffffffff8ULL;
     r49 = (uint64_t)r26_2;
     if (r19 >= r49) goto join_6;
@@ -816,7 +889,7 @@ join_12:
     a0[1] = 0;
     store32(a0 + 8, r26);
     store32(a0 + 12, 0);
-    store64(a0 + 16, wide_665);
+    store64(a0 + 16, wide_1293);
     store64(a0 + 24, r49);
     store64(a0 + 32, (uint64_t)(uintptr_t)(r16 + (size_t)r49));
     store64(a0 + 40, r19 - r49);
@@ -825,30 +898,30 @@ join_12:
 
 /* dfuse_memory::map::Map::read */
 static void dfuse_memory_map_Map_read(unsigned char *a0, unsigned char *a1, uint64_t a2) {
-    _Alignas(2) unsigned char r17_11[782];
+    _Alignas(2) unsigned char r20_11[782];
     _Alignas(8) unsigned char r3[776];
-    _Alignas(2) unsigned char r0_20_8[776];
+    _Alignas(2) unsigned char r0_17_11[776];
     _Alignas(8) unsigned char r9[776];
     _Alignas(8) unsigned char r0_20[776];
     _Alignas(8) unsigned char r1[768];
     unsigned char *const r12 = r1;
     unsigned char *const r4 = r1;
     unsigned char *const r5 = r1;
-    _Alignas(8) unsigned char r14[32];
-    uint64_t r19, wide_665, r23, r3_0, r3_0_2, r4_0, r7_0_0_copyload, r7_3_0_copyload, r7_4_0_copyload, r2_0, r3_2, r5_0_0;
-    uint64_t r5_4_0, r4_0_2, r21, r3_4_0_copyload, r17, r3_4_0_copyload_2, r1_0, r19_3, r5_6_4_0_ph138, r5_6_1_0_ph137, r17_2, r21_2;
-    uint64_t r19_4, r8_17_0_0, r8_17_5_0, r8_13_0, r4_2, indvars_iv_in, r4_0_3, indvars_iv, r51, r19_5, r3_0_3, r9_2;
-    uint64_t r11_2, r3_0_lcssa, r0_131_0, r0_19_0;
-    unsigned char *r16, *r4_0_0_in, *r11_3_0_r3_sroa_idx, *r20, *r3_3_0_r27_sroa_idx, *r3_4_0_r27_sroa_idx, *r16_2, *r3_3_0_r23_sroa_idx, *r3_4_0_r23_sroa_idx, *r43, *r5_3_0_r43_sroa_idx, *r5_3_3_0_r5_3_0_r43_sroa_idx_sroa_idx;
-    unsigned char *r29_2, *r27_2, *r58139, *r16_4, *r17_11_8_r60_sroa_idx, *r26, *r16_5, *r10, *r14_2, *r23_2;
-    uint8_t r25_3, r25_4, r8_6_0, r17_6_0, r0_0_0, r0_7_0;
-    memset(r0_20_8, 0, 776);
+    _Alignas(8) unsigned char r16_2[32];
+    uint64_t r19, wide_1293, r23, r3_0, r3_0_2, r4_0, r8_6_3_6_copyload, r8_6_5_6_copyload, r8_6_6_6_copyload, r2_0, r3_2, r5_0_0;
+    uint64_t r5_4_0, r4_0_2, r21, r3_4_0_copyload, r17, r3_4_0_copyload_2, r1_0, r5_6_4_0_ph221, r5_6_1_0_ph219, r17_2, r21_2, r19_4;
+    uint64_t r8_17_0_0, r8_17_5_0, r8_13_0, r4_2, indvars_iv_in, r4_0_3, indvars_iv, r51, r19_5, r3_0_3, r9_2, r11_2;
+    uint64_t r3_0_lcssa, r0_131_0, r0_19_0;
+    unsigned char *r16, *r4_0_0_in, *r11_3_0_r3_sroa_idx, *r20, *r3_3_0_r27_sroa_idx, *r3_4_0_r27_sroa_idx, *r16_3, *r3_3_0_r23_sroa_idx, *r3_4_0_r23_sroa_idx, *r43, *r5_3_0_r43_sroa_idx, *r5_3_3_0_r5_3_0_r43_sroa_idx_sroa_idx;
+    unsigned char *r29_2, *r27_2, *r5_6_3_0_ptr220, *r16_4, *r20_11_8_r60_sroa_idx, *r26, *r16_5, *r10, *r14, *r23_2;
+    uint8_t r25_4, r8_6_0, r20_6_0, r0_0_0, r0_7_0;
+    memset(r0_17_11, 0, 776);
     if (a2 == 0) goto arm_2;
     uint8_t r25 = *a1;
     if (r25 != 64) goto arm_2;
     r19 = a2 + 0xffffffffffffffffULL;
     r16 = a1 + 1;
-    wide_665 = (uint64_t)(uintptr_t)r16;
+    wide_1293 = (uint64_t)(uintptr_t)r16;
     r4_0_0_in = r16;
     r23 = r19;
     r3_0 = 0;
@@ -873,9 +946,9 @@ loop_3:
     goto loop_3;
 arm_1:;
     uint64_t r47 = r3_0 + 1;
-    dfuse_memory_place_take_address(r14, r16 + (size_t)r47, r19 - r47);
-    uint8_t r45 = *r14;
-    if (r45 == 0) goto arm_5;
+    dfuse_memory_place_take_address(r16_2, r16 + (size_t)r47, r19 - r47);
+    uint8_t r1_0_0_copyload = *r16_2;
+    if (r1_0_0_copyload == 0) goto arm_5;
     goto arm_6;
 arm_2:
     memset(r0_20, 0, 776);
@@ -885,9 +958,9 @@ arm_2:
     r0_19_0 = 0;
     goto dfuse_memory_map_read_map_exit;
 arm_5:
-    r7_0_0_copyload = load64(r14 + 8);
-    r7_3_0_copyload = load64(r14 + 16);
-    r7_4_0_copyload = load64(r14 + 24);
+    r8_6_3_6_copyload = load64(r16_2 + 8);
+    r8_6_5_6_copyload = load64(r16_2 + 16);
+    r8_6_6_6_copyload = load64(r16_2 + 24);
     memset(r1, 0, 768);
     r2_0 = 0;
 loop_2_2:
@@ -901,16 +974,16 @@ arrayvec_array_vec_ArrayVec_T_CAP_new_exit:
     r20 = r5 + 8;
     r3_3_0_r27_sroa_idx = r5 + 16;
     r3_4_0_r27_sroa_idx = r5 + 24;
-    r16_2 = r4 + 8;
+    r16_3 = r4 + 8;
     r3_3_0_r23_sroa_idx = r4 + 16;
     r3_4_0_r23_sroa_idx = r4 + 24;
     r43 = r12 + 8;
     r5_3_0_r43_sroa_idx = r12 + 16;
     r5_3_3_0_r5_3_0_r43_sroa_idx_sroa_idx = r12 + 24;
     r3_2 = 0;
-    r5_0_0 = r7_3_0_copyload;
-    r5_4_0 = r7_4_0_copyload;
-    r4_0_2 = r7_0_0_copyload;
+    r5_0_0 = r8_6_5_6_copyload;
+    r5_4_0 = r8_6_6_6_copyload;
+    r4_0_2 = r8_6_3_6_copyload;
 loop_2_3:
     dfuse_memory_digits_take_number(r5, 10, 5, (unsigned char *)(uintptr_t)r5_0_0, r5_4_0);
     uint8_t r19_2 = *r5;
@@ -926,16 +999,16 @@ loop_2_3:
     dfuse_memory_digits_take_number(r4, 10, 5, r29_2 + 1, r3_4_0_copyload + 0xffffffffffffffffULL);
     uint8_t r15 = *r4;
     if (r15 != 1) goto arm_6_2;
-    r17 = load64(r16_2);
+    r17 = load64(r16_3);
     if (r17 == 0) goto arm_6_2;
     uint64_t r3_3_0_copyload_2 = load64(r3_3_0_r23_sroa_idx);
     r3_4_0_copyload_2 = load64(r3_4_0_r23_sroa_idx);
     r27_2 = (unsigned char *)(uintptr_t)r3_3_0_copyload_2;
     if (r3_4_0_copyload_2 != 0) goto arm_3;
-    r17_6_0 = 4;
+    r20_6_0 = 4;
     goto arm_9;
-arm_3:
-    r25_3 = *r27_2;
+arm_3:;
+    uint8_t r25_3 = *r27_2;
     switch (r25_3) {
     case 75:
         r1_0 = 1024;
@@ -943,13 +1016,12 @@ arm_3:
     case 77: goto arm_2_3;
     case 32: goto arm_3_2;
     case 66: goto arm_3_2;
-    default: goto arm_5_thread131;
+    default: goto arm_5_thread214;
     }
-arm_5_thread131:
-    r25_4 = r25_3;
-    r58139 = r27_2;
-    r5_6_4_0_ph138 = r3_4_0_copyload_2;
-    r5_6_1_0_ph137 = r17;
+arm_5_thread214:
+    r5_6_4_0_ph221 = r3_4_0_copyload_2;
+    r5_6_3_0_ptr220 = r27_2;
+    r5_6_1_0_ph219 = r17;
     goto arm_3_3;
 arm_2_3:
     r1_0 = 0x100000U;
@@ -958,40 +1030,38 @@ arm_3_2:
     r1_0 = 1;
     goto arm_5_2;
 arm_2_2:
-    r17_6_0 = 2;
+    r20_6_0 = 2;
     goto arm_9;
-arm_5_2:
-    r19_3 = r3_4_0_copyload_2 + 0xffffffffffffffffULL;
+arm_5_2:;
+    uint64_t r19_3 = r3_4_0_copyload_2 + 0xffffffffffffffffULL;
     if (r19_3 == 0) {
-        r17_6_0 = 4;
+        r20_6_0 = 4;
         goto arm_9;
     }
-    unsigned char *r16_3 = r27_2 + 1;
-    uint8_t r25_pre = *r16_3;
-    r25_4 = r25_pre;
-    r58139 = r16_3;
-    r5_6_4_0_ph138 = r19_3;
-    r5_6_1_0_ph137 = r1_0 * r17;
+    r5_6_4_0_ph221 = r19_3;
+    r5_6_3_0_ptr220 = r27_2 + 1;
+    r5_6_1_0_ph219 = r1_0 * r17;
 arm_3_3:
+    r25_4 = *r5_6_3_0_ptr220;
     if ((uint8_t)(r25_4 + 159) < 7) goto arm_8;
-    r17_6_0 = 4;
+    r20_6_0 = 4;
     goto arm_9;
 arm_6_2:
-    r17_6_0 = 3;
+    r20_6_0 = 3;
     goto arm_9;
 arm_8:
-    if (((r5_6_1_0_ph137 * r21) + r4_0_2) > 0x100000000ULL) {
-        r17_6_0 = 5;
+    if (((r5_6_1_0_ph219 * r21) + r4_0_2) > 0x100000000ULL) {
+        r20_6_0 = 5;
         goto arm_9;
     }
     if (r3_2 == 32) {
-        r17_6_0 = 6;
+        r20_6_0 = 6;
         goto arm_9;
     }
     unsigned char *r13 = r3 + (size_t)(r3_2 * 24);
     store32(r13, (uint32_t)r4_0_2);
     store32(r13 + 4, 0);
-    store64(r13 + 8, r5_6_1_0_ph137);
+    store64(r13 + 8, r5_6_1_0_ph219);
     store32(r13 + 16, (uint32_t)r21);
     r13[20] = r25_4 & 1;
     r13[21] = (uint8_t)(r25_4 >> 1) & 1;
@@ -999,11 +1069,11 @@ arm_8:
     r13[23] = 0;
     r17_2 = r3_2 + 1;
     store64(r11_3_0_r3_sroa_idx, r17_2);
-    r21_2 = (r5_6_1_0_ph137 * (r21 & 0xffffffffU)) + (r4_0_2 & 0xffffffffU);
-    if (r5_6_4_0_ph138 == 1) goto arm_8_2;
-    uint8_t r25_5 = r58139[1];
-    r16_4 = r58139 + 2;
-    r19_4 = r5_6_4_0_ph138 + 0xfffffffffffffffeULL;
+    r21_2 = (r5_6_1_0_ph219 * (r21 & 0xffffffffU)) + (r4_0_2 & 0xffffffffU);
+    if (r5_6_4_0_ph221 == 1) goto arm_8_2;
+    uint8_t r25_5 = r5_6_3_0_ptr220[1];
+    r16_4 = r5_6_3_0_ptr220 + 2;
+    r19_4 = r5_6_4_0_ph221 + 0xfffffffffffffffeULL;
     switch (r25_5) {
     case 44: goto arm_5_3;
     case 47: goto arm_6_3;
@@ -1038,20 +1108,20 @@ arm_14:
     r4_0_2 = r8_13_0;
     goto loop_2_3;
 arm_11:
-    r17_6_0 = r8_6_0;
+    r20_6_0 = r8_6_0;
     goto arm_9;
 arm_6:;
-    uint8_t r8_0_0_copyload = r14[1];
+    uint8_t r1_3_1_copyload = r16_2[1];
     memset(r0_20, 0, 776);
     r0_0_0 = 1;
-    r0_7_0 = r8_0_0_copyload;
+    r0_7_0 = r1_3_1_copyload;
     r0_131_0 = 0;
     r0_19_0 = 0;
     goto dfuse_memory_map_read_map_exit;
 arm_8_2:
-    r17_11_8_r60_sroa_idx = r17_11 + 6;
-    memcpy(r17_11_8_r60_sroa_idx, r3, 776);
-    memcpy(r9, r17_11_8_r60_sroa_idx, 776);
+    r20_11_8_r60_sroa_idx = r20_11 + 6;
+    memcpy(r20_11_8_r60_sroa_idx, r3, 776);
+    memcpy(r9, r20_11_8_r60_sroa_idx, 776);
     r4_2 = load64(r9 + 768);
     indvars_iv_in = r4_2;
     r4_0_3 = 0;
@@ -1063,7 +1133,7 @@ loop_3_3:
     r16_5 = r9 + (size_t)(r51 * 24);
     r19_5 = r4_2 - r51;
     r10 = r26 + 16;
-    r14_2 = r26 + 8;
+    r14 = r26 + 8;
     r3_0_3 = 0;
 loop_3_2:
     if (r3_0_3 == r19_5) {
@@ -1074,7 +1144,7 @@ loop_3_2:
     uint32_t r7 = load32(r26);
     r9_2 = (uint64_t)r7;
     uint32_t r11 = load32(r10);
-    uint64_t r15_2 = load64(r14_2);
+    uint64_t r15_2 = load64(r14);
     uint32_t r9_3 = load32(r23_2);
     r11_2 = (uint64_t)r9_3;
     if (((r15_2 * (uint64_t)r11) + r9_2) <= r11_2) goto after_7;
@@ -1093,24 +1163,24 @@ dfuse_memory_apart_is_apart_from_exit:
     r4_0_3 = r51;
     goto loop_3_3;
 arm_9:
-    memcpy(r0_20, r0_20_8, 776);
+    memset(r0_20, 0, 776);
     r0_0_0 = 1;
-    r0_7_0 = r17_6_0;
+    r0_7_0 = r20_6_0;
     r0_131_0 = 0;
     r0_19_0 = 0;
     goto dfuse_memory_map_read_map_exit;
 then_11:
-    memcpy(r0_20, r0_20_8, 776);
+    memcpy(r0_20, r0_17_11, 776);
     r0_0_0 = 1;
     r0_7_0 = 8;
     r0_131_0 = 0;
     r0_19_0 = 0;
     goto dfuse_memory_map_read_map_exit;
 join_13:
-    memcpy(r0_20, r17_11_8_r60_sroa_idx, 776);
+    memcpy(r0_20, r20_11_8_r60_sroa_idx, 776);
     r0_0_0 = 0;
     r0_7_0 = 0;
-    r0_131_0 = wide_665;
+    r0_131_0 = wide_1293;
     r0_19_0 = r3_0_2;
 dfuse_memory_map_read_map_exit:
     *a0 = r0_0_0;
@@ -1316,10 +1386,10 @@ arm_4:
     r2_0_0 = 1;
     goto join_13;
 arm_5:;
-    uint8_t v0 = a2 < 16;
-    r2_26_0 = (uint8_t)(v0 ? (uint8_t)a2 : 0);
-    r2_14_0 = (uint8_t)(v0 ? 4 : 0);
-    r2_0_0 = v0;
+    uint8_t r4 = a2 < 16;
+    r2_26_0 = (uint8_t)(r4 ? (uint8_t)a2 : 0);
+    r2_14_0 = (uint8_t)(r4 ? 4 : 0);
+    r2_0_0 = r4;
     goto join_13;
 arm_6:
     r2_26_0 = 0;
@@ -1366,7 +1436,7 @@ join_13:
 static void dfu_host_c_holding_session_of(unsigned char *a0, unsigned char *a1, unsigned char *a2, uint64_t a3) {
     _Alignas(4) unsigned char r31[3];
     _Alignas(4) unsigned char r36_2[3];
-    uint64_t wide_11804, r3_12_0_0, r3_12_6_0, r3_7_0_0, r38, r6_132_0, r6_132_0_2;
+    uint64_t wide_12818, r3_12_0_0, r3_12_6_0, r3_7_0_0, r38, r6_132_0, r6_132_0_2;
     uint8_t v0;
     uint32_t r40, r6_158_0, r6_106_0, r6_106_0_2, r6_158_0_2, r79;
     uint8_t r6_28_0, r6_54_0, r6_28_0_2, r6_0_0_0, r6_28_0_3, r6_54_0_2, r70, r75;
@@ -1379,10 +1449,10 @@ then_1:
     return;
 join_3:;
     uint32_t r20 = load32(a1 + 4);
-    wide_11804 = (uint64_t)(uintptr_t)a2;
+    wide_12818 = (uint64_t)(uintptr_t)a2;
     switch (r20) {
     case 1:
-        r3_12_0_0 = wide_11804;
+        r3_12_0_0 = wide_12818;
         r3_12_6_0 = a3;
         v0 = 0;
         r3_7_0_0 = 0;
@@ -1399,13 +1469,13 @@ arm_2:
     r3_7_0_0 = 1;
     goto arm_1;
 arm_3:
-    r3_12_0_0 = wide_11804;
+    r3_12_0_0 = wide_12818;
     r3_12_6_0 = a3;
     v0 = 0;
     r3_7_0_0 = 2;
     goto arm_1;
 arm_4:
-    r3_12_0_0 = wide_11804;
+    r3_12_0_0 = wide_12818;
     r3_12_6_0 = a3;
     v0 = 0;
     r3_7_0_0 = 3;
@@ -2158,18 +2228,18 @@ static void dfu_wire_bytes_two_bytes(unsigned char *a0, uint16_t a1) {
 /* dfu_host_c::beginning::read_both */
 static void dfu_host_c_beginning_read_both(unsigned char *a0, unsigned char *a1, uint64_t a2, unsigned char *a3, uint64_t a4) {
     _Alignas(8) unsigned char r10[40];
-    _Alignas(8) unsigned char r14_6_0_0[32];
-    _Alignas(4) unsigned char r13[12];
-    uint8_t r37;
-    uint64_t r14_6_0_3_0, r14_6_3_0;
-    uint32_t r14_4_0;
-    memset(r14_6_0_0, 0, 32);
+    _Alignas(8) unsigned char r15_6_0_0[32];
+    _Alignas(4) unsigned char r14[12];
+    uint8_t r42;
+    uint64_t r15_6_0_3_0, r15_6_3_0;
+    uint32_t r15_4_0;
+    memset(r15_6_0_0, 0, 32);
     dfu_host_c_file_file_in(r10, a1, a2);
-    uint8_t r21 = *r10;
-    if (r21 != 0) goto arm_2;
-    dfu_wire_functionals_Functional_decode(r13, a3, a4);
-    r37 = *r13;
-    if (r37 == 0) goto arm_5;
+    uint8_t r23 = *r10;
+    if (r23 != 0) goto arm_2;
+    dfu_wire_functionals_Functional_decode(r14, a3, a4);
+    r42 = *r14;
+    if (r42 == 0) goto arm_5;
     goto arm_6;
 arm_2:;
     uint8_t r7_0_0_copyload = r10[1];
@@ -2178,24 +2248,24 @@ arm_2:;
     memset(a0 + 8, 0, 48);
     return;
 arm_5:
-    memcpy(r14_6_0_0, r10 + 8, 32);
-    uint64_t v2 = load64a2(r13 + 2);
-    uint16_t r16_3_32_copyload = load16(r13 + 10);
-    r14_6_0_3_0 = v2;
-    r14_6_3_0 = (uint64_t)r16_3_32_copyload;
-    r14_4_0 = 0;
+    memcpy(r15_6_0_0, r10 + 8, 32);
+    uint64_t v2 = load64a2(r14 + 2);
+    uint16_t r17_3_32_copyload = load16(r14 + 10);
+    r15_6_0_3_0 = v2;
+    r15_6_3_0 = (uint64_t)r17_3_32_copyload;
+    r15_4_0 = 0;
     goto join_7;
 arm_6:;
-    uint8_t r9_0_0_copyload = r13[1];
-    r14_6_0_3_0 = 0;
-    r14_6_3_0 = 0;
-    r14_4_0 = (uint32_t)0xffffffe1U - (uint32_t)r9_0_0_copyload;
+    uint8_t r9_0_0_copyload = r14[1];
+    r15_6_0_3_0 = 0;
+    r15_6_3_0 = 0;
+    r15_4_0 = (uint32_t)0xffffffe1U - (uint32_t)r9_0_0_copyload;
 join_7:
-    store32(a0, (uint32_t)r37);
-    store32(a0 + 4, r14_4_0);
-    memcpy(a0 + 8, r14_6_0_0, 32);
-    store64(a0 + 40, r14_6_0_3_0);
-    store64(a0 + 48, r14_6_3_0);
+    store32(a0, (uint32_t)r42);
+    store32(a0 + 4, r15_4_0);
+    memcpy(a0 + 8, r15_6_0_0, 32);
+    store64(a0 + 40, r15_6_0_3_0);
+    store64(a0 + 48, r15_6_3_0);
     return;
 }
 
@@ -2328,32 +2398,35 @@ static void dfu_host_session_Session_on_result(unsigned char *a0, unsigned char 
     unsigned char *const r5 = r17_2;
     unsigned char *const r4 = r17_2;
     _Alignas(8) unsigned char r1_3[32];
-    unsigned char *const r7_7 = r1_3;
-    unsigned char *const r5_4 = r1_3;
-    unsigned char *const r7_6 = r1_3;
-    unsigned char *const r5_2 = r1_3;
-    unsigned char *const r7_4 = r1_3;
-    unsigned char *const r7_3 = r1_3;
+    unsigned char *const r1_4 = r1_3;
     _Alignas(8) unsigned char r1_2[32];
     _Alignas(8) unsigned char r7_2[32];
+    _Alignas(8) unsigned char r23[24];
+    unsigned char *const r2 = r23;
+    _Alignas(8) unsigned char r24[24];
+    _Alignas(8) unsigned char r25[24];
+    _Alignas(8) unsigned char r26[24];
+    _Alignas(8) unsigned char r27_2[24];
+    _Alignas(8) unsigned char r28[24];
     _Alignas(8) unsigned char r10_2[24];
-    unsigned char *const r2 = r10_2;
-    _Alignas(4) unsigned char r6_3[12];
-    unsigned char *const r9_3 = r6_3;
-    unsigned char *const r11 = r6_3;
-    unsigned char *const r10_4 = r6_3;
-    unsigned char *const r6_2 = r6_3;
-    unsigned char *const r6 = r6_3;
-    uint64_t r0_3_0_0_copyload, r0_3_3_0_copyload, r18_14_0, r1_6_0_copyload, r1_8_0_copyload, v13, v18, r2_4_0, v28, v37, v43, v51;
-    uint64_t r15, r19, r28_82_0;
-    unsigned char *r12, *r21, *r14, *v9, *v25, *v33, *v41, *v49;
-    uint16_t v0, r1_4_0_copyload, r1_9_0_copyload, v8, r8, r26, r40;
-    uint8_t common_ret_op, r3_0_off0;
-    uint8_t r18_0_0, r18_10_0, r10, r13_2, r1_3_0_copyload, r1_7_0_0_extract_trunc, off0353, off8355, v15, v16, off0348, off8350;
-    uint8_t v20, v21, off0343, off8345, v30, v31, r12_32_12_extract_trunc290, off0335, off8337, v39, v40, off0330;
-    uint8_t off8332, v45, v46, off0, off8, v53, v54, r28_0_0, r28_25_0, r28_48_0_0, r28_48_24_0;
-    uint32_t r18_121_0, r1_5_0_copyload, r1_7_0_copyload, v12, v14, v17, v19, v27, v29, r12_32_8_extract_trunc287, v36, v38;
-    uint32_t v42, v44, v50, v52, r28_67_0, r28_95_0;
+    _Alignas(8) unsigned char r12_2[16];
+    _Alignas(4) unsigned char r29_4[2];
+    _Alignas(4) unsigned char r30_4[2];
+    _Alignas(4) unsigned char r31_4[2];
+    _Alignas(4) unsigned char r34_4[2];
+    _Alignas(4) unsigned char r35_4[2];
+    _Alignas(4) unsigned char r36_4[2];
+    _Alignas(4) unsigned char r38_4[2];
+    _Alignas(4) unsigned char r39_4[2];
+    _Alignas(4) unsigned char r40_4[2];
+    uint64_t r0_3_0_0_copyload, r0_3_3_0_copyload, r18_14_0, r1_6_0_copyload, r1_8_0_copyload, r33_10_0, r39_17_0_in_speculated, r6_10_0, r15, r19;
+    unsigned char *r12, *r21, *r14, *r39_9_0_in, *r39_9_0_in_2, *r39_9_0_in_3;
+    uint16_t v0, r1_4_0_copyload, r1_9_0_copyload, v8, r33_6_0_0, r26_2, r40, r8_6_0;
+    uint8_t common_ret_op, v10, or_cond;
+    uint8_t r18_0_0, r18_10_0, r10, r13_2, r1_3_0_copyload, v12, r39_0_0_in_speculated, r6_0_0, r33_4_0, r33_0_0, r39_0_0_in_speculated_2, r6_0_0_2;
+    uint8_t r39_0_0_in_speculated_3, r6_0_0_3, r7_0_0, r7_5_0, r7_8_0_0, r7_8_4_0_0, r6_4_0, r6_7_0_0, r6_7_4_0_0, r6_0_0_4, r8_0_0, r8_4_0;
+    uint8_t r8_7_0_0, r8_0_0_2, r8_4_0_2;
+    uint32_t r18_121_0, r1_5_0_copyload, r1_7_0_copyload, r33_8_0, r33_12_0;
     uint8_t r1 = *a1;
     r0_3_0_0_copyload = load64(a1 + 8);
     r0_3_3_0_copyload = load64(a1 + 16);
@@ -2686,207 +2759,117 @@ arm_7_2:
     r1_8_0_copyload = load64a4(r1_2 + 20);
     r1_9_0_copyload = load16(r1_2 + 28);
     v8 = load16(r1_2 + 30);
-    v9 = r10_2 + 16;
-    store64(v9, 0);
+    v10 = r18_0_0 == 9;
+    or_cond = v10 & (r10 == 20);
+    unsigned char *v11 = r1_4 + 16;
+    store64(v11, 0);
+    *r1_4 = r10;
+    r1_4[1] = r1_3_0_copyload;
+    store16(r1_4 + 2, r1_4_0_copyload);
+    store32(r1_4 + 4, r1_5_0_copyload);
+    store64(r1_4 + 8, r1_6_0_copyload);
+    store32(v11, r1_7_0_copyload);
+    store64(r12_2, 0);
+    *r12_2 = r18_0_0;
+    r12_2[1] = r18_10_0;
+    store32(r12_2 + 4, r18_121_0);
+    store64(r12_2 + 8, r18_14_0);
+    memset(r23, 0, 24);
+    memset(r24, 0, 24);
+    memset(r25, 0, 24);
+    memset(r26, 0, 24);
+    memset(r27_2, 0, 24);
+    memset(r28, 0, 24);
+    store16(r29_4, 0);
+    store16(r30_4, 0);
+    store16(r31_4, 0);
+    store16(r34_4, 0);
+    store16(r35_4, 0);
+    store16(r36_4, 0);
+    store16(r38_4, 0);
+    store16(r39_4, 0);
+    store16(r40_4, 0);
+    v12 = (uint8_t)r1_4_0_copyload;
     switch (r10) {
-    case 20: goto arm_3_3;
     case 0: goto arm_1_2;
     case 1: goto arm_2_3;
-    case 2: goto arm_3_4;
-    case 3: goto arm_4_3;
-    case 4:
-        r3_0_off0 = 0;
-        r28_0_0 = 0;
-        r28_25_0 = 0;
-        r28_48_0_0 = 0;
-        r28_48_24_0 = 0;
-        r28_67_0 = 0;
-        r28_82_0 = 0;
-        r28_95_0 = 0;
-        goto dfu_host_task_Task_row_exit;
-    case 5:
-        r3_0_off0 = 0;
-        r28_0_0 = 0;
-        r28_25_0 = 0;
-        r28_48_0_0 = 0;
-        r28_48_24_0 = 0;
-        r28_67_0 = 0;
-        r28_82_0 = 0;
-        r28_95_0 = 0;
-        goto dfu_host_task_Task_row_exit;
-    case 6: goto arm_6_3;
-    case 7: goto arm_7_3;
-    case 8: goto arm_8_2;
-    case 9: goto arm_9;
-    case 10: goto arm_10;
-    case 11: goto arm_11;
-    case 12: goto arm_12;
-    case 13: goto arm_13;
-    case 14: goto arm_14;
-    case 15: goto arm_15;
-    case 16: goto arm_16;
-    case 17: goto arm_17;
+    case 10: goto arm_3_3;
+    case 14: goto arm_4_3;
+    case 17: goto arm_5_3;
+    case 2: goto arm_6_3;
+    case 3: goto arm_7_3;
+    case 4: goto dfu_host_task_Task_row_exit;
+    case 5: goto dfu_host_task_Task_row_exit;
+    case 6: goto arm_9;
+    case 7: goto arm_10;
+    case 8: goto arm_11;
+    case 9: goto arm_12;
+    case 11: goto arm_13;
+    case 12: goto arm_14;
+    case 13: goto arm_15;
+    case 15: goto arm_16;
+    case 16: goto arm_17;
     case 18: goto arm_18;
     case 19: goto arm_19;
-    case 22: goto arm_22;
+    case 20: goto arm_20;
     case 21: goto arm_21;
+    case 22: goto arm_22;
     default: never();
     }
-arm_3_3:
-    r1_7_0_0_extract_trunc = (uint8_t)r1_4_0_copyload;
-    if (r18_0_0 != 9) {
-        r3_0_off0 = 0;
-        r28_0_0 = 20;
-        r28_25_0 = r1_3_0_copyload;
-        r28_48_0_0 = r1_7_0_0_extract_trunc;
-        r28_48_24_0 = 0;
-        r28_67_0 = 0;
-        r28_82_0 = 0;
-        r28_95_0 = 0;
-        goto dfu_host_task_Task_row_exit;
-    }
-    uint8_t r13_3 = *a0;
-    uint8_t v11 = r13_3 == 2;
-    r3_0_off0 = 1;
-    r28_0_0 = (uint8_t)(v11 ? 0 : 23);
-    r28_25_0 = (uint8_t)(v11 ? 0 : r1_3_0_copyload);
-    r28_48_0_0 = (uint8_t)(v11 ? 0 : r1_7_0_0_extract_trunc);
-    r28_48_24_0 = 0;
-    r28_67_0 = 0;
-    r28_82_0 = 0;
-    r28_95_0 = 0;
-    goto dfu_host_task_Task_row_exit;
 arm_1_2:
-    switch (r18_0_0) {
-    case 1: goto arm_1_3;
-    case 6:
-        v12 = 0;
-        v13 = 0;
-        v14 = 0;
-        off0353 = 0;
-        off8355 = 0;
-        v15 = 0;
-        v16 = 1;
-        goto dfu_host_task_Task_after_find_exit;
-    case 0: goto arm_3_5;
-    case 2: goto arm_3_5;
-    case 3: goto arm_3_5;
-    case 4: goto arm_3_5;
-    case 5: goto arm_3_5;
-    case 7: goto arm_3_5;
-    case 8: goto arm_3_5;
-    case 9: goto arm_3_5;
-    default: never();
-    }
-arm_1_3:
-    store32(r6, r18_121_0);
-    store64a4(r6 + 4, r18_14_0);
-    dfu_host_task_Task_listed(r7_3, a0, r6);
-    uint8_t pre = *r7_3;
-    uint8_t pre1 = r7_3[1];
-    uint16_t pre2 = load16(r7_3 + 2);
-    uint32_t pre3 = load32(r7_3 + 4);
-    uint64_t pre4 = load64(r7_3 + 8);
-    uint32_t pre5 = load32(r7_3 + 16);
-    v12 = pre5;
-    v13 = pre4;
-    v14 = pre3;
-    off0353 = (uint8_t)pre2;
-    off8355 = (uint8_t)(uint16_t)(pre2 >> 8);
-    v15 = pre1;
-    v16 = pre;
-    goto dfu_host_task_Task_after_find_exit;
-arm_3_5:
-    v12 = 0;
-    v13 = 0;
-    v14 = 0;
-    off0353 = 0;
-    off8355 = 0;
-    v15 = 0;
-    v16 = 0;
-    goto dfu_host_task_Task_after_find_exit;
-dfu_host_task_Task_after_find_exit:
-    r3_0_off0 = 0;
-    r28_0_0 = v16;
-    r28_25_0 = v15;
-    r28_48_0_0 = off0353;
-    r28_48_24_0 = off8355;
-    r28_67_0 = v14;
-    r28_82_0 = v13;
-    r28_95_0 = v12;
+    *r24 = 1;
+    dfu_host_task_Task_on_status(r23, a0, r1_4, r12_2, r24);
     goto dfu_host_task_Task_row_exit;
 arm_2_3:
-    switch (r18_0_0) {
-    case 1: goto arm_1_4;
-    case 6:
-        v17 = 0;
-        v18 = 0;
-        v19 = 0;
-        off0348 = 0;
-        off8350 = 0;
-        v20 = 0;
-        v21 = 7;
-        goto dfu_host_task_Task_after_find_again_exit;
-    case 0: goto arm_3_6;
-    case 2: goto arm_3_6;
-    case 3: goto arm_3_6;
-    case 4: goto arm_3_6;
-    case 5: goto arm_3_6;
-    case 7: goto arm_3_6;
-    case 8: goto arm_3_6;
-    case 9: goto arm_3_6;
-    default: never();
-    }
-arm_1_4:
-    store32(r6_2, r18_121_0);
-    store64a4(r6_2 + 4, r18_14_0);
-    dfu_host_task_Task_listed(r7_4, a0, r6_2);
-    uint8_t pre_2 = *r7_4;
-    uint8_t pre1_2 = r7_4[1];
-    uint16_t pre2_2 = load16(r7_4 + 2);
-    uint32_t pre3_2 = load32(r7_4 + 4);
-    uint64_t pre4_2 = load64(r7_4 + 8);
-    uint32_t pre5_2 = load32(r7_4 + 16);
-    v17 = pre5_2;
-    v18 = pre4_2;
-    v19 = pre3_2;
-    off0348 = (uint8_t)pre2_2;
-    off8350 = (uint8_t)(uint16_t)(pre2_2 >> 8);
-    v20 = pre1_2;
-    v21 = pre_2;
-    goto dfu_host_task_Task_after_find_again_exit;
-arm_3_6:
-    v17 = 0;
-    v18 = 0;
-    v19 = 0;
-    off0348 = 0;
-    off8350 = 0;
-    v20 = 0;
-    v21 = 1;
-    goto dfu_host_task_Task_after_find_again_exit;
-dfu_host_task_Task_after_find_again_exit:
-    r3_0_off0 = 0;
-    r28_0_0 = v21;
-    r28_25_0 = v20;
-    r28_48_0_0 = off0348;
-    r28_48_24_0 = off8350;
-    r28_67_0 = v19;
-    r28_82_0 = v18;
-    r28_95_0 = v17;
+    *r25 = 7;
+    dfu_host_task_Task_on_status(r23, a0, r1_4, r12_2, r25);
     goto dfu_host_task_Task_row_exit;
-arm_3_4:
-    r3_0_off0 = 0;
-    r28_0_0 = (uint8_t)((r18_0_0 == 0) ? 3 : 0);
-    r28_25_0 = 0;
-    r28_48_0_0 = 0;
-    r28_48_24_0 = 0;
-    r28_67_0 = 0;
-    r28_82_0 = 0;
-    r28_95_0 = 0;
+arm_3_3:
+    *r26 = 17;
+    dfu_host_task_Task_on_status(r23, a0, r1_4, r12_2, r26);
     goto dfu_host_task_Task_row_exit;
 arm_4_3:
+    *r27_2 = 17;
+    dfu_host_task_Task_on_status(r23, a0, r1_4, r12_2, r27_2);
+    goto dfu_host_task_Task_row_exit;
+arm_5_3:
+    *r28 = 1;
+    dfu_host_task_Task_on_status(r23, a0, r1_4, r12_2, r28);
+    goto dfu_host_task_Task_row_exit;
+arm_6_3:
     switch (r18_0_0) {
-    case 8: goto arm_3_7;
+    case 0:
+        r39_0_0_in_speculated = 3;
+        r39_9_0_in = r29_4;
+        goto dfu_host_row_on_ack_exit;
+    case 6: goto arm_2_4;
+    case 1: goto arm_3_4;
+    case 2: goto arm_3_4;
+    case 3: goto arm_3_4;
+    case 4: goto arm_3_4;
+    case 5: goto arm_3_4;
+    case 7: goto arm_3_4;
+    case 8: goto arm_3_4;
+    case 9: goto arm_3_4;
+    default: never();
+    }
+arm_2_4:
+    r39_0_0_in_speculated = 0;
+    r39_9_0_in = r30_4;
+    goto dfu_host_row_on_ack_exit;
+arm_3_4:
+    r39_0_0_in_speculated = 0;
+    r39_9_0_in = r31_4;
+    goto dfu_host_row_on_ack_exit;
+dfu_host_row_on_ack_exit:;
+    uint16_t r39_9_0 = load16(r39_9_0_in);
+    *r23 = r39_0_0_in_speculated;
+    store16(r23 + 2, r39_9_0);
+    memset(r23 + 4, 0, 16);
+    goto dfu_host_task_Task_row_exit;
+arm_7_3:
+    switch (r18_0_0) {
+    case 8: goto arm_3_5;
     case 9: goto arm_4_4;
     case 0: goto after_2;
     case 1: goto after_2;
@@ -2898,205 +2881,137 @@ arm_4_3:
     case 7: goto after_2;
     default: never();
     }
-arm_3_7:;
-    uint8_t r12_2 = a0[27];
-    if (r12_2 & 1) {
-        r3_0_off0 = 0;
-        r28_0_0 = 0;
-        r28_25_0 = 0;
-        r28_48_0_0 = 0;
-        r28_48_24_0 = 0;
-        r28_67_0 = 0;
-        r28_82_0 = 0;
-        r28_95_0 = 0;
-        goto dfu_host_task_Task_row_exit;
+arm_3_5:;
+    uint8_t r12_3 = a0[27];
+    if (r12_3 & 1) {
+        r6_0_0 = 0;
+        goto dfu_host_task_Task_after_enter_exit;
     }
     goto after_2;
 arm_4_4:;
     uint8_t r18 = a0[27];
     if (!(r18 & 1)) {
-        r3_0_off0 = 0;
-        r28_0_0 = 0;
-        r28_25_0 = 0;
-        r28_48_0_0 = 0;
-        r28_48_24_0 = 0;
-        r28_67_0 = 0;
-        r28_82_0 = 0;
-        r28_95_0 = 0;
-        goto dfu_host_task_Task_row_exit;
+        r6_0_0 = 0;
+        goto dfu_host_task_Task_after_enter_exit;
     }
 after_2:
-    r3_0_off0 = 0;
-    r28_0_0 = 3;
-    r28_25_0 = 0;
-    r28_48_0_0 = 0;
-    r28_48_24_0 = 0;
-    r28_67_0 = 0;
-    r28_82_0 = 0;
-    r28_95_0 = 0;
+    r6_0_0 = 3;
+    goto dfu_host_task_Task_after_enter_exit;
+dfu_host_task_Task_after_enter_exit:
+    *r23 = r6_0_0;
+    memset(r23 + 1, 0, 19);
     goto dfu_host_task_Task_row_exit;
-arm_6_3:;
-    uint8_t v23 = r18_0_0 == 8;
-    r3_0_off0 = 0;
-    r28_0_0 = (uint8_t)(v23 ? 0 : 6);
-    r28_25_0 = 0;
-    r28_48_0_0 = 0;
-    r28_48_24_0 = 0;
-    r28_67_0 = (uint32_t)(v23 ? 0 : r1_5_0_copyload);
-    r28_82_0 = 0;
-    r28_95_0 = 0;
+arm_9:;
+    uint8_t v13 = r18_0_0 == 8;
+    *r23 = (uint8_t)(v13 ? 0 : 6);
+    r23[1] = (uint8_t)(v13 ? 0 : r1_3_0_copyload);
+    store16(r23 + 2, (uint16_t)(v13 ? 0 : r1_4_0_copyload));
+    store32(r23 + 4, (uint32_t)(v13 ? 0 : r1_5_0_copyload));
+    store64(r23 + 8, (uint64_t)(v13 ? 0 : r1_6_0_copyload));
+    store32(r23 + 16, (uint32_t)(v13 ? 0 : r1_7_0_copyload));
     goto dfu_host_task_Task_row_exit;
-arm_7_3:
-    r3_0_off0 = 0;
-    r28_0_0 = (uint8_t)((r18_0_0 == 9) ? 0 : 7);
-    r28_25_0 = 0;
-    r28_48_0_0 = 0;
-    r28_48_24_0 = 0;
-    r28_67_0 = 0;
-    r28_82_0 = 0;
-    r28_95_0 = 0;
+arm_10:
+    if (v10) {
+        r33_6_0_0 = 0;
+        r33_4_0 = 0;
+        r33_8_0 = 0;
+        r33_10_0 = 0;
+        r33_12_0 = 0;
+        r33_0_0 = 0;
+        goto join_28;
+    }
+    r33_6_0_0 = r1_4_0_copyload;
+    r33_4_0 = r1_3_0_copyload;
+    r33_8_0 = r1_5_0_copyload;
+    r33_10_0 = r1_6_0_copyload;
+    r33_12_0 = r1_7_0_copyload;
+    r33_0_0 = 7;
+join_28:
+    *r23 = r33_0_0;
+    r23[1] = r33_4_0;
+    store16(r23 + 2, r33_6_0_0);
+    store32(r23 + 4, r33_8_0);
+    store64(r23 + 8, r33_10_0);
+    store32(r23 + 16, r33_12_0);
     goto dfu_host_task_Task_row_exit;
-arm_8_2:
+arm_11:
     switch (r18_0_0) {
     case 0:
-        r3_0_off0 = 0;
-        r28_0_0 = 10;
-        r28_25_0 = r18_0_0;
-        r28_48_0_0 = r18_0_0;
-        r28_48_24_0 = r18_0_0;
-        r28_67_0 = 0;
-        r28_82_0 = r1_6_0_copyload;
-        r28_95_0 = 0;
-        goto dfu_host_task_Task_row_exit;
-    case 6: goto arm_2_4;
-    case 1: goto arm_3_8;
-    case 2: goto arm_3_8;
-    case 3: goto arm_3_8;
-    case 4: goto arm_3_8;
-    case 5: goto arm_3_8;
-    case 7: goto arm_3_8;
-    case 8: goto arm_3_8;
-    case 9: goto arm_3_8;
+        r39_0_0_in_speculated_2 = 10;
+        r39_9_0_in_2 = r34_4;
+        r39_17_0_in_speculated = r1_6_0_copyload;
+        goto dfu_host_row_on_ack_exit48;
+    case 6: goto arm_2_5;
+    case 1: goto arm_3_6;
+    case 2: goto arm_3_6;
+    case 3: goto arm_3_6;
+    case 4: goto arm_3_6;
+    case 5: goto arm_3_6;
+    case 7: goto arm_3_6;
+    case 8: goto arm_3_6;
+    case 9: goto arm_3_6;
     default: never();
     }
-arm_2_4:
-    r3_0_off0 = 0;
-    r28_0_0 = 17;
-    r28_25_0 = 0;
-    r28_48_0_0 = 0;
-    r28_48_24_0 = 0;
-    r28_67_0 = 0;
-    r28_82_0 = 0;
-    r28_95_0 = 0;
+arm_2_5:
+    r39_0_0_in_speculated_2 = 17;
+    r39_9_0_in_2 = r35_4;
+    r39_17_0_in_speculated = 0;
+    goto dfu_host_row_on_ack_exit48;
+arm_3_6:
+    r39_0_0_in_speculated_2 = 9;
+    r39_9_0_in_2 = r36_4;
+    r39_17_0_in_speculated = r1_6_0_copyload;
+    goto dfu_host_row_on_ack_exit48;
+dfu_host_row_on_ack_exit48:;
+    uint16_t r39_9_0_2 = load16(r39_9_0_in_2);
+    *r23 = r39_0_0_in_speculated_2;
+    store16(r23 + 2, r39_9_0_2);
+    store64(r23 + 8, r39_17_0_in_speculated);
     goto dfu_host_task_Task_row_exit;
-arm_3_8:
-    r3_0_off0 = 0;
-    r28_0_0 = 9;
-    r28_25_0 = 0;
-    r28_48_0_0 = 0;
-    r28_48_24_0 = 0;
-    r28_67_0 = 0;
-    r28_82_0 = r1_6_0_copyload;
-    r28_95_0 = 0;
-    goto dfu_host_task_Task_row_exit;
-arm_9:
+arm_12:
     switch (r18_0_0) {
-    case 2: goto arm_3_9;
+    case 2: goto arm_3_7;
     case 6: goto after_2_2;
     case 0:
-        r3_0_off0 = 0;
-        r28_0_0 = 9;
-        r28_25_0 = 0;
-        r28_48_0_0 = 0;
-        r28_48_24_0 = 0;
-        r28_67_0 = 0;
-        r28_82_0 = r1_6_0_copyload;
-        r28_95_0 = 0;
-        goto dfu_host_task_Task_row_exit;
+        r6_0_0_2 = 9;
+        r6_10_0 = r1_6_0_copyload;
+        goto dfu_host_task_Task_after_ask_exit;
     case 1:
-        r3_0_off0 = 0;
-        r28_0_0 = 9;
-        r28_25_0 = 0;
-        r28_48_0_0 = 0;
-        r28_48_24_0 = 0;
-        r28_67_0 = 0;
-        r28_82_0 = r1_6_0_copyload;
-        r28_95_0 = 0;
-        goto dfu_host_task_Task_row_exit;
+        r6_0_0_2 = 9;
+        r6_10_0 = r1_6_0_copyload;
+        goto dfu_host_task_Task_after_ask_exit;
     case 3:
-        r3_0_off0 = 0;
-        r28_0_0 = 9;
-        r28_25_0 = 0;
-        r28_48_0_0 = 0;
-        r28_48_24_0 = 0;
-        r28_67_0 = 0;
-        r28_82_0 = r1_6_0_copyload;
-        r28_95_0 = 0;
-        goto dfu_host_task_Task_row_exit;
+        r6_0_0_2 = 9;
+        r6_10_0 = r1_6_0_copyload;
+        goto dfu_host_task_Task_after_ask_exit;
     case 4:
-        r3_0_off0 = 0;
-        r28_0_0 = 9;
-        r28_25_0 = 0;
-        r28_48_0_0 = 0;
-        r28_48_24_0 = 0;
-        r28_67_0 = 0;
-        r28_82_0 = r1_6_0_copyload;
-        r28_95_0 = 0;
-        goto dfu_host_task_Task_row_exit;
+        r6_0_0_2 = 9;
+        r6_10_0 = r1_6_0_copyload;
+        goto dfu_host_task_Task_after_ask_exit;
     case 5:
-        r3_0_off0 = 0;
-        r28_0_0 = 9;
-        r28_25_0 = 0;
-        r28_48_0_0 = 0;
-        r28_48_24_0 = 0;
-        r28_67_0 = 0;
-        r28_82_0 = r1_6_0_copyload;
-        r28_95_0 = 0;
-        goto dfu_host_task_Task_row_exit;
+        r6_0_0_2 = 9;
+        r6_10_0 = r1_6_0_copyload;
+        goto dfu_host_task_Task_after_ask_exit;
     case 7:
-        r3_0_off0 = 0;
-        r28_0_0 = 9;
-        r28_25_0 = 0;
-        r28_48_0_0 = 0;
-        r28_48_24_0 = 0;
-        r28_67_0 = 0;
-        r28_82_0 = r1_6_0_copyload;
-        r28_95_0 = 0;
-        goto dfu_host_task_Task_row_exit;
+        r6_0_0_2 = 9;
+        r6_10_0 = r1_6_0_copyload;
+        goto dfu_host_task_Task_after_ask_exit;
     case 8:
-        r3_0_off0 = 0;
-        r28_0_0 = 9;
-        r28_25_0 = 0;
-        r28_48_0_0 = 0;
-        r28_48_24_0 = 0;
-        r28_67_0 = 0;
-        r28_82_0 = r1_6_0_copyload;
-        r28_95_0 = 0;
-        goto dfu_host_task_Task_row_exit;
+        r6_0_0_2 = 9;
+        r6_10_0 = r1_6_0_copyload;
+        goto dfu_host_task_Task_after_ask_exit;
     case 9:
-        r3_0_off0 = 0;
-        r28_0_0 = 9;
-        r28_25_0 = 0;
-        r28_48_0_0 = 0;
-        r28_48_24_0 = 0;
-        r28_67_0 = 0;
-        r28_82_0 = r1_6_0_copyload;
-        r28_95_0 = 0;
-        goto dfu_host_task_Task_row_exit;
+        r6_0_0_2 = 9;
+        r6_10_0 = r1_6_0_copyload;
+        goto dfu_host_task_Task_after_ask_exit;
     default: never();
     }
-arm_3_9:
+arm_3_7:
     switch (r18_10_0) {
     case 3:
-        r3_0_off0 = 0;
-        r28_0_0 = 10;
-        r28_25_0 = 0;
-        r28_48_0_0 = 0;
-        r28_48_24_0 = 0;
-        r28_67_0 = 0;
-        r28_82_0 = r1_6_0_copyload;
-        r28_95_0 = 0;
-        goto dfu_host_task_Task_row_exit;
+        r6_0_0_2 = 10;
+        r6_10_0 = r1_6_0_copyload;
+        goto dfu_host_task_Task_after_ask_exit;
     case 2: goto arm_9_2;
     case 5: goto arm_10_2;
     case 0: goto after_2_2;
@@ -3111,777 +3026,277 @@ arm_3_9:
     }
 arm_9_2:
     if (r1_6_0_copyload == 0) {
-        r3_0_off0 = 0;
-        r28_0_0 = 8;
-        r28_25_0 = 0;
-        r28_48_0_0 = 0;
-        r28_48_24_0 = 0;
-        r28_67_0 = 0;
-        r28_82_0 = 0;
-        r28_95_0 = 0;
-        goto dfu_host_task_Task_row_exit;
+        r6_0_0_2 = 8;
+        r6_10_0 = 0;
+        goto dfu_host_task_Task_after_ask_exit;
     }
     goto after_2_2;
 arm_10_2:
     if (r1_6_0_copyload != 0) {
-        r3_0_off0 = 0;
-        r28_0_0 = 8;
-        r28_25_0 = 0;
-        r28_48_0_0 = 0;
-        r28_48_24_0 = 0;
-        r28_67_0 = 0;
-        r28_82_0 = r1_6_0_copyload;
-        r28_95_0 = 0;
-        goto dfu_host_task_Task_row_exit;
+        r6_0_0_2 = 8;
+        r6_10_0 = r1_6_0_copyload;
+        goto dfu_host_task_Task_after_ask_exit;
     }
 after_2_2:
-    r3_0_off0 = 0;
-    r28_0_0 = 17;
-    r28_25_0 = 0;
-    r28_48_0_0 = 0;
-    r28_48_24_0 = 0;
-    r28_67_0 = 0;
-    r28_82_0 = 0;
-    r28_95_0 = 0;
+    r6_0_0_2 = 17;
+    r6_10_0 = 0;
+    goto dfu_host_task_Task_after_ask_exit;
+dfu_host_task_Task_after_ask_exit:
+    *r23 = r6_0_0_2;
+    store64(r23 + 8, r6_10_0);
     goto dfu_host_task_Task_row_exit;
-arm_10:
-    switch (r18_0_0) {
-    case 1: goto arm_1_5;
-    case 6:
-        r3_0_off0 = 0;
-        r28_0_0 = 17;
-        r28_25_0 = 0;
-        r28_48_0_0 = 0;
-        r28_48_24_0 = 0;
-        r28_67_0 = 0;
-        r28_82_0 = 0;
-        r28_95_0 = 0;
-        goto dfu_host_task_Task_row_exit;
-    case 0: goto arm_3_10;
-    case 2: goto arm_3_10;
-    case 3: goto arm_3_10;
-    case 4: goto arm_3_10;
-    case 5: goto arm_3_10;
-    case 7: goto arm_3_10;
-    case 8: goto arm_3_10;
-    case 9: goto arm_3_10;
-    default: never();
-    }
-arm_1_5:;
-    uint32_t r12_32_8_extract_trunc = (uint32_t)r18_14_0;
-    v25 = r5_2 + 16;
-    store64(v25, 0);
-    switch ((uint8_t)(r18_14_0 >> 32)) {
-    case 3:
-        v27 = r12_32_8_extract_trunc;
-        v28 = r1_6_0_copyload;
-        v29 = 0;
-        off0343 = 0;
-        off8345 = 0;
-        v30 = 0;
-        v31 = 11;
-        goto dfu_host_task_Task_polled_exit;
-    case 4:
-        v27 = r12_32_8_extract_trunc;
-        v28 = r1_6_0_copyload;
-        v29 = 0;
-        off0343 = 0;
-        off8345 = 0;
-        v30 = 0;
-        v31 = 11;
-        goto dfu_host_task_Task_polled_exit;
-    case 5: goto arm_2_5;
-    case 0: goto arm_3_11;
-    case 1: goto arm_3_11;
-    case 2: goto arm_3_11;
-    case 6: goto arm_3_11;
-    case 7: goto arm_3_11;
-    case 8: goto arm_3_11;
-    case 9: goto arm_3_11;
-    case 10: goto arm_3_11;
-    default: never();
-    }
-arm_2_5:
-    r8 = load16(a0 + 24);
-    uint8_t r7_5 = *a0;
-    if (r7_5 == 1) {
-        r2_4_0 = 0;
-        goto dfu_host_task_Task_is_last_exit;
-    }
-    uint64_t r16 = load64(a0 + 16);
-    r2_4_0 = r16;
-dfu_host_task_Task_is_last_exit:;
-    uint64_t r10_3 = (uint64_t)r8;
-    uint8_t r24_not = (r2_4_0 - (r1_6_0_copyload * r10_3)) > r10_3;
-    v27 = 0;
-    v28 = (uint64_t)(r24_not ? (r1_6_0_copyload + 1) : 0);
-    v29 = 0;
-    off0343 = 0;
-    off8345 = 0;
-    v30 = 0;
-    v31 = (uint8_t)(r24_not ? 8 : 12);
-    goto dfu_host_task_Task_polled_exit;
-arm_3_11:
-    store32(r10_4, r18_121_0);
-    store64a4(r10_4 + 4, r18_14_0);
-    dfu_host_task_Task_troubled(r5_2, a0, r10_4);
-    uint8_t pre_3 = *r5_2;
-    uint8_t pre7 = r5_2[1];
-    uint16_t pre8 = load16(r5_2 + 2);
-    uint32_t pre9 = load32(r5_2 + 4);
-    uint64_t pre10 = load64(r5_2 + 8);
-    uint32_t pre11 = load32(v25);
-    v27 = pre11;
-    v28 = pre10;
-    v29 = pre9;
-    off0343 = (uint8_t)pre8;
-    off8345 = (uint8_t)(uint16_t)(pre8 >> 8);
-    v30 = pre7;
-    v31 = pre_3;
-    goto dfu_host_task_Task_polled_exit;
-dfu_host_task_Task_polled_exit:
-    r3_0_off0 = 0;
-    r28_0_0 = v31;
-    r28_25_0 = v30;
-    r28_48_0_0 = off0343;
-    r28_48_24_0 = off8345;
-    r28_67_0 = v29;
-    r28_82_0 = v28;
-    r28_95_0 = v27;
+arm_13:;
+    uint8_t v14 = r18_0_0 == 8;
+    *r23 = (uint8_t)(v14 ? 10 : 11);
+    r23[1] = (uint8_t)(v14 ? 0 : r1_3_0_copyload);
+    store16(r23 + 2, (uint16_t)(v14 ? 0 : r1_4_0_copyload));
+    store32(r23 + 4, (uint32_t)(v14 ? 0 : r1_5_0_copyload));
+    store64(r23 + 8, r1_6_0_copyload);
+    store32(r23 + 16, (uint32_t)(v14 ? 0 : r1_7_0_copyload));
     goto dfu_host_task_Task_row_exit;
-arm_3_10:
-    r3_0_off0 = 0;
-    r28_0_0 = 10;
-    r28_25_0 = 0;
-    r28_48_0_0 = 0;
-    r28_48_24_0 = 0;
-    r28_67_0 = 0;
-    r28_82_0 = r1_6_0_copyload;
-    r28_95_0 = 0;
-    goto dfu_host_task_Task_row_exit;
-arm_11:;
-    uint8_t v32 = r18_0_0 == 8;
-    r3_0_off0 = 0;
-    r28_0_0 = (uint8_t)(v32 ? 10 : 11);
-    r28_25_0 = 0;
-    r28_48_0_0 = 0;
-    r28_48_24_0 = 0;
-    r28_67_0 = 0;
-    r28_82_0 = r1_6_0_copyload;
-    r28_95_0 = (uint32_t)(v32 ? 0 : r1_7_0_copyload);
-    goto dfu_host_task_Task_row_exit;
-arm_12:
+arm_14:
     switch (r18_0_0) {
     case 0:
-        r3_0_off0 = 0;
-        r28_0_0 = 14;
-        r28_25_0 = r18_0_0;
-        r28_48_0_0 = r18_0_0;
-        r28_48_24_0 = r18_0_0;
-        r28_67_0 = 0;
-        r28_82_0 = 0;
-        r28_95_0 = 0;
-        goto dfu_host_task_Task_row_exit;
+        r39_0_0_in_speculated_3 = 14;
+        r39_9_0_in_3 = r38_4;
+        goto dfu_host_row_on_ack_exit112;
     case 6: goto arm_2_6;
-    case 1: goto arm_3_12;
-    case 2: goto arm_3_12;
-    case 3: goto arm_3_12;
-    case 4: goto arm_3_12;
-    case 5: goto arm_3_12;
-    case 7: goto arm_3_12;
-    case 8: goto arm_3_12;
-    case 9: goto arm_3_12;
+    case 1: goto arm_3_8;
+    case 2: goto arm_3_8;
+    case 3: goto arm_3_8;
+    case 4: goto arm_3_8;
+    case 5: goto arm_3_8;
+    case 7: goto arm_3_8;
+    case 8: goto arm_3_8;
+    case 9: goto arm_3_8;
     default: never();
     }
 arm_2_6:
-    r3_0_off0 = 0;
-    r28_0_0 = 17;
-    r28_25_0 = 0;
-    r28_48_0_0 = 0;
-    r28_48_24_0 = 0;
-    r28_67_0 = 0;
-    r28_82_0 = 0;
-    r28_95_0 = 0;
+    r39_0_0_in_speculated_3 = 17;
+    r39_9_0_in_3 = r39_4;
+    goto dfu_host_row_on_ack_exit112;
+arm_3_8:
+    r39_0_0_in_speculated_3 = 13;
+    r39_9_0_in_3 = r40_4;
+    goto dfu_host_row_on_ack_exit112;
+dfu_host_row_on_ack_exit112:;
+    uint16_t r39_9_0_3 = load16(r39_9_0_in_3);
+    *r23 = r39_0_0_in_speculated_3;
+    store16(r23 + 2, r39_9_0_3);
+    memset(r23 + 4, 0, 16);
     goto dfu_host_task_Task_row_exit;
-arm_3_12:
-    r3_0_off0 = 0;
-    r28_0_0 = 13;
-    r28_25_0 = 0;
-    r28_48_0_0 = 0;
-    r28_48_24_0 = 0;
-    r28_67_0 = 0;
-    r28_82_0 = 0;
-    r28_95_0 = 0;
-    goto dfu_host_task_Task_row_exit;
-arm_13:
+arm_15:
     switch (r18_0_0) {
-    case 2: goto arm_3_13;
+    case 2: goto switch_lookup;
     case 6: goto after_2_3;
     case 0:
-        r3_0_off0 = 0;
-        r28_0_0 = 13;
-        r28_25_0 = 0;
-        r28_48_0_0 = 0;
-        r28_48_24_0 = 0;
-        r28_67_0 = 0;
-        r28_82_0 = 0;
-        r28_95_0 = 0;
-        goto dfu_host_task_Task_row_exit;
+        r6_0_0_3 = 13;
+        goto dfu_host_task_Task_after_ask_last_exit;
     case 1:
-        r3_0_off0 = 0;
-        r28_0_0 = 13;
-        r28_25_0 = 0;
-        r28_48_0_0 = 0;
-        r28_48_24_0 = 0;
-        r28_67_0 = 0;
-        r28_82_0 = 0;
-        r28_95_0 = 0;
-        goto dfu_host_task_Task_row_exit;
+        r6_0_0_3 = 13;
+        goto dfu_host_task_Task_after_ask_last_exit;
     case 3:
-        r3_0_off0 = 0;
-        r28_0_0 = 13;
-        r28_25_0 = 0;
-        r28_48_0_0 = 0;
-        r28_48_24_0 = 0;
-        r28_67_0 = 0;
-        r28_82_0 = 0;
-        r28_95_0 = 0;
-        goto dfu_host_task_Task_row_exit;
+        r6_0_0_3 = 13;
+        goto dfu_host_task_Task_after_ask_last_exit;
     case 4:
-        r3_0_off0 = 0;
-        r28_0_0 = 13;
-        r28_25_0 = 0;
-        r28_48_0_0 = 0;
-        r28_48_24_0 = 0;
-        r28_67_0 = 0;
-        r28_82_0 = 0;
-        r28_95_0 = 0;
-        goto dfu_host_task_Task_row_exit;
+        r6_0_0_3 = 13;
+        goto dfu_host_task_Task_after_ask_last_exit;
     case 5:
-        r3_0_off0 = 0;
-        r28_0_0 = 13;
-        r28_25_0 = 0;
-        r28_48_0_0 = 0;
-        r28_48_24_0 = 0;
-        r28_67_0 = 0;
-        r28_82_0 = 0;
-        r28_95_0 = 0;
-        goto dfu_host_task_Task_row_exit;
+        r6_0_0_3 = 13;
+        goto dfu_host_task_Task_after_ask_last_exit;
     case 7:
-        r3_0_off0 = 0;
-        r28_0_0 = 13;
-        r28_25_0 = 0;
-        r28_48_0_0 = 0;
-        r28_48_24_0 = 0;
-        r28_67_0 = 0;
-        r28_82_0 = 0;
-        r28_95_0 = 0;
-        goto dfu_host_task_Task_row_exit;
+        r6_0_0_3 = 13;
+        goto dfu_host_task_Task_after_ask_last_exit;
     case 8:
-        r3_0_off0 = 0;
-        r28_0_0 = 13;
-        r28_25_0 = 0;
-        r28_48_0_0 = 0;
-        r28_48_24_0 = 0;
-        r28_67_0 = 0;
-        r28_82_0 = 0;
-        r28_95_0 = 0;
-        goto dfu_host_task_Task_row_exit;
+        r6_0_0_3 = 13;
+        goto dfu_host_task_Task_after_ask_last_exit;
     case 9:
-        r3_0_off0 = 0;
-        r28_0_0 = 13;
-        r28_25_0 = 0;
-        r28_48_0_0 = 0;
-        r28_48_24_0 = 0;
-        r28_67_0 = 0;
-        r28_82_0 = 0;
-        r28_95_0 = 0;
-        goto dfu_host_task_Task_row_exit;
+        r6_0_0_3 = 13;
+        goto dfu_host_task_Task_after_ask_last_exit;
     default: never();
     }
-arm_3_13:
-    switch (r18_10_0) {
-    case 6:
-        r3_0_off0 = 0;
-        r28_0_0 = 14;
-        r28_25_0 = 0;
-        r28_48_0_0 = 0;
-        r28_48_24_0 = 0;
-        r28_67_0 = 0;
-        r28_82_0 = 0;
-        r28_95_0 = 0;
-        goto dfu_host_task_Task_row_exit;
-    case 5: goto arm_9_3;
-    case 0: goto after_2_3;
-    case 1: goto after_2_3;
-    case 2: goto after_2_3;
-    case 3: goto after_2_3;
-    case 4: goto after_2_3;
-    case 7: goto after_2_3;
-    case 8: goto after_2_3;
-    case 9: goto after_2_3;
-    case 10: goto after_2_3;
-    default: never();
-    }
-arm_9_3:
-    r3_0_off0 = 0;
-    r28_0_0 = 12;
-    r28_25_0 = 0;
-    r28_48_0_0 = 0;
-    r28_48_24_0 = 0;
-    r28_67_0 = 0;
-    r28_82_0 = 0;
-    r28_95_0 = 0;
-    goto dfu_host_task_Task_row_exit;
 after_2_3:
-    r3_0_off0 = 0;
-    r28_0_0 = 17;
-    r28_25_0 = 0;
-    r28_48_0_0 = 0;
-    r28_48_24_0 = 0;
-    r28_67_0 = 0;
-    r28_82_0 = 0;
-    r28_95_0 = 0;
-    goto dfu_host_task_Task_row_exit;
-arm_14:
-    r12_32_8_extract_trunc287 = (uint32_t)r18_14_0;
-    r12_32_12_extract_trunc290 = (uint8_t)(r18_14_0 >> 32);
-    switch (r18_0_0) {
-    case 1: goto arm_1_6;
-    case 6:
-        r3_0_off0 = 0;
-        r28_0_0 = 17;
-        r28_25_0 = 0;
-        r28_48_0_0 = 0;
-        r28_48_24_0 = 0;
-        r28_67_0 = 0;
-        r28_82_0 = 0;
-        r28_95_0 = 0;
-        goto dfu_host_task_Task_row_exit;
-    case 0: goto arm_3_14;
-    case 2: goto arm_3_14;
-    case 3: goto arm_3_14;
-    case 4: goto arm_3_14;
-    case 5: goto arm_3_14;
-    case 7: goto arm_3_14;
-    case 8: goto arm_3_14;
-    case 9: goto arm_3_14;
-    default: never();
-    }
-arm_1_6:;
-    uint8_t r5_3 = a0[26];
-    if (!(r5_3 & 1)) goto else_2;
-    v33 = r7_6 + 16;
-    store64(v33, 0);
-    switch (r12_32_12_extract_trunc290) {
-    case 6:
-        off0335 = 0;
-        off8337 = 0;
-        v36 = 0;
-        v37 = 0;
-        v38 = r12_32_8_extract_trunc287;
-        v39 = 0;
-        v40 = 15;
-        goto dfu_host_task_Task_confirmed_exit;
-    case 7:
-        off0335 = 0;
-        off8337 = 0;
-        v36 = 0;
-        v37 = 0;
-        v38 = r12_32_8_extract_trunc287;
-        v39 = 0;
-        v40 = 15;
-        goto dfu_host_task_Task_confirmed_exit;
-    case 2: goto arm_4_5;
-    case 0: goto after_2_4;
-    case 1: goto after_2_4;
-    case 3: goto after_2_4;
-    case 4: goto after_2_4;
-    case 5: goto after_2_4;
-    case 8: goto after_2_4;
-    case 9: goto after_2_4;
-    case 10: goto after_2_4;
-    default: never();
-    }
-arm_4_5:
-    if ((r18_121_0 & 255) == 0) {
-        off0335 = 0;
-        off8337 = 0;
-        v36 = 0;
-        v37 = 0;
-        v38 = 0;
-        v39 = 0;
-        v40 = 20;
-        goto dfu_host_task_Task_confirmed_exit;
-    }
-after_2_4:
-    store32(r11, r18_121_0);
-    store64a4(r11 + 4, r18_14_0);
-    dfu_host_task_Task_troubled(r7_6, a0, r11);
-    uint8_t pre_4 = *r7_6;
-    uint8_t pre10_2 = r7_6[1];
-    uint32_t pre11_2 = load32(r7_6 + 4);
-    uint64_t pre12 = load64(r7_6 + 8);
-    uint32_t pre13 = load32(v33);
-    uint16_t pre_5 = load16(r7_6 + 2);
-    off0335 = (uint8_t)pre_5;
-    off8337 = (uint8_t)(uint16_t)(pre_5 >> 8);
-    v36 = pre13;
-    v37 = pre12;
-    v38 = pre11_2;
-    v39 = pre10_2;
-    v40 = pre_4;
-    goto dfu_host_task_Task_confirmed_exit;
-dfu_host_task_Task_confirmed_exit:
-    r3_0_off0 = 0;
-    r28_0_0 = v40;
-    r28_25_0 = v39;
-    r28_48_0_0 = off0335;
-    r28_48_24_0 = off8337;
-    r28_67_0 = v38;
-    r28_82_0 = v37;
-    r28_95_0 = v36;
-    goto dfu_host_task_Task_row_exit;
-else_2:
-    v41 = r5_4 + 16;
-    store64(v41, 0);
-    switch (r12_32_12_extract_trunc290) {
-    case 6:
-        off0330 = 0;
-        off8332 = 0;
-        v42 = 0;
-        v43 = 0;
-        v44 = r12_32_8_extract_trunc287;
-        v45 = 0;
-        v46 = 16;
-        goto dfu_host_task_Task_unconfirmed_exit;
-    case 7:
-        off0330 = 0;
-        off8332 = 0;
-        v42 = 0;
-        v43 = 0;
-        v44 = r12_32_8_extract_trunc287;
-        v45 = 0;
-        v46 = 16;
-        goto dfu_host_task_Task_unconfirmed_exit;
-    case 2: goto arm_2_7;
-    case 8: goto arm_2_7;
-    case 0: goto arm_3_15;
-    case 1: goto arm_3_15;
-    case 3: goto arm_3_15;
-    case 4: goto arm_3_15;
-    case 5: goto arm_3_15;
-    case 9: goto arm_3_15;
-    case 10: goto arm_3_15;
-    default: never();
-    }
-arm_2_7:
-    off0330 = 0;
-    off8332 = 0;
-    v42 = 0;
-    v43 = 0;
-    v44 = 0;
-    v45 = 1;
-    v46 = 20;
-    goto dfu_host_task_Task_unconfirmed_exit;
-arm_3_15:
-    store32(r9_3, r18_121_0);
-    store64a4(r9_3 + 4, r18_14_0);
-    dfu_host_task_Task_troubled(r5_4, a0, r9_3);
-    uint8_t pre_6 = *r5_4;
-    uint8_t pre7_2 = r5_4[1];
-    uint32_t pre8_2 = load32(r5_4 + 4);
-    uint64_t pre9_2 = load64(r5_4 + 8);
-    uint32_t pre10_3 = load32(v41);
-    uint16_t pre_7 = load16(r5_4 + 2);
-    off0330 = (uint8_t)pre_7;
-    off8332 = (uint8_t)(uint16_t)(pre_7 >> 8);
-    v42 = pre10_3;
-    v43 = pre9_2;
-    v44 = pre8_2;
-    v45 = pre7_2;
-    v46 = pre_6;
-    goto dfu_host_task_Task_unconfirmed_exit;
-dfu_host_task_Task_unconfirmed_exit:
-    r3_0_off0 = 0;
-    r28_0_0 = v46;
-    r28_25_0 = v45;
-    r28_48_0_0 = off0330;
-    r28_48_24_0 = off8332;
-    r28_67_0 = v44;
-    r28_82_0 = v43;
-    r28_95_0 = v42;
-    goto dfu_host_task_Task_row_exit;
-arm_3_14:
-    r3_0_off0 = 0;
-    r28_0_0 = 14;
-    r28_25_0 = 0;
-    r28_48_0_0 = 0;
-    r28_48_24_0 = 0;
-    r28_67_0 = 0;
-    r28_82_0 = 0;
-    r28_95_0 = 0;
-    goto dfu_host_task_Task_row_exit;
-arm_15:;
-    uint8_t v47 = r18_0_0 == 8;
-    r3_0_off0 = 0;
-    r28_0_0 = (uint8_t)(v47 ? 14 : 15);
-    r28_25_0 = 0;
-    r28_48_0_0 = 0;
-    r28_48_24_0 = 0;
-    r28_67_0 = (uint32_t)(v47 ? 0 : r1_5_0_copyload);
-    r28_82_0 = 0;
-    r28_95_0 = 0;
+    r6_0_0_3 = 17;
+    goto dfu_host_task_Task_after_ask_last_exit;
+switch_lookup:;
+    uint8_t switch_load = *(PLACE(switch_table_dfu_host_session_Session_on_result) + (size_t)r18_10_0);
+    r6_0_0_3 = switch_load;
+dfu_host_task_Task_after_ask_last_exit:
+    *r23 = r6_0_0_3;
+    memset(r23 + 1, 0, 19);
     goto dfu_host_task_Task_row_exit;
 arm_16:;
-    uint8_t v48 = r18_0_0 == 8;
-    r3_0_off0 = 0;
-    r28_0_0 = (uint8_t)(v48 ? 20 : 16);
-    r28_25_0 = v48;
-    r28_48_0_0 = 0;
-    r28_48_24_0 = 0;
-    r28_67_0 = (uint32_t)(v48 ? 0 : r1_5_0_copyload);
-    r28_82_0 = 0;
-    r28_95_0 = 0;
+    uint8_t v16 = r18_0_0 == 8;
+    *r23 = (uint8_t)(v16 ? 14 : 15);
+    r23[1] = (uint8_t)(v16 ? 0 : r1_3_0_copyload);
+    store16(r23 + 2, (uint16_t)(v16 ? 0 : r1_4_0_copyload));
+    store32(r23 + 4, (uint32_t)(v16 ? 0 : r1_5_0_copyload));
+    store64(r23 + 8, (uint64_t)(v16 ? 0 : r1_6_0_copyload));
+    store32(r23 + 16, (uint32_t)(v16 ? 0 : r1_7_0_copyload));
     goto dfu_host_task_Task_row_exit;
-arm_17:
-    v49 = r7_7 + 16;
-    store64(v49, 0);
-    switch (r18_0_0) {
-    case 1: goto arm_1_7;
-    case 6:
-        v50 = 0;
-        v51 = 0;
-        v52 = 0;
-        off0 = 0;
-        off8 = 0;
-        v53 = 0;
-        v54 = 1;
-        goto dfu_host_task_Task_after_trouble_exit;
-    case 0: goto arm_3_16;
-    case 2: goto arm_3_16;
-    case 3: goto arm_3_16;
-    case 4: goto arm_3_16;
-    case 5: goto arm_3_16;
-    case 7: goto arm_3_16;
-    case 8: goto arm_3_16;
-    case 9: goto arm_3_16;
-    default: never();
-    }
-arm_1_7:
-    store32(r6_3, r18_121_0);
-    store64a4(r6_3 + 4, r18_14_0);
-    dfu_host_task_Task_troubled(r7_7, a0, r6_3);
-    uint8_t pre_8 = *r7_7;
-    uint8_t pre1_3 = r7_7[1];
-    uint16_t pre2_3 = load16(r7_7 + 2);
-    uint32_t pre3_3 = load32(r7_7 + 4);
-    uint64_t pre4_3 = load64(r7_7 + 8);
-    uint32_t pre5_3 = load32(v49);
-    v50 = pre5_3;
-    v51 = pre4_3;
-    v52 = pre3_3;
-    off0 = (uint8_t)pre2_3;
-    off8 = (uint8_t)(uint16_t)(pre2_3 >> 8);
-    v53 = pre1_3;
-    v54 = pre_8;
-    goto dfu_host_task_Task_after_trouble_exit;
-arm_3_16:
-    v50 = 0;
-    v51 = 0;
-    v52 = 0;
-    off0 = 0;
-    off8 = 0;
-    v53 = 0;
-    v54 = 17;
-    goto dfu_host_task_Task_after_trouble_exit;
-dfu_host_task_Task_after_trouble_exit:
-    r3_0_off0 = 0;
-    r28_0_0 = v54;
-    r28_25_0 = v53;
-    r28_48_0_0 = off0;
-    r28_48_24_0 = off8;
-    r28_67_0 = v52;
-    r28_82_0 = v51;
-    r28_95_0 = v50;
+arm_17:;
+    uint8_t v17 = r18_0_0 == 8;
+    *r23 = (uint8_t)(v17 ? 20 : 16);
+    r23[1] = (uint8_t)(v17 ? 1 : r1_3_0_copyload);
+    store16(r23 + 2, (uint16_t)(v17 ? 0 : r1_4_0_copyload));
+    store32(r23 + 4, (uint32_t)(v17 ? 0 : r1_5_0_copyload));
+    store64(r23 + 8, (uint64_t)(v17 ? 0 : r1_6_0_copyload));
+    store32(r23 + 16, (uint32_t)(v17 ? 0 : r1_7_0_copyload));
     goto dfu_host_task_Task_row_exit;
 arm_18:
     switch (r18_0_0) {
-    case 3: goto arm_1_8;
+    case 3: goto arm_1_3;
     case 5:
-        r3_0_off0 = 0;
-        r28_0_0 = 23;
-        r28_25_0 = 8;
-        r28_48_0_0 = 0;
-        r28_48_24_0 = 0;
-        r28_67_0 = 0;
-        r28_82_0 = 0;
-        r28_95_0 = 0;
-        goto dfu_host_task_Task_row_exit;
-    case 0: goto arm_3_17;
-    case 1: goto arm_3_17;
-    case 2: goto arm_3_17;
-    case 4: goto arm_3_17;
-    case 6: goto arm_3_17;
-    case 7: goto arm_3_17;
-    case 8: goto arm_3_17;
-    case 9: goto arm_3_17;
+        r7_0_0 = 23;
+        r7_5_0 = 8;
+        r7_8_0_0 = 0;
+        r7_8_4_0_0 = 0;
+        goto dfu_host_task_Task_after_fetch_exit;
+    case 0: goto arm_3_9;
+    case 1: goto arm_3_9;
+    case 2: goto arm_3_9;
+    case 4: goto arm_3_9;
+    case 6: goto arm_3_9;
+    case 7: goto arm_3_9;
+    case 8: goto arm_3_9;
+    case 9: goto arm_3_9;
     default: never();
     }
-arm_1_8:;
-    uint16_t r13_4 = load16(a0 + 24);
-    r15 = (uint64_t)r13_4;
+arm_1_3:;
+    uint16_t r13_3 = load16(a0 + 24);
+    r15 = (uint64_t)r13_3;
     if (r18_14_0 < r15) {
-        r3_0_off0 = 0;
-        r28_0_0 = 21;
-        r28_25_0 = 0;
-        r28_48_0_0 = 0;
-        r28_48_24_0 = 0;
-        r28_67_0 = 0;
-        r28_82_0 = 0;
-        r28_95_0 = 0;
-        goto dfu_host_task_Task_row_exit;
+        r7_0_0 = 21;
+        r7_5_0 = 0;
+        r7_8_0_0 = 0;
+        r7_8_4_0_0 = 0;
+        goto dfu_host_task_Task_after_fetch_exit;
     }
     if (r18_14_0 > r15) {
-        r3_0_off0 = 0;
-        r28_0_0 = 0;
-        r28_25_0 = 0;
-        r28_48_0_0 = 0;
-        r28_48_24_0 = 0;
-        r28_67_0 = 0;
-        r28_82_0 = 0;
-        r28_95_0 = 0;
-        goto dfu_host_task_Task_row_exit;
+        r7_0_0 = 0;
+        r7_5_0 = 0;
+        r7_8_0_0 = 0;
+        r7_8_4_0_0 = 0;
+        goto dfu_host_task_Task_after_fetch_exit;
     }
-    r26 = (uint16_t)(r1_4_0_copyload + 1);
-    if (r26 == 0xffffU) {
-        r3_0_off0 = 0;
-        r28_0_0 = 23;
-        r28_25_0 = 7;
-        r28_48_0_0 = 0;
-        r28_48_24_0 = 0;
-        r28_67_0 = 0;
-        r28_82_0 = 0;
-        r28_95_0 = 0;
-        goto dfu_host_task_Task_row_exit;
+    r26_2 = (uint16_t)(r1_4_0_copyload + 1);
+    if (r26_2 == 0xffffU) {
+        r7_0_0 = 23;
+        r7_5_0 = 7;
+        r7_8_0_0 = 0;
+        r7_8_4_0_0 = 0;
+        goto dfu_host_task_Task_after_fetch_exit;
     }
-    r3_0_off0 = 0;
-    r28_0_0 = 18;
-    r28_25_0 = 0;
-    r28_48_0_0 = (uint8_t)r26;
-    r28_48_24_0 = (uint8_t)(uint16_t)(r26 >> 8);
-    r28_67_0 = 0;
-    r28_82_0 = 0;
-    r28_95_0 = 0;
-    goto dfu_host_task_Task_row_exit;
-arm_3_17:
-    r3_0_off0 = 0;
-    r28_0_0 = 0;
-    r28_25_0 = 0;
-    r28_48_0_0 = 0;
-    r28_48_24_0 = 0;
-    r28_67_0 = 0;
-    r28_82_0 = 0;
-    r28_95_0 = 0;
+    r7_0_0 = 18;
+    r7_5_0 = 0;
+    r7_8_0_0 = (uint8_t)r26_2;
+    r7_8_4_0_0 = (uint8_t)(uint16_t)(r26_2 >> 8);
+    goto dfu_host_task_Task_after_fetch_exit;
+arm_3_9:
+    r7_0_0 = 0;
+    r7_5_0 = 0;
+    r7_8_0_0 = 0;
+    r7_8_4_0_0 = 0;
+    goto dfu_host_task_Task_after_fetch_exit;
+dfu_host_task_Task_after_fetch_exit:
+    *r23 = r7_0_0;
+    r23[1] = r7_5_0;
+    store16(r23 + 2, (uint16_t)((uint32_t)r7_8_4_0_0 << 8) | r7_8_0_0);
+    memset(r23 + 4, 0, 16);
     goto dfu_host_task_Task_row_exit;
 arm_19:
     if (r18_0_0 != 4) {
-        r3_0_off0 = 0;
-        r28_0_0 = 0;
-        r28_25_0 = 0;
-        r28_48_0_0 = 0;
-        r28_48_24_0 = 0;
-        r28_67_0 = 0;
-        r28_82_0 = 0;
-        r28_95_0 = 0;
-        goto dfu_host_task_Task_row_exit;
+        r8_0_0 = 0;
+        r8_4_0 = 0;
+        r8_6_0 = 0;
+        goto dfu_host_task_Task_after_compare_exit;
     }
     uint16_t r17 = load16(a0 + 24);
     r19 = (uint64_t)r17;
     if (r18_14_0 > r19) {
-        r3_0_off0 = 0;
-        r28_0_0 = 0;
-        r28_25_0 = 0;
-        r28_48_0_0 = 0;
-        r28_48_24_0 = 0;
-        r28_67_0 = 0;
-        r28_82_0 = 0;
-        r28_95_0 = 0;
-        goto dfu_host_task_Task_row_exit;
+        r8_0_0 = 0;
+        r8_4_0 = 0;
+        r8_6_0 = 0;
+        goto dfu_host_task_Task_after_compare_exit;
     }
     if (!(r18_10_0 & 1)) {
-        r3_0_off0 = 0;
-        r28_0_0 = 20;
-        r28_25_0 = 10;
-        r28_48_0_0 = 0;
-        r28_48_24_0 = 0;
-        r28_67_0 = 0;
-        r28_82_0 = 0;
-        r28_95_0 = 0;
-        goto dfu_host_task_Task_row_exit;
+        r6_4_0 = 10;
+        r6_7_0_0 = 0;
+        r6_7_4_0_0 = 0;
+        r6_0_0_4 = 20;
+        goto join_6;
     }
     if (r18_14_0 < r19) {
-        r3_0_off0 = 0;
-        r28_0_0 = 20;
-        r28_25_0 = 9;
-        r28_48_0_0 = 0;
-        r28_48_24_0 = 0;
-        r28_67_0 = 0;
-        r28_82_0 = 0;
-        r28_95_0 = 0;
-        goto dfu_host_task_Task_row_exit;
+        r6_4_0 = 9;
+        r6_7_0_0 = 0;
+        r6_7_4_0_0 = 0;
+        r6_0_0_4 = 20;
+        goto join_6;
     }
     r40 = (uint16_t)(r1_4_0_copyload + 1);
     if (r40 == 0xffffU) {
-        r3_0_off0 = 0;
-        r28_0_0 = 23;
-        r28_25_0 = 7;
-        r28_48_0_0 = 0;
-        r28_48_24_0 = 0;
-        r28_67_0 = 0;
-        r28_82_0 = 0;
-        r28_95_0 = 0;
-        goto dfu_host_task_Task_row_exit;
+        r6_4_0 = 7;
+        r6_7_0_0 = 0;
+        r6_7_4_0_0 = 0;
+        r6_0_0_4 = 23;
+        goto join_6;
     }
-    r3_0_off0 = 0;
-    r28_0_0 = 19;
-    r28_25_0 = 0;
-    r28_48_0_0 = (uint8_t)r40;
-    r28_48_24_0 = (uint8_t)(uint16_t)(r40 >> 8);
-    r28_67_0 = 0;
-    r28_82_0 = 0;
-    r28_95_0 = 0;
+    r6_4_0 = 0;
+    r6_7_0_0 = (uint8_t)r40;
+    r6_7_4_0_0 = (uint8_t)(uint16_t)(r40 >> 8);
+    r6_0_0_4 = 19;
+join_6:
+    r8_0_0 = r6_0_0_4;
+    r8_4_0 = r6_4_0;
+    r8_6_0 = (uint16_t)((uint32_t)r6_7_4_0_0 << 8) | r6_7_0_0;
+dfu_host_task_Task_after_compare_exit:
+    *r23 = r8_0_0;
+    r23[1] = r8_4_0;
+    store16(r23 + 2, r8_6_0);
+    memset(r23 + 4, 0, 16);
+    goto dfu_host_task_Task_row_exit;
+arm_20:
+    if (!v10) {
+        r8_7_0_0 = v12;
+        r8_0_0_2 = 20;
+        r8_4_0_2 = r1_3_0_copyload;
+        goto dfu_host_task_Task_after_last_exit_2;
+    }
+    uint8_t r13_4 = *a0;
+    uint8_t v19 = r13_4 == 2;
+    r8_7_0_0 = (uint8_t)(v19 ? 0 : v12);
+    r8_0_0_2 = (uint8_t)(v19 ? 0 : 23);
+    r8_4_0_2 = (uint8_t)(v19 ? 0 : r1_3_0_copyload);
+dfu_host_task_Task_after_last_exit_2:
+    *r23 = r8_0_0_2;
+    r23[1] = r8_4_0_2;
+    r23[2] = r8_7_0_0;
+    memset(r23 + 3, 0, 17);
     goto dfu_host_task_Task_row_exit;
 arm_21:
-    r3_0_off0 = 0;
-    r28_0_0 = (uint8_t)((r18_0_0 == 9) ? 24 : 21);
-    r28_25_0 = 0;
-    r28_48_0_0 = 0;
-    r28_48_24_0 = 0;
-    r28_67_0 = 0;
-    r28_82_0 = 0;
-    r28_95_0 = 0;
+    *r23 = (uint8_t)(v10 ? 24 : 21);
+    memset(r23 + 1, 0, 19);
     goto dfu_host_task_Task_row_exit;
 arm_22:
-    r3_0_off0 = 0;
-    r28_0_0 = 23;
-    r28_25_0 = 2;
-    r28_48_0_0 = 0;
-    r28_48_24_0 = 0;
-    r28_67_0 = 0;
-    r28_82_0 = 0;
-    r28_95_0 = 0;
+    *r23 = 23;
+    r23[1] = 2;
     goto dfu_host_task_Task_row_exit;
-dfu_host_task_Task_row_exit:
-    *r10_2 = r28_0_0;
-    r10_2[1] = r28_25_0;
-    store16(r10_2 + 2, (uint16_t)((uint32_t)r28_48_24_0 << 8) | r28_48_0_0);
-    store32(r10_2 + 4, r28_67_0);
-    store64(r10_2 + 8, r28_82_0);
-    store32(v9, r28_95_0);
-    if (!r3_0_off0) goto dfu_host_progress_Progress_by_row_exit;
-    uint8_t r10_5 = *a0;
-    if (r10_5 != 2) goto dfu_host_progress_Progress_by_row_exit;
+dfu_host_task_Task_row_exit:;
+    uint8_t v20 = *r23;
+    uint8_t v21 = r23[1];
+    uint16_t v22 = load16(r23 + 2);
+    uint32_t v23 = load32(r23 + 4);
+    uint64_t v24 = load64(r23 + 8);
+    uint32_t v25 = load32(r23 + 16);
+    *r10_2 = v20;
+    r10_2[1] = v21;
+    store16(r10_2 + 2, v22);
+    store32(r10_2 + 4, v23);
+    store64(r10_2 + 8, v24);
+    store32(r10_2 + 16, v25);
+    if (!or_cond) goto dfu_host_progress_Progress_by_row_exit;
+    uint8_t r10_3 = *a0;
+    if (r10_3 != 2) goto dfu_host_progress_Progress_by_row_exit;
     store64(a0, 3);
 dfu_host_progress_Progress_by_row_exit:
     *r17_2 = r10;
@@ -4136,60 +3551,348 @@ dfu_host_progress_budgeted_exit:
     return;
 }
 
-/* dfu_host::task::Task::listed */
-static void dfu_host_task_Task_listed(unsigned char *a0, unsigned char *a1, unsigned char *a2) {
-    uint8_t r5_0_0;
-    uint32_t r5_12_0;
-    uint8_t r1_4_0_copyload = a2[8];
-    switch (r1_4_0_copyload) {
-    case 0:
-        r5_0_0 = 2;
-        r5_12_0 = 0;
-        goto join_9;
-    case 1: goto arm_2;
+/* dfu_host::task::Task::on_status */
+static void dfu_host_task_Task_on_status(unsigned char *a0, unsigned char *a1, unsigned char *a2, unsigned char *a3, unsigned char *a4) {
+    _Alignas(8) unsigned char r5_3[24];
+    unsigned char *const r7_2 = r5_3;
+    unsigned char *const r5 = r5_3;
+    _Alignas(8) unsigned char r14[24];
+    _Alignas(4) unsigned char r9[12];
+    unsigned char *const r11 = r9;
+    unsigned char *const r10_2 = r9;
+    _Alignas(4) unsigned char r12[12];
+    uint8_t v0, r1_4_0_copyload, v15, v16, r1_7_0_copyload, v25, v26, v33, v34, r3_0_0, r3_4_0, r29_0_0;
+    uint8_t r29_5_0;
+    uint64_t v1, r2_4_0, v12, v23, v31, r3_13_0, r29_17_0;
+    uint32_t r1_0_0_copyload, r1_3_0_copyload, v11, v13, r1_0_0_copyload_2, r1_5_0_copyload, v22, v24, v30, v32, r3_10_0, r3_16_0;
+    uint32_t r29_13_0, r29_21_0;
+    unsigned char *v8, *v17, *v27;
+    uint16_t r8, v14, v21, v29, r3_7_0, r29_9_0;
+    v0 = *a2;
+    v1 = load64(a2 + 8);
+    uint8_t r12_0_0_copyload = *a3;
+    uint8_t v2 = *a4;
+    uint8_t v3 = a4[1];
+    uint16_t v4 = load16(a4 + 2);
+    uint32_t v5 = load32(a4 + 4);
+    uint64_t v6 = load64(a4 + 8);
+    uint32_t v7 = load32(a4 + 16);
+    switch (r12_0_0_copyload) {
+    case 1: goto arm_1;
+    case 6:
+        r29_0_0 = v2;
+        r29_5_0 = v3;
+        r29_9_0 = v4;
+        r29_13_0 = v5;
+        r29_17_0 = v6;
+        r29_21_0 = v7;
+        goto join_5;
+    case 0: goto arm_3;
     case 2: goto arm_3;
-    case 3: goto arm_4;
-    case 4: goto arm_4;
-    case 6: goto arm_4;
-    case 7: goto arm_4;
-    case 5: goto arm_5;
-    case 9: goto arm_5;
-    case 8: goto arm_6;
-    case 10: goto arm_7;
+    case 3: goto arm_3;
+    case 4: goto arm_3;
+    case 5: goto arm_3;
+    case 7: goto arm_3;
+    case 8: goto arm_3;
+    case 9: goto arm_3;
+    case 10: goto arm_3;
+    case 11: goto arm_3;
     default: never();
     }
+arm_1:
+    memcpy(r12, a3 + 4, 12);
+    switch (v0) {
+    case 10: goto arm_1_2;
+    case 14: goto arm_2;
+    case 17: goto arm_3_2;
+    case 0: goto arm_4;
+    case 1: goto arm_4;
+    case 2: goto arm_4;
+    case 3: goto arm_4;
+    case 4: goto arm_4;
+    case 5: goto arm_4;
+    case 6: goto arm_4;
+    case 7: goto arm_4;
+    case 8: goto arm_4;
+    case 9: goto arm_4;
+    case 11: goto arm_4;
+    case 12: goto arm_4;
+    case 13: goto arm_4;
+    case 15: goto arm_4;
+    case 16: goto arm_4;
+    case 18: goto arm_4;
+    case 19: goto arm_4;
+    case 20: goto arm_4;
+    case 21: goto arm_4;
+    case 22: goto arm_4;
+    case 23: goto arm_4;
+    case 24: goto arm_4;
+    default: never();
+    }
+arm_1_2:
+    r1_0_0_copyload = load32(r12);
+    r1_3_0_copyload = load32(r12 + 4);
+    r1_4_0_copyload = r12[8];
+    v8 = r5 + 16;
+    store64(v8, 0);
+    switch (r1_4_0_copyload) {
+    case 3:
+        v11 = r1_3_0_copyload;
+        v12 = v1;
+        v13 = 0;
+        v14 = 0;
+        v15 = 0;
+        v16 = 11;
+        goto dfu_host_task_Task_polled_exit;
+    case 4:
+        v11 = r1_3_0_copyload;
+        v12 = v1;
+        v13 = 0;
+        v14 = 0;
+        v15 = 0;
+        v16 = 11;
+        goto dfu_host_task_Task_polled_exit;
+    case 5: goto arm_2_2;
+    case 0: goto arm_3_3;
+    case 1: goto arm_3_3;
+    case 2: goto arm_3_3;
+    case 6: goto arm_3_3;
+    case 7: goto arm_3_3;
+    case 8: goto arm_3_3;
+    case 9: goto arm_3_3;
+    case 10: goto arm_3_3;
+    default: never();
+    }
+arm_2_2:
+    r8 = load16(a1 + 24);
+    uint8_t r7 = *a1;
+    if (r7 == 1) {
+        r2_4_0 = 0;
+        goto dfu_host_task_Task_is_last_exit;
+    }
+    uint64_t r16 = load64(a1 + 16);
+    r2_4_0 = r16;
+dfu_host_task_Task_is_last_exit:;
+    uint64_t r10 = (uint64_t)r8;
+    uint8_t r24_not = (r2_4_0 - (v1 * r10)) > r10;
+    v11 = 0;
+    v12 = (uint64_t)(r24_not ? (v1 + 1) : 0);
+    v13 = 0;
+    v14 = 0;
+    v15 = 0;
+    v16 = (uint8_t)(r24_not ? 8 : 12);
+    goto dfu_host_task_Task_polled_exit;
+arm_3_3:
+    store32(r10_2, r1_0_0_copyload);
+    store32(r10_2 + 4, r1_3_0_copyload);
+    r10_2[8] = r1_4_0_copyload;
+    memcpy(r10_2 + 9, a3 + 13, 3);
+    dfu_host_task_Task_troubled(r5, a1, r10_2);
+    uint8_t pre = *r5;
+    uint8_t pre7 = r5[1];
+    uint16_t pre8 = load16(r5 + 2);
+    uint32_t pre9 = load32(r5 + 4);
+    uint64_t pre10 = load64(r5 + 8);
+    uint32_t pre11 = load32(v8);
+    v11 = pre11;
+    v12 = pre10;
+    v13 = pre9;
+    v14 = pre8;
+    v15 = pre7;
+    v16 = pre;
+    goto dfu_host_task_Task_polled_exit;
+dfu_host_task_Task_polled_exit:
+    *r14 = v16;
+    r14[1] = v15;
+    store16(r14 + 2, v14);
+    store32(r14 + 4, v13);
+    store64(r14 + 8, v12);
+    store32(r14 + 16, v11);
+    goto dfu_host_task_Task_told_exit;
 arm_2:
-    r5_0_0 = 3;
-    r5_12_0 = 0;
-    goto join_9;
+    r1_0_0_copyload_2 = load32(r12);
+    r1_5_0_copyload = load32(r12 + 4);
+    r1_7_0_copyload = r12[8];
+    uint8_t r5_2 = a1[26];
+    if (!(r5_2 & 1)) goto else_2;
+    v17 = r7_2 + 16;
+    store64(v17, 0);
+    switch (r1_7_0_copyload) {
+    case 6:
+        v21 = 0;
+        v22 = 0;
+        v23 = 0;
+        v24 = r1_5_0_copyload;
+        v25 = 0;
+        v26 = 15;
+        goto dfu_host_task_Task_confirmed_exit;
+    case 7:
+        v21 = 0;
+        v22 = 0;
+        v23 = 0;
+        v24 = r1_5_0_copyload;
+        v25 = 0;
+        v26 = 15;
+        goto dfu_host_task_Task_confirmed_exit;
+    case 2: goto arm_4_2;
+    case 0: goto after_2;
+    case 1: goto after_2;
+    case 3: goto after_2;
+    case 4: goto after_2;
+    case 5: goto after_2;
+    case 8: goto after_2;
+    case 9: goto after_2;
+    case 10: goto after_2;
+    default: never();
+    }
+arm_4_2:
+    if ((r1_0_0_copyload_2 & 255) == 0) {
+        v21 = 0;
+        v22 = 0;
+        v23 = 0;
+        v24 = 0;
+        v25 = 0;
+        v26 = 20;
+        goto dfu_host_task_Task_confirmed_exit;
+    }
+after_2:
+    store32(r11, r1_0_0_copyload_2);
+    store32(r11 + 4, r1_5_0_copyload);
+    r11[8] = r1_7_0_copyload;
+    memcpy(r11 + 9, a3 + 13, 3);
+    dfu_host_task_Task_troubled(r7_2, a1, r11);
+    uint8_t pre_2 = *r7_2;
+    uint8_t pre10_2 = r7_2[1];
+    uint32_t pre11_2 = load32(r7_2 + 4);
+    uint64_t pre12 = load64(r7_2 + 8);
+    uint32_t pre13 = load32(v17);
+    uint16_t pre_3 = load16(r7_2 + 2);
+    v21 = pre_3;
+    v22 = pre13;
+    v23 = pre12;
+    v24 = pre11_2;
+    v25 = pre10_2;
+    v26 = pre_2;
+    goto dfu_host_task_Task_confirmed_exit;
+dfu_host_task_Task_confirmed_exit:
+    r3_0_0 = v26;
+    r3_4_0 = v25;
+    r3_7_0 = v21;
+    r3_10_0 = v24;
+    r3_13_0 = v23;
+    r3_16_0 = v22;
+    goto dfu_host_task_Task_manifested_exit;
+else_2:
+    v27 = r5_3 + 16;
+    store64(v27, 0);
+    switch (r1_7_0_copyload) {
+    case 6:
+        v29 = 0;
+        v30 = 0;
+        v31 = 0;
+        v32 = r1_5_0_copyload;
+        v33 = 0;
+        v34 = 16;
+        goto dfu_host_task_Task_unconfirmed_exit;
+    case 7:
+        v29 = 0;
+        v30 = 0;
+        v31 = 0;
+        v32 = r1_5_0_copyload;
+        v33 = 0;
+        v34 = 16;
+        goto dfu_host_task_Task_unconfirmed_exit;
+    case 2: goto arm_2_3;
+    case 8: goto arm_2_3;
+    case 0: goto arm_3_4;
+    case 1: goto arm_3_4;
+    case 3: goto arm_3_4;
+    case 4: goto arm_3_4;
+    case 5: goto arm_3_4;
+    case 9: goto arm_3_4;
+    case 10: goto arm_3_4;
+    default: never();
+    }
+arm_2_3:
+    v29 = 0;
+    v30 = 0;
+    v31 = 0;
+    v32 = 0;
+    v33 = 1;
+    v34 = 20;
+    goto dfu_host_task_Task_unconfirmed_exit;
+arm_3_4:
+    store32(r9, r1_0_0_copyload_2);
+    store32(r9 + 4, r1_5_0_copyload);
+    r9[8] = r1_7_0_copyload;
+    memcpy(r9 + 9, a3 + 13, 3);
+    dfu_host_task_Task_troubled(r5_3, a1, r9);
+    uint8_t pre_4 = *r5_3;
+    uint8_t pre7_2 = r5_3[1];
+    uint32_t pre8_2 = load32(r5_3 + 4);
+    uint64_t pre9_2 = load64(r5_3 + 8);
+    uint32_t pre10_3 = load32(v27);
+    uint16_t pre_5 = load16(r5_3 + 2);
+    v29 = pre_5;
+    v30 = pre10_3;
+    v31 = pre9_2;
+    v32 = pre8_2;
+    v33 = pre7_2;
+    v34 = pre_4;
+    goto dfu_host_task_Task_unconfirmed_exit;
+dfu_host_task_Task_unconfirmed_exit:
+    r3_0_0 = v34;
+    r3_4_0 = v33;
+    r3_7_0 = v29;
+    r3_10_0 = v32;
+    r3_13_0 = v31;
+    r3_16_0 = v30;
+dfu_host_task_Task_manifested_exit:
+    *r14 = r3_0_0;
+    r14[1] = r3_4_0;
+    store16(r14 + 2, r3_7_0);
+    store32(r14 + 4, r3_10_0);
+    store64(r14 + 8, r3_13_0);
+    store32(r14 + 16, r3_16_0);
+    goto dfu_host_task_Task_told_exit;
+arm_3_2:
+    dfu_host_task_Task_troubled(r14, a1, r12);
+    goto dfu_host_task_Task_told_exit;
+arm_4:
+    dfu_host_task_Task_listed(r14, a1, r12);
+    goto dfu_host_task_Task_told_exit;
+dfu_host_task_Task_told_exit:;
+    uint8_t v35 = *r14;
+    uint8_t v36 = r14[1];
+    uint16_t v37 = load16(r14 + 2);
+    uint32_t v38 = load32(r14 + 4);
+    uint64_t v39 = load64(r14 + 8);
+    uint32_t v40 = load32(r14 + 16);
+    r29_0_0 = v35;
+    r29_5_0 = v36;
+    r29_9_0 = v37;
+    r29_13_0 = v38;
+    r29_17_0 = v39;
+    r29_21_0 = v40;
+    goto join_5;
 arm_3:;
-    uint8_t r4 = *a1;
-    r5_0_0 = (uint8_t)((uint32_t)0x13081208U >> (((uint32_t)r4 << 3) & 31));
-    r5_12_0 = 0;
-    goto join_9;
-arm_4:;
-    uint32_t r1_3_0_copyload = load32(a2 + 4);
-    r5_0_0 = 6;
-    r5_12_0 = r1_3_0_copyload;
-    goto join_9;
-arm_5:
-    r5_0_0 = 5;
-    r5_12_0 = 0;
-    goto join_9;
-arm_6:
-    r5_0_0 = 7;
-    r5_12_0 = 0;
-    goto join_9;
-arm_7:
-    r5_0_0 = 4;
-    r5_12_0 = 0;
-join_9:
-    *a0 = r5_0_0;
-    a0[1] = 0;
-    store16(a0 + 2, 0);
-    store32(a0 + 4, r5_12_0);
-    store64(a0 + 8, 0);
-    store32(a0 + 16, 0);
+    uint32_t v41 = load32(a2 + 16);
+    uint32_t v42 = load32(a2 + 4);
+    uint16_t v43 = load16(a2 + 2);
+    uint8_t v44 = a2[1];
+    r29_0_0 = v0;
+    r29_5_0 = v44;
+    r29_9_0 = v43;
+    r29_13_0 = v42;
+    r29_17_0 = v1;
+    r29_21_0 = v41;
+join_5:
+    *a0 = r29_0_0;
+    a0[1] = r29_5_0;
+    store16(a0 + 2, r29_9_0);
+    store32(a0 + 4, r29_13_0);
+    store64(a0 + 8, r29_17_0);
+    store32(a0 + 16, r29_21_0);
     return;
 }
 
@@ -4268,6 +3971,63 @@ join_4:
     store32(a0 + 4, v9);
     store64(a0 + 8, v8);
     store32(a0 + 16, v7);
+    return;
+}
+
+/* dfu_host::task::Task::listed */
+static void dfu_host_task_Task_listed(unsigned char *a0, unsigned char *a1, unsigned char *a2) {
+    uint8_t r5_0_0;
+    uint32_t r5_12_0;
+    uint8_t r1_4_0_copyload = a2[8];
+    switch (r1_4_0_copyload) {
+    case 0:
+        r5_0_0 = 2;
+        r5_12_0 = 0;
+        goto join_9;
+    case 1: goto arm_2;
+    case 2: goto arm_3;
+    case 3: goto arm_4;
+    case 4: goto arm_4;
+    case 6: goto arm_4;
+    case 7: goto arm_4;
+    case 5: goto arm_5;
+    case 9: goto arm_5;
+    case 8: goto arm_6;
+    case 10: goto arm_7;
+    default: never();
+    }
+arm_2:
+    r5_0_0 = 3;
+    r5_12_0 = 0;
+    goto join_9;
+arm_3:;
+    uint8_t r4 = *a1;
+    r5_0_0 = (uint8_t)((uint32_t)0x13081208U >> (((uint32_t)r4 << 3) & 31));
+    r5_12_0 = 0;
+    goto join_9;
+arm_4:;
+    uint32_t r1_3_0_copyload = load32(a2 + 4);
+    r5_0_0 = 6;
+    r5_12_0 = r1_3_0_copyload;
+    goto join_9;
+arm_5:
+    r5_0_0 = 5;
+    r5_12_0 = 0;
+    goto join_9;
+arm_6:
+    r5_0_0 = 7;
+    r5_12_0 = 0;
+    goto join_9;
+arm_7:
+    r5_0_0 = 4;
+    r5_12_0 = 0;
+join_9:
+    *a0 = r5_0_0;
+    a0[1] = 0;
+    store16(a0 + 2, 0);
+    store32(a0 + 4, r5_12_0);
+    store64(a0 + 8, 0);
+    store32(a0 + 16, 0);
     return;
 }
 
@@ -4631,21 +4391,21 @@ arm_4_3:
     r0_12_0 = 0;
     r0_8_0 = 0;
 arm_1:;
-    uint16_t r26 = load16(a1 + 58);
-    uint16_t r28 = load16(a1 + 60);
-    uint16_t r30 = load16(a1 + 62);
-    uint32_t r35 = load32(a1 + 48);
-    uint32_t r48 = load32(a1 + 52);
-    uint16_t r50 = load16(a1 + 56);
+    uint16_t r9 = load16(a1 + 58);
+    uint16_t r11 = load16(a1 + 60);
+    uint16_t r13 = load16(a1 + 62);
+    uint32_t r17 = load32(a1 + 48);
+    uint32_t r29 = load32(a1 + 52);
+    uint16_t r32 = load16(a1 + 56);
     store64(a0, 1);
     store64(a0 + 8, (uint64_t)(uintptr_t)a2);
     store64(a0 + 16, (uint64_t)(uintptr_t)a3);
     store64(a0 + 24, a4);
-    store16(a0 + 32, r26);
-    store16(a0 + 34, r28);
-    a0[36] = r30 != 0;
+    store16(a0 + 32, r9);
+    store16(a0 + 34, r11);
+    a0[36] = r13 != 0;
     memset(a0 + 37, 0, 3);
-    store32(a0 + 40, r35);
+    store32(a0 + 40, r17);
     store32(a0 + 44, 0);
     a0[48] = r0_8_0;
     a0[49] = r0_12_0;
@@ -4658,8 +4418,8 @@ arm_1:;
     store64(a0 + 88, r0_30_0);
     store32(a0 + 96, r0_31_0);
     store32(a0 + 100, r0_32_0);
-    store32(a0 + 104, r48);
-    store16(a0 + 108, r50);
+    store32(a0 + 104, r29);
+    store16(a0 + 108, r32);
     store16(a0 + 110, 0);
     return;
 arm_2:
@@ -5440,12 +5200,12 @@ arm_2:;
     r12_16_0 = r22.b;
     r12_18_0 = r22.a;
 dfu_host_c_dfuse_phases_numbers_of_exit:;
-    uint32_t r18 = load32(a1 + 32);
-    uint32_t r20 = load32(a1 + 96);
-    uint16_t r22_2 = load16(a1 + 100);
-    uint16_t r24 = load16(a1 + 24);
-    uint16_t r26 = load16(a1 + 26);
-    uint8_t r28 = a1[28];
+    uint32_t r19 = load32(a1 + 32);
+    uint32_t r21 = load32(a1 + 96);
+    uint16_t r23 = load16(a1 + 100);
+    uint16_t r25 = load16(a1 + 24);
+    uint16_t r27 = load16(a1 + 26);
+    uint8_t r29 = a1[28];
     store32(a0, 300);
     store32(a0 + 4, r12_0_0);
     store64(a0 + 8, r12_5_0);
@@ -5455,12 +5215,12 @@ dfu_host_c_dfuse_phases_numbers_of_exit:;
     store32(a0 + 36, r12_14_0);
     store32(a0 + 40, r12_16_0);
     store32(a0 + 44, r12_18_0);
-    store32(a0 + 48, r18);
-    store32(a0 + 52, r20);
-    store16(a0 + 56, r22_2);
-    store16(a0 + 58, r24);
-    store16(a0 + 60, r26);
-    store16(a0 + 62, r28);
+    store32(a0 + 48, r19);
+    store32(a0 + 52, r21);
+    store16(a0 + 56, r23);
+    store16(a0 + 58, r25);
+    store16(a0 + 60, r27);
+    store16(a0 + 62, r29);
     return;
 }
 
@@ -6132,6 +5892,107 @@ int32_t dfu_host_version(void) {
     return signed32(300);
 }
 
+/* dfu_watch_detaches */
+uint32_t dfu_watch_detaches(const struct dfu_watch *watch) {
+    unsigned char *a0 = (unsigned char *)(uintptr_t)watch;
+    uint32_t r2_0_in;
+    uint8_t r6 = a0[8];
+    if (r6 == 0) {
+        r2_0_in = 0;
+        goto dfu_host_c_watching_dfu_watch_detaches_exit;
+    }
+    uint32_t r13 = load32(a0 + 4);
+    r2_0_in = (uint32_t)(r13 == 0);
+dfu_host_c_watching_dfu_watch_detaches_exit:
+    return r2_0_in;
+}
+
+/* dfuse_watch_wait */
+uint32_t dfuse_watch_wait(struct dfuse_watch *watch, uint32_t ms) {
+    unsigned char *a0 = (unsigned char *)(uintptr_t)watch;
+    uint32_t a1 = ms;
+    uint32_t sink, v0;
+    if (a1 != 0) {
+        sink = 0;
+        v0 = a1;
+        goto dfu_host_c_dfuse_watching_dfuse_watch_wait_exit;
+    }
+    uint32_t r12 = load32(a0 + 4);
+    uint32_t r2_0 = r12 + (uint32_t)(r12 < 4);
+    sink = r2_0;
+    v0 = (uint32_t)((r2_0 > 3) ? 5 : 0);
+dfu_host_c_dfuse_watching_dfuse_watch_wait_exit:
+    store32(a0 + 4, sink);
+    return v0;
+}
+
+/* dfuse_watch_closes */
+uint32_t dfuse_watch_closes(const struct dfuse_session *session) {
+    unsigned char *a0 = (unsigned char *)(uintptr_t)session;
+    uint32_t r1_0_in;
+    uint32_t r5 = load32(a0 + 4);
+    if (r5 != 6) {
+        r1_0_in = 0;
+        goto dfu_host_c_dfuse_watching_dfuse_watch_closes_exit;
+    }
+    uint32_t r12 = load32(a0 + 36);
+    r1_0_in = (uint32_t)(r12 > 11);
+dfu_host_c_dfuse_watching_dfuse_watch_closes_exit:
+    return r1_0_in;
+}
+
+/* dfu_watch_before */
+uint32_t dfu_watch_before(const struct dfu_watch *watch, const struct dfu_action *action, uint32_t by_another) {
+    unsigned char *a0 = (unsigned char *)(uintptr_t)watch;
+    unsigned char *a1 = (unsigned char *)(uintptr_t)action;
+    uint32_t a2 = by_another;
+    uint32_t r22, r1_0;
+    if (a2 != 0) goto then_2;
+    uint32_t r22_pr_pre = load32(a1);
+    r22 = r22_pr_pre;
+    goto join_4;
+then_2:;
+    uint8_t r11 = dfu_host_c_watching_is_download(a1);
+    if (r11) {
+        r1_0 = 7;
+        goto dfu_host_c_watching_dfu_watch_before_exit;
+    }
+    uint32_t r15 = load32(a1);
+    if (r15 != 0) {
+        r22 = r15;
+        goto join_4;
+    }
+    uint8_t r25 = a1[28];
+    if (r25 != 161) goto join_12;
+    uint8_t r38 = a1[29];
+    if (r38 == 2) {
+        r1_0 = 7;
+        goto dfu_host_c_watching_dfu_watch_before_exit;
+    }
+    goto join_12;
+join_4:
+    if (r22 != 2) goto join_12;
+    uint8_t r29 = a0[8];
+    if (r29 == 0) goto join_12;
+    uint32_t r39 = load32(a0 + 4);
+    if (r39 > 2) {
+        r1_0 = 6;
+        goto dfu_host_c_watching_dfu_watch_before_exit;
+    }
+join_12:
+    r1_0 = 0;
+dfu_host_c_watching_dfu_watch_before_exit:
+    return r1_0;
+}
+
+/* dfu_watch_is_other */
+uint32_t dfu_watch_is_other(const struct dfu_watch *watch, const struct dfu_facts *facts) {
+    unsigned char *a0 = (unsigned char *)(uintptr_t)watch;
+    unsigned char *a1 = (unsigned char *)(uintptr_t)facts;
+    uint8_t r2 = dfu_host_c_watching_is_other(a0, a1);
+    return (uint32_t)r2;
+}
+
 /* dfuse_file_image */
 int32_t dfuse_file_image(const uint8_t *file, size_t length, uint8_t setting, struct dfuse_element *places, size_t room, uint64_t *count) {
     unsigned char *a0 = (unsigned char *)(uintptr_t)file;
@@ -6153,8 +6014,8 @@ int32_t dfuse_file_image(const uint8_t *file, size_t length, uint8_t setting, st
     r13 = (unsigned char *)((uintptr_t)a3 + (uintptr_t)(uint64_t)((a3 == NULL) ? 4096 : 0));
     memset(r10, 0, 32);
     dfuse_file_file_read(r10, (unsigned char *)((uintptr_t)a0 + (uintptr_t)(uint64_t)((a0 == NULL) ? 4096 : 0)), a1);
-    uint8_t r21 = *r10;
-    if (r21 != 0) goto arm_2;
+    uint8_t r23 = *r10;
+    if (r23 != 0) goto arm_2;
     uint8_t r6_3_0_copyload = r10[14];
     uint64_t r6_5_0_copyload = load64(r10 + 16);
     uint64_t r6_6_0_copyload = load64(r10 + 24);
@@ -6214,7 +6075,7 @@ arm_3:
     r4_57_8_copyload = load64(v1);
     r4_7_8_copyload = load64(r4_7_8_sroa_idx);
     memcpy(r8_4, r26, 24);
-    if (r5_0 == a4) goto arm_6;
+    if (r5_0 == a4) goto arm_11;
     memcpy(r13 + (size_t)(r5_0 * 24), r8_4, 24);
     r4_0_0 = r4_0_0 + 0xffffffffU;
     r4_57_0 = r4_57_8_copyload;
@@ -6228,6 +6089,9 @@ arm_10:
     r4_0_off0 = 1;
     r3_0 = r5_0;
     goto loop_2_outer;
+arm_11:
+    common_ret_op = 0xffffffa8U;
+    goto dfu_host_c_dfuse_file_image_dfuse_file_image_exit;
 after_1_critedge:;
 after_1:
     if (r4_0_off0) goto arm_5;
@@ -6240,9 +6104,6 @@ arm_2:;
 arm_5:
     store64(a5, r3_0);
     common_ret_op = 0;
-    goto dfu_host_c_dfuse_file_image_dfuse_file_image_exit;
-arm_6:
-    common_ret_op = 0xffffffa8U;
 dfu_host_c_dfuse_file_image_dfuse_file_image_exit:
     return signed32(common_ret_op);
 }
@@ -6256,8 +6117,8 @@ int32_t dfuse_read_map(const uint8_t *text, size_t length, struct dfuse_map *out
     uint32_t r6_0;
     memset(r5, 0, 800);
     dfuse_memory_map_Map_read(r5, (unsigned char *)((uintptr_t)a0 + (uintptr_t)(uint64_t)((a0 == NULL) ? 4096 : 0)), a1);
-    uint8_t r12 = *r5;
-    if (r12 != 0) goto arm_2;
+    uint8_t r13 = *r5;
+    if (r13 != 0) goto arm_2;
     uint64_t r3_2_0_copyload = load64(r5 + 16);
     uint64_t r3_31_0_copyload = load64(r5 + 792);
     store64(a2, r3_2_0_copyload);
@@ -6279,16 +6140,16 @@ int32_t dfuse_read_range(const uint8_t *text, size_t length, uint32_t number, st
     unsigned char *a3 = (unsigned char *)(uintptr_t)out;
     _Alignas(8) unsigned char r7[800];
     _Alignas(8) unsigned char r3[792];
-    uint64_t r29;
+    uint64_t r33;
     uint32_t common_ret_op;
     memset(r7, 0, 800);
     dfuse_memory_map_Map_read(r7, (unsigned char *)((uintptr_t)a0 + (uintptr_t)(uint64_t)((a0 == NULL) ? 4096 : 0)), a1);
-    uint8_t r18 = *r7;
-    if (r18 != 0) goto arm_2;
+    uint8_t r19 = *r7;
+    if (r19 != 0) goto arm_2;
     memcpy(r3, r7 + 8, 792);
     uint64_t r4 = load64(r3 + 784);
-    r29 = (uint64_t)a2;
-    if (r4 > r29) goto arm_5;
+    r33 = (uint64_t)a2;
+    if (r4 > r33) goto arm_5;
     common_ret_op = 0xffffffd4U;
     goto dfu_host_c_dfuse_map_dfuse_read_range_exit;
 arm_2:;
@@ -6296,13 +6157,13 @@ arm_2:;
     common_ret_op = (uint32_t)0xffffffcdU - (uint32_t)r5_0_0_copyload;
     goto dfu_host_c_dfuse_map_dfuse_read_range_exit;
 arm_5:;
-    unsigned char *r19 = (r3 + 16) + (size_t)(r29 * 24);
-    uint32_t r7_2 = load32(r19);
-    uint64_t r11 = load64(r19 + 8);
-    uint32_t r13 = load32(r19 + 16);
-    uint8_t r6_0_0_copyload = r19[20];
-    uint8_t r6_3_0_copyload = r19[21];
-    uint8_t r6_4_0_copyload = r19[22];
+    unsigned char *r19_2 = (r3 + 16) + (size_t)(r33 * 24);
+    uint32_t r7_2 = load32(r19_2);
+    uint64_t r11 = load64(r19_2 + 8);
+    uint32_t r13 = load32(r19_2 + 16);
+    uint8_t r6_0_0_copyload = r19_2[20];
+    uint8_t r6_3_0_copyload = r19_2[21];
+    uint8_t r6_4_0_copyload = r19_2[22];
     store64(a3, (uint64_t)r7_2);
     store64(a3 + 8, r11);
     store32(a3 + 16, r13);
@@ -6323,8 +6184,8 @@ int32_t dfu_host_file(const uint8_t *file, size_t length, struct dfu_file *out) 
     r4 = (unsigned char *)((uintptr_t)a0 + (uintptr_t)(uint64_t)((a0 == NULL) ? 4096 : 0));
     memset(r5, 0, 40);
     dfu_host_c_file_file_in(r5, r4, a1);
-    uint8_t r12 = *r5;
-    if (r12 != 0) goto arm_2;
+    uint8_t r13 = *r5;
+    if (r13 != 0) goto arm_2;
     uint64_t r3_2_0_copyload = load64(r5 + 16);
     uint16_t r3_3_0_copyload = load16(r5 + 24);
     uint16_t r3_4_0_copyload = load16(r5 + 26);
@@ -6658,8 +6519,8 @@ int32_t dfuse_read_file(const uint8_t *file, size_t length, struct dfuse_file *o
     uint32_t v2, r6_0;
     memset(r5, 0, 32);
     dfuse_file_file_read(r5, (unsigned char *)((uintptr_t)a0 + (uintptr_t)(uint64_t)((a0 == NULL) ? 4096 : 0)), a1);
-    uint8_t r12 = *r5;
-    if (r12 != 0) goto arm_2;
+    uint8_t r13 = *r5;
+    if (r13 != 0) goto arm_2;
     r3_0_0_copyload = load16(r5 + 8);
     r3_3_0_copyload = load16(r5 + 10);
     r3_4_0_copyload = load16(r5 + 12);
@@ -6743,8 +6604,8 @@ int32_t dfu_host_download(struct dfu_session *session, const uint8_t *file, size
     uint16_t r7_5_0_copyload, r7_6_0_copyload;
     uint32_t r8_5_0, common_ret_op;
     dfu_host_c_beginning_read_both(r13, (unsigned char *)((uintptr_t)a1 + (uintptr_t)(uint64_t)((a1 == NULL) ? 4096 : 0)), a2, (unsigned char *)((uintptr_t)a3 + (uintptr_t)(uint64_t)((a3 == NULL) ? 4096 : 0)), a4);
-    uint8_t r29 = *r13;
-    if (r29 != 0) goto arm_2;
+    uint8_t r30 = *r13;
+    if (r30 != 0) goto arm_2;
     r7_3_0_copyload = r13[42];
     r7_4_0_copyload = r13[43];
     r7_5_0_copyload = load16(r13 + 44);
@@ -6769,8 +6630,8 @@ arm_2_2:;
     r8_5_0 = (uint32_t)0xffffffebU - (uint32_t)r1_3_1_copyload;
     goto arm_6;
 arm_2:;
-    uint32_t r32 = load32(r13 + 4);
-    common_ret_op = r32;
+    uint32_t r33 = load32(r13 + 4);
+    common_ret_op = r33;
     goto dfu_host_c_beginning_dfu_host_download_exit;
 arm_5:
     memcpy(r10 + 8, r6_2 + 8, 16);
@@ -6805,8 +6666,8 @@ int32_t dfu_host_upload(struct dfu_session *session, const uint8_t *descriptor, 
     uint16_t r4_6_0_copyload, r4_7_0_copyload;
     uint32_t common_ret_op;
     dfu_wire_functionals_Functional_decode(r9, (unsigned char *)((uintptr_t)a1 + (uintptr_t)(uint64_t)((a1 == NULL) ? 4096 : 0)), a2);
-    uint8_t r19 = *r9;
-    if (r19 != 0) goto arm_2;
+    uint8_t r21 = *r9;
+    if (r21 != 0) goto arm_2;
     uint8_t r4_3_0_copyload = r9[3];
     r4_4_0_copyload = r9[4];
     r4_5_0_copyload = r9[5];
@@ -6861,8 +6722,8 @@ int32_t dfu_host_verified(struct dfu_session *session, const uint8_t *file, size
     unsigned char *r5;
     uint32_t r8_5_0, common_ret_op;
     dfu_host_c_beginning_read_both(r13, (unsigned char *)((uintptr_t)a1 + (uintptr_t)(uint64_t)((a1 == NULL) ? 4096 : 0)), a2, (unsigned char *)((uintptr_t)a3 + (uintptr_t)(uint64_t)((a3 == NULL) ? 4096 : 0)), a4);
-    uint8_t r29 = *r13;
-    if (r29 != 0) goto arm_2;
+    uint8_t r30 = *r13;
+    if (r30 != 0) goto arm_2;
     r7_3_0_copyload = r13[41];
     r7_4_0_copyload = r13[42];
     r7_5_0_copyload = r13[43];
@@ -6893,8 +6754,8 @@ arm_2_2:;
     r8_5_0 = (uint32_t)0xffffffebU - (uint32_t)r1_3_1_copyload;
     goto arm_6;
 arm_2:;
-    uint32_t r32 = load32(r13 + 4);
-    common_ret_op = r32;
+    uint32_t r33 = load32(r13 + 4);
+    common_ret_op = r33;
     goto dfu_host_c_beginning_dfu_host_verified_exit;
 arm_5:
     memcpy(r10 + 8, r5, 16);
@@ -7047,6 +6908,297 @@ dfu_host_c_steps_step_exit:
     common_ret_op = 0;
 dfu_host_c_steps_dfu_host_take_exit:
     return signed32(common_ret_op);
+}
+
+/* dfuse_watch_after */
+uint32_t dfuse_watch_after(struct dfuse_watch *watch, const struct dfuse_session *session, const struct dfuse_action *action, uint32_t command, uint32_t seen, const struct dfu_facts *facts) {
+    unsigned char *a0 = (unsigned char *)(uintptr_t)watch;
+    unsigned char *a1 = (unsigned char *)(uintptr_t)session;
+    unsigned char *a2 = (unsigned char *)(uintptr_t)action;
+    uint32_t a3 = command;
+    uint32_t a4 = seen;
+    unsigned char *a5 = (unsigned char *)(uintptr_t)facts;
+    unsigned char *r4, *r46;
+    uint8_t r7, r14_0_in, r16_0_in, r30;
+    uint32_t r3_0_ph27, r3_0, r3_0_2, r7_0, r2_0;
+    r4 = a2 + 8;
+    uint32_t r5 = load32(r4);
+    r7 = r5 != 0;
+    if (r7) goto dfu_host_c_dfuse_watching_is_out_exit_thread;
+    uint8_t r11 = *a5;
+    if (r11 != 0) goto else_2;
+    uint32_t r15 = load32(a0);
+    r3_0 = r15;
+    goto join_4;
+else_2:
+    if (a4 == 3) goto dfu_host_c_dfuse_watching_is_out_exit;
+    r3_0_ph27 = 0;
+    goto then_2;
+dfu_host_c_dfuse_watching_is_out_exit_thread:;
+    uint32_t r15_2 = load32(a0);
+    r3_0 = r15_2;
+    goto join_4;
+dfu_host_c_dfuse_watching_is_out_exit:;
+    uint32_t r20 = load32(a0);
+    r3_0_ph27 = r20 + (uint32_t)(r20 < 24);
+then_2:;
+    uint8_t r12 = a2[20];
+    if (r12 != 161) {
+        r3_0_2 = r3_0_ph27;
+        r7_0 = 0;
+        goto after_1;
+    }
+    uint8_t r22 = a2[21];
+    if (r22 != 3) {
+        r3_0_2 = r3_0_ph27;
+        r7_0 = 0;
+        goto after_1;
+    }
+    r3_0 = r3_0_ph27;
+join_4:;
+    uint32_t r44 = load32(a0 + 4);
+    r3_0_2 = r3_0;
+    r7_0 = r44;
+after_1:
+    r46 = a0 + 8;
+    uint8_t r47 = *r46;
+    uint8_t r49 = r47 != 0;
+    if (r7 | r49) {
+        r16_0_in = r49;
+        goto dfu_host_c_dfuse_watching_watched_exit;
+    }
+    uint8_t r32 = a2[20];
+    if (r32 != 33) {
+        r16_0_in = 0;
+        goto dfu_host_c_dfuse_watching_watched_exit;
+    }
+    uint8_t r45 = a2[21];
+    if (r45 != 1) {
+        r16_0_in = 0;
+        goto dfu_host_c_dfuse_watching_watched_exit;
+    }
+    uint64_t r54 = load64(a2);
+    if (r54 == 0) {
+        r16_0_in = 0;
+        goto dfu_host_c_dfuse_watching_watched_exit;
+    }
+    uint8_t r67 = a2[22];
+    if (r67 != 0) {
+        r14_0_in = 1;
+        goto join_15;
+    }
+    uint8_t r77 = a2[23];
+    r14_0_in = r77 != 0;
+join_15:
+    r16_0_in = (a3 == 65) | r14_0_in;
+dfu_host_c_dfuse_watching_watched_exit:
+    store32(a0, r3_0_2);
+    store32(a0 + 4, r7_0);
+    *r46 = r16_0_in;
+    memset(a0 + 9, 0, 3);
+    uint32_t r5_2 = load32(a1 + 4);
+    if (r5_2 != 6) goto join_4_thread;
+    uint32_t r12_2 = load32(a1 + 36);
+    if (r12_2 <= 11) goto join_4_thread20;
+    uint8_t r13 = a5[4];
+    if (r13 == 0) goto join_3_thread;
+    uint8_t r20_2 = a5[6];
+    uint32_t r28 = load32(r4);
+    r30 = r28 != 0;
+    if ((r20_2 == 0) | r30) goto dfu_host_c_dfuse_watching_is_gone_by_then_exit;
+    goto join_9;
+join_3_thread:;
+    uint32_t r288 = load32(r4);
+    if (r288 != 0) goto join_4_2;
+join_9:;
+    uint8_t r40 = a5[1];
+    if (((a4 == 7) | (r40 != 0)) ? 1 : (r3_0_2 > 2)) {
+        r2_0 = 8;
+        goto dfu_host_c_dfuse_watching_dfuse_watch_after_exit;
+    }
+    goto join_4_2;
+dfu_host_c_dfuse_watching_is_gone_by_then_exit:
+    if (!r30) {
+        r2_0 = 8;
+        goto dfu_host_c_dfuse_watching_dfuse_watch_after_exit;
+    }
+join_4_2:;
+    uint8_t r39 = a5[1];
+    if (r39 == 0) goto join_29;
+    goto then_9;
+join_4_thread20:;
+    uint8_t r3922 = a5[1];
+    if (r3922 == 0) goto then_19;
+    goto then_9;
+join_4_thread:;
+    uint8_t r3915 = a5[1];
+    if (r3915 == 0) goto then_19;
+then_9:;
+    uint8_t r46_2 = a5[3];
+    if (r46_2 != 0) {
+        r2_0 = 9;
+        goto dfu_host_c_dfuse_watching_dfuse_watch_after_exit;
+    }
+    uint8_t r53 = a5[2];
+    r2_0 = (uint32_t)((r53 == 0) ? 2 : 3);
+    goto dfu_host_c_dfuse_watching_dfuse_watch_after_exit;
+then_19:
+    if (r3_0_2 > 23) {
+        r2_0 = 4;
+        goto dfu_host_c_dfuse_watching_dfuse_watch_after_exit;
+    }
+    uint8_t r83 = a5[4];
+    if (r83 == 0) goto join_29;
+    uint8_t r93 = a5[6];
+    if (r93 == 0) {
+        r2_0 = 5;
+        goto dfu_host_c_dfuse_watching_dfuse_watch_after_exit;
+    }
+join_29:
+    r2_0 = 0;
+dfu_host_c_dfuse_watching_dfuse_watch_after_exit:
+    return r2_0;
+}
+
+/* dfu_watch_after */
+uint32_t dfu_watch_after(struct dfu_watch *watch, const struct dfu_action *action, uint32_t seen, const struct dfu_facts *facts) {
+    unsigned char *a0 = (unsigned char *)(uintptr_t)watch;
+    unsigned char *a1 = (unsigned char *)(uintptr_t)action;
+    uint32_t a2 = seen;
+    unsigned char *a3 = (unsigned char *)(uintptr_t)facts;
+    uint32_t r9, r1_0, r66, r1_0_3, r1_0_2, r1_0_4, r1_0_5;
+    uint8_t r19, r69;
+    uint8_t v1, r6, r2_0_in, r18_0_in;
+    unsigned char *r43, *r68;
+    r9 = load32(a1);
+    switch (r9) {
+    case 0: goto join_4;
+    case 2: goto join_4;
+    default: goto then_5;
+    }
+then_5:;
+    uint32_t r24 = load32(a0);
+    r1_0 = r24;
+    goto dfu_host_c_watching_silent_after_exit;
+join_4:
+    if (a2 != 3) {
+        r1_0 = 0;
+        goto dfu_host_c_watching_silent_after_exit;
+    }
+    uint32_t r29 = load32(a0);
+    r1_0 = r29 + (uint32_t)(r29 < 24);
+dfu_host_c_watching_silent_after_exit:
+    switch (r9) {
+    case 0: goto dfu_host_c_watching_is_reached_exit;
+    case 2: goto then_16;
+    default: goto dfu_host_c_watching_resets_after_exit;
+    }
+dfu_host_c_watching_is_reached_exit:;
+    uint8_t r10 = *a3;
+    if (r10 != 0) goto then_2;
+    uint32_t r70 = load32(a0 + 4);
+    v1 = 0;
+    r1_0_2 = r70;
+    goto else_2;
+then_2:
+    r19 = a3[5];
+    if ((a2 < 2) | (r19 != 0)) {
+        r1_0_3 = 0;
+        goto then_1;
+    }
+    goto dfu_host_c_watching_is_reached_exit_2;
+then_16:;
+    uint8_t r49 = a0[8];
+    r66 = load32(a0 + 4);
+    if (!((a2 == 5) & (r49 != 0))) {
+        v1 = 1;
+        r1_0_2 = r66;
+        goto else_2;
+    }
+    v1 = 1;
+    r1_0_2 = r66 + (uint32_t)(r66 < 3);
+    goto else_2;
+dfu_host_c_watching_resets_after_exit:;
+    uint32_t r70_2 = load32(a0 + 4);
+    v1 = 1;
+    r1_0_2 = r70_2;
+    goto else_2;
+dfu_host_c_watching_is_reached_exit_2:;
+    uint32_t r70_3 = load32(a0 + 4);
+    r1_0_3 = r70_3;
+then_1:
+    r6 = 0;
+    r1_0_4 = r1_0_3;
+    r2_0_in = (a2 == 2) & (r19 == 0);
+    goto dfu_host_c_watching_stalled_after_exit;
+else_2:;
+    uint8_t r23 = a0[8];
+    r6 = v1;
+    r1_0_4 = r1_0_2;
+    r2_0_in = r23 != 0;
+dfu_host_c_watching_stalled_after_exit:
+    r43 = a0 + 9;
+    uint8_t r44 = *r43;
+    uint8_t r46 = r44 != 0;
+    if (r6 | r46) {
+        r18_0_in = r46;
+        goto dfu_host_c_watching_watched_exit;
+    }
+    uint8_t r10_2 = *a3;
+    if (r10_2 == 0) {
+        r18_0_in = 0;
+        goto dfu_host_c_watching_watched_exit;
+    }
+    uint8_t r57 = dfu_host_c_watching_is_download(a1);
+    r18_0_in = r57;
+dfu_host_c_watching_watched_exit:
+    r68 = a0 + 10;
+    r69 = *r68;
+    store32(a0, r1_0);
+    store32(a0 + 4, r1_0_4);
+    a0[8] = r2_0_in;
+    *r43 = r18_0_in;
+    a0[11] = 0;
+    uint8_t r27 = a3[1];
+    if (r27 == 0) goto join_4_2;
+    uint8_t r34 = a3[3];
+    if (r34 != 0) goto join_4_2;
+    uint8_t r44_2 = a3[2];
+    r1_0_5 = (uint32_t)((r44_2 == 0) ? 2 : 3);
+    goto dfu_host_c_watching_dfu_watch_after_exit;
+join_4_2:
+    if (r1_0 > 23) {
+        r1_0_5 = 4;
+        goto dfu_host_c_watching_dfu_watch_after_exit;
+    }
+    uint8_t r57_2 = dfu_host_c_watching_is_other(a0, a3);
+    if (r57_2) {
+        r1_0_5 = 5;
+        goto dfu_host_c_watching_dfu_watch_after_exit;
+    }
+    uint8_t r62 = a3[4];
+    if (r62 == 0) {
+        r1_0_5 = 0;
+        goto dfu_host_c_watching_dfu_watch_after_exit;
+    }
+    uint8_t r69_2 = a3[5];
+    if (r69_2 == 0) {
+        r1_0_5 = 0;
+        goto dfu_host_c_watching_dfu_watch_after_exit;
+    }
+    uint8_t r79 = a3[7];
+    if (r79 != 0) {
+        r1_0_5 = 0;
+        goto dfu_host_c_watching_dfu_watch_after_exit;
+    }
+    if (r18_0_in | (r69 != 0)) {
+        r1_0_5 = 5;
+        goto dfu_host_c_watching_dfu_watch_after_exit;
+    }
+    *r68 = 1;
+    r1_0_5 = 1;
+dfu_host_c_watching_dfu_watch_after_exit:
+    return r1_0_5;
 }
 
 /* dfuse_next */
@@ -7276,51 +7428,51 @@ int32_t dfuse_begin(struct dfuse_session *session, const uint8_t *map, size_t ma
     unsigned char *a3 = (unsigned char *)(uintptr_t)image;
     uint64_t a4 = elements;
     unsigned char *a5 = (unsigned char *)(uintptr_t)plan;
-    _Alignas(8) unsigned char r12[800];
+    _Alignas(8) unsigned char r11[800];
     _Alignas(8) unsigned char r5[792];
-    _Alignas(8) unsigned char r10[104];
-    _Alignas(8) unsigned char r23[64];
+    _Alignas(8) unsigned char r9[104];
+    _Alignas(8) unsigned char r20[64];
     _Alignas(2) unsigned char r8_6_0[46];
-    _Alignas(2) unsigned char r20_5[46];
+    _Alignas(2) unsigned char r16_5[46];
     _Alignas(8) unsigned char r4[40];
     _Alignas(8) unsigned char r8_6_10[24];
     _Alignas(4) unsigned char r8_6_6[5];
-    _Alignas(4) unsigned char r20_10[5];
-    _Alignas(4) unsigned char r11[3];
-    unsigned char *r13, *r25, *r0_3_0_a0_sroa_idx, *r0_4_0_a0_sroa_idx, *r20_5_8_r52_sroa_idx;
-    uint32_t r57, r3_0_2, r0_11_0_neg, r8_4_0_neg, r8_8_0, common_ret_op;
-    uint16_t r59, r8_9_0;
+    _Alignas(4) unsigned char r16_10[5];
+    _Alignas(4) unsigned char r11_3[3];
+    unsigned char *r13, *r25, *r0_3_0_a0_sroa_idx, *r0_4_0_a0_sroa_idx, *r16_5_8_r52_sroa_idx;
+    uint32_t r36, r3_0_2, r0_11_0_neg, r8_4_0_neg, r8_8_0, common_ret_op;
+    uint16_t r38, r8_9_0;
     uint64_t r3_0, r4_0, r4_0_2, r3_0_3, r30, r8_6_8_0;
     uint8_t v1;
     r13 = (unsigned char *)((uintptr_t)a3 + (uintptr_t)(uint64_t)((a3 == NULL) ? 4096 : 0));
-    memset(r10, 0, 104);
-    memset(r12, 0, 800);
-    memset(r20_5, 0, 46);
-    memset(r20_10, 0, 5);
-    memset(r23, 0, 64);
-    dfuse_memory_map_Map_read(r12, (unsigned char *)((uintptr_t)a1 + (uintptr_t)(uint64_t)((a1 == NULL) ? 4096 : 0)), a2);
-    uint8_t r28 = *r12;
-    if (r28 != 0) goto arm_2;
-    memcpy(r5, r12 + 8, 792);
-    uint16_t r35 = load16(a5 + 10);
-    uint16_t r37 = load16(a5 + 12);
-    uint16_t r39 = load16(a5 + 14);
-    uint32_t r43 = load32(a5);
-    r57 = load32(a5 + 4);
-    r59 = load16(a5 + 8);
+    memset(r9, 0, 104);
+    memset(r11, 0, 800);
+    memset(r16_5, 0, 46);
+    memset(r16_10, 0, 5);
+    memset(r20, 0, 64);
+    dfuse_memory_map_Map_read(r11, (unsigned char *)((uintptr_t)a1 + (uintptr_t)(uint64_t)((a1 == NULL) ? 4096 : 0)), a2);
+    uint8_t r26 = *r11;
+    if (r26 != 0) goto arm_2;
+    memcpy(r5, r11 + 8, 792);
+    r36 = load32(a5 + 4);
+    r38 = load16(a5 + 8);
+    uint16_t r9_2 = load16(a5 + 10);
+    uint16_t r11_2 = load16(a5 + 12);
+    uint16_t r13_2 = load16(a5 + 14);
+    uint32_t r17 = load32(a5);
     memset(r8_6_0, 0, 46);
     memset(r8_6_6, 0, 5);
     memset(r8_6_10, 0, 24);
     store64(r4, (uint64_t)(uintptr_t)r5);
     store64(r4 + 8, (uint64_t)(uintptr_t)r13);
     store64(r4 + 16, a4);
-    store16(r4 + 24, r35);
-    store16(r4 + 26, r37);
-    r4[28] = r39 != 0;
+    store16(r4 + 24, r9_2);
+    store16(r4 + 26, r11_2);
+    r4[28] = r13_2 != 0;
     memset(r4 + 29, 0, 3);
-    store32(r4 + 32, r43);
+    store32(r4 + 32, r17);
     store32(r4 + 36, 0);
-    if (r35 == 0) {
+    if (r9_2 == 0) {
         r0_11_0_neg = 0xffffffc3U;
         goto dfuse_host_plan_Plan_check_exit_thread;
     }
@@ -7335,8 +7487,8 @@ loop_3_2:
         r3_0_2 = 0;
         goto loop_3;
     }
-    uint64_t r28_2 = load64((r13 + (size_t)(r3_0 * 24)) + 16);
-    if (r28_2 == 0) {
+    uint64_t r28 = load64((r13 + (size_t)(r3_0 * 24)) + 16);
+    if (r28 == 0) {
         r0_11_0_neg = 0xffffffc2U;
         goto dfuse_host_plan_Plan_check_exit_thread;
     }
@@ -7359,39 +7511,39 @@ loop_3:
 loop_3_3:
     if (r4_0_2 == a4) goto join_13;
     r25 = r13 + (size_t)(r4_0_2 * 24);
-    uint32_t r28_3 = load32(r25);
-    r30 = (uint64_t)r28_3;
+    uint32_t r28_2 = load32(r25);
+    r30 = (uint64_t)r28_2;
     if (r3_0_3 > r30) {
         r0_11_0_neg = 0xffffffc0U;
         goto dfuse_host_plan_Plan_check_exit_thread;
     }
-    uint64_t r10_2 = load64(r25 + 16);
+    uint64_t r10 = load64(r25 + 16);
     r4_0_2 = r4_0_2 + 1;
-    r3_0_3 = r10_2 + r30;
+    r3_0_3 = r10 + r30;
     goto loop_3_3;
 join_13:
-    *r11 = 0;
-    r0_3_0_a0_sroa_idx = r11 + 1;
+    *r11_3 = 0;
+    r0_3_0_a0_sroa_idx = r11_3 + 1;
     *r0_3_0_a0_sroa_idx = 0;
-    r0_4_0_a0_sroa_idx = r11 + 2;
+    r0_4_0_a0_sroa_idx = r11_3 + 2;
     *r0_4_0_a0_sroa_idx = 0;
-    uint8_t r64 = dfuse_host_plan_Plan_grants(r4, r11);
+    uint8_t r64 = dfuse_host_plan_Plan_grants(r4, r11_3);
     if (!r64) {
         r0_11_0_neg = 0xffffffbfU;
         goto dfuse_host_plan_Plan_check_exit_thread;
     }
-    *r11 = 0;
+    *r11_3 = 0;
     *r0_3_0_a0_sroa_idx = 0;
     *r0_4_0_a0_sroa_idx = 1;
-    uint8_t r74 = dfuse_host_plan_Plan_grants(r4, r11);
+    uint8_t r74 = dfuse_host_plan_Plan_grants(r4, r11_3);
     if (!r74) {
         r0_11_0_neg = 0xffffffbeU;
         goto dfuse_host_plan_Plan_check_exit_thread;
     }
-    *r11 = 0;
+    *r11_3 = 0;
     *r0_3_0_a0_sroa_idx = 1;
     *r0_4_0_a0_sroa_idx = 0;
-    uint8_t r84 = dfuse_host_plan_Plan_grants(r4, r11);
+    uint8_t r84 = dfuse_host_plan_Plan_grants(r4, r11_3);
     if (r84) goto dfuse_host_plan_Plan_check_exit;
     r0_11_0_neg = 0xffffffbdU;
 dfuse_host_plan_Plan_check_exit_thread:
@@ -7402,10 +7554,10 @@ dfuse_host_plan_Plan_check_exit_thread:
     r8_9_0 = 0;
     goto dfuse_host_session_Session_begin_exit;
 dfuse_host_plan_Plan_check_exit:
-    *r11 = 1;
+    *r11_3 = 1;
     *r0_3_0_a0_sroa_idx = 0;
     *r0_4_0_a0_sroa_idx = 0;
-    uint8_t r94 = dfuse_host_plan_Plan_grants(r4, r11);
+    uint8_t r94 = dfuse_host_plan_Plan_grants(r4, r11_3);
     if (!r94) {
         v1 = 0;
         r8_6_8_0 = 0;
@@ -7421,34 +7573,34 @@ dfuse_host_plan_Plan_check_exit:
     v1 = 1;
     r8_6_8_0 = (uint64_t)r18;
     r8_4_0_neg = 0xffffffc3U;
-    r8_8_0 = umax32(r57, 1);
-    r8_9_0 = r59;
+    r8_8_0 = umax32(r36, 1);
+    r8_9_0 = r38;
 dfuse_host_session_Session_begin_exit:
-    r20_5_8_r52_sroa_idx = r20_5 + 6;
-    memcpy(r20_5_8_r52_sroa_idx, r8_6_0 + 6, 40);
-    memcpy(r20_10, r8_6_6, 5);
+    r16_5_8_r52_sroa_idx = r16_5 + 6;
+    memcpy(r16_5_8_r52_sroa_idx, r8_6_0 + 6, 40);
+    memcpy(r16_10, r8_6_6, 5);
     if (v1) goto arm_5;
     common_ret_op = r8_4_0_neg;
     goto dfu_host_c_dfuse_beginning_dfuse_begin_exit;
 arm_2:;
-    uint8_t r7_0_0_copyload = r12[1];
+    uint8_t r7_0_0_copyload = r11[1];
     common_ret_op = (uint32_t)0xffffffcdU - (uint32_t)r7_0_0_copyload;
     goto dfu_host_c_dfuse_beginning_dfuse_begin_exit;
 arm_5:
-    memcpy(r10, r20_5_8_r52_sroa_idx, 40);
-    r10[40] = 0;
-    r10[41] = 0;
-    r10[42] = 0;
-    memcpy(r10 + 43, r20_10, 5);
-    store64(r10 + 48, 0);
-    store64(r10 + 56, r8_6_8_0);
-    store64(r10 + 64, 0);
-    memcpy(r10 + 72, r8_6_10, 24);
-    store32(r10 + 96, r8_8_0);
-    store16(r10 + 100, r8_9_0);
-    store16(r10 + 102, 0);
-    dfu_host_c_dfuse_holding_record_of(r23, r10);
-    memcpy(a0, r23, 64);
+    memcpy(r9, r16_5_8_r52_sroa_idx, 40);
+    r9[40] = 0;
+    r9[41] = 0;
+    r9[42] = 0;
+    memcpy(r9 + 43, r16_10, 5);
+    store64(r9 + 48, 0);
+    store64(r9 + 56, r8_6_8_0);
+    store64(r9 + 64, 0);
+    memcpy(r9 + 72, r8_6_10, 24);
+    store32(r9 + 96, r8_8_0);
+    store16(r9 + 100, r8_9_0);
+    store16(r9 + 102, 0);
+    dfu_host_c_dfuse_holding_record_of(r20, r9);
+    memcpy(a0, r20, 64);
     common_ret_op = 0;
 dfu_host_c_dfuse_beginning_dfuse_begin_exit:
     return signed32(common_ret_op);

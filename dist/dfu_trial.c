@@ -163,14 +163,14 @@ static struct i32_i32 dfu_trial_c_place_image_in(unsigned char *a0, uint32_t a1)
 /* dfu_trial_c::flash::looked */
 static void dfu_trial_c_flash_looked(unsigned char *a0, unsigned char *a1, unsigned char *a2, uint64_t a3) {
     _Alignas(8) unsigned char r3[32];
-    unsigned char *const r3_7 = r3;
+    unsigned char *const r3_8 = r3;
     unsigned char *const r3_3 = r3;
     _Alignas(8) unsigned char r7[32];
     _Alignas(4) unsigned char r12_8[29];
     _Alignas(8) unsigned char r4[24];
     _Alignas(8) unsigned char r3_4[16];
     uint8_t r1_2_0_copyload, r6_4_0, r6_7_0, r6_7_039, r6_4_038, r9_0_045, r12_4_0;
-    uint32_t r1_38_0_copyload, r29, r56, r1_0_0_copyload, a0_a1, r5, r6613, r69, r93, r93_2, r93_4, r93_5;
+    uint32_t r1_38_0_copyload, r29, r56, r1_0_0_copyload, a0_a1, r5, r6613, r69, r72, r72_2, r72_4, r72_5;
     uint32_t r1_0, r9_820_0_0, r9_15_0, r9_17_0, r12_12_0_0, r12_12_3_0, r12_12_4_0, r12_10_0_0;
     unsigned char *r28, *r39, *r2;
     uint64_t v3;
@@ -282,11 +282,11 @@ join_3:
         r12_10_0_0 = 0;
         goto join_10;
     }
-    uint8_t r16 = dfu_slots_places_is_newest(r39, 0, r6613, r5_2, r11);
-    r93 = (uint32_t)(r16 ? 0 : r6613);
-    r93_2 = (uint32_t)(r16 ? r6613 : 0);
-    if (r93 != 0) goto dfu_slots_places_has_newest_exit;
-    uint8_t r24 = dfu_slots_places_is_newest(r39, 0, r93_2, r5_2, r11);
+    uint8_t r15 = dfu_slots_places_is_newest(r39, 0, r6613, r5_2, r11);
+    r72 = (uint32_t)(r15 ? 0 : r6613);
+    r72_2 = (uint32_t)(r15 ? r6613 : 0);
+    if (r72 != 0) goto dfu_slots_places_has_newest_exit;
+    uint8_t r24 = dfu_slots_places_is_newest(r39, 0, r72_2, r5_2, r11);
     if (r24) goto join_9;
     r9_0_045 = 1;
     r12_12_0_0 = 0;
@@ -296,7 +296,7 @@ join_3:
     r12_10_0_0 = 0;
     goto join_10;
 dfu_slots_places_has_newest_exit:;
-    uint8_t r33 = dfu_slots_places_is_newest(r39, r93, r93_2, r11, r5_2);
+    uint8_t r33 = dfu_slots_places_is_newest(r39, r72, r72_2, r11, r5_2);
     if (!r33) {
         r9_0_045 = 1;
         r12_12_0_0 = 0;
@@ -307,7 +307,7 @@ dfu_slots_places_has_newest_exit:;
         goto join_10;
     }
 join_9:
-    dfu_slots_read_header_of(r3_3, r39, r93);
+    dfu_slots_read_header_of(r3_3, r39, r72);
     uint8_t r18 = r3_3[1];
     if (r18 != 2) goto dfu_slots_read_header_len_exit;
     goto arm_1_2;
@@ -323,14 +323,14 @@ dfu_slots_read_header_len_exit:;
         goto join_10;
     }
 arm_1_2:
-    r31 = dfu_trial_marks_is_set(r39, r93, 0);
+    r31 = dfu_trial_marks_is_set(r39, r72, 0);
     if (r31) goto after_5;
-    uint8_t r41 = dfu_trial_marks_is_set(r39, r93_2, 0);
+    uint8_t r41 = dfu_trial_marks_is_set(r39, r72_2, 0);
     if (!r41) goto after_5;
     unsigned char *v6 = r3_4 + 8;
     store64(v6, 0);
     store64(r3_4, (uint64_t)(uintptr_t)r4);
-    store32(v6, r93);
+    store32(v6, r72);
     if (r17) goto join_3_2;
     if ((r69 % r1_0_0_copyload) != 0) goto dfu_trial_looking_comes_back_exit_thread;
 join_3_2:
@@ -339,45 +339,46 @@ join_3_2:
     r11_2 = dfu_slots_read_counts_2(r3_4, (uint32_t)r3_5 >> 1);
     if (!(r5_3 | r11_2)) goto dfu_trial_looking_comes_back_exit_thread;
     uint64_t r3_6 = load64(r2);
-    uint32_t r93_3 = (uint32_t)r3_6 >> 1;
-    uint8_t r16_2 = dfu_slots_places_is_newest_2(r3_4, 0, r93_3, r5_3, r11_2);
-    r93_4 = (uint32_t)(r16_2 ? 0 : r93_3);
-    r93_5 = (uint32_t)(r16_2 ? r93_3 : 0);
-    if (r93_4 != 0) goto dfu_slots_places_has_newest_exit_2;
-    uint8_t r24_2 = dfu_slots_places_is_newest_2(r3_4, 0, r93_5, r5_3, r11_2);
+    uint8_t r15_2 = dfu_slots_places_is_newest_2(r3_4, 0, (uint32_t)r3_6 >> 1, r5_3, r11_2);
+    uint64_t r3_7 = load64(r2);
+    uint32_t r72_3 = (uint32_t)r3_7 >> 1;
+    r72_4 = (uint32_t)(r15_2 ? 0 : r72_3);
+    r72_5 = (uint32_t)(r15_2 ? r72_3 : 0);
+    if (r72_4 != 0) goto dfu_slots_places_has_newest_exit_2;
+    uint8_t r24_2 = dfu_slots_places_is_newest_2(r3_4, 0, r72_5, r5_3, r11_2);
     if (r24_2) goto join_9_2;
     goto dfu_trial_looking_comes_back_exit_thread;
 dfu_slots_places_has_newest_exit_2:;
-    uint8_t r33_2 = dfu_slots_places_is_newest_2(r3_4, r93_4, r93_5, r11_2, r5_3);
+    uint8_t r33_2 = dfu_slots_places_is_newest_2(r3_4, r72_4, r72_5, r11_2, r5_3);
     if (!r33_2) goto dfu_trial_looking_comes_back_exit_thread;
 join_9_2:
-    dfu_slots_read_header_of_2(r3_7, r3_4, r93_4);
-    uint8_t r18_2 = r3_7[1];
+    dfu_slots_read_header_of_2(r3_8, r3_4, r72_4);
+    uint8_t r18_2 = r3_8[1];
     if (r18_2 != 2) goto dfu_trial_looking_comes_back_exit;
     goto loop_2_preheader;
 dfu_trial_looking_comes_back_exit_thread:
     goto after_5;
 dfu_trial_looking_comes_back_exit:;
     uint32_t r26 = dfu_slots_read_capacity_of_2(r3_4);
-    uint8_t r29_3 = dfu_slots_header_is_formed(r3_7, r26);
+    uint8_t r29_3 = dfu_slots_header_is_formed(r3_8, r26);
     if (!r29_3) goto after_5;
 loop_2_preheader:
     r1_0 = 0;
 loop_2:
     if (r1_0 == r56) {
         r9_820_0_0 = 1;
-        r9_15_0 = r93_2;
+        r9_15_0 = r72_2;
         r9_17_0 = r56;
         goto arm_8;
     }
     uint32_t r11_3 = r1_0 + 1;
-    uint8_t r13 = dfu_trial_marks_is_set(r4, r93, r11_3);
+    uint8_t r13 = dfu_trial_marks_is_set(r4, r72, r11_3);
     if (r13) {
         r1_0 = r11_3;
         goto loop_2;
     }
     r9_820_0_0 = 1;
-    r9_15_0 = r93_2;
+    r9_15_0 = r72_2;
     r9_17_0 = r1_0;
     goto arm_8;
 after_5:
@@ -394,7 +395,7 @@ arm_6:
 arm_8:
     memcpy(r12_8 + 5, r4, 24);
     r9_0_045 = 0;
-    r12_12_0_0 = r93;
+    r12_12_0_0 = r72;
     r12_12_3_0 = r9_15_0;
     r12_12_4_0 = r9_17_0;
     r12_4_0 = 0;
@@ -1042,7 +1043,7 @@ int32_t dfu_core_trial_look(const struct dfu_tries *tries, const uint8_t *flash,
     r9_8_0 = 0;
     r9_10_0 = 0;
     r9_12_0 = r10_5_4_copyload & 1;
-    goto dfu_trial_c_standing_tell_exit;
+    goto dfu_trial_c_told_standing_told_exit;
 arm_2_2:;
     uint32_t r10_6_4_copyload = load32(r3 + 36);
     uint32_t r23 = load32(a0 + 8);
@@ -1055,7 +1056,7 @@ arm_2_2:;
     r9_8_0 = 1;
     r9_10_0 = r23 - r10_6_4_copyload;
     r9_12_0 = 0;
-dfu_trial_c_standing_tell_exit:
+dfu_trial_c_told_standing_told_exit:
     store64a4(a3, ((uint64_t)r9_0_4_0 << 32) | (uint64_t)r9_0_0_0);
     store64a4(a3 + 8, ((uint64_t)r9_5_4_0 << 32) | (uint64_t)r9_5_0_0);
     store32(a3 + 16, r9_8_0);
