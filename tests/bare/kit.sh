@@ -178,5 +178,5 @@ sizes() {
     program stack "$top/tests/c/stack.c" "$device"
     is "$target: stack of the device" deepest stack 1500
     program host_stack "$top/tests/c/host_stack.c" "$host"
-    is "$target: stack of the host" deepest host_stack 850
+    is "$target: stack of the host" deepest host_stack 1100
 }
