@@ -124,10 +124,10 @@ struct dfu_config {
     uint16_t transfer;        /**< wTransferSize, bytes: 1 to 4,096 */
     uint8_t attributes;       /**< bmAttributes: enum dfu_attribute; bits 4 to 7 are ignored */
     uint8_t interface_number; /**< bInterfaceNumber: a setup whose wIndex is another number is stalled */
-    uint32_t busy_ms;         /**< how long it takes to write a block: 0 to 16,777,215 ms */
-    uint32_t manifest_ms;     /**< how long it takes to put an image in place: 0 to 16,777,215 ms, at least 1 if not tolerant */
+    uint32_t busy_ms;         /**< ms to write a block, sent as bwPollTimeout, after which the host asks again: 0 to 16,777,215 */
+    uint32_t manifest_ms;     /**< the same to put an image in place: 0 to 16,777,215 ms, at least 1 if not tolerant */
     uint32_t least;           /**< the fewest bytes of an image, 1 to 16,777,216; with more than a slot holds, no download can succeed */
-    uint32_t unit;            /**< bytes programmed at a time: 1, 16, 64 or 256 */
+    uint32_t unit;            /**< programs are whole multiples of it: 1, 16, 64 or 256 */
     uint32_t sector;          /**< bytes erased at a time: a multiple of 256 up to 131,072; 0: the flash is written over in place */
 };
 
@@ -173,7 +173,7 @@ struct dfu_record {
 struct dfu_ask {
     uint32_t kind;      /**< DFU_ERASE or DFU_PROGRAM */
     uint32_t at;        /**< where: flash[at] is its first byte */
-    uint32_t length;    /**< DFU_ERASE: the size of a sector; DFU_PROGRAM: 1 to 256, a multiple of the unit */
+    uint32_t length;    /**< DFU_ERASE: the size of a sector; DFU_PROGRAM: 1 to 256, whole units, also across pages of the part */
     uint8_t bytes[256]; /**< DFU_PROGRAM: the bytes to program */
 };
 
@@ -200,8 +200,8 @@ int32_t dfu_core_begin(const struct dfu_config *config, struct dfu_record *recor
  * @param body   the whole data stage, `length` bytes; length 0 if the host reads
  * @param out    room for the answer: at least the transfer size, and at least 6 bytes. It may not overlap block
  * @return how many bytes of out are the answer, 0 for an acknowledgement or an empty answer; DFU_STALL; DFU_ASKS;
- *         DFU_NO_ROOM, DFU_NO_CONFIG, DFU_NO_BLOCK, DFU_NO_DEVICE (not with any flash), DFU_ASKED,
- *         DFU_NO_MEDIUM (the record's header is not in an open slot of the flash), DFU_NO_DEVICE (not with this flash) */
+ *         DFU_NO_ROOM, DFU_NO_CONFIG, DFU_NO_BLOCK, DFU_NO_DEVICE (the record is no device's, whatever the flash holds), DFU_ASKED,
+ *         DFU_NO_MEDIUM (the record's header is not in an open slot of the flash), DFU_NO_DEVICE (the record belongs to another flash) */
 int32_t dfu_core_handle(const struct dfu_config *config, struct dfu_record *record, uint8_t *block, size_t most,
                         const uint8_t *flash, size_t size, const uint8_t setup[8], const uint8_t *body, size_t length,
                         uint8_t *out, size_t room);
@@ -217,8 +217,8 @@ int32_t dfu_core_elapse(const struct dfu_config *config, struct dfu_record *reco
 int32_t dfu_core_usb_reset(const struct dfu_config *config, struct dfu_record *record, uint8_t *block, size_t most,
                            const uint8_t *flash, size_t size);
 
-/** @brief Says which operation is due. Whatever the record holds, its range is within the slot that is the spare one on the flash now; if
- *         the record is as the last call left it, the range is whole units, or a whole sector. It may be asked for again.
+/** @brief Says which operation is due. Even with a damaged record its range is in the slot that is spare now, as long as the flash has an
+ *         active image. If the record is as the last call left it, the range is whole units, or a whole sector. It may be asked for again.
  * @return 0; DFU_NO_CONFIG, DFU_NO_BLOCK, DFU_NO_DEVICE (none is due, or the flash is not as it was left) */
 int32_t dfu_core_next(const struct dfu_config *config, const struct dfu_record *record, const uint8_t *block, size_t most,
                       const uint8_t *flash, size_t size, struct dfu_ask *ask);

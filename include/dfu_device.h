@@ -42,9 +42,10 @@
  * - The reset that counts is the first reset of the bus, or unplugging, after a SET_CONFIGURATION with a value other than 0. Hosts reset a
  *   device twice while they enumerate it, and a second reset would lead from dfuIDLE to appIDLE. In the first enumeration of a device that
  *   began in dfuIDLE no reset counts.
- * - busy_ms is how long it takes to write a block: DFU_BLOCK_ERASES and DFU_BLOCK_PROGRAMS times what the part needs at most. manifest_ms
- *   is the same for an image, with DFU_COMMIT_ERASES and DFU_COMMIT_PROGRAMS. With 0 they are written before the GETSTATUS is answered. For
- *   fwupd manifest_ms should be 0 if the device is tolerant.
+ * - busy_ms and manifest_ms are sent as bwPollTimeout, after which the host asks again. busy_ms is how long it takes to write a block:
+ *   DFU_BLOCK_ERASES and DFU_BLOCK_PROGRAMS times what the part needs at most. manifest_ms is the same for an image, with
+ *   DFU_COMMIT_ERASES and DFU_COMMIT_PROGRAMS. With 0 they are written before the GETSTATUS is answered. For fwupd manifest_ms should be 0
+ *   if the device is tolerant.
  * - If the stack acknowledges a data stage while it receives it, as Linux's FunctionFS does, ask before it comes: call dfu_device_work,
  *   then dfu_device_would_stall. If that says 1, call dfu_device_handle with any body of that length, and stall the setup. If it says 0,
  *   receive the data stage.
@@ -58,14 +59,16 @@
  * So that a device goes on from where it was:
  * - The configuration stays the same, and record, block and flash are as the last call left them. After each loss of power a record begins
  *   with power_on or begin.
- * - Flash reads what it holds, and the same each time, also after an operation that was broken off; invalidate caches after each one.
- *   Only the operations that are asked for change it. One that a loss of power breaks off may leave any bytes in its range, but must not
- *   change a byte outside.
+ * - An operation changes no byte outside its range, not even one that a loss of power breaks off; inside it may leave any bytes.
+ * - Flash reads the same each time until the next operation, also where one was broken off. Invalidate caches after each one.
+ *   docs/PORTING.md says what is known of flash with ECC whose torn words don't read so.
+ * - Nothing but the operations that are asked for changes the flash.
  *
  * What to do on a refusal. Stall the request, and:
  * - DFU_NO_CONFIG, DFU_NO_BLOCK, DFU_NO_ROOM, DFU_WRONG_SIZE, DFU_TOO_LARGE: a mistake of the program, which has to be mended.
- * - DFU_NO_MEDIUM of power_on, begin or image: there is no image. Format.
- * - DFU_NO_MEDIUM or DFU_NO_DEVICE elsewhere: flash, block or record changed. Give power again; the host begins again.
+ * - DFU_NO_MEDIUM of power_on, begin or image: there is no image, or another sector or size wrote the slots. Format, which gives both up.
+ * - DFU_NO_MEDIUM or DFU_NO_DEVICE elsewhere: flash, block or record changed. Call dfu_device_power_on or
+ *   dfu_device_begin again; the host begins again.
  * - DFU_ASKED: operations are due. Carry them out (dfu_device_settle with DFU_ASKS), then make the call again.
  * - DFU_NOT_WRITTEN: format again; if that goes on, the part or its driver is broken.
  * - DFU_NOT_LONG, DFU_NO_CLOSE: call dfu_device_handle with this request.
@@ -77,8 +80,13 @@
  * secure boot, since who can write the flash can write an image: check it again before it is started.
  *
  * Images are read by power_on, begin, image and format_start, at the start and the end of the work that puts one in place, and by the
- * first operation of a download. No other call reads one. So if an image's bytes fade while the device runs, and its header doesn't, the
- * next power-on finds it.
+ * first operation of a download. No other call checks a whole image; an UPLOAD reads the bytes that it sends, unchecked. So if an image's
+ * bytes fade while the device runs, and its header doesn't, the next power-on finds it.
+ *
+ * What is proved: each call dfu_core_* returns, and touches only its memory. If the program keeps to the above, it answers as dfu_core.h
+ * says, and over lists of these calls, with losses of power and writes that fail or are torn, an image stays active. It is proved of the
+ * source in Rattle, from which dfu_device.c was translated; nothing proves compiler and translator. The inline calls dfu_device_* are
+ * only tested, and the driver is yours.
  *
  * Memory: sizeof(struct dfu_device), 96 bytes with pointers of 32 bits, and the two buffers: in all, with a unit of 16, 240 bytes for
  * blocks of 64, 2,160 for 1,024, and 8,304 for 4,096.
@@ -130,7 +138,8 @@ extern "C" {
 /** @brief The most programs that do: the last unit, the header, the gate. */
 #define DFU_COMMIT_PROGRAMS 3
 
-/** @brief What writes the flash. Each function returns 0 if it is done, else any number. */
+/** @brief What writes the flash. Each function returns 0 if it is done, else any number. A program is whole units, at a multiple of the
+ *  unit, and if there are sectors FFh is there before. It may cross pages of the part: if the part wraps around there, split it. */
 struct dfu_driver {
     void *own;                                                                            /**< handed to both functions */
     int (*erase)(void *own, uint32_t at, uint32_t length);                                /**< the sector at flash[at], to FFh */

@@ -56,10 +56,11 @@
  * What is proved, if the program keeps to that:
  * - A session begins as its file, its descriptor and its limits say.
  * - Each dfu_host_take is a row of Fustrelan's host table. Each action is the one of its phase, with its body cut from the
- *   payload. A session is over after at most as many calls of dfu_host_take as it had actions.
- * - DFU_INSTALLED, DFU_VERIFIED and DFU_UPLOADED come only as the laws of dfu_host say.
+ *   payload.
  * - An upload ends as DFU_NO_MEMORY exactly if dfu_host_take says so. Of the buffer only bytes change in which
  *   a part is stored.
+ * By reading, and by tests, of a whole session: it is over after at most as many calls of dfu_host_take as it had actions,
+ * and DFU_INSTALLED, DFU_VERIFIED and DFU_UPLOADED come only as the laws of the host in Rattle (dfu_host) say.
  * Proved of any other record, payload or buffer too: a call answers or refuses, it returns, and it touches only the memory
  * that its pointers and lengths name. */
 #ifndef DFU_HOST_H

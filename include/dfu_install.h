@@ -23,13 +23,17 @@
  *   settle and start the image before it.
  *
  * What the program has to keep to:
- * - What dfu_device.h asks, for the run area too: it reads as it is, and an operation changes no byte outside its range.
+ * - What dfu_device.h asks of the flash, for the run area too.
  * - area.last is DFU_NOWHERE after each loss of power, and else as the last call left it. Whatever it is, 0 comes only if the run area
- *   holds the whole image; but flash with ECC, whose pieces may be programmed only once, needs it to be right.
+ *   holds the whole image; but on flash with ECC a wrong `last` may have a piece programmed twice.
  * - The application writes no sector of its image. What it keeps in the sectors after it stays. Bytes after the image in its last
  *   sector are not compared, and are lost when that sector is erased.
- * - Images have at most `size` bytes: a larger one is refused at each start with DFU_TOO_LARGE. There is none if the run area has at least
- *   as many bytes as a slot's data.
+ * - Images have at most `size` bytes: a larger one is refused at each start with DFU_TOO_LARGE. No image can be too large if the run area
+ *   has at least as many bytes as a slot's data.
+ *
+ * What is proved: each call dfu_core_install_* answers as dfu_install_core.h says. And of the source in Rattle, over any list of operations
+ * with faults in their range and losses of power: a start comes only if the run area holds the whole image. Lists of the calls in C and
+ * the inline calls dfu_install_* are only tested.
  *
  * Memory: sizeof(struct dfu_install), 20 bytes with pointers of 32 bits, and within a call 268 bytes for a struct dfu_ask.
  */

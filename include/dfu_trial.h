@@ -6,7 +6,12 @@
  * Marks in a header's sector, after the header, say what was confirmed and how often an image was started. The device doesn't read them,
  * and erases them with each new header. Nothing is on trial before an image was confirmed once: until then all is as without this.
  *
- *     static struct dfu_trial trial = {.flash = slots, .size = size, .driver = &driver, .tries = {16, 4096, 3}};
+ * TRIALS END WHAT IS PROVED OF SESSIONS: what dfu_device.h says of lists of calls, and what a host's report says, is not proved of a
+ * program that runs images on trial. What is proved: each call dfu_core_trial_* answers as dfu_trial_core.h says. And of the source in
+ * Rattle, once an image was confirmed, over lists of starts, confirmations, ends, uploads and downloads with any fault: only the confirmed
+ * image runs, or the newest on trial. Lists of the calls in C and the inline calls dfu_trial_* are only tested.
+ *
+ *     static struct dfu_trial trial = {.flash = slots, .size = size, .driver = &driver, .tries = {16, 4096, 4}};
  *     struct dfu_place place;
  *
  *     the bootloader, before it starts an image:     if (dfu_trial_boot(&trial, &place) == 0) start what place says
@@ -22,8 +27,8 @@
  *   Verified, its last reset starts the payload. There are two exceptions: the mark of that start fails, and then the image before it runs
  *   this once; or the power goes in that reset, and the host doesn't see it.
  * - A host that verifies starts the new image twice. A loss of power that it sees spends one start more, or two if it comes within a
- *   start. So 2 tries are enough if the power stays; add 2 for each loss. With fewer the host may report Different, and the image before
- *   runs. Once an image has confirmed itself, none of this matters.
+ *   start. So 2 tries are enough if the power stays; add 2 for each loss: 4 for one. With 3 one loss may be too many, if it comes within a
+ *   start. With too few the host may report Different, and the image before runs. Once an image has confirmed itself, none of this matters.
  * - With a run area (dfu_install.h) settle the image that dfu_trial_look gives as `active` before dfu_trial_boot, so that losses of power
  *   in the copy use up no start. If dfu_trial_boot gives another place, settle and start that.
  * - An application that has no linker symbol for its place has to learn it from the bootloader, which started it.
@@ -31,7 +36,8 @@
  * What the program has to keep to:
  * - What dfu_device.h asks. Only one operation at a time: no call while one of the device is due.
  * - It starts only the image that dfu_trial_boot says, once for each of these calls.
- * - If dfu_trial_boot ends a trial, that changes the flash: call it before dfu_device_power_on, or give power again.
+ * - If dfu_trial_boot ends a trial, that changes the flash: call it before dfu_device_power_on, or call
+ *   dfu_device_power_on or dfu_device_begin again.
  * - An application confirms its own place. So an old one, which runs because a mark failed, doesn't confirm the new one.
  * - unit, sector and tries are the same in all calls, the bootloader's and the application's.
  * - On flash with ECC: a mark that a loss of power tore, and that reads FFh all the same, is programmed again at the next start.
@@ -138,7 +144,7 @@ static inline int32_t dfu_trial_give_up(const struct dfu_trial *t) {
 }
 
 /** @brief Call it before dfu_device_serve. If the setup begins a download, or an upload while no start is left, it ends a trial by the
- *         driver, and gives the device power anew, in dfuIDLE.
+ *         driver, and calls dfu_device_begin again.
  * @return 0: serve the setup; else stall it: as dfu_trial_give_up, dfu_core_begin and dfu_core_would_stall */
 static inline int32_t dfu_trial_transfer(const struct dfu_trial *t, struct dfu_device *d, const uint8_t setup[8]) {
     struct dfu_ask ask;

@@ -26,9 +26,9 @@ enum dfu_trial_result {
 
 /** @brief How the flash is written, and how many tries a new image has. They are the same in every call. */
 struct dfu_tries {
-    uint32_t unit;   /**< bytes programmed at a time, as in struct dfu_config */
+    uint32_t unit;   /**< programs are whole multiples of it, as in struct dfu_config */
     uint32_t sector; /**< bytes erased at a time, as in struct dfu_config: (tries + 2) units of at least 16 bytes fit in it */
-    uint32_t tries;  /**< how often a new image is started: 2 or more, 3 is advised */
+    uint32_t tries;  /**< how often a new image is started: 2 or more; 4 outlast one loss of power in a session (dfu_trial.h) */
 };
 
 /** @brief The state of the two images of a flash. */
