@@ -13,24 +13,15 @@ static const struct {
     const char *name;
     struct meaning meaning;
 } reports[] = {
-    {DFUSE_VERIFIED, "verified",
-        {STATUS_DONE, "each byte was read back from the device's memory, and is the file's"}},
-    {DFUSE_DIFFERENT, "different",
-        {STATUS_DIFFERENT, "a byte that was read back from the device's memory isn't the file's"}},
-    {DFUSE_REFUSED, "refused",
-        {STATUS_DEVICE, "the device refused a command; the device may have the old image, the new one or neither"}},
-    {DFUSE_READ_PROTECTED, "read-protected",
-        {STATUS_DEVICE, "the device's memory is protected; the device may have the old image, the new one or neither"}},
-    {DFUSE_GAVE_UP, "gave-up",
-        {STATUS_GIVEN_UP, "the limit of actions is spent; the device may have the old image, the new one or neither"}},
-    {DFUSE_RESTARTS_SPENT, "restarts-spent",
-        {STATUS_GIVEN_UP, "the device restarted too often; the device may have the old image, the new one or neither"}},
-    {DFUSE_NOT_DFU, "not-dfu",
-        {STATUS_GONE, "the device is in its application; the device may have the old image, the new one or neither"}},
-    {DFUSE_UPLOADED, "uploaded",
-        {STATUS_DONE, "the device gave the bytes of its memory that were asked for"}},
-    {DFUSE_NO_MEMORY, "no-memory",
-        {STATUS_GIVEN_UP, "there was no memory for the image"}},
+    {DFUSE_VERIFIED, "verified", {STATUS_DONE, "each byte was read back from the device's memory, and is the file's", NULL}},
+    {DFUSE_DIFFERENT, "different", {STATUS_DIFFERENT, "a byte that was read back from the device's memory isn't the file's", NULL}},
+    {DFUSE_REFUSED, "refused", {STATUS_DEVICE, "the device refused a command", "the device"}},
+    {DFUSE_READ_PROTECTED, "read-protected", {STATUS_DEVICE, "the device's memory is protected", "the device"}},
+    {DFUSE_GAVE_UP, "gave-up", {STATUS_GIVEN_UP, "the limit of actions is spent", "the device"}},
+    {DFUSE_RESTARTS_SPENT, "restarts-spent", {STATUS_GIVEN_UP, "the device restarted too often", "the device"}},
+    {DFUSE_NOT_DFU, "not-dfu", {STATUS_GONE, "the device is in its application", "the device"}},
+    {DFUSE_UPLOADED, "uploaded", {STATUS_DONE, "the device gave the bytes of its memory that were asked for", NULL}},
+    {DFUSE_NO_MEMORY, "no-memory", {STATUS_GIVEN_UP, "there was no memory for the image", NULL}},
 };
 /* clang-format on */
 

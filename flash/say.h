@@ -34,10 +34,12 @@ struct verdict {
     uint8_t code;    /* of `refused`: the device's bStatus, else 0 */
 };
 
-/* What an end means: the status, and in words. */
+/* What an end means: the status, and in words. `device`, if there is one, names the device that may have the old image, the new one or
+   neither, once a block was sent. */
 struct meaning {
     int status;
     const char *words;
+    const char *device;
 };
 
 /* Takes the status and the words, but for what a device may have, if no block was sent. */

@@ -11,17 +11,17 @@
 /* clang-format off */
 /* By the number of the report, from 1 on. */
 static const struct meaning reports[] = {
-    [DFU_INSTALLED] = {STATUS_DONE, "the device took the whole image, reported that it is in place, and was reset"},
-    [DFU_UNCONFIRMED] = {STATUS_UNCONFIRMED, "the device took the whole image and was reset; it can't tell whether it is in place"},
-    [DFU_ABORTED] = {STATUS_ABORTED, "given up by Ctrl-C or a signal; the device may have the old image, the new one or neither"},
-    [DFU_GAVE_UP] = {STATUS_GIVEN_UP, "the limit of actions is spent; the device may have the old image, the new one or neither"},
-    [DFU_REFUSED] = {STATUS_DEVICE, "the device refused it; it may have the old image, the new one or neither"},
-    [DFU_RESTARTS_SPENT] = {STATUS_GIVEN_UP, "the device restarted too often; it may have the old image, the new one or neither"},
-    [DFU_UPLOADED] = {STATUS_DONE, "the device gave the image that it has"},
-    [DFU_TOO_MANY_BLOCKS] = {STATUS_GIVEN_UP, "the image has 65535 full blocks or more: too many for an upload, or to compare it"},
-    [DFU_NO_MEMORY] = {STATUS_GIVEN_UP, "there was no memory for the image"},
-    [DFU_VERIFIED] = {STATUS_DONE, "after a reset the device gave the image back, and it is the file's"},
-    [DFU_DIFFERENT] = {STATUS_DIFFERENT, "after a reset the device gave back another image than the file's"},
+    [DFU_INSTALLED] = {STATUS_DONE, "the device took the whole image, reported that it is in place, and was reset", NULL},
+    [DFU_UNCONFIRMED] = {STATUS_UNCONFIRMED, "the device took the whole image and was reset; it can't tell whether it is in place", NULL},
+    [DFU_ABORTED] = {STATUS_ABORTED, "given up by Ctrl-C or a signal", "the device"},
+    [DFU_GAVE_UP] = {STATUS_GIVEN_UP, "the limit of actions is spent", "the device"},
+    [DFU_REFUSED] = {STATUS_DEVICE, "the device refused it", "it"},
+    [DFU_RESTARTS_SPENT] = {STATUS_GIVEN_UP, "the device restarted too often", "it"},
+    [DFU_UPLOADED] = {STATUS_DONE, "the device gave the image that it has", NULL},
+    [DFU_TOO_MANY_BLOCKS] = {STATUS_GIVEN_UP, "the image has 65535 full blocks or more: too many for an upload, or to compare it", NULL},
+    [DFU_NO_MEMORY] = {STATUS_GIVEN_UP, "there was no memory for the image", NULL},
+    [DFU_VERIFIED] = {STATUS_DONE, "after a reset the device gave the image back, and it is the file's", NULL},
+    [DFU_DIFFERENT] = {STATUS_DIFFERENT, "after a reset the device gave back another image than the file's", NULL},
 };
 
 /* If there is no report: the program's own ends, by `enum end`. */
@@ -29,47 +29,45 @@ static const struct {
     const char *name;
     struct meaning meaning;
 } ends[] = {
-    [END_GONE] = {"gone", {STATUS_GONE, "the device left and did not come back; it may have the old image, the new one or neither"}},
-    [END_SILENT] = {"silent", {STATUS_GONE, "the device answers no more; it may have the old image, the new one or neither"}},
-    [END_MANY] = {"many", {STATUS_SEVERAL, "the device came back with more than one setting: choose by --interface or --alt"}},
-    [END_OTHER] = {"other", {STATUS_OTHER, "another device came back; the one of before may have the old image, the new one or neither"}},
-    [END_ABORTED] = {"aborted", {STATUS_ABORTED,
-        "given up by Ctrl-C or a signal; the device may have the old image, the new one or neither"}},
-    [END_TIMED_OUT] = {"timed-out", {STATUS_GIVEN_UP, "the time is spent; the device may have the old image, the new one or neither"}},
-    [END_BROKEN] = {"broken", {STATUS_BROKEN, "the host refused its own record, which is a mistake of this program"}},
+    [END_GONE] = {"gone", {STATUS_GONE, "the device left and did not come back", "it"}},
+    [END_SILENT] = {"silent", {STATUS_GONE, "the device answers no more", "it"}},
+    [END_MANY] = {"many", {STATUS_SEVERAL, "the device came back with more than one setting: choose by --interface or --alt", NULL}},
+    [END_OTHER] = {"other", {STATUS_OTHER, "another device came back", "the one of before"}},
+    [END_ABORTED] = {"aborted", {STATUS_ABORTED, "given up by Ctrl-C or a signal", "the device"}},
+    [END_TIMED_OUT] = {"timed-out", {STATUS_GIVEN_UP, "the time is spent", "the device"}},
+    [END_BROKEN] = {"broken", {STATUS_BROKEN, "the host refused its own record, which is a mistake of this program", NULL}},
     [END_STALLED] = {"stalled",
-        {STATUS_STALLED, "in run-time mode it stalls GETSTATUS: bring it to DFU mode by hand, as by its button, and run this again"}},
-    [END_UNRESET] = {"not-reset", {STATUS_UNRESET,
-        "a reset is missing, which this system does not make; the device may have the old image, the new one or neither"}},
+        {STATUS_STALLED, "in run-time mode it stalls GETSTATUS: bring it to DFU mode by hand, as by its button, and run this again", NULL}},
+    [END_UNRESET] = {"not-reset", {STATUS_UNRESET, "a reset is missing, which this system does not make", "the device"}},
 };
 
 /* The same, if the device took the whole image, and was to give it back or was to be reset. */
 static const struct meaning uncompared[] = {
     [END_UNRESET] = {STATUS_UNRESET,
-        "the device took the whole image; a reset is missing, which this system does not make: pull its plug, and put it in again"},
-    [END_GONE] =
-        {STATUS_GONE, "the device took the whole image, left, and did not come back to be compared; see --no-verify and --wait"},
-    [END_STALLED] =
-        {STATUS_STALLED, "the device took the whole image, and stalls GETSTATUS in run-time mode: it was not compared; see --no-verify"},
+        "the device took the whole image; a reset is missing, which this system does not make: pull its plug, and put it in again", NULL},
+    [END_GONE] = {STATUS_GONE,
+        "the device took the whole image, left, and did not come back to be compared; see --no-verify and --wait", NULL},
+    [END_STALLED] = {STATUS_STALLED,
+        "the device took the whole image, and stalls GETSTATUS in run-time mode: it was not compared; see --no-verify", NULL},
 };
 
 /* And if it gave the whole image. */
-static const struct meaning fetched = {STATUS_UNRESET, "the device gave the image that it has; to leave DFU mode it needs its plug pulled"};
+static const struct meaning fetched = {STATUS_UNRESET,
+    "the device gave the image that it has; to leave DFU mode it needs its plug pulled", NULL};
 /* clang-format on */
 
 /* What a device may have is said only if a block was sent. */
 void verdict_words(struct verdict *verdict, const struct session *session, const struct meaning *meaning)
 {
-    static const char harm[] = " may have the old image, the new one or neither";
-    size_t length = strlen(meaning->words), front = length - (sizeof harm - 1);
     bool has_sent = (session->dfuse.is ? session->dfuse.watch.sent : session->watch.sent) != 0;
-    const char *part;
     verdict->status = meaning->status;
-    snprintf(verdict->words, sizeof verdict->words, "%s", meaning->words);
-    if (has_sent || length < sizeof harm || strcmp(meaning->words + front, harm) != 0)
-        return;
-    part = strrchr(meaning->words, ';');
-    snprintf(verdict->words, sizeof verdict->words, "%.*s; no block was sent", (int)(part - meaning->words), meaning->words);
+    if (meaning->device == NULL)
+        snprintf(verdict->words, sizeof verdict->words, "%s", meaning->words);
+    else if (has_sent)
+        snprintf(verdict->words, sizeof verdict->words, "%s; %s may have the old image, the new one or neither", meaning->words,
+                 meaning->device);
+    else
+        snprintf(verdict->words, sizeof verdict->words, "%s; no block was sent", meaning->words);
 }
 
 static void take_end(struct verdict *verdict, const struct session *session)

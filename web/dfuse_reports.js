@@ -3,7 +3,7 @@
 // other ends are those of reports.js.
 import { LEAVING, OUTCOME } from './dfuse_host.js'
 import { CODES } from './names.js'
-import { AGAIN, MAYBE, ofUnsent, verdictOf } from './reports.js'
+import { AGAIN, MAYBE, rowOf, verdictOf } from './reports.js'
 
 const PROTECTION = 'To take the protection away erases all of the memory, and is nothing that this page does.'
 
@@ -17,17 +17,17 @@ const REPORTS = {
   [OUTCOME.DIFFERENT]: ['different', 9, "a byte that was read back from the device's memory isn't the file's", 'Not the same bytes',
     'A byte that was read back from the device\'s memory isn\'t the file\'s.',
     'The device was not asked to start its application. Its memory may not be as its map says. ' + AGAIN],
-  [OUTCOME.REFUSED]: ['refused', 6, 'the device refused a command; the device may have the old image, the new one or neither',
+  [OUTCOME.REFUSED]: ['refused', 6, ['the device refused a command', 'the device'],
     'Refused by the device', 'The device refused a command.', MAYBE],
   [OUTCOME.READ_PROTECTED]: ['read-protected', 6,
-    "the device's memory is protected; the device may have the old image, the new one or neither", 'Protected',
+    ["the device's memory is protected", 'the device'], 'Protected',
     'The device\'s memory is protected from being read. ' + PROTECTION, MAYBE],
-  [OUTCOME.GAVE_UP]: ['gave-up', 7, 'the limit of actions is spent; the device may have the old image, the new one or neither',
+  [OUTCOME.GAVE_UP]: ['gave-up', 7, ['the limit of actions is spent', 'the device'],
     'Given up', 'It took far more requests than it should, and came to no end.', MAYBE],
   [OUTCOME.RESTARTS_SPENT]: ['restarts-spent', 7,
-    'the device restarted too often; the device may have the old image, the new one or neither', 'The device restarts',
+    ['the device restarted too often', 'the device'], 'The device restarts',
     'The device restarted too often, or its cable has a bad contact.', MAYBE],
-  [OUTCOME.NOT_DFU]: ['not-dfu', 10, 'the device is in its application; the device may have the old image, the new one or neither',
+  [OUTCOME.NOT_DFU]: ['not-dfu', 10, ['the device is in its application', 'the device'],
     'In its application', 'The device is in its application, and no longer in DFU mode.', MAYBE],
 }
 
@@ -42,7 +42,7 @@ const LEAVINGS = {
 export function dfuseVerdictOf(ended, session) {
   if (ended.end !== 'report') return { ...verdictOf(ended, session), says: '' }
   const [name, ...row] = REPORTS[ended.report]
-  const [status, words, title, means, not] = session.hasSent ? row : ofUnsent(row)
+  const [status, words, title, means, not] = rowOf(row, session.hasSent)
   const [leaving, meant] = ended.report === OUTCOME.VERIFIED ? LEAVINGS[ended.more] : ['', '']
   const code = ended.report === OUTCOME.REFUSED && ended.more !== 0 ? CODES[ended.more] : ''
   return { name, status, words: words + leaving, title, means: means + meant, not, code, says: ended.says }

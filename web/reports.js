@@ -6,7 +6,8 @@ export const MAYBE = 'The device may have the old image, the new one or neither.
 const UNTOUCHED = 'No block was sent: the device has the image that it had.'
 export const AGAIN = 'Connect it again, and flash it again.'
 
-// By name: status, words, title, what it means, and what it doesn't; the last is left out if it would say nothing more.
+// By name: status, words, title, what it means, and what it doesn't; the last is left out if it would say nothing more. Words that come with
+// the name of a device end with what that device may have.
 const REPORTS = {
   'installed': [0, 'the device took the whole image, reported that it is in place, and was reset', 'Installed',
     'The device took the whole image, said itself that it is in place, and was reset.',
@@ -22,26 +23,26 @@ const REPORTS = {
   'different': [9, "after a reset the device gave back another image than the file's", 'Not the same image',
     'After a reset the device gave back other bytes than the file has.',
     'It need not be broken: some devices give back more than the image, as a whole part of their memory. ' + AGAIN],
-  'refused': [6, 'the device refused it; it may have the old image, the new one or neither', 'Refused by the device',
+  'refused': [6, ['the device refused it', 'it'], 'Refused by the device',
     'The device stopped with an error of its own.', MAYBE],
-  'aborted': [11, 'given up by Ctrl-C or a signal; the device may have the old image, the new one or neither', 'Given up',
+  'aborted': [11, ['given up by Ctrl-C or a signal', 'the device'], 'Given up',
     'You gave it up. A device that still answers was sent an ABORT.', MAYBE],
-  'gave-up': [7, 'the limit of actions is spent; the device may have the old image, the new one or neither', 'Given up',
+  'gave-up': [7, ['the limit of actions is spent', 'the device'], 'Given up',
     'It took far more requests than it should, and came to no end.', MAYBE],
-  'restarts-spent': [7, 'the device restarted too often; it may have the old image, the new one or neither', 'The device restarts',
+  'restarts-spent': [7, ['the device restarted too often', 'it'], 'The device restarts',
     'The device restarted too often, or its cable has a bad contact.', MAYBE],
   'too-many-blocks': [7, 'the image has 65535 full blocks or more: too many for an upload, or to compare it', 'Too large to compare',
     'The image has too many blocks to be read back.', 'Flash it without comparing.'],
   'no-memory': [7, 'there was no memory for the image', 'Out of memory', 'There was no memory for the image.', ''],
   // The page's own ends, which are no reports of the host.
-  'gone': [10, 'the device left and did not come back; it may have the old image, the new one or neither', 'The device is gone',
+  'gone': [10, ['the device left and did not come back', 'it'], 'The device is gone',
     'The device left, and did not come back.', MAYBE],
-  'silent': [10, 'the device answers no more; it may have the old image, the new one or neither', 'No answer',
+  'silent': [10, ['the device answers no more', 'it'], 'No answer',
     'The device answers no more.', MAYBE],
   'many': [12, 'the device came back with more than one setting: choose by --interface or --alt', 'Which one?',
     'The device came back with several alternate settings, or there are two that may be it.',
     'Connect it again, now in DFU mode, and choose the setting.'],
-  'other': [13, 'another device came back; the one of before may have the old image, the new one or neither', 'Another device',
+  'other': [13, ['another device came back', 'the one of before'], 'Another device',
     'Another device came back in its place. Nothing was sent to it.', MAYBE],
   'stalled': [15, 'in run-time mode it stalls GETSTATUS: bring it to DFU mode by hand, as by its button, and run this again',
     'It stays in run-time mode', 'The device doesn\'t come to DFU mode by itself.',
@@ -60,12 +61,12 @@ const UNCOMPARED = {
     'It may be in place. For such a device, flash without comparing.'],
 }
 
-const HARM = ' may have the old image, the new one or neither'
-
-// What a device may have is said only if a block was sent.
-export function ofUnsent([status, words, title, means, not]) {
-  if (!words.endsWith(HARM)) return [status, words, title, means, not]
-  return [status, `${words.slice(0, words.lastIndexOf(';'))}; no block was sent`, title, means, UNTOUCHED]
+// A row as it is said: what a device may have only if a block was sent.
+export function rowOf([status, words, title, means, not], hasSent) {
+  if (typeof words === 'string') return [status, words, title, means, not]
+  const [said, device] = words
+  if (!hasSent) return [status, `${said}; no block was sent`, title, means, UNTOUCHED]
+  return [status, `${said}; ${device} may have the old image, the new one or neither`, title, means, not]
 }
 
 // ended: what Session.run answers, and no refusal.
@@ -73,7 +74,7 @@ export function verdictOf(ended, { hasSent, isWhole, goal }) {
   const name = ended.end === 'report' ? ended.name : ended.end
   const isUncompared = ended.end !== 'report' && goal === 'verified' && isWhole && name in UNCOMPARED
   const row = isUncompared ? UNCOMPARED[name] : REPORTS[name]
-  const [status, words, title, means, not] = hasSent ? row : ofUnsent(row)
+  const [status, words, title, means, not] = rowOf(row, hasSent)
   return { name, status, words, title, means, not, code: name === 'refused' ? CODES[ended.code] : '' }
 }
 

@@ -28,15 +28,24 @@ def records():
     return found
 
 
+TEXT = r'"((?:[^"\\]|\\.)*)"'
+# A row of `struct meaning`: the status, the words, and the device that may have either image, if there is one.
+MEANING = r'\{(STATUS_\w+),\s*' + TEXT + r', (?:NULL|"([\w ]+)")\}'
+
+
+def said(words_of, device):
+    """The words of a report as dfu-flash says them once a block was sent."""
+    return words_of + (f'; {device} may have the old image, the new one or neither' if device else '')
+
+
 def words():
     """Each report and refusal of flash/: its name, status and words."""
     status = {name: int(number) for name, number in re.findall(r'(STATUS_\w+) = (\d+)', (TOP / 'flash/status.h').read_text())}
     verdict = (TOP / 'flash/verdict.c').read_text()
-    text = r'"((?:[^"\\]|\\.)*)"'
-    reports = {name.lower().replace('_', '-'): (status[number], words_of)
-               for name, number, words_of in re.findall(r'\[DFU_(\w+)\] = \{(STATUS_\w+), ' + text, verdict)}
-    ends = {name: (status[number], words_of) for name, number, words_of in re.findall(r'\{"([\w-]+)",?\s*\{(STATUS_\w+), ' + text, verdict)}
-    refusals = dict(re.findall(r'\{DFU_\w+, "(\w+)", ' + text, (TOP / 'flash/refusals.c').read_text()))
+    reports = {name.lower().replace('_', '-'): (status[number], said(*rest))
+               for name, number, *rest in re.findall(r'\[DFU_(\w+)\] = ' + MEANING, verdict)}
+    ends = {name: (status[number], said(*rest)) for name, number, *rest in re.findall(r'\{"([\w-]+)",\s*' + MEANING, verdict)}
+    refusals = dict(re.findall(r'\{DFU_\w+, "(\w+)", ' + TEXT, (TOP / 'flash/refusals.c').read_text()))
     return reports, ends, refusals
 
 
@@ -63,27 +72,26 @@ def numbers():
 
 def of_dfuse(browser):
     """Each report and refusal of dfu-flash that is of DfuSe, by its number, or by its name where that is its own."""
-    text = r'"((?:[^"\\]|\\.)*)"'
     status = {name: int(number) for name, number in re.findall(r'(STATUS_\w+) = (\d+)', (TOP / 'flash/status.h').read_text())}
     headers = (TOP / 'include/dfuse_host.h').read_text() + (TOP / 'include/dfuse_file.h').read_text()
     number_of = {name: int(number) for name, number in re.findall(r'^    (DFUSE_\w+) = (-?\d+)', headers, re.M)}
     verdict = (TOP / 'flash/dfuse_verdict.c').read_text()
-    leavings = dict(re.findall(r'\[(DFUSE_\w+)\] = ' + text, verdict))
-    reports = re.findall(r'\{(DFUSE_\w+), "([\w-]+)",\s*\{(STATUS_\w+), ' + text, verdict)
+    leavings = dict(re.findall(r'\[(DFUSE_\w+)\] = ' + TEXT, verdict))
+    reports = re.findall(r'\{(DFUSE_\w+), "([\w-]+)",\s*' + MEANING, verdict)
     check_that('the reports of DfuSe are found', len(reports) == 9 and len(leavings) == 3, (reports, leavings))
-    for number, name, status_of, words_of in reports:
+    for number, name, status_of, *rest in reports:
         for leaving, behind in (leavings.items() if name == 'verified' else [('DFUSE_STAYED', '')]):
             if name not in ('uploaded', 'no-memory'):
-                said = browser.run('return runs.dfuseWordsOf(...arguments)', number_of[number], number_of[leaving])
-                check(f'the words of {name}, {leaving}', said, [name, status[status_of], words_of + behind])
-    refusals = re.findall(r'\{(DFUSE|REFUSED)(_\w+), "(\w+)", ' + text, (TOP / 'flash/refusals.c').read_text())
+                shown = browser.run('return runs.dfuseWordsOf(...arguments)', number_of[number], number_of[leaving])
+                check(f'the words of {name}, {leaving}', shown, [name, status[status_of], said(*rest) + behind])
+    refusals = re.findall(r'\{(DFUSE|REFUSED)(_\w+), "(\w+)", ' + TEXT, (TOP / 'flash/refusals.c').read_text())
     check_that('the refusals of DfuSe are found', len(refusals) == 43, refusals)
     for kind, number, name, words_of in refusals:
         # (the page has no --all, and says in a text of its own where a system makes no reset)
         if name not in ('ForAny', 'CannotReset'):
-            said = browser.run('const it = runs.refusalOf(arguments[0]); return [it.name, it.words]',
+            shown = browser.run('const it = runs.refusalOf(arguments[0]); return [it.name, it.words]',
                                number_of[kind + number] if kind == 'DFUSE' else name)
-            check(f'the words of {name}', said, [name, words_of])
+            check(f'the words of {name}', shown, [name, words_of])
 
 
 def run(browser, page):
@@ -94,9 +102,10 @@ def run(browser, page):
         check(f'the number {name}', ours, wanted)
     check('records.js has the records of the headers', browser.run('return runs.RECORDS'), records())
     reports, ends, refusals = words()
-    check_that('the words of dfu-flash are found', len(reports) == 11 and len(ends) == 7 and len(refusals) == 14, (reports, ends, refusals))
+    check_that('the words of dfu-flash are found', len(reports) == 11 and len(ends) == 9 and len(refusals) == 14, (reports, ends, refusals))
     for name, wanted in {**reports, **ends}.items():
-        if name not in ('uploaded', 'timed-out'):
+        # (the page has no time limit, and says in a text of its own where a system makes no reset)
+        if name not in ('uploaded', 'timed-out', 'not-reset'):
             check(f'the words of {name}', tuple(browser.run('return runs.wordsOf(arguments[0])', name)), wanted)
     # (dfu-flash reads DfuSe files, and so has no words for a refusal of them)
     refusals['DfuSe'] = 'the file is a DfuSe file, which is another format'

@@ -36,9 +36,12 @@ while read -r line; do
     has 'the man page' "$man" "$line"
 done < lines
 # The texts of the reports, of the program's own, and of the refusals.
-sed -n 's/^.*{STATUS_[A-Z_]*, "\(.*\)"}.*/\1/p' "$top/flash/verdict.c" "$top/flash/dfuse_verdict.c" > lines
+tr '\n' ' ' < "$top/flash/verdict.c" > rows
+tr '\n' ' ' < "$top/flash/dfuse_verdict.c" >> rows
+grep -o '{STATUS_[A-Z_]*, *"[^"]*", [^}]*}' rows |
+    sed -n 's/^[^"]*"\(.*\)", NULL}$/\1/p; s/^[^"]*"\(.*\)", "\(.*\)"}$/\1; \2 may have the old image, the new one or neither/p' > lines
 sed -n 's/^    {[A-Z0-9_-]*, "\([A-Za-z]*\)", "\(.*\)"},/\1 \2/p' "$top/flash/refusals.c" >> lines
-expect 'texts' test "$(wc -l < lines)" -eq 87
+expect 'texts' test "$(wc -l < lines)" -eq 90
 while read -r line; do
     has 'the man page' "$man" "$line"
 done < lines
