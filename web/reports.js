@@ -6,8 +6,8 @@ export const MAYBE = 'The device may have the old image, the new one or neither.
 const UNTOUCHED = 'No block was sent: the device has the image that it had.'
 export const AGAIN = 'Connect it again, and flash it again.'
 
-// By name: status, words, title, what it means, and what it doesn't; the last is left out if it would say nothing more. Words that come with
-// the name of a device end with what that device may have.
+// By name: status, words, title, what it means, and what it doesn't; the last is left out if it would say nothing more. Words that come
+// with the name of a device end with what that device may have.
 const REPORTS = {
   'installed': [0, 'the device took the whole image, reported that it is in place, and was reset', 'Installed',
     'The device took the whole image, said itself that it is in place, and was reset.',
