@@ -1,5 +1,5 @@
-/* dfu_watch.h and dfuse_watch.h by rows worked out by hand: a device that stalls, is silent, leaves, or comes back as another one. And for all facts and
- * all records of small numbers: what is kept, how often another session begins, and that nothing else changes. */
+/* dfu_watch.h and dfuse_watch.h by rows worked out by hand: a device that stalls, is silent, leaves, or comes back as another one. And for
+ * all facts and all records of small numbers: what is kept, how often another session begins, and that nothing else changes. */
 #include <stdio.h>
 #include <string.h>
 

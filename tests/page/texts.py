@@ -56,7 +56,8 @@ def numbers():
     theirs = {name: int(number, 0) for name, number in re.findall(r'(?:^   |^enum \{|,) (\w+) = (-?(?:0x[0-9a-f]+|\d+))\b', headers, re.M)}
     lists = re.findall(r'const char \*const (\w+)\[\] = \{(.*?)\};', (TOP / 'flash/standard.c').read_text(), re.S)
     pages = ''.join((TOP / 'web' / it).read_text() for it in ('host.js', 'watch.js', 'dfuse_host.js', 'dfuse_watch.js', 'names.js'))
-    fronts = {'WHAT': 'DFU_', 'SEEN': 'DFU_SEEN_', 'REPORT': 'DFU_', 'REFUSAL': 'DFU_', 'COURSE': 'DFU_', 'COURSES': 'DFU_', 'ATTRIBUTE': ''}
+    fronts = {name: 'DFU_' for name in ('WHAT', 'REPORT', 'REFUSAL', 'COURSE', 'COURSES')}
+    fronts.update({'SEEN': 'DFU_SEEN_', 'ATTRIBUTE': ''})
     fronts.update({name: 'DFUSE_' for name in ('WORK', 'OUTCOME', 'LEAVING', 'ACCESS', 'FILE')})
     fronts.update({name: name + '_' for name in ('KIND', 'REQUEST', 'STATE', 'FUNCTIONAL', 'INTERFACE')})
     others = {'FUNCTIONAL_VERSION_1_1': 'VERSION_1_1', 'FUNCTIONAL_VERSION_DFUSE': 'VERSION_DFUSE', 'INTERFACE_RUNTIME': 'PROTOCOL_RUNTIME',
