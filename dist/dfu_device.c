@@ -121,7 +121,7 @@ static _Alignas(4) const uint8_t static_2[64] = {
 static _Alignas(4) const uint32_t switch_table_dfu_slots_layout_fill_size[4] = {
     1, 0x10, 0x40, 0x100
 };
-static _Alignas(4) const uint32_t switch_table_dfu_device_c_refusal_Refusal_number[5] = {
+static _Alignas(4) const uint32_t switch_table_dfu_device_c_numbers_Refusal_number[5] = {
     0xfffffffe, 0xfffffff6, 0xfffffff4, 0xfffffffd, 0xfffffffc
 };
 static _Alignas(4) const uint8_t switch_table_dfu_device_table_decide[9] = {
@@ -160,22 +160,22 @@ static void dfu_device_c_mode_mode_of(unsigned char *a0, unsigned char *a1);
 static void dfu_device_c_config_settings_of(unsigned char *a0, unsigned char *a1);
 static uint8_t dfu_device_c_config_unit_of(unsigned char *a0);
 static void dfu_device_c_config_functional_of(unsigned char *a0, unsigned char *a1);
-static void dfu_device_c_formatting_formatting_of(unsigned char *a0, unsigned char *a1, unsigned char *a2);
+static void dfu_device_c_format_formatting_of(unsigned char *a0, unsigned char *a1, unsigned char *a2);
 static uint8_t dfu_asks_formatting_Formatting_due(unsigned char *a0, uint64_t a2, unsigned char *a3);
 static uint8_t dfu_asks_format_piece_part_piece(unsigned char *a0, uint64_t a1, unsigned char *a2);
 static uint8_t dfu_asks_next_piece_sequence_piece(unsigned char *a0, unsigned char *a1);
 static uint8_t dfu_asks_next_piece_numbered_piece(unsigned char *a0, uint64_t a1, unsigned char *a2);
-static void dfu_asks_position_locate(unsigned char *a0, uint32_t a1, uint64_t a2, uint64_t a3, uint64_t a4);
+static void dfu_asks_sector_locate(unsigned char *a0, uint32_t a1, uint64_t a2, uint64_t a3, uint64_t a4);
 static uint8_t dfu_asks_format_piece_open_piece(uint64_t a0, uint32_t a1, unsigned char *a2);
 static uint8_t dfu_asks_next_and_took_is_sound(uint32_t a0, unsigned char *a1);
 static void dfu_asks_cut_fill(unsigned char *a0, unsigned char *a1);
 static uint8_t dfu_asks_cut_byte_of(unsigned char *a0, uint64_t a1);
-static uint8_t dfu_slots_open_is_sized(unsigned char *a0);
-static uint32_t dfu_slots_read_capacity_of(unsigned char *a0);
+static uint8_t dfu_slots_layout_is_sized(unsigned char *a0);
+static uint32_t dfu_slots_layout_capacity_of(unsigned char *a0);
 static void dfu_suffix_crc_Crc_update_small(unsigned char *a0, unsigned char *a1, uint64_t a2);
 static uint8_t dfu_asks_cut_stands(unsigned char *a0, uint64_t a1, unsigned char *a2);
 static void dfu_asks_noted_Noted_find(unsigned char *a0, unsigned char *a1, uint64_t a2, uint8_t a3, uint32_t a4);
-static void dfu_slots_open_check(unsigned char *a0, unsigned char *a1);
+static void dfu_slots_places_check(unsigned char *a0, unsigned char *a1);
 static uint8_t dfu_slots_read_counts(unsigned char *a0, uint32_t a1);
 static uint8_t dfu_slots_read_is_open(unsigned char *a0, uint32_t a1);
 static uint8_t dfu_slots_read_byte_at(unsigned char *a0, uint32_t a1);
@@ -186,8 +186,8 @@ static uint8_t dfu_slots_read_generation(unsigned char *a0, uint32_t a1);
 static void dfu_slots_read_header_of(unsigned char *a0, unsigned char *a1, uint32_t a2);
 static uint8_t dfu_device_c_config_is_allowed(unsigned char *a0);
 static void dfu_wire_bytes_two_bytes(unsigned char *a0, uint16_t a1);
-static void dfu_device_c_idle_mode_in(unsigned char *a0, unsigned char *a1, unsigned char *a2);
-static void dfu_device_c_idle_idle_mode(unsigned char *a0, unsigned char *a1, unsigned char *a2);
+static void dfu_device_c_mode_mode_in(unsigned char *a0, unsigned char *a1, unsigned char *a2);
+static void dfu_device_c_mode_idle_mode(unsigned char *a0, unsigned char *a1, unsigned char *a2);
 static void dfu_device_c_mode_set_mode(unsigned char *a0, unsigned char *a1);
 static void dfu_wire_setups_Setup_request(unsigned char *a0, unsigned char *a1);
 static uint32_t dfu_device_c_power_start(unsigned char *a0, unsigned char *a1, unsigned char *a2, uint64_t a3, uint32_t a4);
@@ -195,7 +195,7 @@ static void dfu_device_table_decide(unsigned char *a0, unsigned char *a1, unsign
 static void dfu_device_plans_block(unsigned char *a0, unsigned char *a1, uint32_t a2, uint16_t a3, uint16_t a4, uint16_t a5);
 static void dfu_device_plans_upload(unsigned char *a0, unsigned char *a1, uint32_t a2, uint16_t a3, uint16_t a4, uint16_t a5);
 static void dfu_device_c_keeping_found(unsigned char *a0, unsigned char *a1, uint64_t a2, unsigned char *a3);
-static void dfu_asks_view_look(unsigned char *a0, unsigned char *a1, unsigned char *a2);
+static void dfu_asks_noted_look(unsigned char *a0, unsigned char *a1, unsigned char *a2);
 static void dfu_asks_asking_Asking_see(unsigned char *a0, unsigned char *a1, uint64_t a2, unsigned char *a3, uint64_t a4);
 static uint8_t dfu_asks_asking_Asking_is_fit(unsigned char *a0, uint64_t a1, unsigned char *a2, unsigned char *a3);
 static void dfu_asks_asking_Asking_carry_out(unsigned char *a0, unsigned char *a1, unsigned char *a2, uint8_t a3, uint16_t a4, unsigned char *a5, uint64_t a6, unsigned char *a7, uint64_t a8, unsigned char *a9, uint64_t a10, unsigned char *a11, unsigned char *a12, unsigned char *a13, uint64_t a14);
@@ -524,8 +524,8 @@ static void dfu_device_c_config_functional_of(unsigned char *a0, unsigned char *
     return;
 }
 
-/* dfu_device_c::formatting::formatting_of */
-static void dfu_device_c_formatting_formatting_of(unsigned char *a0, unsigned char *a1, unsigned char *a2) {
+/* dfu_device_c::format::formatting_of */
+static void dfu_device_c_format_formatting_of(unsigned char *a0, unsigned char *a1, unsigned char *a2) {
     uint8_t r26;
     uint32_t r1_16_0;
     uint32_t r15 = load32(a2 + 44);
@@ -871,7 +871,7 @@ arm_6:
     r56 = (uint64_t)r25_35_0;
     r17_2 = a2 + 48;
     uint64_t r18_2 = load64(r17_2);
-    dfu_asks_position_locate(r6, r20_0_0_copyload, r25_15_0, r56, r18_2);
+    dfu_asks_sector_locate(r6, r20_0_0_copyload, r25_15_0, r56, r18_2);
     uint8_t r21 = *r6;
     r23 = load64(r6 + 8);
     switch (r21) {
@@ -906,8 +906,8 @@ join_4:
     return r21_0_shrunk;
 }
 
-/* dfu_asks::position::locate */
-static void dfu_asks_position_locate(unsigned char *a0, uint32_t a1, uint64_t a2, uint64_t a3, uint64_t a4) {
+/* dfu_asks::sector::locate */
+static void dfu_asks_sector_locate(unsigned char *a0, uint32_t a1, uint64_t a2, uint64_t a3, uint64_t a4) {
     uint64_t r1, r18, r5_0, r4_0, r7_0_0_0, r7_4_0, r7_7_0;
     if (a1 == 0) goto then_1;
     goto join_3;
@@ -1065,8 +1065,8 @@ arm_4:
     goto common_ret;
 }
 
-/* dfu_slots::open::is_sized::<#c4c4734aca759fff> */
-static uint8_t dfu_slots_open_is_sized(unsigned char *a0) {
+/* dfu_slots::layout::is_sized::<#c4c4734aca759fff> */
+static uint8_t dfu_slots_layout_is_sized(unsigned char *a0) {
     uint32_t r1_0_0_copyload, a0_a1, r5, r69;
     uint8_t common_ret_op;
     uint64_t v0;
@@ -1101,8 +1101,8 @@ join_3:;
     goto common_ret;
 }
 
-/* dfu_slots::read::capacity_of::<#c4c4734aca759fff> */
-static uint32_t dfu_slots_read_capacity_of(unsigned char *a0) {
+/* dfu_slots::layout::capacity_of::<#c4c4734aca759fff> */
+static uint32_t dfu_slots_layout_capacity_of(unsigned char *a0) {
     uint64_t r3 = load64(a0 + 8);
     uint8_t r0_0_0_copyload = a0[16];
     uint32_t r1_0_0_copyload = load32(a0 + 20);
@@ -1175,7 +1175,7 @@ static void dfu_asks_noted_Noted_find(unsigned char *a0, unsigned char *a1, uint
     store64(r5 + 8, a2);
     r5[16] = a3;
     store32(r5 + 20, a4);
-    dfu_slots_open_check(r12, r5);
+    dfu_slots_places_check(r12, r5);
     uint8_t r30 = *r12;
     if (r30 == 0) goto arm_5;
     r14_0_0 = 0;
@@ -1196,14 +1196,14 @@ join_7:
     return;
 }
 
-/* dfu_slots::open::check::<#c4c4734aca759fff> */
-static void dfu_slots_open_check(unsigned char *a0, unsigned char *a1) {
+/* dfu_slots::places::check::<#c4c4734aca759fff> */
+static void dfu_slots_places_check(unsigned char *a0, unsigned char *a1) {
     _Alignas(1) unsigned char r3_4[16];
     uint8_t r5, r11;
     unsigned char *r2;
     uint32_t r72_2, r72_3, r1_9_0_copyload, v3, v4;
     uint8_t r1_2_0_copyload, v50, v5;
-    uint8_t r12 = dfu_slots_open_is_sized(a1);
+    uint8_t r12 = dfu_slots_layout_is_sized(a1);
     if (r12) goto join_3;
     goto then_1;
 then_1:
@@ -1258,7 +1258,7 @@ join_3_2:;
     uint32_t r1_8_0_copyload = load32u(r3_4 + 8);
     uint8_t r1_5_0_copyload = r3_4[3];
     uint8_t r1_4_0_copyload = r3_4[2];
-    uint32_t r26 = dfu_slots_read_capacity_of(a1);
+    uint32_t r26 = dfu_slots_layout_capacity_of(a1);
     if (((((r1_2_0_copyload == 1) & (r1_6_0_copyload <= r26)) ? (r1_4_0_copyload == 0) : 0) ? (r1_5_0_copyload == 0) : 0) ? (r1_8_0_copyload == 0) : 0) goto dfu_slots_read_header_len_exit;
     goto v1;
 dfu_slots_read_header_len_exit:
@@ -1309,7 +1309,7 @@ static uint8_t dfu_slots_read_counts(unsigned char *a0, uint32_t a1) {
     r1_5_0_copyload = load32u(r3_2 + 4);
     r1_6_0_copyload = load32u(r3_2 + 8);
     r1_7_0_copyload = load32u(r3_2 + 12);
-    uint32_t r10 = dfu_slots_read_capacity_of(a0);
+    uint32_t r10 = dfu_slots_layout_capacity_of(a0);
     if (r10 < r1_5_0_copyload) {
         common_ret_op = 0;
         goto dfu_slots_read_is_intact_exit;
@@ -1433,8 +1433,8 @@ static void dfu_wire_bytes_two_bytes(unsigned char *a0, uint16_t a1) {
     return;
 }
 
-/* dfu_device_c::idle::mode_in */
-static void dfu_device_c_idle_mode_in(unsigned char *a0, unsigned char *a1, unsigned char *a2) {
+/* dfu_device_c::mode::mode_in */
+static void dfu_device_c_mode_mode_in(unsigned char *a0, unsigned char *a1, unsigned char *a2) {
     _Alignas(4) unsigned char r5[20];
     uint32_t r6_10_1_0, r6_12_0, r6_14_0;
     uint8_t r6_6_1_0, r6_0_0, r6_4_0, r6_8_0;
@@ -1486,13 +1486,13 @@ join_7:
     return;
 }
 
-/* dfu_device_c::idle::idle_mode */
-static void dfu_device_c_idle_idle_mode(unsigned char *a0, unsigned char *a1, unsigned char *a2) {
+/* dfu_device_c::mode::idle_mode */
+static void dfu_device_c_mode_idle_mode(unsigned char *a0, unsigned char *a1, unsigned char *a2) {
     _Alignas(4) unsigned char r5[20];
     uint8_t r1_56_4_copyload, r1_7_5_copyload;
     uint32_t v0, r1_11_12_copyload, r1_13_16_copyload;
     unsigned char *r79, *r81, *r83, *r85, *r87, *r89;
-    dfu_device_c_idle_mode_in(r5, a1, a2);
+    dfu_device_c_mode_mode_in(r5, a1, a2);
     uint8_t r1_0_0_copyload = *r5;
     r1_56_4_copyload = r5[4];
     r1_7_5_copyload = r5[5];
@@ -2828,12 +2828,12 @@ arm_15:
     return;
 }
 
-/* dfu_asks::view::look */
-static void dfu_asks_view_look(unsigned char *a0, unsigned char *a1, unsigned char *a2) {
+/* dfu_asks::noted::look */
+static void dfu_asks_noted_look(unsigned char *a0, unsigned char *a1, unsigned char *a2) {
     uint32_t r3847_2, r3847_3, r99, r17;
     unsigned char *r74, *r82;
     uint64_t r3_0;
-    uint8_t r24 = dfu_slots_open_is_sized(a1);
+    uint8_t r24 = dfu_slots_layout_is_sized(a1);
     if (r24) goto join_3;
     goto then_1;
 then_1:
@@ -2869,7 +2869,7 @@ loop_2:
     memset(a0, 0, 20);
     return;
 join_12:
-    r99 = dfu_slots_read_capacity_of(a1);
+    r99 = dfu_slots_layout_capacity_of(a1);
     r17 = load32u(a2 + 5);
     if (r99 >= r17) goto join_15;
     memset(a0, 0, 20);
@@ -2896,7 +2896,7 @@ static void dfu_asks_asking_Asking_see(unsigned char *a0, unsigned char *a1, uin
     store64(r3 + 8, a4);
     r3[16] = r6_0_0_copyload;
     store32(r3 + 20, r7_0_0_copyload);
-    dfu_asks_view_look(r9, r3, a1 + 76);
+    dfu_asks_noted_look(r9, r3, a1 + 76);
     uint8_t r38 = *r9;
     if (r38 == 1) goto arm_5;
     goto arm_6;
@@ -2952,7 +2952,7 @@ after_1:
     r42 = load32(r41);
     r43 = a3 + 4;
     r44 = load32(r43);
-    uint32_t r11 = dfu_slots_read_capacity_of(a2);
+    uint32_t r11 = dfu_slots_layout_capacity_of(a2);
     if (r11 < r42) {
         common_ret_op = 0;
         goto common_ret;
@@ -3221,40 +3221,40 @@ arm_3:
     case 12:
         r10_0 = 0;
         r11_0_0 = v1;
-        goto dfu_device_status_status_in_exit;
+        goto dfu_device_device_state_status_in_exit;
     case 5: goto arm_1;
     case 9: goto arm_2_2;
-    case 0: goto dfu_device_status_poll_ms_exit_fold_split;
-    case 1: goto dfu_device_status_poll_ms_exit_fold_split;
-    case 2: goto dfu_device_status_poll_ms_exit_fold_split;
-    case 3: goto dfu_device_status_poll_ms_exit_fold_split;
-    case 4: goto dfu_device_status_poll_ms_exit_fold_split;
-    case 6: goto dfu_device_status_poll_ms_exit_fold_split;
-    case 7: goto dfu_device_status_poll_ms_exit_fold_split;
-    case 8: goto dfu_device_status_poll_ms_exit_fold_split;
-    case 10: goto dfu_device_status_poll_ms_exit_fold_split;
-    case 11: goto dfu_device_status_poll_ms_exit_fold_split;
+    case 0: goto dfu_device_device_state_poll_ms_exit_fold_split;
+    case 1: goto dfu_device_device_state_poll_ms_exit_fold_split;
+    case 2: goto dfu_device_device_state_poll_ms_exit_fold_split;
+    case 3: goto dfu_device_device_state_poll_ms_exit_fold_split;
+    case 4: goto dfu_device_device_state_poll_ms_exit_fold_split;
+    case 6: goto dfu_device_device_state_poll_ms_exit_fold_split;
+    case 7: goto dfu_device_device_state_poll_ms_exit_fold_split;
+    case 8: goto dfu_device_device_state_poll_ms_exit_fold_split;
+    case 10: goto dfu_device_device_state_poll_ms_exit_fold_split;
+    case 11: goto dfu_device_device_state_poll_ms_exit_fold_split;
     default: never();
     }
 arm_1:
     r10_0_in = a0 + 20;
-    goto dfu_device_status_poll_ms_exit;
+    goto dfu_device_device_state_poll_ms_exit;
 arm_2_2:
     r10_0_in = a0 + 24;
-    goto dfu_device_status_poll_ms_exit;
-dfu_device_status_poll_ms_exit_fold_split:
+    goto dfu_device_device_state_poll_ms_exit;
+dfu_device_device_state_poll_ms_exit_fold_split:
     r10_0 = 0;
     r11_0_0 = 0;
-    goto dfu_device_status_status_in_exit;
-dfu_device_status_poll_ms_exit:;
+    goto dfu_device_device_state_status_in_exit;
+dfu_device_device_state_poll_ms_exit:;
     uint32_t r10_0_2 = load32(r10_0_in);
     if (r10_0_2 <= 0xffffffU) {
         r10_0 = r10_0_2;
         r11_0_0 = 0;
-        goto dfu_device_status_status_in_exit;
+        goto dfu_device_device_state_status_in_exit;
     }
     trap();
-dfu_device_status_status_in_exit:;
+dfu_device_device_state_status_in_exit:;
     uint8_t switch_load = *(PLACE(switch_table_dfu_device_device_state_DeviceState_state) + (size_t)v0);
     unsigned char *v3 = r1 + 1;
     memset(v3, 0, 5);
@@ -3814,7 +3814,7 @@ int32_t dfu_core_format_next(const struct dfu_config *config, const struct dfu_r
         common_ret_op = 0xfffffffeU;
         goto dfu_device_c_format_dfu_core_format_next_exit;
     }
-    dfu_device_c_formatting_formatting_of(r9, r8 + 4, a1);
+    dfu_device_c_format_formatting_of(r9, r8 + 4, a1);
     uint8_t r19 = *r9;
     if (r19 != 1) {
         common_ret_op = 0xfffffffcU;
@@ -3893,7 +3893,7 @@ int32_t dfu_core_format_start(const struct dfu_config *config, struct dfu_record
     r7[16] = r5_2_0_copyload;
     memset(r7 + 17, 0, 3);
     store32(r7 + 20, r5_31_0_copyload);
-    uint8_t r28 = dfu_slots_open_is_sized(r7);
+    uint8_t r28 = dfu_slots_layout_is_sized(r7);
     if (r28) goto dfu_asks_format_fault_of_exit;
     common_ret_op = 0xfffffffaU;
     goto dfu_device_c_format_dfu_core_format_start_exit;
@@ -3942,7 +3942,7 @@ int32_t dfu_core_format_took(const struct dfu_config *config, struct dfu_record 
         common_ret_op = 0xfffffffeU;
         goto dfu_device_c_format_dfu_core_format_took_exit;
     }
-    dfu_device_c_formatting_formatting_of(r8, r7 + 4, a1);
+    dfu_device_c_format_formatting_of(r8, r7 + 4, a1);
     uint8_t r23 = *r8;
     if (r23 != 1) {
         common_ret_op = 0xfffffffcU;
@@ -4104,7 +4104,7 @@ int32_t dfu_core_functional(const struct dfu_config *config, uint8_t out[9]) {
     uint8_t r7 = dfu_device_c_config_is_allowed(a0);
     if (!r7) {
         common_ret_op = 0xfffffffeU;
-        goto dfu_device_c_functional_dfu_core_functional_exit;
+        goto dfu_device_c_config_dfu_core_functional_exit;
     }
     dfu_device_c_config_functional_of(r4, a0);
     uint8_t r5_0_0_copyload = *r4;
@@ -4130,7 +4130,7 @@ int32_t dfu_core_functional(const struct dfu_config *config, uint8_t out[9]) {
     a1[7] = (uint8_t)v2;
     a1[8] = (uint8_t)(uint16_t)(v2 >> 8);
     common_ret_op = 9;
-dfu_device_c_functional_dfu_core_functional_exit:
+dfu_device_c_config_dfu_core_functional_exit:
     return signed32(common_ret_op);
 }
 
@@ -4142,7 +4142,7 @@ int32_t dfu_core_due(const struct dfu_config *config, const struct dfu_record *r
     _Alignas(2) unsigned char r15[10];
     uint32_t v2, v3, v4, common_ret_op, r4_0;
     memset(r3, 0, 20);
-    dfu_device_c_idle_mode_in(r3, a0, a1);
+    dfu_device_c_mode_mode_in(r3, a0, a1);
     uint8_t r5 = *r3;
     if (r5 != 0) goto arm_2;
     uint8_t v1 = r3[4];
@@ -4155,34 +4155,34 @@ int32_t dfu_core_due(const struct dfu_config *config, const struct dfu_record *r
     case 9: goto arm_3;
     case 0:
         common_ret_op = 0;
-        goto dfu_device_c_due_due_in_exit;
+        goto dfu_device_c_tells_due_in_exit;
     case 2:
         common_ret_op = 0;
-        goto dfu_device_c_due_due_in_exit;
+        goto dfu_device_c_tells_due_in_exit;
     case 3:
         common_ret_op = 0;
-        goto dfu_device_c_due_due_in_exit;
+        goto dfu_device_c_tells_due_in_exit;
     case 4:
         common_ret_op = 0;
-        goto dfu_device_c_due_due_in_exit;
+        goto dfu_device_c_tells_due_in_exit;
     case 6:
         common_ret_op = 0;
-        goto dfu_device_c_due_due_in_exit;
+        goto dfu_device_c_tells_due_in_exit;
     case 7:
         common_ret_op = 0;
-        goto dfu_device_c_due_due_in_exit;
+        goto dfu_device_c_tells_due_in_exit;
     case 8:
         common_ret_op = 0;
-        goto dfu_device_c_due_due_in_exit;
+        goto dfu_device_c_tells_due_in_exit;
     case 10:
         common_ret_op = 0;
-        goto dfu_device_c_due_due_in_exit;
+        goto dfu_device_c_tells_due_in_exit;
     case 11:
         common_ret_op = 0;
-        goto dfu_device_c_due_due_in_exit;
+        goto dfu_device_c_tells_due_in_exit;
     case 12:
         common_ret_op = 0;
-        goto dfu_device_c_due_due_in_exit;
+        goto dfu_device_c_tells_due_in_exit;
     default: never();
     }
 arm_1:
@@ -4190,26 +4190,26 @@ arm_1:
     uint8_t r25 = r15[3];
     if (r25 & 1) {
         common_ret_op = 1;
-        goto dfu_device_c_due_due_in_exit;
+        goto dfu_device_c_tells_due_in_exit;
     }
     common_ret_op = umin32(umax32(usub_sat32(v2, v3), 1), 0x7fffffffU);
-    goto dfu_device_c_due_due_in_exit;
+    goto dfu_device_c_tells_due_in_exit;
 arm_2_2:;
     uint32_t r37 = load32(a0 + 16);
     common_ret_op = umin32(umax32(usub_sat32(r37, v4), 1), 0x7fffffffU);
-    goto dfu_device_c_due_due_in_exit;
+    goto dfu_device_c_tells_due_in_exit;
 arm_3:;
     uint32_t r44 = load32(a0 + 20);
     common_ret_op = umin32(umax32(usub_sat32(r44, v3), 1), 0x7fffffffU);
-    goto dfu_device_c_due_due_in_exit;
-dfu_device_c_due_due_in_exit:
+    goto dfu_device_c_tells_due_in_exit;
+dfu_device_c_tells_due_in_exit:
     r4_0 = common_ret_op;
-    goto dfu_device_c_due_dfu_core_due_exit;
+    goto dfu_device_c_tells_dfu_core_due_exit;
 arm_2:;
     uint8_t r2_0_0_copyload = r3[1];
-    uint32_t switch_load = load32(PLACE(switch_table_dfu_device_c_refusal_Refusal_number) + 4 * (size_t)r2_0_0_copyload);
+    uint32_t switch_load = load32(PLACE(switch_table_dfu_device_c_numbers_Refusal_number) + 4 * (size_t)r2_0_0_copyload);
     r4_0 = switch_load;
-dfu_device_c_due_dfu_core_due_exit:
+dfu_device_c_tells_dfu_core_due_exit:
     return signed32(r4_0);
 }
 
@@ -4224,7 +4224,7 @@ int32_t dfu_core_refuse(const struct dfu_config *config, struct dfu_record *reco
     uint32_t v3, v4, v5, r12_76_0, r12_10_0, r12_13_0, common_ret_op;
     memset(r5, 0, 20);
     store32(r10, 0);
-    dfu_device_c_idle_idle_mode(r5, a0, a1);
+    dfu_device_c_mode_idle_mode(r5, a0, a1);
     uint8_t r12 = *r5;
     if (r12 != 0) goto arm_2;
     v1 = r5[4];
@@ -4246,7 +4246,7 @@ arm_2_2:
     goto arm_5;
 arm_2:;
     uint8_t r3_0_0_copyload = r5[1];
-    uint32_t switch_load = load32(PLACE(switch_table_dfu_device_c_refusal_Refusal_number) + 4 * (size_t)r3_0_0_copyload);
+    uint32_t switch_load = load32(PLACE(switch_table_dfu_device_c_numbers_Refusal_number) + 4 * (size_t)r3_0_0_copyload);
     common_ret_op = switch_load;
     goto dfu_device_c_refuse_dfu_core_refuse_exit;
 arm_5:
@@ -4365,7 +4365,7 @@ int32_t dfu_core_refuse_close(const struct dfu_config *config, struct dfu_record
     uint32_t v2, common_ret_op;
     memset(r6, 0, 20);
     store32(r19, 12);
-    dfu_device_c_idle_idle_mode(r6, a0, a1);
+    dfu_device_c_mode_idle_mode(r6, a0, a1);
     uint8_t r21 = *r6;
     if (r21 != 0) goto arm_2;
     v1 = r6[4];
@@ -4384,7 +4384,7 @@ arm_2_2:
     goto arm_5;
 arm_2:;
     uint8_t r3_0_0_copyload = r6[1];
-    uint32_t switch_load = load32(PLACE(switch_table_dfu_device_c_refusal_Refusal_number) + 4 * (size_t)r3_0_0_copyload);
+    uint32_t switch_load = load32(PLACE(switch_table_dfu_device_c_numbers_Refusal_number) + 4 * (size_t)r3_0_0_copyload);
     common_ret_op = switch_load;
     goto dfu_device_c_refuse_dfu_core_refuse_close_exit;
 arm_5:;
@@ -4425,7 +4425,7 @@ int32_t dfu_core_too_long(const struct dfu_config *config, struct dfu_record *re
     uint32_t common_ret_op;
     memset(r6, 0, 20);
     store32(r18, 0);
-    dfu_device_c_idle_idle_mode(r6, a0, a1);
+    dfu_device_c_mode_idle_mode(r6, a0, a1);
     uint8_t r20 = *r6;
     if (r20 != 0) goto arm_2;
     v1 = r6[4];
@@ -4437,7 +4437,7 @@ int32_t dfu_core_too_long(const struct dfu_config *config, struct dfu_record *re
     goto dfu_device_c_long_dfu_core_too_long_exit;
 arm_2:;
     uint8_t r3_0_0_copyload = r6[1];
-    uint32_t switch_load = load32(PLACE(switch_table_dfu_device_c_refusal_Refusal_number) + 4 * (size_t)r3_0_0_copyload);
+    uint32_t switch_load = load32(PLACE(switch_table_dfu_device_c_numbers_Refusal_number) + 4 * (size_t)r3_0_0_copyload);
     common_ret_op = switch_load;
     goto dfu_device_c_long_dfu_core_too_long_exit;
 join_7:;
@@ -4528,7 +4528,7 @@ int32_t dfu_core_would_stall(const struct dfu_config *config, const struct dfu_r
     uint32_t common_ret_op;
     store64(r4 + 8, 0);
     memset(r6, 0, 20);
-    dfu_device_c_idle_idle_mode(r6, a0, a1);
+    dfu_device_c_mode_idle_mode(r6, a0, a1);
     uint8_t r25 = *r6;
     if (r25 != 0) goto arm_2;
     uint8_t v2 = r6[4];
@@ -4571,7 +4571,7 @@ int32_t dfu_core_would_stall(const struct dfu_config *config, const struct dfu_r
     goto dfu_device_c_stalls_dfu_core_would_stall_exit;
 arm_2:;
     uint8_t r3_0_0_copyload = r6[1];
-    uint32_t switch_load_2 = load32(PLACE(switch_table_dfu_device_c_refusal_Refusal_number) + 4 * (size_t)r3_0_0_copyload);
+    uint32_t switch_load_2 = load32(PLACE(switch_table_dfu_device_c_numbers_Refusal_number) + 4 * (size_t)r3_0_0_copyload);
     common_ret_op = switch_load_2;
 dfu_device_c_stalls_dfu_core_would_stall_exit:
     return signed32(common_ret_op);
@@ -4600,7 +4600,7 @@ int32_t dfu_core_candidate(const struct dfu_config *config, const struct dfu_rec
     uint8_t r2 = r3[104];
     if (r2 != 1) goto join_3;
     r2_0_0 = 2;
-    goto dfu_device_c_exports_refused_exit;
+    goto dfu_device_c_numbers_refused_exit;
 join_3:
     if (a3 > 0xffffffffU) goto arm_2_2;
     r11_0_0_copyload = load32(r3 + 40);
@@ -4610,7 +4610,7 @@ join_3:
     r3_2[16] = r10_0_0_copyload;
     memset(r3_2 + 17, 0, 3);
     store32(r3_2 + 20, r11_0_0_copyload);
-    dfu_asks_view_look(r13, r3_2, r3 + 84);
+    dfu_asks_noted_look(r13, r3_2, r3 + 84);
     uint8_t r65 = *r13;
     if (r65 != 1) goto arm_2_2;
     r4_2_0_copyload = load32(r13 + 8);
@@ -4641,24 +4641,24 @@ arm_11:;
     store32(a4, (umax32(r11_0_0_copyload, switch_load) << 1) + r4_2_0_copyload);
     store32(a4 + 4, switch_load_2 & v4);
     common_ret_op = 0;
-    goto dfu_device_c_candidate_dfu_core_candidate_exit;
+    goto dfu_device_c_image_dfu_core_candidate_exit;
 arm_2:;
     uint8_t r13_0_0_copyload = r3[1];
-    uint32_t switch_load_3 = load32(PLACE(switch_table_dfu_device_c_refusal_Refusal_number) + 4 * (size_t)r13_0_0_copyload);
+    uint32_t switch_load_3 = load32(PLACE(switch_table_dfu_device_c_numbers_Refusal_number) + 4 * (size_t)r13_0_0_copyload);
     common_ret_op = switch_load_3;
-    goto dfu_device_c_candidate_dfu_core_candidate_exit;
+    goto dfu_device_c_image_dfu_core_candidate_exit;
 arm_5:
     common_ret_op = 0xffffffecU;
-    goto dfu_device_c_candidate_dfu_core_candidate_exit;
+    goto dfu_device_c_image_dfu_core_candidate_exit;
 arm_2_2:
     r2_0_0 = 3;
-    goto dfu_device_c_exports_refused_exit;
+    goto dfu_device_c_numbers_refused_exit;
 arm_3:
     r2_0_0 = 4;
-dfu_device_c_exports_refused_exit:;
-    uint32_t switch_load_4 = load32(PLACE(switch_table_dfu_device_c_refusal_Refusal_number) + 4 * (size_t)r2_0_0);
+dfu_device_c_numbers_refused_exit:;
+    uint32_t switch_load_4 = load32(PLACE(switch_table_dfu_device_c_numbers_Refusal_number) + 4 * (size_t)r2_0_0);
     common_ret_op = switch_load_4;
-dfu_device_c_candidate_dfu_core_candidate_exit:
+dfu_device_c_image_dfu_core_candidate_exit:
     return signed32(common_ret_op);
 }
 
@@ -4697,7 +4697,7 @@ int32_t dfu_core_elapse(const struct dfu_config *config, struct dfu_record *reco
     uint8_t r2 = r5[104];
     if (r2 != 1) goto join_3;
     r2_0_0 = 2;
-    goto dfu_device_c_exports_refused_exit;
+    goto dfu_device_c_numbers_refused_exit;
 join_3:
     dfu_asks_asking_Asking_see(r19_2, r44, r1, r13, a5);
     uint8_t r1_0_0_copyload = *r19_2;
@@ -4802,9 +4802,9 @@ arm_4:;
     goto arm_5;
 arm_2:;
     uint8_t r18_0_0_copyload = r5[1];
-    uint32_t switch_load = load32(PLACE(switch_table_dfu_device_c_refusal_Refusal_number) + 4 * (size_t)r18_0_0_copyload);
+    uint32_t switch_load = load32(PLACE(switch_table_dfu_device_c_numbers_Refusal_number) + 4 * (size_t)r18_0_0_copyload);
     common_ret_op = switch_load;
-    goto dfu_device_c_exports_dfu_core_elapse_exit;
+    goto dfu_device_c_calls_dfu_core_elapse_exit;
 arm_5:
     *r12 = r18_0_0;
     store32(r12 + 4, r18_1547_0);
@@ -4817,14 +4817,14 @@ arm_5:
     uint8_t v10 = *r29;
     dfu_device_c_keeping_keep(r44, a1);
     common_ret_op = (uint32_t)((v10 == 0) ? 0xfffffff5U : 0);
-    goto dfu_device_c_exports_dfu_core_elapse_exit;
+    goto dfu_device_c_calls_dfu_core_elapse_exit;
 arm_6:;
     uint8_t r1_3_1_copyload = r19_2[1];
     r2_0_0 = (uint64_t)(((uint32_t)0x4040302U >> (((uint32_t)r1_3_1_copyload << 3) & 31)) & 7);
-dfu_device_c_exports_refused_exit:;
-    uint32_t switch_load_2 = load32(PLACE(switch_table_dfu_device_c_refusal_Refusal_number) + 4 * (size_t)r2_0_0);
+dfu_device_c_numbers_refused_exit:;
+    uint32_t switch_load_2 = load32(PLACE(switch_table_dfu_device_c_numbers_Refusal_number) + 4 * (size_t)r2_0_0);
     common_ret_op = switch_load_2;
-dfu_device_c_exports_dfu_core_elapse_exit:
+dfu_device_c_calls_dfu_core_elapse_exit:
     return signed32(common_ret_op);
 }
 
@@ -4864,7 +4864,7 @@ int32_t dfu_core_handle(const struct dfu_config *config, struct dfu_record *reco
     r4_2 = load16(a0 + 12);
     if (a10 < (uint64_t)umax16(r4_2, 6)) {
         common_ret_op = 0xfffffffbU;
-        goto dfu_device_c_exports_dfu_core_handle_exit;
+        goto dfu_device_c_calls_dfu_core_handle_exit;
     }
     dfu_device_c_keeping_found(a0, a1, a3, r9);
     uint8_t r66 = *r9;
@@ -4880,13 +4880,13 @@ int32_t dfu_core_handle(const struct dfu_config *config, struct dfu_record *reco
     uint8_t r2 = r9[104];
     if (r2 != 1) goto join_3;
     r2_0_0 = 2;
-    goto dfu_device_c_exports_refused_exit;
+    goto dfu_device_c_numbers_refused_exit;
 join_3:
     r1_2 = r9 + 14;
     uint16_t r21_2_0_copyload = load16(r9 + 20);
     if (a10 >= (uint64_t)umax16(r21_2_0_copyload, 6)) goto join_6;
     r2_0_0 = 4;
-    goto dfu_device_c_exports_refused_exit;
+    goto dfu_device_c_numbers_refused_exit;
 join_6:
     dfu_asks_asking_Asking_see(r27, r68, r1, r13, a5);
     uint8_t r1_0_0_copyload = *r27;
@@ -4955,9 +4955,9 @@ after_2:
     goto arm_8;
 arm_5:;
     uint8_t r27_0_0_copyload = r9[1];
-    uint32_t switch_load = load32(PLACE(switch_table_dfu_device_c_refusal_Refusal_number) + 4 * (size_t)r27_0_0_copyload);
+    uint32_t switch_load = load32(PLACE(switch_table_dfu_device_c_numbers_Refusal_number) + 4 * (size_t)r27_0_0_copyload);
     common_ret_op = switch_load;
-    goto dfu_device_c_exports_dfu_core_handle_exit;
+    goto dfu_device_c_calls_dfu_core_handle_exit;
 arm_12_thread:
     dfu_device_c_keeping_keep(r68, a1);
     goto arm_3;
@@ -4969,29 +4969,29 @@ arm_8:
     dfu_device_c_keeping_keep(r68, a1);
     if (r0_0_0_copyload3_pre == 0) {
         common_ret_op = 0xfffffff5U;
-        goto dfu_device_c_exports_dfu_core_handle_exit;
+        goto dfu_device_c_calls_dfu_core_handle_exit;
     }
     switch (r0_5_1_copyload5_pre) {
     case 0:
         common_ret_op = 0;
-        goto dfu_device_c_exports_dfu_core_handle_exit;
+        goto dfu_device_c_calls_dfu_core_handle_exit;
     case 1: goto arm_2;
     case 2: goto arm_3;
     default: never();
     }
 arm_2:
     common_ret_op = (uint32_t)r0_97_8_copyload8_pre;
-    goto dfu_device_c_exports_dfu_core_handle_exit;
+    goto dfu_device_c_calls_dfu_core_handle_exit;
 arm_3:
     common_ret_op = 0xffffffffU;
-    goto dfu_device_c_exports_dfu_core_handle_exit;
+    goto dfu_device_c_calls_dfu_core_handle_exit;
 arm_9:;
     uint8_t r1_3_1_copyload = r27[1];
     r2_0_0 = (uint64_t)(((uint32_t)0x4040302U >> (((uint32_t)r1_3_1_copyload << 3) & 31)) & 7);
-dfu_device_c_exports_refused_exit:;
-    uint32_t switch_load_2 = load32(PLACE(switch_table_dfu_device_c_refusal_Refusal_number) + 4 * (size_t)r2_0_0);
+dfu_device_c_numbers_refused_exit:;
+    uint32_t switch_load_2 = load32(PLACE(switch_table_dfu_device_c_numbers_Refusal_number) + 4 * (size_t)r2_0_0);
     common_ret_op = switch_load_2;
-dfu_device_c_exports_dfu_core_handle_exit:
+dfu_device_c_calls_dfu_core_handle_exit:
     return signed32(common_ret_op);
 }
 
@@ -5022,14 +5022,14 @@ int32_t dfu_core_next(const struct dfu_config *config, const struct dfu_record *
     if (r32 != 0) goto arm_2;
     if (a5 > 0xffffffffU) {
         common_ret_op = 0xfffffffcU;
-        goto dfu_device_c_writes_dfu_core_next_exit;
+        goto dfu_device_c_calls_dfu_core_next_exit;
     }
     goto join_7;
 arm_2:;
     uint8_t r17_0_0_copyload = r5[1];
-    uint32_t switch_load = load32(PLACE(switch_table_dfu_device_c_refusal_Refusal_number) + 4 * (size_t)r17_0_0_copyload);
+    uint32_t switch_load = load32(PLACE(switch_table_dfu_device_c_numbers_Refusal_number) + 4 * (size_t)r17_0_0_copyload);
     common_ret_op = switch_load;
-    goto dfu_device_c_writes_dfu_core_next_exit;
+    goto dfu_device_c_calls_dfu_core_next_exit;
 join_7:
     r54 = load16(a0 + 12);
     r62 = a6 + 12;
@@ -5085,7 +5085,7 @@ arm_7:
     r7[16] = r5_0_0_copyload;
     memset(r7 + 17, 0, 3);
     store32(r7 + 20, r6_0_0_copyload);
-    dfu_slots_open_check(r16, r7);
+    dfu_slots_places_check(r16, r7);
     uint8_t r65 = *r16;
     if (r65 == 0) goto dfu_asks_next_and_took_is_spare_exit;
 dfu_asks_next_and_took_is_spare_exit_thread:
@@ -5096,10 +5096,10 @@ dfu_asks_next_and_took_is_spare_exit:;
     goto dfu_asks_asking_Asking_next_exit_thread35;
 dfu_asks_asking_Asking_next_exit_thread:
     common_ret_op = 0xfffffffcU;
-    goto dfu_device_c_writes_dfu_core_next_exit;
+    goto dfu_device_c_calls_dfu_core_next_exit;
 dfu_asks_asking_Asking_next_exit_thread35:
     common_ret_op = 0xfffffffcU;
-    goto dfu_device_c_writes_dfu_core_next_exit;
+    goto dfu_device_c_calls_dfu_core_next_exit;
 arm_8:
     dfu_asks_cut_fill(r10, r62);
     uint8_t r25_4_0_0_copyload = *r69;
@@ -5107,7 +5107,7 @@ arm_8:
     store32(a6 + 4, (uint32_t)r11_4_0_copyload);
     store32(a6 + 8, (uint32_t)r11_5_0_copyload);
     common_ret_op = 0;
-dfu_device_c_writes_dfu_core_next_exit:
+dfu_device_c_calls_dfu_core_next_exit:
     return signed32(common_ret_op);
 }
 
@@ -5138,7 +5138,7 @@ int32_t dfu_core_took(const struct dfu_config *config, struct dfu_record *record
     memset(r7, 0, 136);
     if (a8 < 6) {
         common_ret_op = 0xfffffffbU;
-        goto dfu_device_c_writes_dfu_core_took_exit;
+        goto dfu_device_c_calls_dfu_core_took_exit;
     }
     dfu_device_c_keeping_found(a0, a1, a3, r7);
     uint8_t r56 = *r7;
@@ -5199,9 +5199,9 @@ int32_t dfu_core_took(const struct dfu_config *config, struct dfu_record *record
     goto arm_12;
 arm_5:;
     uint8_t r22_0_0_copyload = r7[1];
-    uint32_t switch_load_2 = load32(PLACE(switch_table_dfu_device_c_refusal_Refusal_number) + 4 * (size_t)r22_0_0_copyload);
+    uint32_t switch_load_2 = load32(PLACE(switch_table_dfu_device_c_numbers_Refusal_number) + 4 * (size_t)r22_0_0_copyload);
     common_ret_op = switch_load_2;
-    goto dfu_device_c_writes_dfu_core_took_exit;
+    goto dfu_device_c_calls_dfu_core_took_exit;
 arm_8:
     store32(r62, 1);
     store32(r65, (uint32_t)r9_0_0_copyload);
@@ -5219,26 +5219,26 @@ arm_8:
     }
     dfu_device_c_keeping_keep(r58, a1);
     common_ret_op = 0xfffffff5U;
-    goto dfu_device_c_writes_dfu_core_took_exit;
+    goto dfu_device_c_calls_dfu_core_took_exit;
 arm_12:
     dfu_device_c_keeping_keep(r58, a1);
     switch (r27_15_0_ph26) {
     case 0:
         common_ret_op = 0;
-        goto dfu_device_c_writes_dfu_core_took_exit;
+        goto dfu_device_c_calls_dfu_core_took_exit;
     case 1: goto arm_2;
     case 2: goto arm_3;
     default: never();
     }
 arm_2:
     common_ret_op = (uint32_t)r27_2015_0_ph27;
-    goto dfu_device_c_writes_dfu_core_took_exit;
+    goto dfu_device_c_calls_dfu_core_took_exit;
 arm_3:
     common_ret_op = 0xffffffffU;
-    goto dfu_device_c_writes_dfu_core_took_exit;
+    goto dfu_device_c_calls_dfu_core_took_exit;
 arm_9:
     common_ret_op = 0xfffffffcU;
-dfu_device_c_writes_dfu_core_took_exit:
+dfu_device_c_calls_dfu_core_took_exit:
     return signed32(common_ret_op);
 }
 
@@ -5267,7 +5267,7 @@ int32_t dfu_core_usb_reset(const struct dfu_config *config, struct dfu_record *r
     uint8_t r2 = r5[104];
     if (r2 != 1) goto join_3;
     r2_0_0 = 2;
-    goto dfu_device_c_exports_refused_exit;
+    goto dfu_device_c_numbers_refused_exit;
 join_3:
     dfu_asks_asking_Asking_see(r14, r38, (uint64_t)r53, r13, a5);
     uint8_t r1_0_0_copyload = *r14;
@@ -5275,9 +5275,9 @@ join_3:
     goto arm_6;
 arm_2:;
     uint8_t r18_0_0_copyload = r5[1];
-    uint32_t switch_load = load32(PLACE(switch_table_dfu_device_c_refusal_Refusal_number) + 4 * (size_t)r18_0_0_copyload);
+    uint32_t switch_load = load32(PLACE(switch_table_dfu_device_c_numbers_Refusal_number) + 4 * (size_t)r18_0_0_copyload);
     common_ret_op = switch_load;
-    goto dfu_device_c_exports_dfu_core_usb_reset_exit;
+    goto dfu_device_c_calls_dfu_core_usb_reset_exit;
 arm_5:;
     unsigned char *r42 = r5 + 44;
     uint8_t v4 = *r42;
@@ -5288,13 +5288,13 @@ arm_5:;
     store32(r5 + 56, 0);
     dfu_device_c_keeping_keep(r38, a1);
     common_ret_op = 0;
-    goto dfu_device_c_exports_dfu_core_usb_reset_exit;
+    goto dfu_device_c_calls_dfu_core_usb_reset_exit;
 arm_6:;
     uint8_t r1_3_1_copyload = r14[1];
     r2_0_0 = (uint64_t)(((uint32_t)0x4040302U >> (((uint32_t)r1_3_1_copyload << 3) & 31)) & 7);
-dfu_device_c_exports_refused_exit:;
-    uint32_t switch_load_2 = load32(PLACE(switch_table_dfu_device_c_refusal_Refusal_number) + 4 * (size_t)r2_0_0);
+dfu_device_c_numbers_refused_exit:;
+    uint32_t switch_load_2 = load32(PLACE(switch_table_dfu_device_c_numbers_Refusal_number) + 4 * (size_t)r2_0_0);
     common_ret_op = switch_load_2;
-dfu_device_c_exports_dfu_core_usb_reset_exit:
+dfu_device_c_calls_dfu_core_usb_reset_exit:
     return signed32(common_ret_op);
 }

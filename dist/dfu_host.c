@@ -208,6 +208,9 @@ static _Alignas(8) const uint64_t switch_table_dfu_host_name[11] = {
 static _Alignas(8) const uint64_t switch_table_dfu_host_name_1[11] = {
     9, 0x15, 0x1d, 0x25, 0x2d, 0x3c, 0x45, 0x55, 0x5f, 0x68, 0x72
 };
+static _Alignas(4) const uint32_t switch_table_dfuse_take[7] = {
+    1, 0, 0, 0, 1, 0, 0
+};
 
 static uint8_t dfu_host_c_watching_is_download(unsigned char *a0);
 static uint8_t dfu_host_c_watching_is_other(unsigned char *a0, unsigned char *a1);
@@ -232,10 +235,10 @@ static void dfu_host_asking_send(unsigned char *a0, unsigned char *a1, unsigned 
 static void dfu_wire_requests_Request_setup(unsigned char *a0, unsigned char *a1);
 static void dfu_wire_setups_Setup_encode(unsigned char *a0, unsigned char *a1);
 static void dfu_wire_bytes_two_bytes(unsigned char *a0, uint16_t a1);
-static void dfu_host_c_beginning_read_both(unsigned char *a0, unsigned char *a1, uint64_t a2, unsigned char *a3, uint64_t a4);
 static void dfu_wire_functionals_Functional_decode(unsigned char *a0, unsigned char *a1, uint64_t a2);
-static void dfu_host_refusing_payload_for(unsigned char *a0, unsigned char *a1, unsigned char *a2, unsigned char *a3);
 static void dfu_host_c_beginning_start(unsigned char *a0, unsigned char *a1);
+static uint32_t dfu_host_c_beginning_install(unsigned char *a0, unsigned char *a1, uint64_t a2, unsigned char *a3, uint64_t a4, unsigned char *a5, uint32_t a6, uint16_t a7, uint8_t a8);
+static void dfu_host_refusing_goal_to_install(unsigned char *a0, unsigned char *a1, unsigned char *a2, unsigned char *a3, uint8_t a4);
 static void dfu_host_session_Session_on_result(unsigned char *a0, unsigned char *a1, uint8_t a2);
 static void dfu_wire_statuses_Status_decode(unsigned char *a0, unsigned char *a1, uint64_t a2);
 static uint8_t core_slice_scan_any_in_ends(unsigned char *a0, uint64_t a1, uint64_t a2);
@@ -283,6 +286,7 @@ static uint8_t dfuse_host_plan_Plan_comparing(unsigned char *a0, uint64_t a1, ui
 static void dfuse_host_plan_Plan_to_write_front(unsigned char *a0, unsigned char *a1, uint8_t a2, uint64_t a3, uint64_t a4);
 static void dfuse_host_plan_Plan_to_compare_front(unsigned char *a0, unsigned char *a1, uint8_t a2, uint64_t a3, uint64_t a4);
 static void dfuse_host_plan_Plan_unsure_of(unsigned char *a0, unsigned char *a1, unsigned char *a2, uint8_t a3, uint64_t a4);
+static void dfuse_host_plan_Plan_on_turn(unsigned char *a0, unsigned char *a1, unsigned char *a2, uint8_t a3, uint64_t a4, uint8_t a5, uint64_t a6, uint8_t a7, unsigned char *a9);
 static void dfuse_host_session_Session_spent(unsigned char *a0, unsigned char *a1, unsigned char *a2, uint16_t a3);
 
 /* dfu_host_c::watching::is_download */
@@ -2188,22 +2192,22 @@ join_10:
 
 /* dfu_wire::setups::Setup::encode */
 static void dfu_wire_setups_Setup_encode(unsigned char *a0, unsigned char *a1) {
-    _Alignas(4) unsigned char r12[2];
-    _Alignas(4) unsigned char r18[2];
-    _Alignas(4) unsigned char r24[2];
-    uint8_t r30 = *a1;
-    uint8_t r32 = a1[1];
-    uint16_t r34 = load16(a1 + 2);
-    uint16_t r36 = load16(a1 + 4);
-    uint16_t r38 = load16(a1 + 6);
-    dfu_wire_bytes_two_bytes(r12, r34);
-    uint16_t v0 = load16(r12);
-    dfu_wire_bytes_two_bytes(r18, r36);
-    uint16_t v1 = load16(r18);
-    dfu_wire_bytes_two_bytes(r24, r38);
-    uint16_t v2 = load16(r24);
-    *a0 = r30;
-    a0[1] = r32;
+    _Alignas(4) unsigned char r7[2];
+    _Alignas(4) unsigned char r14[2];
+    _Alignas(4) unsigned char r20[2];
+    uint16_t r29 = load16(a1 + 2);
+    dfu_wire_bytes_two_bytes(r7, r29);
+    uint16_t v0 = load16(r7);
+    uint16_t r40 = load16(a1 + 4);
+    dfu_wire_bytes_two_bytes(r14, r40);
+    uint16_t v1 = load16(r14);
+    uint16_t r51 = load16(a1 + 6);
+    dfu_wire_bytes_two_bytes(r20, r51);
+    uint16_t v2 = load16(r20);
+    uint8_t r61 = *a1;
+    uint8_t r63 = a1[1];
+    *a0 = r61;
+    a0[1] = r63;
     a0[2] = (uint8_t)v0;
     a0[3] = (uint8_t)(uint16_t)(v0 >> 8);
     a0[4] = (uint8_t)v1;
@@ -2222,50 +2226,6 @@ static void dfu_wire_bytes_two_bytes(unsigned char *a0, uint16_t a1) {
     core_slice_edits_slice_T_copy_from_slice_i8_core_clone_U8Clone(r1, r5, 2);
     uint16_t v0 = load16(r1);
     store16(a0, v0);
-    return;
-}
-
-/* dfu_host_c::beginning::read_both */
-static void dfu_host_c_beginning_read_both(unsigned char *a0, unsigned char *a1, uint64_t a2, unsigned char *a3, uint64_t a4) {
-    _Alignas(8) unsigned char r10[40];
-    _Alignas(8) unsigned char r15_6_0_0[32];
-    _Alignas(4) unsigned char r14[12];
-    uint8_t r42;
-    uint64_t r15_6_0_3_0, r15_6_3_0;
-    uint32_t r15_4_0;
-    memset(r15_6_0_0, 0, 32);
-    dfu_host_c_file_file_in(r10, a1, a2);
-    uint8_t r23 = *r10;
-    if (r23 != 0) goto arm_2;
-    dfu_wire_functionals_Functional_decode(r14, a3, a4);
-    r42 = *r14;
-    if (r42 == 0) goto arm_5;
-    goto arm_6;
-arm_2:;
-    uint8_t r7_0_0_copyload = r10[1];
-    store32(a0, 1);
-    store32(a0 + 4, (uint32_t)r7_0_0_copyload ^ 0xffffffffU);
-    memset(a0 + 8, 0, 48);
-    return;
-arm_5:
-    memcpy(r15_6_0_0, r10 + 8, 32);
-    uint64_t v2 = load64a2(r14 + 2);
-    uint16_t r17_3_32_copyload = load16(r14 + 10);
-    r15_6_0_3_0 = v2;
-    r15_6_3_0 = (uint64_t)r17_3_32_copyload;
-    r15_4_0 = 0;
-    goto join_7;
-arm_6:;
-    uint8_t r9_0_0_copyload = r14[1];
-    r15_6_0_3_0 = 0;
-    r15_6_3_0 = 0;
-    r15_4_0 = (uint32_t)0xffffffe1U - (uint32_t)r9_0_0_copyload;
-join_7:
-    store32(a0, (uint32_t)r42);
-    store32(a0 + 4, r15_4_0);
-    memcpy(a0 + 8, r15_6_0_0, 32);
-    store64(a0 + 40, r15_6_0_3_0);
-    store64(a0 + 48, r15_6_3_0);
     return;
 }
 
@@ -2337,57 +2297,234 @@ join_24:;
     return;
 }
 
-/* dfu_host::refusing::payload_for */
-static void dfu_host_refusing_payload_for(unsigned char *a0, unsigned char *a1, unsigned char *a2, unsigned char *a3) {
-    uint16_t r1_2_0_copyload;
-    uint64_t r0_0_0_copyload, r0_3_0_copyload, r4_7_3_0, r4_7_1_0;
-    uint8_t r4_0_0, r4_4_0;
-    r1_2_0_copyload = load16(a3 + 2);
-    r0_0_0_copyload = load64(a1);
-    r0_3_0_copyload = load64(a1 + 8);
-    if (r0_3_0_copyload == 0) {
-        r4_7_3_0 = 0;
-        r4_7_1_0 = 0;
-        r4_0_0 = 1;
-        r4_4_0 = 0;
-        goto join_3;
-    }
-    uint16_t r1_3_0_copyload = load16(a3 + 4);
-    uint16_t r7_3_0_copyload = load16(a1 + 20);
-    if (!((r7_3_0_copyload == 0xffffU) | (r7_3_0_copyload == r1_3_0_copyload))) {
-        r4_7_3_0 = 0;
-        r4_7_1_0 = 0;
-        r4_0_0 = 1;
-        r4_4_0 = 1;
-        goto join_3;
-    }
-    uint16_t r7_2_0_copyload = load16(a1 + 18);
-    if (!((r7_2_0_copyload == 0xffffU) | (r7_2_0_copyload == r1_2_0_copyload))) {
-        r4_7_3_0 = 0;
-        r4_7_1_0 = 0;
-        r4_0_0 = 1;
-        r4_4_0 = 1;
-        goto join_3;
-    }
-    uint8_t r36 = *a2;
-    uint8_t r37 = r36 & 1;
-    r4_7_3_0 = (uint64_t)(r37 ? r0_3_0_copyload : 0);
-    r4_7_1_0 = (uint64_t)(r37 ? r0_0_0_copyload : 0);
-    r4_0_0 = !r37;
-    r4_4_0 = (uint8_t)(r37 ? 0 : 2);
-join_3:
-    *a0 = r4_0_0;
-    a0[1] = r4_4_0;
-    store64(a0 + 8, r4_7_1_0);
-    store64(a0 + 16, r4_7_3_0);
-    return;
-}
-
 /* dfu_host_c::beginning::start */
 static void dfu_host_c_beginning_start(unsigned char *a0, unsigned char *a1) {
     _Alignas(8) unsigned char r1[48];
     dfu_host_c_holding_record_of(r1, a1, 0);
     memcpy(a0, r1, 48);
+    return;
+}
+
+/* dfu_host_c::beginning::install */
+static uint32_t dfu_host_c_beginning_install(unsigned char *a0, unsigned char *a1, uint64_t a2, unsigned char *a3, uint64_t a4, unsigned char *a5, uint32_t a6, uint16_t a7, uint8_t a8) {
+    _Alignas(8) unsigned char r11[64];
+    _Alignas(8) unsigned char r8[48];
+    _Alignas(8) unsigned char r10[40];
+    unsigned char *const r8_3 = r10;
+    unsigned char *const r8_2 = r10;
+    _Alignas(2) unsigned char r5_26[26];
+    _Alignas(8) unsigned char r5_14[16];
+    _Alignas(4) unsigned char r14[12];
+    _Alignas(2) unsigned char r5[6];
+    unsigned char *r14_0_3_0_r8_sroa_idx;
+    uint16_t v4, v10, sink39, sink36, sink, sink39_2, sink36_2, sink_2, r5_18_0, r5_24_0, r5_32_0;
+    uint8_t v6, v8, r5_0_1, r5_6_1, sink38, sink37, r5_0_2, r5_6_2, sink38_2, sink37_2, r5_0_0, r5_6_0;
+    uint8_t r5_20_0, r5_22_0;
+    uint64_t sink40, sink40_2, r5_1136_0;
+    uint32_t sink35, sink35_2, r5_30_0, common_ret_op;
+    memcpy(r5, a5, 6);
+    dfu_host_c_file_file_in(r10, a1, a2);
+    uint8_t r23 = *r10;
+    if (r23 != 0) goto dfu_host_c_beginning_read_both_exit_thread;
+    dfu_wire_functionals_Functional_decode(r14, a3, a4);
+    uint8_t r42 = *r14;
+    if (r42 == 0) goto arm_1;
+    goto dfu_host_c_beginning_read_both_exit;
+dfu_host_c_beginning_read_both_exit_thread:;
+    uint8_t r7_0_0_copyload = r10[1];
+    common_ret_op = (uint32_t)r7_0_0_copyload ^ 0xffffffffU;
+    goto common_ret;
+dfu_host_c_beginning_read_both_exit:;
+    uint8_t r9_0_0_copyload = r14[1];
+    common_ret_op = (uint32_t)0xffffffe1U - (uint32_t)r9_0_0_copyload;
+    goto common_ret;
+arm_1:;
+    uint64_t v2 = load64a2(r14 + 2);
+    uint16_t r17_5_32_copyload = load16(r14 + 10);
+    memcpy(r8, r10 + 8, 32);
+    r14_0_3_0_r8_sroa_idx = r8 + 32;
+    store64(r14_0_3_0_r8_sroa_idx, v2);
+    store64(r8 + 40, (uint64_t)r17_5_32_copyload);
+    v4 = (uint16_t)(v2 >> 48);
+    v6 = (uint8_t)(v2 >> 16);
+    v8 = (uint8_t)(v2 >> 24);
+    v10 = (uint16_t)(v2 >> 32);
+    if (!a8) goto else_2;
+    dfu_host_refusing_goal_to_install(r8_2, r8, r14_0_3_0_r8_sroa_idx, r5, 1);
+    uint8_t r1_0_0_copyload = *r8_2;
+    if (r1_0_0_copyload != 0) goto arm_2;
+    uint8_t r6 = r8_2[8];
+    memcpy(r5_14, r8_2 + 16, 16);
+    memset(r5_26, 0, 26);
+    r5_0_1 = 0;
+    r5_6_1 = 0;
+    sink40 = (uint64_t)r6;
+    sink39 = v4;
+    sink38 = v6;
+    sink37 = v8;
+    sink36 = v10;
+    sink35 = umax32(a6, 1);
+    sink = a7;
+    goto dfu_host_session_Session_download_verified_exit;
+arm_2:;
+    uint8_t r1_3_1_copyload = r8_2[1];
+    memset(r5_26, 0, 26);
+    r5_0_1 = 1;
+    r5_6_1 = r1_3_1_copyload;
+    sink40 = 0;
+    sink39 = 0;
+    sink38 = 0;
+    sink37 = 0;
+    sink36 = 0;
+    sink35 = 0;
+    sink = 0;
+dfu_host_session_Session_download_verified_exit:
+    r5_0_0 = r5_0_1;
+    r5_6_0 = r5_6_1;
+    r5_1136_0 = sink40;
+    r5_18_0 = sink39;
+    r5_20_0 = sink38;
+    r5_22_0 = sink37;
+    r5_24_0 = sink36;
+    r5_30_0 = sink35;
+    r5_32_0 = sink;
+    goto dfu_host_c_beginning_Wanted_begin_exit;
+else_2:
+    dfu_host_refusing_goal_to_install(r8_3, r8, r14_0_3_0_r8_sroa_idx, r5, 0);
+    uint8_t r1_0_0_copyload_2 = *r8_3;
+    if (r1_0_0_copyload_2 != 0) goto arm_2_2;
+    uint8_t r6_2 = r8_3[8];
+    memcpy(r5_14, r8_3 + 16, 16);
+    memset(r5_26, 0, 26);
+    r5_0_2 = 0;
+    r5_6_2 = 0;
+    sink40_2 = (uint64_t)r6_2;
+    sink39_2 = v4;
+    sink38_2 = v6;
+    sink37_2 = v8;
+    sink36_2 = v10;
+    sink35_2 = umax32(a6, 1);
+    sink_2 = a7;
+    goto dfu_host_session_Session_download_exit;
+arm_2_2:;
+    uint8_t r1_3_1_copyload_2 = r8_3[1];
+    memset(r5_26, 0, 26);
+    r5_0_2 = 1;
+    r5_6_2 = r1_3_1_copyload_2;
+    sink40_2 = 0;
+    sink39_2 = 0;
+    sink38_2 = 0;
+    sink37_2 = 0;
+    sink36_2 = 0;
+    sink35_2 = 0;
+    sink_2 = 0;
+dfu_host_session_Session_download_exit:
+    r5_0_0 = r5_0_2;
+    r5_6_0 = r5_6_2;
+    r5_1136_0 = sink40_2;
+    r5_18_0 = sink39_2;
+    r5_20_0 = sink38_2;
+    r5_22_0 = sink37_2;
+    r5_24_0 = sink36_2;
+    r5_30_0 = sink35_2;
+    r5_32_0 = sink_2;
+dfu_host_c_beginning_Wanted_begin_exit:
+    if (r5_0_0 == 0) goto arm_5;
+    goto arm_6;
+common_ret:
+    return common_ret_op;
+arm_5:
+    store64(r11, r5_1136_0);
+    memcpy(r11 + 8, r5_14, 16);
+    store16(r11 + 24, r5_18_0);
+    r11[26] = r5_20_0;
+    r11[27] = r5_22_0;
+    store16(r11 + 28, r5_24_0);
+    memcpy(r11 + 30, r5_26, 26);
+    store32(r11 + 56, r5_30_0);
+    store16(r11 + 60, r5_32_0);
+    store16(r11 + 62, 0);
+    dfu_host_c_beginning_start(a0, r11);
+    common_ret_op = 0;
+    goto common_ret;
+arm_6:
+    common_ret_op = (uint32_t)0xffffffebU - (uint32_t)r5_6_0;
+    goto common_ret;
+}
+
+/* dfu_host::refusing::goal_to_install */
+static void dfu_host_refusing_goal_to_install(unsigned char *a0, unsigned char *a1, unsigned char *a2, unsigned char *a3, uint8_t a4) {
+    uint16_t r1_2_0_copyload;
+    uint64_t r0_0_0_copyload, r0_3_0_copyload;
+    uint8_t r8_4_0, r3_4_0;
+    unsigned char *r76, *r78;
+    r1_2_0_copyload = load16(a3 + 2);
+    r0_0_0_copyload = load64(a1);
+    r0_3_0_copyload = load64(a1 + 8);
+    if (r0_3_0_copyload == 0) {
+        r8_4_0 = 0;
+        goto arm_2;
+    }
+    uint16_t r1_3_0_copyload = load16(a3 + 4);
+    uint16_t r7_3_0_copyload = load16(a1 + 20);
+    if (!((r7_3_0_copyload == 0xffffU) | (r7_3_0_copyload == r1_3_0_copyload))) {
+        r8_4_0 = 1;
+        goto arm_2;
+    }
+    uint16_t r7_2_0_copyload = load16(a1 + 18);
+    if (!((r7_2_0_copyload == 0xffffU) | (r7_2_0_copyload == r1_2_0_copyload))) {
+        r8_4_0 = 1;
+        goto arm_2;
+    }
+    uint8_t r36 = *a2;
+    if (!(r36 & 1)) {
+        r8_4_0 = 2;
+        goto arm_2;
+    }
+    if (a4) goto then_5;
+    goto join_7;
+arm_2:
+    *a0 = 1;
+    a0[1] = r8_4_0;
+    memset(a0 + 8, 0, 24);
+    return;
+then_5:;
+    uint8_t r10 = a2[1];
+    if (!(r10 & 1)) {
+        r3_4_0 = 3;
+        goto arm_9;
+    }
+    uint16_t r21 = load16(a2 + 6);
+    if (r21 == 0) {
+        r3_4_0 = 4;
+        goto arm_9;
+    }
+    *a0 = 0;
+    a0[1] = 0;
+    store64(a0 + 8, 2);
+    store64(a0 + 16, r0_0_0_copyload);
+    store64(a0 + 24, r0_3_0_copyload);
+    return;
+arm_9:
+    *a0 = 1;
+    a0[1] = r3_4_0;
+    memset(a0 + 8, 0, 24);
+    return;
+join_7:;
+    uint16_t r69 = load16(a2 + 6);
+    r76 = a0 + 1;
+    r78 = a0 + 8;
+    if (r69 != 0) goto join_13;
+    *a0 = 1;
+    *r76 = 4;
+    memset(r78, 0, 24);
+    return;
+join_13:
+    *a0 = 0;
+    *r76 = 0;
+    store64(r78, 0);
+    store64(a0 + 16, r0_0_0_copyload);
+    store64(a0 + 24, r0_3_0_copyload);
     return;
 }
 
@@ -2398,35 +2535,39 @@ static void dfu_host_session_Session_on_result(unsigned char *a0, unsigned char 
     unsigned char *const r5 = r17_2;
     unsigned char *const r4 = r17_2;
     _Alignas(8) unsigned char r1_3[32];
-    unsigned char *const r1_4 = r1_3;
+    unsigned char *const r24 = r1_3;
     _Alignas(8) unsigned char r1_2[32];
     _Alignas(8) unsigned char r7_2[32];
-    _Alignas(8) unsigned char r23[24];
-    unsigned char *const r2 = r23;
-    _Alignas(8) unsigned char r24[24];
     _Alignas(8) unsigned char r25[24];
+    unsigned char *const r2 = r25;
     _Alignas(8) unsigned char r26[24];
     _Alignas(8) unsigned char r27_2[24];
     _Alignas(8) unsigned char r28[24];
+    _Alignas(8) unsigned char r29[24];
+    _Alignas(8) unsigned char r30[24];
+    _Alignas(8) unsigned char r31[24];
+    _Alignas(8) unsigned char r32[24];
+    _Alignas(8) unsigned char r33[24];
+    _Alignas(8) unsigned char r34[24];
     _Alignas(8) unsigned char r10_2[24];
     _Alignas(8) unsigned char r12_2[16];
-    _Alignas(4) unsigned char r29_4[2];
-    _Alignas(4) unsigned char r30_4[2];
-    _Alignas(4) unsigned char r31_4[2];
-    _Alignas(4) unsigned char r34_4[2];
     _Alignas(4) unsigned char r35_4[2];
     _Alignas(4) unsigned char r36_4[2];
-    _Alignas(4) unsigned char r38_4[2];
-    _Alignas(4) unsigned char r39_4[2];
+    _Alignas(4) unsigned char r37_4[2];
     _Alignas(4) unsigned char r40_4[2];
-    uint64_t r0_3_0_0_copyload, r0_3_3_0_copyload, r18_14_0, r1_6_0_copyload, r1_8_0_copyload, r33_10_0, r39_17_0_in_speculated, r6_10_0, r15, r19;
+    _Alignas(4) unsigned char r41_4[2];
+    _Alignas(4) unsigned char r42_4[2];
+    _Alignas(4) unsigned char r44_4[2];
+    _Alignas(4) unsigned char r45_4[2];
+    _Alignas(4) unsigned char r46_4[2];
+    uint64_t r0_3_0_0_copyload, r0_3_3_0_copyload, r18_14_0, r1_6_0_copyload, r1_8_0_copyload, r39_10_0, r39_17_0_in_speculated, r6_10_0, r15, r19;
     unsigned char *r12, *r21, *r14, *r39_9_0_in, *r39_9_0_in_2, *r39_9_0_in_3;
-    uint16_t v0, r1_4_0_copyload, r1_9_0_copyload, v8, r33_6_0_0, r26_2, r40, r8_6_0;
+    uint16_t v0, r1_4_0_copyload, r1_9_0_copyload, v8, r39_6_0_0, r26_2, r40, r8_6_0;
     uint8_t common_ret_op, v10, or_cond;
-    uint8_t r18_0_0, r18_10_0, r10, r13_2, r1_3_0_copyload, v12, r39_0_0_in_speculated, r6_0_0, r33_4_0, r33_0_0, r39_0_0_in_speculated_2, r6_0_0_2;
+    uint8_t r18_0_0, r18_10_0, r10, r13_2, r1_3_0_copyload, r1_17_0_0_extract_trunc, r39_0_0_in_speculated, r6_0_0, r39_4_0, r39_0_0, r39_0_0_in_speculated_2, r6_0_0_2;
     uint8_t r39_0_0_in_speculated_3, r6_0_0_3, r7_0_0, r7_5_0, r7_8_0_0, r7_8_4_0_0, r6_4_0, r6_7_0_0, r6_7_4_0_0, r6_0_0_4, r8_0_0, r8_4_0;
     uint8_t r8_7_0_0, r8_0_0_2, r8_4_0_2;
-    uint32_t r18_121_0, r1_5_0_copyload, r1_7_0_copyload, r33_8_0, r33_12_0;
+    uint32_t r18_121_0, r1_5_0_copyload, r1_7_0_copyload, r39_8_0, r39_12_0;
     uint8_t r1 = *a1;
     r0_3_0_0_copyload = load64(a1 + 8);
     r0_3_3_0_copyload = load64(a1 + 16);
@@ -2761,35 +2902,32 @@ arm_7_2:
     v8 = load16(r1_2 + 30);
     v10 = r18_0_0 == 9;
     or_cond = v10 & (r10 == 20);
-    unsigned char *v11 = r1_4 + 16;
-    store64(v11, 0);
-    *r1_4 = r10;
-    r1_4[1] = r1_3_0_copyload;
-    store16(r1_4 + 2, r1_4_0_copyload);
-    store32(r1_4 + 4, r1_5_0_copyload);
-    store64(r1_4 + 8, r1_6_0_copyload);
-    store32(v11, r1_7_0_copyload);
+    r1_17_0_0_extract_trunc = (uint8_t)r1_4_0_copyload;
     store64(r12_2, 0);
     *r12_2 = r18_0_0;
     r12_2[1] = r18_10_0;
     store32(r12_2 + 4, r18_121_0);
     store64(r12_2 + 8, r18_14_0);
-    memset(r23, 0, 24);
     memset(r24, 0, 24);
     memset(r25, 0, 24);
     memset(r26, 0, 24);
     memset(r27_2, 0, 24);
     memset(r28, 0, 24);
-    store16(r29_4, 0);
-    store16(r30_4, 0);
-    store16(r31_4, 0);
-    store16(r34_4, 0);
+    memset(r29, 0, 24);
+    memset(r30, 0, 24);
+    memset(r31, 0, 24);
+    memset(r32, 0, 24);
+    memset(r33, 0, 24);
+    memset(r34, 0, 24);
     store16(r35_4, 0);
     store16(r36_4, 0);
-    store16(r38_4, 0);
-    store16(r39_4, 0);
+    store16(r37_4, 0);
     store16(r40_4, 0);
-    v12 = (uint8_t)r1_4_0_copyload;
+    store16(r41_4, 0);
+    store16(r42_4, 0);
+    store16(r44_4, 0);
+    store16(r45_4, 0);
+    store16(r46_4, 0);
     switch (r10) {
     case 0: goto arm_1_2;
     case 1: goto arm_2_3;
@@ -2798,8 +2936,8 @@ arm_7_2:
     case 17: goto arm_5_3;
     case 2: goto arm_6_3;
     case 3: goto arm_7_3;
-    case 4: goto dfu_host_task_Task_row_exit;
-    case 5: goto dfu_host_task_Task_row_exit;
+    case 4: goto arm_8_2;
+    case 5: goto arm_8_2;
     case 6: goto arm_9;
     case 7: goto arm_10;
     case 8: goto arm_11;
@@ -2817,30 +2955,36 @@ arm_7_2:
     default: never();
     }
 arm_1_2:
-    *r24 = 1;
-    dfu_host_task_Task_on_status(r23, a0, r1_4, r12_2, r24);
+    *r25 = 0;
+    *r26 = 1;
+    dfu_host_task_Task_on_status(r24, a0, r25, r12_2, r26);
     goto dfu_host_task_Task_row_exit;
 arm_2_3:
-    *r25 = 7;
-    dfu_host_task_Task_on_status(r23, a0, r1_4, r12_2, r25);
+    *r27_2 = 1;
+    *r28 = 7;
+    dfu_host_task_Task_on_status(r24, a0, r27_2, r12_2, r28);
     goto dfu_host_task_Task_row_exit;
 arm_3_3:
-    *r26 = 17;
-    dfu_host_task_Task_on_status(r23, a0, r1_4, r12_2, r26);
+    *r29 = 10;
+    store64(r29 + 8, r1_6_0_copyload);
+    *r30 = 17;
+    dfu_host_task_Task_on_status(r24, a0, r29, r12_2, r30);
     goto dfu_host_task_Task_row_exit;
 arm_4_3:
-    *r27_2 = 17;
-    dfu_host_task_Task_on_status(r23, a0, r1_4, r12_2, r27_2);
+    *r31 = 14;
+    *r32 = 17;
+    dfu_host_task_Task_on_status(r24, a0, r31, r12_2, r32);
     goto dfu_host_task_Task_row_exit;
 arm_5_3:
-    *r28 = 1;
-    dfu_host_task_Task_on_status(r23, a0, r1_4, r12_2, r28);
+    *r33 = 17;
+    *r34 = 1;
+    dfu_host_task_Task_on_status(r24, a0, r33, r12_2, r34);
     goto dfu_host_task_Task_row_exit;
 arm_6_3:
     switch (r18_0_0) {
     case 0:
         r39_0_0_in_speculated = 3;
-        r39_9_0_in = r29_4;
+        r39_9_0_in = r35_4;
         goto dfu_host_row_on_ack_exit;
     case 6: goto arm_2_4;
     case 1: goto arm_3_4;
@@ -2855,17 +2999,18 @@ arm_6_3:
     }
 arm_2_4:
     r39_0_0_in_speculated = 0;
-    r39_9_0_in = r30_4;
+    r39_9_0_in = r36_4;
     goto dfu_host_row_on_ack_exit;
 arm_3_4:
     r39_0_0_in_speculated = 0;
-    r39_9_0_in = r31_4;
+    r39_9_0_in = r37_4;
     goto dfu_host_row_on_ack_exit;
 dfu_host_row_on_ack_exit:;
     uint16_t r39_9_0 = load16(r39_9_0_in);
-    *r23 = r39_0_0_in_speculated;
-    store16(r23 + 2, r39_9_0);
-    memset(r23 + 4, 0, 16);
+    *r24 = r39_0_0_in_speculated;
+    r24[1] = 0;
+    store16(r24 + 2, r39_9_0);
+    memset(r24 + 4, 0, 16);
     goto dfu_host_task_Task_row_exit;
 arm_7_3:
     switch (r18_0_0) {
@@ -2898,47 +3043,50 @@ after_2:
     r6_0_0 = 3;
     goto dfu_host_task_Task_after_enter_exit;
 dfu_host_task_Task_after_enter_exit:
-    *r23 = r6_0_0;
-    memset(r23 + 1, 0, 19);
+    *r24 = r6_0_0;
+    memset(r24 + 1, 0, 19);
+    goto dfu_host_task_Task_row_exit;
+arm_8_2:
+    *r24 = 0;
     goto dfu_host_task_Task_row_exit;
 arm_9:;
-    uint8_t v13 = r18_0_0 == 8;
-    *r23 = (uint8_t)(v13 ? 0 : 6);
-    r23[1] = (uint8_t)(v13 ? 0 : r1_3_0_copyload);
-    store16(r23 + 2, (uint16_t)(v13 ? 0 : r1_4_0_copyload));
-    store32(r23 + 4, (uint32_t)(v13 ? 0 : r1_5_0_copyload));
-    store64(r23 + 8, (uint64_t)(v13 ? 0 : r1_6_0_copyload));
-    store32(r23 + 16, (uint32_t)(v13 ? 0 : r1_7_0_copyload));
+    uint8_t v11 = r18_0_0 == 8;
+    *r24 = (uint8_t)(v11 ? 0 : 6);
+    r24[1] = (uint8_t)(v11 ? 0 : r1_3_0_copyload);
+    store16(r24 + 2, (uint16_t)(v11 ? 0 : r1_4_0_copyload));
+    store32(r24 + 4, (uint32_t)(v11 ? 0 : r1_5_0_copyload));
+    store64(r24 + 8, (uint64_t)(v11 ? 0 : r1_6_0_copyload));
+    store32(r24 + 16, (uint32_t)(v11 ? 0 : r1_7_0_copyload));
     goto dfu_host_task_Task_row_exit;
 arm_10:
     if (v10) {
-        r33_6_0_0 = 0;
-        r33_4_0 = 0;
-        r33_8_0 = 0;
-        r33_10_0 = 0;
-        r33_12_0 = 0;
-        r33_0_0 = 0;
+        r39_6_0_0 = 0;
+        r39_4_0 = 0;
+        r39_8_0 = 0;
+        r39_10_0 = 0;
+        r39_12_0 = 0;
+        r39_0_0 = 0;
         goto join_28;
     }
-    r33_6_0_0 = r1_4_0_copyload;
-    r33_4_0 = r1_3_0_copyload;
-    r33_8_0 = r1_5_0_copyload;
-    r33_10_0 = r1_6_0_copyload;
-    r33_12_0 = r1_7_0_copyload;
-    r33_0_0 = 7;
+    r39_6_0_0 = r1_4_0_copyload;
+    r39_4_0 = r1_3_0_copyload;
+    r39_8_0 = r1_5_0_copyload;
+    r39_10_0 = r1_6_0_copyload;
+    r39_12_0 = r1_7_0_copyload;
+    r39_0_0 = 7;
 join_28:
-    *r23 = r33_0_0;
-    r23[1] = r33_4_0;
-    store16(r23 + 2, r33_6_0_0);
-    store32(r23 + 4, r33_8_0);
-    store64(r23 + 8, r33_10_0);
-    store32(r23 + 16, r33_12_0);
+    *r24 = r39_0_0;
+    r24[1] = r39_4_0;
+    store16(r24 + 2, r39_6_0_0);
+    store32(r24 + 4, r39_8_0);
+    store64(r24 + 8, r39_10_0);
+    store32(r24 + 16, r39_12_0);
     goto dfu_host_task_Task_row_exit;
 arm_11:
     switch (r18_0_0) {
     case 0:
         r39_0_0_in_speculated_2 = 10;
-        r39_9_0_in_2 = r34_4;
+        r39_9_0_in_2 = r40_4;
         r39_17_0_in_speculated = r1_6_0_copyload;
         goto dfu_host_row_on_ack_exit48;
     case 6: goto arm_2_5;
@@ -2954,19 +3102,22 @@ arm_11:
     }
 arm_2_5:
     r39_0_0_in_speculated_2 = 17;
-    r39_9_0_in_2 = r35_4;
+    r39_9_0_in_2 = r41_4;
     r39_17_0_in_speculated = 0;
     goto dfu_host_row_on_ack_exit48;
 arm_3_6:
     r39_0_0_in_speculated_2 = 9;
-    r39_9_0_in_2 = r36_4;
+    r39_9_0_in_2 = r42_4;
     r39_17_0_in_speculated = r1_6_0_copyload;
     goto dfu_host_row_on_ack_exit48;
 dfu_host_row_on_ack_exit48:;
     uint16_t r39_9_0_2 = load16(r39_9_0_in_2);
-    *r23 = r39_0_0_in_speculated_2;
-    store16(r23 + 2, r39_9_0_2);
-    store64(r23 + 8, r39_17_0_in_speculated);
+    *r24 = r39_0_0_in_speculated_2;
+    r24[1] = 0;
+    store16(r24 + 2, r39_9_0_2);
+    store32(r24 + 4, 0);
+    store64(r24 + 8, r39_17_0_in_speculated);
+    store32(r24 + 16, 0);
     goto dfu_host_task_Task_row_exit;
 arm_12:
     switch (r18_0_0) {
@@ -3042,23 +3193,27 @@ after_2_2:
     r6_10_0 = 0;
     goto dfu_host_task_Task_after_ask_exit;
 dfu_host_task_Task_after_ask_exit:
-    *r23 = r6_0_0_2;
-    store64(r23 + 8, r6_10_0);
+    *r24 = r6_0_0_2;
+    r24[1] = 0;
+    store16(r24 + 2, 0);
+    store32(r24 + 4, 0);
+    store64(r24 + 8, r6_10_0);
+    store32(r24 + 16, 0);
     goto dfu_host_task_Task_row_exit;
 arm_13:;
-    uint8_t v14 = r18_0_0 == 8;
-    *r23 = (uint8_t)(v14 ? 10 : 11);
-    r23[1] = (uint8_t)(v14 ? 0 : r1_3_0_copyload);
-    store16(r23 + 2, (uint16_t)(v14 ? 0 : r1_4_0_copyload));
-    store32(r23 + 4, (uint32_t)(v14 ? 0 : r1_5_0_copyload));
-    store64(r23 + 8, r1_6_0_copyload);
-    store32(r23 + 16, (uint32_t)(v14 ? 0 : r1_7_0_copyload));
+    uint8_t v12 = r18_0_0 == 8;
+    *r24 = (uint8_t)(v12 ? 10 : 11);
+    r24[1] = (uint8_t)(v12 ? 0 : r1_3_0_copyload);
+    store16(r24 + 2, (uint16_t)(v12 ? 0 : r1_4_0_copyload));
+    store32(r24 + 4, (uint32_t)(v12 ? 0 : r1_5_0_copyload));
+    store64(r24 + 8, r1_6_0_copyload);
+    store32(r24 + 16, (uint32_t)(v12 ? 0 : r1_7_0_copyload));
     goto dfu_host_task_Task_row_exit;
 arm_14:
     switch (r18_0_0) {
     case 0:
         r39_0_0_in_speculated_3 = 14;
-        r39_9_0_in_3 = r38_4;
+        r39_9_0_in_3 = r44_4;
         goto dfu_host_row_on_ack_exit112;
     case 6: goto arm_2_6;
     case 1: goto arm_3_8;
@@ -3073,17 +3228,18 @@ arm_14:
     }
 arm_2_6:
     r39_0_0_in_speculated_3 = 17;
-    r39_9_0_in_3 = r39_4;
+    r39_9_0_in_3 = r45_4;
     goto dfu_host_row_on_ack_exit112;
 arm_3_8:
     r39_0_0_in_speculated_3 = 13;
-    r39_9_0_in_3 = r40_4;
+    r39_9_0_in_3 = r46_4;
     goto dfu_host_row_on_ack_exit112;
 dfu_host_row_on_ack_exit112:;
     uint16_t r39_9_0_3 = load16(r39_9_0_in_3);
-    *r23 = r39_0_0_in_speculated_3;
-    store16(r23 + 2, r39_9_0_3);
-    memset(r23 + 4, 0, 16);
+    *r24 = r39_0_0_in_speculated_3;
+    r24[1] = 0;
+    store16(r24 + 2, r39_9_0_3);
+    memset(r24 + 4, 0, 16);
     goto dfu_host_task_Task_row_exit;
 arm_15:
     switch (r18_0_0) {
@@ -3122,26 +3278,26 @@ switch_lookup:;
     uint8_t switch_load = *(PLACE(switch_table_dfu_host_session_Session_on_result) + (size_t)r18_10_0);
     r6_0_0_3 = switch_load;
 dfu_host_task_Task_after_ask_last_exit:
-    *r23 = r6_0_0_3;
-    memset(r23 + 1, 0, 19);
+    *r24 = r6_0_0_3;
+    memset(r24 + 1, 0, 19);
     goto dfu_host_task_Task_row_exit;
 arm_16:;
-    uint8_t v16 = r18_0_0 == 8;
-    *r23 = (uint8_t)(v16 ? 14 : 15);
-    r23[1] = (uint8_t)(v16 ? 0 : r1_3_0_copyload);
-    store16(r23 + 2, (uint16_t)(v16 ? 0 : r1_4_0_copyload));
-    store32(r23 + 4, (uint32_t)(v16 ? 0 : r1_5_0_copyload));
-    store64(r23 + 8, (uint64_t)(v16 ? 0 : r1_6_0_copyload));
-    store32(r23 + 16, (uint32_t)(v16 ? 0 : r1_7_0_copyload));
+    uint8_t v14 = r18_0_0 == 8;
+    *r24 = (uint8_t)(v14 ? 14 : 15);
+    r24[1] = (uint8_t)(v14 ? 0 : r1_3_0_copyload);
+    store16(r24 + 2, (uint16_t)(v14 ? 0 : r1_4_0_copyload));
+    store32(r24 + 4, (uint32_t)(v14 ? 0 : r1_5_0_copyload));
+    store64(r24 + 8, (uint64_t)(v14 ? 0 : r1_6_0_copyload));
+    store32(r24 + 16, (uint32_t)(v14 ? 0 : r1_7_0_copyload));
     goto dfu_host_task_Task_row_exit;
 arm_17:;
-    uint8_t v17 = r18_0_0 == 8;
-    *r23 = (uint8_t)(v17 ? 20 : 16);
-    r23[1] = (uint8_t)(v17 ? 1 : r1_3_0_copyload);
-    store16(r23 + 2, (uint16_t)(v17 ? 0 : r1_4_0_copyload));
-    store32(r23 + 4, (uint32_t)(v17 ? 0 : r1_5_0_copyload));
-    store64(r23 + 8, (uint64_t)(v17 ? 0 : r1_6_0_copyload));
-    store32(r23 + 16, (uint32_t)(v17 ? 0 : r1_7_0_copyload));
+    uint8_t v15 = r18_0_0 == 8;
+    *r24 = (uint8_t)(v15 ? 20 : 16);
+    r24[1] = (uint8_t)(v15 ? 1 : r1_3_0_copyload);
+    store16(r24 + 2, (uint16_t)(v15 ? 0 : r1_4_0_copyload));
+    store32(r24 + 4, (uint32_t)(v15 ? 0 : r1_5_0_copyload));
+    store64(r24 + 8, (uint64_t)(v15 ? 0 : r1_6_0_copyload));
+    store32(r24 + 16, (uint32_t)(v15 ? 0 : r1_7_0_copyload));
     goto dfu_host_task_Task_row_exit;
 arm_18:
     switch (r18_0_0) {
@@ -3199,10 +3355,10 @@ arm_3_9:
     r7_8_4_0_0 = 0;
     goto dfu_host_task_Task_after_fetch_exit;
 dfu_host_task_Task_after_fetch_exit:
-    *r23 = r7_0_0;
-    r23[1] = r7_5_0;
-    store16(r23 + 2, (uint16_t)((uint32_t)r7_8_4_0_0 << 8) | r7_8_0_0);
-    memset(r23 + 4, 0, 16);
+    *r24 = r7_0_0;
+    r24[1] = r7_5_0;
+    store16(r24 + 2, (uint16_t)((uint32_t)r7_8_4_0_0 << 8) | r7_8_0_0);
+    memset(r24 + 4, 0, 16);
     goto dfu_host_task_Task_row_exit;
 arm_19:
     if (r18_0_0 != 4) {
@@ -3250,50 +3406,51 @@ join_6:
     r8_4_0 = r6_4_0;
     r8_6_0 = (uint16_t)((uint32_t)r6_7_4_0_0 << 8) | r6_7_0_0;
 dfu_host_task_Task_after_compare_exit:
-    *r23 = r8_0_0;
-    r23[1] = r8_4_0;
-    store16(r23 + 2, r8_6_0);
-    memset(r23 + 4, 0, 16);
+    *r24 = r8_0_0;
+    r24[1] = r8_4_0;
+    store16(r24 + 2, r8_6_0);
+    memset(r24 + 4, 0, 16);
     goto dfu_host_task_Task_row_exit;
 arm_20:
     if (!v10) {
-        r8_7_0_0 = v12;
+        r8_7_0_0 = r1_17_0_0_extract_trunc;
         r8_0_0_2 = 20;
         r8_4_0_2 = r1_3_0_copyload;
         goto dfu_host_task_Task_after_last_exit_2;
     }
     uint8_t r13_4 = *a0;
-    uint8_t v19 = r13_4 == 2;
-    r8_7_0_0 = (uint8_t)(v19 ? 0 : v12);
-    r8_0_0_2 = (uint8_t)(v19 ? 0 : 23);
-    r8_4_0_2 = (uint8_t)(v19 ? 0 : r1_3_0_copyload);
+    uint8_t v17 = r13_4 == 2;
+    r8_7_0_0 = (uint8_t)(v17 ? 0 : r1_17_0_0_extract_trunc);
+    r8_0_0_2 = (uint8_t)(v17 ? 0 : 23);
+    r8_4_0_2 = (uint8_t)(v17 ? 0 : r1_3_0_copyload);
 dfu_host_task_Task_after_last_exit_2:
-    *r23 = r8_0_0_2;
-    r23[1] = r8_4_0_2;
-    r23[2] = r8_7_0_0;
-    memset(r23 + 3, 0, 17);
+    *r24 = r8_0_0_2;
+    r24[1] = r8_4_0_2;
+    r24[2] = r8_7_0_0;
+    memset(r24 + 3, 0, 17);
     goto dfu_host_task_Task_row_exit;
 arm_21:
-    *r23 = (uint8_t)(v10 ? 24 : 21);
-    memset(r23 + 1, 0, 19);
+    *r24 = (uint8_t)(v10 ? 24 : 21);
+    memset(r24 + 1, 0, 19);
     goto dfu_host_task_Task_row_exit;
 arm_22:
-    *r23 = 23;
-    r23[1] = 2;
+    *r24 = 23;
+    r24[1] = 2;
+    r24[2] = 0;
     goto dfu_host_task_Task_row_exit;
 dfu_host_task_Task_row_exit:;
-    uint8_t v20 = *r23;
-    uint8_t v21 = r23[1];
-    uint16_t v22 = load16(r23 + 2);
-    uint32_t v23 = load32(r23 + 4);
-    uint64_t v24 = load64(r23 + 8);
-    uint32_t v25 = load32(r23 + 16);
-    *r10_2 = v20;
-    r10_2[1] = v21;
-    store16(r10_2 + 2, v22);
-    store32(r10_2 + 4, v23);
-    store64(r10_2 + 8, v24);
-    store32(r10_2 + 16, v25);
+    uint8_t v18 = *r24;
+    uint8_t v19 = r24[1];
+    uint16_t v20 = load16(r24 + 2);
+    uint32_t v21 = load32(r24 + 4);
+    uint64_t v22 = load64(r24 + 8);
+    uint32_t v23 = load32(r24 + 16);
+    *r10_2 = v18;
+    r10_2[1] = v19;
+    store16(r10_2 + 2, v20);
+    store32(r10_2 + 4, v21);
+    store64(r10_2 + 8, v22);
+    store32(r10_2 + 16, v23);
     if (!or_cond) goto dfu_host_progress_Progress_by_row_exit;
     uint8_t r10_3 = *a0;
     if (r10_3 != 2) goto dfu_host_progress_Progress_by_row_exit;
@@ -5808,6 +5965,68 @@ static void dfuse_host_plan_Plan_unsure_of(unsigned char *a0, unsigned char *a1,
     return;
 }
 
+/* dfuse_host::plan::Plan::on_turn */
+static void dfuse_host_plan_Plan_on_turn(unsigned char *a0, unsigned char *a1, unsigned char *a2, uint8_t a3, uint64_t a4, uint8_t a5, uint64_t a6, uint8_t a7, unsigned char *a9) {
+    _Alignas(8) unsigned char r17[56];
+    _Alignas(8) unsigned char r1[24];
+    uint64_t r3, v0, v1;
+    uint8_t v2, v3, v4;
+    uint8_t r2 = *a2;
+    r3 = (uint64_t)r2;
+    store64(r1, r3);
+    v0 = load64(a2 + 8);
+    store64(r1 + 8, v0);
+    v1 = load64(a2 + 16);
+    store64(r1 + 16, v1);
+    memset(r17, 0, 56);
+    uint8_t r18 = *a9;
+    switch (r18) {
+    case 0: goto arm_1;
+    case 4: goto arm_2;
+    case 1: goto arm_3;
+    case 2: goto arm_3;
+    case 3: goto arm_3;
+    case 5: goto arm_3;
+    case 6: goto arm_3;
+    case 7: goto arm_3;
+    default: never();
+    }
+arm_1:
+    dfuse_host_plan_Plan_settle(r17, a1, r1, a5, a6);
+    uint8_t pre = *r17;
+    uint8_t pre6 = r17[1];
+    uint8_t pre7 = r17[2];
+    v2 = pre7;
+    v3 = pre6;
+    v4 = pre;
+    goto join_5;
+arm_2:
+    store64(r17 + 8, r3);
+    store64(r17 + 16, v0);
+    store64(r17 + 24, v1);
+    memset(r17 + 32, 0, 24);
+    v2 = 0;
+    v3 = 0;
+    v4 = 0;
+    goto join_5;
+arm_3:
+    store64(r17 + 8, r3);
+    store64(r17 + 16, v0);
+    store64(r17 + 24, v1);
+    store64(r17 + 32, (uint64_t)a3);
+    store64(r17 + 40, a4);
+    store32(r17 + 48, (uint32_t)a7);
+    v2 = 0;
+    v3 = 0;
+    v4 = 0;
+join_5:
+    *a0 = v4;
+    a0[1] = v3;
+    a0[2] = v2;
+    memcpy(a0 + 8, r17 + 8, 48);
+    return;
+}
+
 /* dfuse_host::session::Session::spent */
 static void dfuse_host_session_Session_spent(unsigned char *a0, unsigned char *a1, unsigned char *a2, uint16_t a3) {
     _Alignas(8) unsigned char r9_21[16];
@@ -6586,73 +6805,6 @@ dfu_host_c_dfuse_file_dfuse_read_file_exit:
     return signed32(r6_0);
 }
 
-/* dfu_host_download */
-int32_t dfu_host_download(struct dfu_session *session, const uint8_t *file, size_t length, const uint8_t *descriptor, size_t size, const struct dfu_ids *device, uint32_t actions, uint16_t restarts) {
-    unsigned char *a0 = (unsigned char *)(uintptr_t)session;
-    unsigned char *a1 = (unsigned char *)(uintptr_t)file;
-    uint64_t a2 = length;
-    unsigned char *a3 = (unsigned char *)(uintptr_t)descriptor;
-    uint64_t a4 = size;
-    unsigned char *a5 = (unsigned char *)(uintptr_t)device;
-    uint32_t a6 = actions;
-    uint16_t a7 = restarts;
-    _Alignas(8) unsigned char r10[64];
-    _Alignas(8) unsigned char r13[56];
-    _Alignas(8) unsigned char r6_2[24];
-    _Alignas(4) unsigned char r1[6];
-    uint8_t r7_3_0_copyload, r7_4_0_copyload;
-    uint16_t r7_5_0_copyload, r7_6_0_copyload;
-    uint32_t r8_5_0, common_ret_op;
-    dfu_host_c_beginning_read_both(r13, (unsigned char *)((uintptr_t)a1 + (uintptr_t)(uint64_t)((a1 == NULL) ? 4096 : 0)), a2, (unsigned char *)((uintptr_t)a3 + (uintptr_t)(uint64_t)((a3 == NULL) ? 4096 : 0)), a4);
-    uint8_t r30 = *r13;
-    if (r30 != 0) goto arm_2;
-    r7_3_0_copyload = r13[42];
-    r7_4_0_copyload = r13[43];
-    r7_5_0_copyload = load16(r13 + 44);
-    r7_6_0_copyload = load16(r13 + 46);
-    uint16_t r4 = load16(a5);
-    uint16_t r6 = load16(a5 + 2);
-    uint16_t r8 = load16(a5 + 4);
-    store16(r1, r4);
-    store16(r1 + 2, r6);
-    store16(r1 + 4, r8);
-    memset(r6_2, 0, 24);
-    dfu_host_refusing_payload_for(r6_2, r13 + 8, r13 + 40, r1);
-    uint8_t r1_0_0_copyload = *r6_2;
-    if (r1_0_0_copyload != 0) goto arm_2_2;
-    if (r7_6_0_copyload == 0) {
-        r8_5_0 = 0xffffffe7U;
-        goto arm_6;
-    }
-    goto arm_5;
-arm_2_2:;
-    uint8_t r1_3_1_copyload = r6_2[1];
-    r8_5_0 = (uint32_t)0xffffffebU - (uint32_t)r1_3_1_copyload;
-    goto arm_6;
-arm_2:;
-    uint32_t r33 = load32(r13 + 4);
-    common_ret_op = r33;
-    goto dfu_host_c_beginning_dfu_host_download_exit;
-arm_5:
-    memcpy(r10 + 8, r6_2 + 8, 16);
-    store64(r10, 0);
-    store16(r10 + 24, r7_6_0_copyload);
-    r10[26] = r7_3_0_copyload;
-    r10[27] = r7_4_0_copyload;
-    store16(r10 + 28, r7_5_0_copyload);
-    memset(r10 + 30, 0, 26);
-    store32(r10 + 56, umax32(a6, 1));
-    store16(r10 + 60, a7);
-    store16(r10 + 62, 0);
-    dfu_host_c_beginning_start(a0, r10);
-    common_ret_op = 0;
-    goto dfu_host_c_beginning_dfu_host_download_exit;
-arm_6:
-    common_ret_op = r8_5_0;
-dfu_host_c_beginning_dfu_host_download_exit:
-    return signed32(common_ret_op);
-}
-
 /* dfu_host_upload */
 int32_t dfu_host_upload(struct dfu_session *session, const uint8_t *descriptor, size_t size, uint32_t actions, uint16_t restarts) {
     unsigned char *a0 = (unsigned char *)(uintptr_t)session;
@@ -6703,6 +6855,27 @@ dfu_host_c_beginning_dfu_host_upload_exit:
     return signed32(common_ret_op);
 }
 
+/* dfu_host_download */
+int32_t dfu_host_download(struct dfu_session *session, const uint8_t *file, size_t length, const uint8_t *descriptor, size_t size, const struct dfu_ids *device, uint32_t actions, uint16_t restarts) {
+    unsigned char *a0 = (unsigned char *)(uintptr_t)session;
+    unsigned char *a1 = (unsigned char *)(uintptr_t)file;
+    uint64_t a2 = length;
+    unsigned char *a3 = (unsigned char *)(uintptr_t)descriptor;
+    uint64_t a4 = size;
+    unsigned char *a5 = (unsigned char *)(uintptr_t)device;
+    uint32_t a6 = actions;
+    uint16_t a7 = restarts;
+    _Alignas(4) unsigned char r7[6];
+    uint16_t r4 = load16(a5);
+    uint16_t r6 = load16(a5 + 2);
+    uint16_t r8 = load16(a5 + 4);
+    store16(r7, r4);
+    store16(r7 + 2, r6);
+    store16(r7 + 4, r8);
+    uint32_t r19 = dfu_host_c_beginning_install(a0, (unsigned char *)((uintptr_t)a1 + (uintptr_t)(uint64_t)((a1 == NULL) ? 4096 : 0)), a2, (unsigned char *)((uintptr_t)a3 + (uintptr_t)(uint64_t)((a3 == NULL) ? 4096 : 0)), a4, r7, a6, a7, 0);
+    return signed32(r19);
+}
+
 /* dfu_host_verified */
 int32_t dfu_host_verified(struct dfu_session *session, const uint8_t *file, size_t length, const uint8_t *descriptor, size_t size, const struct dfu_ids *device, uint32_t actions, uint16_t restarts) {
     unsigned char *a0 = (unsigned char *)(uintptr_t)session;
@@ -6713,68 +6886,15 @@ int32_t dfu_host_verified(struct dfu_session *session, const uint8_t *file, size
     unsigned char *a5 = (unsigned char *)(uintptr_t)device;
     uint32_t a6 = actions;
     uint16_t a7 = restarts;
-    _Alignas(8) unsigned char r10[64];
-    _Alignas(8) unsigned char r13[56];
-    _Alignas(8) unsigned char r7[24];
-    _Alignas(4) unsigned char r1[6];
-    uint8_t r7_3_0_copyload, r7_4_0_copyload, r7_5_0_copyload;
-    uint16_t r7_6_0_copyload, r7_7_0_copyload;
-    unsigned char *r5;
-    uint32_t r8_5_0, common_ret_op;
-    dfu_host_c_beginning_read_both(r13, (unsigned char *)((uintptr_t)a1 + (uintptr_t)(uint64_t)((a1 == NULL) ? 4096 : 0)), a2, (unsigned char *)((uintptr_t)a3 + (uintptr_t)(uint64_t)((a3 == NULL) ? 4096 : 0)), a4);
-    uint8_t r30 = *r13;
-    if (r30 != 0) goto arm_2;
-    r7_3_0_copyload = r13[41];
-    r7_4_0_copyload = r13[42];
-    r7_5_0_copyload = r13[43];
-    r7_6_0_copyload = load16(r13 + 44);
-    r7_7_0_copyload = load16(r13 + 46);
+    _Alignas(4) unsigned char r7[6];
     uint16_t r4 = load16(a5);
     uint16_t r6 = load16(a5 + 2);
     uint16_t r8 = load16(a5 + 4);
-    store16(r1, r4);
-    store16(r1 + 2, r6);
-    store16(r1 + 4, r8);
-    memset(r7, 0, 24);
-    dfu_host_refusing_payload_for(r7, r13 + 8, r13 + 40, r1);
-    uint8_t r1_0_0_copyload = *r7;
-    if (r1_0_0_copyload != 0) goto arm_2_2;
-    r5 = r7 + 8;
-    if (!(r7_3_0_copyload & 1)) {
-        r8_5_0 = 0xffffffe8U;
-        goto arm_6;
-    }
-    if (r7_7_0_copyload == 0) {
-        r8_5_0 = 0xffffffe7U;
-        goto arm_6;
-    }
-    goto arm_5;
-arm_2_2:;
-    uint8_t r1_3_1_copyload = r7[1];
-    r8_5_0 = (uint32_t)0xffffffebU - (uint32_t)r1_3_1_copyload;
-    goto arm_6;
-arm_2:;
-    uint32_t r33 = load32(r13 + 4);
-    common_ret_op = r33;
-    goto dfu_host_c_beginning_dfu_host_verified_exit;
-arm_5:
-    memcpy(r10 + 8, r5, 16);
-    store64(r10, 2);
-    store16(r10 + 24, r7_7_0_copyload);
-    r10[26] = r7_4_0_copyload;
-    r10[27] = r7_5_0_copyload;
-    store16(r10 + 28, r7_6_0_copyload);
-    memset(r10 + 30, 0, 26);
-    store32(r10 + 56, umax32(a6, 1));
-    store16(r10 + 60, a7);
-    store16(r10 + 62, 0);
-    dfu_host_c_beginning_start(a0, r10);
-    common_ret_op = 0;
-    goto dfu_host_c_beginning_dfu_host_verified_exit;
-arm_6:
-    common_ret_op = r8_5_0;
-dfu_host_c_beginning_dfu_host_verified_exit:
-    return signed32(common_ret_op);
+    store16(r7, r4);
+    store16(r7 + 2, r6);
+    store16(r7 + 4, r8);
+    uint32_t r19 = dfu_host_c_beginning_install(a0, (unsigned char *)((uintptr_t)a1 + (uintptr_t)(uint64_t)((a1 == NULL) ? 4096 : 0)), a2, (unsigned char *)((uintptr_t)a3 + (uintptr_t)(uint64_t)((a3 == NULL) ? 4096 : 0)), a4, r7, a6, a7, 1);
+    return signed32(r19);
 }
 
 /* dfu_host_take */
@@ -6822,8 +6942,8 @@ int32_t dfu_host_take(struct dfu_session *session, const uint8_t *payload, size_
     case 2: goto arm_3;
     case 3: goto arm_4;
     case 4: goto arm_5;
-    case 5: goto arm_6;
-    case 6: goto arm_7;
+    case 6: goto arm_6;
+    case 5: goto arm_7;
     case 7: goto arm_8_2;
     default:
         common_ret_op = 0xffffffd6U;
@@ -6857,13 +6977,13 @@ arm_6:
     r3_20_0_0 = 0;
     r3_20_10_0 = 0;
     v1 = 0;
-    r3_11_0_0 = 5;
+    r3_11_0_0 = 6;
     goto arm_8;
 arm_7:
     r3_20_0_0 = 0;
     r3_20_10_0 = 0;
     v1 = 0;
-    r3_11_0_0 = 6;
+    r3_11_0_0 = 5;
     goto arm_8;
 arm_8_2:
     r3_20_0_0 = 0;
@@ -7581,11 +7701,11 @@ dfuse_host_session_Session_begin_exit:
     memcpy(r16_10, r8_6_6, 5);
     if (v1) goto arm_5;
     common_ret_op = r8_4_0_neg;
-    goto dfu_host_c_dfuse_beginning_dfuse_begin_exit;
+    goto dfu_host_c_dfuse_steps_dfuse_begin_exit;
 arm_2:;
     uint8_t r7_0_0_copyload = r11[1];
     common_ret_op = (uint32_t)0xffffffcdU - (uint32_t)r7_0_0_copyload;
-    goto dfu_host_c_dfuse_beginning_dfuse_begin_exit;
+    goto dfu_host_c_dfuse_steps_dfuse_begin_exit;
 arm_5:
     memcpy(r9, r16_5_8_r52_sroa_idx, 40);
     r9[40] = 0;
@@ -7602,7 +7722,7 @@ arm_5:
     dfu_host_c_dfuse_holding_record_of(r20, r9);
     memcpy(a0, r20, 64);
     common_ret_op = 0;
-dfu_host_c_dfuse_beginning_dfuse_begin_exit:
+dfu_host_c_dfuse_steps_dfuse_begin_exit:
     return signed32(common_ret_op);
 }
 
@@ -7622,52 +7742,59 @@ int32_t dfuse_take(struct dfuse_session *session, const uint8_t *map, size_t map
     _Alignas(8) unsigned char r3[104];
     unsigned char *const r5 = r3;
     unsigned char *const r4 = r3;
+    unsigned char *const r5_6 = r3;
     _Alignas(8) unsigned char r4_2[104];
-    unsigned char *const r11_5 = r4_2;
+    unsigned char *const r11_3 = r4_2;
     unsigned char *const r12_5 = r4_2;
     unsigned char *const r10_4 = r4_2;
     unsigned char *const r10_3 = r4_2;
     unsigned char *const r12_3 = r4_2;
-    unsigned char *const r9_3 = r4_2;
+    unsigned char *const r9_4 = r4_2;
     unsigned char *const r1 = r4_2;
-    _Alignas(8) unsigned char r9_2[104];
-    unsigned char *const r11_4 = r9_2;
-    unsigned char *const r14_2 = r9_2;
-    unsigned char *const r1_10 = r9_2;
-    unsigned char *const r1_7 = r9_2;
-    unsigned char *const r1_4 = r9_2;
-    unsigned char *const r1_2 = r9_2;
+    _Alignas(8) unsigned char r9_3[104];
+    unsigned char *const r14_2 = r9_3;
+    unsigned char *const r12_2 = r9_3;
+    unsigned char *const r1_9 = r9_3;
+    unsigned char *const r1_8 = r9_3;
+    unsigned char *const r1_3 = r9_3;
+    unsigned char *const r5_5 = r9_3;
     _Alignas(8) unsigned char r5_2[104];
-    unsigned char *const r11_3 = r5_2;
     unsigned char *const r12_4 = r5_2;
+    unsigned char *const r13_2 = r5_2;
+    unsigned char *const r1_5 = r5_2;
+    unsigned char *const r13_10 = r5_2;
     _Alignas(8) unsigned char r10_2[104];
     _Alignas(8) unsigned char r12[104];
     _Alignas(8) unsigned char r11_2[104];
     _Alignas(8) unsigned char r8[104];
     _Alignas(8) unsigned char r17[64];
-    _Alignas(8) unsigned char r12_2[56];
-    unsigned char *const r7_2 = r12_2;
-    unsigned char *const r1_6 = r12_2;
+    _Alignas(8) unsigned char r17_2[56];
+    unsigned char *const r7_2 = r17_2;
     _Alignas(8) unsigned char r13[56];
     _Alignas(8) unsigned char r2_2[48];
-    unsigned char *const r13_2 = r2_2;
-    unsigned char *const r1_5 = r2_2;
+    unsigned char *const r1_7 = r2_2;
+    unsigned char *const r1_4 = r2_2;
     _Alignas(8) unsigned char r2[48];
-    unsigned char *const r1_9 = r2;
-    _Alignas(8) unsigned char r1_8[24];
-    _Alignas(8) unsigned char r1_3[24];
-    unsigned char *r22, *r31, *v3, *v4, *v5, *r23, *r23_2;
-    uint64_t r3_16_0_0, r3_16_8_0, r5_6_0_copyload, r5_8_0_copyload, r5_13_0_copyload, r18, r9_21_6_0_copyload, r9_21_0_0_copyload, r9_19_8_copyload20, r9_17_8_copyload19, r9_1317_8_copyload18, r33;
-    uint64_t r17_98_8_copyload272, r17_87_8_copyload266, r17_76_8_copyload262, r17_65_8_copyload258, r17_49252_8_copyload254, r17_98_8_copyload273, r17_87_8_copyload267, r17_76_8_copyload263, r17_65_8_copyload259, r17_49252_8_copyload255, r14_3, r11_5_0;
-    uint64_t r11_9_0, r17_98_8_copyload274, r17_87_8_copyload268, r17_76_8_copyload264, r17_65_8_copyload260, r17_49252_8_copyload256, r12_26_0, r12_13_0, r12_15_0, r12_19_0, r17_49252_0, r17_65_0;
-    uint64_t r17_76_0, r17_87_0, r17_98_0;
-    uint8_t r3_9_0_0, r5_0_0_copyload, r5_10_0_copyload, r5_14_0_copyload, r5_5_3_0, r5_5_7_0, r5_0_0, r13_10_3_0, r13_10_9_0, r13_0_0, r13_6_0, r17_10_3_0;
-    uint8_t r17_10_7_0, r17_0_0, r17_8_0, v10, v11, v12, v16, v17, v18, v19, v20, v21;
-    uint8_t v30, v31, v32, v33, v34, v35, v36, v37, v38, v41, v42, v43;
-    uint8_t v45, v46, v47, v48, v49, v50, r12_23_0_in, r12_0_0, r12_108_0_in, r12_17_0_in, r17_0_0_2, r17_17_0;
-    uint8_t r17_33_0;
-    uint32_t r5_18_0_copyload, r5_5_6_0, r13_10_8_0, r17_10_6_0, r9_25_8_copyload22, r9_23_8_copyload21, r17_114_8_copyload282, r17_104_8_copyload278, r17_114_8_copyload283, r17_104_8_copyload279, r17_114_8_copyload284, r17_104_8_copyload280;
-    uint32_t r12_29_0, r12_21_0, r17_104_0, r17_114_0, common_ret_op;
+    unsigned char *const r1_6 = r2;
+    unsigned char *const r9_23 = r2;
+    _Alignas(8) unsigned char r1_2[24];
+    _Alignas(8) unsigned char r9_21[16];
+    _Alignas(4) unsigned char r9_2[16];
+    _Alignas(2) unsigned char r17_10[14];
+    _Alignas(4) unsigned char r5_4[7];
+    _Alignas(4) unsigned char r5_11[7];
+    _Alignas(4) unsigned char r5_16[3];
+    unsigned char *r22, *r31, *r23, *r23_2, *r22_4;
+    uint64_t r3_16_0_0, r3_16_8_0, r5_6_0_copyload, r5_8_0_copyload, r5_13_0_copyload, r18, r9_19_8_copyload20, r9_17_8_copyload19, r9_1317_8_copyload18, r9_1317_0, r9_17_0, r9_19_0;
+    uint64_t r9_1926_0, r9_24_0, r9_28_0, r9_1317_0_2, r9_17_0_2, r9_20_0, r33, r12_1327_0, r12_17_0, r12_19_0, r12_21_0, r12_23_0;
+    uint64_t r14_3, r11_5_0, r11_9_0, r12_26_0, r12_13_0, r12_15_0, r12_19_0_2;
+    uint8_t r3_9_0_0, r5_0_0_copyload, r5_10_0_copyload, r5_14_0_copyload, r5_0_0, r5_4_0, r5_0_0_2, r10_0_0, r10_4_0, r13_0_0, r13_6_0, r17_0_0;
+    uint8_t r17_8_0, v11, v12, v13, r9_0_0, r9_5_0, r9_9_0, r0_0_0_copyload_2, r9_0_0_2, r9_7_0, r9_13_0, r9_0_0_3;
+    uint8_t r9_5_0_2, r9_9_0_2, v17, v18, v19, v20, v21, v22, v31, v32, v33, r0_0_0_copyload_4;
+    uint8_t v34, v35, v36, v37, v38, v39, r12_0_0, r12_5_0, r12_9_0, v43, v44, v45;
+    uint8_t r12_23_0_in, r12_0_0_2, r12_108_0_in, r12_17_0_in;
+    uint32_t r5_18_0_copyload, r9_25_8_copyload22, r9_23_8_copyload21, r9_23_0, r9_25_0, r9_36_0, r9_39_0, r9_26_0, r9_29_0, r12_25_0, r12_27_0, r12_29_0;
+    uint32_t r12_21_0_2, common_ret_op;
     uint8_t common_ret_op_2;
     uint16_t r8_3_0_copyload, r8_5_0_copyload;
     r22 = (unsigned char *)((uintptr_t)a6 + (uintptr_t)(uint64_t)((a6 == NULL) ? 4096 : 0));
@@ -7731,21 +7858,19 @@ arm_8:
     uint8_t r14 = r8[40];
     if (r14 != 0) goto dfuse_host_session_Session_take_exit;
     r5_0_0_copyload = r8[48];
-    v3 = r11 + 57;
+    memcpy(r5_4, r11 + 57, 7);
     r5_6_0_copyload = load64(r8 + 56);
     r5_8_0_copyload = load64(r8 + 64);
     r5_10_0_copyload = r8[72];
-    v4 = r11 + 81;
+    memcpy(r5_11, r11 + 81, 7);
     r5_13_0_copyload = load64(r8 + 80);
     r5_14_0_copyload = r8[88];
-    v5 = r11 + 97;
+    memcpy(r5_16, r11 + 97, 3);
     r5_18_0_copyload = load32(r8 + 92);
     r18 = (uint64_t)r5_0_0_copyload;
+    memset(r17_10, 0, 14);
     switch (r3_9_0_0) {
     case 0:
-        r17_10_3_0 = r3_9_0_0;
-        r17_10_6_0 = 0;
-        r17_10_7_0 = r3_9_0_0;
         r17_0_0 = r3_9_0_0;
         r17_8_0 = r3_9_0_0;
         goto dfuse_host_plan_Plan_hear_exit;
@@ -7761,6 +7886,7 @@ arm_2_2:
     store64(r1, r18);
     store64(r1 + 8, r5_6_0_copyload);
     store64(r1 + 16, r5_8_0_copyload);
+    memset(r13_10, 0, 14);
     switch (r5_14_0_copyload) {
     case 1: goto arm_1;
     case 6: goto arm_1;
@@ -7770,115 +7896,79 @@ arm_2_2:
     case 14: goto arm_2_3;
     case 11: goto arm_3_3;
     case 0:
-        r13_10_3_0 = 0;
-        r13_10_8_0 = 0;
-        r13_10_9_0 = 0;
         r13_0_0 = 5;
         r13_6_0 = 0;
         goto dfuse_host_plan_Plan_answered_exit;
     case 3:
-        r13_10_3_0 = 0;
-        r13_10_8_0 = 0;
-        r13_10_9_0 = 0;
         r13_0_0 = 5;
         r13_6_0 = 0;
         goto dfuse_host_plan_Plan_answered_exit;
     case 4:
-        r13_10_3_0 = 0;
-        r13_10_8_0 = 0;
-        r13_10_9_0 = 0;
         r13_0_0 = 5;
         r13_6_0 = 0;
         goto dfuse_host_plan_Plan_answered_exit;
     case 5:
-        r13_10_3_0 = 0;
-        r13_10_8_0 = 0;
-        r13_10_9_0 = 0;
         r13_0_0 = 5;
         r13_6_0 = 0;
         goto dfuse_host_plan_Plan_answered_exit;
     case 8:
-        r13_10_3_0 = 0;
-        r13_10_8_0 = 0;
-        r13_10_9_0 = 0;
         r13_0_0 = 5;
         r13_6_0 = 0;
         goto dfuse_host_plan_Plan_answered_exit;
     case 9:
-        r13_10_3_0 = 0;
-        r13_10_8_0 = 0;
-        r13_10_9_0 = 0;
         r13_0_0 = 5;
         r13_6_0 = 0;
         goto dfuse_host_plan_Plan_answered_exit;
     case 10:
-        r13_10_3_0 = 0;
-        r13_10_8_0 = 0;
-        r13_10_9_0 = 0;
         r13_0_0 = 5;
         r13_6_0 = 0;
         goto dfuse_host_plan_Plan_answered_exit;
     case 12:
-        r13_10_3_0 = 0;
-        r13_10_8_0 = 0;
-        r13_10_9_0 = 0;
         r13_0_0 = 5;
         r13_6_0 = 0;
         goto dfuse_host_plan_Plan_answered_exit;
     default: never();
     }
 arm_1:
+    memset(r5_6, 0, 14);
     if (r3_16_8_0 != 1) {
-        r13_10_3_0 = 0;
-        r13_10_8_0 = 0;
-        r13_10_9_0 = 0;
-        r13_0_0 = 5;
-        r13_6_0 = 0;
-        goto dfuse_host_plan_Plan_answered_exit;
+        r5_0_0 = 5;
+        r5_4_0 = 0;
+        goto dfuse_host_heard_state_in_exit;
     }
     uint8_t r27 = *r23;
     uint8_t v6 = r27 < 11;
-    r13_10_3_0 = 0;
-    r13_10_8_0 = 0;
-    r13_10_9_0 = 0;
-    r13_0_0 = (uint8_t)(v6 ? 2 : 5);
-    r13_6_0 = (uint8_t)(v6 ? r27 : 0);
+    memset(r5_6 + 2, 0, 12);
+    r5_0_0 = (uint8_t)(v6 ? 2 : 5);
+    r5_4_0 = (uint8_t)(v6 ? r27 : 0);
+dfuse_host_heard_state_in_exit:
+    memcpy(r13_10 + 2, r5_6 + 2, 12);
+    r13_0_0 = r5_0_0;
+    r13_6_0 = r5_4_0;
     goto dfuse_host_plan_Plan_answered_exit;
 arm_2_3:
     memset(r4, 0, 16);
+    memset(r5_5, 0, 14);
     dfu_wire_statuses_Status_decode(r4, r23, r3_16_8_0);
     uint8_t r9 = *r4;
     if (r9 != 0) {
-        r5_5_3_0 = 0;
-        r5_5_6_0 = 0;
-        r5_5_7_0 = 0;
-        r5_0_0 = 5;
+        r5_0_0_2 = 5;
         goto dfuse_host_heard_status_in_exit;
     }
-    uint8_t r5_5_3_2_copyload = r4[4];
-    uint32_t r5_5_6_2_copyload = load32(r4 + 8);
-    uint8_t r5_5_7_2_copyload = r4[12];
-    r5_5_3_0 = r5_5_3_2_copyload;
-    r5_5_6_0 = r5_5_6_2_copyload;
-    r5_5_7_0 = r5_5_7_2_copyload;
-    r5_0_0 = 1;
+    memcpy(r5_5 + 2, r4 + 4, 12);
+    r5_0_0_2 = 1;
 dfuse_host_heard_status_in_exit:
-    r13_10_3_0 = r5_5_3_0;
-    r13_10_8_0 = r5_5_6_0;
-    r13_10_9_0 = r5_5_7_0;
-    r13_0_0 = r5_0_0;
+    memcpy(r13_10 + 2, r5_5 + 2, 12);
+    r13_0_0 = r5_0_0_2;
     r13_6_0 = 0;
     goto dfuse_host_plan_Plan_answered_exit;
 arm_3_3:;
     struct ptr_i64 r22_3 = dfuse_host_plan_Plan_read_bytes(r31, r1);
     r23_2 = r22_3.a;
     if (r3_16_8_0 != r22_3.b) {
-        r13_10_3_0 = 0;
-        r13_10_8_0 = 0;
-        r13_10_9_0 = 0;
-        r13_0_0 = 5;
-        r13_6_0 = 0;
-        goto dfuse_host_plan_Plan_answered_exit;
+        r10_0_0 = 5;
+        r10_4_0 = 0;
+        goto dfuse_host_heard_compared_exit;
     }
     store64(r5, r3_16_0_0);
     store64(r5 + 8, r3_16_8_0);
@@ -7897,78 +7987,70 @@ join_9:;
     uint8_t r83 = core_cmp_slices_groups_equal_i8_core_cmp_numbers_U8PartialEq(r23, r3_16_8_0, r23_2, r3_16_8_0);
     common_ret_op_2 = r83;
 core_cmp_slices_slices_equal_i8_core_cmp_numbers_U8PartialEq_exit:
-    r13_10_3_0 = 0;
-    r13_10_8_0 = 0;
-    r13_10_9_0 = 0;
-    r13_0_0 = 3;
-    r13_6_0 = common_ret_op_2;
+    r10_0_0 = 3;
+    r10_4_0 = common_ret_op_2;
+dfuse_host_heard_compared_exit:
+    memset(r13_10 + 2, 0, 12);
+    r13_0_0 = r10_0_0;
+    r13_6_0 = r10_4_0;
     goto dfuse_host_plan_Plan_answered_exit;
 dfuse_host_plan_Plan_answered_exit:
-    r17_10_3_0 = r13_10_3_0;
-    r17_10_6_0 = r13_10_8_0;
-    r17_10_7_0 = r13_10_9_0;
+    memcpy(r17_10 + 2, r13_10 + 2, 12);
     r17_0_0 = r13_0_0;
     r17_8_0 = r13_6_0;
     goto dfuse_host_plan_Plan_hear_exit;
 arm_3_2:
-    r17_10_3_0 = 0;
-    r17_10_6_0 = 0;
-    r17_10_7_0 = 0;
     r17_0_0 = 4;
     r17_8_0 = 0;
     goto dfuse_host_plan_Plan_hear_exit;
 arm_4_2:
-    r17_10_3_0 = 0;
-    r17_10_6_0 = 0;
-    r17_10_7_0 = 0;
     r17_0_0 = 5;
     r17_8_0 = 0;
     goto dfuse_host_plan_Plan_hear_exit;
 arm_5_2:
-    r17_10_3_0 = 0;
-    r17_10_6_0 = 0;
-    r17_10_7_0 = 0;
     r17_0_0 = 6;
     r17_8_0 = 0;
     goto dfuse_host_plan_Plan_hear_exit;
 arm_6_2:
-    r17_10_3_0 = 0;
-    r17_10_6_0 = 0;
-    r17_10_7_0 = 0;
     r17_0_0 = 7;
     r17_8_0 = 0;
     goto dfuse_host_plan_Plan_hear_exit;
 dfuse_host_plan_Plan_hear_exit:
+    r22_4 = r9_2 + 4;
+    memcpy(r22_4, r17_10 + 2, 12);
+    store32(r9_2, 0);
     memset(r10_2, 0, 104);
     memset(r13, 0, 56);
-    r8_3_0_copyload = load16(r11 + 108);
-    r8_5_0_copyload = load16(r11 + 110);
+    r8_3_0_copyload = load16(r8 + 100);
+    r8_5_0_copyload = load16(r8 + 102);
+    *r9_2 = r17_0_0;
+    r9_2[1] = r17_8_0;
     if (r17_0_0 != 7) goto arm_2_4;
     *r2 = r5_0_0_copyload;
-    memcpy(r2 + 1, v3, 7);
+    memcpy(r2 + 1, r5_4, 7);
     store64(r2 + 8, r5_6_0_copyload);
     store64(r2 + 16, r5_8_0_copyload);
     r2[24] = r5_10_0_copyload;
-    memcpy(r2 + 25, v4, 7);
+    memcpy(r2 + 25, r5_11, 7);
     store64(r2 + 32, r5_13_0_copyload);
     r2[40] = r5_14_0_copyload;
-    memcpy(r2 + 41, v5, 3);
+    memcpy(r2 + 41, r5_16, 3);
     store32(r2 + 44, r5_18_0_copyload);
     if (r5_0_0_copyload != 6) goto arm_2_5;
     *r2_2 = 6;
-    memcpy(r2_2 + 1, v3, 7);
+    memcpy(r2_2 + 1, r5_4, 7);
     store64(r2_2 + 8, r5_6_0_copyload);
     store64(r2_2 + 16, r5_8_0_copyload);
     r2_2[24] = r5_10_0_copyload;
-    memcpy(r2_2 + 25, v4, 7);
+    memcpy(r2_2 + 25, r5_11, 7);
     store64(r2_2 + 32, r5_13_0_copyload);
     r2_2[40] = r5_14_0_copyload;
-    memcpy(r2_2 + 41, v5, 3);
+    memcpy(r2_2 + 41, r5_16, 3);
     store32(r2_2 + 44, r5_18_0_copyload);
     memset(r3, 0, 104);
     memset(r7_2, 0, 56);
     if ((uint8_t)(r5_14_0_copyload + 244) >= 3) goto arm_2_6;
-    memcpy(r4_2, r31, 100);
+    memcpy(r4_2, r8, 100);
     store16(r4_2 + 100, r8_3_0_copyload);
     store16(r4_2 + 102, r8_5_0_copyload);
     *r7_2 = 1;
@@ -7976,14 +8058,14 @@ dfuse_host_plan_Plan_hear_exit:
     dfuse_host_session_Session_spent(r3, r4_2, r7_2, r8_3_0_copyload);
     goto dfuse_host_session_Session_restarted_leaving_exit;
 arm_2_6:
-    memcpy(r9_2, r31, 100);
-    store16(r9_2 + 100, r8_3_0_copyload);
-    store16(r9_2 + 102, r8_5_0_copyload);
-    dfuse_host_session_Session_restarted_once(r3, r9_2, r2_2);
+    memcpy(r9_3, r8, 100);
+    store16(r9_3 + 100, r8_3_0_copyload);
+    store16(r9_3 + 102, r8_5_0_copyload);
+    dfuse_host_session_Session_restarted_once(r3, r9_3, r2_2);
 dfuse_host_session_Session_restarted_leaving_exit:
     goto dfuse_host_session_Session_restarted_exit;
 arm_2_5:
-    memcpy(r5_2, r31, 100);
+    memcpy(r5_2, r8, 100);
     store16(r5_2 + 100, r8_3_0_copyload);
     store16(r5_2 + 102, r8_5_0_copyload);
     dfuse_host_session_Session_restarted_once(r3, r5_2, r2);
@@ -7991,24 +8073,17 @@ dfuse_host_session_Session_restarted_exit:
     memcpy(r10_2, r3, 104);
     goto dfuse_host_session_Session_after_exit;
 arm_2_4:
-    memcpy(r12, r31, 104);
+    memcpy(r12, r8, 104);
+    store64(r1_2, r18);
+    store64(r1_2 + 8, r5_6_0_copyload);
+    store64(r1_2 + 16, r5_8_0_copyload);
+    memset(r17_2, 0, 56);
     switch (r5_14_0_copyload) {
-    case 0: goto arm_1_2;
+    case 0: goto switch_lookup;
     case 1: goto arm_2_7;
     case 2: goto arm_3_4;
     case 3: goto arm_4_3;
-    case 4:
-        r17_0_0_2 = 0;
-        r17_17_0 = 0;
-        r17_33_0 = 0;
-        r17_49252_0 = r18;
-        r17_65_0 = r5_6_0_copyload;
-        r17_76_0 = r5_8_0_copyload;
-        r17_87_0 = 0;
-        r17_98_0 = 0;
-        r17_104_0 = 0;
-        r17_114_0 = 0;
-        goto dfuse_host_plan_Plan_row_exit;
+    case 4: goto arm_5_3;
     case 5: goto arm_6_3;
     case 6: goto arm_7;
     case 7: goto arm_8_2;
@@ -8021,99 +8096,19 @@ arm_2_4:
     case 14: goto arm_15;
     default: never();
     }
-arm_1_2:
-    switch (r17_0_0) {
-    case 0: goto after_2;
-    case 4: goto after_2;
-    case 1:
-        r17_0_0_2 = 0;
-        r17_17_0 = 0;
-        r17_33_0 = 0;
-        r17_49252_0 = r18;
-        r17_65_0 = r5_6_0_copyload;
-        r17_76_0 = r5_8_0_copyload;
-        r17_87_0 = 0;
-        r17_98_0 = 0;
-        r17_104_0 = 0;
-        r17_114_0 = 0;
-        goto dfuse_host_plan_Plan_row_exit;
-    case 2:
-        r17_0_0_2 = 0;
-        r17_17_0 = 0;
-        r17_33_0 = 0;
-        r17_49252_0 = r18;
-        r17_65_0 = r5_6_0_copyload;
-        r17_76_0 = r5_8_0_copyload;
-        r17_87_0 = 0;
-        r17_98_0 = 0;
-        r17_104_0 = 0;
-        r17_114_0 = 0;
-        goto dfuse_host_plan_Plan_row_exit;
-    case 3:
-        r17_0_0_2 = 0;
-        r17_17_0 = 0;
-        r17_33_0 = 0;
-        r17_49252_0 = r18;
-        r17_65_0 = r5_6_0_copyload;
-        r17_76_0 = r5_8_0_copyload;
-        r17_87_0 = 0;
-        r17_98_0 = 0;
-        r17_104_0 = 0;
-        r17_114_0 = 0;
-        goto dfuse_host_plan_Plan_row_exit;
-    case 5:
-        r17_0_0_2 = 0;
-        r17_17_0 = 0;
-        r17_33_0 = 0;
-        r17_49252_0 = r18;
-        r17_65_0 = r5_6_0_copyload;
-        r17_76_0 = r5_8_0_copyload;
-        r17_87_0 = 0;
-        r17_98_0 = 0;
-        r17_104_0 = 0;
-        r17_114_0 = 0;
-        goto dfuse_host_plan_Plan_row_exit;
-    case 6:
-        r17_0_0_2 = 0;
-        r17_17_0 = 0;
-        r17_33_0 = 0;
-        r17_49252_0 = r18;
-        r17_65_0 = r5_6_0_copyload;
-        r17_76_0 = r5_8_0_copyload;
-        r17_87_0 = 0;
-        r17_98_0 = 0;
-        r17_104_0 = 0;
-        r17_114_0 = 0;
-        goto dfuse_host_plan_Plan_row_exit;
-    default: never();
-    }
-after_2:
-    r17_0_0_2 = 0;
-    r17_17_0 = 0;
-    r17_33_0 = 0;
-    r17_49252_0 = r18;
-    r17_65_0 = r5_6_0_copyload;
-    r17_76_0 = r5_8_0_copyload;
-    r17_87_0 = 0;
-    r17_98_0 = 0;
-    r17_104_0 = 1;
-    r17_114_0 = 0;
+switch_lookup:;
+    uint32_t switch_load = load32(PLACE(switch_table_dfuse_take) + 4 * (size_t)r17_0_0);
+    store64(r17_2 + 8, r18);
+    store64(r17_2 + 16, r5_6_0_copyload);
+    store64(r17_2 + 24, r5_8_0_copyload);
+    memset(r17_2 + 32, 0, 16);
+    store32(r17_2 + 48, switch_load);
+    store32(r17_2 + 52, 0);
     goto dfuse_host_plan_Plan_row_exit;
 arm_2_7:
     switch (r17_0_0) {
-    case 2: goto arm_1_3;
-    case 4:
-        r17_0_0_2 = 0;
-        r17_17_0 = 0;
-        r17_33_0 = 0;
-        r17_49252_0 = r18;
-        r17_65_0 = r5_6_0_copyload;
-        r17_76_0 = r5_8_0_copyload;
-        r17_87_0 = 0;
-        r17_98_0 = 0;
-        r17_104_0 = 2;
-        r17_114_0 = 0;
-        goto dfuse_host_plan_Plan_row_exit;
+    case 2: goto arm_1_2;
+    case 4: goto arm_2_8;
     case 0: goto arm_3_5;
     case 1: goto arm_3_5;
     case 3: goto arm_3_5;
@@ -8121,37 +8116,33 @@ arm_2_7:
     case 6: goto arm_3_5;
     default: never();
     }
-arm_1_3:
-    store64(r1_2, r18);
-    store64(r1_2 + 8, r5_6_0_copyload);
-    store64(r1_2 + 16, r5_8_0_copyload);
-    memset(r9_3, 0, 56);
+arm_1_2:
+    store64(r1_3, r18);
+    store64(r1_3 + 8, r5_6_0_copyload);
+    store64(r1_3 + 16, r5_8_0_copyload);
+    memset(r9_4, 0, 56);
     switch (r17_8_0) {
     case 0:
-        r9_21_6_0_copyload = 0;
-        r9_21_0_0_copyload = 0;
         r9_25_8_copyload22 = 0;
         r9_23_8_copyload21 = 0;
         r9_19_8_copyload20 = 0;
         r9_17_8_copyload19 = 0;
         r9_1317_8_copyload18 = 0;
-        v10 = 0;
-        v11 = 6;
-        v12 = 1;
+        v11 = 0;
+        v12 = 6;
+        v13 = 1;
         goto dfuse_host_plan_Plan_state_found_exit;
     case 1:
-        r9_21_6_0_copyload = 0;
-        r9_21_0_0_copyload = 0;
         r9_25_8_copyload22 = 0;
         r9_23_8_copyload21 = 0;
         r9_19_8_copyload20 = 0;
         r9_17_8_copyload19 = 0;
         r9_1317_8_copyload18 = 0;
-        v10 = 0;
-        v11 = 6;
-        v12 = 1;
+        v11 = 0;
+        v12 = 6;
+        v13 = 1;
         goto dfuse_host_plan_Plan_state_found_exit;
-    case 2: goto arm_2_8;
+    case 2: goto arm_2_9;
     case 3: goto arm_3_6;
     case 5: goto arm_3_6;
     case 6: goto arm_3_6;
@@ -8162,92 +8153,94 @@ arm_1_3:
     case 10: goto arm_4_4;
     default: never();
     }
-arm_2_8:
-    dfuse_host_plan_Plan_settle(r9_3, r31, r1_2, 0, 0);
-    uint8_t pre = *r9_3;
-    uint8_t pre8 = r9_3[1];
-    uint8_t pre9 = r9_3[2];
-    uint64_t r9_1317_8_copyload18_pre = load64(r9_3 + 8);
-    uint64_t r9_17_8_copyload19_pre = load64(r9_3 + 16);
-    uint64_t r9_19_8_copyload20_pre = load64(r9_3 + 24);
-    uint32_t r9_23_8_copyload21_pre = load32(r9_3 + 48);
-    uint32_t r9_25_8_copyload22_pre = load32(r9_3 + 52);
-    uint64_t r9_21_0_0_copyload_pre = load64(r9_3 + 32);
-    uint64_t r9_21_6_0_copyload_pre = load64(r9_3 + 40);
-    r9_21_6_0_copyload = r9_21_6_0_copyload_pre;
-    r9_21_0_0_copyload = r9_21_0_0_copyload_pre;
+arm_2_9:
+    dfuse_host_plan_Plan_settle(r9_4, r8, r1_3, 0, 0);
+    uint8_t pre = *r9_4;
+    uint8_t pre8 = r9_4[1];
+    uint8_t pre9 = r9_4[2];
+    uint64_t r9_1317_8_copyload18_pre = load64(r9_4 + 8);
+    uint64_t r9_17_8_copyload19_pre = load64(r9_4 + 16);
+    uint64_t r9_19_8_copyload20_pre = load64(r9_4 + 24);
+    uint32_t r9_23_8_copyload21_pre = load32(r9_4 + 48);
+    uint32_t r9_25_8_copyload22_pre = load32(r9_4 + 52);
     r9_25_8_copyload22 = r9_25_8_copyload22_pre;
     r9_23_8_copyload21 = r9_23_8_copyload21_pre;
     r9_19_8_copyload20 = r9_19_8_copyload20_pre;
     r9_17_8_copyload19 = r9_17_8_copyload19_pre;
     r9_1317_8_copyload18 = r9_1317_8_copyload18_pre;
-    v10 = pre9;
-    v11 = pre8;
-    v12 = pre;
+    v11 = pre9;
+    v12 = pre8;
+    v13 = pre;
     goto dfuse_host_plan_Plan_state_found_exit;
 arm_3_6:
-    r9_21_6_0_copyload = 0;
-    r9_21_0_0_copyload = 0;
+    memset(r9_4 + 32, 0, 24);
     r9_25_8_copyload22 = 0;
     r9_23_8_copyload21 = 0;
     r9_19_8_copyload20 = r5_8_0_copyload;
     r9_17_8_copyload19 = r5_6_0_copyload;
     r9_1317_8_copyload18 = r18;
-    v10 = 0;
     v11 = 0;
     v12 = 0;
+    v13 = 0;
     goto dfuse_host_plan_Plan_state_found_exit;
 arm_4_4:
-    r9_21_6_0_copyload = 0;
-    r9_21_0_0_copyload = 0;
+    memset(r9_4 + 32, 0, 16);
     r9_25_8_copyload22 = 0;
     r9_23_8_copyload21 = 2;
     r9_19_8_copyload20 = r5_8_0_copyload;
     r9_17_8_copyload19 = r5_6_0_copyload;
     r9_1317_8_copyload18 = r18;
-    v10 = 0;
     v11 = 0;
     v12 = 0;
+    v13 = 0;
     goto dfuse_host_plan_Plan_state_found_exit;
 dfuse_host_plan_Plan_state_found_exit:
-    r17_0_0_2 = v12;
-    r17_17_0 = v11;
-    r17_33_0 = v10;
-    r17_49252_0 = r9_1317_8_copyload18;
-    r17_65_0 = r9_17_8_copyload19;
-    r17_76_0 = r9_19_8_copyload20;
-    r17_87_0 = r9_21_0_0_copyload;
-    r17_98_0 = r9_21_6_0_copyload;
-    r17_104_0 = r9_23_8_copyload21;
-    r17_114_0 = r9_25_8_copyload22;
-    goto dfuse_host_plan_Plan_row_exit;
+    memcpy(r9_21, r9_4 + 32, 16);
+    r9_0_0 = v13;
+    r9_5_0 = v12;
+    r9_9_0 = v11;
+    r9_1317_0 = r9_1317_8_copyload18;
+    r9_17_0 = r9_17_8_copyload19;
+    r9_19_0 = r9_19_8_copyload20;
+    r9_23_0 = r9_23_8_copyload21;
+    r9_25_0 = r9_25_8_copyload22;
+    goto dfuse_host_plan_Plan_on_ask_state_exit;
+arm_2_8:
+    memset(r9_21, 0, 16);
+    r9_0_0 = 0;
+    r9_5_0 = 0;
+    r9_9_0 = 0;
+    r9_1317_0 = r18;
+    r9_17_0 = r5_6_0_copyload;
+    r9_19_0 = r5_8_0_copyload;
+    r9_23_0 = 2;
+    r9_25_0 = 0;
+    goto dfuse_host_plan_Plan_on_ask_state_exit;
 arm_3_5:
-    r17_0_0_2 = 0;
-    r17_17_0 = 0;
-    r17_33_0 = 0;
-    r17_49252_0 = r18;
-    r17_65_0 = r5_6_0_copyload;
-    r17_76_0 = r5_8_0_copyload;
-    r17_87_0 = 0;
-    r17_98_0 = 0;
-    r17_104_0 = 1;
-    r17_114_0 = 0;
+    memset(r9_21, 0, 16);
+    r9_0_0 = 0;
+    r9_5_0 = 0;
+    r9_9_0 = 0;
+    r9_1317_0 = r18;
+    r9_17_0 = r5_6_0_copyload;
+    r9_19_0 = r5_8_0_copyload;
+    r9_23_0 = 1;
+    r9_25_0 = 0;
+dfuse_host_plan_Plan_on_ask_state_exit:
+    *r17_2 = r9_0_0;
+    r17_2[1] = r9_5_0;
+    r17_2[2] = r9_9_0;
+    store64(r17_2 + 8, r9_1317_0);
+    store64(r17_2 + 16, r9_17_0);
+    store64(r17_2 + 24, r9_19_0);
+    memcpy(r17_2 + 32, r9_21, 16);
+    store32(r17_2 + 48, r9_23_0);
+    store32(r17_2 + 52, r9_25_0);
     goto dfuse_host_plan_Plan_row_exit;
 arm_3_4:
     switch (r17_0_0) {
-    case 1: goto arm_1_4;
-    case 4:
-        r17_0_0_2 = 0;
-        r17_17_0 = 0;
-        r17_33_0 = 0;
-        r17_49252_0 = r18;
-        r17_65_0 = r5_6_0_copyload;
-        r17_76_0 = r5_8_0_copyload;
-        r17_87_0 = 0;
-        r17_98_0 = 0;
-        r17_104_0 = 3;
-        r17_114_0 = 100;
-        goto dfuse_host_plan_Plan_row_exit;
+    case 1: goto arm_1_3;
+    case 4: goto arm_2_10;
     case 0: goto arm_3_7;
     case 2: goto arm_3_7;
     case 3: goto arm_3_7;
@@ -8255,212 +8248,223 @@ arm_3_4:
     case 6: goto arm_3_7;
     default: never();
     }
-arm_1_4:
-    switch (r17_10_7_0) {
+arm_1_3:;
+    uint8_t r0_0_0_copyload = r9_2[12];
+    switch (r0_0_0_copyload) {
     case 0:
-        r17_0_0_2 = 1;
-        r17_17_0 = 6;
-        r17_33_0 = 0;
-        r17_49252_0 = 0;
-        r17_65_0 = 0;
-        r17_76_0 = 0;
-        r17_87_0 = 0;
-        r17_98_0 = 0;
-        r17_104_0 = 0;
-        r17_114_0 = 0;
-        goto dfuse_host_plan_Plan_row_exit;
+        r9_0_0_2 = 1;
+        r9_7_0 = 6;
+        r9_13_0 = 0;
+        r9_1926_0 = 0;
+        r9_24_0 = 0;
+        r9_28_0 = 0;
+        r9_36_0 = 0;
+        r9_39_0 = 0;
+        goto dfuse_host_clearing_status_found_exit;
     case 1:
-        r17_0_0_2 = 1;
-        r17_17_0 = 6;
-        r17_33_0 = 0;
-        r17_49252_0 = 0;
-        r17_65_0 = 0;
-        r17_76_0 = 0;
-        r17_87_0 = 0;
-        r17_98_0 = 0;
-        r17_104_0 = 0;
-        r17_114_0 = 0;
-        goto dfuse_host_plan_Plan_row_exit;
-    case 2: goto arm_2_9;
+        r9_0_0_2 = 1;
+        r9_7_0 = 6;
+        r9_13_0 = 0;
+        r9_1926_0 = 0;
+        r9_24_0 = 0;
+        r9_28_0 = 0;
+        r9_36_0 = 0;
+        r9_39_0 = 0;
+        goto dfuse_host_clearing_status_found_exit;
+    case 2: goto arm_2_11;
     case 5: goto arm_3_8;
     case 9: goto arm_3_8;
     case 10: goto arm_4_5;
-    case 3: goto arm_5_3;
-    case 4: goto arm_5_3;
-    case 6: goto arm_5_3;
-    case 7: goto arm_5_3;
-    case 8: goto arm_5_3;
-    default: never();
-    }
-arm_2_9:
-    r17_0_0_2 = 0;
-    r17_17_0 = 0;
-    r17_33_0 = 0;
-    r17_49252_0 = r18;
-    r17_65_0 = r5_6_0_copyload;
-    r17_76_0 = r5_8_0_copyload;
-    r17_87_0 = 0;
-    r17_98_0 = 0;
-    r17_104_0 = 1;
-    r17_114_0 = 0;
-    goto dfuse_host_plan_Plan_row_exit;
-arm_3_8:
-    r17_0_0_2 = 0;
-    r17_17_0 = 0;
-    r17_33_0 = 0;
-    r17_49252_0 = r18;
-    r17_65_0 = r5_6_0_copyload;
-    r17_76_0 = r5_8_0_copyload;
-    r17_87_0 = 0;
-    r17_98_0 = 0;
-    r17_104_0 = 0;
-    r17_114_0 = 0;
-    goto dfuse_host_plan_Plan_row_exit;
-arm_4_5:
-    switch (r5_0_0_copyload) {
-    case 0:
-        r17_0_0_2 = r5_0_0_copyload;
-        r17_17_0 = r5_0_0_copyload;
-        r17_33_0 = r5_0_0_copyload;
-        r17_49252_0 = 0;
-        r17_65_0 = r5_6_0_copyload;
-        r17_76_0 = r5_8_0_copyload;
-        r17_87_0 = 0;
-        r17_98_0 = 0;
-        r17_104_0 = 4;
-        r17_114_0 = 0;
-        goto dfuse_host_plan_Plan_row_exit;
-    case 3: goto arm_4_6;
-    case 5: goto arm_4_6;
-    case 1: goto arm_5_4;
-    case 2: goto arm_5_4;
+    case 3: goto arm_5_4;
     case 4: goto arm_5_4;
     case 6: goto arm_5_4;
+    case 7: goto arm_5_4;
+    case 8: goto arm_5_4;
+    default: never();
+    }
+arm_2_11:
+    r9_0_0_2 = 0;
+    r9_7_0 = 0;
+    r9_13_0 = 0;
+    r9_1926_0 = r18;
+    r9_24_0 = r5_6_0_copyload;
+    r9_28_0 = r5_8_0_copyload;
+    r9_36_0 = 1;
+    r9_39_0 = 0;
+    goto dfuse_host_clearing_status_found_exit;
+arm_3_8:
+    r9_0_0_2 = 0;
+    r9_7_0 = 0;
+    r9_13_0 = 0;
+    r9_1926_0 = r18;
+    r9_24_0 = r5_6_0_copyload;
+    r9_28_0 = r5_8_0_copyload;
+    r9_36_0 = 0;
+    r9_39_0 = 0;
+    goto dfuse_host_clearing_status_found_exit;
+arm_4_5:
+    r0_0_0_copyload_2 = *r22_4;
+    switch (r5_0_0_copyload) {
+    case 0:
+        r9_0_0_2 = r5_0_0_copyload;
+        r9_7_0 = r5_0_0_copyload;
+        r9_13_0 = r5_0_0_copyload;
+        r9_1926_0 = 0;
+        r9_24_0 = r5_6_0_copyload;
+        r9_28_0 = r5_8_0_copyload;
+        r9_36_0 = 4;
+        r9_39_0 = 0;
+        goto dfuse_host_clearing_status_found_exit;
+    case 3: goto arm_4_6;
+    case 5: goto arm_4_6;
+    case 1: goto arm_5_5;
+    case 2: goto arm_5_5;
+    case 4: goto arm_5_5;
+    case 6: goto arm_5_5;
     default: never();
     }
 arm_4_6:
-    switch (r17_10_3_0) {
+    switch (r0_0_0_copyload_2) {
     case 11:
-        r17_0_0_2 = 1;
-        r17_17_0 = 3;
-        r17_33_0 = 0;
-        r17_49252_0 = 0;
-        r17_65_0 = 0;
-        r17_76_0 = 0;
-        r17_87_0 = 0;
-        r17_98_0 = 0;
-        r17_104_0 = 0;
-        r17_114_0 = 0;
-        goto dfuse_host_plan_Plan_row_exit;
-    case 15: goto arm_1_5;
+        r9_0_0_2 = 1;
+        r9_7_0 = 3;
+        r9_13_0 = 0;
+        r9_1926_0 = 0;
+        r9_24_0 = 0;
+        r9_28_0 = 0;
+        r9_36_0 = 0;
+        r9_39_0 = 0;
+        goto dfuse_host_clearing_status_found_exit;
+    case 15: goto arm_1_4;
     default: goto dfuse_host_clearing_ends_comparing_exit;
     }
-arm_1_5:
-    r17_0_0_2 = 0;
-    r17_17_0 = 0;
-    r17_33_0 = 0;
-    r17_49252_0 = r18;
-    r17_65_0 = r5_6_0_copyload;
-    r17_76_0 = r5_8_0_copyload;
-    r17_87_0 = 0;
-    r17_98_0 = 0;
-    r17_104_0 = 4;
-    r17_114_0 = 0;
-    goto dfuse_host_plan_Plan_row_exit;
+arm_1_4:
+    r9_0_0_2 = 0;
+    r9_7_0 = 0;
+    r9_13_0 = 0;
+    r9_1926_0 = r18;
+    r9_24_0 = r5_6_0_copyload;
+    r9_28_0 = r5_8_0_copyload;
+    r9_36_0 = 4;
+    r9_39_0 = 0;
+    goto dfuse_host_clearing_status_found_exit;
 dfuse_host_clearing_ends_comparing_exit:
-    r17_0_0_2 = 1;
-    r17_17_0 = 2;
-    r17_33_0 = r17_10_3_0;
-    r17_49252_0 = 0;
-    r17_65_0 = 0;
-    r17_76_0 = 0;
-    r17_87_0 = 0;
-    r17_98_0 = 0;
-    r17_104_0 = 0;
-    r17_114_0 = 0;
-    goto dfuse_host_plan_Plan_row_exit;
-arm_5_4:
-    if (r17_10_3_0 == 11) {
-        r17_0_0_2 = 1;
-        r17_17_0 = 3;
-        r17_33_0 = 0;
-        r17_49252_0 = 0;
-        r17_65_0 = 0;
-        r17_76_0 = 0;
-        r17_87_0 = 0;
-        r17_98_0 = 0;
-        r17_104_0 = 0;
-        r17_114_0 = 0;
-        goto dfuse_host_plan_Plan_row_exit;
+    r9_0_0_2 = 1;
+    r9_7_0 = 2;
+    r9_13_0 = r0_0_0_copyload_2;
+    r9_1926_0 = 0;
+    r9_24_0 = 0;
+    r9_28_0 = 0;
+    r9_36_0 = 0;
+    r9_39_0 = 0;
+    goto dfuse_host_clearing_status_found_exit;
+arm_5_5:
+    if (r0_0_0_copyload_2 == 11) {
+        r9_0_0_2 = 1;
+        r9_7_0 = 3;
+        r9_13_0 = 0;
+        r9_1926_0 = 0;
+        r9_24_0 = 0;
+        r9_28_0 = 0;
+        r9_36_0 = 0;
+        r9_39_0 = 0;
+        goto dfuse_host_clearing_status_found_exit;
     }
-    r17_0_0_2 = 0;
-    r17_17_0 = 0;
-    r17_33_0 = 0;
-    r17_49252_0 = r18;
-    r17_65_0 = r5_6_0_copyload;
-    r17_76_0 = r5_8_0_copyload;
-    r17_87_0 = 0;
-    r17_98_0 = 0;
-    r17_104_0 = 4;
-    r17_114_0 = 0;
-    goto dfuse_host_plan_Plan_row_exit;
-arm_5_3:
-    r17_0_0_2 = 0;
-    r17_17_0 = 0;
-    r17_33_0 = 0;
-    r17_49252_0 = r18;
-    r17_65_0 = r5_6_0_copyload;
-    r17_76_0 = r5_8_0_copyload;
-    r17_87_0 = 0;
-    r17_98_0 = 0;
-    r17_104_0 = 3;
-    r17_114_0 = r17_10_6_0;
-    goto dfuse_host_plan_Plan_row_exit;
+    r9_0_0_2 = 0;
+    r9_7_0 = 0;
+    r9_13_0 = 0;
+    r9_1926_0 = r18;
+    r9_24_0 = r5_6_0_copyload;
+    r9_28_0 = r5_8_0_copyload;
+    r9_36_0 = 4;
+    r9_39_0 = 0;
+    goto dfuse_host_clearing_status_found_exit;
+arm_5_4:;
+    uint32_t r2_3 = load32(r9_2 + 8);
+    r9_0_0_2 = 0;
+    r9_7_0 = 0;
+    r9_13_0 = 0;
+    r9_1926_0 = r18;
+    r9_24_0 = r5_6_0_copyload;
+    r9_28_0 = r5_8_0_copyload;
+    r9_36_0 = 3;
+    r9_39_0 = r2_3;
+    goto dfuse_host_clearing_status_found_exit;
+dfuse_host_clearing_status_found_exit:
+    memset(r9_23, 0, 16);
+    r9_0_0_3 = r9_0_0_2;
+    r9_5_0_2 = r9_7_0;
+    r9_9_0_2 = r9_13_0;
+    r9_1317_0_2 = r9_1926_0;
+    r9_17_0_2 = r9_24_0;
+    r9_20_0 = r9_28_0;
+    r9_26_0 = r9_36_0;
+    r9_29_0 = r9_39_0;
+    goto dfuse_host_clearing_on_ask_status_exit;
+arm_2_10:
+    memset(r9_23, 0, 16);
+    r9_0_0_3 = 0;
+    r9_5_0_2 = 0;
+    r9_9_0_2 = 0;
+    r9_1317_0_2 = r18;
+    r9_17_0_2 = r5_6_0_copyload;
+    r9_20_0 = r5_8_0_copyload;
+    r9_26_0 = 3;
+    r9_29_0 = 100;
+    goto dfuse_host_clearing_on_ask_status_exit;
 arm_3_7:
-    r17_0_0_2 = 0;
-    r17_17_0 = 0;
-    r17_33_0 = 0;
-    r17_49252_0 = r18;
-    r17_65_0 = r5_6_0_copyload;
-    r17_76_0 = r5_8_0_copyload;
-    r17_87_0 = 0;
-    r17_98_0 = 0;
-    r17_104_0 = 2;
-    r17_114_0 = 0;
+    memset(r9_23, 0, 16);
+    r9_0_0_3 = 0;
+    r9_5_0_2 = 0;
+    r9_9_0_2 = 0;
+    r9_1317_0_2 = r18;
+    r9_17_0_2 = r5_6_0_copyload;
+    r9_20_0 = r5_8_0_copyload;
+    r9_26_0 = 2;
+    r9_29_0 = 0;
+dfuse_host_clearing_on_ask_status_exit:
+    *r17_2 = r9_0_0_3;
+    r17_2[1] = r9_5_0_2;
+    r17_2[2] = r9_9_0_2;
+    store64(r17_2 + 8, r9_1317_0_2);
+    store64(r17_2 + 16, r9_17_0_2);
+    store64(r17_2 + 24, r9_20_0);
+    memcpy(r17_2 + 32, r9_23, 16);
+    store32(r17_2 + 48, r9_26_0);
+    store32(r17_2 + 52, r9_29_0);
     goto dfuse_host_plan_Plan_row_exit;
 arm_4_3:;
-    uint8_t v14 = r17_0_0 == 6;
-    r17_0_0_2 = 0;
-    r17_17_0 = 0;
-    r17_33_0 = 0;
-    r17_49252_0 = r18;
-    r17_65_0 = r5_6_0_copyload;
-    r17_76_0 = r5_8_0_copyload;
-    r17_87_0 = 0;
-    r17_98_0 = 0;
-    r17_104_0 = (uint32_t)(v14 ? 1 : 3);
-    r17_114_0 = (uint32_t)(v14 ? 0 : r5_18_0_copyload);
+    uint8_t v15 = r17_0_0 == 6;
+    store64(r17_2 + 8, r18);
+    store64(r17_2 + 16, r5_6_0_copyload);
+    store64(r17_2 + 24, r5_8_0_copyload);
+    memset(r17_2 + 32, 0, 16);
+    store32(r17_2 + 48, (uint32_t)(v15 ? 1 : 3));
+    store32(r17_2 + 52, (uint32_t)(v15 ? 0 : r5_18_0_copyload));
+    goto dfuse_host_plan_Plan_row_exit;
+arm_5_3:
+    store64(r17_2 + 8, r18);
+    store64(r17_2 + 16, r5_6_0_copyload);
+    store64(r17_2 + 24, r5_8_0_copyload);
+    memset(r17_2 + 32, 0, 24);
     goto dfuse_host_plan_Plan_row_exit;
 arm_6_3:
-    r17_0_0_2 = 0;
-    r17_17_0 = 0;
-    r17_33_0 = 0;
-    r17_49252_0 = r18;
-    r17_65_0 = r5_6_0_copyload;
-    r17_76_0 = r5_8_0_copyload;
-    r17_87_0 = (uint64_t)r5_10_0_copyload;
-    r17_98_0 = r5_13_0_copyload;
-    r17_104_0 = (uint32_t)((r17_0_0 == 0) ? 7 : 6);
-    r17_114_0 = 0;
+    store64(r17_2 + 8, r18);
+    store64(r17_2 + 16, r5_6_0_copyload);
+    store64(r17_2 + 24, r5_8_0_copyload);
+    store64(r17_2 + 32, (uint64_t)r5_10_0_copyload);
+    store64(r17_2 + 40, r5_13_0_copyload);
+    store32(r17_2 + 48, (uint32_t)((r17_0_0 == 0) ? 7 : 6));
+    store32(r17_2 + 52, 0);
     goto dfuse_host_plan_Plan_row_exit;
 arm_7:
-    store64(r1_3, r18);
-    store64(r1_3 + 8, r5_6_0_copyload);
-    store64(r1_3 + 16, r5_8_0_copyload);
+    store64(r1_4, r18);
+    store64(r1_4 + 8, r5_6_0_copyload);
+    store64(r1_4 + 16, r5_8_0_copyload);
     memset(r12_2, 0, 56);
     switch (r17_0_0) {
-    case 2: goto arm_1_6;
-    case 4: goto arm_2_10;
+    case 2: goto arm_1_5;
+    case 4: goto arm_2_12;
     case 0: goto arm_3_9;
     case 1: goto arm_3_9;
     case 3: goto arm_3_9;
@@ -8468,15 +8472,15 @@ arm_7:
     case 6: goto arm_3_9;
     default: never();
     }
-arm_1_6:
-    store64(r1_4, r18);
-    store64(r1_4 + 8, r5_6_0_copyload);
-    store64(r1_4 + 16, r5_8_0_copyload);
+arm_1_5:
+    store64(r1_5, r18);
+    store64(r1_5 + 8, r5_6_0_copyload);
+    store64(r1_5 + 16, r5_8_0_copyload);
     memset(r12_3, 0, 56);
     switch (r17_8_0) {
-    case 3: goto arm_1_7;
-    case 2: goto arm_2_11;
-    case 5: goto arm_2_11;
+    case 3: goto arm_1_6;
+    case 2: goto arm_2_13;
+    case 5: goto arm_2_13;
     case 10: goto arm_3_10;
     case 0: goto arm_4_7;
     case 1: goto arm_4_7;
@@ -8487,60 +8491,60 @@ arm_1_6:
     case 9: goto arm_4_7;
     default: never();
     }
-arm_1_7:
+arm_1_6:
     store64(r12_3 + 8, r18);
     store64(r12_3 + 16, r5_6_0_copyload);
     store64(r12_3 + 24, r5_8_0_copyload);
     store64(r12_3 + 32, (uint64_t)r5_10_0_copyload);
     store64(r12_3 + 40, r5_13_0_copyload);
     store32(r12_3 + 48, 7);
-    v16 = 0;
     v17 = 0;
     v18 = 0;
+    v19 = 0;
     goto dfuse_host_plan_Plan_probed_exit;
-arm_2_11:
+arm_2_13:
     store64(r12_3 + 8, r18);
     store64(r12_3 + 16, r5_6_0_copyload);
     store64(r12_3 + 24, r5_8_0_copyload);
     store64(r12_3 + 32, (uint64_t)r5_10_0_copyload);
     store64(r12_3 + 40, r5_13_0_copyload);
     store32(r12_3 + 48, 5);
-    v16 = 0;
     v17 = 0;
     v18 = 0;
+    v19 = 0;
     goto dfuse_host_plan_Plan_probed_exit;
 arm_3_10:
     store64(r12_3 + 8, r18);
     store64(r12_3 + 16, r5_6_0_copyload);
     store64(r12_3 + 24, r5_8_0_copyload);
     memset(r12_3 + 32, 0, 24);
-    v16 = 0;
     v17 = 0;
     v18 = 0;
+    v19 = 0;
     goto dfuse_host_plan_Plan_probed_exit;
 arm_4_7:
-    dfuse_host_plan_Plan_unsure_of(r12_3, r31, r1_4, r5_10_0_copyload, r5_13_0_copyload);
+    dfuse_host_plan_Plan_unsure_of(r12_3, r8, r1_5, r5_10_0_copyload, r5_13_0_copyload);
     uint8_t pre_2 = *r12_3;
     uint8_t pre26 = r12_3[1];
     uint8_t pre27 = r12_3[2];
-    v16 = pre27;
-    v17 = pre26;
-    v18 = pre_2;
+    v17 = pre27;
+    v18 = pre26;
+    v19 = pre_2;
     goto dfuse_host_plan_Plan_probed_exit;
 dfuse_host_plan_Plan_probed_exit:
     memcpy(r12_2 + 8, r12_3 + 8, 48);
-    v19 = v16;
     v20 = v17;
     v21 = v18;
+    v22 = v19;
     goto dfuse_host_plan_Plan_on_probe_exit;
-arm_2_10:
-    dfuse_host_plan_Plan_unsure_of(r12_2, r31, r1_3, r5_10_0_copyload, r5_13_0_copyload);
+arm_2_12:
+    dfuse_host_plan_Plan_unsure_of(r12_2, r8, r1_4, r5_10_0_copyload, r5_13_0_copyload);
     uint8_t pre_3 = *r12_2;
     uint8_t pre10 = r12_2[1];
     uint8_t pre11 = r12_2[2];
-    v19 = pre11;
-    v20 = pre10;
-    v21 = pre_3;
+    v20 = pre11;
+    v21 = pre10;
+    v22 = pre_3;
     goto dfuse_host_plan_Plan_on_probe_exit;
 arm_3_9:
     store64(r12_2 + 8, r18);
@@ -8549,32 +8553,19 @@ arm_3_9:
     store64(r12_2 + 32, (uint64_t)r5_10_0_copyload);
     store64(r12_2 + 40, r5_13_0_copyload);
     store32(r12_2 + 48, 6);
-    v19 = 0;
     v20 = 0;
     v21 = 0;
-dfuse_host_plan_Plan_on_probe_exit:;
-    uint64_t r17_49252_8_copyload253 = load64(r12_2 + 8);
-    uint64_t r17_65_8_copyload257 = load64(r12_2 + 16);
-    uint64_t r17_76_8_copyload261 = load64(r12_2 + 24);
-    uint64_t r17_87_8_copyload265 = load64(r12_2 + 32);
-    uint64_t r17_98_8_copyload271 = load64(r12_2 + 40);
-    uint32_t r17_104_8_copyload277 = load32(r12_2 + 48);
-    uint32_t r17_114_8_copyload281 = load32(r12_2 + 52);
-    r17_0_0_2 = v21;
-    r17_17_0 = v20;
-    r17_33_0 = v19;
-    r17_49252_0 = r17_49252_8_copyload253;
-    r17_65_0 = r17_65_8_copyload257;
-    r17_76_0 = r17_76_8_copyload261;
-    r17_87_0 = r17_87_8_copyload265;
-    r17_98_0 = r17_98_8_copyload271;
-    r17_104_0 = r17_104_8_copyload277;
-    r17_114_0 = r17_114_8_copyload281;
+    v22 = 0;
+dfuse_host_plan_Plan_on_probe_exit:
+    *r17_2 = v22;
+    r17_2[1] = v21;
+    r17_2[2] = v20;
+    memcpy(r17_2 + 8, r12_2 + 8, 48);
     goto dfuse_host_plan_Plan_row_exit;
 arm_8_2:
     switch (r17_0_0) {
-    case 1: goto arm_1_8;
-    case 4: goto arm_2_12;
+    case 1: goto arm_1_7;
+    case 4: goto arm_2_14;
     case 0: goto arm_3_11;
     case 2: goto arm_3_11;
     case 3: goto arm_3_11;
@@ -8582,15 +8573,16 @@ arm_8_2:
     case 6: goto arm_3_11;
     default: never();
     }
-arm_1_8:
-    store64(r1_5, r18);
-    store64(r1_5 + 8, r5_6_0_copyload);
-    store64(r1_5 + 16, r5_8_0_copyload);
+arm_1_7:
+    store64(r1_6, r18);
+    store64(r1_6 + 8, r5_6_0_copyload);
+    store64(r1_6 + 16, r5_8_0_copyload);
     memset(r12_4, 0, 56);
-    switch (r17_10_7_0) {
-    case 3: goto arm_1_9;
-    case 4: goto arm_1_9;
-    case 5: goto arm_2_13;
+    uint8_t r0_0_0_copyload_3 = r9_2[12];
+    switch (r0_0_0_copyload_3) {
+    case 3: goto arm_1_8;
+    case 4: goto arm_1_8;
+    case 5: goto arm_2_15;
     case 10: goto arm_3_12;
     case 0: goto arm_4_8;
     case 1: goto arm_4_8;
@@ -8601,93 +8593,95 @@ arm_1_8:
     case 9: goto arm_4_8;
     default: never();
     }
-arm_1_9:
+arm_1_8:;
+    uint32_t r2_4 = load32(r9_2 + 8);
     store64(r12_4 + 8, r18);
     store64(r12_4 + 16, r5_6_0_copyload);
     store64(r12_4 + 24, r5_8_0_copyload);
     store64(r12_4 + 32, (uint64_t)r5_10_0_copyload);
     store64(r12_4 + 40, r5_13_0_copyload);
     store32(r12_4 + 48, 8);
-    store32(r12_4 + 52, r17_10_6_0);
-    v36 = 0;
+    store32(r12_4 + 52, r2_4);
     v37 = 0;
     v38 = 0;
+    v39 = 0;
     goto dfuse_host_plan_Plan_polled_exit;
-arm_2_13:;
-    struct i8_i64 r31_2 = dfuse_host_plan_Plan_command_of(r31, r1_5, r5_10_0_copyload, r5_13_0_copyload);
-    r33 = r31_2.b;
-    store64(r1_6, r18);
-    store64(r1_6 + 8, r5_6_0_copyload);
-    store64(r1_6 + 16, r5_8_0_copyload);
-    memset(r14_2, 0, 56);
-    switch (r31_2.a) {
-    case 0: goto arm_1_10;
-    case 1: goto arm_2_14;
-    case 2: goto arm_3_13;
-    default: never();
-    }
-arm_1_10:
-    dfuse_host_plan_Plan_settle(r14_2, r31, r1_6, 1, r33);
-    uint8_t pre_4 = *r14_2;
-    uint8_t pre15 = r14_2[1];
-    uint8_t pre16 = r14_2[2];
-    v30 = pre16;
-    v31 = pre15;
-    v32 = pre_4;
-    goto dfuse_host_plan_Plan_done_exit;
-arm_2_14:
-    memset(r10_3, 0, 56);
-    if (r5_0_0_copyload != 1) goto arm_2_15;
-    uint64_t r21 = dfuse_host_plan_Plan_front_end(r31);
-    dfuse_host_plan_Plan_to_write(r10_3, r31, 0, 0, umax64(r21, r5_6_0_copyload), r5_8_0_copyload);
-    goto dfuse_host_plan_Plan_erased_exit;
 arm_2_15:;
-    uint64_t r30_2 = dfuse_host_plan_Plan_page_end(r31, r33);
-    dfuse_host_plan_Plan_to_erase(r10_3, r31, 0, 0, r30_2);
-dfuse_host_plan_Plan_erased_exit:;
-    uint8_t v23 = *r10_3;
-    uint8_t v24 = r10_3[1];
-    uint8_t v25 = r10_3[2];
-    memcpy(r14_2 + 8, r10_3 + 8, 48);
-    v30 = v25;
-    v31 = v24;
-    v32 = v23;
-    goto dfuse_host_plan_Plan_done_exit;
-arm_3_13:
-    memset(r10_4, 0, 56);
-    if (r5_0_0_copyload != 2) goto arm_2_16;
-    uint64_t r23_3 = dfuse_host_plan_Plan_write_end(r31, r33, r5_8_0_copyload);
-    dfuse_host_plan_Plan_to_write(r10_4, r31, 0, 0, umax64(r23_3, r5_6_0_copyload), r5_8_0_copyload);
-    goto dfuse_host_plan_Plan_written_exit;
-arm_2_16:;
-    uint64_t r32 = dfuse_host_plan_Plan_front_end(r31);
-    uint64_t r34 = dfuse_host_plan_Plan_write_end(r31, r33, r32);
-    dfuse_host_plan_Plan_to_write_front(r10_4, r31, 0, 0, r34);
-dfuse_host_plan_Plan_written_exit:;
-    uint8_t v27 = *r10_4;
-    uint8_t v28 = r10_4[1];
-    uint8_t v29 = r10_4[2];
-    memcpy(r14_2 + 8, r10_4 + 8, 48);
-    v30 = v29;
-    v31 = v28;
-    v32 = v27;
-dfuse_host_plan_Plan_done_exit:
-    memcpy(r12_4 + 8, r14_2 + 8, 48);
-    v36 = v30;
-    v37 = v31;
-    v38 = v32;
-    goto dfuse_host_plan_Plan_polled_exit;
-arm_3_12:
+    struct i8_i64 r31_2 = dfuse_host_plan_Plan_command_of(r8, r1_6, r5_10_0_copyload, r5_13_0_copyload);
+    r33 = r31_2.b;
     store64(r1_7, r18);
     store64(r1_7 + 8, r5_6_0_copyload);
     store64(r1_7 + 16, r5_8_0_copyload);
+    memset(r14_2, 0, 56);
+    switch (r31_2.a) {
+    case 0: goto arm_1_9;
+    case 1: goto arm_2_16;
+    case 2: goto arm_3_13;
+    default: never();
+    }
+arm_1_9:
+    dfuse_host_plan_Plan_settle(r14_2, r8, r1_7, 1, r33);
+    uint8_t pre_4 = *r14_2;
+    uint8_t pre15 = r14_2[1];
+    uint8_t pre16 = r14_2[2];
+    v31 = pre16;
+    v32 = pre15;
+    v33 = pre_4;
+    goto dfuse_host_plan_Plan_done_exit;
+arm_2_16:
+    memset(r10_3, 0, 56);
+    if (r5_0_0_copyload != 1) goto arm_2_17;
+    uint64_t r21 = dfuse_host_plan_Plan_front_end(r8);
+    dfuse_host_plan_Plan_to_write(r10_3, r8, 0, 0, umax64(r21, r5_6_0_copyload), r5_8_0_copyload);
+    goto dfuse_host_plan_Plan_erased_exit;
+arm_2_17:;
+    uint64_t r30_2 = dfuse_host_plan_Plan_page_end(r8, r33);
+    dfuse_host_plan_Plan_to_erase(r10_3, r8, 0, 0, r30_2);
+dfuse_host_plan_Plan_erased_exit:;
+    uint8_t v24 = *r10_3;
+    uint8_t v25 = r10_3[1];
+    uint8_t v26 = r10_3[2];
+    memcpy(r14_2 + 8, r10_3 + 8, 48);
+    v31 = v26;
+    v32 = v25;
+    v33 = v24;
+    goto dfuse_host_plan_Plan_done_exit;
+arm_3_13:
+    memset(r10_4, 0, 56);
+    if (r5_0_0_copyload != 2) goto arm_2_18;
+    uint64_t r23_3 = dfuse_host_plan_Plan_write_end(r8, r33, r5_8_0_copyload);
+    dfuse_host_plan_Plan_to_write(r10_4, r8, 0, 0, umax64(r23_3, r5_6_0_copyload), r5_8_0_copyload);
+    goto dfuse_host_plan_Plan_written_exit;
+arm_2_18:;
+    uint64_t r32 = dfuse_host_plan_Plan_front_end(r8);
+    uint64_t r34 = dfuse_host_plan_Plan_write_end(r8, r33, r32);
+    dfuse_host_plan_Plan_to_write_front(r10_4, r8, 0, 0, r34);
+dfuse_host_plan_Plan_written_exit:;
+    uint8_t v28 = *r10_4;
+    uint8_t v29 = r10_4[1];
+    uint8_t v30 = r10_4[2];
+    memcpy(r14_2 + 8, r10_4 + 8, 48);
+    v31 = v30;
+    v32 = v29;
+    v33 = v28;
+dfuse_host_plan_Plan_done_exit:
+    memcpy(r12_4 + 8, r14_2 + 8, 48);
+    v37 = v31;
+    v38 = v32;
+    v39 = v33;
+    goto dfuse_host_plan_Plan_polled_exit;
+arm_3_12:
+    r0_0_0_copyload_4 = *r22_4;
+    store64(r1_8, r18);
+    store64(r1_8 + 8, r5_6_0_copyload);
+    store64(r1_8 + 16, r5_8_0_copyload);
     memset(r12_5, 0, 56);
-    switch (r17_10_3_0) {
-    case 15: goto arm_1_11;
+    switch (r0_0_0_copyload_4) {
+    case 15: goto arm_1_10;
     case 11:
-        v33 = 0;
-        v34 = 3;
-        v35 = 1;
+        v34 = 0;
+        v35 = 3;
+        v36 = 1;
         goto dfuse_host_plan_Plan_refused_exit;
     case 0: goto arm_3_14;
     case 1: goto arm_3_14;
@@ -8705,34 +8699,34 @@ arm_3_12:
     case 14: goto arm_3_14;
     default: never();
     }
-arm_1_11:
-    dfuse_host_plan_Plan_unsure_of(r12_5, r31, r1_7, r5_10_0_copyload, r5_13_0_copyload);
+arm_1_10:
+    dfuse_host_plan_Plan_unsure_of(r12_5, r8, r1_8, r5_10_0_copyload, r5_13_0_copyload);
     uint8_t pre_5 = *r12_5;
     uint8_t pre4 = r12_5[1];
     uint8_t pre5 = r12_5[2];
-    v33 = pre5;
-    v34 = pre4;
-    v35 = pre_5;
+    v34 = pre5;
+    v35 = pre4;
+    v36 = pre_5;
     goto dfuse_host_plan_Plan_refused_exit;
 arm_3_14:
-    v33 = r17_10_3_0;
-    v34 = 2;
-    v35 = 1;
+    v34 = r0_0_0_copyload_4;
+    v35 = 2;
+    v36 = 1;
     goto dfuse_host_plan_Plan_refused_exit;
 dfuse_host_plan_Plan_refused_exit:
     memcpy(r12_4 + 8, r12_5 + 8, 48);
-    v36 = v33;
     v37 = v34;
     v38 = v35;
+    v39 = v36;
     goto dfuse_host_plan_Plan_polled_exit;
 arm_4_8:
-    dfuse_host_plan_Plan_unsure_of(r12_4, r31, r1_5, r5_10_0_copyload, r5_13_0_copyload);
+    dfuse_host_plan_Plan_unsure_of(r12_4, r8, r1_6, r5_10_0_copyload, r5_13_0_copyload);
     uint8_t pre_6 = *r12_4;
     uint8_t pre30 = r12_4[1];
     uint8_t pre31 = r12_4[2];
-    v36 = pre31;
-    v37 = pre30;
-    v38 = pre_6;
+    v37 = pre31;
+    v38 = pre30;
+    v39 = pre_6;
     goto dfuse_host_plan_Plan_polled_exit;
 dfuse_host_plan_Plan_polled_exit:;
     uint64_t r12_1327_8_copyload28 = load64(r12_4 + 8);
@@ -8742,241 +8736,93 @@ dfuse_host_plan_Plan_polled_exit:;
     uint64_t r12_23_8_copyload32 = load64(r12_4 + 40);
     uint32_t r12_25_8_copyload33 = load32(r12_4 + 48);
     uint32_t r12_27_8_copyload34 = load32(r12_4 + 52);
-    r17_0_0_2 = v38;
-    r17_17_0 = v37;
-    r17_33_0 = v36;
-    r17_49252_0 = r12_1327_8_copyload28;
-    r17_65_0 = r12_17_8_copyload29;
-    r17_76_0 = r12_19_8_copyload30;
-    r17_87_0 = r12_21_8_copyload31;
-    r17_98_0 = r12_23_8_copyload32;
-    r17_104_0 = r12_25_8_copyload33;
-    r17_114_0 = r12_27_8_copyload34;
-    goto dfuse_host_plan_Plan_row_exit;
-arm_2_12:
-    r17_0_0_2 = 0;
-    r17_17_0 = 0;
-    r17_33_0 = 0;
-    r17_49252_0 = r18;
-    r17_65_0 = r5_6_0_copyload;
-    r17_76_0 = r5_8_0_copyload;
-    r17_87_0 = (uint64_t)r5_10_0_copyload;
-    r17_98_0 = r5_13_0_copyload;
-    r17_104_0 = 8;
-    r17_114_0 = (uint32_t)((r5_18_0_copyload == 0) ? 100 : r5_18_0_copyload);
-    goto dfuse_host_plan_Plan_row_exit;
+    r12_0_0 = v39;
+    r12_5_0 = v38;
+    r12_9_0 = v37;
+    r12_1327_0 = r12_1327_8_copyload28;
+    r12_17_0 = r12_17_8_copyload29;
+    r12_19_0 = r12_19_8_copyload30;
+    r12_21_0 = r12_21_8_copyload31;
+    r12_23_0 = r12_23_8_copyload32;
+    r12_25_0 = r12_25_8_copyload33;
+    r12_27_0 = r12_27_8_copyload34;
+    goto dfuse_host_plan_Plan_on_poll_exit;
+arm_2_14:
+    r12_0_0 = 0;
+    r12_5_0 = 0;
+    r12_9_0 = 0;
+    r12_1327_0 = r18;
+    r12_17_0 = r5_6_0_copyload;
+    r12_19_0 = r5_8_0_copyload;
+    r12_21_0 = (uint64_t)r5_10_0_copyload;
+    r12_23_0 = r5_13_0_copyload;
+    r12_25_0 = 8;
+    r12_27_0 = (uint32_t)((r5_18_0_copyload == 0) ? 100 : r5_18_0_copyload);
+    goto dfuse_host_plan_Plan_on_poll_exit;
 arm_3_11:
-    r17_0_0_2 = 0;
-    r17_17_0 = 0;
-    r17_33_0 = 0;
-    r17_49252_0 = r18;
-    r17_65_0 = r5_6_0_copyload;
-    r17_76_0 = r5_8_0_copyload;
-    r17_87_0 = (uint64_t)r5_10_0_copyload;
-    r17_98_0 = r5_13_0_copyload;
-    r17_104_0 = 7;
-    r17_114_0 = r5_18_0_copyload;
+    r12_0_0 = 0;
+    r12_5_0 = 0;
+    r12_9_0 = 0;
+    r12_1327_0 = r18;
+    r12_17_0 = r5_6_0_copyload;
+    r12_19_0 = r5_8_0_copyload;
+    r12_21_0 = (uint64_t)r5_10_0_copyload;
+    r12_23_0 = r5_13_0_copyload;
+    r12_25_0 = 7;
+    r12_27_0 = r5_18_0_copyload;
+dfuse_host_plan_Plan_on_poll_exit:
+    *r17_2 = r12_0_0;
+    r17_2[1] = r12_5_0;
+    r17_2[2] = r12_9_0;
+    store64(r17_2 + 8, r12_1327_0);
+    store64(r17_2 + 16, r12_17_0);
+    store64(r17_2 + 24, r12_19_0);
+    store64(r17_2 + 32, r12_21_0);
+    store64(r17_2 + 40, r12_23_0);
+    store32(r17_2 + 48, r12_25_0);
+    store32(r17_2 + 52, r12_27_0);
     goto dfuse_host_plan_Plan_row_exit;
 arm_9:
-    r17_0_0_2 = 0;
-    r17_17_0 = 0;
-    r17_33_0 = 0;
-    r17_49252_0 = r18;
-    r17_65_0 = r5_6_0_copyload;
-    r17_76_0 = r5_8_0_copyload;
-    r17_87_0 = (uint64_t)r5_10_0_copyload;
-    r17_98_0 = r5_13_0_copyload;
-    r17_104_0 = (uint32_t)((r17_0_0 == 6) ? 7 : 8);
-    r17_114_0 = r5_18_0_copyload;
+    store64(r17_2 + 8, r18);
+    store64(r17_2 + 16, r5_6_0_copyload);
+    store64(r17_2 + 24, r5_8_0_copyload);
+    store64(r17_2 + 32, (uint64_t)r5_10_0_copyload);
+    store64(r17_2 + 40, r5_13_0_copyload);
+    store32(r17_2 + 48, (uint32_t)((r17_0_0 == 6) ? 7 : 8));
+    store32(r17_2 + 52, r5_18_0_copyload);
     goto dfuse_host_plan_Plan_row_exit;
 arm_10:
-    store64(r1_8, r18);
-    store64(r1_8 + 8, r5_6_0_copyload);
-    store64(r1_8 + 16, r5_8_0_copyload);
+    dfuse_host_plan_Plan_on_turn(r17_2, r8, r1_2, r5_10_0_copyload, r5_13_0_copyload, (uint8_t)((r5_10_0_copyload == 1) ? 2 : r5_10_0_copyload), r5_13_0_copyload, 9, r9_2);
+    goto dfuse_host_plan_Plan_row_exit;
+arm_11:
+    dfuse_host_plan_Plan_on_turn(r17_2, r8, r1_2, r5_10_0_copyload, r5_13_0_copyload, (uint8_t)((r5_10_0_copyload == 2) ? 1 : r5_10_0_copyload), r5_13_0_copyload, 10, r9_2);
+    goto dfuse_host_plan_Plan_row_exit;
+arm_12:
     memset(r11_3, 0, 56);
     switch (r17_0_0) {
-    case 0: goto arm_1_12;
-    case 4:
-        r17_114_8_copyload282 = 0;
-        r17_104_8_copyload278 = 0;
-        r17_98_8_copyload272 = 0;
-        r17_87_8_copyload266 = 0;
-        r17_76_8_copyload262 = r5_8_0_copyload;
-        r17_65_8_copyload258 = r5_6_0_copyload;
-        r17_49252_8_copyload254 = r18;
-        v41 = 0;
-        v42 = 0;
-        v43 = 0;
-        goto dfuse_host_plan_Plan_on_begin_reading_exit;
+    case 3: goto arm_1_11;
+    case 4: goto arm_2_19;
+    case 0: goto arm_3_15;
     case 1: goto arm_3_15;
     case 2: goto arm_3_15;
-    case 3: goto arm_3_15;
     case 5: goto arm_3_15;
     case 6: goto arm_3_15;
     default: never();
     }
-arm_1_12:
-    dfuse_host_plan_Plan_settle(r11_3, r31, r1_8, (uint8_t)((r5_10_0_copyload == 1) ? 2 : r5_10_0_copyload), r5_13_0_copyload);
-    uint8_t pre_7 = *r11_3;
-    uint8_t pre8_2 = r11_3[1];
-    uint8_t pre9_2 = r11_3[2];
-    uint64_t r17_49252_8_copyload254_pre = load64(r11_3 + 8);
-    uint64_t r17_65_8_copyload258_pre = load64(r11_3 + 16);
-    uint64_t r17_76_8_copyload262_pre = load64(r11_3 + 24);
-    uint64_t r17_87_8_copyload266_pre = load64(r11_3 + 32);
-    uint64_t r17_98_8_copyload272_pre = load64(r11_3 + 40);
-    uint32_t r17_104_8_copyload278_pre = load32(r11_3 + 48);
-    uint32_t r17_114_8_copyload282_pre = load32(r11_3 + 52);
-    r17_114_8_copyload282 = r17_114_8_copyload282_pre;
-    r17_104_8_copyload278 = r17_104_8_copyload278_pre;
-    r17_98_8_copyload272 = r17_98_8_copyload272_pre;
-    r17_87_8_copyload266 = r17_87_8_copyload266_pre;
-    r17_76_8_copyload262 = r17_76_8_copyload262_pre;
-    r17_65_8_copyload258 = r17_65_8_copyload258_pre;
-    r17_49252_8_copyload254 = r17_49252_8_copyload254_pre;
-    v41 = pre9_2;
-    v42 = pre8_2;
-    v43 = pre_7;
-    goto dfuse_host_plan_Plan_on_begin_reading_exit;
-arm_3_15:
-    r17_114_8_copyload282 = 0;
-    r17_104_8_copyload278 = 9;
-    r17_98_8_copyload272 = r5_13_0_copyload;
-    r17_87_8_copyload266 = (uint64_t)r5_10_0_copyload;
-    r17_76_8_copyload262 = r5_8_0_copyload;
-    r17_65_8_copyload258 = r5_6_0_copyload;
-    r17_49252_8_copyload254 = r18;
-    v41 = 0;
-    v42 = 0;
-    v43 = 0;
-dfuse_host_plan_Plan_on_begin_reading_exit:
-    r17_0_0_2 = v43;
-    r17_17_0 = v42;
-    r17_33_0 = v41;
-    r17_49252_0 = r17_49252_8_copyload254;
-    r17_65_0 = r17_65_8_copyload258;
-    r17_76_0 = r17_76_8_copyload262;
-    r17_87_0 = r17_87_8_copyload266;
-    r17_98_0 = r17_98_8_copyload272;
-    r17_104_0 = r17_104_8_copyload278;
-    r17_114_0 = r17_114_8_copyload282;
-    goto dfuse_host_plan_Plan_row_exit;
-arm_11:
+arm_1_11:
+    if (!(r17_8_0 & 1)) {
+        v43 = 0;
+        v44 = 1;
+        v45 = 1;
+        goto dfuse_host_plan_Plan_on_read_exit;
+    }
     store64(r1_9, r18);
     store64(r1_9 + 8, r5_6_0_copyload);
     store64(r1_9 + 16, r5_8_0_copyload);
-    memset(r11_4, 0, 56);
-    switch (r17_0_0) {
-    case 0: goto arm_1_13;
-    case 4:
-        r17_114_8_copyload283 = 0;
-        r17_104_8_copyload279 = 0;
-        r17_98_8_copyload273 = 0;
-        r17_87_8_copyload267 = 0;
-        r17_76_8_copyload263 = r5_8_0_copyload;
-        r17_65_8_copyload259 = r5_6_0_copyload;
-        r17_49252_8_copyload255 = r18;
-        v45 = 0;
-        v46 = 0;
-        v47 = 0;
-        goto dfuse_host_plan_Plan_on_end_reading_exit;
-    case 1: goto arm_3_16;
-    case 2: goto arm_3_16;
-    case 3: goto arm_3_16;
-    case 5: goto arm_3_16;
-    case 6: goto arm_3_16;
-    default: never();
-    }
-arm_1_13:
-    dfuse_host_plan_Plan_settle(r11_4, r31, r1_9, (uint8_t)((r5_10_0_copyload == 2) ? 1 : r5_10_0_copyload), r5_13_0_copyload);
-    uint8_t pre_8 = *r11_4;
-    uint8_t pre8_3 = r11_4[1];
-    uint8_t pre9_3 = r11_4[2];
-    uint64_t r17_49252_8_copyload255_pre = load64(r11_4 + 8);
-    uint64_t r17_65_8_copyload259_pre = load64(r11_4 + 16);
-    uint64_t r17_76_8_copyload263_pre = load64(r11_4 + 24);
-    uint64_t r17_87_8_copyload267_pre = load64(r11_4 + 32);
-    uint64_t r17_98_8_copyload273_pre = load64(r11_4 + 40);
-    uint32_t r17_104_8_copyload279_pre = load32(r11_4 + 48);
-    uint32_t r17_114_8_copyload283_pre = load32(r11_4 + 52);
-    r17_114_8_copyload283 = r17_114_8_copyload283_pre;
-    r17_104_8_copyload279 = r17_104_8_copyload279_pre;
-    r17_98_8_copyload273 = r17_98_8_copyload273_pre;
-    r17_87_8_copyload267 = r17_87_8_copyload267_pre;
-    r17_76_8_copyload263 = r17_76_8_copyload263_pre;
-    r17_65_8_copyload259 = r17_65_8_copyload259_pre;
-    r17_49252_8_copyload255 = r17_49252_8_copyload255_pre;
-    v45 = pre9_3;
-    v46 = pre8_3;
-    v47 = pre_8;
-    goto dfuse_host_plan_Plan_on_end_reading_exit;
-arm_3_16:
-    r17_114_8_copyload283 = 0;
-    r17_104_8_copyload279 = 10;
-    r17_98_8_copyload273 = r5_13_0_copyload;
-    r17_87_8_copyload267 = (uint64_t)r5_10_0_copyload;
-    r17_76_8_copyload263 = r5_8_0_copyload;
-    r17_65_8_copyload259 = r5_6_0_copyload;
-    r17_49252_8_copyload255 = r18;
-    v45 = 0;
-    v46 = 0;
-    v47 = 0;
-dfuse_host_plan_Plan_on_end_reading_exit:
-    r17_0_0_2 = v47;
-    r17_17_0 = v46;
-    r17_33_0 = v45;
-    r17_49252_0 = r17_49252_8_copyload255;
-    r17_65_0 = r17_65_8_copyload259;
-    r17_76_0 = r17_76_8_copyload263;
-    r17_87_0 = r17_87_8_copyload267;
-    r17_98_0 = r17_98_8_copyload273;
-    r17_104_0 = r17_104_8_copyload279;
-    r17_114_0 = r17_114_8_copyload283;
-    goto dfuse_host_plan_Plan_row_exit;
-arm_12:
-    memset(r11_5, 0, 56);
-    switch (r17_0_0) {
-    case 3: goto arm_1_14;
-    case 4:
-        r17_114_8_copyload284 = 0;
-        r17_104_8_copyload280 = 0;
-        r17_98_8_copyload274 = 0;
-        r17_87_8_copyload268 = 0;
-        r17_76_8_copyload264 = r5_8_0_copyload;
-        r17_65_8_copyload260 = r5_6_0_copyload;
-        r17_49252_8_copyload256 = r18;
-        v48 = 0;
-        v49 = 0;
-        v50 = 0;
-        goto dfuse_host_plan_Plan_on_read_exit;
-    case 0: goto arm_3_17;
-    case 1: goto arm_3_17;
-    case 2: goto arm_3_17;
-    case 5: goto arm_3_17;
-    case 6: goto arm_3_17;
-    default: never();
-    }
-arm_1_14:
-    if (!(r17_8_0 & 1)) {
-        r17_114_8_copyload284 = 0;
-        r17_104_8_copyload280 = 0;
-        r17_98_8_copyload274 = 0;
-        r17_87_8_copyload268 = 0;
-        r17_76_8_copyload264 = 0;
-        r17_65_8_copyload260 = 0;
-        r17_49252_8_copyload256 = 0;
-        v48 = 0;
-        v49 = 1;
-        v50 = 1;
-        goto dfuse_host_plan_Plan_on_read_exit;
-    }
-    store64(r1_10, r18);
-    store64(r1_10 + 8, r5_6_0_copyload);
-    store64(r1_10 + 16, r5_8_0_copyload);
-    r14_3 = dfuse_host_plan_Plan_end_of_work(r31, r1_10);
+    r14_3 = dfuse_host_plan_Plan_end_of_work(r8, r1_9);
     switch (r5_0_0_copyload) {
-    case 3: goto arm_1_15;
-    case 5: goto arm_2_17;
+    case 3: goto arm_1_12;
+    case 5: goto arm_2_20;
     case 0:
         r11_5_0 = r5_6_0_copyload;
         r11_9_0 = r5_8_0_copyload;
@@ -8999,13 +8845,13 @@ arm_1_14:
         goto dfuse_host_plan_Plan_read_on_exit;
     default: never();
     }
-arm_1_15:;
-    uint64_t r20 = dfuse_host_plan_Plan_read_end(r31, r5_6_0_copyload, r14_3);
+arm_1_12:;
+    uint64_t r20 = dfuse_host_plan_Plan_read_end(r8, r5_6_0_copyload, r14_3);
     r11_5_0 = r20;
     r11_9_0 = 0;
     goto dfuse_host_plan_Plan_read_on_exit;
-arm_2_17:;
-    uint64_t r27_2 = dfuse_host_plan_Plan_read_end(r31, r5_6_0_copyload, r14_3);
+arm_2_20:;
+    uint64_t r27_2 = dfuse_host_plan_Plan_read_end(r8, r5_6_0_copyload, r14_3);
     r11_5_0 = r27_2;
     r11_9_0 = 0;
     goto dfuse_host_plan_Plan_read_on_exit;
@@ -9013,208 +8859,189 @@ dfuse_host_plan_Plan_read_on_exit:
     store64(r13_2, r18);
     store64(r13_2 + 8, r11_5_0);
     store64(r13_2 + 16, r11_9_0);
-    dfuse_host_plan_Plan_settle(r11_5, r31, r13_2, r5_10_0_copyload, r5_13_0_copyload);
-    uint8_t pre_9 = *r11_5;
-    uint8_t pre20 = r11_5[1];
-    uint8_t pre21 = r11_5[2];
-    uint64_t r17_49252_8_copyload256_pre = load64(r11_5 + 8);
-    uint64_t r17_65_8_copyload260_pre = load64(r11_5 + 16);
-    uint64_t r17_76_8_copyload264_pre = load64(r11_5 + 24);
-    uint64_t r17_87_8_copyload268_pre = load64(r11_5 + 32);
-    uint64_t r17_98_8_copyload274_pre = load64(r11_5 + 40);
-    uint32_t r17_104_8_copyload280_pre = load32(r11_5 + 48);
-    uint32_t r17_114_8_copyload284_pre = load32(r11_5 + 52);
-    r17_114_8_copyload284 = r17_114_8_copyload284_pre;
-    r17_104_8_copyload280 = r17_104_8_copyload280_pre;
-    r17_98_8_copyload274 = r17_98_8_copyload274_pre;
-    r17_87_8_copyload268 = r17_87_8_copyload268_pre;
-    r17_76_8_copyload264 = r17_76_8_copyload264_pre;
-    r17_65_8_copyload260 = r17_65_8_copyload260_pre;
-    r17_49252_8_copyload256 = r17_49252_8_copyload256_pre;
-    v48 = pre21;
-    v49 = pre20;
-    v50 = pre_9;
+    dfuse_host_plan_Plan_settle(r11_3, r8, r13_2, r5_10_0_copyload, r5_13_0_copyload);
+    uint8_t pre_7 = *r11_3;
+    uint8_t pre20 = r11_3[1];
+    uint8_t pre21 = r11_3[2];
+    v43 = pre21;
+    v44 = pre20;
+    v45 = pre_7;
     goto dfuse_host_plan_Plan_on_read_exit;
-arm_3_17:
-    r17_114_8_copyload284 = 0;
-    r17_104_8_copyload280 = 11;
-    r17_98_8_copyload274 = r5_13_0_copyload;
-    r17_87_8_copyload268 = (uint64_t)r5_10_0_copyload;
-    r17_76_8_copyload264 = r5_8_0_copyload;
-    r17_65_8_copyload260 = r5_6_0_copyload;
-    r17_49252_8_copyload256 = r18;
-    v48 = 0;
-    v49 = 0;
-    v50 = 0;
+arm_2_19:
+    store64(r11_3 + 8, r18);
+    store64(r11_3 + 16, r5_6_0_copyload);
+    store64(r11_3 + 24, r5_8_0_copyload);
+    memset(r11_3 + 32, 0, 24);
+    v43 = 0;
+    v44 = 0;
+    v45 = 0;
+    goto dfuse_host_plan_Plan_on_read_exit;
+arm_3_15:
+    store64(r11_3 + 8, r18);
+    store64(r11_3 + 16, r5_6_0_copyload);
+    store64(r11_3 + 24, r5_8_0_copyload);
+    store64(r11_3 + 32, (uint64_t)r5_10_0_copyload);
+    store64(r11_3 + 40, r5_13_0_copyload);
+    store32(r11_3 + 48, 11);
+    v43 = 0;
+    v44 = 0;
+    v45 = 0;
 dfuse_host_plan_Plan_on_read_exit:
-    r17_0_0_2 = v50;
-    r17_17_0 = v49;
-    r17_33_0 = v48;
-    r17_49252_0 = r17_49252_8_copyload256;
-    r17_65_0 = r17_65_8_copyload260;
-    r17_76_0 = r17_76_8_copyload264;
-    r17_87_0 = r17_87_8_copyload268;
-    r17_98_0 = r17_98_8_copyload274;
-    r17_104_0 = r17_104_8_copyload280;
-    r17_114_0 = r17_114_8_copyload284;
+    *r17_2 = v45;
+    r17_2[1] = v44;
+    r17_2[2] = v43;
+    memcpy(r17_2 + 8, r11_3 + 8, 48);
     goto dfuse_host_plan_Plan_row_exit;
 arm_13:
-    r17_0_0_2 = 0;
-    r17_17_0 = 0;
-    r17_33_0 = 0;
-    r17_49252_0 = r18;
-    r17_65_0 = r5_6_0_copyload;
-    r17_76_0 = r5_8_0_copyload;
-    r17_87_0 = (uint64_t)r5_10_0_copyload;
-    r17_98_0 = r5_13_0_copyload;
-    r17_104_0 = (uint32_t)((r17_0_0 == 0) ? 14 : 13);
-    r17_114_0 = 0;
+    store64(r17_2 + 8, r18);
+    store64(r17_2 + 16, r5_6_0_copyload);
+    store64(r17_2 + 24, r5_8_0_copyload);
+    store64(r17_2 + 32, (uint64_t)r5_10_0_copyload);
+    store64(r17_2 + 40, r5_13_0_copyload);
+    store32(r17_2 + 48, (uint32_t)((r17_0_0 == 0) ? 14 : 13));
+    store32(r17_2 + 52, 0);
     goto dfuse_host_plan_Plan_row_exit;
 arm_14:
     switch (r17_0_0) {
-    case 2: goto arm_1_16;
+    case 2: goto arm_1_13;
     case 4:
         r12_23_0_in = r5_10_0_copyload;
         r12_26_0 = r5_13_0_copyload;
         r12_29_0 = 14;
         goto dfuse_host_closing_on_close_probe_exit;
-    case 0: goto arm_3_18;
-    case 1: goto arm_3_18;
-    case 3: goto arm_3_18;
-    case 5: goto arm_3_18;
-    case 6: goto arm_3_18;
+    case 0: goto arm_3_16;
+    case 1: goto arm_3_16;
+    case 3: goto arm_3_16;
+    case 5: goto arm_3_16;
+    case 6: goto arm_3_16;
     default: never();
     }
-arm_1_16:
+arm_1_13:
     switch (r17_8_0) {
-    case 2: goto arm_1_17;
-    case 5: goto arm_1_17;
+    case 2: goto arm_1_14;
+    case 5: goto arm_1_14;
     case 10:
         r12_23_0_in = 0;
         r12_26_0 = 0;
         r12_29_0 = 0;
         goto dfuse_host_closing_on_close_probe_exit;
-    case 0: goto arm_3_19;
-    case 1: goto arm_3_19;
-    case 3: goto arm_3_19;
-    case 4: goto arm_3_19;
-    case 6: goto arm_3_19;
-    case 7: goto arm_3_19;
-    case 8: goto arm_3_19;
-    case 9: goto arm_3_19;
+    case 0: goto arm_3_17;
+    case 1: goto arm_3_17;
+    case 3: goto arm_3_17;
+    case 4: goto arm_3_17;
+    case 6: goto arm_3_17;
+    case 7: goto arm_3_17;
+    case 8: goto arm_3_17;
+    case 9: goto arm_3_17;
     default: never();
     }
-arm_1_17:
+arm_1_14:
     r12_23_0_in = r5_10_0_copyload;
     r12_26_0 = r5_13_0_copyload;
     r12_29_0 = 12;
     goto dfuse_host_closing_on_close_probe_exit;
-arm_3_19:
+arm_3_17:
     r12_23_0_in = r5_10_0_copyload;
     r12_26_0 = r5_13_0_copyload;
     r12_29_0 = 14;
     goto dfuse_host_closing_on_close_probe_exit;
-arm_3_18:
+arm_3_16:
     r12_23_0_in = r5_10_0_copyload;
     r12_26_0 = r5_13_0_copyload;
     r12_29_0 = 13;
 dfuse_host_closing_on_close_probe_exit:
-    r17_0_0_2 = 0;
-    r17_17_0 = 0;
-    r17_33_0 = 0;
-    r17_49252_0 = r18;
-    r17_65_0 = r5_6_0_copyload;
-    r17_76_0 = r5_8_0_copyload;
-    r17_87_0 = (uint64_t)r12_23_0_in;
-    r17_98_0 = r12_26_0;
-    r17_104_0 = r12_29_0;
-    r17_114_0 = 0;
+    store64(r17_2 + 8, r18);
+    store64(r17_2 + 16, r5_6_0_copyload);
+    store64(r17_2 + 24, r5_8_0_copyload);
+    store64(r17_2 + 32, (uint64_t)r12_23_0_in);
+    store64(r17_2 + 40, r12_26_0);
+    store32(r17_2 + 48, r12_29_0);
+    store32(r17_2 + 52, 0);
     goto dfuse_host_plan_Plan_row_exit;
 arm_15:
     if (r17_0_0 != 1) {
-        r12_0_0 = 0;
+        r12_0_0_2 = 0;
         r12_108_0_in = r5_0_0_copyload;
         r12_13_0 = r5_6_0_copyload;
         r12_15_0 = r5_8_0_copyload;
         r12_17_0_in = r5_10_0_copyload;
-        r12_19_0 = r5_13_0_copyload;
-        r12_21_0 = 14;
+        r12_19_0_2 = r5_13_0_copyload;
+        r12_21_0_2 = 14;
         goto dfuse_host_closing_on_close_poll_exit;
     }
-    switch (r17_10_7_0) {
-    case 2: goto arm_3_20;
-    case 5: goto arm_3_20;
+    uint8_t r0_0_0_copyload_5 = r9_2[12];
+    switch (r0_0_0_copyload_5) {
+    case 2: goto arm_3_18;
+    case 5: goto arm_3_18;
     case 10:
-        r12_0_0 = 0;
+        r12_0_0_2 = 0;
         r12_108_0_in = r5_0_0_copyload;
         r12_13_0 = r5_6_0_copyload;
         r12_15_0 = r5_8_0_copyload;
         r12_17_0_in = 0;
-        r12_19_0 = 0;
-        r12_21_0 = 0;
+        r12_19_0_2 = 0;
+        r12_21_0_2 = 0;
         goto dfuse_host_closing_on_close_poll_exit;
-    case 7: goto arm_5_5;
-    case 8: goto arm_5_5;
-    case 0: goto after_2_2;
-    case 1: goto after_2_2;
-    case 3: goto after_2_2;
-    case 4: goto after_2_2;
-    case 6: goto after_2_2;
-    case 9: goto after_2_2;
+    case 7: goto arm_5_6;
+    case 8: goto arm_5_6;
+    case 0: goto after_2;
+    case 1: goto after_2;
+    case 3: goto after_2;
+    case 4: goto after_2;
+    case 6: goto after_2;
+    case 9: goto after_2;
     default: never();
     }
-arm_3_20:
-    r12_0_0 = 0;
+arm_3_18:
+    r12_0_0_2 = 0;
     r12_108_0_in = r5_0_0_copyload;
     r12_13_0 = r5_6_0_copyload;
     r12_15_0 = r5_8_0_copyload;
     r12_17_0_in = r5_10_0_copyload;
-    r12_19_0 = r5_13_0_copyload;
-    r12_21_0 = 12;
+    r12_19_0_2 = r5_13_0_copyload;
+    r12_21_0_2 = 12;
     goto dfuse_host_closing_on_close_poll_exit;
-arm_5_5:
-    if (r17_10_3_0 == 0) {
-        r12_0_0 = 1;
+arm_5_6:;
+    uint8_t r0_0_0_copyload_6 = *r22_4;
+    if (r0_0_0_copyload_6 == 0) {
+        r12_0_0_2 = 1;
         r12_108_0_in = 0;
         r12_13_0 = 0;
         r12_15_0 = 0;
         r12_17_0_in = 0;
-        r12_19_0 = 0;
-        r12_21_0 = 0;
+        r12_19_0_2 = 0;
+        r12_21_0_2 = 0;
         goto dfuse_host_closing_on_close_poll_exit;
     }
-after_2_2:
-    r12_0_0 = 0;
+after_2:
+    r12_0_0_2 = 0;
     r12_108_0_in = r5_0_0_copyload;
     r12_13_0 = r5_6_0_copyload;
     r12_15_0 = r5_8_0_copyload;
     r12_17_0_in = r5_10_0_copyload;
-    r12_19_0 = r5_13_0_copyload;
-    r12_21_0 = 14;
+    r12_19_0_2 = r5_13_0_copyload;
+    r12_21_0_2 = 14;
     goto dfuse_host_closing_on_close_poll_exit;
 dfuse_host_closing_on_close_poll_exit:
-    r17_0_0_2 = r12_0_0;
-    r17_17_0 = 0;
-    r17_33_0 = r12_0_0;
-    r17_49252_0 = (uint64_t)r12_108_0_in;
-    r17_65_0 = r12_13_0;
-    r17_76_0 = r12_15_0;
-    r17_87_0 = (uint64_t)r12_17_0_in;
-    r17_98_0 = r12_19_0;
-    r17_104_0 = r12_21_0;
-    r17_114_0 = 0;
+    *r17_2 = r12_0_0_2;
+    r17_2[1] = 0;
+    r17_2[2] = r12_0_0_2;
+    store64(r17_2 + 8, (uint64_t)r12_108_0_in);
+    store64(r17_2 + 16, r12_13_0);
+    store64(r17_2 + 24, r12_15_0);
+    store64(r17_2 + 32, (uint64_t)r12_17_0_in);
+    store64(r17_2 + 40, r12_19_0_2);
+    store32(r17_2 + 48, r12_21_0_2);
+    store32(r17_2 + 52, 0);
     goto dfuse_host_plan_Plan_row_exit;
-dfuse_host_plan_Plan_row_exit:
-    *r13 = r17_0_0_2;
-    r13[1] = r17_17_0;
-    r13[2] = r17_33_0;
-    store64(r13 + 8, r17_49252_0);
-    store64(r13 + 16, r17_65_0);
-    store64(r13 + 24, r17_76_0);
-    store64(r13 + 32, r17_87_0);
-    store64(r13 + 40, r17_98_0);
-    store32(r13 + 48, r17_104_0);
-    store32(r13 + 52, r17_114_0);
+dfuse_host_plan_Plan_row_exit:;
+    uint8_t v49 = *r17_2;
+    uint8_t v50 = r17_2[1];
+    uint8_t v51 = r17_2[2];
+    *r13 = v49;
+    r13[1] = v50;
+    r13[2] = v51;
+    memcpy(r13 + 8, r17_2 + 8, 48);
     dfuse_host_session_Session_spent(r10_2, r12, r13, r8_3_0_copyload);
 dfuse_host_session_Session_after_exit:
     memcpy(r11_2, r10_2, 104);

@@ -208,18 +208,18 @@ int32_t dfu_core_install_took(struct dfu_run_area *area, const uint8_t *image, s
     default:
         r1_0_0 = 3;
         r1_61_0 = 0;
-        goto dfu_install_c_ask_due_of_exit;
+        goto dfu_install_c_numbers_due_of_exit;
     }
 arm_1:;
     uint32_t r6 = load32(a5 + 4);
     r1_0_0 = 1;
     r1_61_0 = r6;
-    goto dfu_install_c_ask_due_of_exit;
+    goto dfu_install_c_numbers_due_of_exit;
 arm_2:;
     uint32_t r10_2 = load32(a5 + 4);
     r1_0_0 = 2;
     r1_61_0 = r10_2;
-dfu_install_c_ask_due_of_exit:
+dfu_install_c_numbers_due_of_exit:
     if (a6 != 0) {
         r0_0_0_0_off0 = 0xffffffffU;
         goto dfu_install_c_calls_dfu_core_install_took_exit;

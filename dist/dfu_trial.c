@@ -130,35 +130,35 @@ static _Alignas(8) const uint64_t switch_table_dfu_trial_c_flash_looked[4] = {
 static _Alignas(4) const uint32_t switch_table_dfu_trial_c_flash_medium_of[4] = {
     1, 0x10, 0x40, 0x100
 };
-static _Alignas(4) const uint32_t switch_table_dfu_slots_open_is_whole[4] = {
+static _Alignas(4) const uint32_t switch_table_dfu_slots_layout_is_whole[4] = {
     0, 0xf, 0x3f, 0xff
 };
-static _Alignas(4) const uint32_t switch_table_dfu_slots_read_gate_of[4] = {
+static _Alignas(4) const uint32_t switch_table_dfu_slots_layout_gate_of[4] = {
     0x10, 0x10, 0x40, 0x100
 };
 
 static void dfu_trial_c_flash_looked(unsigned char *a0, unsigned char *a1, unsigned char *a2, uint64_t a3);
 static void dfu_trial_c_flash_medium_of(unsigned char *a0, unsigned char *a1, unsigned char *a2, uint64_t a3);
-static uint8_t dfu_trial_c_tries_unit_sized(uint32_t a0);
+static uint8_t dfu_trial_c_flash_unit_sized(uint32_t a0);
 static uint8_t dfu_slots_read_counts(unsigned char *a0, uint32_t a1);
 static uint8_t dfu_slots_read_byte_at(unsigned char *a0, uint32_t a1);
 static void dfu_asks_mapped_MappedMedium_read(unsigned char *a0, uint32_t a1, unsigned char *a2, uint64_t a3);
 static void dfu_slots_read_header_of(unsigned char *a0, unsigned char *a1, uint32_t a2);
-static uint32_t dfu_slots_read_capacity_of(unsigned char *a0);
+static uint32_t dfu_slots_layout_capacity_of(unsigned char *a0);
 static void dfu_suffix_crc_Crc_update_small(unsigned char *a0, unsigned char *a1, uint64_t a2);
 static uint8_t dfu_slots_places_is_newest(unsigned char *a0, uint32_t a1, uint32_t a2, uint8_t a3, uint8_t a4);
 static uint8_t dfu_slots_read_generation(unsigned char *a0, uint32_t a1);
-static uint8_t dfu_slots_header_is_formed(unsigned char *a0, uint32_t a1);
+static uint8_t dfu_slots_layout_is_formed(unsigned char *a0, uint32_t a1);
 static uint8_t dfu_trial_marks_is_set(unsigned char *a0, uint32_t a1, uint32_t a2);
 static uint8_t dfu_slots_read_counts_2(unsigned char *a0, uint32_t a1);
 static uint8_t dfu_slots_read_byte_at_2(unsigned char *a0, uint32_t a1);
 static void dfu_trial_closed_ClosedMedium_read(unsigned char *a0, uint32_t a1, unsigned char *a2, uint64_t a3);
 static void dfu_slots_read_header_of_2(unsigned char *a0, unsigned char *a1, uint32_t a2);
-static uint32_t dfu_slots_read_capacity_of_2(unsigned char *a0);
+static uint32_t dfu_slots_layout_capacity_of_2(unsigned char *a0);
 static uint8_t dfu_slots_places_is_newest_2(unsigned char *a0, uint32_t a1, uint32_t a2, uint8_t a3, uint8_t a4);
 static uint8_t dfu_slots_read_generation_2(unsigned char *a0, uint32_t a1);
-static uint32_t dfu_trial_c_ask_tell(unsigned char *a0, uint32_t a1, unsigned char *a2);
-static struct i32_i32 dfu_trial_c_place_image_in(unsigned char *a0, uint32_t a1);
+static uint32_t dfu_trial_c_told_tell(unsigned char *a0, uint32_t a1, unsigned char *a2);
+static struct i32_i32 dfu_trial_c_told_image_in(unsigned char *a0, uint32_t a1);
 
 /* dfu_trial_c::flash::looked */
 static void dfu_trial_c_flash_looked(unsigned char *a0, unsigned char *a1, unsigned char *a2, uint64_t a3) {
@@ -232,7 +232,7 @@ join_4:
     }
     uint8_t r0_0_0_copyload = r4[16];
     v3 = (uint64_t)r0_0_0_copyload;
-    uint32_t switch_load_2 = load32(PLACE(switch_table_dfu_slots_read_gate_of) + 4 * (size_t)v3);
+    uint32_t switch_load_2 = load32(PLACE(switch_table_dfu_slots_layout_gate_of) + 4 * (size_t)v3);
     a0_a1 = umax32(r1_0_0_copyload, switch_load_2);
     r2 = r4 + 8;
     uint64_t r3_2 = load64(r2);
@@ -249,7 +249,7 @@ join_4:
     }
     r6613 = r5 >> 1;
     r69 = r6613 - (a0_a1 << 1);
-    uint32_t switch_load_3 = load32(PLACE(switch_table_dfu_slots_open_is_whole) + 4 * (size_t)v3);
+    uint32_t switch_load_3 = load32(PLACE(switch_table_dfu_slots_layout_is_whole) + 4 * (size_t)v3);
     if ((switch_load_3 & r69) != 0) {
         r9_0_045 = 1;
         r12_12_0_0 = 0;
@@ -312,7 +312,7 @@ join_9:
     if (r18 != 2) goto dfu_slots_read_header_len_exit;
     goto arm_1_2;
 dfu_slots_read_header_len_exit:;
-    uint8_t r29_2 = dfu_slots_header_is_formed(r3_3, r69);
+    uint8_t r29_2 = dfu_slots_layout_is_formed(r3_3, r69);
     if (!r29_2) {
         r9_0_045 = 1;
         r12_12_0_0 = 0;
@@ -359,8 +359,8 @@ join_9_2:
 dfu_trial_looking_comes_back_exit_thread:
     goto after_5;
 dfu_trial_looking_comes_back_exit:;
-    uint32_t r26 = dfu_slots_read_capacity_of_2(r3_4);
-    uint8_t r29_3 = dfu_slots_header_is_formed(r3_8, r26);
+    uint32_t r26 = dfu_slots_layout_capacity_of_2(r3_4);
+    uint8_t r29_3 = dfu_slots_layout_is_formed(r3_8, r26);
     if (!r29_3) goto after_5;
 loop_2_preheader:
     r1_0 = 0;
@@ -419,7 +419,7 @@ static void dfu_trial_c_flash_medium_of(unsigned char *a0, unsigned char *a1, un
     uint32_t r24, r0_11_0;
     uint64_t r0_0_0_0, r0_5_0, r0_8_0;
     uint32_t r7 = load32(a1);
-    r9 = dfu_trial_c_tries_unit_sized(r7);
+    r9 = dfu_trial_c_flash_unit_sized(r7);
     uint32_t switch_load = load32(PLACE(switch_table_dfu_trial_c_flash_medium_of) + 4 * (size_t)r9);
     if (switch_load == r7) goto join_3;
     goto then_1;
@@ -462,8 +462,8 @@ dfu_asks_mapped_Mapped_with_sectors_exit:
     return;
 }
 
-/* dfu_trial_c::tries::unit_sized */
-static uint8_t dfu_trial_c_tries_unit_sized(uint32_t a0) {
+/* dfu_trial_c::flash::unit_sized */
+static uint8_t dfu_trial_c_flash_unit_sized(uint32_t a0) {
     return (uint8_t)((a0 < 16) ? 0 : (uint8_t)((a0 < 64) ? 1 : (uint8_t)((a0 < 256) ? 2 : 3)));
 }
 
@@ -495,7 +495,7 @@ static uint8_t dfu_slots_read_counts(unsigned char *a0, uint32_t a1) {
     r1_5_0_copyload = load32u(r3_2 + 4);
     r1_6_0_copyload = load32u(r3_2 + 8);
     r1_7_0_copyload = load32u(r3_2 + 12);
-    uint32_t r10 = dfu_slots_read_capacity_of(a0);
+    uint32_t r10 = dfu_slots_layout_capacity_of(a0);
     if (r10 < r1_5_0_copyload) {
         common_ret_op = 0;
         goto dfu_slots_read_is_intact_exit;
@@ -511,7 +511,7 @@ loop_2:
     uint64_t r28 = (uint64_t)a1_2;
     uint8_t r0_0_0_copyload = *r1_2;
     uint32_t r1_0_0_copyload = load32(r2_3);
-    uint32_t switch_load = load32(PLACE(switch_table_dfu_slots_read_gate_of) + 4 * (size_t)r0_0_0_copyload);
+    uint32_t switch_load = load32(PLACE(switch_table_dfu_slots_layout_gate_of) + 4 * (size_t)r0_0_0_copyload);
     dfu_asks_mapped_MappedMedium_read(a0, (r3_0 + a1) + (umax32(r1_0_0_copyload, switch_load) << 1), r2_2, r28);
     dfu_suffix_crc_Crc_update_small(r1, r2_2, r28);
     r3_0 = a1_2 + r3_0;
@@ -560,18 +560,18 @@ static void dfu_slots_read_header_of(unsigned char *a0, unsigned char *a1, uint3
     memset(r1, 0, 16);
     uint8_t r0_0_0_copyload = a1[16];
     uint32_t r1_0_0_copyload = load32(a1 + 20);
-    uint32_t switch_load = load32(PLACE(switch_table_dfu_slots_read_gate_of) + 4 * (size_t)r0_0_0_copyload);
+    uint32_t switch_load = load32(PLACE(switch_table_dfu_slots_layout_gate_of) + 4 * (size_t)r0_0_0_copyload);
     dfu_asks_mapped_MappedMedium_read(a1, umax32(r1_0_0_copyload, switch_load) + a2, r1, 16);
     memcpy(a0, r1, 16);
     return;
 }
 
-/* dfu_slots::read::capacity_of::<#5c9ad03545c23a1c> */
-static uint32_t dfu_slots_read_capacity_of(unsigned char *a0) {
+/* dfu_slots::layout::capacity_of::<#5c9ad03545c23a1c> */
+static uint32_t dfu_slots_layout_capacity_of(unsigned char *a0) {
     uint64_t r3 = load64(a0 + 8);
     uint8_t r0_0_0_copyload = a0[16];
     uint32_t r1_0_0_copyload = load32(a0 + 20);
-    uint32_t switch_load = load32(PLACE(switch_table_dfu_slots_read_gate_of) + 4 * (size_t)r0_0_0_copyload);
+    uint32_t switch_load = load32(PLACE(switch_table_dfu_slots_layout_gate_of) + 4 * (size_t)r0_0_0_copyload);
     return ((uint32_t)r3 >> 1) - (umax32(r1_0_0_copyload, switch_load) << 1);
 }
 
@@ -615,13 +615,13 @@ join_3:
 static uint8_t dfu_slots_read_generation(unsigned char *a0, uint32_t a1) {
     uint8_t r0_0_0_copyload = a0[16];
     uint32_t r1_0_0_copyload = load32(a0 + 20);
-    uint32_t switch_load = load32(PLACE(switch_table_dfu_slots_read_gate_of) + 4 * (size_t)r0_0_0_copyload);
+    uint32_t switch_load = load32(PLACE(switch_table_dfu_slots_layout_gate_of) + 4 * (size_t)r0_0_0_copyload);
     uint8_t r7 = dfu_slots_read_byte_at(a0, umax32(r1_0_0_copyload, switch_load) + a1);
     return r7;
 }
 
-/* dfu_slots::header::is_formed */
-static uint8_t dfu_slots_header_is_formed(unsigned char *a0, uint32_t a1) {
+/* dfu_slots::layout::is_formed */
+static uint8_t dfu_slots_layout_is_formed(unsigned char *a0, uint32_t a1) {
     uint8_t r1_0_in;
     uint32_t r17 = load32u(a0 + 4);
     if (r17 > a1) {
@@ -661,7 +661,7 @@ static uint8_t dfu_trial_marks_is_set(unsigned char *a0, uint32_t a1, uint32_t a
     uint64_t r23;
     uint8_t r7_not_not_not_not_not_not_not_not_not_not_not_not_not;
     uint8_t r0_0_0_copyload = a0[16];
-    uint32_t switch_load = load32(PLACE(switch_table_dfu_slots_read_gate_of) + 4 * (size_t)r0_0_0_copyload);
+    uint32_t switch_load = load32(PLACE(switch_table_dfu_slots_layout_gate_of) + 4 * (size_t)r0_0_0_copyload);
     uint32_t r1_0_0_copyload = load32(a0 + 20);
     uint64_t r11 = (uint64_t)switch_load;
     memset(r1, 0, 256);
@@ -708,7 +708,7 @@ static uint8_t dfu_slots_read_counts_2(unsigned char *a0, uint32_t a1) {
     r1_5_0_copyload = load32u(r3_2 + 4);
     r1_6_0_copyload = load32u(r3_2 + 8);
     r1_7_0_copyload = load32u(r3_2 + 12);
-    uint32_t r10 = dfu_slots_read_capacity_of_2(a0);
+    uint32_t r10 = dfu_slots_layout_capacity_of_2(a0);
     if (r10 < r1_5_0_copyload) {
         common_ret_op = 0;
         goto dfu_slots_read_is_intact_exit;
@@ -724,7 +724,7 @@ loop_2:
     unsigned char *r2_3 = (unsigned char *)(uintptr_t)r2_wide;
     uint8_t r0_0_0_copyload = r2_3[16];
     uint32_t r1_0_0_copyload = load32u(r2_3 + 20);
-    uint32_t switch_load = load32(PLACE(switch_table_dfu_slots_read_gate_of) + 4 * (size_t)r0_0_0_copyload);
+    uint32_t switch_load = load32(PLACE(switch_table_dfu_slots_layout_gate_of) + 4 * (size_t)r0_0_0_copyload);
     dfu_trial_closed_ClosedMedium_read(a0, (r3_0 + a1) + (umax32(r1_0_0_copyload, switch_load) << 1), r2_2, r28);
     dfu_suffix_crc_Crc_update_small(r1, r2_2, r28);
     r3_0 = a1_2 + r3_0;
@@ -769,20 +769,20 @@ static void dfu_slots_read_header_of_2(unsigned char *a0, unsigned char *a1, uin
     unsigned char *r2 = (unsigned char *)(uintptr_t)r2_wide;
     uint8_t r0_0_0_copyload = r2[16];
     uint32_t r1_0_0_copyload = load32u(r2 + 20);
-    uint32_t switch_load = load32(PLACE(switch_table_dfu_slots_read_gate_of) + 4 * (size_t)r0_0_0_copyload);
+    uint32_t switch_load = load32(PLACE(switch_table_dfu_slots_layout_gate_of) + 4 * (size_t)r0_0_0_copyload);
     dfu_trial_closed_ClosedMedium_read(a1, umax32(r1_0_0_copyload, switch_load) + a2, r1, 16);
     memcpy(a0, r1, 16);
     return;
 }
 
-/* dfu_slots::read::capacity_of::<#5c03c3d00696451c> */
-static uint32_t dfu_slots_read_capacity_of_2(unsigned char *a0) {
+/* dfu_slots::layout::capacity_of::<#5c03c3d00696451c> */
+static uint32_t dfu_slots_layout_capacity_of_2(unsigned char *a0) {
     uint64_t r2_wide = load64(a0);
     unsigned char *r2 = (unsigned char *)(uintptr_t)r2_wide;
     uint64_t r3 = load64(r2 + 8);
     uint8_t r0_0_0_copyload = r2[16];
     uint32_t r1_0_0_copyload = load32(r2 + 20);
-    uint32_t switch_load = load32(PLACE(switch_table_dfu_slots_read_gate_of) + 4 * (size_t)r0_0_0_copyload);
+    uint32_t switch_load = load32(PLACE(switch_table_dfu_slots_layout_gate_of) + 4 * (size_t)r0_0_0_copyload);
     return ((uint32_t)r3 >> 1) - (umax32(r1_0_0_copyload, switch_load) << 1);
 }
 
@@ -806,13 +806,13 @@ static uint8_t dfu_slots_read_generation_2(unsigned char *a0, uint32_t a1) {
     unsigned char *r2 = (unsigned char *)(uintptr_t)r2_wide;
     uint8_t r0_0_0_copyload = r2[16];
     uint32_t r1_0_0_copyload = load32u(r2 + 20);
-    uint32_t switch_load = load32(PLACE(switch_table_dfu_slots_read_gate_of) + 4 * (size_t)r0_0_0_copyload);
+    uint32_t switch_load = load32(PLACE(switch_table_dfu_slots_layout_gate_of) + 4 * (size_t)r0_0_0_copyload);
     uint8_t r7 = dfu_slots_read_byte_at_2(a0, umax32(r1_0_0_copyload, switch_load) + a1);
     return r7;
 }
 
-/* dfu_trial_c::ask::tell */
-static uint32_t dfu_trial_c_ask_tell(unsigned char *a0, uint32_t a1, unsigned char *a2) {
+/* dfu_trial_c::told::tell */
+static uint32_t dfu_trial_c_told_tell(unsigned char *a0, uint32_t a1, unsigned char *a2) {
     uint32_t r1_5_8_copyload, r1_8_12_copyload, r15_0;
     unsigned char *r17_3_0_a2_sroa_idx, *r17_4_0_a2_sroa_idx;
     uint8_t r2 = *a0;
@@ -841,12 +841,12 @@ join_4:
     return r15_0;
 }
 
-/* dfu_trial_c::place::image_in::<#5c9ad03545c23a1c> */
-static struct i32_i32 dfu_trial_c_place_image_in(unsigned char *a0, uint32_t a1) {
+/* dfu_trial_c::told::image_in::<#5c9ad03545c23a1c> */
+static struct i32_i32 dfu_trial_c_told_image_in(unsigned char *a0, uint32_t a1) {
     _Alignas(1) unsigned char r3[16];
     uint8_t r0_0_0_copyload = a0[16];
     uint32_t r1_0_0_copyload = load32(a0 + 20);
-    uint32_t switch_load = load32(PLACE(switch_table_dfu_slots_read_gate_of) + 4 * (size_t)r0_0_0_copyload);
+    uint32_t switch_load = load32(PLACE(switch_table_dfu_slots_layout_gate_of) + 4 * (size_t)r0_0_0_copyload);
     dfu_slots_read_header_of(r3, a0, a1);
     uint32_t r4_2_0_copyload = load32u(r3 + 4);
     struct i32_i32 r12_half = (struct i32_i32){ 0, 0 };
@@ -869,17 +869,17 @@ int32_t dfu_core_trial_runs(const uint8_t *flash, size_t size, const struct dfu_
     uint32_t r8 = load32(a2);
     if (r8 != 2) {
         r3_0_0_in = a3;
-        goto dfu_trial_c_running_dfu_core_trial_runs_exit;
+        goto dfu_trial_c_calls_dfu_core_trial_runs_exit;
     }
     uint32_t r16 = load32(a2 + 4);
     r18 = (uint64_t)r16;
     uint32_t r20 = load32(a2 + 8);
     r22 = (uint64_t)r20;
-    if ((r22 + r18) > a1) goto dfu_trial_c_running_is_there_exit_thread;
+    if ((r22 + r18) > a1) goto dfu_trial_c_calls_is_there_exit_thread;
     r4_0_0_in = r4 + (size_t)r18;
     r4_4_0 = r22;
 loop_2:
-    if (r4_4_0 == 0) goto dfu_trial_c_running_is_there_exit_thread;
+    if (r4_4_0 == 0) goto dfu_trial_c_calls_is_there_exit_thread;
     uint8_t r2 = *r4_0_0_in;
     if (r2 == 255) {
         r4_0_0_in = r4_0_0_in + 1;
@@ -887,10 +887,10 @@ loop_2:
         goto loop_2;
     }
     r3_0_0_in = a3;
-    goto dfu_trial_c_running_dfu_core_trial_runs_exit;
-dfu_trial_c_running_is_there_exit_thread:
+    goto dfu_trial_c_calls_dfu_core_trial_runs_exit;
+dfu_trial_c_calls_is_there_exit_thread:
     r3_0_0_in = a3 + 8;
-dfu_trial_c_running_dfu_core_trial_runs_exit:;
+dfu_trial_c_calls_dfu_core_trial_runs_exit:;
     uint64_t r3_0_0 = load64a4(r3_0_0_in);
     store64a4(a4, r3_0_0);
     return signed32(0);
@@ -916,7 +916,7 @@ int32_t dfu_core_trial_confirm(const struct dfu_tries *tries, const uint8_t *fla
     uint8_t r23 = r6[32];
     r3_12_28_copyload = load32(r6 + 36);
     r3_14_28_copyload = load32(r6 + 40);
-    switch_load = load32(PLACE(switch_table_dfu_slots_read_gate_of) + 4 * (size_t)r3_3_0_copyload);
+    switch_load = load32(PLACE(switch_table_dfu_slots_layout_gate_of) + 4 * (size_t)r3_3_0_copyload);
     a0_a1 = umax32(r3_725_0_copyload, switch_load);
     r5 = a0_a1 << 1;
     r18_not = a3 == (r5 + r3_12_28_copyload);
@@ -940,7 +940,7 @@ arm_5:
     store32(r13 + 8, (switch_load + r3_12_28_copyload) + a0_a1);
     store32(r13 + 12, switch_load);
     uint32_t r52 = load32(a0 + 4);
-    uint32_t r55 = dfu_trial_c_ask_tell(r13, r52, a4);
+    uint32_t r55 = dfu_trial_c_told_tell(r13, r52, a4);
     r7_0 = r55;
     goto dfu_trial_c_calls_dfu_core_trial_confirm_exit;
 arm_7:
@@ -988,7 +988,7 @@ int32_t dfu_core_trial_end(const struct dfu_tries *tries, const uint8_t *flash, 
     store32(r7 + 8, (uint32_t)((r20 == 0) ? 0 : r3_4_28_copyload));
     store32(r7 + 12, 0);
     uint32_t r34 = load32(a0 + 4);
-    uint32_t r37 = dfu_trial_c_ask_tell(r7, r34, a3);
+    uint32_t r37 = dfu_trial_c_told_tell(r7, r34, a3);
     r6_0 = r37;
     goto dfu_trial_c_calls_dfu_core_trial_end_exit;
 arm_2:;
@@ -1033,7 +1033,7 @@ int32_t dfu_core_trial_look(const struct dfu_tries *tries, const uint8_t *flash,
     r10_3_4_copyload = load32(r20);
     r10_5_4_copyload = load32(r3 + 32);
     if (r18 != 0) goto arm_2_2;
-    struct i32_i32 r31 = dfu_trial_c_place_image_in(r3, r10_3_4_copyload);
+    struct i32_i32 r31 = dfu_trial_c_told_image_in(r3, r10_3_4_copyload);
     uint32_t r32 = r31.a;
     uint32_t r33 = r31.b;
     r9_0_0_0 = r32;
@@ -1047,8 +1047,8 @@ int32_t dfu_core_trial_look(const struct dfu_tries *tries, const uint8_t *flash,
 arm_2_2:;
     uint32_t r10_6_4_copyload = load32(r3 + 36);
     uint32_t r23 = load32(a0 + 8);
-    struct i32_i32 r51 = dfu_trial_c_place_image_in(r3, r10_3_4_copyload);
-    struct i32_i32 r59 = dfu_trial_c_place_image_in(r3, r10_5_4_copyload);
+    struct i32_i32 r51 = dfu_trial_c_told_image_in(r3, r10_3_4_copyload);
+    struct i32_i32 r59 = dfu_trial_c_told_image_in(r3, r10_5_4_copyload);
     r9_0_0_0 = r51.a;
     r9_0_4_0 = r51.b;
     r9_5_0_0 = r59.a;
@@ -1128,7 +1128,7 @@ int32_t dfu_core_trial_start(const struct dfu_tries *tries, const uint8_t *flash
         goto dfu_trial_standing_Standing_start_exit;
     }
     uint8_t r0_0_0_copyload = r3[16];
-    uint32_t switch_load = load32(PLACE(switch_table_dfu_slots_read_gate_of) + 4 * (size_t)r0_0_0_copyload);
+    uint32_t switch_load = load32(PLACE(switch_table_dfu_slots_layout_gate_of) + 4 * (size_t)r0_0_0_copyload);
     uint32_t r1_0_0_copyload = load32(r3 + 20);
     r19 = ((switch_load + r8_3_4_copyload) + (switch_load * (r8_6_4_copyload + 1))) + umax32(r1_0_0_copyload, switch_load);
     switch (r0_0_0_copyload) {
@@ -1169,8 +1169,8 @@ arm_4:
     r9_12_0 = r8_5_4_copyload;
     goto dfu_trial_standing_Standing_start_exit;
 dfu_trial_standing_Standing_start_exit:;
-    struct i32_i32 r6_2 = dfu_trial_c_place_image_in(r3, r9_10_0);
-    struct i32_i32 r12 = dfu_trial_c_place_image_in(r3, r9_12_0);
+    struct i32_i32 r6_2 = dfu_trial_c_told_image_in(r3, r9_10_0);
+    struct i32_i32 r12 = dfu_trial_c_told_image_in(r3, r9_12_0);
     store32(a4, r6_2.a);
     store32(a4 + 4, r6_2.b);
     store32(a4 + 8, r12.a);
@@ -1180,7 +1180,7 @@ dfu_trial_standing_Standing_start_exit:;
     store32(r13 + 8, r9_6_0);
     store32(r13 + 12, r9_8_0);
     uint32_t r47 = load32(a0 + 4);
-    uint32_t r50 = dfu_trial_c_ask_tell(r13, r47, a3);
+    uint32_t r50 = dfu_trial_c_told_tell(r13, r47, a3);
     r7_0 = r50;
     goto dfu_trial_c_calls_dfu_core_trial_start_exit;
 arm_2:;
@@ -1228,7 +1228,7 @@ int32_t dfu_core_trial_upload(const struct dfu_tries *tries, const uint8_t *flas
     store32(r7 + 8, (uint32_t)(narrow ? r3_4_28_copyload : 0));
     store32(r7 + 12, 0);
     uint32_t r34 = load32(a0 + 4);
-    uint32_t r37 = dfu_trial_c_ask_tell(r7, r34, a3);
+    uint32_t r37 = dfu_trial_c_told_tell(r7, r34, a3);
     r6_0 = r37;
     goto dfu_trial_c_calls_dfu_core_trial_upload_exit;
 arm_2:;

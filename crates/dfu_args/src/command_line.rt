@@ -4,93 +4,12 @@
 ghost use Rattle.std.specs.Prelude.{◌≡◌, IfOk, false, true};
 ghost use Rattle.clap.specs.Words.{App, Rule, app_of, new_app, rule_of, with_rule, with_subcommand};
 ghost use Rattle.clap.specs.declared.builder.Command.TheViews.{out-Command};
-ghost use Rattle.dfu_args.specs.CommandLine.{needed, repeated, optional, option, unset, flag, explained, check_app, add_app, extract_app, set_app, show_app, run_app, judge_app, bare_app, top_app, dfu_app};
+ghost use Rattle.dfu_args.specs.CommandLine.{explained, check_app, add_app, extract_app, set_app, show_app, run_app, judge_app, bare_app, top_app, dfu_app};
 
+use crate::arguments::{flag, needed, option, optional, repeated, unset};
 use crate::help;
-use clap::{Arg, ArgAction, Command};
+use clap::{Arg, Command};
 use std::alloc::{AllocError, Global};
-
-/// A positional argument that has to be there.
-#[inline(never)]
-fn needed<'a>(alloc: Global, id: &'a str, name: &'a str, help: &'a str) -> Arg<'a>
-    ensures rule { rule_of result ≡ needed id.entry.now }
-    ensures local { result.global ≡ false }
-{
-    Arg::new(alloc, id)
-        .required(true)
-        .action(ArgAction::Set)
-        .value_name(name)
-        .help(help)
-}
-
-/// A positional argument that has to be there, once or more often.
-#[inline(never)]
-fn repeated<'a>(alloc: Global, id: &'a str, name: &'a str, help: &'a str) -> Arg<'a>
-    ensures rule { rule_of result ≡ repeated id.entry.now }
-    ensures local { result.global ≡ false }
-{
-    Arg::new(alloc, id)
-        .required(true)
-        .action(ArgAction::Append)
-        .value_name(name)
-        .help(help)
-}
-
-/// A positional argument that has a default, and may be there more often than once.
-#[inline(never)]
-fn optional<'a>(
-    alloc: Global,
-    id: &'a str,
-    name: &'a str,
-    default: &'a str,
-    help: &'a str,
-) -> Arg<'a>
-    ensures rule { rule_of result ≡ optional id.entry.now default.entry.now }
-    ensures local { result.global ≡ false }
-{
-    Arg::new(alloc, id)
-        .action(ArgAction::Append)
-        .value_name(name)
-        .default_value(default)
-        .help(help)
-}
-
-/// An option with a value, which has a default.
-#[inline(never)]
-fn option<'a>(alloc: Global, id: &'a str, default: &'a str, help: &'a str) -> Arg<'a>
-    ensures rule { rule_of result ≡ option id.entry.now default.entry.now }
-    ensures local { result.global ≡ false }
-{
-    Arg::new(alloc, id)
-        .long(id)
-        .action(ArgAction::Set)
-        .default_value(default)
-        .help(help)
-}
-
-/// An option with a value, which has none if it isn't given.
-#[inline(never)]
-fn unset<'a>(alloc: Global, id: &'a str, help: &'a str) -> Arg<'a>
-    ensures rule { rule_of result ≡ unset id.entry.now }
-    ensures local { result.global ≡ false }
-{
-    Arg::new(alloc, id)
-        .long(id)
-        .action(ArgAction::Set)
-        .help(help)
-}
-
-/// A flag, which is off if it isn't given.
-#[inline(never)]
-fn flag<'a>(alloc: Global, id: &'a str, help: &'a str) -> Arg<'a>
-    ensures rule { rule_of result ≡ flag id.entry.now }
-    ensures local { result.global ≡ false }
-{
-    Arg::new(alloc, id)
-        .long(id)
-        .action(ArgAction::SetTrue)
-        .help(help)
-}
 
 /// A command with one argument more, if there was memory for the command.
 // One step in a function of its own, here and in `with_sub`: what is left of a command when a step fails is looked at once.

@@ -3,6 +3,7 @@
 //! `parse_subcommand` reads them. The crate opens no file and prints nothing.
 #![tactic(auto)]
 
+mod arguments;
 mod command_line;
 mod help;
 mod subcommand;

@@ -1,81 +1,18 @@
 //! From the words of a command line to a subcommand.
 
-ghost use Rattle.std.specs.Prelude.{◌≡◌, IfErr, IfOk, IfSome, Some, codes, is_some, map, true};
-ghost use Rattle.std.specs.Option.{option_map};
+ghost use Rattle.std.specs.Prelude.{◌≡◌, IfErr, IfOk, IfSome, Some, codes, map, true};
 ghost use Rattle.std.specs.String.{string_bytes};
-ghost use Rattle.clap.specs.Words.{HasKind, Kinds, all_of, first_of, found_of, has_subcommand, matches_of, rows_of, subcommand_of, subcommand_rows_of};
+ghost use Rattle.clap.specs.Words.{HasKind, Kinds, first_of, found_of, has_subcommand, matches_of, rows_of, subcommand_of, subcommand_rows_of};
 ghost use Rattle.dfu_args.specs.CommandLine.{asks_why, dfu_app, is_on, rows_in, States};
 ghost use Rattle.dfu_args.specs.Complete.{HasTexts, IsComplete, arguments_of};
 ghost use Rattle.dfu_args.specs.Refusals.{EndsBy, TellsFault, word_faults};
 
+use crate::arguments::{is_on, text_if, text_of, texts_of};
 use crate::command_line::dfu_command;
 use crate::subcommand::{ArgsFault, ParsedArgs, Subcommand};
 use clap::ArgMatches;
 use clap::error::ErrorKind;
 use std::alloc::Global;
-
-/// The text of an argument.
-// Many calls have it: once in the program is enough.
-#[inline(never)]
-fn text_of(alloc: Global, found: &ArgMatches<'_>, id: &str) -> Result<String, ArgsFault>
-    requires there { is_some (first_of id.now (rows_of (found_of found.now))) ≡ true }
-    ensures memory { IfErr result (λ f. f ≡ ArgsFault.NoMemory) }
-    ensures text { IfOk result (λ t. first_of id.now (rows_of (found_of found.now)) ≡ Some (string_bytes t)) }
-{
-    let Some(text) = found.get_str(id) else {
-        unreachable!()
-    };
-    match String::from_str(alloc, text) {
-        Ok(text) => Ok(text),
-        Err(_) => Err(ArgsFault::NoMemory),
-    }
-}
-
-/// The texts of an argument, of which there is one at least.
-#[inline(never)]
-fn texts_of(alloc: Global, found: &ArgMatches<'_>, id: &str) -> Result<Vec<String>, ArgsFault>
-    requires there { is_some (first_of id.now (rows_of (found_of found.now))) ≡ true }
-    ensures memory { IfErr result (λ f. f ≡ ArgsFault.NoMemory) }
-    ensures texts { IfOk result (λ t. all_of id.now (rows_of (found_of found.now)) ≡ Some (map string_bytes t.items)) }
-{
-    let Some(values) = found.get_strs(id) else {
-        unreachable!()
-    };
-    let mut texts: Vec<String> = Vec::new(alloc);
-    for value in values {
-        let Ok(text) = String::from_str(alloc, value) else {
-            return Err(ArgsFault::NoMemory);
-        };
-        if texts.push(text).is_err() {
-            return Err(ArgsFault::NoMemory);
-        }
-    }
-    Ok(texts)
-}
-
-/// The text of an option, if it was given.
-fn text_if(alloc: Global, found: &ArgMatches<'_>, id: &str) -> Result<Option<String>, ArgsFault>
-    ensures memory { IfErr result (λ f. f ≡ ArgsFault.NoMemory) }
-    ensures text { IfOk result (λ t. first_of id.now (rows_of (found_of found.now)) ≡ option_map string_bytes t) }
-{
-    let Some(text) = found.get_str(id) else {
-        return Ok(None);
-    };
-    match String::from_str(alloc, text) {
-        Ok(text) => Ok(Some(text)),
-        Err(_) => Err(ArgsFault::NoMemory),
-    }
-}
-
-/// Whether a flag was given.
-fn is_on(found: &ArgMatches<'_>, id: &str) -> bool
-    ensures { result ≡ is_on (first_of id.now (rows_of (found_of found.now))) }
-{
-    match found.get_str(id) {
-        Some(text) => text == "true",
-        None => false,
-    }
-}
 
 /// What clap makes of the words.
 fn matches_of<'a>(alloc: Global, words: &'a [String]) -> Result<ArgMatches<'a>, ArgsFault>
@@ -110,9 +47,10 @@ fn parse_check(alloc: Global, found: &ArgMatches<'_>) -> Result<Subcommand, Args
     ensures subcommand { IfOk result (λ j. States (Some (codes "check", rows_of (found_of found.now))) j) }
     ensures memory { IfErr result (λ f. f ≡ ArgsFault.NoMemory) }
 {
-    let files = texts_of(alloc, found, "file")?;
-    let json = is_on(found, "json");
-    Ok(Subcommand::Check { files, json })
+    Ok(Subcommand::Check {
+        files: texts_of(alloc, found, "file")?,
+        json: is_on(found, "json"),
+    })
 }
 
 fn parse_add(alloc: Global, found: &ArgMatches<'_>) -> Result<Subcommand, ArgsFault>
@@ -120,21 +58,14 @@ fn parse_add(alloc: Global, found: &ArgMatches<'_>) -> Result<Subcommand, ArgsFa
     ensures subcommand { IfOk result (λ j. States (Some (codes "add", rows_of (found_of found.now))) j) }
     ensures memory { IfErr result (λ f. f ≡ ArgsFault.NoMemory) }
 {
-    let file = text_of(alloc, found, "file")?;
-    let to = text_of(alloc, found, "to")?;
-    let vid = text_of(alloc, found, "vid")?;
-    let pid = text_of(alloc, found, "pid")?;
-    let did = text_of(alloc, found, "did")?;
-    let format = text_if(alloc, found, "format")?;
-    let fill = text_if(alloc, found, "fill")?;
     Ok(Subcommand::Add {
-        file,
-        to,
-        vid,
-        pid,
-        did,
-        format,
-        fill,
+        file: text_of(alloc, found, "file")?,
+        to: text_of(alloc, found, "to")?,
+        vid: text_of(alloc, found, "vid")?,
+        pid: text_of(alloc, found, "pid")?,
+        did: text_of(alloc, found, "did")?,
+        format: text_if(alloc, found, "format")?,
+        fill: text_if(alloc, found, "fill")?,
     })
 }
 
@@ -153,15 +84,11 @@ fn parse_set(alloc: Global, found: &ArgMatches<'_>) -> Result<Subcommand, ArgsFa
     ensures subcommand { IfOk result (λ j. States (Some (codes "set", rows_of (found_of found.now))) j) }
     ensures memory { IfErr result (λ f. f ≡ ArgsFault.NoMemory) }
 {
-    let file = text_of(alloc, found, "file")?;
-    let vid = text_if(alloc, found, "vid")?;
-    let pid = text_if(alloc, found, "pid")?;
-    let did = text_if(alloc, found, "did")?;
     Ok(Subcommand::Change {
-        file,
-        vid,
-        pid,
-        did,
+        file: text_of(alloc, found, "file")?,
+        vid: text_if(alloc, found, "vid")?,
+        pid: text_if(alloc, found, "pid")?,
+        did: text_if(alloc, found, "did")?,
     })
 }
 
@@ -170,10 +97,11 @@ fn parse_show(alloc: Global, found: &ArgMatches<'_>) -> Result<Subcommand, ArgsF
     ensures subcommand { IfOk result (λ j. States (Some (codes "show", rows_of (found_of found.now))) j) }
     ensures memory { IfErr result (λ f. f ≡ ArgsFault.NoMemory) }
 {
-    let kind = text_of(alloc, found, "kind")?;
-    let hex = texts_of(alloc, found, "hex")?;
-    let json = is_on(found, "json");
-    Ok(Subcommand::Show { kind, hex, json })
+    Ok(Subcommand::Show {
+        kind: text_of(alloc, found, "kind")?,
+        hex: texts_of(alloc, found, "hex")?,
+        json: is_on(found, "json"),
+    })
 }
 
 fn parse_run(alloc: Global, found: &ArgMatches<'_>) -> Result<Subcommand, ArgsFault>
@@ -181,15 +109,11 @@ fn parse_run(alloc: Global, found: &ArgMatches<'_>) -> Result<Subcommand, ArgsFa
     ensures subcommand { IfOk result (λ j. States (Some (codes "run", rows_of (found_of found.now))) j) }
     ensures memory { IfErr result (λ f. f ≡ ArgsFault.NoMemory) }
 {
-    let script = text_of(alloc, found, "script")?;
-    let trace = is_on(found, "trace");
-    let board = is_on(found, "board");
-    let file = text_if(alloc, found, "file")?;
     Ok(Subcommand::Run {
-        script,
-        trace,
-        board,
-        file,
+        script: text_of(alloc, found, "script")?,
+        trace: is_on(found, "trace"),
+        board: is_on(found, "board"),
+        file: text_if(alloc, found, "file")?,
     })
 }
 
@@ -198,17 +122,12 @@ fn parse_judge(alloc: Global, found: &ArgMatches<'_>) -> Result<Subcommand, Args
     ensures subcommand { IfOk result (λ j. States (Some (codes "judge", rows_of (found_of found.now))) j) }
     ensures memory { IfErr result (λ f. f ≡ ArgsFault.NoMemory) }
 {
-    let files = texts_of(alloc, found, "file")?;
-    let interface = text_of(alloc, found, "interface")?;
-    let device = text_of(alloc, found, "device")?;
-    let dfuse = is_on(found, "dfuse");
-    let json = is_on(found, "json");
     Ok(Subcommand::Judge {
-        files,
-        interface,
-        device,
-        dfuse,
-        json,
+        files: texts_of(alloc, found, "file")?,
+        interface: text_of(alloc, found, "interface")?,
+        device: text_of(alloc, found, "device")?,
+        dfuse: is_on(found, "dfuse"),
+        json: is_on(found, "json"),
     })
 }
 

@@ -1,7 +1,7 @@
 -- What a call of a device that asks leaves.
 use Rattle.std.proofs.Common.{◌≡◌, inl, inr, ◌&&◌, Bool, true, false, not, IsTrue, ℕ, ◌+◌, ◌≤◌, ◌<◌, List, ◌++◌, length, drop, slice_range, Option, Some, None, is_some, refl, sym, ◌∙◌, ap, subst, arith}
 use Rattle.std.proofs.lemmas.Grind.{common_steps}
-use Rattle.dfu_slots.specs.declared.unit.Unit.{Unit as WriteUnit}
+use Rattle.dfu_slots.specs.declared.layout.Unit.{Unit as WriteUnit}
 use Rattle.dfu_slots.specs.declared.fault.WriteFault.{WriteFault}
 use Rattle.dfu_slots.specs.declared.fault.WriteFault.TheVariants.{NotVerified}
 use Rattle.dfu_slots.specs.Medium.{MediumState, Write, Torn, FailedWrite}
@@ -17,7 +17,7 @@ use Rattle.dfu_device.specs.DeviceView.{DeviceView, profile}
 use Rattle.dfu_device.specs.Table.{Plan}
 use Rattle.dfu_device.specs.Rows.{Done}
 use Rattle.dfu_device.specs.Parts.{shows, stage_of, is_sound, is_filled}
-use Rattle.dfu_asks.specs.declared.slot_write.SlotWrite.{SlotWrite}
+use Rattle.dfu_asks.specs.declared.pending_writes.SlotWrite.{SlotWrite}
 use Rattle.dfu_asks.specs.declared.pending_writes.PendingWrites.{PendingWrites}
 use Rattle.dfu_asks.specs.Lent.{LentAsking}
 use Rattle.dfu_asks.specs.declared.reply.Reply.{Reply}

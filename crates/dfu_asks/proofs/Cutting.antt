@@ -7,8 +7,8 @@ use Rattle.dfu_slots.specs.Units.{Grain, gate_size}
 use Rattle.dfu_slots.specs.Layout.{gate_unit}
 use Rattle.dfu_slots.specs.Writes.{erases}
 use Rattle.dfu_slots.proofs.Ranges.{range_size}
-use Rattle.dfu_asks.specs.declared.write_inputs.WriteInputs.{WriteInputs}
-use Rattle.dfu_asks.specs.declared.slot_write.SlotWrite.{SlotWrite}
+use Rattle.dfu_asks.specs.declared.pending_writes.WriteInputs.{WriteInputs}
+use Rattle.dfu_asks.specs.declared.pending_writes.SlotWrite.{SlotWrite}
 use Rattle.dfu_asks.specs.declared.cut.Cut.{Cut}
 use Rattle.dfu_asks.specs.Steps.{Step, step_writes, marked, program, anew_steps, close_step}
 use Rattle.dfu_asks.specs.Jobs.{asked, IsFit, steps_for}

@@ -14,8 +14,8 @@ use Rattle.dfu_slots.proofs.Stands.{two_slots}
 use Rattle.dfu_slots.proofs.Written.{was_written}
 use Rattle.dfu_slots.proofs.Sectors.{edge_zero, gate_most}
 use Rattle.dfu_slots.proofs.Edges.{half_edge}
-use Rattle.dfu_asks.specs.declared.format_step.FormatStep.{FormatStep}
-use Rattle.dfu_asks.specs.declared.format_step.FormatStep.TheVariants as format_step
+use Rattle.dfu_asks.specs.declared.formatting.FormatStep.{FormatStep}
+use Rattle.dfu_asks.specs.declared.formatting.FormatStep.TheVariants as format_step
 use Rattle.dfu_asks.specs.declared.formatting.Formatting.{Formatting}
 use Rattle.dfu_asks.specs.Mapped.{mapped}
 use Rattle.dfu_asks.specs.Steps.{Step, step_writes, anew_steps, close_step, open_steps}
@@ -33,7 +33,7 @@ use Rattle.dfu_asks.proofs.FormatParts.{image_next, format_writes_are}
 use Rattle.dfu_asks.proofs.FormatInside.{format_inside, formatted}
 use Rattle.dfu_asks.proofs.Cutting.{part_found}
 use Rattle.dfu_asks.specs.declared.cut.Cut.{Cut}
-use Rattle.dfu_asks.specs.declared.write_inputs.WriteInputs.{WriteInputs}
+use Rattle.dfu_asks.specs.declared.pending_writes.WriteInputs.{WriteInputs}
 
 -- A part has its own steps in front.
 left_parts : (w : Grain) (size : ℕ) (image : List ℕ) (crc : ℕ) (this : FormatStep) → (next : List Step)

@@ -7,8 +7,8 @@ use Rattle.dfu_slots.specs.Medium.{Write}
 use Rattle.dfu_slots.specs.Writes.{erase_write, erases}
 use Rattle.dfu_slots.proofs.ErasedTo.{erases_skip, erases_step}
 use Rattle.dfu_slots.proofs.Sectors.{edge_add}
-use Rattle.dfu_asks.specs.declared.position.Position.{Position}
-use Rattle.dfu_asks.specs.declared.position.Position.TheVariants as position
+use Rattle.dfu_asks.specs.declared.sector.Position.{Position}
+use Rattle.dfu_asks.specs.declared.sector.Position.TheVariants as position
 use Rattle.dfu_asks.specs.Steps.{Step, step_writes, marked, erase_step, program, anew_steps, some_steps}
 use Rattle.dfu_asks.specs.Carried.{total, IsPart, IsPiece}
 use Rattle.dfu_asks.specs.Position.{LeadsToErase, LeadsTo, LeadsInto}

@@ -5,7 +5,7 @@ use Rattle.std.proofs.lemmas.Option.{none-some, same_Some}
 use Rattle.dfu_slots.specs.declared.operation.Op.{Op}
 use Rattle.dfu_slots.specs.declared.sequence.Sequence.{Sequence}
 use Rattle.dfu_slots.specs.Operations.{op_at, operations}
-use Rattle.dfu_asks.specs.declared.write_inputs.WriteInputs.{WriteInputs}
+use Rattle.dfu_asks.specs.declared.pending_writes.WriteInputs.{WriteInputs}
 use Rattle.dfu_asks.specs.declared.cut.Cut.{Cut}
 use Rattle.dfu_asks.specs.Steps.{Step, step_writes}
 use Rattle.dfu_asks.specs.Carried.{total, IsPiece}

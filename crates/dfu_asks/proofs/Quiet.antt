@@ -7,7 +7,7 @@ use Rattle.dfu_slots.specs.Seen.{image_of, spare_of}
 use Rattle.dfu_device.specs.declared.answer.Answer.{Answer}
 use Rattle.dfu_device.specs.declared.answer.Answer.TheVariants as answer
 use Rattle.dfu_device.specs.declared.device_state.DeviceState.{DeviceState}
-use Rattle.dfu_device.specs.declared.profile.Profile.{Profile as ProfileRead}
+use Rattle.dfu_device.specs.declared.config.Profile.{Profile as ProfileRead}
 use Rattle.dfu_device.specs.declared.decision.Decision.{Decision}
 use Rattle.dfu_device.specs.Stage.{Request, Dnload, Upload, GetStatus, GetState, Profile, Stage, InAppDetach, InDfuIdle, InDownloadSync, InDownloadBusy, InDownloadIdle, InManifestSync, InManifest, InUploadIdle}
 use Rattle.dfu_device.specs.Table.{Plan, Sure, Writes, Commits, has_no_bytes, block_plan, upload_plan, plan, time_plan}

@@ -1,8 +1,8 @@
 -- Memory that has room for a unit.
 use Rattle.std.proofs.Common.{◌≡◌, ◌%◌, ◌≤◌, ◌<◌, ℕ, List, length, take, arith}
 use Rattle.std.proofs.lemmas.List.{length-take}
-use Rattle.dfu_slots.specs.declared.unit.Unit.{Unit as WriteUnit}
-use Rattle.dfu_slots.specs.declared.unit.Unit.TheVariants.{Byte}
+use Rattle.dfu_slots.specs.declared.layout.Unit.{Unit as WriteUnit}
+use Rattle.dfu_slots.specs.declared.layout.Unit.TheVariants.{Byte}
 use Rattle.dfu_slots.specs.Units.{unit_size}
 use Rattle.dfu_asks.specs.Lent.{HasRoom}
 

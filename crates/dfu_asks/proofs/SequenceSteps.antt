@@ -2,8 +2,8 @@
 use Rattle.std.proofs.Common.{◌≡◌, ◌≢◌, ◌⊎◌, inl, inr, ◌==◌, Bool, true, false, if◌then◌else◌, ℕ, ◌+◌, ◌-◌, ◌*◌, ◌/◌, ◌≤◌, min, List, [], ◌∷◌, ◌++◌, length, take, drop, replicate, sym, ◌∙◌, ap, arith, length-append}
 use Rattle.std.proofs.lemmas.Bool.{cases_eq, cond-true, cond-false, ne_eqb, eq-eqb}
 use Rattle.std.proofs.lemmas.List.{append-nil}
-use Rattle.dfu_slots.specs.declared.unit.Unit.{Unit as WriteUnit}
-use Rattle.dfu_slots.specs.declared.unit.Unit.TheVariants.{Byte}
+use Rattle.dfu_slots.specs.declared.layout.Unit.{Unit as WriteUnit}
+use Rattle.dfu_slots.specs.declared.layout.Unit.TheVariants.{Byte}
 use Rattle.dfu_slots.specs.declared.operation.Op.{Op}
 use Rattle.dfu_slots.specs.declared.operation.Op.TheVariants.{Erase, Program}
 use Rattle.dfu_slots.specs.declared.operation.Source.TheVariants.{Joined, Header, Opened, Closed}
@@ -17,10 +17,10 @@ use Rattle.dfu_slots.proofs.Parts.{length-gate_unit, length-header_unit}
 use Rattle.dfu_slots.proofs.Multiples.{length-filled}
 use Rattle.dfu_slots.proofs.Put.{head_le}
 use Rattle.dfu_slots.proofs.Sequences.{closed_range, gate_range, header_range, part_range, head_range, back_range, image_range}
-use Rattle.dfu_asks.specs.declared.write_inputs.WriteInputs.{WriteInputs}
+use Rattle.dfu_asks.specs.declared.pending_writes.WriteInputs.{WriteInputs}
 use Rattle.dfu_asks.specs.Steps.{Step, anew_steps, some_steps, put_steps, open_steps, close_step}
 use Rattle.dfu_asks.specs.Jobs.{grain_for, held_place}
-use Rattle.dfu_asks.specs.declared.format_step.FormatStep.{FormatStep}
+use Rattle.dfu_asks.specs.declared.formatting.FormatStep.{FormatStep}
 use Rattle.dfu_asks.specs.declared.formatting.Formatting.{Formatting}
 use Rattle.dfu_asks.specs.Mapped.{grain_of}
 use Rattle.dfu_asks.specs.Phases.{part_steps, part_left}

@@ -11,8 +11,8 @@ use Rattle.dfu_slots.specs.Store.{IsStore}
 use Rattle.dfu_slots.proofs.Sectors.{IsEdge}
 use Rattle.dfu_device.specs.declared.device_state.DeviceState.{DeviceState}
 use Rattle.dfu_device.specs.declared.device_state.DeviceState.TheVariants as device_state
-use Rattle.dfu_asks.specs.declared.slot_write.SlotWrite.{SlotWrite}
-use Rattle.dfu_asks.specs.declared.slot_write.SlotWrite.TheVariants as slot_write
+use Rattle.dfu_asks.specs.declared.pending_writes.SlotWrite.{SlotWrite}
+use Rattle.dfu_asks.specs.declared.pending_writes.SlotWrite.TheVariants as slot_write
 use Rattle.dfu_asks.specs.Lent.{LentAsking}
 use Rattle.dfu_slots.specs.Medium.{MediumState}
 use Rattle.dfu_asks.specs.Steps.{Step, marked, program, anew_steps, some_steps, put_steps, open_steps, close_step}

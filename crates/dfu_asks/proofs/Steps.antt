@@ -4,8 +4,8 @@ use Rattle.dfu_slots.specs.Units.{Grain, gate_size, gate_room, whole_part, fille
 use Rattle.dfu_slots.specs.Medium.{Write}
 use Rattle.dfu_slots.specs.Layout.{OPEN, gate_unit, header_unit}
 use Rattle.dfu_slots.specs.Writes.{erases, closed_gate, write_anew, write_some, head_size, put_writes, open_writes}
-use Rattle.dfu_asks.specs.declared.slot_write.SlotWrite.{SlotWrite}
-use Rattle.dfu_asks.specs.declared.slot_write.SlotWrite.TheVariants as slot_write
+use Rattle.dfu_asks.specs.declared.pending_writes.SlotWrite.{SlotWrite}
+use Rattle.dfu_asks.specs.declared.pending_writes.SlotWrite.TheVariants as slot_write
 use Rattle.dfu_asks.specs.Steps.{Step, step_writes, marked, program, anew_steps, some_steps, put_steps, open_steps}
 use Rattle.dfu_asks.specs.Jobs.{held_place, job_writes, job_steps}
 

@@ -22,8 +22,8 @@ use Rattle.dfu_device.specs.Parts.{shows, stage_of, is_put, is_sound}
 use Rattle.dfu_device.specs.Rows.{WroteBlock, FailedBlock, Committed, FailedCommit}
 use Rattle.dfu_device.specs.Table.{write_code, commit_code}
 use Rattle.dfu_device.proofs.Commits.{written_sound}
-use Rattle.dfu_asks.specs.declared.slot_write.SlotWrite.{SlotWrite}
-use Rattle.dfu_asks.specs.declared.slot_write.SlotWrite.TheVariants as slot_write
+use Rattle.dfu_asks.specs.declared.pending_writes.SlotWrite.{SlotWrite}
+use Rattle.dfu_asks.specs.declared.pending_writes.SlotWrite.TheVariants as slot_write
 use Rattle.dfu_asks.specs.Mapped.{mapped}
 use Rattle.dfu_asks.specs.Series.{block_series, block_store, BlockWritten, BlockBroken, CommitDone, CommitBroken}
 use Rattle.dfu_asks.specs.Jobs.{held_place, job_writes}

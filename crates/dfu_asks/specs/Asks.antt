@@ -16,12 +16,12 @@ use Rattle.dfu_device.specs.declared.answer.Answer.{Answer}
 use Rattle.dfu_device.specs.Rows.{Answers}
 use Rattle.dfu_device.specs.Parts.{shows, stage_of, is_sound}
 use Rattle.dfu_device.specs.DeviceView.{DeviceView, profile_of}
-use Rattle.dfu_device.specs.declared.reply.Reply.{Reply as ReplyRead}
-use Rattle.dfu_device.specs.declared.reply.Reply.TheVariants as reply
+use Rattle.dfu_device.specs.declared.decision.Reply.{Reply as ReplyRead}
+use Rattle.dfu_device.specs.declared.decision.Reply.TheVariants as reply
 use Rattle.dfu_device.specs.Decision.{reply_in}
 use Rattle.dfu_device.specs.Table.{write_code, commit_code}
-use Rattle.dfu_asks.specs.declared.slot_write.SlotWrite.{SlotWrite}
-use Rattle.dfu_asks.specs.declared.slot_write.SlotWrite.TheVariants as slot_write
+use Rattle.dfu_asks.specs.declared.pending_writes.SlotWrite.{SlotWrite}
+use Rattle.dfu_asks.specs.declared.pending_writes.SlotWrite.TheVariants as slot_write
 use Rattle.dfu_asks.specs.declared.pending_writes.PendingWrites.{PendingWrites}
 use Rattle.dfu_asks.specs.Lent.{LentAsking}
 use Rattle.dfu_asks.specs.Mapped.{grain_of, mapped}

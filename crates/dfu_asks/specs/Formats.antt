@@ -8,8 +8,8 @@ use Rattle.dfu_slots.specs.Image.{Active}
 use Rattle.dfu_slots.specs.Seen.{format_series}
 use Rattle.dfu_slots.specs.Changes.{CanFormat}
 use Rattle.dfu_asks.specs.declared.formatting.Formatting.{Formatting}
-use Rattle.dfu_asks.specs.declared.format_progress.FormatProgress.{FormatProgress}
-use Rattle.dfu_asks.specs.declared.format_progress.FormatProgress.TheVariants.{Asks, Formatted, Broken}
+use Rattle.dfu_asks.specs.declared.formatting.FormatProgress.{FormatProgress}
+use Rattle.dfu_asks.specs.declared.formatting.FormatProgress.TheVariants.{Asks, Formatted, Broken}
 use Rattle.dfu_asks.specs.Mapped.{mapped}
 use Rattle.dfu_asks.specs.Steps.{Step, step_writes}
 use Rattle.dfu_asks.specs.Carried.{total, carried, IsReached}

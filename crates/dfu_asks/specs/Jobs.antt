@@ -5,10 +5,10 @@ use Rattle.dfu_slots.specs.Medium.{Write}
 use Rattle.dfu_slots.specs.Writes.{closed_gate, put_writes, part_writes, open_writes}
 use Rattle.dfu_asks.specs.Mapped.{grain_of}
 use Rattle.dfu_asks.specs.Steps.{Step, some_steps, put_steps, open_steps, close_step}
-use Rattle.dfu_asks.specs.declared.slot_write.SlotWrite.{SlotWrite}
-use Rattle.dfu_asks.specs.declared.slot_write.SlotWrite.TheVariants.{Block, Commit}
-use Rattle.dfu_asks.specs.declared.flash_op.FlashOp.{FlashOp}
-use Rattle.dfu_asks.specs.declared.write_inputs.WriteInputs.{WriteInputs}
+use Rattle.dfu_asks.specs.declared.pending_writes.SlotWrite.{SlotWrite}
+use Rattle.dfu_asks.specs.declared.pending_writes.SlotWrite.TheVariants.{Block, Commit}
+use Rattle.dfu_asks.specs.declared.reply.FlashOp.{FlashOp}
+use Rattle.dfu_asks.specs.declared.pending_writes.WriteInputs.{WriteInputs}
 
 -- The place of what is held back, in a slot that begins here.
 abbrev pub held_place : Grain → ℕ → ℕ → List ℕ → ℕ

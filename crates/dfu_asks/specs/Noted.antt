@@ -4,7 +4,7 @@ use Rattle.dfu_slots.specs.Medium.{MediumState}
 use Rattle.dfu_slots.specs.Layout.{OPEN, slot_size, header_length}
 use Rattle.dfu_slots.specs.Image.{gate_of, slot_of, capacity_of, active_at, IsSized}
 use Rattle.dfu_asks.specs.declared.noted.Noted.{Noted}
-use Rattle.dfu_asks.specs.declared.view.View.{View}
+use Rattle.dfu_asks.specs.declared.noted.View.{View}
 
 -- Where the noted slot begins.
 abbrev pub noted_at : Noted → List ℕ → ℕ

@@ -2,7 +2,7 @@
 use Rattle.std.specs.Prelude.{ℕ, zero, suc, ◌+◌, ◌≤◌, List, [], ◌∷◌, ◌++◌, length}
 use Rattle.dfu_slots.specs.declared.operation.Op.{Op}
 use Rattle.dfu_slots.specs.declared.operation.Op.TheVariants.{Erase, Program}
-use Rattle.dfu_asks.specs.declared.write_inputs.WriteInputs.{WriteInputs}
+use Rattle.dfu_asks.specs.declared.pending_writes.WriteInputs.{WriteInputs}
 use Rattle.dfu_asks.specs.Steps.{Step, erase_step, some_steps}
 use Rattle.dfu_asks.specs.Cuts.{source_bytes, range_in}
 

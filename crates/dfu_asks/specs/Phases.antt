@@ -4,8 +4,8 @@ use Rattle.dfu_suffix.specs.Register.{register}
 use Rattle.dfu_slots.specs.Units.{Grain, gate_size, gate_room, filled}
 use Rattle.dfu_slots.specs.Medium.{MediumState}
 use Rattle.dfu_slots.specs.Layout.{OPEN, slot_size, gate_unit, header_unit}
-use Rattle.dfu_asks.specs.declared.format_step.FormatStep.{FormatStep}
-use Rattle.dfu_asks.specs.declared.format_step.FormatStep.TheVariants.{CloseSecond, CloseFirst, Image, Header, Gate, Ended}
+use Rattle.dfu_asks.specs.declared.formatting.FormatStep.{FormatStep}
+use Rattle.dfu_asks.specs.declared.formatting.FormatStep.TheVariants.{CloseSecond, CloseFirst, Image, Header, Gate, Ended}
 use Rattle.dfu_asks.specs.declared.formatting.Formatting.{Formatting}
 use Rattle.dfu_asks.specs.Mapped.{grain_of}
 use Rattle.dfu_asks.specs.Steps.{Step, anew_steps, some_steps, open_steps, close_step}

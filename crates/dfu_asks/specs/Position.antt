@@ -1,8 +1,8 @@
 -- The position after so many bytes of a write and of the erases before it.
 use Rattle.std.specs.Prelude.{◌≡◌, ℕ, ◌+◌, ◌*◌, ◌^◌, ◌≤◌, ◌<◌, true, List, length}
 use Rattle.dfu_slots.specs.Writes.{erases}
-use Rattle.dfu_asks.specs.declared.position.Position.{Position}
-use Rattle.dfu_asks.specs.declared.position.Position.TheVariants.{Erase, Program, Behind}
+use Rattle.dfu_asks.specs.declared.sector.Position.{Position}
+use Rattle.dfu_asks.specs.declared.sector.Position.TheVariants.{Erase, Program, Behind}
 use Rattle.dfu_asks.specs.Steps.{Step, step_writes, marked, erase_step, program, some_steps}
 use Rattle.dfu_asks.specs.Carried.{total, IsPart, IsPiece}
 

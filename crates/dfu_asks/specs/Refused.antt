@@ -4,8 +4,8 @@ use Rattle.dfu_asks.specs.declared.pending_writes.PendingWrites.{PendingWrites}
 use Rattle.dfu_asks.specs.declared.asking.Asking.{Asking}
 use Rattle.dfu_asks.specs.Lent.{LentAsking, lent}
 use Rattle.dfu_asks.specs.Noted.{NotedStands}
-use Rattle.dfu_asks.specs.declared.refusal.Refusal.{Refusal}
-use Rattle.dfu_asks.specs.declared.refusal.Refusal.TheVariants as refusal
+use Rattle.dfu_asks.specs.declared.reply.Refusal.{Refusal}
+use Rattle.dfu_asks.specs.declared.reply.Refusal.TheVariants as refusal
 use Rattle.dfu_asks.specs.Mapped.{grain_of, mapped}
 use Rattle.dfu_asks.specs.Carried.{total}
 use Rattle.dfu_asks.specs.Asks.{IsDevice, writes_in}

@@ -11,7 +11,7 @@ ghost use Rattle.dfu_asks.specs.Calls.{DueComes, HasAtMost};
 
 use crate::cut::{cut_at, stands};
 use crate::next_piece::next_piece;
-use crate::write_inputs::WriteInputs;
+use crate::pending_writes::WriteInputs;
 use crate::{Asking, PendingWrites, Reply};
 use dfu_device::Answer;
 use dfu_slots::WriteFault;

@@ -15,7 +15,7 @@ ghost use Rattle.dfu_asks.specs.Asks.{device_in, IsDevice};
 ghost use Rattle.dfu_asks.specs.Calls.{DeviceCalled, HasAtMost};
 ghost use Rattle.dfu_asks.specs.Refused.{IsKeptOn, IsThere, Fits, IsRefusedCall, IsServed};
 
-use crate::view::{View, look};
+use crate::noted::{View, look};
 use crate::{Asking, Mapped, Noted, Refusal, Reply, Sector};
 use dfu_device::{Answer, Config, DeviceState, asked_length, decide, decide_time, goes_with};
 use dfu_slots::Unit;

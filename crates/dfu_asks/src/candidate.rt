@@ -5,7 +5,7 @@ ghost use Rattle.dfu_asks.specs.Lent.{lent};
 ghost use Rattle.dfu_asks.specs.Asks.{device_in};
 ghost use Rattle.dfu_asks.specs.Refused.{IsKeptOn, IsRefusedCall};
 
-use crate::view::look;
+use crate::noted::look;
 use crate::{Asking, Mapped, Refusal};
 use dfu_device::Candidate;
 use dfu_slots::{Medium, data_at};

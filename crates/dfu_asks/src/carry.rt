@@ -15,7 +15,7 @@ ghost use Rattle.dfu_asks.specs.Asks.{device_in, store_in, IsReply, GivesAnswer}
 ghost use Rattle.dfu_asks.specs.Calls.{DeviceCalled, HasAtMost};
 ghost use Rattle.dfu_asks.specs.Refused.{IsKeptOn};
 
-use crate::view::View;
+use crate::noted::View;
 use crate::{Asking, Mapped, Reply};
 use dfu_device::{Answer, Decision, DeviceState, status_in};
 use dfu_slots::read_data;

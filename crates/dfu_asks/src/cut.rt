@@ -4,7 +4,7 @@ ghost use Rattle.dfu_asks.specs.Jobs.{asked, IsFit};
 ghost use Rattle.dfu_asks.specs.Cuts.{step_of, IsCut};
 
 use crate::FlashOp;
-use crate::write_inputs::WriteInputs;
+use crate::pending_writes::WriteInputs;
 use dfu_slots::Source;
 
 /// A search for the next piece of a series of writes, and the piece once it is found.

@@ -13,7 +13,7 @@ ghost use Rattle.dfu_asks.specs.Phases.{part_left};
 
 use crate::cut::Cut;
 use crate::next_piece::{numbered_piece, sequence_piece};
-use crate::write_inputs::WriteInputs;
+use crate::pending_writes::WriteInputs;
 use crate::{FormatStep, Formatting};
 use dfu_slots::{Sequence, Unit, VERSION, make_header};
 

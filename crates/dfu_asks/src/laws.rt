@@ -8,7 +8,7 @@ ghost use Rattle.dfu_slots.specs.Seen.{SlotsState, Commit, writes_of, store_on, 
 ghost use Rattle.dfu_slots.specs.Store.{IsStore};
 ghost use Rattle.dfu_device.specs.Parts.{is_put};
 ghost use Rattle.dfu_asks.specs.Mapped.{mapped};
-ghost use Rattle.dfu_asks.specs.declared.slot_write.SlotWrite.{SlotWrite};
+ghost use Rattle.dfu_asks.specs.declared.pending_writes.SlotWrite.{SlotWrite};
 ghost use Rattle.dfu_asks.specs.Steps.{Step, step_writes};
 ghost use Rattle.dfu_asks.specs.Jobs.{job_writes, job_steps};
 ghost use Rattle.dfu_asks.specs.Carried.{total, carried, AreWithin, IsPiece};

@@ -16,7 +16,7 @@ ghost use Rattle.dfu_asks.specs.declared.pending_writes.PendingWrites.{PendingWr
 
 use crate::cut::{cut_at, fill};
 use crate::next_piece::next_piece;
-use crate::position::behind_edge;
+use crate::sector::behind_edge;
 use crate::{Asking, FlashOp, Mapped, PendingWrites, Refusal, Reply, Sector};
 use dfu_slots::laws::active_image_is_one;
 use dfu_slots::{OPEN_GATE, Unit, WriteFault, check};

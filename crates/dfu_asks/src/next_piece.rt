@@ -8,7 +8,7 @@ ghost use Rattle.dfu_asks.specs.Cuts.{source_bytes, range_in, step_of, IsCut};
 ghost use Rattle.dfu_asks.specs.OpSteps.{ops_steps, steps_at, MayCutAll};
 
 use crate::cut::Cut;
-use crate::position::{Position, locate};
+use crate::sector::{Position, locate};
 use crate::{FlashOp, SlotWrite};
 use dfu_slots::{Op, Sequence, Source, VERSION, make_header};
 

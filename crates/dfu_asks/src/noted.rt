@@ -1,12 +1,17 @@
-//! What a device that asks notes of its active image.
-ghost use Rattle.std.specs.Prelude.{IfSome, IfNone};
+//! What is noted of the active image, and what a call sees of its flash by it, with no image read.
+ghost use Rattle.std.specs.Prelude.{◌≡◌, ◌≤◌, ◌↔◌, ℕ, List, length, IsTrue, IfSome, IfNone};
 ghost use Rattle.dfu_slots.specs.Image.{HasImage};
 ghost use Rattle.dfu_asks.specs.Mapped.{grain_of, mapped};
-ghost use Rattle.dfu_asks.specs.Noted.{IsNoted};
+ghost use Rattle.dfu_asks.specs.Noted.{IsNoted, NotedStands, IsView};
+ghost use Rattle.dfu_asks.specs.Lent.{HasRoom};
+ghost use Rattle.dfu_asks.specs.Refused.{IsKeptOn, Fits};
 
-use crate::{Mapped, Sector};
+use crate::{Asking, Mapped, Sector};
+use dfu_device::{PutSoFar, is_filled};
 use dfu_slots::laws::active_image_is_one;
-use dfu_slots::{Unit, check, header_of};
+use dfu_slots::{
+    Medium, Unit, capacity_of, check, gate_of, has_puts, header_of, is_open, is_sized, length_in,
+};
 
 /// What is noted of the active image: which slot has it, and that slot's header as it was. A call that finds it there reads no image.
 #[derive(Clone, Copy, Debug, PartialEq, Eq, Drop)]
@@ -38,5 +43,95 @@ impl Noted {
                 None
             }
         }
+    }
+}
+
+/// What a call sees of its flash by what is noted.
+#[derive(Clone, Copy, Drop)]
+pub(crate) struct View {
+    /// Where the active slot begins.
+    pub(crate) active: u32,
+    /// Where the spare slot begins.
+    pub(crate) spare: u32,
+    /// How many bytes an image may have.
+    pub(crate) room: u32,
+    /// How many the active one has.
+    pub(crate) len: u32,
+}
+
+// Whether two headers are the same, byte by byte: that is less code than `==`.
+fn are_same(one: &[u8], other: &[u8; 16]) -> bool
+    requires { length one.now ≡ 16 }
+    ensures { IsTrue result ↔ (one.now ≡ other.now) }
+{
+    for i in 0..16 {
+        if one[i] != other[i] {
+            return false;
+        }
+    }
+    true
+}
+
+/// The view of a medium on which the noted header is in an open slot; None exactly if it is not.
+#[inline(never)]
+pub(crate) fn look(medium: &Mapped<'_>, noted: &Noted) -> Option<View>
+    ensures stands { let m = mapped (grain_of medium.now.unit medium.now.sector) medium.now.bytes.now in
+        IfSome result (λ v. NotedStands noted.now m) }
+    ensures view { let m = mapped (grain_of medium.now.unit medium.now.sector) medium.now.bytes.now in
+        IfSome result (λ v. IsView v noted.now m) }
+    ensures none { let m = mapped (grain_of medium.now.unit medium.now.sector) medium.now.bytes.now in
+        IfNone result (¬ NotedStands noted.now m) }
+{
+    if !is_sized(medium) {
+        return None;
+    }
+    let half = medium.len() / 2;
+    let (active, spare) = if noted.second { (half, 0) } else { (0, half) };
+    if !is_open(medium, active) {
+        return None;
+    }
+    let from = (active + gate_of(medium)) as usize;
+    if !are_same(&medium.bytes[from..from + 16], &noted.header) {
+        return None;
+    }
+    let (room, len) = (capacity_of(medium), length_in(&noted.header));
+    if len > room {
+        return None;
+    }
+    Some(View {
+        active,
+        spare,
+        room,
+        len,
+    })
+}
+
+impl Asking {
+    /// Whether what is kept goes with what is seen, if the block's memory has so many bytes.
+    #[inline(never)]
+    pub(crate) fn is_fit(&self, room: usize, medium: &Mapped<'_>, view: &View) -> bool
+        requires unit { medium.now.unit ≡ self.now.unit }
+        requires sector { medium.now.sector ≡ self.now.sector }
+        requires view { IsView view.now self.now.noted (mapped (grain_of self.now.unit self.now.sector) medium.now.bytes.now) }
+        ensures kept { (block held : List ℕ) → length block ≡ room → HasRoom self.now.unit held →
+            IsKeptOn self.now block held medium.now.bytes.now → IsTrue result }
+        ensures fits { IsTrue result → Fits self.now room }
+        ensures end { IsTrue result → self.now.put_end ≤ view.now.room }
+        ensures held { IsTrue result → self.now.held_len ≤ self.now.put_end }
+    {
+        if self.block_len > room
+            || usize::from(self.config.functional().transfer) > room.min(4096)
+        {
+            return false;
+        }
+        if !has_puts(medium, self.held_len, self.put_end, view.spare) {
+            return false;
+        }
+        let seen = PutSoFar {
+            room: view.room,
+            begun: !is_open(medium, view.spare),
+            end: self.put_end,
+        };
+        is_filled(seen, self.mode, self.block_len)
     }
 }

@@ -1,4 +1,4 @@
-//! What comes of a call of a device that asks.
+//! What comes of a call of a device that asks: a reply, an operation on its flash, or a refusal.
 
 use dfu_device::Answer;
 
@@ -9,4 +9,29 @@ pub enum Reply {
     Asks,
     /// The answer, and how many bytes of it are at the front of the buffer.
     Answered(Answer, usize),
+}
+
+/// An operation on the flash: `len` bytes are to be programmed at `at`, or to be erased there. The call that gives it puts the
+/// bytes of a program at the front of the buffer that it is handed.
+#[derive(Clone, Copy, Drop)]
+pub struct FlashOp {
+    /// Whether it erases: the `len` bytes there are FFh then.
+    pub erases: bool,
+    /// Where its first byte is.
+    pub at: u64,
+    /// How many bytes it has: 1 to 256, or if it erases those of a sector.
+    pub len: usize,
+}
+
+/// Why a call of a device that asks is refused. Nothing changes then.
+#[derive(Clone, Copy, Debug, PartialEq, Eq, Drop)]
+pub enum Refusal {
+    /// Writes are due: they come first.
+    Asked,
+    /// The flash has no active image, or 2^32 bytes or more.
+    NoMedium,
+    /// What is kept is not a device on that flash.
+    NoDevice,
+    /// The buffer of the answer has less room than an answer may need.
+    NoRoom,
 }

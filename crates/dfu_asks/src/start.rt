@@ -10,7 +10,7 @@ ghost use Rattle.dfu_asks.specs.Due.{IsDueStage};
 ghost use Rattle.dfu_asks.specs.Asks.{device_in, store_in, IsDevice, IsBlockJob, IsCommitJob, IsJobOf};
 ghost use Rattle.dfu_asks.specs.Calls.{DueComes, HasAtMost};
 
-use crate::view::View;
+use crate::noted::View;
 use crate::{Asking, Mapped, PendingWrites, Reply, SlotWrite};
 use dfu_device::DeviceState;
 use dfu_slots::{data_at, is_open};

@@ -12,7 +12,7 @@ use Rattle.dfu_device.specs.Setting.{Setting}
 use Rattle.dfu_device.specs.Parts.{shows, is_put, is_sound}
 use Rattle.dfu_device.specs.Rows.{FailedBlock, FailedCommit}
 use Rattle.dfu_device.specs.Table.{write_code, commit_code}
-use Rattle.dfu_asks.specs.declared.slot_write.SlotWrite.{SlotWrite}
+use Rattle.dfu_asks.specs.declared.pending_writes.SlotWrite.{SlotWrite}
 use Rattle.dfu_asks.specs.Mapped.{mapped}
 use Rattle.dfu_asks.specs.Series.{block_series, BlockBroken, CommitBroken}
 use Rattle.dfu_asks.specs.Jobs.{job_writes}

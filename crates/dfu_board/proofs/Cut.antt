@@ -17,7 +17,7 @@ use Rattle.dfu_device.specs.Parts.{shows}
 use Rattle.dfu_device.specs.Table.{write_code, commit_code}
 use Rattle.dfu_device.specs.Rows.{Cause}
 use Rattle.dfu_device.specs.DeviceView.{DeviceView}
-use Rattle.dfu_asks.specs.declared.slot_write.SlotWrite.{SlotWrite}
+use Rattle.dfu_asks.specs.declared.pending_writes.SlotWrite.{SlotWrite}
 use Rattle.dfu_asks.specs.declared.pending_writes.PendingWrites.{PendingWrites}
 use Rattle.dfu_asks.specs.Mapped.{mapped}
 use Rattle.dfu_asks.specs.Steps.{Step, step_writes}

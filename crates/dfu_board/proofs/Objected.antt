@@ -6,7 +6,7 @@ use Rattle.dfu_device.specs.Rows.{ClosesDownload}
 use Rattle.dfu_device.specs.Stage.{InError}
 use Rattle.dfu_device.specs.Table.{objection_code, refuse_stage}
 use Rattle.dfu_asks.specs.Asks.{IsDevice}
-use Rattle.dfu_asks.specs.declared.refusal.Refusal.{Refusal}
+use Rattle.dfu_asks.specs.declared.reply.Refusal.{Refusal}
 use Rattle.dfu_board.specs.Board.{Board, lent_on, device_on, RefuseClose, Refuse}
 use Rattle.dfu_board.specs.Happens.{Happens}
 use Rattle.dfu_board.specs.Steps.{said_of_close, said_of_reset}

@@ -7,10 +7,10 @@ use Rattle.dfu_device.specs.declared.answer.Answer.{Answer}
 use Rattle.dfu_device.specs.Setting.{Setting}
 use Rattle.dfu_device.specs.DeviceView.{powered_on}
 use Rattle.dfu_device.specs.Rows.{Cause, Passing, Row}
-use Rattle.dfu_slots.specs.declared.unit.Unit.{Unit as WriteUnit}
+use Rattle.dfu_slots.specs.declared.layout.Unit.{Unit as WriteUnit}
 use Rattle.dfu_asks.specs.declared.asking.Asking.{Asking}
 use Rattle.dfu_asks.specs.declared.pending_writes.PendingWrites.{PendingWrites}
-use Rattle.dfu_asks.specs.declared.refusal.Refusal.{Refusal}
+use Rattle.dfu_asks.specs.declared.reply.Refusal.{Refusal}
 use Rattle.dfu_asks.specs.declared.reply.Reply.{Reply}
 use Rattle.dfu_asks.specs.declared.reply.Reply.TheVariants as reply
 use Rattle.dfu_asks.specs.declared.sector.Sector.{Sector}
@@ -21,7 +21,7 @@ use Rattle.dfu_asks.specs.Asks.{device_in, device_of, IsDevice, steps_in}
 use Rattle.dfu_asks.specs.Calls.{AsksWrites, DeviceCalled, called_ended, called_asks, DeviceTook}
 use Rattle.dfu_asks.specs.Refused.{IsKeptOn, Fits, IsLeft, IsServed, IsTaken}
 use Rattle.dfu_asks.specs.Lent.{lent}
-use Rattle.dfu_board.specs.Board.{Board, lent_on, device_on, Answers}
+use Rattle.dfu_board.specs.Board.{Board, lent_on, device_on, Says, Answers}
 use Rattle.dfu_board.specs.Happens.{IsServedBy, IsTold, BoardStarts, IsRefusedOr, reply_said}
 use Rattle.dfu_board.specs.Steps.{board, result_said}
 
@@ -35,19 +35,25 @@ by_reply : (b b' : Board) (out : List ℕ) (P : Type 0) (r : Reply) → P → Is
 by_reply b b' out P reply.Asks is = is
 by_reply b b' out P (reply.Answered x count) is = is
 
+-- A board serves a call by this outcome, which says what the board says.
+by_outcome : (b b' : Board) (cause : Cause) (said : Says) (r : Reply) → b.asking.work ≡ None → Fits b.asking (length b.block)
+    → b'.flash ≡ b.flash
+    → (IsKeptOn b.asking b.block b.held b.flash → (out out' : List ℕ)
+    × DeviceCalled (lent_on b) b.flash out (λ x sent d'. Row (device_on b) cause x sent d') (lent_on b') out' r
+    × (said ≡ reply_said r out'))
+    → IsServedBy b cause said b'
+by_outcome b b' cause said r idle fits flash outcome =
+    record { idle = idle; fits = fits; flash = flash; reply = r; outcome = outcome }
+
 -- A reply to a setup is what a board does that serves it.
 pub served_step : (b b' : Board) (cause : Cause) (out out' : List ℕ) (r : Reply) → b.asking.work ≡ None → Fits b.asking (length b.block)
     → b'.flash ≡ b.flash
     → (IsKeptOn b.asking b.block b.held b.flash
     → DeviceCalled (lent_on b) b.flash out (λ x sent d'. Row (device_on b) cause x sent d') (lent_on b') out' r)
     → IsRefusedOr (reply_said r out') b b' (IsServedBy b cause (reply_said r out') b')
-served_step b b' cause out out' r idle fits flash outcome = by_reply b b' out' (IsServedBy b cause (reply_said r out') b') r (record {
-  idle = idle;
-  fits = fits;
-  flash = flash;
-  reply = r;
-  outcome = λ kept. (out, out', outcome kept, refl);
-})
+served_step b b' cause out out' r idle fits flash outcome =
+    by_reply b b' out' (IsServedBy b cause (reply_said r out') b') r
+    (by_outcome b b' cause (reply_said r out') r idle fits flash (λ kept. (out, out', outcome kept, refl)))
 
 -- `handle`.
 pub call_step : (b b' : Board) (cause : Cause) (need room : ℕ) (out out' : List ℕ) (r : Result Reply Refusal) → b'.flash ≡ b.flash
@@ -73,13 +79,10 @@ module _ (b b' : Board) (ms : ℕ) (zeros : List ℕ) where
       → (IsKeptOn b.asking b.block b.held b.flash → (out : List ℕ)
       × DeviceCalled (lent_on b) b.flash zeros (λ x sent d'. Row (device_on b) (Passing ms) x sent d') (lent_on b') out r)
       → IsRefusedOr (reply_said r []) b b' (IsServedBy b (Passing ms) (reply_said r []) b')
-  passed_step r idle fits flash outcome = by_reply b b' [] (IsServedBy b (Passing ms) (reply_said r []) b') r (record {
-    idle = idle;
-    fits = fits;
-    flash = flash;
-    reply = r;
-    outcome = λ kept. let o = outcome kept in (zeros, o.0, o.1, no_bytes r o.0 o.1);
-  })
+  passed_step r idle fits flash outcome =
+      by_reply b b' [] (IsServedBy b (Passing ms) (reply_said r []) b') r
+      (by_outcome b b' (Passing ms) (reply_said r []) r idle fits flash
+      (λ kept. let o = outcome kept in (zeros, o.0, o.1, no_bytes r o.0 o.1)))
     where
       no_bytes : (r : Reply) (out : List ℕ)
           → DeviceCalled (lent_on b) b.flash zeros (λ y sent d'. Row (device_on b) (Passing ms) y sent d') (lent_on b') out r

@@ -2,7 +2,7 @@
 use Rattle.std.specs.Prelude.{ℕ, Bool, true, List, [], Result, Ok, Err}
 use Rattle.dfu_device.specs.declared.answer.Answer.TheVariants as answer
 use Rattle.dfu_asks.specs.declared.asking.Asking.{Asking}
-use Rattle.dfu_asks.specs.declared.refusal.Refusal.{Refusal}
+use Rattle.dfu_asks.specs.declared.reply.Refusal.{Refusal}
 use Rattle.dfu_asks.specs.declared.reply.Reply.{Reply}
 use Rattle.dfu_board.specs.Board.{Board, Says, Nothing, Answers}
 use Rattle.dfu_board.specs.Happens.{reply_said}

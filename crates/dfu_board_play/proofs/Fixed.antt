@@ -1,7 +1,7 @@
 -- What a row leaves as it was: by which profile a device goes.
 use Rattle.std.specs.Prelude.{◌≡◌, ℕ, List, [], ◌∷◌}
 use Rattle.std.proofs.Common.{ap, ◌∙◌}
-use Rattle.dfu_slots.specs.Seen.{room_restarted}
+use Rattle.dfu_slots.specs.Seen.{shows_same}
 use Rattle.dfu_device.specs.declared.answer.Answer.{Answer}
 use Rattle.dfu_device.specs.DeviceView.{DeviceView, profile, profile_of}
 use Rattle.dfu_device.specs.Rows.{Cause, Transfer, Passing, BusReset, RefusingClose, Refusing, PowerOn, Row, Handles, handled_as, setup_plan, asked_length}
@@ -22,7 +22,7 @@ row_profile d d' BusReset a out h = ap profile h.2
 row_profile d d' (RefusingClose setup why) a out (is, none, closes, same) = ap profile same
 row_profile d d' (Refusing why) a out h = ap profile h.2
 row_profile d d' PowerOn a out h =
-    ap profile h.2 ∙ (λ k. profile_of d.config (room_restarted d.slots d.slots.medium.fuse k))
+    ap profile h.2 ∙ (λ k. profile_of d.config ((shows_same d.slots d.slots.medium.fuse [] 0).room k))
 
 -- So does a history.
 pub history_profile : (d d' : DeviceView) (rows : List TableRow) → IsHistory d rows d' → profile d' ≡ profile d

@@ -11,7 +11,7 @@ use Rattle.dfu_host.specs.Phases.{Send, Deed, Heard, NoRoom, Nothing as NothingH
 use Rattle.dfu_host.specs.Table.{deed}
 use Rattle.dfu_host.specs.Host.{HostState, wants_memory}
 use Rattle.dfu_host.specs.Wire.{IsAsked}
-use Rattle.dfu_sim.specs.declared.response.Response.TheVariants as response
+use Rattle.dfu_sim.specs.declared.delivery.Response.TheVariants as response
 use Rattle.dfu_sim.specs.Happening.{Pass, LostOut, LostBack, Twice, TwiceLostBack, Refusing}
 use Rattle.dfu_sim.specs.Delivery.{delivery_of}
 use Rattle.dfu_sim.specs.Play.{took}

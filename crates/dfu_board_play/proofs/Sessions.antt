@@ -13,8 +13,8 @@ use Rattle.dfu_host.specs.declared.limits.Limits.{Limits}
 use Rattle.dfu_host.specs.declared.report.Report.{Report}
 use Rattle.dfu_host.specs.Phases.{Goal, ToFetch}
 use Rattle.dfu_host.specs.Host.{HostState, aborted}
-use Rattle.dfu_sim.specs.declared.purpose.Purpose.{Purpose}
-use Rattle.dfu_sim.specs.declared.purpose.Purpose.TheVariants.{Install, Verify}
+use Rattle.dfu_sim.specs.declared.offering.Purpose.{Purpose}
+use Rattle.dfu_sim.specs.declared.offering.Purpose.TheVariants.{Install, Verify}
 use Rattle.dfu_sim.specs.Session.{Machine, Live, Loading, IsOneOf, AnAbort, MachineStep, aborts}
 use Rattle.dfu_sim.specs.Happening.{Offers, Uploads, Aborts}
 use Rattle.dfu_sim.specs.Opening.{goal_of_purpose, opened}

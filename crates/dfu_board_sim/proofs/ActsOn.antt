@@ -16,16 +16,20 @@ use Rattle.dfu_board.specs.Board.{Board, Handle, Elapse, RefuseClose, Answers}
 use Rattle.dfu_board_sim.specs.Served.{HasServed, PowerIsCut}
 use Rattle.dfu_board_sim.specs.Acts.{HasSent, HasWaited, HasReset, BoardActs, EndsRefused, HasActed, HasObjected, HasGone}
 
--- A host that is not done asks for something.
-pub not_done : (task : Task) (phase : Phase) (report : Report) → IsOn phase → Spells (deed task phase) (action.Done report) → ⊥
-not_done task Enter report on spells = by_way task.will_detach spells
+-- A phase that is not the last asks for something.
+asks : (task : Task) (phase : Phase) (report : Report) → IsOn phase → Spells (deed task phase) (action.Done report) → ⊥
+asks task Enter report on spells = by_way task.will_detach spells
   where
     by_way : (b : Bool) → Spells (if b then Wait (max 1 task.detach_ms) else Reset) (action.Done report) → ⊥
     by_way true spells = spells
     by_way false spells = spells
-not_done task (Over r) report on spells = on
-not_done task (OverUploaded kept) report on spells = on
-not_done task phase report on spells = spells
+asks task (Over r) report on spells = on
+asks task (OverUploaded kept) report on spells = on
+asks task phase report on spells = spells
+
+-- So does a host that is not done.
+pub not_done : (h : HostState) (report : Report) → IsOn h.phase → Spells (deed h.task h.phase) (action.Done report) → ⊥
+not_done h report on spells = asks h.task h.phase report on spells
 
 module _ (fate : Fate) (h : HostState) (b b' : Board) (h' : HostState) where
   pub acts_send : (d : Deed) (setup : List ℕ) (given : Bor (List ℕ)) → Spells d (action.Send setup given)

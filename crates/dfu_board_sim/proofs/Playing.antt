@@ -15,8 +15,8 @@ use Rattle.dfu_host.specs.Phases.{Deed, Send, Wait, Reset, Done, Heard, Waited, 
 use Rattle.dfu_host.specs.Table.{deed}
 use Rattle.dfu_host.specs.Host.{HostState, after, aborted}
 use Rattle.dfu_sim.specs.LinkView.{Session, Nobody, Hosted}
-use Rattle.dfu_sim.specs.declared.purpose.Purpose.{Purpose}
-use Rattle.dfu_sim.specs.declared.purpose.Purpose.TheVariants.{Install, Verify}
+use Rattle.dfu_sim.specs.declared.offering.Purpose.{Purpose}
+use Rattle.dfu_sim.specs.declared.offering.Purpose.TheVariants.{Install, Verify}
 use Rattle.dfu_sim.specs.declared.event.Event.{Event}
 use Rattle.dfu_sim.specs.declared.event.Event.TheVariants as event
 use Rattle.dfu_sim.specs.declared.fault.LinkFault.{LinkFault}
@@ -36,8 +36,8 @@ use Rattle.dfu_board.specs.Happens.{IsPoweredOn}
 use Rattle.dfu_board_play.specs.Calls.{Reaches, lost, once, twice, Objects, refused_once, refused_twice, behind}
 use Rattle.dfu_board_play.specs.Comes.{BoardLink, left, IsUnderWay, BoardComes, passes, sends, objects, refuses, waits, resets, is_reset, restarts, HearsSentBack}
 use Rattle.dfu_board_play.specs.Plays.{Plays, starts, offers, uploads, aborts as gives_up, goes_on, opened_on, IsInPlace, PlaysInstall, PlaysKnow}
-use Rattle.dfu_board_sim.specs.declared.fates.Handled.{Handled}
-use Rattle.dfu_board_sim.specs.declared.fates.Handled.TheVariants.{Unseen, Once, Again, Late}
+use Rattle.dfu_sim.specs.declared.delivery.Handled.{Handled}
+use Rattle.dfu_sim.specs.declared.delivery.Handled.TheVariants.{Unseen, Once, Again, Late}
 use Rattle.dfu_board_sim.specs.Fates.{handling_of, comes_back, is_cut}
 use Rattle.dfu_board_sim.specs.Served.{HasServed, IsHandled, SlipsOnBoard, PowerIsCut}
 use Rattle.dfu_board_sim.specs.Acts.{HearsOf, BoardActs, ComesAgain, HasActed, HasObjected, HasGone}
@@ -198,7 +198,7 @@ module _ (installs : PlaysInstall) (knows : PlaysKnow) where
       acts_keep true fate (Done report) b' h' e acts = elim acts [ ]
       acts_keep false fate (Send q body) b' h' e acts =
           let sent = acts.2 in
-          let heard = sent.heard in
+          let heard = sent.follows.heard in
           let hears = subst (λ (d : Deed). HearsOf (comes_back fate) d sent.says heard.heard) e heard.hears in
           let way = reached (handling_of fate) (Handle acts.0 body) sent.says sent.mid sent.handled in
           let next = after h heard.heard in
@@ -206,7 +206,7 @@ module _ (installs : PlaysInstall) (knows : PlaysKnow) where
           (slips_keep (settled next next.phase).answer.report (at sent.mid next) (handling_of fate) b'
           (comes_keep (at sent.mid next) way.0 (settled next next.phase).answer k
           (sends refl e acts.1 way.1 (hears_back (comes_back fate) (Send q body) sent.says heard.heard hears) heard.room))
-          sent.slips)
+          sent.follows.slips)
       acts_keep false fate (Wait ms) b' h' e acts =
           let passed = comes_keep (record { board = b'; session = Hosted h }) acts.passes.steps silent k
           (passes acts.passes.serves) in
@@ -245,7 +245,7 @@ module _ (installs : PlaysInstall) (knows : PlaysKnow) where
 
       objected_keeps : (why : Objection) (fate : Fate) (b' : Board) (h' : HostState) → HasObjected why fate h b b' h' → Held b' h'
       objected_keeps why fate b' h' o =
-          let heard = o.ends.heard in
+          let heard = o.ends.follows.heard in
           let hears = subst (λ (d : Deed). HearsOf (comes_back fate) d o.ends.says heard.heard) o.is heard.hears in
           let way = objected (handling_of fate) o.setup o.body why o.mid o.ends.says o.ends.mid o.refused o.ends.again in
           let next = after h heard.heard in
@@ -253,7 +253,7 @@ module _ (installs : PlaysInstall) (knows : PlaysKnow) where
           (slips_keep (settled next next.phase).answer.report (at o.ends.mid next) (handling_of fate) b'
           (comes_keep (at o.ends.mid next) way.0 (settled next next.phase).answer k
           (objects refl o.is o.asked way.1 (hears_back (comes_back fate) (Send o.q o.body) o.ends.says heard.heard hears) heard.room))
-          o.ends.slips)
+          o.ends.follows.slips)
 
       gone_keeps : (fate : Fate) (b' : Board) (h' : HostState) → HasGone fate h b b' h' → Held b' h'
       gone_keeps (Refusing why fate) b' h' (inl acted) = acts_keep (is_cut fate) fate (deed h.task h.phase) b' h' refl acted

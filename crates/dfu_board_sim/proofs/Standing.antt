@@ -11,8 +11,8 @@ use Rattle.dfu_slots.proofs.Newest.{places_are, active_end}
 use Rattle.dfu_slots.proofs.Parts.{data_length}
 use Rattle.dfu_asks.specs.declared.noted.Noted.{Noted}
 use Rattle.dfu_asks.specs.declared.pending_writes.PendingWrites.{PendingWrites}
-use Rattle.dfu_asks.specs.declared.refusal.Refusal.{Refusal}
-use Rattle.dfu_asks.specs.declared.refusal.Refusal.TheVariants as refusal
+use Rattle.dfu_asks.specs.declared.reply.Refusal.{Refusal}
+use Rattle.dfu_asks.specs.declared.reply.Refusal.TheVariants as refusal
 use Rattle.dfu_asks.specs.Noted.{noted_at, IsNoted, NotedStands}
 use Rattle.dfu_asks.specs.Refused.{IsRefusedCall}
 use Rattle.dfu_board.specs.Board.{Board, medium_on}

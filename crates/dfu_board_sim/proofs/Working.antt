@@ -14,14 +14,16 @@ use Rattle.dfu_asks.specs.Asks.{steps_in}
 use Rattle.dfu_board.specs.Board.{Board, lent_on, Event, UsbReset, RefuseClose, Write, Took, Restart, Says, Nothing, WritesDue, Answers, BoardStep}
 use Rattle.dfu_device.specs.declared.objection.Objection.{Objection}
 use Rattle.dfu_device.specs.Rows.{Cause, RefusingClose}
-use Rattle.dfu_board.specs.Happens.{Happens, IsObjected, IsHanded, BoardStarts, IsRun}
+use Rattle.dfu_device.specs.Setting.{Setting}
+use Rattle.dfu_board.specs.Happens.{Happens, IsServedBy, IsObjected, IsHanded, BoardStarts, IsRun}
 use Rattle.dfu_board.specs.Steps.{said_of_close}
 use Rattle.dfu_board_play.specs.Calls.{WorksOff, ends, carries_on, at_once, with_writes, IsCutOff, power_goes, still_due, broken, Serves, behind, within, lost, once}
 use Rattle.dfu_board_sim.specs.Standing.{board_of, BlockHasRoom, HasRun, IsAtRest, WritesAreDue, IsTried, ChipHolds, ChipStands, IsRestarted}
-use Rattle.dfu_board_sim.specs.declared.chip.Chip.{Chip}
+use Rattle.dfu_board_sim.specs.declared.board.Chip.{Chip}
 use Rattle.dfu_board_sim.specs.Served.{done_in, AreDue, HasTried, IsTakenAs, HasWorked, HasCalled, HasServed, PowerIsCut, says_of}
-use Rattle.dfu_board_sim.specs.declared.came.Came.{Came}
-use Rattle.dfu_board_sim.specs.declared.came.Came.TheVariants.{Answered, NoAnswer}
+use Rattle.dfu_board_sim.specs.declared.calls.Came.{Came}
+use Rattle.dfu_board_sim.specs.declared.calls.Came.TheVariants.{Answered, NoAnswer}
+use Rattle.dfu_board_sim.proofs.Resting.{room_on, served_rests}
 
 -- Runs.
 
@@ -177,6 +179,15 @@ module _ (b mid : Board) (call : Event) (same : IsSetUpAs b.asking mid.asking) w
       let first : BoardStep = record { before = b; event = call; says = Answers a out; after = mid } in
       (first ∷ [], record { run = (refl, step, same, refl); is = at_once first refl refl })
 
+  -- It leaves a board at rest.
+  pub called_answered : (cause : Cause) (a : Answer) (count : ℕ) (out : List ℕ) → BlockHasRoom b → IsAtRest b → mid.flash ≡ b.flash
+      → length mid.block ≡ length b.block
+      → (Happens b call (Answers a (take count out)) mid → IsServedBy b cause (Answers a (take count out)) mid)
+      → Happens b call (Answers a (take count out)) mid → HasCalled b call out (Answered a count) mid
+  called_answered cause a count out room rest flash size serves step =
+      let once = called_once a (take count out) step in
+      (once.0, once.1, served_rests b mid cause flash (room_on b mid room same size) a (take count out) rest (serves step))
+
 -- The power goes within the writes of a call.
 pub cut_within : (b mid b' : Board) (call : Event) (out : List ℕ) → HasCalled b call out NoAnswer mid → IsRestarted mid b' →
     PowerIsCut call b b'
@@ -252,6 +263,15 @@ module _ (b b' : Board) (call : Event) (cause : Cause) (a : Answer) (same : IsSe
 
 -- The program refuses the image that this setup closes, or it closes none, and nothing has changed.
 module _ (b b' : Board) (setup : List ℕ) (why : Objection) (same : IsSetUpAs b.asking b'.asking) where
+  pub closed_served : (closes : Bool) → Happens b (RefuseClose setup why) (said_of_close (Ok closes)) b' → closes ≡ true
+      → HasServed b (RefuseClose setup why) (Answers answer.Stall []) b'
+  closed_served true step does = objected_served b b' (RefuseClose setup why) (RefusingClose setup why) answer.Stall same step step
+  closed_served false step does = cc
+
+  pub closed_none : (closes : Bool) → Happens b (RefuseClose setup why) (said_of_close (Ok closes)) b' → closes ≡ false → b' ≡ b
+  closed_none true step none = cc
+  closed_none false step none = step
+
   pub closed_ran : (closes : Bool) → Happens b (RefuseClose setup why) (said_of_close (Ok closes)) b' → HasRun b → HasRun b'
   closed_ran true step ran = objected_ran b b' (RefuseClose setup why) (RefusingClose setup why) answer.Stall same step step ran
   closed_ran false step ran = subst (λ (x : Board). HasRun x) (sym step) ran
@@ -279,3 +299,14 @@ called_stands c c' call out came stands holds k here = record {
   ran = called_ran (board_of c) (board_of c') call out came stands.ran k;
   rest = rests_of (board_of c) (board_of c') call out came k here;
 }
+
+-- What holds after a call that changes only the device of a board, which is at rest after it.
+pub stands_on : (c c' : Chip) → ChipStands c → IsSetUpAs c.asking c'.asking → length c'.block ≡ length c.block → c'.ids ≡ c.ids
+    → HasRun (board_of c') → (BlockHasRoom (board_of c') → IsAtRest (board_of c')) → ChipStands c'
+stands_on c c' stands same size ids ran rests =
+    let room = room_on (board_of c) (board_of c') stands.holds.room same size in
+    record {
+      holds = record { room = room; ids = ids ∙ stands.holds.ids ∙ sym (ap (λ (s : Setting). s.ids) same.config) };
+      ran = ran;
+      rest = rests room;
+    }

@@ -8,11 +8,12 @@ use Rattle.dfu_host.specs.Table.{deed}
 use Rattle.dfu_host.specs.Host.{HostState, after, wants_memory}
 use Rattle.dfu_host.specs.Wire.{IsAsked}
 use Rattle.dfu_sim.specs.Bytes.{HearsAnswer}
+use Rattle.dfu_sim.specs.Play.{waits_for}
 use Rattle.dfu_sim.specs.Happening.{Fate, Refusing}
 use Rattle.dfu_board.specs.Board.{Board, Handle, Elapse, UsbReset, RefuseClose, Says, Answers}
-use Rattle.dfu_board_sim.specs.declared.fates.Handled.{Handled}
-use Rattle.dfu_board_sim.specs.declared.fates.Handled.TheVariants.{Unseen, Once, Again, Late}
-use Rattle.dfu_board_sim.specs.Fates.{handling_of, comes_back, is_cut, waits_for}
+use Rattle.dfu_sim.specs.declared.delivery.Handled.{Handled}
+use Rattle.dfu_sim.specs.declared.delivery.Handled.TheVariants.{Unseen, Once, Again, Late}
+use Rattle.dfu_board_sim.specs.Fates.{handling_of, comes_back, is_cut}
 use Rattle.dfu_board_sim.specs.Served.{HasServed, IsHandled, SlipsOnBoard, PowerIsCut}
 
 -- What a host hears of what a board says: the answer if it comes back, else nothing.
@@ -27,13 +28,17 @@ pub record HasHeard (h : HostState) (back : Bool) (says : Says) (h' : HostState)
   pub room : heard ≡ NoRoom → IsTrue (wants_memory h.phase)
   pub same : h' ≡ after h heard
 
+-- What follows a request of this fate, of which the board says this: the host hears it or does not, and the time that slips in passes.
+pub record Follows (fate : Fate) (h : HostState) (says : Says) (b b' : Board) (h' : HostState) : Type 0 where
+  pub heard : HasHeard h (comes_back fate) says h'
+  pub slips : SlipsOnBoard (handling_of fate) b b'
+
 -- A request of this fate, in which the power does not go.
 pub record HasSent (fate : Fate) (h : HostState) (setup body : List ℕ) (b b' : Board) (h' : HostState) : Type 0 where
   pub says : Says
   pub mid : Board
   pub handled : IsHandled (handling_of fate) (Handle setup body) b says mid
-  pub heard : HasHeard h (comes_back fate) says h'
-  pub slips : SlipsOnBoard (handling_of fate) mid b'
+  pub follows : Follows fate h says mid b' h'
 
 -- A wait of this fate, in which the power does not go.
 pub record HasWaited (fate : Fate) (h : HostState) (ms : ℕ) (b b' : Board) (h' : HostState) : Type 0 where
@@ -77,8 +82,7 @@ pub record EndsRefused (fate : Fate) (h : HostState) (setup body : List ℕ) (b 
   pub says : Says
   pub mid : Board
   pub again : ComesAgain (handling_of fate) setup body b says mid
-  pub heard : HasHeard h (comes_back fate) says h'
-  pub slips : SlipsOnBoard (handling_of fate) mid b'
+  pub follows : Follows fate h says mid b' h'
 
 -- The host sends a request that closes a download, and the board's program refuses the image.
 pub record HasObjected (why : Objection) (fate : Fate) (h : HostState) (b b' : Board) (h' : HostState) : Type 0 where

@@ -14,7 +14,7 @@ use Rattle.dfu_sim.specs.Standing.{session_of, given_by, IsOnIn}
 use Rattle.dfu_board.specs.Board.{Board, device_on, Elapse, UsbReset, Refuse, Says}
 use Rattle.dfu_board_play.specs.Comes.{BoardLink}
 use Rattle.dfu_board_play.specs.Plays.{opened_on}
-use Rattle.dfu_board_sim.specs.declared.chip.Chip.{Chip}
+use Rattle.dfu_board_sim.specs.declared.board.Chip.{Chip}
 use Rattle.dfu_board_sim.specs.Standing.{ChipStands, IsRestarted}
 use Rattle.dfu_board_sim.specs.Served.{HasServed}
 use Rattle.dfu_board_sim.specs.Acts.{HasGone}

@@ -10,10 +10,10 @@ use Rattle.dfu_asks.specs.Steps.{Step}
 use Rattle.dfu_board.specs.Board.{Board, state_on, Event, Elapse, Took, Says, Nothing, WritesDue, Answers, BoardStep}
 use Rattle.dfu_board.specs.Happens.{Happens, IsRun, reply_said}
 use Rattle.dfu_board_play.specs.Calls.{CarriesOn, WorksOff, Serves, Stops}
-use Rattle.dfu_board_sim.specs.declared.came.Came.{Came}
-use Rattle.dfu_board_sim.specs.declared.came.Came.TheVariants.{Answered, NoAnswer}
-use Rattle.dfu_board_sim.specs.declared.fates.Handled.{Handled}
-use Rattle.dfu_board_sim.specs.declared.fates.Handled.TheVariants.{Unseen, Once, Again, Late}
+use Rattle.dfu_board_sim.specs.declared.calls.Came.{Came}
+use Rattle.dfu_board_sim.specs.declared.calls.Came.TheVariants.{Answered, NoAnswer}
+use Rattle.dfu_sim.specs.declared.delivery.Handled.{Handled}
+use Rattle.dfu_sim.specs.declared.delivery.Handled.TheVariants.{Unseen, Once, Again, Late}
 use Rattle.dfu_board_sim.specs.Standing.{IsAtRest, WritesAreDue, IsTried}
 
 -- How many bytes of the writes that are due are carried out.

@@ -10,7 +10,7 @@ use Rattle.dfu_asks.specs.Refused.{Fits, IsKeptOn}
 use Rattle.dfu_board.specs.Board.{Board, lent_on, Restart, BoardStep}
 use Rattle.dfu_board.specs.Happens.{IsPoweredOn, IsRun}
 use Rattle.dfu_board.specs.Steps.{board}
-use Rattle.dfu_board_sim.specs.declared.chip.Chip.{Chip}
+use Rattle.dfu_board_sim.specs.declared.board.Chip.{Chip}
 
 -- The board of a device that asks, with its memories and its flash.
 abbrev pub board_of : Chip → Board

@@ -5,19 +5,65 @@ ghost use Rattle.dfu_host.specs.Host.{IsOn, after};
 ghost use Rattle.dfu_host.specs.Phases.{Restarted};
 ghost use Rattle.dfu_board.specs.Board.{Handle, Elapse};
 ghost use Rattle.dfu_sim.specs.Happening.{fate_of};
-ghost use Rattle.dfu_board_sim.specs.Fates.{is_cut, waits_for};
+ghost use Rattle.dfu_sim.specs.Play.{waits_for};
+ghost use Rattle.dfu_board_sim.specs.Fates.{handling_of, comes_back, is_cut};
 ghost use Rattle.dfu_board_sim.specs.Standing.{board_of, ChipStands};
-ghost use Rattle.dfu_board_sim.specs.Served.{PowerIsCut};
-ghost use Rattle.dfu_board_sim.specs.Acts.{HasSent, HasWaited, HasReset, HasActed};
+ghost use Rattle.dfu_board_sim.specs.Served.{PowerIsCut, says_of};
+ghost use Rattle.dfu_board_sim.specs.Acts.{Follows, HasSent, HasWaited, HasReset, HasActed};
 
-use crate::calls::usb_reset;
-use crate::chip::Chip;
+use crate::board::Chip;
+use crate::calls::{Came, usb_reset};
 use crate::cuts::{cut_idle, cut_request, cut_wait, pass, reach, slip};
-use crate::fates::{Handled, comes_back, handling_of, is_cut};
 use crate::harm::Harm;
 use crate::hosting::{tell, tell_reset, tell_restart, tell_wait};
 use dfu_host::{Action, Host};
-use dfu_sim::Fate;
+use dfu_sim::{Fate, Handled};
+
+/// What the board makes of a request of this fate.
+pub(crate) fn handling_of(fate: Fate<'_>) -> Handled
+    ensures { result ≡ handling_of (fate_of fate.entry) }
+{
+    match fate {
+        Fate::LostOut => Handled::Unseen,
+        Fate::Pass | Fate::LostBack => Handled::Once,
+        Fate::Cut { .. } | Fate::Fail { .. } | Fate::Lie { .. } => Handled::Once,
+        Fate::Twice | Fate::TwiceLostBack => Handled::Again,
+        Fate::Slip(ms) => Handled::Late(ms),
+    }
+}
+
+/// Whether the host hears the answer to a request of this fate, if there is one.
+pub(crate) fn comes_back(fate: Fate<'_>) -> bool
+    ensures { result ≡ comes_back (fate_of fate.entry) }
+{
+    match fate {
+        Fate::LostOut | Fate::LostBack | Fate::TwiceLostBack | Fate::Cut { .. } => false,
+        Fate::Pass | Fate::Twice | Fate::Slip(_) => true,
+        Fate::Fail { .. } | Fate::Lie { .. } => true,
+    }
+}
+
+/// Whether the power goes in an action of this fate.
+pub(crate) fn is_cut(fate: Fate<'_>) -> bool
+    ensures { result ≡ is_cut (fate_of fate.entry) }
+{
+    match fate {
+        Fate::Cut { .. } => true,
+        Fate::LostOut | Fate::LostBack | Fate::TwiceLostBack => false,
+        Fate::Pass | Fate::Twice | Fate::Slip(_) => false,
+        Fate::Fail { .. } | Fate::Lie { .. } => false,
+    }
+}
+
+/// What follows a request of this fate, of which this came: the host hears it, or doesn't, and the time that slips in passes.
+pub(crate) fn finish(chip: &mut Chip, host: &mut Host<'_>, fate: Fate<'_>, came: Came, out: &[u8])
+    requires { ChipStands chip.old }
+    ensures follows { Follows (fate_of fate.entry) host.old (says_of came out.now) (board_of chip.old) (board_of chip.new) host.new }
+    ensures stands { ChipStands chip.new }
+{
+    tell(host, came, comes_back(fate), out);
+    slip(chip, handling_of(fate));
+}
 
 /// A request of a fate in which the power doesn't go.
 fn send(chip: &mut Chip, host: &mut Host<'_>, fate: Fate<'_>, setup: &[u8; 8], body: &[u8])
@@ -29,8 +75,7 @@ fn send(chip: &mut Chip, host: &mut Host<'_>, fate: Fate<'_>, setup: &[u8; 8], b
     let mut harm = Harm::of(fate);
     let mut out = [0; 4096];
     let came = reach(chip, &mut harm, handling_of(fate), setup, body, &mut out);
-    tell(host, came, comes_back(fate), &out);
-    slip(chip, handling_of(fate));
+    finish(chip, host, fate, came, &out);
 }
 
 /// The time that passes in a wait: another if one slips in.
@@ -64,22 +109,6 @@ fn reset_bus(chip: &mut Chip, host: &mut Host<'_>, fate: Fate<'_>)
     usb_reset(chip);
     tell_reset(host);
     slip(chip, handling_of(fate));
-}
-
-/// The next action of a host that is not done, if the power doesn't go in it.
-fn act_whole(chip: &mut Chip, host: &mut Host<'_>, fate: Fate<'_>)
-    requires stands { ChipStands chip.old }
-    requires on { IsOn host.old.phase }
-    requires whole { is_cut (fate_of fate) ≡ false }
-    ensures acted { HasActed (fate_of fate.entry) host.old (board_of chip.old) (board_of chip.new) host.new }
-    ensures stands { ChipStands chip.new }
-{
-    match host.next() {
-        Action::Send { setup, body } => send(chip, host, fate, &setup, body),
-        Action::Wait(ms) => wait(chip, host, fate, ms),
-        Action::Reset => reset_bus(chip, host, fate),
-        Action::Done(_) => unreachable!(),
-    }
 }
 
 /// The next action of a host that is not done, if the power goes in it. Nothing is left of a reset of the bus then.
@@ -117,7 +146,12 @@ pub(crate) fn act(chip: &mut Chip, host: &mut Host<'_>, fate: Fate<'_>)
 {
     if is_cut(fate) {
         act_cut(chip, host, fate);
-    } else {
-        act_whole(chip, host, fate);
+        return;
+    }
+    match host.next() {
+        Action::Send { setup, body } => send(chip, host, fate, &setup, body),
+        Action::Wait(ms) => wait(chip, host, fate, ms),
+        Action::Reset => reset_bus(chip, host, fate),
+        Action::Done(_) => unreachable!(),
     }
 }

@@ -6,15 +6,24 @@ ghost use Rattle.dfu_asks.specs.Mapped.{grain_of, mapped};
 ghost use Rattle.dfu_board.specs.Happens.{IsPoweredOn};
 ghost use Rattle.dfu_board.specs.Steps.{board};
 ghost use Rattle.dfu_device.specs.Setting.{IsAllowed};
-ghost use Rattle.dfu_board_sim.specs.Standing.{board_of, ChipStands};
+ghost use Rattle.dfu_board_sim.specs.Standing.{board_of, ChipHolds, HasRun, ChipStands, IsRestarted};
 
-use crate::chip::Chip;
 use dfu_asks::{Asking, Sector};
 use dfu_board::steps;
 use dfu_device::Config;
 use dfu_slots::Unit;
 use dfu_wire::Ids;
 use std::marker::Model;
+
+/// A device that asks and its identifiers, the two memories that its program lends it, and its flash.
+#[derive(Drop)]
+pub(crate) struct Chip {
+    pub(crate) asking: Asking,
+    pub(crate) ids: Ids,
+    pub(crate) block: [u8; 4096],
+    pub(crate) held: [u8; 256],
+    pub(crate) flash: Vec<u8>,
+}
 
 /// A board in memory, on which no write is due: a device that asks for its writes, the memory that its program lends it, and its flash.
 ///
@@ -52,6 +61,20 @@ fn fresh(asking: Asking, ids: Ids, block: [u8; 4096], held: [u8; 256], flash: Ve
         block,
         held,
         flash,
+    }
+}
+
+/// The power goes, and comes back: the board starts on its flash as the flash is then.
+pub(crate) fn power_cycle(chip: &mut Chip)
+    requires holds { ChipHolds chip.old }
+    requires ran { HasRun (board_of chip.old) }
+    ensures restarted { IsRestarted (board_of chip.old) (board_of chip.new) }
+    ensures stands { ChipStands chip.new }
+{
+    let asking = &chip.asking;
+    match steps::power_on(asking.config, asking.unit, asking.sector, &chip.flash) {
+        Some(asking) => chip.asking = asking,
+        None => unreachable!(),
     }
 }
 

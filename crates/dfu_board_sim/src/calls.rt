@@ -9,13 +9,21 @@ ghost use Rattle.dfu_board.specs.Happens.{IsHanded};
 ghost use Rattle.dfu_board_sim.specs.Standing.{board_of, ChipHolds, ChipStands, WritesAreDue, IsTried};
 ghost use Rattle.dfu_board_sim.specs.Served.{done_in, HasTried, IsTakenAs, HasWorked, HasCalled, HasServed};
 
-use crate::came::Came;
-use crate::chip::Chip;
+use crate::board::Chip;
 use crate::harm::{Harm, Kind};
 use crate::pieces::{Turn, carry_out};
 use dfu_asks::{FlashOp, Reply};
 use dfu_board::steps;
-use dfu_device::Objection;
+use dfu_device::{Answer, Objection};
+
+/// What comes of a call that goes to a board.
+#[derive(Clone, Copy)]
+pub(crate) enum Came {
+    /// The board's answer, and how many bytes of it are at the front of the buffer.
+    Answered(Answer, usize),
+    /// Nothing: the call got lost, or the power went before the board answered.
+    NoAnswer,
+}
 
 /// The next piece of the writes that are due, with its bytes.
 fn next(chip: &Chip, bytes: &mut [u8; 256]) -> FlashOp

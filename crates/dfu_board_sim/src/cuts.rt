@@ -5,12 +5,10 @@ ghost use Rattle.dfu_board.specs.Board.{state_on, Handle, Elapse, Says};
 ghost use Rattle.dfu_board_sim.specs.Standing.{board_of, ChipStands};
 ghost use Rattle.dfu_board_sim.specs.Served.{IsHandled, HasServed, TimeSlips, SlipsOnBoard, PowerIsCut, says_of};
 
-use crate::calls::{elapse, handle};
-use crate::came::Came;
-use crate::chip::Chip;
-use crate::fates::Handled;
+use crate::board::{Chip, power_cycle};
+use crate::calls::{Came, elapse, handle};
 use crate::harm::{Harm, Kind};
-use crate::power::power_cycle;
+use dfu_sim::Handled;
 use dfu_wire::State;
 
 /// A request is handled so, and the power doesn't go.

@@ -9,7 +9,7 @@ ghost use Rattle.dfu_sim.specs.inside.Acting.{ended};
 ghost use Rattle.dfu_board_sim.specs.Served.{says_of};
 ghost use Rattle.dfu_board_sim.specs.Acts.{HasHeard};
 
-use crate::came::Came;
+use crate::calls::Came;
 use dfu_device::Answer;
 use dfu_host::{Host, Phase, Report, Seen};
 

@@ -5,18 +5,13 @@
 mod acting;
 mod board;
 mod calls;
-mod came;
-mod chip;
 mod cuts;
-mod fates;
 mod harm;
 mod hosting;
 pub mod laws;
 mod objecting;
-mod offering;
 mod pieces;
 mod play;
-mod power;
 mod world;
 
 pub use board::MemoryBoard;

@@ -8,17 +8,13 @@ ghost use Rattle.dfu_board_sim.specs.Standing.{board_of, ChipStands};
 ghost use Rattle.dfu_board_sim.specs.Served.{says_of};
 ghost use Rattle.dfu_board_sim.specs.Acts.{ComesAgain, EndsRefused, HasActed, HasObjected, HasGone};
 
-use crate::acting::act;
-use crate::calls::{handle, refuse_close};
-use crate::came::Came;
-use crate::chip::Chip;
-use crate::cuts::slip;
-use crate::fates::{Handled, comes_back, handling_of, is_cut};
+use crate::acting::{act, finish, handling_of, is_cut};
+use crate::board::Chip;
+use crate::calls::{Came, handle, refuse_close};
 use crate::harm::Harm;
-use crate::hosting::tell;
 use dfu_device::{Answer, Objection};
 use dfu_host::{Action, Host};
-use dfu_sim::Fate;
+use dfu_sim::{Fate, Handled};
 
 /// Whether the board sees a request that is handled so.
 fn is_seen(handling: Handled) -> bool
@@ -60,8 +56,7 @@ fn end_refused(chip: &mut Chip, host: &mut Host<'_>, fate: Fate<'_>, setup: &[u8
 {
     let mut out = [0; 4096];
     let came = again(chip, handling_of(fate), setup, body, &mut out);
-    tell(host, came, comes_back(fate), &out);
-    slip(chip, handling_of(fate));
+    finish(chip, host, fate, came, &out);
 }
 
 /// The next action of a host that is not done, whose request the board sees and in which the power doesn't go. The program refuses the

@@ -6,17 +6,15 @@ ghost use Rattle.dfu_sim.specs.Standing.{IsOnIn, session_of};
 ghost use Rattle.dfu_board_sim.specs.Standing.{board_of};
 ghost use Rattle.dfu_board_sim.specs.Link.{link_on, LinkComes, HoldsOn};
 
+use crate::board::{Chip, power_cycle};
 use crate::calls::{refuse, usb_reset};
-use crate::chip::Chip;
 use crate::cuts::pass;
 use crate::harm::Harm;
 use crate::hosting::{end, restart};
 use crate::objecting::act_by;
-use crate::offering::{begin, fetch};
-use crate::power::power_cycle;
 use dfu_device::Objection;
 use dfu_host::{Host, Limits, Report};
-use dfu_sim::{Event, Fate, LinkFault, Purpose};
+use dfu_sim::{Event, Fate, LinkFault, OfferFault, Purpose, begin};
 use std::alloc::Global;
 
 /// A file is offered.
@@ -36,7 +34,13 @@ fn offer<'f>(
     if host.is_some() {
         return Err(LinkFault::HostBusy);
     }
-    match begin(chip, purpose, file, limits) {
+    match begin(
+        &chip.asking.config.functional(),
+        chip.ids,
+        purpose,
+        file,
+        limits,
+    ) {
         Ok(begun) => {
             *host = Some(begun);
             Ok(None)
@@ -61,12 +65,12 @@ fn upload<'f>(
     if host.is_some() {
         return Err(LinkFault::HostBusy);
     }
-    match fetch(alloc, chip, limits) {
+    match Host::upload(alloc, &chip.asking.config.functional(), limits) {
         Ok(begun) => {
             *host = Some(begun);
             Ok(None)
         }
-        Err(fault) => Err(LinkFault::BadOffer(fault)),
+        Err(fault) => Err(LinkFault::BadOffer(OfferFault::Host(fault))),
     }
 }
 

@@ -1,14 +1,12 @@
 //! A board and a host on a link.
 
 ghost use Rattle.std.specs.Prelude.{◌≡◌, [], true, false};
-ghost use Rattle.dfu_sim.specs.LinkView.{Nobody};
+ghost use Rattle.dfu_sim.specs.LinkView.{Nobody, IsLive};
 ghost use Rattle.dfu_sim.specs.Happening.{happening};
-ghost use Rattle.dfu_sim.specs.Refusing.{IsLive};
 ghost use Rattle.dfu_board_sim.specs.Link.{LinkComes};
 ghost use Rattle.dfu_board_sim.specs.Headline.{StepKeeps};
 
-use crate::board::MemoryBoard;
-use crate::chip::Chip;
+use crate::board::{Chip, MemoryBoard};
 use crate::play::apply_event;
 use dfu_asks::Asking;
 use dfu_board_play::laws::boards_install;

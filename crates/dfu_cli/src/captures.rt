@@ -1,4 +1,4 @@
-//! Captures that `dfu judge` reads.
+//! Captures that `dfu judge` reads, and what its words say of them.
 
 use crate::numbering::number_of;
 use dfu_pcap::{Address, CaptureFault};
@@ -6,6 +6,11 @@ use std::io::{self, Read};
 
 /// The most bytes of a capture.
 pub(crate) const MAX_CAPTURE: usize = 16_777_216;
+
+/// The number of an interface, 0 to 255.
+pub(crate) fn interface_in(word: &str) -> Option<u8> {
+    u8::try_from(number_of(word)?).ok()
+}
 
 /// The address that `--device` says; `Some(None)` if it is `only`, and `None` if it is neither.
 pub(crate) fn device_in(word: &str) -> Option<Option<Address>> {

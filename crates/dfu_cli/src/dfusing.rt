@@ -71,22 +71,6 @@ impl FollowedDevice {
     }
 }
 
-/// Writes the lines of a departure.
-fn tell<W: Write>(
-    alloc: Global,
-    number: u64,
-    departure: &Departure,
-    writer: &mut W,
-) -> Result<(), LogFault> {
-    match dfuse_departure_text(alloc, number, departure) {
-        Ok(text) => match write_whole(writer, text.as_bytes()) {
-            Ok(()) => Ok(()),
-            Err(_) => Err(LogFault::Write),
-        },
-        Err(_) => Err(LogFault::NoMemory),
-    }
-}
-
 /// A byte of the log comes, and a departure is written.
 fn step<W: Write>(
     alloc: Global,
@@ -95,9 +79,15 @@ fn step<W: Write>(
     byte: u8,
     writer: &mut W,
 ) -> Result<(), LogFault> {
-    match followed.take(interface, byte)? {
-        Some(departure) => tell(alloc, followed.lines.number(), &departure, writer),
-        None => Ok(()),
+    let Some(departure) = followed.take(interface, byte)? else {
+        return Ok(());
+    };
+    let Ok(text) = dfuse_departure_text(alloc, followed.lines.number(), &departure) else {
+        return Err(LogFault::NoMemory);
+    };
+    match write_whole(writer, text.as_bytes()) {
+        Ok(()) => Ok(()),
+        Err(_) => Err(LogFault::Write),
     }
 }
 

@@ -4,7 +4,6 @@ use crate::captures::{Headed, MAX_CAPTURE, capture_line, capture_why};
 use crate::dfusing::judge_dfuse;
 use crate::eventful::Eventful;
 use crate::line_ends::LineEnds;
-use crate::numbering::number_of;
 use crate::prefixing::Prefixed;
 use crate::watching::Watched;
 use dfu_conformance::LineFault;
@@ -16,14 +15,6 @@ use dfu_suffix::{SuffixFault, gather};
 use std::alloc::Global;
 use std::io::{self, Printer, Read};
 use std::rt::Files;
-
-/// The number of an interface, 0 to 255.
-pub(crate) fn interface_in(word: &str) -> Option<u8> {
-    match number_of(word) {
-        Some(number) => u8::try_from(number).ok(),
-        None => None,
-    }
-}
 
 /// What is wrong with a line, in words.
 fn fault_why(why: LineFault) -> &'static str {
@@ -54,10 +45,7 @@ fn stop_reason<S>(
                 Err(_) => None,
             }
         }
-        LogFault::Read => match &watched.error {
-            Some(error) => error_reason(alloc, name, error),
-            None => None,
-        },
+        LogFault::Read => watched.reason(alloc, name),
         LogFault::TooLarge => file_reason(
             alloc,
             name,
@@ -90,6 +78,17 @@ struct Judged<'w> {
     pub before: &'w str,
     /// How it is judged.
     pub how: JudgeOptions,
+}
+
+impl<'w> Judged<'w> {
+    /// A file with no name before its lines.
+    fn bare(name: &'w str, how: JudgeOptions) -> Judged<'w> {
+        Judged {
+            name,
+            before: "",
+            how,
+        }
+    }
 }
 
 /// The output for the lines of what is judged.
@@ -167,10 +166,7 @@ fn judge_capture<R: Print + AllocGlobal, S: Read + Drop>(
         Ok(bytes) => judge_bytes(rt, judged, &bytes),
         Err(fault) => Outcome {
             exit: fault_text(gather_fault(fault), &mut output(rt, judged)),
-            reason: match &watched.error {
-                Some(error) => error_reason(alloc, judged.name, error),
-                None => None,
-            },
+            reason: watched.reason(alloc, judged.name),
         },
     }
 }
@@ -201,22 +197,6 @@ fn judge_file<R: Files + Input + Print + AllocGlobal>(rt: &R, judged: Judged<'_>
     }
 }
 
-/// Judges a file, with no name before its lines.
-fn judge_bare<R: Files + Input + Print + AllocGlobal>(
-    rt: &R,
-    name: &str,
-    how: JudgeOptions,
-) -> Outcome {
-    judge_file(
-        rt,
-        Judged {
-            name,
-            before: "",
-            how,
-        },
-    )
-}
-
 /// Judges one of several files, with its name before each line.
 fn judge_named<R: Files + Input + Print + AllocGlobal>(
     rt: &R,
@@ -227,9 +207,8 @@ fn judge_named<R: Files + Input + Print + AllocGlobal>(
         Ok(before) => judge_file(
             rt,
             Judged {
-                name,
                 before: &before,
-                how,
+                ..Judged::bare(name, how)
             },
         ),
         Err(_) => Outcome {
@@ -248,7 +227,7 @@ pub(crate) fn judge_files<R: Files + Input + Print + AllocGlobal>(
     how: JudgeOptions,
 ) -> Outcome {
     if let [name] = names {
-        return judge_bare(rt, name, how);
+        return judge_file(rt, Judged::bare(name, how));
     }
     let mut all = Outcome {
         exit: Exit::Done,
@@ -256,7 +235,7 @@ pub(crate) fn judge_files<R: Files + Input + Print + AllocGlobal>(
     };
     for name in names {
         let answer = if how.json {
-            judge_bare(rt, name, how)
+            judge_file(rt, Judged::bare(name, how))
         } else {
             judge_named(rt, name, how)
         };

@@ -1,15 +1,14 @@
 //! What the words of a command line ask for is done.
 
-use crate::captures::device_in;
+use crate::captures::{device_in, interface_in};
 use crate::changing::{perform_add, perform_set};
 use crate::hexing::bare;
 use crate::identifiers::IdTexts;
-use crate::judging::{JudgeOptions, interface_in, judge_files};
-use crate::offered::read_file;
-use crate::remembering::Remembering;
+use crate::judging::{JudgeOptions, judge_files};
 use crate::scripts::{Ways, run_script};
-use crate::shown::show_reason;
+use crate::shown::{Remembering, show_reason};
 use crate::tips::advised;
+use crate::watching::read_file;
 use crate::words::{WordFault, refused_word, word_reason};
 use dfu_args::{ArgsFault, ParsedArgs, Subcommand, parse_args};
 use dfu_fs::{Owned, check_files, extract_file};

@@ -91,10 +91,7 @@ fn fault_reason<S>(
             }
             _ => None,
         },
-        ScriptFault::Read => match &watched.error {
-            Some(error) => error_reason(alloc, name, error),
-            None => None,
-        },
+        ScriptFault::Read => watched.reason(alloc, name),
         ScriptFault::LateConfig(number) => line_reason(
             alloc,
             name,

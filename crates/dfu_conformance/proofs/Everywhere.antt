@@ -3,7 +3,7 @@ use Rattle.std.specs.Prelude.{◌≡◌, ℕ, ◌<◌, ◌==◌, Bool, true, [],
 use Rattle.std.specs.Int.{bit_at}
 use Rattle.std.proofs.Common.{refl, ap, ◌∙◌, inl, arith}
 use Rattle.std.proofs.lemmas.Bool.{agree_below, agree_below_at, eqb-true}
-use Rattle.dfu_conformance.specs.declared.standard_state.StandardState.{StandardState}
+use Rattle.dfu_conformance.specs.declared.row.StandardState.{StandardState}
 use Rattle.dfu_conformance.specs.declared.judge.TheConstants.{EVERY}
 use Rattle.dfu_conformance.specs.Fits.{place_number}
 use Rattle.dfu_conformance.specs.Held.{stands}

@@ -4,9 +4,9 @@ use Rattle.std.specs.List.{list_any, list_all}
 use Rattle.std.proofs.Common.{refl, sym, ap, subst, ◌∙◌, inl, inr}
 use Rattle.std.proofs.lemmas.Bool.{not-true, and_parts, and_from, or_cases, eqb-true, eq-eqb, true_from_ne_false, both_ways}
 use Rattle.std.proofs.lemmas.List.Folds.{Any-from_list_any, list_all_at}
-use Rattle.dfu_conformance.specs.declared.standard_state.StandardState.{StandardState}
-use Rattle.dfu_conformance.specs.declared.event_kind.EventKind.{EventKind}
-use Rattle.dfu_conformance.specs.declared.reading.Reading.TheVariants.{Bootloader, RuntimeMute, SelfReset, DetachAtOnce, DetachLeaves, ErrorWithoutCode}
+use Rattle.dfu_conformance.specs.declared.row.StandardState.{StandardState}
+use Rattle.dfu_conformance.specs.declared.row.EventKind.{EventKind}
+use Rattle.dfu_conformance.specs.declared.row.Reading.TheVariants.{Bootloader, RuntimeMute, SelfReset, DetachAtOnce, DetachLeaves, ErrorWithoutCode}
 use Rattle.dfu_conformance.specs.declared.row.Row.{Row}
 use Rattle.dfu_conformance.specs.declared.row.Drift.{Drift}
 use Rattle.dfu_conformance.specs.declared.row.When.{When}

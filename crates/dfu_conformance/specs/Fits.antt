@@ -1,9 +1,9 @@
 -- Whether a row of the table fits an event.
 use Rattle.std.specs.Prelude.{ℕ, ◌==◌, ◌&&◌, ◌||◌, nat_lt, min, Bool, true, false, not}
-use Rattle.dfu_conformance.specs.declared.standard_state.StandardState.{StandardState}
-use Rattle.dfu_conformance.specs.declared.standard_state.StandardState.TheVariants.{AppIdle, AppDetach, DfuIdle, DownloadSync, DownloadBusy, DownloadIdle, ManifestSync, Manifest, ManifestWaitReset, UploadIdle, Error, Fresh}
-use Rattle.dfu_conformance.specs.declared.event_kind.EventKind.{EventKind}
-use Rattle.dfu_conformance.specs.declared.event_kind.EventKind.TheVariants.{Detach, Block, Close, Upload, GetStatus, ClrStatus, GetState, Abort, Other, Reset, Power}
+use Rattle.dfu_conformance.specs.declared.row.StandardState.{StandardState}
+use Rattle.dfu_conformance.specs.declared.row.StandardState.TheVariants.{AppIdle, AppDetach, DfuIdle, DownloadSync, DownloadBusy, DownloadIdle, ManifestSync, Manifest, ManifestWaitReset, UploadIdle, Error, Fresh}
+use Rattle.dfu_conformance.specs.declared.row.EventKind.{EventKind}
+use Rattle.dfu_conformance.specs.declared.row.EventKind.TheVariants.{Detach, Block, Close, Upload, GetStatus, ClrStatus, GetState, Abort, Other, Reset, Power}
 use Rattle.dfu_conformance.specs.declared.row.Gives.{Gives}
 use Rattle.dfu_conformance.specs.declared.row.Gives.TheVariants as gives
 use Rattle.dfu_conformance.specs.declared.row.Row.{Row}

@@ -1,12 +1,12 @@
 -- Which devices are held.
 use Rattle.std.specs.Prelude.{ℕ, ◌==◌, Bool, true, false, List, [], slice_index, slice_index_or}
 use Rattle.std.specs.Int.{bit_at}
-use Rattle.dfu_conformance.specs.declared.standard_state.StandardState.{StandardState}
+use Rattle.dfu_conformance.specs.declared.row.StandardState.{StandardState}
 use Rattle.dfu_conformance.specs.Fits.{place_number}
 use Rattle.dfu_conformance.specs.declared.row.When.{When}
 use Rattle.dfu_conformance.specs.declared.row.When.TheVariants.{Always, CanDownload, CanUpload, Tolerant, NotTolerant, WillDetach, By}
-use Rattle.dfu_conformance.specs.declared.reading.Reading.{Reading}
-use Rattle.dfu_conformance.specs.declared.reading.Reading.TheVariants.{Bootloader, RuntimeMute, SelfReset, DetachAtOnce, DetachLeaves, ErrorWithoutCode}
+use Rattle.dfu_conformance.specs.declared.row.Reading.{Reading}
+use Rattle.dfu_conformance.specs.declared.row.Reading.TheVariants.{Bootloader, RuntimeMute, SelfReset, DetachAtOnce, DetachLeaves, ErrorWithoutCode}
 
 -- The bit of a reading in the number of a set of readings.
 abbrev pub reading_bit : Reading → ℕ

@@ -1,6 +1,6 @@
 -- Laws of the tables.
 use Rattle.std.specs.Prelude.{ℕ, List}
-use Rattle.dfu_conformance.specs.declared.standard_state.StandardState.{StandardState}
+use Rattle.dfu_conformance.specs.declared.row.StandardState.{StandardState}
 use Rattle.dfu_conformance.specs.declared.event.LogEvent.{LogEvent}
 use Rattle.dfu_conformance.specs.MayAnswer.{MayMove, Run}
 

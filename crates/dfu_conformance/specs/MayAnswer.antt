@@ -1,7 +1,7 @@
 -- What a device that keeps the standard may answer, with every freedom that the standard leaves: the rows are in the tables of
--- `src/standard.rt`, `src/marks.rt`, `src/habits.rt` and `src/drifts.rt`, a line each.
+-- `src/standard.rt`, `src/marks.rt`, `src/habits.rt` and `src/drifts.rt`, a line each or, in `marks.rt`, a line for each place.
 use Rattle.std.specs.Prelude.{◌≡◌, ◌⊎◌, ◌↔◌, ℕ, ◌<◌, true, List, [], ◌∷◌, Contains}
-use Rattle.dfu_conformance.specs.declared.standard_state.StandardState.{StandardState}
+use Rattle.dfu_conformance.specs.declared.row.StandardState.{StandardState}
 use Rattle.dfu_conformance.specs.declared.row.Row.{Row}
 use Rattle.dfu_conformance.specs.declared.row.Drift.{Drift}
 use Rattle.dfu_conformance.specs.declared.event.LogEvent.{LogEvent}

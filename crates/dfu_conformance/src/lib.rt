@@ -28,7 +28,6 @@ macro_rules! drift {
 
 mod drifts;
 mod event;
-mod event_kind;
 mod habits;
 mod held;
 mod judge;
@@ -36,23 +35,18 @@ pub mod laws;
 mod line;
 mod log;
 mod marks;
-mod reading;
 mod row;
 mod standard;
-mod standard_state;
 mod verdict;
 mod whole;
 
 pub use drifts::DRIFTS;
 pub use event::{LogEvent, Response, speaks_of};
-pub use event_kind::EventKind;
 pub use habits::HABITS;
 pub use judge::Judge;
 pub use log::{Line, LineFault, read_line, why_unread};
 pub use marks::MARKS;
-pub use reading::Reading;
-pub use row::{Drift, Gives, Row, Source, When};
+pub use row::{Drift, EventKind, Gives, Reading, Row, Source, StandardState, When};
 pub use standard::STANDARD;
-pub use standard_state::StandardState;
 pub use verdict::{Departure, Verdict};
 pub use whole::verdict_on;

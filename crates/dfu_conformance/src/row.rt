@@ -1,6 +1,98 @@
-//! A row of the table.
+//! A row of the table, and the words that it is written in.
 
-use crate::{EventKind, Reading, StandardState};
+ghost use Rattle.std.specs.Prelude.{◌≡◌};
+ghost use Rattle.dfu_conformance.specs.Fits.{asked_number, place_number};
+
+/// Where a device may be: a state of the standard (USB DFU 1.1, section 6.1.2), or dfuIDLE that a reset of the bus just entered.
+#[derive(Clone, Copy, Debug, PartialEq, Eq)]
+pub enum StandardState {
+    /// 0.
+    AppIdle,
+    /// 1.
+    AppDetach,
+    /// 2.
+    DfuIdle,
+    /// 3.
+    DownloadSync,
+    /// 4.
+    DownloadBusy,
+    /// 5.
+    DownloadIdle,
+    /// 6.
+    ManifestSync,
+    /// 7.
+    Manifest,
+    /// 8.
+    ManifestWaitReset,
+    /// 9.
+    UploadIdle,
+    /// 10.
+    Error,
+    /// dfuIDLE too, entered by a reset: a second reset may belong to the same enumeration.
+    Fresh,
+}
+
+impl StandardState {
+    /// Its place in a list of all twelve, 0 to 11.
+    pub fn number(self) -> usize
+        ensures { result ≡ place_number self }
+    {
+        self as usize
+    }
+}
+
+/// What came to a device: one of the requests of the class (USB DFU 1.1, section 3), or what happened to its bus or its power.
+#[derive(Clone, Copy, Debug, PartialEq, Eq)]
+pub enum EventKind {
+    /// DETACH.
+    Detach,
+    /// DNLOAD with wLength over 0: a block.
+    Block,
+    /// DNLOAD with wLength 0: the end of the image.
+    Close,
+    /// UPLOAD.
+    Upload,
+    /// GETSTATUS.
+    GetStatus,
+    /// CLRSTATUS.
+    ClrStatus,
+    /// GETSTATE.
+    GetState,
+    /// ABORT.
+    Abort,
+    /// Any other request of the class.
+    Other,
+    /// A reset of the bus.
+    Reset,
+    /// Power that went and came back.
+    Power,
+}
+
+impl EventKind {
+    /// Its place in a list of all eleven, 0 to 10.
+    pub(crate) fn number(self) -> usize
+        ensures { result ≡ asked_number self }
+    {
+        self as usize
+    }
+}
+
+/// A habit of some devices that is not in the standard. A judge gives the least set of habits with which a device is kept.
+#[derive(Clone, Copy, Debug, PartialEq, Eq)]
+pub enum Reading {
+    /// 0: after a reset or power the device is in dfuIDLE, as a bootloader with no application is.
+    Bootloader,
+    /// 1: in appIDLE and appDETACH it stalls GETSTATUS and GETSTATE.
+    RuntimeMute,
+    /// 2: it leaves dfuMANIFEST and dfuMANIFEST-WAIT-RESET for appIDLE by itself.
+    SelfReset,
+    /// 3: DETACH leads from appIDLE to dfuIDLE at once.
+    DetachAtOnce,
+    /// 4: DETACH is acknowledged in dfuIDLE, and leads to appIDLE.
+    DetachLeaves,
+    /// 5: in dfuERROR GETSTATUS answers the code OK.
+    ErrorWithoutCode,
+}
 
 /// For which devices a row is: the bits are those of bmAttributes (USB DFU 1.1, section 4.1.3).
 #[derive(Clone, Copy, Debug, PartialEq, Eq)]

@@ -64,32 +64,14 @@ pub candidate_stage : (m : DeviceState) (spare block : List ℕ) → candidate_i
 candidate_stage (device_state.DownloadIdle written number) spare block = refl
 candidate_stage (device_state.ManifestSync written) spare block = refl
 candidate_stage (device_state.Manifest written passed) spare block = refl
-candidate_stage device_state.AppIdle spare block = refl
-candidate_stage (device_state.AppDetach timer passed) spare block = refl
-candidate_stage device_state.DfuIdle spare block = refl
-candidate_stage (device_state.DownloadSync written number) spare block = refl
-candidate_stage (device_state.DownloadSyncWritten written number) spare block = refl
-candidate_stage (device_state.DownloadBusy written number passed) spare block = refl
-candidate_stage device_state.ManifestSyncComplete spare block = refl
-candidate_stage device_state.ManifestWaitReset spare block = refl
-candidate_stage (device_state.UploadIdle at number) spare block = refl
-candidate_stage (device_state.Error code) spare block = refl
+candidate_stage m spare block = refl
 
 -- So many were put in its slot store.
 pub candidate_put : (m : DeviceState) (b : ℕ) (s : SlotsState) → IsTrue (is_sound m b s) → IsEnd (candidate_length m) s
 candidate_put (device_state.DownloadIdle written number) b s sound = (sym (grind (arith, common_steps)), grind (arith, common_steps))
 candidate_put (device_state.ManifestSync written) b s sound = (sym (grind (arith, common_steps)), grind (arith, common_steps))
 candidate_put (device_state.Manifest written passed) b s sound = (sym (grind (arith, common_steps)), grind (arith, common_steps))
-candidate_put device_state.AppIdle b s sound = tt
-candidate_put (device_state.AppDetach timer passed) b s sound = tt
-candidate_put device_state.DfuIdle b s sound = tt
-candidate_put (device_state.DownloadSync written number) b s sound = tt
-candidate_put (device_state.DownloadSyncWritten written number) b s sound = tt
-candidate_put (device_state.DownloadBusy written number passed) b s sound = tt
-candidate_put device_state.ManifestSyncComplete b s sound = tt
-candidate_put device_state.ManifestWaitReset b s sound = tt
-candidate_put (device_state.UploadIdle at number) b s sound = tt
-candidate_put (device_state.Error code) b s sound = tt
+candidate_put m b s sound = tt
 
 -- An image of so many bytes is the one that was received, if its whole units are at the front of the spare slot's data.
 pub candidate_is : (w : DeviceView) (m : DeviceState) (block : List ℕ) (c : Candidate) (n : ℕ)

@@ -8,12 +8,12 @@ use Rattle.dfu_slots.specs.declared.fault.WriteFault.{WriteFault}
 use Rattle.dfu_slots.specs.Seen.{SlotsState, image_of, spare_of, room_of, is_shaped}
 use Rattle.dfu_device.specs.declared.answer.Answer.{Answer}
 use Rattle.dfu_device.specs.declared.answer.Answer.TheVariants as answer
-use Rattle.dfu_device.specs.declared.reply.Reply.{Reply as ReplyRead}
-use Rattle.dfu_device.specs.declared.reply.Reply.TheVariants as reply
-use Rattle.dfu_device.specs.declared.profile.Profile.{Profile as ProfileRead}
+use Rattle.dfu_device.specs.declared.decision.Reply.{Reply as ReplyRead}
+use Rattle.dfu_device.specs.declared.decision.Reply.TheVariants as reply
+use Rattle.dfu_device.specs.declared.config.Profile.{Profile as ProfileRead}
 use Rattle.dfu_device.specs.declared.decision.Decision.{Decision}
-use Rattle.dfu_device.specs.declared.pending_answer.PendingAnswer.{PendingAnswer}
-use Rattle.dfu_device.specs.declared.pending_answer.PendingAnswer.TheVariants as pending_answer
+use Rattle.dfu_device.specs.declared.answer.PendingAnswer.{PendingAnswer}
+use Rattle.dfu_device.specs.declared.answer.PendingAnswer.TheVariants as pending_answer
 use Rattle.dfu_device.specs.declared.device_state.DeviceState.{DeviceState}
 use Rattle.dfu_device.specs.declared.device_state.DeviceState.TheVariants as device_state
 use Rattle.dfu_device.specs.Stage.{Reply, Profile, Stage, InError}

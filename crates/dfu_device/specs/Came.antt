@@ -10,7 +10,7 @@ use Rattle.dfu_wire.specs.Setup.{IsSetup}
 use Rattle.dfu_wire.specs.Status.{IsStatus}
 use Rattle.dfu_wire.specs.Request.{Asks}
 use Rattle.dfu_wire.specs.OneRequest.{Asks-one}
-use Rattle.dfu_wire.specs.OneSetup.{IsSetup-one}
+use Rattle.dfu_wire.specs.OneValue.{IsSetup-one}
 use Rattle.dfu_slots.specs.Medium.{Rose}
 use Rattle.dfu_slots.specs.Medium.Fuse.{Whole}
 use Rattle.dfu_slots.specs.Unarmed.{called_whole, called_works}

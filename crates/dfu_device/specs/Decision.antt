@@ -3,9 +3,9 @@ use Rattle.std.specs.Prelude.{◌≡◌, ◌⊎◌, ℕ, ◌+◌, ◌≤◌, nat
 use Rattle.dfu_wire.specs.declared.requests.Request.{Request as Asked}
 use Rattle.dfu_wire.specs.declared.requests.Request.TheVariants as asked
 use Rattle.dfu_slots.specs.Seen.{SlotsState, room_of}
-use Rattle.dfu_device.specs.declared.reply.Reply.{Reply as ReplyRead}
-use Rattle.dfu_device.specs.declared.reply.Reply.TheVariants as reply
-use Rattle.dfu_device.specs.declared.profile.Profile.{Profile as ProfileRead}
+use Rattle.dfu_device.specs.declared.decision.Reply.{Reply as ReplyRead}
+use Rattle.dfu_device.specs.declared.decision.Reply.TheVariants as reply
+use Rattle.dfu_device.specs.declared.config.Profile.{Profile as ProfileRead}
 use Rattle.dfu_device.specs.declared.decision.Decision.{Decision}
 use Rattle.dfu_device.specs.declared.decision.Decision.TheVariants as decision
 use Rattle.dfu_device.specs.declared.device_state.DeviceState.{DeviceState}

@@ -2,8 +2,8 @@
 use Rattle.std.specs.Prelude.{◌≡◌, ◌⊎◌, ℕ, ◌≤◌, ◌<◌, ◌^◌, false}
 use Rattle.dfu_wire.specs.declared.functionals.Functional.{Functional}
 use Rattle.dfu_wire.specs.declared.ids.Ids.{Ids}
-use Rattle.dfu_device.specs.declared.fault.ConfigFault.{ConfigFault}
-use Rattle.dfu_device.specs.declared.fault.ConfigFault.TheVariants as fault
+use Rattle.dfu_device.specs.declared.config.ConfigFault.{ConfigFault}
+use Rattle.dfu_device.specs.declared.config.ConfigFault.TheVariants as fault
 
 -- What a device is set up with: who it is, its functional descriptor, the fewest bytes of an image, and how many milliseconds it takes to
 -- write a block and to put an image in place.

@@ -2,10 +2,12 @@
 
 ghost use Rattle.std.specs.Prelude.{◌≡◌, ◌≤◌, ◌<◌, ◌^◌, IfOk, IfErr};
 ghost use Rattle.dfu_device.specs.Setting.{IsAllowed, FirstFault, of_this_version};
+ghost use Rattle.dfu_device.specs.DeviceView.{profile_of};
+ghost use Rattle.dfu_device.specs.Decision.{profile_in};
 
-use crate::ConfigFault;
 use dfu_wire::{Functional, Ids};
 use std::marker::Model;
+use thiserror::Error;
 
 /// What a device is set up with: who it is, its functional descriptor, the fewest bytes of an image
 /// (1 to 16,777,216), and how long it takes to write a block and to put an image in place (0 to
@@ -38,6 +40,36 @@ impl Model for Config {
       busy_ms = s.busy_ms;
       manifest_ms = s.manifest_ms;
     } };
+}
+
+/// Why a device cannot be set up, in the order in which the faults are checked.
+#[derive(Clone, Copy, Debug, PartialEq, Eq, Drop, Error)]
+pub enum ConfigFault {
+    /// The transfer size of the functional descriptor is 0 or over 4,096 bytes.
+    #[error("the transfer size is not 1 to 4096 bytes")]
+    BadTransfer,
+    /// A poll time is over 16,777,215 ms, or the manifestation time is 0 although the device is not
+    /// tolerant of manifestation.
+    #[error("a poll time does not fit in 24 bits, or the manifestation time is 0 without tolerance")]
+    BadPoll,
+    /// The fewest bytes of an image are 0 or over 16,777,216.
+    #[error("the fewest bytes of an image are not 1 to 16777216")]
+    BadLeast,
+}
+
+/// What the table reads of a device beside its mode: its fixed settings.
+#[derive(Clone, Copy, Debug, PartialEq, Eq)]
+pub struct Profile {
+    /// The functional descriptor.
+    pub functional: Functional,
+    /// The fewest bytes of an image.
+    pub least: u32,
+    /// How long a block takes to be written, in milliseconds.
+    pub busy_ms: u32,
+    /// How long an image takes to be put in place, in milliseconds.
+    pub manifest_ms: u32,
+    /// The most bytes of an image.
+    pub capacity: u64,
 }
 
 impl Config {
@@ -132,5 +164,20 @@ impl Config {
         ensures fits { result < 2 ^ 24 }
     {
         self.manifest_ms
+    }
+
+    /// What the table reads of a device that is set up like this, with room for images of so many bytes.
+    pub fn profile(&self, capacity: u64) -> Profile
+        ensures profile { profile_in result ≡ profile_of self.now capacity }
+        ensures capacity { result.capacity ≡ capacity }
+        ensures transfer { result.functional.transfer ≡ self.now.functional.transfer }
+    {
+        Profile {
+            functional: self.functional(),
+            least: self.least(),
+            busy_ms: self.busy_ms(),
+            manifest_ms: self.manifest_ms(),
+            capacity,
+        }
     }
 }

@@ -1,7 +1,19 @@
-//! What a row of the device table says is to be done.
+//! What a row of the device table says is to be done, and what is answered.
 
 use crate::device_state::DeviceState;
-use crate::reply::Reply;
+
+/// What a decision answers. A status and a state are those of the device after the row.
+#[derive(Clone, Copy, Debug, PartialEq, Eq)]
+pub enum Reply {
+    /// The request is acknowledged.
+    Ack,
+    /// The status.
+    Status,
+    /// The state.
+    State,
+    /// The request is stalled.
+    Stall,
+}
 
 /// What a row of the device table says is to be done. Only the medium is left open: if a write has a fault, the device
 /// enters dfuERROR in place of the mode that is named here, and a status in its answer is that of dfuERROR.

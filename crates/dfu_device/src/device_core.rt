@@ -11,12 +11,11 @@ ghost use Rattle.dfu_device.specs.Borrowed.{answer_room};
 ghost use Rattle.dfu_device.specs.Decision.{profile_in, HasLength};
 ghost use Rattle.dfu_device.specs.inside.PendingAnswer.{AnswersPending, ServedPending, HandledPending};
 
+use crate::answer::PendingAnswer;
 use crate::block::Block;
+use crate::config::Profile;
 use crate::device_state::DeviceState;
-use crate::pending_answer::PendingAnswer;
-use crate::profile::Profile;
-use crate::rules::{asked_length, goes_with, is_close};
-use crate::table::decide;
+use crate::table::{asked_length, decide, goes_with, is_close};
 use crate::time_table::decide_time;
 use crate::{Answer, Config, Objection};
 use dfu_slots::{Medium, Slots};

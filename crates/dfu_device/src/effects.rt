@@ -14,12 +14,11 @@ ghost use Rattle.dfu_device.specs.inside.PendingAnswer.{DonePending};
 ghost use Rattle.dfu_device.specs.inside.View.{shown};
 
 use crate::Answer;
+use crate::answer::{PendingAnswer, pending_answer_of};
 use crate::block::Block;
 use crate::decision::Decision;
 use crate::device_core::DeviceCore;
-use crate::device_state::DeviceState;
-use crate::pending_answer::{PendingAnswer, pending_answer_of};
-use crate::status::status_in;
+use crate::device_state::{DeviceState, status_in};
 use dfu_slots::{Medium, PutFault, Slots, WriteFault};
 use dfu_wire::Code;
 

@@ -10,9 +10,9 @@ ghost use Rattle.dfu_device.specs.inside.PendingAnswer.{AnswersPending, GavePend
 ghost use Rattle.dfu_device.specs.inside.View.{shown};
 
 use crate::Answer;
+use crate::answer::PendingAnswer;
 use crate::block::Block;
 use crate::device_core::DeviceCore;
-use crate::pending_answer::PendingAnswer;
 use arrayvec::ArrayVec;
 use dfu_slots::{Medium, Slots};
 

@@ -1,8 +1,11 @@
-//! Why the program of a device refuses an image.
+//! The program of a device refuses an image.
 
-ghost use Rattle.std.specs.Prelude.{◌≡◌};
-ghost use Rattle.dfu_device.specs.Table.{objection_code};
+ghost use Rattle.std.specs.Prelude.{[], ◌≡◌, ◌↔◌, not, IsTrue};
+ghost use Rattle.dfu_device.specs.Rows.{ClosesDownload, RefusingClose, Row};
+ghost use Rattle.dfu_device.specs.Table.{objection_code, refuse_stage};
 
+use crate::{Answer, Device};
+use dfu_slots::Medium;
 use dfu_wire::Code;
 
 /// Why the program of a device refuses an image (USB DFU 1.1, section 6.1.2, bStatus).
@@ -23,5 +26,29 @@ impl Objection {
             Objection::Target => Code::Target,
             Objection::File => Code::File,
         }
+    }
+}
+
+impl<M: Medium> Device<M> {
+    /// The program refuses the image that this setup closes: a DNLOAD of no bytes in dfuDNLOAD-IDLE, with as many bytes taken as an image
+    /// has at least. The device enters dfuERROR with errTARGET or errFILE, nothing is written, and the caller stalls the request.
+    ///
+    /// False, with nothing changed, if it is no such setup; then the caller hands it in by `handle`, as one that the program does not
+    /// refuse.
+    pub fn refuse_close(&mut self, setup: &[u8; 8], objection: Objection) -> bool
+        ensures closes { IsTrue result ↔ ClosesDownload setup.now self.old }
+        ensures row { IsTrue result → Row self.old (RefusingClose setup.now objection) Answer.Stall [] self.new }
+        ensures unchanged { IsTrue (not result) → self.new ≡ self.old }
+    {
+        self.core.refuse_close(setup, objection)
+    }
+
+    /// The program refuses the image that was closed, for a check that takes longer than a transfer may. In dfuMANIFEST-SYNC, before it is
+    /// complete, and in dfuMANIFEST the device enters dfuERROR with errTARGET or errFILE, and nothing is put in place. In every other state
+    /// nothing changes.
+    pub fn refuse(&mut self, objection: Objection)
+        ensures { self.new ≡ record self.old { stage = refuse_stage objection self.old.stage } }
+    {
+        self.core.refuse(objection);
     }
 }

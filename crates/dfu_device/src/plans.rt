@@ -6,10 +6,9 @@ ghost use Rattle.dfu_device.specs.Table.{block_plan, first_plan, further_plan, u
 ghost use Rattle.dfu_device.specs.Parts.{is_put};
 ghost use Rattle.dfu_device.specs.Decision.{profile_in, plan_of, Allows, IsPossible};
 
-use crate::decision::Decision;
+use crate::config::Profile;
+use crate::decision::{Decision, Reply};
 use crate::device_state::DeviceState;
-use crate::profile::Profile;
-use crate::reply::Reply;
 use dfu_wire::{Code, Request};
 
 /// The request is acknowledged, and this mode entered.

@@ -1,14 +1,55 @@
 //! The device table as a value: what a request comes to, by the mode of a device and its fixed settings only (USB DFU 1.1,
-//! appendix A). Nothing is carried out here. `specs/Table.antt` has the same rows in the same words.
+//! appendix A). Nothing is carried out here. `specs/Table.antt` has the same rows in the same words. Before them come the rules by
+//! which a setup goes by the table.
 
+ghost use Rattle.std.specs.Prelude.{◌≡◌, ◌==◌, ◌↔◌, length, IsTrue};
+ghost use Rattle.dfu_device.specs.Rows.{body_length, asked_length, is_close, IsCloseSetup};
 ghost use Rattle.dfu_device.specs.Decision.{Decides, AllowsAsked};
 
-use crate::decision::Decision;
+use crate::config::Profile;
+use crate::decision::{Decision, Reply};
 use crate::device_state::DeviceState;
 use crate::plans::{ack, error, first, further, report, stall, tell, upload};
-use crate::profile::Profile;
-use crate::reply::Reply;
-use dfu_wire::{Code, Request};
+use dfu_wire::{Code, Request, Setup};
+
+/// How many bytes of a status or of a state a request asks for: wLength.
+pub fn asked_length(request: Request) -> u16
+    ensures { result ≡ asked_length request }
+{
+    match request {
+        Request::GetStatus { length } | Request::GetState { length } => length,
+        _ => 0,
+    }
+}
+
+/// Whether a body goes with its setup: it has wLength bytes if the host sends, and none if it reads.
+pub fn goes_with(setup: &Setup, body: &[u8]) -> bool
+    ensures { result ≡ (length body.now == body_length setup.now) }
+{
+    let len = if setup.kind == 0x21 {
+        setup.length as usize
+    } else {
+        0
+    };
+    body.len() == len
+}
+
+// Whether a request is a DNLOAD of no bytes.
+fn closes(request: Request) -> bool
+    ensures { result ≡ is_close request }
+{
+    match request {
+        Request::Dnload { length, .. } => length == 0,
+        _ => false,
+    }
+}
+
+/// Whether a setup is a DNLOAD with wLength 0, which closes a download in dfuDNLOAD-IDLE.
+pub fn is_close(setup: &[u8; 8]) -> bool
+    ensures { IsTrue result ↔ IsCloseSetup setup.now }
+{
+    closes(Setup::decode(setup).request())
+}
 
 // appIDLE. The timer of appDETACH is the smaller of the host's timeout and the device's.
 fn in_app_idle(profile: &Profile, request: Request) -> Decision

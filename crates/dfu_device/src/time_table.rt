@@ -3,11 +3,10 @@
 
 ghost use Rattle.dfu_device.specs.Decision.{IsSilent, DecidesTime, Allows};
 
-use crate::decision::Decision;
+use crate::config::Profile;
+use crate::decision::{Decision, Reply};
 use crate::device_state::DeviceState;
 use crate::plans::ack;
-use crate::profile::Profile;
-use crate::reply::Reply;
 
 // appDETACH: the timer runs out, or the device detaches by itself. A timer of 0 counts as 1.
 fn in_app_detach(profile: &Profile, timer: u32, passed: u32, ms: u32) -> Decision

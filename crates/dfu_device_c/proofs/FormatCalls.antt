@@ -8,11 +8,11 @@ use Rattle.dfu_slots.specs.Units.{Grain, gate_room, IsWhole}
 use Rattle.dfu_slots.specs.Medium.{Write}
 use Rattle.dfu_slots.specs.Image.{Active, IsSized, capacity_of}
 use Rattle.dfu_slots.specs.Changes.{CanFormat}
-use Rattle.dfu_asks.specs.declared.format_step.FormatStep.{FormatStep}
-use Rattle.dfu_asks.specs.declared.format_step.FormatStep.TheVariants as format_step
+use Rattle.dfu_asks.specs.declared.formatting.FormatStep.{FormatStep}
+use Rattle.dfu_asks.specs.declared.formatting.FormatStep.TheVariants as format_step
 use Rattle.dfu_asks.specs.declared.formatting.Formatting.{Formatting}
-use Rattle.dfu_asks.specs.declared.format_progress.FormatProgress.{FormatProgress}
-use Rattle.dfu_asks.specs.declared.format_progress.FormatProgress.TheVariants as format_progress
+use Rattle.dfu_asks.specs.declared.formatting.FormatProgress.{FormatProgress}
+use Rattle.dfu_asks.specs.declared.formatting.FormatProgress.TheVariants as format_progress
 use Rattle.dfu_asks.specs.Mapped.{mapped}
 use Rattle.dfu_asks.specs.Carried.{IsPiece}
 use Rattle.dfu_asks.specs.Phases.{grain_within, steps_left}
@@ -22,7 +22,8 @@ use Rattle.dfu_device_c.specs.declared.record.DfuRecord.{DfuRecord}
 use Rattle.dfu_device_c.specs.Config.{config_grain, IsConfig}
 use Rattle.dfu_device_c.specs.Formatting.{HasPhase, IsFormatting}
 use Rattle.dfu_device_c.specs.Formats.{IsNoStart, progress_number}
-use Rattle.dfu_device_c.specs.Numbers.{ASKS, format_number}
+use Rattle.dfu_c.specs.Numbers.{ASKS}
+use Rattle.dfu_device_c.specs.Numbers.{format_number}
 use Rattle.dfu_device_c.specs.Writes.{ask_step}
 use Rattle.dfu_device_c.specs.FormatCalls.{TakesFormatPiece, IsBeingFormatted, begins, goes_on, FormatsEnd, FormatsBeginAnew}
 use Rattle.dfu_device_c.proofs.Same.{one_sector}

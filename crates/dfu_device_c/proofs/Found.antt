@@ -1,8 +1,8 @@
 -- Why a call for a device that asks is refused.
 use Rattle.std.proofs.Common.{List, ℕ, ◌≤◌, arith}
 use Rattle.dfu_asks.specs.declared.asking.Asking.{Asking}
-use Rattle.dfu_asks.specs.declared.refusal.Refusal.{Refusal as Why}
-use Rattle.dfu_asks.specs.declared.refusal.Refusal.TheVariants as why
+use Rattle.dfu_asks.specs.declared.reply.Refusal.{Refusal as Why}
+use Rattle.dfu_asks.specs.declared.reply.Refusal.TheVariants as why
 use Rattle.dfu_asks.specs.Lent.{LentAsking}
 use Rattle.dfu_asks.specs.Refused.{IsRefusedCall as IsRefusedFor, IsNotTaken}
 use Rattle.dfu_device_c.specs.Kept.{block_in, held_back_in}

@@ -4,8 +4,8 @@ use Rattle.dfu_asks.specs.declared.asking.Asking.{Asking}
 use Rattle.dfu_asks.specs.Steps.{Step}
 use Rattle.dfu_device_c.specs.declared.config.DfuConfig.{DfuConfig}
 use Rattle.dfu_device_c.specs.declared.record.DfuRecord.{DfuRecord}
-use Rattle.dfu_device_c.specs.declared.refusal.Refusal.{Refusal}
-use Rattle.dfu_device_c.specs.declared.refusal.Refusal.TheVariants as refusal
+use Rattle.dfu_device_c.specs.declared.numbers.Refusal.{Refusal}
+use Rattle.dfu_device_c.specs.declared.numbers.Refusal.TheVariants as refusal
 use Rattle.dfu_device_c.specs.Numbers.{refusal_number}
 use Rattle.dfu_device_c.specs.Writes.{RefusesPiece, refuses_unfound, refuses_piece}
 

@@ -12,7 +12,7 @@ use Rattle.dfu_slots.proofs.Newest.{places_are, active_end}
 use Rattle.dfu_slots.proofs.Parts.{data_length}
 use Rattle.dfu_slots.proofs.ReadBack.{range_is}
 use Rattle.dfu_asks.specs.Mapped.{mapped}
-use Rattle.dfu_device_c.specs.declared.place.DfuPlace.{DfuPlace}
+use Rattle.dfu_c.specs.declared.records.DfuPlace.{DfuPlace}
 use Rattle.dfu_device_c.specs.Image.{ImageIsAt}
 
 -- The length in a well-formed header is that of its image.

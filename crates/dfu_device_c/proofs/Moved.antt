@@ -8,8 +8,8 @@ use Rattle.dfu_device.specs.Parts.{is_sound, is_filled}
 use Rattle.dfu_device.specs.Rows.{Cause, Row}
 use Rattle.dfu_asks.specs.declared.asking.Asking.{Asking}
 use Rattle.dfu_asks.specs.declared.pending_writes.PendingWrites.{PendingWrites}
-use Rattle.dfu_asks.specs.declared.slot_write.SlotWrite.{SlotWrite}
-use Rattle.dfu_asks.specs.declared.slot_write.SlotWrite.TheVariants as slot_write
+use Rattle.dfu_asks.specs.declared.pending_writes.SlotWrite.{SlotWrite}
+use Rattle.dfu_asks.specs.declared.pending_writes.SlotWrite.TheVariants as slot_write
 use Rattle.dfu_asks.specs.Lent.{LentAsking}
 use Rattle.dfu_asks.specs.Asks.{store_in, device_in, IsDevice}
 use Rattle.dfu_device_c.specs.declared.config.DfuConfig.{DfuConfig}

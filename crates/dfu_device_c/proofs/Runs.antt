@@ -2,8 +2,8 @@
 use Rattle.std.specs.Prelude.{◌≡◌, ◌≤◌, ◌<◌, ◌^◌, Bool, true, false, pos, List, [], ◌∷◌, length, None}
 use Rattle.std.proofs.Common.{inl, inr, refl, sym, ap, ◌∙◌, subst, arith}
 use Rattle.dfu_wire.specs.declared.states.State.{State}
-use Rattle.dfu_slots.specs.declared.unit.Unit.{Unit as WriteUnit}
-use Rattle.dfu_slots.specs.declared.unit.Unit.TheVariants as unit
+use Rattle.dfu_slots.specs.declared.layout.Unit.{Unit as WriteUnit}
+use Rattle.dfu_slots.specs.declared.layout.Unit.TheVariants as unit
 use Rattle.dfu_slots.specs.Units.{unit_size, Grain}
 use Rattle.dfu_slots.specs.Medium.{MediumState}
 use Rattle.dfu_slots.specs.Image.{Active, IsSized}

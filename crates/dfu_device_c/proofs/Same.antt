@@ -9,8 +9,8 @@ use Rattle.dfu_wire.specs.declared.codes.Code.TheVariants as code
 use Rattle.dfu_wire.specs.Code.{code_byte}
 use Rattle.dfu_device.specs.declared.device_state.DeviceState.{DeviceState}
 use Rattle.dfu_device.specs.declared.device_state.DeviceState.TheVariants as device_state
-use Rattle.dfu_asks.specs.declared.slot_write.SlotWrite.{SlotWrite}
-use Rattle.dfu_asks.specs.declared.slot_write.SlotWrite.TheVariants as slot_write
+use Rattle.dfu_asks.specs.declared.pending_writes.SlotWrite.{SlotWrite}
+use Rattle.dfu_asks.specs.declared.pending_writes.SlotWrite.TheVariants as slot_write
 use Rattle.dfu_asks.specs.declared.pending_writes.PendingWrites.{PendingWrites}
 use Rattle.dfu_asks.specs.declared.sector.Sector.{Sector}
 use Rattle.dfu_asks.specs.declared.asking.Asking.{Asking}
@@ -30,21 +30,7 @@ code_at n = if n == 0 then code.Ok else if n == 1 then code.Target else if n == 
 code_back : (x : Code) → code_at (code_byte x) ≡ x
 unfolding code_at
 code_back code.Ok = refl
-code_back code.Target = refl
-code_back code.File = refl
-code_back code.Write = refl
-code_back code.Erase = refl
-code_back code.CheckErased = refl
-code_back code.Prog = refl
-code_back code.Verify = refl
-code_back code.Address = refl
-code_back code.NotDone = refl
-code_back code.Firmware = refl
-code_back code.Vendor = refl
-code_back code.Usbr = refl
-code_back code.Por = refl
-code_back code.Unknown = refl
-code_back code.StalledPkt = refl
+code_back x = refl
 
 -- The mode of these numbers.
 mode_at : (n first second number : ℕ) → DeviceState

@@ -15,8 +15,8 @@ use Rattle.dfu_asks.specs.Calls.{DeviceCalled, AsksWrites, DeviceTook}
 use Rattle.dfu_asks.specs.Refused.{IsKeptOn, IsThere, Fits, IsLeft}
 use Rattle.dfu_device_c.specs.declared.config.DfuConfig.{DfuConfig}
 use Rattle.dfu_device_c.specs.declared.record.DfuRecord.{DfuRecord}
-use Rattle.dfu_device_c.specs.declared.refusal.Refusal.{Refusal}
-use Rattle.dfu_device_c.specs.declared.refusal.Refusal.TheVariants as refusal
+use Rattle.dfu_device_c.specs.declared.numbers.Refusal.{Refusal}
+use Rattle.dfu_device_c.specs.declared.numbers.Refusal.TheVariants as refusal
 use Rattle.dfu_device_c.specs.Config.{transfer_of, block_memory_size, IsConfig}
 use Rattle.dfu_device_c.specs.Kept.{IsKept, block_in, held_back_in}
 use Rattle.dfu_device_c.specs.Formatting.{FORMAT}

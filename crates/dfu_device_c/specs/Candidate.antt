@@ -3,13 +3,13 @@ use Rattle.std.specs.Prelude.{◌≡◌, ◌⊎◌, ◌+◌, ◌≤◌, ℕ, ℤ
 use Rattle.dfu_device.specs.declared.candidate.Candidate.{Candidate}
 use Rattle.dfu_device.specs.Candidate.{candidate_in, IsCandidate}
 use Rattle.dfu_asks.specs.declared.asking.Asking.{Asking}
-use Rattle.dfu_asks.specs.declared.refusal.Refusal.{Refusal as Why}
+use Rattle.dfu_asks.specs.declared.reply.Refusal.{Refusal as Why}
 use Rattle.dfu_asks.specs.Asks.{device_in}
 use Rattle.dfu_asks.specs.Refused.{IsRefusedCall}
 use Rattle.dfu_device_c.specs.declared.config.DfuConfig.{DfuConfig}
-use Rattle.dfu_device_c.specs.declared.place.DfuPlace.{DfuPlace}
+use Rattle.dfu_c.specs.declared.records.DfuPlace.{DfuPlace}
 use Rattle.dfu_device_c.specs.declared.record.DfuRecord.{DfuRecord}
-use Rattle.dfu_device_c.specs.declared.refusal.Refusal.{Refusal}
+use Rattle.dfu_device_c.specs.declared.numbers.Refusal.{Refusal}
 use Rattle.dfu_device_c.specs.Calls.{IsUnfound, IsIntact}
 use Rattle.dfu_device_c.specs.Kept.{IsKept, block_in, held_back_in, with_memory}
 use Rattle.dfu_device_c.specs.Numbers.{NO_CANDIDATE, refusal_number, refusal_of}

@@ -1,8 +1,8 @@
 -- What a program in C sets a device up with.
 use Rattle.std.specs.Prelude.{◌≡◌, ◌==◌, ◌+◌, ◌%◌, ◌^◌, ◌≤◌, ℕ, if◌then◌else◌}
 use Rattle.dfu_wire.specs.Functional.{functional_of}
-use Rattle.dfu_slots.specs.declared.unit.Unit.{Unit as WriteUnit}
-use Rattle.dfu_slots.specs.declared.unit.Unit.TheVariants.{Byte, U16, U64, U256}
+use Rattle.dfu_slots.specs.declared.layout.Unit.{Unit as WriteUnit}
+use Rattle.dfu_slots.specs.declared.layout.Unit.TheVariants.{Byte, U16, U64, U256}
 use Rattle.dfu_slots.specs.Units.{unit_size, Grain}
 use Rattle.dfu_device.specs.Setting.{Setting, IsAllowed}
 use Rattle.dfu_device_c.specs.declared.config.DfuConfig.{DfuConfig}

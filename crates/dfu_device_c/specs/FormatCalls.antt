@@ -4,12 +4,13 @@ use Rattle.dfu_slots.specs.declared.fault.FormatFault.TheVariants as fault
 use Rattle.dfu_slots.specs.Medium.{Torn}
 use Rattle.dfu_slots.specs.Image.{Active, capacity_of}
 use Rattle.dfu_asks.specs.Mapped.{mapped}
-use Rattle.dfu_device_c.specs.declared.ask.DfuAsk.{DfuAsk}
+use Rattle.dfu_c.specs.declared.records.DfuAsk.{DfuAsk}
 use Rattle.dfu_device_c.specs.declared.config.DfuConfig.{DfuConfig}
 use Rattle.dfu_device_c.specs.declared.record.DfuRecord.{DfuRecord}
 use Rattle.dfu_device_c.specs.Config.{config_grain}
 use Rattle.dfu_device_c.specs.Formats.{StartsFormat, IsNoStart, HandsFormat, GoesFormat}
-use Rattle.dfu_device_c.specs.Numbers.{ASKS, format_number}
+use Rattle.dfu_c.specs.Numbers.{ASKS}
+use Rattle.dfu_device_c.specs.Numbers.{format_number}
 use Rattle.dfu_device_c.specs.Power.{RefusesPower}
 use Rattle.dfu_device_c.specs.Writes.{ask_step}
 

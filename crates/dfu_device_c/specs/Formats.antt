@@ -5,8 +5,8 @@ use Rattle.dfu_slots.specs.declared.fault.FormatFault.TheVariants as fault
 use Rattle.dfu_slots.specs.Medium.{Torn}
 use Rattle.dfu_slots.specs.Changes.{IsFormatFault}
 use Rattle.dfu_asks.specs.declared.formatting.Formatting.{Formatting}
-use Rattle.dfu_asks.specs.declared.format_progress.FormatProgress.{FormatProgress}
-use Rattle.dfu_asks.specs.declared.format_progress.FormatProgress.TheVariants as format_progress
+use Rattle.dfu_asks.specs.declared.formatting.FormatProgress.{FormatProgress}
+use Rattle.dfu_asks.specs.declared.formatting.FormatProgress.TheVariants as format_progress
 use Rattle.dfu_asks.specs.Mapped.{mapped}
 use Rattle.dfu_asks.specs.Steps.{Step}
 use Rattle.dfu_asks.specs.Carried.{IsPiece, ErasesWhole}
@@ -15,11 +15,12 @@ use Rattle.dfu_asks.specs.Formats.{AsksFormat, TookPiece}
 use Rattle.dfu_device_c.specs.declared.config.DfuConfig.{DfuConfig}
 use Rattle.dfu_device_c.specs.Config.{config_grain, IsConfig}
 use Rattle.dfu_device_c.specs.Mode.{blank}
-use Rattle.dfu_device_c.specs.declared.ask.DfuAsk.{DfuAsk}
+use Rattle.dfu_c.specs.declared.records.DfuAsk.{DfuAsk}
 use Rattle.dfu_device_c.specs.declared.record.DfuRecord.{DfuRecord}
 use Rattle.dfu_device_c.specs.Formatting.{IsFormatting}
 use Rattle.dfu_device_c.specs.Writes.{ask_step}
-use Rattle.dfu_device_c.specs.Numbers.{ASKS, NO_CONFIG, NO_DEVICE, NO_MEDIUM, format_number}
+use Rattle.dfu_c.specs.Numbers.{ASKS}
+use Rattle.dfu_device_c.specs.Numbers.{NO_CONFIG, NO_DEVICE, NO_MEDIUM, format_number}
 
 -- A format began: the record is one that asks for its first write. All that the record does not need for this is 0.
 pub record StartsFormat (c : DfuConfig) (flash image : List ℕ) (result : ℤ) (r' : DfuRecord) : Type 0 where

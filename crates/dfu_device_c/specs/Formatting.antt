@@ -1,7 +1,7 @@
 -- The format that a record is.
 use Rattle.std.specs.Prelude.{◌≡◌, ℕ}
-use Rattle.dfu_asks.specs.declared.format_step.FormatStep.{FormatStep}
-use Rattle.dfu_asks.specs.declared.format_step.FormatStep.TheVariants as format_step
+use Rattle.dfu_asks.specs.declared.formatting.FormatStep.{FormatStep}
+use Rattle.dfu_asks.specs.declared.formatting.FormatStep.TheVariants as format_step
 use Rattle.dfu_asks.specs.declared.formatting.Formatting.{Formatting}
 use Rattle.dfu_device_c.specs.declared.config.DfuConfig.{DfuConfig}
 use Rattle.dfu_device_c.specs.Config.{unit_of}
@@ -19,6 +19,10 @@ HasPhase n from (format_step.Image at) = (n ≡ 2) × (at ≡ from)
 HasPhase n from format_step.Header = n ≡ 3
 HasPhase n from format_step.Gate = n ≡ 4
 HasPhase n from format_step.Ended = n ≡ 5
+
+-- Of the record only the numbers of a format change.
+abbrev pub ChangesOnlyFormat : DfuRecord → DfuRecord → Type 0
+ChangesOnlyFormat r r' = r' ≡ record r { work = r'.work; spare = r'.spare; sum = r'.sum; done = r'.done; generation = r'.generation }
 
 -- The record is this format.
 pub record IsFormatting (c : DfuConfig) (r : DfuRecord) (f : Formatting) : Type 0 where

@@ -8,7 +8,7 @@ use Rattle.dfu_device.specs.Rows.{Handles, Elapses}
 use Rattle.dfu_device.specs.Table.{reset_stage}
 use Rattle.dfu_device.specs.Borrowed.{answer_room}
 use Rattle.dfu_asks.specs.Asks.{device_in}
-use Rattle.dfu_device_c.specs.declared.ask.DfuAsk.{DfuAsk}
+use Rattle.dfu_c.specs.declared.records.DfuAsk.{DfuAsk}
 use Rattle.dfu_device_c.specs.Config.{setting_of, transfer_of}
 use Rattle.dfu_device_c.specs.Addressed.{addressed}
 use Rattle.dfu_device_c.specs.Kept.{with_memory}

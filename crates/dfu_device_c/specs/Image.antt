@@ -4,7 +4,7 @@ use Rattle.dfu_slots.specs.Units.{Grain}
 use Rattle.dfu_slots.specs.Image.{Active, active_at, gate_of}
 use Rattle.dfu_asks.specs.Mapped.{mapped}
 use Rattle.dfu_device_c.specs.declared.config.DfuConfig.{DfuConfig}
-use Rattle.dfu_device_c.specs.declared.place.DfuPlace.{DfuPlace}
+use Rattle.dfu_c.specs.declared.records.DfuPlace.{DfuPlace}
 use Rattle.dfu_device_c.specs.Config.{config_grain, IsConfig}
 
 -- The active image of this flash is at this place, after the gate and the header of its slot.

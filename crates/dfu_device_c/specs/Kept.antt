@@ -1,10 +1,10 @@
 -- The device that asks which a record is.
 use Rattle.std.specs.Prelude.{◌≡◌, ◌+◌, ◌^◌, ◌<◌, ℕ, Bool, true, false, List, take, drop, Option, Some, None}
-use Rattle.dfu_slots.specs.declared.unit.Unit.{Unit as WriteUnit}
+use Rattle.dfu_slots.specs.declared.layout.Unit.{Unit as WriteUnit}
 use Rattle.dfu_device.specs.Setting.{Setting}
 use Rattle.dfu_asks.specs.declared.sector.Sector.{Sector}
-use Rattle.dfu_asks.specs.declared.slot_write.SlotWrite.{SlotWrite}
-use Rattle.dfu_asks.specs.declared.slot_write.SlotWrite.TheVariants as slot_write
+use Rattle.dfu_asks.specs.declared.pending_writes.SlotWrite.{SlotWrite}
+use Rattle.dfu_asks.specs.declared.pending_writes.SlotWrite.TheVariants as slot_write
 use Rattle.dfu_asks.specs.declared.pending_writes.PendingWrites.{PendingWrites}
 use Rattle.dfu_asks.specs.declared.asking.Asking.{Asking}
 use Rattle.dfu_asks.specs.declared.noted.Noted.{Noted}
@@ -25,6 +25,10 @@ HasJob r (slot_write.Block spare close) = (r.work ≡ 1) × (spare ≡ r.spare) 
 HasJob r (slot_write.Commit spare generation register) =
     (r.work ≡ 2) × (spare ≡ r.spare) × (generation ≡ r.generation) × (register ≡ r.sum)
 
+-- Of the record only the numbers of a job change.
+abbrev pub ChangesOnlyJob : DfuRecord → DfuRecord → Type 0
+ChangesOnlyJob r r' = r' ≡ record r { work = r'.work; spare = r'.spare; sum = r'.sum; generation = r'.generation; close = r'.close }
+
 -- This number is that of a GETSTATUS that waits, or of none.
 abbrev pub IsAskedNumber : ℕ → Option ℕ → Type 0
 IsAskedNumber n None = n ≡ 0
@@ -34,6 +38,10 @@ IsAskedNumber n (Some len) = (n ≡ len + 1) × (len < 2 ^ 16)
 abbrev pub HasWork : DfuRecord → Option PendingWrites → Type 0
 HasWork r None = r.work ≡ 0
 HasWork r (Some w) = HasJob r w.job × IsAskedNumber r.asked w.asked × (w.done ≡ r.done)
+
+-- Of the record only the numbers of work change.
+abbrev pub ChangesOnlyWork : DfuRecord → DfuRecord → Type 0
+ChangesOnlyWork r r' = ChangesOnlyJob (record r { done = r'.done; asked = r'.asked }) r'
 
 -- The record notes this of the active image.
 pub record HasNote (r : DfuRecord) (n : Noted) : Type 0 where

@@ -28,6 +28,10 @@ pub record HasMode (r : DfuRecord) (m : DeviceState) : Type 0 where
   pub version_is : r.version ≡ version
   pub numbers : HasNumbers r m
 
+-- Of the record only the version, the mode and the numbers that a mode keeps change.
+abbrev pub ChangesOnlyMode : DfuRecord → DfuRecord → Type 0
+ChangesOnlyMode r r' = r' ≡ record r { version = r'.version; mode = r'.mode; first = r'.first; second = r'.second; number = r'.number }
+
 -- The record in which all is 0 but its version.
 abbrev pub blank : DfuRecord
 blank = record {

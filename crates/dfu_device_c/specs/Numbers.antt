@@ -6,10 +6,11 @@ use Rattle.dfu_device.specs.declared.answer.Answer.{Answer}
 use Rattle.dfu_device.specs.declared.answer.Answer.TheVariants as answer
 use Rattle.dfu_asks.specs.declared.reply.Reply.{Reply}
 use Rattle.dfu_asks.specs.declared.reply.Reply.TheVariants as reply
-use Rattle.dfu_asks.specs.declared.refusal.Refusal.{Refusal as Why}
-use Rattle.dfu_asks.specs.declared.refusal.Refusal.TheVariants as why
-use Rattle.dfu_device_c.specs.declared.refusal.Refusal.{Refusal}
-use Rattle.dfu_device_c.specs.declared.refusal.Refusal.TheVariants as refusal
+use Rattle.dfu_asks.specs.declared.reply.Refusal.{Refusal as Why}
+use Rattle.dfu_asks.specs.declared.reply.Refusal.TheVariants as why
+use Rattle.dfu_c.specs.Numbers.{ASKS}
+use Rattle.dfu_device_c.specs.declared.numbers.Refusal.{Refusal}
+use Rattle.dfu_device_c.specs.declared.numbers.Refusal.TheVariants as refusal
 
 -- DFU_STALL.
 abbrev pub STALL : ℤ
@@ -38,10 +39,6 @@ NOT_LONG = negsuc 8
 -- DFU_NO_BLOCK.
 abbrev pub NO_BLOCK : ℤ
 NO_BLOCK = negsuc 9
-
--- DFU_ASKS.
-abbrev pub ASKS : ℤ
-ASKS = negsuc 10
 
 -- DFU_ASKED.
 abbrev pub ASKED : ℤ

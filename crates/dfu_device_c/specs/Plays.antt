@@ -5,7 +5,7 @@ use Rattle.dfu_slots.specs.Image.{Active}
 use Rattle.dfu_host.specs.declared.limits.Limits.{Limits}
 use Rattle.dfu_host.specs.Phases.{Goal, ToFetch}
 use Rattle.dfu_host.specs.Host.{HostState, started, aborted}
-use Rattle.dfu_sim.specs.declared.purpose.Purpose.{Purpose}
+use Rattle.dfu_sim.specs.declared.offering.Purpose.{Purpose}
 use Rattle.dfu_sim.specs.Opening.{goal_of_purpose}
 use Rattle.dfu_sim.specs.LinkView.{Session, Nobody, Hosted}
 use Rattle.dfu_sim.specs.Play.{Answered}

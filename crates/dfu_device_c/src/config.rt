@@ -1,13 +1,18 @@
 //! What a program in C sets a device up with.
-ghost use Rattle.std.specs.Prelude.{◌≡◌, ◌≤◌, ◌^◌, IfSome, IfNone, OnSome, IsTrue, not};
+ghost use Rattle.std.specs.Prelude.{◌≡◌, ◌⊎◌, ◌≤◌, ◌^◌, IfSome, IfNone, OnSome, IsTrue, not, pos};
+ghost use Rattle.dfu_wire.specs.Functional.{IsFunctional};
 ghost use Rattle.dfu_slots.specs.Units.{gate_room};
-ghost use Rattle.dfu_device_c.specs.Config.{setting_of, unit_of, IsConfig};
+ghost use Rattle.dfu_device_c.specs.Addressed.{addressed};
+ghost use Rattle.dfu_device_c.specs.Config.{version, setting_of, unit_of, IsConfig};
+ghost use Rattle.dfu_device_c.specs.Numbers.{NO_CONFIG};
 
-use crate::version::VERSION;
 use dfu_asks::Sector;
 use dfu_device::Config;
 use dfu_slots::Unit;
 use dfu_wire::{Functional, Ids};
+
+/// The version, 0.3.0: 10,000 for each major one, 100 for each minor one, and 1 for each patch.
+pub(crate) const VERSION: u32 = 300;
 
 /// bcdDFUVersion of every device.
 const BCD_VERSION: u16 = 0x0110;
@@ -137,4 +142,34 @@ pub(crate) fn gate_of(unit: Unit, sector: u32) -> u32
     ensures most { result ≤ 2 ^ 17 }
 {
     unit.size().max(16).max(sector)
+}
+
+/// The setup with wIndex 0 if that is the number of this interface, and with another one if it isn't.
+pub(crate) fn addressed(interface: u8, setup: &[u8; 8]) -> [u8; 8]
+    ensures { result ≡ addressed interface setup.now }
+{
+    let mut own = *setup;
+    own[4] = u8::from(setup[4] != interface);
+    own
+}
+
+/// The functional descriptor, 9 bytes, at the front of `out`: 9. Refused with -2 if the configuration is not allowed.
+#[unsafe(no_mangle)]
+pub extern "C" fn dfu_core_functional(config: &DfuConfig, out: &mut [u8; 9]) -> i32
+    ensures outcome { ((result ≡ pos 9) × IsConfig config.now × IsFunctional (setting_of config.now).functional out.new)
+        ⊎ ((result ≡ NO_CONFIG) × (¬ IsConfig config.now) × (out.new ≡ out.old)) }
+{
+    if !is_allowed(config) {
+        return -2;
+    }
+    *out = functional_of(config).encode();
+    9
+}
+
+/// The version of the library, with which each configuration and each record begins.
+#[unsafe(no_mangle)]
+pub extern "C" fn dfu_core_version() -> i32
+    ensures { result ≡ pos version }
+{
+    VERSION as i32
 }

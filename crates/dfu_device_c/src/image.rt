@@ -1,11 +1,15 @@
-//! Where the image is that a program is to run.
+//! Where an image is: the active one, which a program is to run, and one that was taken and is not in place yet.
 ghost use Rattle.std.specs.Prelude.{◌≡◌, ◌⊎◌, ◌/◌, ◌≤◌, IfSome, IfNone, if◌then◌else◌};
+ghost use Rattle.dfu_device_c.specs.Candidate.{HasCandidate, HasNone, RefusesCandidate};
 ghost use Rattle.dfu_device_c.specs.Power.{IsNoMedium, RefusesPower};
 ghost use Rattle.dfu_device_c.specs.Image.{ImageIsAt, ImageIsFound};
 
 use crate::config::{DfuConfig, gate_of, settings_of};
-use crate::place::DfuPlace;
+use crate::keeping::found;
+use crate::numbers::{Refusal, refused};
+use crate::record::DfuRecord;
 use dfu_asks::{Noted, Sector};
+use dfu_c::DfuPlace;
 use dfu_slots::{Unit, length_in};
 
 // Where a slot begins in flash of so many bytes.
@@ -49,5 +53,35 @@ pub extern "C" fn dfu_core_image(config: &DfuConfig, flash: &[u8], place: &mut D
             0
         }
         None => -3,
+    }
+}
+
+// As much memory as any block needs, with those held back.
+const MOST: usize = 4096 + 256;
+
+/// Where the image is that was taken, as `Device::candidate`: 0, and `place` has its bytes in the flash, followed by the `held_length`
+/// ones that are held back, after the transfer size in the memory of the block.
+///
+/// Refused as `dfu_core_elapse` with the most memory that a block needs; then with -20 if no image was taken that may be refused.
+#[unsafe(no_mangle)]
+pub extern "C" fn dfu_core_candidate(
+    config: &DfuConfig,
+    device: &DfuRecord,
+    flash: &[u8],
+    place: &mut DfuPlace,
+) -> i32
+    ensures outcome { HasCandidate config.now device.now flash.now result place.new
+        ⊎ ((place.new ≡ place.old) × (HasNone config.now device.now flash.now result
+        ⊎ RefusesCandidate config.now device.now flash.now result)) }
+{
+    find!(asking, config, device, MOST);
+    match asking.candidate(flash) {
+        Ok(Some(found)) => {
+            place.at = found.at;
+            place.length = found.stored;
+            0
+        }
+        Ok(None) => -20,
+        Err(refusal) => refused(refusal).number(),
     }
 }

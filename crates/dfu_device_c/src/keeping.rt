@@ -8,10 +8,10 @@ ghost use Rattle.dfu_device_c.specs.Kept.{IsFlag, IsKept, IsSetUp, HasNote};
 ghost use Rattle.dfu_device_c.specs.Calls.{IsUnfound};
 
 use crate::config::{DfuConfig, Settings, settings_of};
-use crate::formatting::WORK;
+use crate::format::WORK;
 use crate::mode::{mode_of, set_mode};
+use crate::numbers::Refusal;
 use crate::record::DfuRecord;
-use crate::refusal::Refusal;
 use crate::work::{set_work, work_of};
 use dfu_asks::{Asking, Noted};
 

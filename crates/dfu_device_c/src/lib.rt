@@ -2,30 +2,40 @@
 //! its flash are the caller's.
 #![tactic(auto)]
 
-mod addressed;
-mod ask;
-mod candidate;
+// Finds the device that a record is, if the memory of its block has so much room; else the call returns the number of the refusal.
+macro_rules! find {
+    ($asking:ident, $config:ident, $device:ident, $room:expr $(, $mutable:tt)?) => {
+        let mut read = Err(Refusal::NoDevice);
+        found($config, $device, $room, &mut read);
+        let $asking = match &$($mutable)? read {
+            Ok($asking) => $asking,
+            Err(refusal) => return refusal.number(),
+        };
+    };
+}
+
+// Writes a piece into what a program is asked for, but for its bytes.
+macro_rules! hand_out {
+    ($piece:ident, $ask:ident) => {
+        $ask.kind = kind_of($piece.erases);
+        $ask.at = $piece.at as u32;
+        $ask.length = $piece.len as u32;
+    };
+}
+
+mod calls;
 mod config;
-mod due;
-mod exports;
 mod format;
-mod formatting;
-mod functional;
-mod idle;
 mod image;
 mod keeping;
 pub mod laws;
 mod long;
 mod mode;
 mod numbers;
-mod place;
 mod power;
 mod record;
-mod refusal;
 mod refuse;
 mod stalls;
 pub mod steps;
 mod tells;
-mod version;
 mod work;
-mod writes;

@@ -7,10 +7,8 @@ ghost use Rattle.dfu_device_c.specs.AfterLong.{after_long, IsLong};
 ghost use Rattle.dfu_device_c.specs.Long.{TakesLong};
 ghost use Rattle.dfu_device_c.specs.Idle.{IsIdleRecord, RefusesSetup};
 
-use crate::addressed::addressed;
-use crate::config::DfuConfig;
-use crate::idle::idle_mode;
-use crate::mode::set_mode;
+use crate::config::{DfuConfig, addressed};
+use crate::mode::{idle_mode, set_mode};
 use crate::record::DfuRecord;
 use dfu_device::DeviceState;
 use dfu_wire::{Code, Setup};

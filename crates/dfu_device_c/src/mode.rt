@@ -1,10 +1,15 @@
 //! The mode of a record, by its numbers.
-ghost use Rattle.std.specs.Prelude.{◌≡◌, IfSome, IsTrue, Some, not};
+ghost use Rattle.std.specs.Prelude.{◌≡◌, IfSome, IfOk, IfErr, OnOk, IsTrue, Some, not};
 ghost use Rattle.dfu_wire.specs.Code.{code_byte};
-ghost use Rattle.dfu_device_c.specs.Mode.{HasMode, HasNumbers};
+ghost use Rattle.dfu_device.specs.declared.device_state.DeviceState.{DeviceState as KeptMode};
+ghost use Rattle.dfu_device_c.specs.Config.{IsConfig};
+ghost use Rattle.dfu_device_c.specs.Mode.{HasMode, HasNumbers, ChangesOnlyMode};
+ghost use Rattle.dfu_device_c.specs.Numbers.{refusal_number};
+ghost use Rattle.dfu_device_c.specs.Idle.{IsIdleRecord, RefusesRecord, RefusesSetup};
 
+use crate::config::{DfuConfig, VERSION, is_allowed};
+use crate::numbers::Refusal;
 use crate::record::DfuRecord;
-use crate::version::VERSION;
 use dfu_device::DeviceState;
 use dfu_wire::Code;
 
@@ -76,6 +81,35 @@ pub(crate) fn has_mode(kept: &DfuRecord) -> bool
     }
 }
 
+/// The mode of a record, if the configuration is allowed and the record has one.
+pub(crate) fn mode_in(config: &DfuConfig, kept: &DfuRecord) -> Result<DeviceState, Refusal>
+    ensures only { IfOk result (λ m. (x : KeptMode) → HasMode kept.now x → m ≡ x) }
+    ensures mode { IfOk result (λ m. HasMode kept.now m) }
+    ensures config { OnOk result (IsConfig config.now) }
+    ensures err { IfErr result (λ e. RefusesRecord config.now kept.now (refusal_number e)) }
+{
+    if !is_allowed(config) {
+        return Err(Refusal::NoConfig);
+    }
+    match mode_of(kept) {
+        Some(mode) => Ok(mode),
+        None => Err(Refusal::NoDevice),
+    }
+}
+
+/// The same, if no writes are due either.
+pub(crate) fn idle_mode(config: &DfuConfig, kept: &DfuRecord) -> Result<DeviceState, Refusal>
+    ensures only { IfOk result (λ m. (x : KeptMode) → HasMode kept.now x → m ≡ x) }
+    ensures idle { OnOk result (IsIdleRecord config.now kept.now) }
+    ensures err { IfErr result (λ e. RefusesSetup config.now kept.now (refusal_number e)) }
+{
+    let mode = mode_in(config, kept)?;
+    if kept.work != 0 {
+        return Err(Refusal::Asked);
+    }
+    Ok(mode)
+}
+
 // The numbers of a mode: its own, `first`, `second` and `number`.
 fn numbers_of(mode: DeviceState) -> (u32, u32, u32, u16)
     ensures { (r : DfuRecord) → r.mode ≡ result.0 → r.first ≡ result.1 → r.second ≡ result.2 → r.number ≡ result.3 → HasNumbers r mode }
@@ -105,13 +139,7 @@ fn numbers_of(mode: DeviceState) -> (u32, u32, u32, u16)
 #[inline(never)]
 pub(crate) fn set_mode(kept: &mut DfuRecord, mode: DeviceState)
     ensures mode { HasMode kept.new mode }
-    ensures others { kept.new ≡ record kept.old {
-      version = kept.new.version;
-      mode = kept.new.mode;
-      first = kept.new.first;
-      second = kept.new.second;
-      number = kept.new.number;
-    } }
+    ensures others { ChangesOnlyMode kept.old kept.new }
 {
     let (own, first, second, number) = numbers_of(mode);
     kept.version = VERSION;

@@ -2,7 +2,7 @@
 ghost use Rattle.std.specs.Prelude.{◌≡◌};
 ghost use Rattle.dfu_device_c.specs.Mode.{blank};
 
-use crate::version::VERSION;
+use crate::config::VERSION;
 
 /// What is kept of a device that asks for its writes: `struct dfu_record`, as the last call left it.
 ///

@@ -3,10 +3,8 @@ ghost use Rattle.std.specs.Prelude.{◌≡◌, IfSome, IfNone};
 ghost use Rattle.dfu_device_c.specs.Addressed.{addressed};
 ghost use Rattle.dfu_device_c.specs.Refuse.{objection_in, IsObjection, WasRefused, CloseRefused};
 
-use crate::addressed::addressed;
-use crate::config::DfuConfig;
-use crate::idle::idle_mode;
-use crate::mode::set_mode;
+use crate::config::{DfuConfig, addressed};
+use crate::mode::{idle_mode, set_mode};
 use crate::record::DfuRecord;
 use dfu_device::{DeviceState, Objection, is_close};
 

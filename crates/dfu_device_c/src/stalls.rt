@@ -11,9 +11,8 @@ ghost use Rattle.dfu_device_c.specs.Verdict.{verdict};
 ghost use Rattle.dfu_device_c.specs.Stalls.{ToldStall};
 ghost use Rattle.dfu_device_c.specs.Idle.{IsIdleRecord, RefusesSetup};
 
-use crate::addressed::addressed;
-use crate::config::{DfuConfig, functional_of, gate_of, unit_of};
-use crate::idle::idle_mode;
+use crate::config::{DfuConfig, addressed, functional_of, gate_of, unit_of};
+use crate::mode::idle_mode;
 use crate::record::DfuRecord;
 use dfu_device::{Decision, DeviceState, Profile, Reply, decide};
 use dfu_slots::Unit;

@@ -11,14 +11,15 @@ ghost use Rattle.dfu_device_c.specs.Verdict.{IsBodyOf};
 ghost use Rattle.dfu_device.specs.declared.device_state.DeviceState.TheVariants.{AppIdle, DfuIdle};
 ghost use Rattle.dfu_device_c.specs.Power.{Powers, RefusesPower};
 
-use crate::ask::DfuAsk;
+use crate::calls::{
+    dfu_core_elapse, dfu_core_handle, dfu_core_next, dfu_core_took, dfu_core_usb_reset,
+};
 use crate::config::DfuConfig;
-use crate::exports::{dfu_core_elapse, dfu_core_handle, dfu_core_usb_reset};
 use crate::long::dfu_core_too_long;
 use crate::power::{dfu_core_begin, dfu_core_power_on};
 use crate::record::DfuRecord;
 use crate::refuse::{dfu_core_refuse, dfu_core_refuse_close};
-use crate::writes::{dfu_core_next, dfu_core_took};
+use dfu_c::DfuAsk;
 
 /// `dfu_core_handle` is a step of a board in C.
 pub fn handle(

@@ -1,8 +1,8 @@
 //! What is due of a record, by its numbers.
 ghost use Rattle.std.specs.Prelude.{◌≡◌, ℕ, Bool, IfSome, Option, Some};
 ghost use Rattle.dfu_asks.specs.declared.pending_writes.PendingWrites.{PendingWrites as Due};
-ghost use Rattle.dfu_asks.specs.declared.slot_write.SlotWrite.{SlotWrite as Series};
-ghost use Rattle.dfu_device_c.specs.Kept.{IsFlag, HasJob, IsAskedNumber, HasWork};
+ghost use Rattle.dfu_asks.specs.declared.pending_writes.SlotWrite.{SlotWrite as Series};
+ghost use Rattle.dfu_device_c.specs.Kept.{IsFlag, HasJob, IsAskedNumber, HasWork, ChangesOnlyJob, ChangesOnlyWork};
 
 use crate::record::DfuRecord;
 use dfu_asks::{PendingWrites, SlotWrite};
@@ -71,13 +71,7 @@ pub(crate) fn work_of(kept: &DfuRecord) -> Option<Option<PendingWrites>>
 // Writes a job into a record.
 fn set_job(kept: &mut DfuRecord, job: SlotWrite)
     ensures job { HasJob kept.new job }
-    ensures others { kept.new ≡ record kept.old {
-      work = kept.new.work;
-      spare = kept.new.spare;
-      sum = kept.new.sum;
-      generation = kept.new.generation;
-      close = kept.new.close;
-    } }
+    ensures others { ChangesOnlyJob kept.old kept.new }
 {
     match job {
         SlotWrite::Block { spare, close: true } => {
@@ -109,15 +103,7 @@ fn set_job(kept: &mut DfuRecord, job: SlotWrite)
 /// Writes what is left to be written into a record.
 pub(crate) fn set_work(kept: &mut DfuRecord, work: Option<PendingWrites>)
     ensures work { HasWork kept.new work }
-    ensures others { kept.new ≡ record kept.old {
-      work = kept.new.work;
-      spare = kept.new.spare;
-      sum = kept.new.sum;
-      done = kept.new.done;
-      asked = kept.new.asked;
-      generation = kept.new.generation;
-      close = kept.new.close;
-    } }
+    ensures others { ChangesOnlyWork kept.old kept.new }
 {
     match work {
         None => kept.work = 0,

@@ -8,7 +8,7 @@ use Rattle.dfu_wire.specs.declared.requests.Request.{Request as Asked}
 use Rattle.dfu_wire.specs.declared.requests.Request.TheVariants as asked
 use Rattle.dfu_wire.specs.Setup.{IsSetup}
 use Rattle.dfu_wire.specs.Request.{Asks}
-use Rattle.dfu_wire.specs.OneSetup.{IsSetup-one}
+use Rattle.dfu_wire.specs.OneValue.{IsSetup-one}
 use Rattle.dfu_wire.specs.OneRequest.{Asks-one}
 use Rattle.dfu_device.specs.declared.objection.Objection.{Objection}
 use Rattle.dfu_device.specs.declared.answer.Answer.{Answer}
@@ -20,8 +20,8 @@ use Rattle.dfu_device.specs.DeviceView.{DeviceView, profile, profile_of}
 use Rattle.dfu_device.specs.Rows.{Done, meant, Cause, Transfer, Passing, BusReset, RefusingClose, Refusing, PowerOn, Handles, Row, is_close, IsCloseSetup, body_length, is_served, asked_length}
 use Rattle.dfu_device.specs.Came.{row_of, not_served}
 use Rattle.dfu_slots.specs.Seen.{image_of, room_of}
-use Rattle.dfu_conformance.specs.declared.standard_state.StandardState.{StandardState}
-use Rattle.dfu_conformance.specs.declared.standard_state.StandardState.TheVariants as place
+use Rattle.dfu_conformance.specs.declared.row.StandardState.{StandardState}
+use Rattle.dfu_conformance.specs.declared.row.StandardState.TheVariants as place
 use Rattle.dfu_conformance.specs.declared.event.LogEvent.{LogEvent}
 use Rattle.dfu_conformance.specs.Fits.{stays_at, asks}
 use Rattle.dfu_conformance.specs.Setups.{event_of, is_plain}

@@ -17,9 +17,9 @@ use Rattle.dfu_device.specs.Stage.{Reply, Ack, StateOf, Data, Stall, Profile, St
 use Rattle.dfu_device.specs.Table.{Plan, Sure, Writes, Commits, write_code, commit_code, block_plan, upload_plan, next_number}
 use Rattle.dfu_device.specs.Cases.{either_way}
 use Rattle.dfu_device.specs.Rows.{Answers, asked_length, is_served}
-use Rattle.dfu_conformance.specs.declared.standard_state.StandardState.TheVariants as place
-use Rattle.dfu_conformance.specs.declared.event_kind.EventKind.{EventKind as Came}
-use Rattle.dfu_conformance.specs.declared.event_kind.EventKind.TheVariants as came
+use Rattle.dfu_conformance.specs.declared.row.StandardState.TheVariants as place
+use Rattle.dfu_conformance.specs.declared.row.EventKind.{EventKind as Came}
+use Rattle.dfu_conformance.specs.declared.row.EventKind.TheVariants as came
 use Rattle.dfu_conformance.specs.declared.row.When.{When}
 use Rattle.dfu_conformance.specs.declared.row.When.TheVariants.{Always, CanUpload}
 use Rattle.dfu_conformance.specs.declared.row.Gives.{Gives}

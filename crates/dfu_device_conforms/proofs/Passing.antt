@@ -10,8 +10,8 @@ use Rattle.dfu_device.specs.Table.{Plan, Sure, Writes, Commits, time_plan, reset
 use Rattle.dfu_device.specs.Cases.{either_way}
 use Rattle.dfu_device.specs.DeviceView.{DeviceView}
 use Rattle.dfu_device.specs.Rows.{Done}
-use Rattle.dfu_conformance.specs.declared.standard_state.StandardState.{StandardState}
-use Rattle.dfu_conformance.specs.declared.standard_state.StandardState.TheVariants as place
+use Rattle.dfu_conformance.specs.declared.row.StandardState.{StandardState}
+use Rattle.dfu_conformance.specs.declared.row.StandardState.TheVariants as place
 use Rattle.dfu_conformance.specs.declared.row.When.{When}
 use Rattle.dfu_conformance.specs.declared.row.When.TheVariants.{Always, Tolerant, NotTolerant, WillDetach}
 use Rattle.dfu_conformance.specs.declared.row.Gives.TheVariants as gives

@@ -18,10 +18,13 @@ use Rattle.dfu_device_conforms.specs.Kept.{Stands, TakesTime}
 use Rattle.dfu_device_conforms.proofs.Bits.{flags}
 use Rattle.dfu_device_conforms.proofs.Leads.{PlanKept, stalls, acks, reports, fails, write_stands, commit_stands, tells, which, uploads, blocks}
 
+-- Whatever is asked of a device in this stage, what comes of it is kept.
+abbrev pub KeepsAll : Profile → (image : List ℕ) → Stage → Type 0
+KeepsAll c i st = (p : Setup) (q : Asked) (body : List ℕ) → TakesTime c → Stands c st → Asks p q → is_served p q body ≡ true
+    → PlanKept c p q body st (plan c i st (meant q body))
+
 -- In appIDLE.
-in_app_idle : (c : Profile) (i : List ℕ) (p : Setup) (q : Asked) (body : List ℕ) → TakesTime c
-    → Stands c InAppIdle → Asks p q → is_served p q body ≡ true
-    → PlanKept c p q body InAppIdle (plan c i InAppIdle (meant q body))
+in_app_idle : (c : Profile) (i : List ℕ) → KeepsAll c i InAppIdle
 in_app_idle c i p asked.NotDfu body takes s asks v = absurd (false≢true v)
 in_app_idle c i p (asked.Detach timeout) body takes s asks v =
     (acks c p (asked.Detach timeout) body InAppIdle (InAppDetach (min c.detach_ms timeout) 0) Always asks v refl refl, tt)
@@ -32,9 +35,7 @@ in_app_idle c i p (asked.Dnload k len) [] takes s asks v =
 in_app_idle c i p q body takes s asks v = (stalls c p q body InAppIdle InAppIdle asks v refl, tt)
 
 -- In appDETACH.
-in_app_detach : (c : Profile) (i : List ℕ) (timer : ℕ) (passed : ℕ) (p : Setup) (q : Asked) (body : List ℕ) → TakesTime c
-    → Stands c (InAppDetach timer passed) → Asks p q → is_served p q body ≡ true
-    → PlanKept c p q body (InAppDetach timer passed) (plan c i (InAppDetach timer passed) (meant q body))
+in_app_detach : (c : Profile) (i : List ℕ) (timer passed : ℕ) → KeepsAll c i (InAppDetach timer passed)
 in_app_detach c i timer passed p asked.NotDfu body takes s asks v = absurd (false≢true v)
 in_app_detach c i timer passed p (asked.GetStatus len) body takes s asks v =
     (reports c p len body (InAppDetach timer passed) (InAppDetach timer passed) Always tt asks.1 refl refl, tt)
@@ -45,9 +46,7 @@ in_app_detach c i timer passed p (asked.Dnload k len) [] takes s asks v =
 in_app_detach c i timer passed p q body takes s asks v = (stalls c p q body (InAppDetach timer passed) InAppIdle asks v refl, tt)
 
 -- In dfuIDLE.
-in_dfu_idle : (c : Profile) (i : List ℕ) (p : Setup) (q : Asked) (body : List ℕ) → TakesTime c
-    → Stands c InDfuIdle → Asks p q → is_served p q body ≡ true
-    → PlanKept c p q body InDfuIdle (plan c i InDfuIdle (meant q body))
+in_dfu_idle : (c : Profile) (i : List ℕ) → KeepsAll c i InDfuIdle
 in_dfu_idle c i p asked.NotDfu body takes s asks v = absurd (false≢true v)
 in_dfu_idle c i p (asked.Dnload k len) [] takes s asks v =
     either_way (PlanKept c p (asked.Dnload k len) [] InDfuIdle) (not c.can_download) _ _
@@ -68,10 +67,8 @@ in_dfu_idle c i p (asked.GetState len) body takes s asks v = (tells c p len body
 in_dfu_idle c i p q body takes s asks v = (stalls c p q body InDfuIdle (InError ErrStalledPkt) asks v refl, tt)
 
 -- In dfuDNLOAD-SYNC, with a block that is not written.
-in_download_sync : (c : Profile) (i : List ℕ) (before : List ℕ) (block : List ℕ) (number : ℕ) (p : Setup) (q : Asked)
-    (body : List ℕ) → TakesTime c
-    → Stands c (InDownloadSync before block number) → Asks p q → is_served p q body ≡ true
-    → PlanKept c p q body (InDownloadSync before block number) (plan c i (InDownloadSync before block number) (meant q body))
+in_download_sync : (c : Profile) (i : List ℕ) (before block : List ℕ) (number : ℕ)
+    → KeepsAll c i (InDownloadSync before block number)
 in_download_sync c i before block number p asked.NotDfu body takes s asks v = absurd (false≢true v)
 in_download_sync c i before block number p (asked.GetStatus len) body takes s asks v =
     either_way (PlanKept c p (asked.GetStatus len) body (InDownloadSync before block number)) (c.busy == 0) _ _ (
@@ -87,9 +84,8 @@ in_download_sync c i before block number p q body takes s asks v =
     (stalls c p q body (InDownloadSync before block number) (InError ErrStalledPkt) asks v refl, tt)
 
 -- In dfuDNLOAD-SYNC, with all written.
-in_download_sync_written : (c : Profile) (i : List ℕ) (taken : List ℕ) (number : ℕ) (p : Setup) (q : Asked) (body : List ℕ) → TakesTime c
-    → Stands c (InDownloadSyncWritten taken number) → Asks p q → is_served p q body ≡ true
-    → PlanKept c p q body (InDownloadSyncWritten taken number) (plan c i (InDownloadSyncWritten taken number) (meant q body))
+in_download_sync_written : (c : Profile) (i : List ℕ) (taken : List ℕ) (number : ℕ)
+    → KeepsAll c i (InDownloadSyncWritten taken number)
 in_download_sync_written c i taken number p asked.NotDfu body takes s asks v = absurd (false≢true v)
 in_download_sync_written c i taken number p (asked.GetStatus len) body takes s asks v =
     (reports c p len body (InDownloadSyncWritten taken number) (InDownloadIdle taken number) Always tt asks.1 refl refl, tt)
@@ -101,10 +97,8 @@ in_download_sync_written c i taken number p q body takes s asks v =
     (stalls c p q body (InDownloadSyncWritten taken number) (InError ErrStalledPkt) asks v refl, tt)
 
 -- In dfuDNBUSY.
-in_download_busy : (c : Profile) (i : List ℕ) (before : List ℕ) (block : List ℕ) (number : ℕ) (passed : ℕ) (p : Setup) (q : Asked)
-    (body : List ℕ) → TakesTime c
-    → Stands c (InDownloadBusy before block number passed) → Asks p q → is_served p q body ≡ true
-    → PlanKept c p q body (InDownloadBusy before block number passed) (plan c i (InDownloadBusy before block number passed) (meant q body))
+in_download_busy : (c : Profile) (i : List ℕ) (before block : List ℕ) (number passed : ℕ)
+    → KeepsAll c i (InDownloadBusy before block number passed)
 in_download_busy c i before block number passed p asked.NotDfu body takes s asks v = absurd (false≢true v)
 in_download_busy c i before block number passed p (asked.Dnload k len) [] takes s asks v =
     (stalls c p (asked.Dnload k len) [] (InDownloadBusy before block number passed) (InError ErrStalledPkt) asks v refl, tt)
@@ -112,9 +106,7 @@ in_download_busy c i before block number passed p q body takes s asks v =
     (stalls c p q body (InDownloadBusy before block number passed) (InError ErrStalledPkt) asks v refl, tt)
 
 -- In dfuDNLOAD-IDLE.
-in_download_idle : (c : Profile) (i : List ℕ) (taken : List ℕ) (number : ℕ) (p : Setup) (q : Asked) (body : List ℕ) → TakesTime c
-    → Stands c (InDownloadIdle taken number) → Asks p q → is_served p q body ≡ true
-    → PlanKept c p q body (InDownloadIdle taken number) (plan c i (InDownloadIdle taken number) (meant q body))
+in_download_idle : (c : Profile) (i : List ℕ) (taken : List ℕ) (number : ℕ) → KeepsAll c i (InDownloadIdle taken number)
 in_download_idle c i taken number p asked.NotDfu body takes s asks v = absurd (false≢true v)
 in_download_idle c i taken number p (asked.Dnload k len) [] takes s asks v =
     either_way (PlanKept c p (asked.Dnload k len) [] (InDownloadIdle taken number)) (nat_le c.least (length taken)) _ _
@@ -132,9 +124,7 @@ in_download_idle c i taken number p q body takes s asks v =
     (stalls c p q body (InDownloadIdle taken number) (InError ErrStalledPkt) asks v refl, tt)
 
 -- In dfuMANIFEST-SYNC, not complete.
-in_manifest_sync : (c : Profile) (i : List ℕ) (taken : List ℕ) (p : Setup) (q : Asked) (body : List ℕ) → TakesTime c
-    → Stands c (InManifestSync taken) → Asks p q → is_served p q body ≡ true
-    → PlanKept c p q body (InManifestSync taken) (plan c i (InManifestSync taken) (meant q body))
+in_manifest_sync : (c : Profile) (i : List ℕ) (taken : List ℕ) → KeepsAll c i (InManifestSync taken)
 in_manifest_sync c i taken p asked.NotDfu body takes s asks v = absurd (false≢true v)
 in_manifest_sync c i taken p (asked.GetStatus len) body takes s asks v =
     which (PlanKept c p (asked.GetStatus len) body (InManifestSync taken)) (c.manifest == 0) _ _
@@ -154,9 +144,7 @@ in_manifest_sync c i taken p (asked.Dnload k len) [] takes s asks v =
 in_manifest_sync c i taken p q body takes s asks v = (stalls c p q body (InManifestSync taken) (InError ErrStalledPkt) asks v refl, tt)
 
 -- In dfuMANIFEST-SYNC, complete.
-in_manifest_complete : (c : Profile) (i : List ℕ) (p : Setup) (q : Asked) (body : List ℕ) → TakesTime c
-    → Stands c InManifestSyncComplete → Asks p q → is_served p q body ≡ true
-    → PlanKept c p q body InManifestSyncComplete (plan c i InManifestSyncComplete (meant q body))
+in_manifest_complete : (c : Profile) (i : List ℕ) → KeepsAll c i InManifestSyncComplete
 in_manifest_complete c i p asked.NotDfu body takes s asks v = absurd (false≢true v)
 in_manifest_complete c i p (asked.GetStatus len) body takes s asks v = (
   reports c p len body InManifestSyncComplete InDfuIdle Tolerant tt asks.1 refl
@@ -169,27 +157,21 @@ in_manifest_complete c i p (asked.Dnload k len) [] takes s asks v =
 in_manifest_complete c i p q body takes s asks v = (stalls c p q body InManifestSyncComplete (InError ErrStalledPkt) asks v refl, tt)
 
 -- In dfuMANIFEST.
-in_manifest : (c : Profile) (i : List ℕ) (taken : List ℕ) (passed : ℕ) (p : Setup) (q : Asked) (body : List ℕ) → TakesTime c
-    → Stands c (InManifest taken passed) → Asks p q → is_served p q body ≡ true
-    → PlanKept c p q body (InManifest taken passed) (plan c i (InManifest taken passed) (meant q body))
+in_manifest : (c : Profile) (i : List ℕ) (taken : List ℕ) (passed : ℕ) → KeepsAll c i (InManifest taken passed)
 in_manifest c i taken passed p asked.NotDfu body takes s asks v = absurd (false≢true v)
 in_manifest c i taken passed p (asked.Dnload k len) [] takes s asks v =
     (stalls c p (asked.Dnload k len) [] (InManifest taken passed) (InError ErrStalledPkt) asks v refl, tt)
 in_manifest c i taken passed p q body takes s asks v = (stalls c p q body (InManifest taken passed) (InError ErrStalledPkt) asks v refl, tt)
 
 -- In dfuMANIFEST-WAIT-RESET.
-in_manifest_wait_reset : (c : Profile) (i : List ℕ) (p : Setup) (q : Asked) (body : List ℕ) → TakesTime c
-    → Stands c InManifestWaitReset → Asks p q → is_served p q body ≡ true
-    → PlanKept c p q body InManifestWaitReset (plan c i InManifestWaitReset (meant q body))
+in_manifest_wait_reset : (c : Profile) (i : List ℕ) → KeepsAll c i InManifestWaitReset
 in_manifest_wait_reset c i p asked.NotDfu body takes s asks v = absurd (false≢true v)
 in_manifest_wait_reset c i p (asked.Dnload k len) [] takes s asks v =
     (stalls c p (asked.Dnload k len) [] InManifestWaitReset InManifestWaitReset asks v refl, tt)
 in_manifest_wait_reset c i p q body takes s asks v = (stalls c p q body InManifestWaitReset InManifestWaitReset asks v refl, tt)
 
 -- In dfuUPLOAD-IDLE.
-in_upload_idle : (c : Profile) (i : List ℕ) (at : ℕ) (number : ℕ) (p : Setup) (q : Asked) (body : List ℕ) → TakesTime c
-    → Stands c (InUploadIdle at number) → Asks p q → is_served p q body ≡ true
-    → PlanKept c p q body (InUploadIdle at number) (plan c i (InUploadIdle at number) (meant q body))
+in_upload_idle : (c : Profile) (i : List ℕ) (at number : ℕ) → KeepsAll c i (InUploadIdle at number)
 in_upload_idle c i at number p asked.NotDfu body takes s asks v = absurd (false≢true v)
 in_upload_idle c i at number p (asked.Upload k len) body takes s asks v =
     uploads c i at number (InUploadIdle at number) p k len body s asks v refl refl refl
@@ -203,9 +185,7 @@ in_upload_idle c i at number p (asked.Dnload k len) [] takes s asks v =
 in_upload_idle c i at number p q body takes s asks v = (stalls c p q body (InUploadIdle at number) (InError ErrStalledPkt) asks v refl, tt)
 
 -- In dfuERROR.
-in_error : (c : Profile) (i : List ℕ) (code : Code) (p : Setup) (q : Asked) (body : List ℕ) → TakesTime c
-    → Stands c (InError code) → Asks p q → is_served p q body ≡ true
-    → PlanKept c p q body (InError code) (plan c i (InError code) (meant q body))
+in_error : (c : Profile) (i : List ℕ) (code : Code) → KeepsAll c i (InError code)
 in_error c i code p asked.NotDfu body takes s asks v = absurd (false≢true v)
 in_error c i code p asked.ClrStatus body takes s asks v =
     (acks c p asked.ClrStatus body (InError code) InDfuIdle Always asks v refl refl, tt)
@@ -217,21 +197,17 @@ in_error c i code p (asked.Dnload k len) [] takes s asks v =
 in_error c i code p q body takes s asks v = (stalls c p q body (InError code) (InError code) asks v refl, s)
 
 -- Whatever is asked of a device, what comes of it is kept.
-pub plan_kept : (c : Profile) (i : List ℕ) (st : Stage) (p : Setup) (q : Asked) (body : List ℕ) → TakesTime c → Stands c st → Asks p q
-    → is_served p q body ≡ true → PlanKept c p q body st (plan c i st (meant q body))
-plan_kept c i InAppIdle p q body takes s asks v = in_app_idle c i p q body takes s asks v
-plan_kept c i (InAppDetach timer passed) p q body takes s asks v = in_app_detach c i timer passed p q body takes s asks v
-plan_kept c i InDfuIdle p q body takes s asks v = in_dfu_idle c i p q body takes s asks v
-plan_kept c i (InDownloadSync before block number) p q body takes s asks v =
-    in_download_sync c i before block number p q body takes s asks v
-plan_kept c i (InDownloadSyncWritten taken number) p q body takes s asks v =
-    in_download_sync_written c i taken number p q body takes s asks v
-plan_kept c i (InDownloadBusy before block number passed) p q body takes s asks v =
-    in_download_busy c i before block number passed p q body takes s asks v
-plan_kept c i (InDownloadIdle taken number) p q body takes s asks v = in_download_idle c i taken number p q body takes s asks v
-plan_kept c i (InManifestSync taken) p q body takes s asks v = in_manifest_sync c i taken p q body takes s asks v
-plan_kept c i InManifestSyncComplete p q body takes s asks v = in_manifest_complete c i p q body takes s asks v
-plan_kept c i (InManifest taken passed) p q body takes s asks v = in_manifest c i taken passed p q body takes s asks v
-plan_kept c i InManifestWaitReset p q body takes s asks v = in_manifest_wait_reset c i p q body takes s asks v
-plan_kept c i (InUploadIdle at number) p q body takes s asks v = in_upload_idle c i at number p q body takes s asks v
-plan_kept c i (InError code) p q body takes s asks v = in_error c i code p q body takes s asks v
+pub plan_kept : (c : Profile) (i : List ℕ) (st : Stage) → KeepsAll c i st
+plan_kept c i InAppIdle = in_app_idle c i
+plan_kept c i (InAppDetach timer passed) = in_app_detach c i timer passed
+plan_kept c i InDfuIdle = in_dfu_idle c i
+plan_kept c i (InDownloadSync before block number) = in_download_sync c i before block number
+plan_kept c i (InDownloadSyncWritten taken number) = in_download_sync_written c i taken number
+plan_kept c i (InDownloadBusy before block number passed) = in_download_busy c i before block number passed
+plan_kept c i (InDownloadIdle taken number) = in_download_idle c i taken number
+plan_kept c i (InManifestSync taken) = in_manifest_sync c i taken
+plan_kept c i InManifestSyncComplete = in_manifest_complete c i
+plan_kept c i (InManifest taken passed) = in_manifest c i taken passed
+plan_kept c i InManifestWaitReset = in_manifest_wait_reset c i
+plan_kept c i (InUploadIdle at number) = in_upload_idle c i at number
+plan_kept c i (InError code) = in_error c i code

@@ -10,10 +10,10 @@ use Rattle.dfu_wire.specs.declared.states.State.{State}
 use Rattle.dfu_wire.specs.Code.{code_byte}
 use Rattle.dfu_wire.specs.State.{state_byte}
 use Rattle.dfu_device.specs.declared.answer.Answer.{Answer}
-use Rattle.dfu_device.specs.Stage.{Ack, StatusOf, StateOf, Data, Stall, Profile, Stage, InAppIdle, InAppDetach, InDfuIdle, InDownloadSync, InDownloadSyncWritten, InDownloadBusy, InDownloadIdle, InManifestSync, InManifestSyncComplete, InManifest, InManifestWaitReset, InUploadIdle, InError, state_of, code_of}
+use Rattle.dfu_device.specs.Stage.{Ack, StatusOf, StateOf, Data, Stall, Profile, Stage, InError, state_of, code_of}
 use Rattle.dfu_device.specs.Rows.{Answers}
-use Rattle.dfu_conformance.specs.declared.standard_state.StandardState.{StandardState}
-use Rattle.dfu_conformance.specs.declared.event_kind.EventKind.{EventKind as Came}
+use Rattle.dfu_conformance.specs.declared.row.StandardState.{StandardState}
+use Rattle.dfu_conformance.specs.declared.row.EventKind.{EventKind as Came}
 use Rattle.dfu_conformance.specs.declared.row.When.{When}
 use Rattle.dfu_conformance.specs.declared.row.When.TheVariants.{Always}
 use Rattle.dfu_conformance.specs.declared.row.Gives.{Gives}
@@ -112,33 +112,11 @@ parted from next part len n a out g fits h =
 
 -- The number of the state of a stage is that of its place.
 pub state_is : (st : Stage) → state_byte (state_of st) ≡ number_of_state (place_of st)
-state_is InAppIdle = refl
-state_is (InAppDetach timer passed) = refl
-state_is InDfuIdle = refl
-state_is (InDownloadSync before block number) = refl
-state_is (InDownloadSyncWritten taken number) = refl
-state_is (InDownloadBusy before block number passed) = refl
-state_is (InDownloadIdle taken number) = refl
-state_is (InManifestSync taken) = refl
-state_is InManifestSyncComplete = refl
-state_is (InManifest taken passed) = refl
-state_is InManifestWaitReset = refl
-state_is (InUploadIdle at number) = refl
 state_is (InError code) = refl
+state_is st = refl
 
 -- The code of a stage is one that a status of its place may have.
 pub code_is : (c : Profile) (st : Stage) → Stands c st → has_code (place_of st) (code_byte (code_of st)) ≡ true
 code_is c (InError NoFault) h = absurd h
-code_is c InAppIdle h = refl
-code_is c (InAppDetach timer passed) h = refl
-code_is c InDfuIdle h = refl
-code_is c (InDownloadSync before block number) h = refl
-code_is c (InDownloadSyncWritten taken number) h = refl
-code_is c (InDownloadBusy before block number passed) h = refl
-code_is c (InDownloadIdle taken number) h = refl
-code_is c (InManifestSync taken) h = refl
-code_is c InManifestSyncComplete h = refl
-code_is c (InManifest taken passed) h = refl
-code_is c InManifestWaitReset h = refl
-code_is c (InUploadIdle at number) h = refl
 code_is c (InError code) h = refl
+code_is c st h = refl

@@ -50,7 +50,7 @@ impl<C: Chip> Medium for Fram<C> {
     ghost use Rattle.dfu_slots.specs.Units.{in_place};
     ghost use Rattle.dfu_slots.specs.Medium.{MediumState};
     ghost use Rattle.dfu_slots.specs.Medium.Fuse.{Unknown};
-    ghost use Rattle.dfu_slots.specs.declared.unit.Unit.TheVariants.{Byte};
+    ghost use Rattle.dfu_slots.specs.declared.layout.Unit.TheVariants.{Byte};
 
     // Any write may fail or lie. A count of failures that is always at its last value leaves that open, so nothing
     // needs to be counted.

@@ -1,12 +1,10 @@
 //! `dfu add`.
 
-use crate::gathering::MAX_FILE;
-use crate::given::{Given, Held, open};
-use crate::owner::Owned;
+use crate::gathering::{MAX_FILE, gather_fault, refused, unread};
+use crate::given::{Given, Held, RecordingReader, open};
 use crate::reasons::{error_reason, file_reason, given_reason};
-use crate::recording_reader::RecordingReader;
-use crate::refusing::{gather_fault, refused, unread};
 use crate::replacing::{Replacement, finish};
+use crate::temp_file::Owned;
 use dfu_image_output::{FormatChoice, image_line, looks_like, refused_line, why};
 use dfu_images::{ImageFileFault, format_of, image_of};
 use dfu_output::{Exit, Outcome, add_with_fault, fault_text, write_out};

@@ -1,8 +1,7 @@
 //! `dfu check`.
 
-use crate::given::open;
+use crate::given::{RecordingReader, open};
 use crate::reasons::{error_reason, given_reason};
-use crate::recording_reader::RecordingReader;
 use dfu_json::JsonLines;
 use dfu_output::{Exit, Outcome, check_with_fault, fault_text, name_before, write_out};
 use dfu_suffix::{Findings, SuffixFault};

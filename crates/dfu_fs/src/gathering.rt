@@ -1,10 +1,10 @@
-//! A file that is read whole.
+//! A file that is read whole, and the outcome if it can't be read or is refused.
 
-use crate::given::{Given, open};
-use crate::recording_reader::RecordingReader;
-use crate::refusing::{gather_fault, refused, unread};
-use dfu_output::Outcome;
-use dfu_suffix::gather;
+use crate::given::{Given, RecordingReader, open};
+use crate::reasons::{error_reason, found_reason, given_reason};
+use dfu_output::{Outcome, fault_text};
+use dfu_suffix::{Findings, GatherFault, SuffixFault, check_with, gather};
+use std::io;
 use std::rt::Files;
 
 /// The most bytes of a file.
@@ -26,5 +26,53 @@ pub(crate) fn gathered<R: Files + Input + Print + AllocGlobal>(
     match gather(rt.alloc(), &mut noting, MAX_FILE) {
         Ok(bytes) => Ok((bytes, noting)),
         Err(fault) => Err(refused(rt, file, gather_fault(fault), &noting)),
+    }
+}
+
+/// The outcome if a file can't be opened for reading.
+pub(crate) fn unread<R: Print + AllocGlobal>(rt: &R, file: &str, error: &io::Error) -> Outcome {
+    Outcome {
+        exit: fault_text(SuffixFault::Read, &mut io::writer(rt)),
+        reason: error_reason(rt.alloc(), file, error),
+    }
+}
+
+/// The outcome if a file isn't read whole, or there is no memory for what is made of it.
+pub(crate) fn refused<R: Print + AllocGlobal, S>(
+    rt: &R,
+    file: &str,
+    fault: SuffixFault,
+    noting: &RecordingReader<S>,
+) -> Outcome {
+    Outcome {
+        exit: fault_text(fault, &mut io::writer(rt)),
+        reason: given_reason(rt.alloc(), file, fault, noting, &Findings::new()),
+    }
+}
+
+/// The outcome if the bytes of a file are refused. They are checked once more if the reason is wanted.
+pub(crate) fn refused_bytes<R: Print + AllocGlobal>(
+    rt: &R,
+    file: &str,
+    fault: SuffixFault,
+    bytes: &[u8],
+    explain: bool,
+) -> Outcome {
+    let mut findings = Findings::new();
+    if explain {
+        let _ = check_with(bytes, &mut findings);
+    }
+    Outcome {
+        exit: fault_text(fault, &mut io::writer(rt)),
+        reason: found_reason(rt.alloc(), file, fault, &findings),
+    }
+}
+
+/// The fault of a file that wasn't read whole.
+pub fn gather_fault(fault: GatherFault) -> SuffixFault {
+    match fault {
+        GatherFault::TooLarge => SuffixFault::TooLarge,
+        GatherFault::NoMemory => SuffixFault::NoMemory,
+        GatherFault::Read => SuffixFault::Read,
     }
 }

@@ -1,11 +1,11 @@
 //! Why a file could not be read, written or accepted.
 
-ghost use Rattle.std.specs.Prelude.{◌≡◌, ◌≢◌, [], IfSome, List, ℕ, codes};
+ghost use Rattle.std.specs.Prelude.{◌≡◌, ◌≢◌, [], IfOk, IfSome, List, ℕ, codes};
 ghost use Rattle.std.specs.String.{string_bytes};
 ghost use Rattle.dfu_output.specs.ReasonLines.{reason_line};
+ghost use Rattle.dfu_fs.specs.SuffixReasons.{length_why, sums_why};
 
-use crate::recording_reader::RecordingReader;
-use crate::suffixes::{length_why, sums_why};
+use crate::given::RecordingReader;
 use dfu_output::reason_line;
 use dfu_suffix::{Findings, SuffixFault};
 use std::alloc::{AllocError, Global};
@@ -47,6 +47,26 @@ fn made_reason(alloc: Global, name: &str, why: Result<String, AllocError>) -> Op
         Ok(why) => file_reason(alloc, name, &why),
         Err(_) => None,
     }
+}
+
+/// Why a check sum is wrong: that in the suffix, and that of the bytes before it.
+#[tactic(auto, unfolding(crate::specs::SuffixReasons::sums_why))]
+fn sums_why(alloc: Global, written: u32, found: u32) -> Result<String, AllocError>
+    ensures { IfOk result (λ t. string_bytes t ≡ sums_why written found) }
+{
+    format!(in alloc;
+        "the check sum in the suffix is {written:08x}, and that of the bytes before it {found:08x}"
+    )
+}
+
+/// Why the length of a suffix is wrong: what it says, in a file of this many bytes.
+#[tactic(auto, unfolding(crate::specs::SuffixReasons::length_why))]
+fn length_why(alloc: Global, said: u8, count: u32) -> Result<String, AllocError>
+    ensures { IfOk result (λ t. string_bytes t ≡ length_why said count) }
+{
+    format!(in alloc;
+        "the suffix says that it has {said} bytes, at least 16 are wanted, and the file has {count}"
+    )
 }
 
 /// What is wrong with what a reader gave, in words, and what to do.

@@ -2,9 +2,8 @@
 
 ghost use Rattle.std.specs.Prelude.{◌≤◌, length, IfOk};
 
-use crate::owner::Owned;
 use crate::reasons::error_reason;
-use crate::temp_file::{TempFile, begin, put, remove};
+use crate::temp_file::{Owned, TempFile, begin, put, remove};
 use dfu_output::{Exit, Outcome, fault_text, write_out};
 use dfu_suffix::{SuffixFault, write_whole};
 use std::io::{self, ErrorKind, Write};

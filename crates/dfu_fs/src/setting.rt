@@ -1,13 +1,39 @@
-//! `dfu set`.
+//! `dfu extract` and `dfu set`: what is made of a DFU file.
 
 use crate::changing::{Change, with_ids};
-use crate::gathering::gathered;
-use crate::owner::Owned;
-use crate::refusing::{refused, refused_bytes};
+use crate::gathering::{gathered, refused, refused_bytes};
 use crate::replacing::replace;
-use dfu_output::{Exit, Outcome, check_text};
-use dfu_suffix::SuffixFault;
+use crate::temp_file::Owned;
+use dfu_output::{Exit, Outcome, check_text, wrote_line};
+use dfu_suffix::{SuffixFault, read};
 use std::rt::Files;
+
+/// Makes a file of the payload of another one, or of standard input if its name is `-`, only if that is a DFU file. The outcome has
+/// the reason of a fault.
+pub fn extract_file<R: Files + Input + Print + AllocGlobal>(
+    rt: &R,
+    file: &str,
+    to: &str,
+    explain: bool,
+) -> Outcome
+where
+    R::File: Owned,
+{
+    let alloc = rt.alloc();
+    let (bytes, noting) = match gathered(rt, file) {
+        Ok(gathered) => gathered,
+        Err(outcome) => return outcome,
+    };
+    let payload = match read(&bytes) {
+        Ok(found) => found.payload(),
+        Err(fault) => return refused_bytes(rt, file, fault, &bytes, explain),
+    };
+    let count = u32::try_from(payload.len()).unwrap_or(u32::MAX);
+    match wrote_line(alloc, count) {
+        Ok(line) => replace(rt, to, payload, line.as_bytes()),
+        Err(_) => refused(rt, file, SuffixFault::NoMemory, &noting),
+    }
+}
 
 /// Changes the identifiers of a file, which is replaced whole, and prints what checking the new one prints. The outcome has the
 /// reason of a fault.

@@ -3,15 +3,26 @@
 ghost use Rattle.std.specs.Prelude.{◌≡◌, ◌*◌, true, false, bit_and, bit_or};
 
 use crate::destination::{Destination, beside, place_of};
-use crate::owner::Owned;
 use std::alloc::{AllocError, Global};
-use std::fs::{self, Metadata, OpenFile, OpenOptions, Permissions};
+use std::fs::{self, File, Metadata, OpenFile, OpenOptions, Permissions};
 use std::io::{self, ErrorKind};
-use std::os::unix::fs::{MetadataExt, OpenOptionsExt, PermissionsExt};
+use std::os::unix::fs::{MetadataExt, OpenOptionsExt, PermissionsExt, fchown};
 use std::rt::Files;
 
 /// How many names are tried for the part.
 const MAX_PARTS: u32 = 1000;
+
+/// An open file whose owner can be set.
+pub trait Owned {
+    /// Gives the file to this user and this group.
+    fn set_owner(&self, user: u32, group: u32) -> io::Result<()>;
+}
+
+impl Owned for File {
+    fn set_owner(&self, user: u32, group: u32) -> io::Result<()> {
+        fchown(self, Some(user), Some(group))
+    }
+}
 
 /// A new file beside the one that it is to replace.
 #[derive(Drop)]

@@ -1,10 +1,11 @@
 -- When a download is refused, and when one that is to be verified.
-use Rattle.std.specs.Prelude.{ℕ, ◌==◌, ◌&&◌, ◌||◌, not, Bool, List, [], ◌∷◌, ◌++◌, length, find, Option}
+use Rattle.std.specs.Prelude.{ℕ, ◌==◌, ◌&&◌, ◌||◌, not, Bool, true, false, List, [], ◌∷◌, ◌++◌, length, find, Option}
 use Rattle.dfu_wire.specs.declared.functionals.Functional.{Functional}
 use Rattle.dfu_wire.specs.declared.ids.Ids.{Ids}
 use Rattle.dfu_suffix.specs.Grammar.{Content}
 use Rattle.dfu_host.specs.declared.fault.HostFault.{HostFault}
 use Rattle.dfu_host.specs.declared.fault.HostFault.TheVariants as fault
+use Rattle.dfu_host.specs.Phases.{Goal, ToLoad, ToVerify}
 
 -- An identifier of a file goes with a device that has the same; FFFFh goes with every device.
 abbrev pub goes_with : (file device : ℕ) → Bool
@@ -41,3 +42,13 @@ verify_faults = payload_faults ++ fault.CannotUpload ∷ fault.BadDescriptor ∷
 -- The first refusal of a download that is to be verified whose condition holds.
 abbrev pub first_verify_fault : Content → Functional → Ids → Option HostFault
 first_verify_fault file functional device = find (refuses_download file functional device) verify_faults
+
+-- The first refusal of a session that installs a file, by whether it also compares it.
+abbrev pub first_install_fault : (compares : Bool) → Content → Functional → Ids → Option HostFault
+first_install_fault false = first_download_fault
+first_install_fault true = first_verify_fault
+
+-- The goal of a session that installs a payload, by whether it also compares it.
+abbrev pub to_install : (compares : Bool) → (payload : List ℕ) → Goal
+to_install false = ToLoad
+to_install true = ToVerify

@@ -31,12 +31,8 @@ impl HostFault {
     pub fn name(self) -> &'static str
         ensures { result.now ≡ host_fault_name self }
     {
-        match self {
-            HostFault::EmptyPayload => "EmptyPayload",
-            HostFault::WrongTarget => "WrongTarget",
-            HostFault::CannotDownload => "CannotDownload",
-            HostFault::CannotUpload => "CannotUpload",
-            HostFault::BadDescriptor => "BadDescriptor",
-        }
+        dfu_wire::variant_name!(self, HostFault:
+            EmptyPayload, WrongTarget, CannotDownload, CannotUpload, BadDescriptor
+        )
     }
 }

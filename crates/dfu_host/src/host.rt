@@ -8,7 +8,7 @@ use crate::goal::Goal;
 use crate::limits::Limits;
 use crate::memory::Memory;
 use crate::phase::Phase;
-use crate::refusing::{gives_uploads, goal_to_load, goal_to_verify};
+use crate::refusing::{gives_uploads, goal_to_install};
 use crate::seen::Seen;
 use crate::session::Session;
 use dfu_suffix::File;
@@ -65,7 +65,7 @@ impl<'f> Host<'f> {
         ensures refused { (fault : HostFault) → (result ≡ Err fault) ↔ (first_download_fault file.now functional.now device ≡ Some fault) }
         ensures started { IfOk result (λ h. h ≡ started functional.now (ToLoad file.now.payload) limits) }
     {
-        let goal = goal_to_load(file, functional, device)?;
+        let goal = goal_to_install(file, functional, device, false)?;
         let session = Session::begin(goal, functional, limits);
         let memory = Memory::Nothing;
         Ok(Host { session, memory })
@@ -93,7 +93,7 @@ impl<'f> Host<'f> {
         ensures refused { (fault : HostFault) → (result ≡ Err fault) ↔ (first_verify_fault file.now functional.now device ≡ Some fault) }
         ensures started { IfOk result (λ h. h ≡ started functional.now (ToVerify file.now.payload) limits) }
     {
-        let goal = goal_to_verify(file, functional, device)?;
+        let goal = goal_to_install(file, functional, device, true)?;
         let session = Session::begin(goal, functional, limits);
         let memory = Memory::Nothing;
         Ok(Host { session, memory })

@@ -1,9 +1,8 @@
 //! The refusals that several sessions share.
 
 ghost use Rattle.std.specs.Prelude.{◌≡◌, ◌<◌, IfErr, IfOk, None, Some, find, length};
-ghost use Rattle.dfu_host.specs.Download.{first_download_fault, first_verify_fault, payload_faults, refuses_download};
+ghost use Rattle.dfu_host.specs.Download.{first_install_fault, payload_faults, refuses_download, to_install};
 ghost use Rattle.dfu_host.specs.Goals.{goal_of, size_of};
-ghost use Rattle.dfu_host.specs.Phases.{ToLoad, ToVerify};
 ghost use Rattle.dfu_host.specs.Uploading.{first_upload_fault};
 
 use crate::fault::HostFault;
@@ -12,36 +11,27 @@ use crate::target::is_for;
 use dfu_suffix::File;
 use dfu_wire::{Functional, Ids};
 
-/// The goal of a session that installs a file.
-pub(crate) fn goal_to_load<'f>(
+/// The goal of a session that installs a file, and if `compares` is set compares it too.
+pub(crate) fn goal_to_install<'f>(
     file: &File<'f>,
     functional: &Functional,
     device: Ids,
+    compares: bool,
 ) -> Result<Goal<'f>, HostFault>
-    ensures err { IfErr result (λ fault. first_download_fault file.now functional.now device ≡ Some fault) }
-    ensures ok { IfOk result (λ goal. first_download_fault file.now functional.now device ≡ None) }
-    ensures goal { IfOk result (λ goal. (goal_of goal ≡ ToLoad file.now.payload) × (0 < size_of goal) × (0 < functional.now.transfer)) }
+    ensures err { IfErr result (λ fault. first_install_fault compares file.now functional.now device ≡ Some fault) }
+    ensures ok { IfOk result (λ goal. first_install_fault compares file.now functional.now device ≡ None) }
+    ensures goal { IfOk result (λ goal. (goal_of goal ≡ to_install compares file.now.payload) × (0 < size_of goal)
+        × (0 < functional.now.transfer)) }
 {
     let payload = payload_for(file, functional, device)?;
+    if compares {
+        gives_uploads(functional)?;
+        return Ok(Goal::Verify(payload));
+    }
     if functional.transfer == 0 {
         return Err(HostFault::BadDescriptor);
     }
     Ok(Goal::Load(payload))
-}
-
-/// The goal of a session that installs a file and compares it.
-pub(crate) fn goal_to_verify<'f>(
-    file: &File<'f>,
-    functional: &Functional,
-    device: Ids,
-) -> Result<Goal<'f>, HostFault>
-    ensures err { IfErr result (λ fault. first_verify_fault file.now functional.now device ≡ Some fault) }
-    ensures ok { IfOk result (λ goal. first_verify_fault file.now functional.now device ≡ None) }
-    ensures goal { IfOk result (λ goal. (goal_of goal ≡ ToVerify file.now.payload) × (0 < size_of goal) × (0 < functional.now.transfer)) }
-{
-    let payload = payload_for(file, functional, device)?;
-    gives_uploads(functional)?;
-    Ok(Goal::Verify(payload))
 }
 
 /// The payload of a file that a device takes.

@@ -46,18 +46,10 @@ impl Report {
     pub fn name(self) -> &'static str
         ensures { result.now ≡ report_name self }
     {
-        match self {
-            Report::Installed => "installed",
-            Report::Unconfirmed => "unconfirmed",
-            Report::Aborted => "aborted",
-            Report::GaveUp => "gave-up",
-            Report::Refused(_) => "refused",
-            Report::RestartsSpent => "restarts-spent",
-            Report::Uploaded => "uploaded",
-            Report::TooManyBlocks => "too-many-blocks",
-            Report::NoMemory => "no-memory",
-            Report::Verified => "verified",
-            Report::Different => "different",
-        }
+        dfu_wire::variant_name!(self, Report:
+            Installed "installed", Unconfirmed "unconfirmed", Aborted "aborted", GaveUp "gave-up",
+            Refused(_) "refused", RestartsSpent "restarts-spent", Uploaded "uploaded",
+            TooManyBlocks "too-many-blocks", NoMemory "no-memory", Verified "verified", Different "different"
+        )
     }
 }

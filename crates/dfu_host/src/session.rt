@@ -11,7 +11,7 @@ use crate::part::UploadPart;
 use crate::parts::Parts;
 use crate::phase::Phase;
 use crate::progress::{Progress, beginning};
-use crate::refusing::{gives_uploads, goal_to_load, goal_to_verify};
+use crate::refusing::{gives_uploads, goal_to_install};
 use crate::seen::Seen;
 use crate::task::Task;
 use dfu_suffix::File;
@@ -66,7 +66,7 @@ impl<'f> Session<'f> {
         ensures started { IfOk result (λ s. (memory : List ℕ)
             → host_of memory s ≡ started functional.now (ToLoad file.now.payload) limits) }
     {
-        let goal = goal_to_load(file, functional, device)?;
+        let goal = goal_to_install(file, functional, device, false)?;
         Ok(Session::begin(goal, functional, limits))
     }
 
@@ -82,7 +82,7 @@ impl<'f> Session<'f> {
         ensures started { IfOk result (λ s. (memory : List ℕ)
             → host_of memory s ≡ started functional.now (ToVerify file.now.payload) limits) }
     {
-        let goal = goal_to_verify(file, functional, device)?;
+        let goal = goal_to_install(file, functional, device, true)?;
         Ok(Session::begin(goal, functional, limits))
     }
 

@@ -1,12 +1,13 @@
 //! The calls that begin a session.
 
-ghost use Rattle.std.specs.Prelude.{◌≡◌, ◌⊎◌, IfErr, IfOk, List, pos, ℕ};
+ghost use Rattle.std.specs.Prelude.{◌≡◌, ◌⊎◌, ◌↔◌, Err, IfErr, IfOk, List, Some, pos, ℕ};
 ghost use Rattle.dfu_wire.specs.Functional.{IsFunctional};
-ghost use Rattle.dfu_host.specs.Download.{first_download_fault, first_verify_fault};
-ghost use Rattle.dfu_host.specs.Host.{HostState};
+ghost use Rattle.dfu_host.specs.Download.{first_download_fault, first_install_fault, first_verify_fault, to_install};
+ghost use Rattle.dfu_host.specs.Host.{HostState, started};
 ghost use Rattle.dfu_host.specs.InParts.{host_of};
 ghost use Rattle.dfu_host.specs.Phases.{ToFetch, ToLoad, ToVerify};
 ghost use Rattle.dfu_host.specs.Uploading.{first_upload_fault};
+ghost use Rattle.dfu_host.specs.declared.fault.HostFault.{HostFault};
 ghost use Rattle.dfu_host_c.specs.Beginning.{BeginsSession, BeginsUpload, HasBegunAs, HostRefuses, IsContent, IsNoDescriptor, IsUnread, RefusesUpload};
 ghost use Rattle.dfu_host_c.specs.Sessions.{ids_of, limits_of};
 
@@ -15,9 +16,9 @@ use crate::holding::record_of;
 use crate::ids::DfuIds;
 use crate::refusals::Refusal;
 use crate::session::DfuSession;
-use dfu_host::{Limits, Session};
+use dfu_host::{HostFault, Limits, Session};
 use dfu_suffix::File;
-use dfu_wire::Functional;
+use dfu_wire::{Functional, Ids};
 
 /// A file and a descriptor that were read.
 #[derive(Drop)]
@@ -51,6 +52,48 @@ fn start(session: &mut DfuSession, host: &Session<'_>) -> i32
     0
 }
 
+impl<'f> Wanted<'f> {
+    ghost use Rattle.dfu_host.specs.declared.fault.HostFault.{HostFault};
+
+    /// A host's session that installs the file, and if `compares` is set compares it too.
+    fn begin(&self, device: Ids, limits: Limits, compares: bool) -> Result<Session<'f>, HostFault>
+        ensures refused { (fault : HostFault)
+            → (result ≡ Err fault) ↔ (first_install_fault compares self.now.file self.now.functional device ≡ Some fault) }
+        ensures started { IfOk result (λ s. (memory : List ℕ)
+            → host_of memory s ≡ started self.now.functional (to_install compares self.now.file.payload) limits) }
+    {
+        if compares {
+            Session::download_verified(&self.file, &self.functional, device, limits)
+        } else {
+            Session::download(&self.file, &self.functional, device, limits)
+        }
+    }
+}
+
+/// Begins a session that installs a file, and if `compares` is set compares it too: 0 or a refusal.
+fn install(
+    session: &mut DfuSession,
+    file: &[u8],
+    descriptor: &[u8],
+    device: Ids,
+    limits: Limits,
+    compares: bool,
+) -> i32
+    ensures outcome { BeginsSession (to_install compares) (first_install_fault compares) file.now descriptor.now device limits
+        result session.new
+        ⊎ (IsUnread file.now descriptor.now result × (session.new ≡ session.old))
+        ⊎ (HostRefuses (first_install_fault compares) file.now descriptor.now device result × (session.new ≡ session.old)) }
+{
+    let wanted = match read_both(file, descriptor) {
+        Ok(wanted) => wanted,
+        Err(refusal) => return refusal,
+    };
+    match wanted.begin(device, limits, compares) {
+        Ok(host) => start(session, &host),
+        Err(fault) => Refusal::Host(fault).number(),
+    }
+}
+
 /// Begins a download: 0 or a refusal.
 #[unsafe(no_mangle)]
 pub extern "C" fn dfu_host_download(
@@ -67,14 +110,7 @@ pub extern "C" fn dfu_host_download(
         ⊎ (HostRefuses first_download_fault file.now descriptor.now (ids_of device.now) result × (session.new ≡ session.old)) }
 {
     let limits = Limits { actions, restarts };
-    let Wanted { file, functional } = match read_both(file, descriptor) {
-        Ok(wanted) => wanted,
-        Err(refusal) => return refusal,
-    };
-    match Session::download(&file, &functional, device.ids(), limits) {
-        Ok(host) => start(session, &host),
-        Err(fault) => Refusal::Host(fault).number(),
-    }
+    install(session, file, descriptor, device.ids(), limits, false)
 }
 
 /// Begins a download that is verified: 0 or a refusal.
@@ -93,14 +129,7 @@ pub extern "C" fn dfu_host_verified(
         ⊎ (HostRefuses first_verify_fault file.now descriptor.now (ids_of device.now) result × (session.new ≡ session.old)) }
 {
     let limits = Limits { actions, restarts };
-    let Wanted { file, functional } = match read_both(file, descriptor) {
-        Ok(wanted) => wanted,
-        Err(refusal) => return refusal,
-    };
-    match Session::download_verified(&file, &functional, device.ids(), limits) {
-        Ok(host) => start(session, &host),
-        Err(fault) => Refusal::Host(fault).number(),
-    }
+    install(session, file, descriptor, device.ids(), limits, true)
 }
 
 /// Begins an upload: 0 or a refusal.

@@ -1,7 +1,6 @@
 //! The host of DfuSe for C, and memory maps: `include/dfuse_host.h` describes these calls. DfuSe files: `include/dfuse_file.h` does.
 
 mod action;
-mod beginning;
 mod file;
 mod file_image;
 mod holding;
@@ -9,7 +8,6 @@ mod map;
 mod phases;
 mod plan;
 mod reports;
-mod seen;
 mod session;
 mod steps;
 mod watch;

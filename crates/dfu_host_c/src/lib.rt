@@ -19,6 +19,7 @@ mod reports;
 mod seen;
 mod session;
 mod steps;
+mod tables;
 mod version;
 mod watch;
 mod watching;

@@ -2,22 +2,37 @@
 
 ghost use Rattle.std.specs.Prelude.{◌≡◌};
 ghost use Rattle.dfu_host_c.specs.Told.{seen_at};
+ghost use Rattle.dfu_host_c.specs.dfuse.Told.{dfuse_seen_at};
 
 use dfu_host::Seen;
+use dfuse_host::Seen as DfuseSeen;
+
+/// What is seen, by its number: what both hosts see, and what only this one does. None if there is no such number.
+macro_rules! numbered {
+    ($kind:ident, $number:ident, $bytes:ident $(, $own:literal => $name:ident)*) => {
+        match $number {
+            0 => Some($kind::Ack),
+            1 => Some($kind::Bytes($bytes)),
+            2 => Some($kind::Stall),
+            3 => Some($kind::Nothing),
+            4 => Some($kind::Waited),
+            6 => Some($kind::Restarted),
+            $($own => Some($kind::$name),)*
+            _ => None,
+        }
+    };
+}
 
 /// What is seen, by its number, 0 to 7. Number 1 has these bytes. None if the number is over 7.
 pub(crate) fn seen_at<'s>(number: u32, bytes: &'s [u8]) -> Option<Seen<'s>>
     ensures { result ≡ seen_at number bytes.entry }
 {
-    match number {
-        0 => Some(Seen::Ack),
-        1 => Some(Seen::Bytes(bytes)),
-        2 => Some(Seen::Stall),
-        3 => Some(Seen::Nothing),
-        4 => Some(Seen::Waited),
-        5 => Some(Seen::WasReset),
-        6 => Some(Seen::Restarted),
-        7 => Some(Seen::Left),
-        _ => None,
-    }
+    numbered!(Seen, number, bytes, 5 => WasReset, 7 => Left)
+}
+
+/// What the host of DfuSe sees, by its number. Number 1 has these bytes. None if there is no such number.
+pub(crate) fn dfuse_seen_at<'s>(number: u32, bytes: &'s [u8]) -> Option<DfuseSeen<'s>>
+    ensures { result ≡ dfuse_seen_at number bytes.entry }
+{
+    numbered!(DfuseSeen, number, bytes)
 }

@@ -1,9 +1,9 @@
 -- Lines, or parts of one size, are read one after the other.
-use Rattle.std.proofs.Common.{◌≡◌, ℕ, suc, take, drop, ◌+◌, Bool, true, false, List, [], ◌∷◌, refl, sym, ap, ◌∙◌, subst, Result, Ok, Err}
+use Rattle.std.proofs.Common.{◌≡◌, ℕ, suc, take, drop, ◌+◌, true, false, List, [], ◌∷◌, refl, sym, ap, ◌∙◌, subst, Result, Ok, Err}
 use Rattle.dfu_images.specs.declared.fault.ImageFault.{ImageFault}
 use Rattle.dfu_images.specs.declared.fault.ImageFault.TheVariants as fault
 use Rattle.dfu_images.specs.Reading.{◌>>=◌, parts_read, FailsToRead}
-use Rattle.dfu_images.specs.Lines.{bare, lines_read}
+use Rattle.dfu_images.specs.Lines.{State, bare, lines_read}
 
 -- A step that failed fails all.
 pub fails_then : {A B : Type 0} (fault : ImageFault) (r : Result A ImageFault) (f : A → Result B ImageFault) → FailsToRead fault r →
@@ -11,39 +11,39 @@ pub fails_then : {A B : Type 0} (fault : ImageFault) (r : Result A ImageFault) (
 fails_then fault.NoMemory r f h = tt
 fails_then fault r f h = rw h refl
 
-first_line : {S : Type 0} (is : S → Bool) (read : ℕ → S → List ℕ → Result S ImageFault) (at : ℕ) (s : S) (line : List ℕ) (more : List (List ℕ)) →
-    lines_read is read at s (line ∷ more) ≡ (read at s (bare line) >>= λ (t : S). lines_read is read (at + 1) t more)
+first_line : (read : ℕ → State → List ℕ → Result State ImageFault) (at : ℕ) (s : State) (line : List ℕ) (more : List (List ℕ)) →
+    lines_read read at s (line ∷ more) ≡ (read at s (bare line) >>= λ (t : State). lines_read read (at + 1) t more)
 unfolding lines_read
-first_line is read at s line more = refl
+first_line read at s line more = refl
 
 -- A line was read: what is left is what comes of the others.
-pub line_done : {S : Type 0} (is : S → Bool) (read : ℕ → S → List ℕ → Result S ImageFault) (at : ℕ) (s t : S) (line kept : List ℕ) (more all : List (List ℕ)) (whole : Result S ImageFault) → all ≡ line ∷ more →
-    kept ≡ bare line → read at s kept ≡ Ok t → lines_read is read at s all ≡ whole → lines_read is read (at + 1) t more ≡ whole
-line_done {S = S} is read at s t line kept more all whole e k h so_far =
-    sym (ap (lines_read is read at s) e ∙ (first_line is read at s line more ∙ ap (λ (r : Result S ImageFault). r >>= λ (t : S). lines_read is read (at + 1) t more) (ap (read at s) (sym k) ∙ h))) ∙ so_far
+pub line_done : (read : ℕ → State → List ℕ → Result State ImageFault) (at : ℕ) (s t : State) (line kept : List ℕ) (more all : List (List ℕ)) (whole : Result State ImageFault) → all ≡ line ∷ more →
+    kept ≡ bare line → read at s kept ≡ Ok t → lines_read read at s all ≡ whole → lines_read read (at + 1) t more ≡ whole
+line_done read at s t line kept more all whole e k h so_far =
+    sym (ap (lines_read read at s) e ∙ (first_line read at s line more ∙ ap (λ (r : Result State ImageFault). r >>= λ (t : State). lines_read read (at + 1) t more) (ap (read at s) (sym k) ∙ h))) ∙ so_far
 
 -- The fault of a line is the fault of all.
-pub line_fault : {S : Type 0} (is : S → Bool) (read : ℕ → S → List ℕ → Result S ImageFault) (fault : ImageFault) (at : ℕ) (s : S) (line kept : List ℕ) (more all : List (List ℕ)) (whole : Result S ImageFault) → all ≡ line ∷ more →
-    kept ≡ bare line → FailsToRead fault (read at s kept) → lines_read is read at s all ≡ whole → FailsToRead fault whole
-line_fault {S = S} is read fault at s line kept more all whole e k h so_far =
-    let f = fails_then fault (read at s (bare line)) (λ (t : S). lines_read is read (at + 1) t more)
+pub line_fault : (read : ℕ → State → List ℕ → Result State ImageFault) (fault : ImageFault) (at : ℕ) (s : State) (line kept : List ℕ) (more all : List (List ℕ)) (whole : Result State ImageFault) → all ≡ line ∷ more →
+    kept ≡ bare line → FailsToRead fault (read at s kept) → lines_read read at s all ≡ whole → FailsToRead fault whole
+line_fault read fault at s line kept more all whole e k h so_far =
+    let f = fails_then fault (read at s (bare line)) (λ (t : State). lines_read read (at + 1) t more)
     (subst (λ (kept : List ℕ). FailsToRead fault (read at s kept)) k h) in
-    subst (FailsToRead fault) (sym (first_line is read at s line more) ∙ (sym (ap (lines_read is read at s) e) ∙ so_far)) f
+    subst (FailsToRead fault) (sym (first_line read at s line more) ∙ (sym (ap (lines_read read at s) e) ∙ so_far)) f
 
-none_left : {S : Type 0} (is : S → Bool) (read : ℕ → S → List ℕ → Result S ImageFault) (at : ℕ) (s : S) → is s ≡ true → lines_read is read at s [] ≡ Ok s
+none_left : (read : ℕ → State → List ℕ → Result State ImageFault) (at : ℕ) (s : State) → s.is_whole ≡ true → lines_read read at s [] ≡ Ok s
 unfolding lines_read
-none_left is read at s h = rw h refl
+none_left read at s h = rw h refl
 
-no_end : {S : Type 0} (is : S → Bool) (read : ℕ → S → List ℕ → Result S ImageFault) (at : ℕ) (s : S) → is s ≡ false → lines_read is read at s [] ≡ Err fault.NoEnd
+no_end : (read : ℕ → State → List ℕ → Result State ImageFault) (at : ℕ) (s : State) → s.is_whole ≡ false → lines_read read at s [] ≡ Err fault.NoEnd
 unfolding lines_read
-no_end is read at s h = rw h refl
+no_end read at s h = rw h refl
 
 -- Behind the last line, the end record was read, or not.
-pub all_done : {S : Type 0} (is : S → Bool) (read : ℕ → S → List ℕ → Result S ImageFault) (at : ℕ) (s : S) (whole : Result S ImageFault) → is s ≡ true → lines_read is read at s [] ≡ whole → whole ≡ Ok s
-all_done is read at s whole h so_far = sym so_far ∙ none_left is read at s h
+pub all_done : (read : ℕ → State → List ℕ → Result State ImageFault) (at : ℕ) (s : State) (whole : Result State ImageFault) → s.is_whole ≡ true → lines_read read at s [] ≡ whole → whole ≡ Ok s
+all_done read at s whole h so_far = sym so_far ∙ none_left read at s h
 
-pub end_missing : {S : Type 0} (is : S → Bool) (read : ℕ → S → List ℕ → Result S ImageFault) (at : ℕ) (s : S) (whole : Result S ImageFault) → is s ≡ false → lines_read is read at s [] ≡ whole → whole ≡ Err fault.NoEnd
-end_missing is read at s whole h so_far = sym so_far ∙ no_end is read at s h
+pub end_missing : (read : ℕ → State → List ℕ → Result State ImageFault) (at : ℕ) (s : State) (whole : Result State ImageFault) → s.is_whole ≡ false → lines_read read at s [] ≡ whole → whole ≡ Err fault.NoEnd
+end_missing read at s whole h so_far = sym so_far ∙ no_end read at s h
 
 next_part : {S : Type 0} (size : ℕ) (read : ℕ → S → List ℕ → Result S ImageFault) (n index : ℕ) (s : S) (bytes : List ℕ) →
     parts_read size read (suc n) index s bytes ≡ (read index s (take size bytes) >>= λ (t : S). parts_read size read n (index + 1) t (drop size bytes))

@@ -2,9 +2,8 @@
 use Rattle.std.specs.Prelude.{ℕ, ◌+◌, ◌/◌, ◌%◌, ◌^◌, ◌==◌, ◌&&◌, ◌||◌, not, nat_lt, Bool, if◌then◌else◌, List, length, take, drop, Result, Ok, Err}
 use Rattle.dfu_images.specs.declared.fault.ImageFault.{ImageFault}
 use Rattle.dfu_images.specs.declared.fault.ImageFault.TheVariants.{BadSize, BadMagic, BadBlock, BadNumber, FileContainer, OtherFamily, PastTheEnd}
-use Rattle.dfu_images.specs.Reading.{◌>>=◌, parts_read}
 use Rattle.dfu_images.specs.Numbers.{le32}
-use Rattle.dfu_images.specs.Elements.{Piece, Gathering, nothing, added, gathered}
+use Rattle.dfu_images.specs.Elements.{Piece, Gathering, added, elements_by_part}
 
 -- The three marks of a block.
 abbrev pub is_uf2_block : List ℕ → Bool
@@ -39,4 +38,4 @@ block_read total family index g block =
 unfoldable pub uf2_elements_of : List ℕ → Result (List Piece) ImageFault
 uf2_elements_of file =
     if (length file == 0) || not (length file % 512 == 0) then Err BadSize
-    else parts_read 512 (block_read (length file / 512) (family_of (take 512 file))) (length file / 512) 0 nothing file >>= gathered
+    else elements_by_part 512 (block_read (length file / 512) (family_of (take 512 file))) (length file / 512) file

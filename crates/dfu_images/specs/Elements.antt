@@ -4,7 +4,7 @@ use Rattle.dfu_images.specs.declared.fault.ImageFault.{ImageFault}
 use Rattle.dfu_images.specs.declared.fault.ImageFault.TheVariants.{TooLarge, TooManyElements, Overlaps}
 use Rattle.std.specs.List.{insert}
 use Rattle.std.specs.declared.alloc.Global.{Global}
-use Rattle.dfu_images.specs.Reading.{FailsToRead}
+use Rattle.dfu_images.specs.Reading.{◌>>=◌, parts_read, FailsToRead}
 
 -- Bytes, and the address of the first.
 pub record Piece : Type 0 where
@@ -74,6 +74,11 @@ unless_shared all (Some address) = Err (Overlaps address)
 -- The elements of all that was gathered, no two of which share an address.
 unfoldable pub gathered : Gathering → Result (List Piece) ImageFault
 gathered g = let all = completed g.complete g.growing in unless_shared all (shared 0 all)
+
+-- The elements that so many parts of this size have, or their first fault.
+abbrev pub elements_by_part : (size : ℕ) → (read : ℕ → Gathering → List ℕ → Result Gathering ImageFault) → (total : ℕ) → List ℕ →
+    Result (List Piece) ImageFault
+elements_by_part size read total bytes = parts_read size read total 0 nothing bytes >>= gathered
 
 -- Elements by address, each of which begins at this one or after it, and at the end of the one before or after that.
 unfoldable pub AreApart : (from : ℕ) → List Piece → Type 0

@@ -2,9 +2,8 @@
 use Rattle.std.specs.Prelude.{ℕ, ◌+◌, ◌*◌, ◌^◌, ◌==◌, ◌&&◌, not, nat_lt, Bool, if◌then◌else◌, List, length, take, drop, slice_index, Result, Ok, Err}
 use Rattle.dfu_images.specs.declared.fault.ImageFault.{ImageFault}
 use Rattle.dfu_images.specs.declared.fault.ImageFault.TheVariants.{NotElf, CutHeader, CutSegment, PastTheEnd}
-use Rattle.dfu_images.specs.Reading.{◌>>=◌, parts_read}
 use Rattle.dfu_images.specs.Numbers.{le16, le32}
-use Rattle.dfu_images.specs.Elements.{Piece, Gathering, nothing, added, gathered}
+use Rattle.dfu_images.specs.Elements.{Piece, Gathering, nothing, added, gathered, elements_by_part}
 
 -- The header of 52 bytes, its mark, and 1 each for 32 bits, little endian and the version.
 abbrev pub is_elf : List ℕ → Bool
@@ -30,4 +29,4 @@ elf_elements_of file =
     if not (is_elf file) then Err NotElf
     else if le16 file 44 == 0 then gathered nothing
     else if not (has_headers file) then Err CutHeader
-    else parts_read 32 (segment_read file) (le16 file 44) 0 nothing (drop (le32 file 28) file) >>= gathered
+    else elements_by_part 32 (segment_read file) (le16 file 44) (drop (le32 file 28) file)

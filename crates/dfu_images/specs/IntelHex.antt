@@ -1,11 +1,11 @@
 -- How a file of Intel HEX is read, line by line, with the fault of each.
-use Rattle.std.specs.Prelude.{ℕ, ◌+◌, ◌*◌, ◌%◌, ◌^◌, ◌==◌, ◌||◌, not, nat_lt, Bool, true, false, if◌then◌else◌, List, [], ◌∷◌, length, take, drop, slice_index, sum, Result, Ok, Err}
+use Rattle.std.specs.Prelude.{ℕ, ◌+◌, ◌*◌, ◌%◌, ◌^◌, ◌==◌, ◌||◌, not, nat_lt, true, if◌then◌else◌, List, [], ◌∷◌, length, take, drop, slice_index, sum, Result, Ok, Err}
 use Rattle.dfu_images.specs.declared.fault.ImageFault.{ImageFault}
-use Rattle.dfu_images.specs.declared.fault.ImageFault.TheVariants.{NoMark, BadLength, BadChecksum, BadType, PastSegment, Trailing}
+use Rattle.dfu_images.specs.declared.fault.ImageFault.TheVariants.{NoMark, BadLength, BadChecksum, BadType, PastSegment}
 use Rattle.dfu_images.specs.Reading.{◌>>=◌}
 use Rattle.dfu_images.specs.Digits.{bytes_at}
-use Rattle.dfu_images.specs.Lines.{lines, lines_read}
-use Rattle.dfu_images.specs.Elements.{Piece, Gathering, nothing, added, gathered}
+use Rattle.dfu_images.specs.Lines.{State, elements_by_line}
+use Rattle.dfu_images.specs.Elements.{Piece, added}
 
 -- The bytes of a record: `:`, and two digits for each.
 unfoldable pub hex_spelled : (at : ℕ) → List ℕ → Result (List ℕ) ImageFault
@@ -29,54 +29,33 @@ hex_framed at bytes =
       content = take (slice_index bytes 0) (drop 4 bytes);
     })
 
--- What was read up to a line: the elements, the base of addresses, and whether the end record was read.
-pub record HexState : Type 0 where
-  pub gathering : Gathering
-  pub base : ℕ
-  pub is_ended : Bool
-
 -- Data at an offset from the base, which ends by the last address of 32 bits.
-unfoldable pub hex_data_at : (at : ℕ) → HexState → HexRecord → Result HexState ImageFault
+unfoldable pub hex_data_at : (at : ℕ) → State → HexRecord → Result State ImageFault
 hex_data_at at s r =
     if nat_lt (2 ^ 32) (s.base + r.offset + length r.content) then Err (PastSegment at)
-    else added at s.gathering (record { address = s.base + r.offset; bytes = r.content }) >>= λ g. Ok (record { gathering = g; base = s.base; is_ended = s.is_ended })
+    else added at s.gathering (record { address = s.base + r.offset; bytes = r.content }) >>= λ g. Ok (record s { gathering = g })
 
 -- A new base: two bytes, in units of so many addresses.
-unfoldable pub based : (at unit : ℕ) → HexState → HexRecord → Result HexState ImageFault
+unfoldable pub based : (at unit : ℕ) → State → HexRecord → Result State ImageFault
 based at unit s r =
-    if length r.content == 2 then Ok (record {
-      gathering = s.gathering;
-      base = unit * (256 * slice_index r.content 0 + slice_index r.content 1);
-      is_ended = s.is_ended;
-    })
+    if length r.content == 2 then Ok (record s { base = unit * (256 * slice_index r.content 0 + slice_index r.content 1) })
     else Err (BadLength at)
 
 -- What a record says: 0 data, 1 the end, 2 a segment in paragraphs of 16, 4 the upper half of addresses, 3 and 5 where a program begins.
-unfoldable pub hex_meant : (at : ℕ) → HexState → HexRecord → Result HexState ImageFault
+unfoldable pub hex_meant : (at : ℕ) → State → HexRecord → Result State ImageFault
 hex_meant at s r =
     if r.kind == 0 then hex_data_at at s r
     else if r.kind == 1 then
-    if length r.content == 0 then Ok (record { gathering = s.gathering; base = s.base; is_ended = true }) else Err (BadLength at)
+    if length r.content == 0 then Ok (record s { is_whole = true; is_ended = true }) else Err (BadLength at)
     else if r.kind == 2 then based at 16 s r
     else if r.kind == 4 then based at 65536 s r
     else if (r.kind == 3) || (r.kind == 5) then if length r.content == 4 then Ok s else Err (BadLength at)
     else Err (BadType at)
 
--- A line: a record, or nothing. After the end record there is nothing.
-unfoldable pub hex_line_read : (at : ℕ) → HexState → List ℕ → Result HexState ImageFault
-hex_line_read at s line =
-    if length line == 0 then Ok s
-    else if s.is_ended then Err (Trailing at)
-    else hex_spelled at line >>= hex_framed at >>= hex_meant at s
-
--- Before the first line.
-abbrev pub hex_start : HexState
-hex_start = record { gathering = nothing; base = 0; is_ended = false }
-
--- The end record was read.
-abbrev pub is_ended : HexState → Bool
-is_ended s = s.is_ended
+-- The record on a line.
+unfoldable pub hex_record_read : (at : ℕ) → State → List ℕ → Result State ImageFault
+hex_record_read at s line = hex_spelled at line >>= hex_framed at >>= hex_meant at s
 
 -- The elements that a file has, or its first fault.
 unfoldable pub hex_elements_of : List ℕ → Result (List Piece) ImageFault
-hex_elements_of text = lines_read is_ended hex_line_read 1 hex_start (lines text) >>= λ s. gathered s.gathering
+hex_elements_of = elements_by_line hex_record_read

@@ -1,8 +1,9 @@
 -- The lines of a text.
-use Rattle.std.specs.Prelude.{ℕ, ◌+◌, ◌-◌, ◌==◌, if◌then◌else◌, List, [], ◌∷◌, length, take, slice_index, Bool, Result, Ok, Err}
+use Rattle.std.specs.Prelude.{ℕ, ◌+◌, ◌-◌, ◌==◌, if◌then◌else◌, List, [], ◌∷◌, length, take, slice_index, Bool, false, Result, Ok, Err}
 use Rattle.dfu_images.specs.declared.fault.ImageFault.{ImageFault}
-use Rattle.dfu_images.specs.declared.fault.ImageFault.TheVariants.{NoEnd}
+use Rattle.dfu_images.specs.declared.fault.ImageFault.TheVariants.{Trailing, NoEnd}
 use Rattle.dfu_images.specs.Reading.{◌>>=◌}
+use Rattle.dfu_images.specs.Elements.{Piece, Gathering, nothing, gathered}
 
 -- A byte before the first line.
 abbrev pub before_lines : ℕ → List (List ℕ) → List (List ℕ)
@@ -22,8 +23,33 @@ is_feed b = b == 10
 unfoldable pub bare : List ℕ → List ℕ
 bare line = if slice_index line (length line - 1) == 13 then take (length line - 1) line else line
 
--- Lines, the first of which has this number, are read one after the other, up to the end record and what may follow it.
-unfoldable pub lines_read : {S : Type 0} → (is_ended : S → Bool) → (read : ℕ → S → List ℕ → Result S ImageFault) → (at : ℕ) → S → List (List ℕ) →
-    Result S ImageFault
-lines_read is_ended read at s [] = if is_ended s then Ok s else Err NoEnd
-lines_read is_ended read at s (line ∷ more) = read at s (bare line) >>= λ t. lines_read is_ended read (at + 1) t more
+-- What was read up to a line: the elements, what Intel HEX counts offsets from, how many S-records of data there were, whether the text
+-- may end here, and whether it ended.
+pub record State : Type 0 where
+  pub gathering : Gathering
+  pub base : ℕ
+  pub count : ℕ
+  pub is_whole : Bool
+  pub is_ended : Bool
+
+-- Before the first line.
+abbrev pub text_start : State
+text_start = record { gathering = nothing; base = 0; count = 0; is_whole = false; is_ended = false }
+
+-- A line: a record, or nothing. After the end there is nothing.
+unfoldable pub line_read : (record_read : ℕ → State → List ℕ → Result State ImageFault) → (at : ℕ) → State → List ℕ →
+    Result State ImageFault
+line_read record_read at s line =
+    if length line == 0 then Ok s
+    else if s.is_ended then Err (Trailing at)
+    else record_read at s line
+
+-- Lines, the first of which has this number, are read one after the other, up to a place at which the text may end.
+unfoldable pub lines_read : (read : ℕ → State → List ℕ → Result State ImageFault) → (at : ℕ) → State → List (List ℕ) →
+    Result State ImageFault
+lines_read read at s [] = if s.is_whole then Ok s else Err NoEnd
+lines_read read at s (line ∷ more) = read at s (bare line) >>= λ t. lines_read read (at + 1) t more
+
+-- The elements that a text has, or its first fault.
+abbrev pub elements_by_line : (record_read : ℕ → State → List ℕ → Result State ImageFault) → List ℕ → Result (List Piece) ImageFault
+elements_by_line record_read text = lines_read (line_read record_read) 1 text_start (lines text) >>= λ s. gathered s.gathering

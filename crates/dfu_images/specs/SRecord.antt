@@ -1,11 +1,11 @@
 -- How a file of S-records is read, line by line, with the fault of each.
-use Rattle.std.specs.Prelude.{ℕ, ◌+◌, ◌-◌, ◌*◌, ◌^◌, ◌%◌, ◌==◌, ◌&&◌, ◌||◌, not, nat_lt, nat_le, Bool, true, false, if◌then◌else◌, List, [], ◌∷◌, length, take, drop, slice_index, sum, fold, Result, Ok, Err}
+use Rattle.std.specs.Prelude.{ℕ, ◌+◌, ◌-◌, ◌*◌, ◌^◌, ◌%◌, ◌==◌, ◌&&◌, ◌||◌, not, nat_lt, nat_le, true, false, if◌then◌else◌, List, [], ◌∷◌, length, take, drop, slice_index, sum, fold, Result, Ok, Err}
 use Rattle.dfu_images.specs.declared.fault.ImageFault.{ImageFault}
-use Rattle.dfu_images.specs.declared.fault.ImageFault.TheVariants.{NoMark, BadLength, BadChecksum, BadType, BadCount, PastSegment, Trailing}
+use Rattle.dfu_images.specs.declared.fault.ImageFault.TheVariants.{NoMark, BadLength, BadChecksum, BadType, BadCount, PastSegment}
 use Rattle.dfu_images.specs.Reading.{◌>>=◌}
 use Rattle.dfu_images.specs.Digits.{bytes_at}
-use Rattle.dfu_images.specs.Lines.{lines, lines_read}
-use Rattle.dfu_images.specs.Elements.{Piece, Gathering, nothing, added, gathered}
+use Rattle.dfu_images.specs.Lines.{State, elements_by_line}
+use Rattle.dfu_images.specs.Elements.{Piece, added}
 
 -- The type of a record, and its bytes.
 pub record Typed : Type 0 where
@@ -48,52 +48,33 @@ srec_framed at t =
       content = take (length t.bytes - (width t.kind + 2)) (drop (width t.kind + 1) t.bytes);
     })
 
--- What was read up to a line: the elements, how many records of data, whether a count or an end record came after the last of them, and
--- whether the end record was read.
-pub record SRecordState : Type 0 where
-  pub gathering : Gathering
-  pub count : ℕ
-  pub is_whole : Bool
-  pub is_ended : Bool
-
 -- Data, which ends by the last address of 32 bits.
-unfoldable pub srec_data_at : (at : ℕ) → SRecordState → SRecordLine → Result SRecordState ImageFault
+unfoldable pub srec_data_at : (at : ℕ) → State → SRecordLine → Result State ImageFault
 srec_data_at at s r =
     if nat_lt (2 ^ 32) (r.address + length r.content) then Err (PastSegment at)
     else added at s.gathering (record { address = r.address; bytes = r.content })
-    >>= λ g. Ok (record { gathering = g; count = s.count + 1; is_whole = false; is_ended = s.is_ended })
+    >>= λ g. Ok (record s { gathering = g; count = s.count + 1; is_whole = false })
 
 -- The count of the records of data so far, or the end, each of which has no data.
-unfoldable pub srec_closed : (at : ℕ) → SRecordState → SRecordLine → Result SRecordState ImageFault
+unfoldable pub srec_closed : (at : ℕ) → State → SRecordLine → Result State ImageFault
 srec_closed at s r =
     if not (length r.content == 0) then Err (BadLength at)
-    else if nat_le 7 r.kind then Ok (record { gathering = s.gathering; count = s.count; is_whole = true; is_ended = true })
-    else if r.address == s.count then Ok (record { gathering = s.gathering; count = s.count; is_whole = true; is_ended = s.is_ended })
+    else if nat_le 7 r.kind then Ok (record s { is_whole = true; is_ended = true })
+    else if r.address == s.count then Ok (record s { is_whole = true })
     else Err (BadCount at)
 
 -- What a record says: 0 a title, 1 to 3 data, 5 and 6 a count, 7 to 9 the end.
-unfoldable pub srec_meant : (at : ℕ) → SRecordState → SRecordLine → Result SRecordState ImageFault
+unfoldable pub srec_meant : (at : ℕ) → State → SRecordLine → Result State ImageFault
 srec_meant at s r =
     if r.kind == 0 then Ok s
     else if nat_le r.kind 3 then srec_data_at at s r
     else if r.kind == 4 then Err (BadType at)
     else srec_closed at s r
 
--- A line: a record, or nothing. After the end record there is nothing.
-unfoldable pub srec_line_read : (at : ℕ) → SRecordState → List ℕ → Result SRecordState ImageFault
-srec_line_read at s line =
-    if length line == 0 then Ok s
-    else if s.is_ended then Err (Trailing at)
-    else srec_spelled at line >>= srec_framed at >>= srec_meant at s
-
--- Before the first line.
-abbrev pub srec_start : SRecordState
-srec_start = record { gathering = nothing; count = 0; is_whole = false; is_ended = false }
-
--- A count or an end record came after all data.
-abbrev pub is_whole : SRecordState → Bool
-is_whole s = s.is_whole
+-- The record on a line.
+unfoldable pub srec_record_read : (at : ℕ) → State → List ℕ → Result State ImageFault
+srec_record_read at s line = srec_spelled at line >>= srec_framed at >>= srec_meant at s
 
 -- The elements that a file has, or its first fault.
 unfoldable pub srec_elements_of : List ℕ → Result (List Piece) ImageFault
-srec_elements_of text = lines_read is_whole srec_line_read 1 srec_start (lines text) >>= λ s. gathered s.gathering
+srec_elements_of = elements_by_line srec_record_read

@@ -7,15 +7,13 @@
 ghost use Rattle.std.specs.Prelude.{◌≡◌, ◌+◌, ◌≤◌, ◌<◌, ◌^◌, length, IfOk, MatchResult, Ok, Err};
 ghost use Rattle.dfu_images.specs.Reading.{Gives, FailsToRead};
 ghost use Rattle.dfu_images.specs.Elements.{AreApart, Lists};
-ghost use Rattle.dfu_images.specs.Lines.{lines, lines_read};
-ghost use Rattle.dfu_images.specs.IntelHex.{hex_spelled, hex_framed, hex_start, hex_data_at, based, hex_meant, is_ended, hex_line_read, hex_elements_of};
+ghost use Rattle.dfu_images.specs.IntelHex.{hex_spelled, hex_framed, hex_data_at, based, hex_record_read, hex_elements_of};
 
 use crate::digits::{bytes_at, sum_of};
 use crate::element::Element;
 use crate::fault::ImageFault;
-use crate::gathering::Gathering;
 use crate::limits::MAX_RECORD;
-use crate::lines::{bare, take_line};
+use crate::lines::{State, TextFormat, elements_by_line};
 use arrayvec::ArrayVec;
 use std::alloc::Global;
 use std::marker::Model;
@@ -73,46 +71,19 @@ fn framed(at: usize, bytes: &[u8]) -> Result<Record<'_>, ImageFault>
     })
 }
 
-/// What was read up to a line.
-#[derive(Drop)]
-struct State {
-    gathering: Gathering,
-    base: u64,
-    is_ended: bool,
-}
-
-impl Model for State {
-    ghost use Rattle.std.specs.Prelude.{◌≤◌, ◌^◌};
-    ghost use Rattle.dfu_images.specs.IntelHex as hex;
-
-    ghost Value = { hex.HexState };
-
-    ghost view = { λ s. record { gathering = s.gathering; base = s.base; is_ended = s.is_ended } };
-
-    ghost invariant = { λ s. s.base ≤ 4294901760 };
-}
-
 /// Data at an offset from the base.
 #[tactic(auto, using(std::proofs::lemmas::Bool::Decides::nat_tests), unfolding(crate::specs::IntelHex::hex_data_at))]
 fn data_at(alloc: Global, at: usize, state: State, said: &Record<'_>) -> Result<State, ImageFault>
     requires { said.now.offset < 65536 }
-    ensures { Gives result (hex_data_at at state said.now) }
+    ensures value { Gives result (hex_data_at at state said.now) }
+    ensures counted { IfOk result (λ s. s.count ≡ state.count) }
 {
-    let State {
-        gathering,
-        base,
-        is_ended,
-    } = state;
-    let address = base + said.offset as u64;
+    let address = state.base + said.offset as u64;
     if address + said.content.len() as u64 > 0x1_0000_0000 {
         return Err(ImageFault::PastSegment(at));
     }
-    match gathering.add(alloc, at, address, said.content) {
-        Ok(gathering) => Ok(State {
-            gathering,
-            base,
-            is_ended,
-        }),
+    match state.gathering.add(alloc, at, address, said.content) {
+        Ok(gathering) => Ok(State { gathering, ..state }),
         Err(fault) => Err(fault),
     }
 }
@@ -121,83 +92,41 @@ fn data_at(alloc: Global, at: usize, state: State, said: &Record<'_>) -> Result<
 #[tactic(auto, using(std::proofs::lemmas::Bool::Decides::nat_tests), unfolding(crate::specs::IntelHex::based))]
 fn based(at: usize, unit: u64, state: State, said: &Record<'_>) -> Result<State, ImageFault>
     requires { unit ≤ 65536 }
-    ensures { result ≡ based at unit state said.now }
+    ensures value { result ≡ based at unit state said.now }
+    ensures counted { IfOk result (λ s. s.count ≡ state.count) }
 {
     match said.content {
         [high, low] => Ok(State {
-            gathering: state.gathering,
             base: unit * (256 * *high as u64 + *low as u64),
-            is_ended: state.is_ended,
+            ..state
         }),
         _ => Err(ImageFault::BadLength(at)),
     }
 }
 
-/// What a record says.
-#[tactic(auto, using(std::proofs::lemmas::Bool::Decides::nat_tests), unfolding(crate::specs::IntelHex::hex_meant))]
-fn meant(alloc: Global, at: usize, state: State, said: &Record<'_>) -> Result<State, ImageFault>
-    requires { said.now.offset < 65536 }
-    ensures { Gives result (hex_meant at state said.now) }
-{
-    match said.kind {
-        0 => data_at(alloc, at, state, said),
-        1 if said.content.len() == 0 => Ok(State {
-            gathering: state.gathering,
-            base: state.base,
-            is_ended: true,
-        }),
-        2 => based(at, 16, state, said),
-        4 => based(at, 65_536, state, said),
-        3 | 5 if said.content.len() == 4 => Ok(state),
-        1 | 3 | 5 => Err(ImageFault::BadLength(at)),
-        _ => Err(ImageFault::BadType(at)),
-    }
-}
+/// The format.
+struct IntelHex;
 
-/// A line: a record, or nothing.
-#[tactic(auto, using(std::proofs::lemmas::Bool::Decides::nat_tests), unfolding(crate::specs::IntelHex::hex_line_read))]
-fn line_read(alloc: Global, at: usize, state: State, line: &[u8]) -> Result<State, ImageFault>
-    ensures { Gives result (hex_line_read at state line.now) }
-{
-    if line.len() == 0 {
-        return Ok(state);
-    }
-    if state.is_ended {
-        return Err(ImageFault::Trailing(at));
-    }
-    let bytes = match spelled(at, line) {
-        Ok(bytes) => bytes,
-        Err(fault) => return Err(fault),
-    };
-    match framed(at, &bytes) {
-        Ok(said) => meant(alloc, at, state, &said),
-        Err(fault) => Err(fault),
-    }
-}
+impl TextFormat for IntelHex {
+    ghost step = { hex_record_read };
 
-/// All lines.
-fn lines_read(alloc: Global, text: &[u8]) -> Result<State, ImageFault>
-    ensures { Gives result (lines_read is_ended hex_line_read 1 hex_start (lines text.now)) }
-{
-    let mut state = State {
-        gathering: Gathering::new(alloc),
-        base: 0,
-        is_ended: false,
-    };
-    let mut at: usize = 1;
-    let mut rest = text;
-    loop {
-        let (line, more) = take_line(rest);
-        state = match line_read(alloc, at, state, bare(line)) {
-            Ok(next) => next,
-            Err(fault) => return Err(fault),
-        };
-        match more {
-            Some(after) => rest = after,
-            None if state.is_ended => return Ok(state),
-            None => return Err(ImageFault::NoEnd),
+    #[tactic(auto, using(std::proofs::lemmas::Bool::Decides::nat_tests), unfolding(crate::specs::IntelHex::hex_record_read, crate::specs::IntelHex::hex_meant))]
+    fn step(alloc: Global, at: usize, state: State, line: &[u8]) -> Result<State, ImageFault> {
+        let bytes = spelled(at, line)?;
+        let said = framed(at, &bytes)?;
+        match said.kind {
+            0 => data_at(alloc, at, state, &said),
+            1 if said.content.len() == 0 => Ok(State {
+                is_whole: true,
+                is_ended: true,
+                ..state
+            }),
+            2 => based(at, 16, state, &said),
+            4 => based(at, 65_536, state, &said),
+            3 | 5 if said.content.len() == 4 => Ok(state),
+            1 | 3 | 5 => Err(ImageFault::BadLength(at)),
+            _ => Err(ImageFault::BadType(at)),
         }
-        at += 1;
     }
 }
 
@@ -209,8 +138,5 @@ pub fn read(alloc: Global, text: &[u8]) -> Result<Vec<Element>, ImageFault>
     // The elements are by address, and no two share one.
     ensures apart { IfOk result (λ v. AreApart 0 v.items) }
 {
-    match lines_read(alloc, text) {
-        Ok(state) => state.gathering.finish(),
-        Err(fault) => Err(fault),
-    }
+    elements_by_line::<IntelHex>(alloc, text)
 }

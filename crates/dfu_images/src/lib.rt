@@ -16,6 +16,7 @@ mod limits;
 mod lines;
 mod making;
 mod numbers;
+mod parts;
 pub mod srec;
 mod srec_line;
 pub mod uf2;

@@ -1,8 +1,17 @@
-//! The lines of a text.
+//! The lines of a text, and formats that are read line by line.
 
-ghost use Rattle.std.specs.Prelude.{◌≡◌, ◌≤◌, ◌<◌, [], ◌∷◌, length, IfSome, MatchOption};
+ghost use Rattle.std.specs.Prelude.{◌≡◌, ◌+◌, ◌≤◌, ◌<◌, ℕ, List, Result, [], ◌∷◌, length, IfOk, IfSome, MatchOption};
 ghost use Rattle.std.specs.List.{position};
-ghost use Rattle.dfu_images.specs.Lines.{lines, is_feed, bare};
+ghost use Rattle.dfu_images.specs.declared.fault.ImageFault as declared;
+ghost use Rattle.dfu_images.specs.Reading.{Gives, FailsToRead};
+ghost use Rattle.dfu_images.specs.Elements.{AreApart, Lists};
+ghost use Rattle.dfu_images.specs.Lines.{lines, is_feed, bare, text_start, line_read, lines_read, elements_by_line};
+
+use crate::element::Element;
+use crate::fault::ImageFault;
+use crate::gathering::Gathering;
+use std::alloc::Global;
+use std::marker::Model;
 
 /// Where the first line feed is.
 fn feed_in(text: &[u8]) -> Option<usize>
@@ -13,7 +22,7 @@ fn feed_in(text: &[u8]) -> Option<usize>
 }
 
 /// The first line, and what follows its line feed, if it has one.
-pub(crate) fn take_line(text: &[u8]) -> (&[u8], Option<&[u8]>)
+fn take_line(text: &[u8]) -> (&[u8], Option<&[u8]>)
     ensures value { MatchOption result.1 (lines text.now ≡ result.0.now ∷ []) (λ rest. lines text.now ≡ result.0.now ∷ lines rest.now) }
     ensures shorter { IfSome result.1 (λ rest. length rest.now < length text.now) }
 {
@@ -29,7 +38,7 @@ pub(crate) fn take_line(text: &[u8]) -> (&[u8], Option<&[u8]>)
 
 /// A line without the carriage return at its end, if there is one.
 #[tactic(auto, using(std::proofs::lemmas::Bool::Decides::nat_tests), unfolding(crate::specs::Lines::bare))]
-pub(crate) fn bare(line: &[u8]) -> &[u8]
+fn bare(line: &[u8]) -> &[u8]
     ensures { result.now ≡ bare line.now }
 {
     if line.len() == 0 {
@@ -41,4 +50,104 @@ pub(crate) fn bare(line: &[u8]) -> &[u8]
         return kept;
     }
     line
+}
+
+/// What was read of a text up to a line: the elements, what Intel HEX counts offsets from, how many S-records of data there were,
+/// whether the text may end here, and whether only empty lines may follow.
+#[derive(Drop)]
+pub(crate) struct State {
+    pub gathering: Gathering,
+    pub base: u64,
+    pub count: usize,
+    pub is_whole: bool,
+    pub is_ended: bool,
+}
+
+impl Model for State {
+    ghost use Rattle.std.specs.Prelude.{◌≤◌};
+    ghost use Rattle.dfu_images.specs.Lines as lines;
+
+    ghost Value = { lines.State };
+
+    ghost view = { λ s. record { gathering = s.gathering; base = s.base; count = s.count; is_whole = s.is_whole; is_ended = s.is_ended } };
+
+    ghost invariant = { λ s. s.base ≤ 4294901760 };
+}
+
+/// A format that is read line by line.
+pub(crate) trait TextFormat {
+    ghost use Rattle.dfu_images.specs.Lines as lines;
+
+    /// What comes of the record on a line, by the number of the line.
+    ghost step: { (at : ℕ) → lines.State → List ℕ → Result lines.State declared.ImageFault };
+
+    fn step(alloc: Global, at: usize, state: State, line: &[u8]) -> Result<State, ImageFault>
+        requires { state.count < at }
+        ensures value { Gives result (step at state line.now) }
+        ensures counted { IfOk result (λ s. s.count ≤ state.count + 1) };
+}
+
+/// A line: a record, or nothing.
+#[tactic(auto, using(std::proofs::lemmas::Bool::Decides::nat_tests), unfolding(crate::specs::Lines::line_read))]
+fn line_read<F: TextFormat>(
+    alloc: Global,
+    at: usize,
+    state: State,
+    line: &[u8],
+) -> Result<State, ImageFault>
+    requires { state.count < at }
+    ensures value { Gives result (line_read F.step at state line.now) }
+    ensures counted { IfOk result (λ s. s.count ≤ state.count + 1) }
+{
+    if line.len() == 0 {
+        return Ok(state);
+    }
+    if state.is_ended {
+        return Err(ImageFault::Trailing(at));
+    }
+    F::step(alloc, at, state, line)
+}
+
+/// All lines.
+fn lines_read<F: TextFormat>(alloc: Global, text: &[u8]) -> Result<State, ImageFault>
+    ensures { Gives result (lines_read (line_read F.step) 1 text_start (lines text.now)) }
+{
+    let mut state = State {
+        gathering: Gathering::new(alloc),
+        base: 0,
+        count: 0,
+        is_whole: false,
+        is_ended: false,
+    };
+    let mut at: usize = 1;
+    let mut rest = text;
+    loop {
+        let (line, more) = take_line(rest);
+        state = match line_read::<F>(alloc, at, state, bare(line)) {
+            Ok(next) => next,
+            Err(fault) => return Err(fault),
+        };
+        match more {
+            Some(after) => rest = after,
+            None if state.is_whole => return Ok(state),
+            None => return Err(ImageFault::NoEnd),
+        }
+        at += 1;
+    }
+}
+
+/// The elements of a text.
+pub(crate) fn elements_by_line<F: TextFormat>(
+    alloc: Global,
+    text: &[u8],
+) -> Result<Vec<Element>, ImageFault>
+    // What the text says, or its first fault.
+    ensures value { Lists result (elements_by_line F.step text.now) }
+    // The elements are by address, and no two share one.
+    ensures apart { IfOk result (λ v. AreApart 0 v.items) }
+{
+    match lines_read::<F>(alloc, text) {
+        Ok(state) => state.gathering.finish(),
+        Err(fault) => Err(fault),
+    }
 }

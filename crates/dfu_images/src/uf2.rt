@@ -1,15 +1,16 @@
 //! UF2.
 
 ghost use Rattle.std.specs.Prelude.{◌≡◌, ◌+◌, ◌*◌, ◌≤◌, ◌<◌, length, IfOk, Ok, Err};
-ghost use Rattle.dfu_images.specs.Reading.{parts_read, Gives, FailsToRead};
+ghost use Rattle.dfu_images.specs.Reading.{Gives, FailsToRead};
 ghost use Rattle.dfu_images.specs.Numbers as numbers;
-ghost use Rattle.dfu_images.specs.Elements.{AreApart, Lists, nothing};
+ghost use Rattle.dfu_images.specs.Elements.{AreApart, Lists};
 ghost use Rattle.dfu_images.specs.Blocks.{is_uf2_block, has_flag, family_of, flashed, block_read, uf2_elements_of};
 
 use crate::element::Element;
 use crate::fault::ImageFault;
 use crate::gathering::Gathering;
 use crate::numbers::le32;
+use crate::parts::{ByPart, elements_by_part};
 use std::alloc::Global;
 
 /// Whether a block has its three marks.
@@ -75,54 +76,37 @@ fn flashed(
     gathering.add(alloc, index, address, content)
 }
 
-/// A block.
-#[tactic(auto, using(std::proofs::lemmas::Bool::Decides::nat_tests), unfolding(crate::specs::Blocks::block_read))]
-fn block_read(
-    alloc: Global,
-    index: usize,
+/// What blocks have to name: how many they are, and the family of the first.
+#[derive(Drop)]
+struct Blocks {
     total: usize,
     family: u32,
-    gathering: Gathering,
-    block: &[u8],
-) -> Result<Gathering, ImageFault>
-    requires { length block.now ≡ 512 }
-    ensures { Gives result (block_read total family index gathering block.now) }
-{
-    if !is_block(block) {
-        return Err(ImageFault::BadMagic(index));
-    }
-    if le32(block, 16) > 476 {
-        return Err(ImageFault::BadBlock(index));
-    }
-    if le32(block, 20) as usize != index || le32(block, 24) as usize != total {
-        return Err(ImageFault::BadNumber(index));
-    }
-    flashed(alloc, index, family, gathering, block)
 }
 
-/// All blocks.
-fn blocks_read(
-    alloc: Global,
-    total: usize,
-    family: u32,
-    file: &[u8],
-) -> Result<Gathering, ImageFault>
-    requires { length file.now ≡ 512 * total }
-    ensures { Gives result (parts_read 512 (block_read total family) total 0 nothing file.now) }
-{
-    let mut gathering = Gathering::new(alloc);
-    let mut rest = file;
-    let mut index: usize = 0;
-    while index < total {
-        let (block, behind) = rest.split_at(512);
-        gathering = match block_read(alloc, index, total, family, gathering, block) {
-            Ok(next) => next,
-            Err(fault) => return Err(fault),
-        };
-        rest = behind;
-        index += 1;
+impl ByPart for Blocks {
+    ghost size = { λ b. 512 };
+
+    ghost part_read = { λ b. block_read b.total b.family };
+
+    #[tactic(auto, using(std::proofs::lemmas::Bool::Decides::nat_tests), unfolding(crate::specs::Blocks::block_read))]
+    fn part_read(
+        &self,
+        alloc: Global,
+        index: usize,
+        gathering: Gathering,
+        block: &[u8],
+    ) -> Result<Gathering, ImageFault> {
+        if !is_block(block) {
+            return Err(ImageFault::BadMagic(index));
+        }
+        if le32(block, 16) > 476 {
+            return Err(ImageFault::BadBlock(index));
+        }
+        if le32(block, 20) as usize != index || le32(block, 24) as usize != self.total {
+            return Err(ImageFault::BadNumber(index));
+        }
+        flashed(alloc, index, self.family, gathering, block)
     }
-    Ok(gathering)
 }
 
 /// The elements of a file.
@@ -137,8 +121,9 @@ pub fn read(alloc: Global, file: &[u8]) -> Result<Vec<Element>, ImageFault>
         return Err(ImageFault::BadSize);
     }
     let (first, _) = file.split_at(512);
-    match blocks_read(alloc, file.len() / 512, family_of(first), file) {
-        Ok(gathering) => gathering.finish(),
-        Err(fault) => Err(fault),
-    }
+    let blocks = Blocks {
+        total: file.len() / 512,
+        family: family_of(first),
+    };
+    elements_by_part(alloc, &blocks, 512, blocks.total, file)
 }

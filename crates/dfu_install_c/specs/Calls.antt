@@ -18,10 +18,6 @@ number_of_place (Some at) = at
 abbrev pub due_of_kind : ℕ → ℕ → Due
 due_of_kind kind at = if kind == 1 then Erase at else if kind == 2 then Program at else Start
 
--- DFU_ASKS.
-abbrev pub INSTALL_ASKS : ℤ
-INSTALL_ASKS = negsuc 10
-
 -- The number of a refusal: DFU_WRONG_SIZE, DFU_NO_IMAGE, DFU_TOO_LARGE.
 abbrev pub install_refusal_number : Refusal → ℤ
 install_refusal_number WrongSize = negsuc 5

@@ -7,8 +7,8 @@ ghost use Rattle.dfu_install_c.specs.Calls.{last_of, due_of_kind};
 ghost use Rattle.dfu_install_c.specs.Tells.{TellsDue};
 
 use crate::area::{DfuRunArea, last_of, number_of};
-use crate::ask::{DfuAsk, ERASE, PROGRAM, due_of};
-use crate::numbers;
+use crate::numbers::{due_of, number_of as refusal_number};
+use dfu_c::{ASKS, DfuAsk, ERASE, PROGRAM};
 use dfu_install::{Due, next, piece, took};
 
 // Tells what is due.
@@ -16,20 +16,20 @@ fn tell(due: Due, image: &[u8], sector: u32, ask: &mut DfuAsk) -> i32
     ensures { TellsDue image.now sector due result ask.old ask.new }
 {
     match due {
-        Due::Refuse(refusal) => numbers::number_of(refusal),
+        Due::Refuse(refusal) => refusal_number(refusal),
         Due::Start => 0,
         Due::Erase(at) => {
             ask.kind = ERASE;
             ask.at = at;
             ask.length = sector;
-            numbers::ASKS
+            ASKS
         }
         Due::Program(at) => {
             ask.kind = PROGRAM;
             ask.at = at;
             ask.length = 256;
             piece(image, at, &mut ask.bytes);
-            numbers::ASKS
+            ASKS
         }
     }
 }

@@ -2,6 +2,5 @@
 #![tactic(auto)]
 
 mod area;
-mod ask;
 mod calls;
 mod numbers;

@@ -1,11 +1,20 @@
-//! The numbers that a program in C gets.
+//! The numbers of a program in C: the operation that they describe, and those that it gets.
 ghost use Rattle.std.specs.Prelude.{◌≡◌};
-ghost use Rattle.dfu_install_c.specs.Calls.{install_refusal_number};
+ghost use Rattle.dfu_install_c.specs.Calls.{due_of_kind, install_refusal_number};
 
-use dfu_install::Refusal;
+use dfu_c::{DfuAsk, ERASE, PROGRAM};
+use dfu_install::{Due, Refusal};
 
-/// DFU_ASKS.
-pub(crate) const ASKS: i32 = -11;
+/// The operation that a program was asked for; for another kind none, which the start has too.
+pub(crate) fn due_of(ask: &DfuAsk) -> Due
+    ensures { result ≡ due_of_kind ask.now.kind ask.now.at }
+{
+    match ask.kind {
+        ERASE => Due::Erase(ask.at),
+        PROGRAM => Due::Program(ask.at),
+        _ => Due::Start,
+    }
+}
 
 /// The number of a refusal: DFU_WRONG_SIZE, DFU_NO_IMAGE or DFU_TOO_LARGE.
 pub(crate) fn number_of(refusal: Refusal) -> i32

@@ -4,17 +4,17 @@ use Rattle.std.proofs.lemmas.Bool.Decides.{nat_tests}
 use Rattle.std.proofs.lemmas.Slice.Eq.{bytes_eq-Decides}
 use Rattle.std.specs.Prelude.{◌==◌, nat_le, length, unwrap_or, replicate, codes, Result, Ok, Err, ok_or}
 use Rattle.std.specs.Str.{bytes_eq}
-use Rattle.dfu_sim.specs.declared.purpose.Purpose.{Purpose}
-use Rattle.dfu_sim.specs.declared.purpose.Purpose.TheVariants.{Install, Verify}
+use Rattle.dfu_sim.specs.declared.offering.Purpose.{Purpose}
+use Rattle.dfu_sim.specs.declared.offering.Purpose.TheVariants.{Install, Verify}
 use Rattle.dfu_link.specs.Words.{ok_of, hex_word_bytes, number_of, first_word, text_behind, words_of}
-use Rattle.dfu_link.specs.Fields.{small_of, count_of, unit_of_word, sector_of, objection_of, named_bytes}
+use Rattle.dfu_link.specs.Fields.{small_of, count_of, attributes_of_word, unit_of_word, sector_of, objection_of, named_bytes}
 use Rattle.dfu_link.specs.Keywords.{keyword_of, later_keyword_of, fate_keyword_of}
 use Rattle.dfu_sim.specs.Happening.{Fate}
 use Rattle.dfu_link.specs.Said.{ConfigLine, TheIds, TheDevice, TheUnit, TheSector, TheCapacity, TheImage, TheCheck, EventLine, Offer, Upload, Abort, Go, Time, Reset, Cut, Refuse, Said, Blank, Sets, LimitsTo, Does, GoesOn, Show, Expects}
-use Rattle.dfu_link.specs.Lines.{◌>>=◌, field, number_field, short_at, hex_at, offered_file, identifier_at, attributes_at, ends, said_ids, said_device, unit_line, erase_of, said_capacity, said_image, check_of, said_limits, offer_of, time_of, refuse_of, pass_of, slip_of, harmed_of, until_of, go_of, expect_of, by_keyword, is_comment, says, read_line, line_of}
-use Rattle.dfu_link.specs.declared.scripting.wrong.Field.TheVariants.{Times}
-use Rattle.dfu_link.specs.declared.scripting.wrong.LineFault.{LineFault}
-use Rattle.dfu_link.specs.declared.scripting.wrong.LineFault.TheVariants.{Long, Keyword}
+use Rattle.dfu_link.specs.Lines.{◌>>=◌, field, number_field, short_at, hex_at, offered_file, identifier_at, ends, said_ids, said_device, unit_line, erase_of, said_capacity, said_image, check_of, said_limits, offer_of, time_of, refuse_of, pass_of, slip_of, harmed_of, until_of, go_of, expect_of, by_keyword, is_comment, says, read_line, line_of}
+use Rattle.dfu_link.specs.declared.scripting.fault.Field.TheVariants.{Times}
+use Rattle.dfu_link.specs.declared.scripting.fault.LineFault.{LineFault}
+use Rattle.dfu_link.specs.declared.scripting.fault.LineFault.TheVariants.{Long, Keyword}
 use Rattle.dfu_link.proofs.WordLaws.{bind_some, guard_some}
 use Rattle.dfu_sim.specs.Headline.{Begun, WithOffer, AsUpload}
 use Rattle.dfu_link.specs.Printed.{Brings, Nothing, AnImage, Events, SomePasses, AShow, first_word_bytes, file_in, count_in, go_brings, words_bring, brought}
@@ -112,7 +112,7 @@ ids_bring words said h = bind_ok (identifier_at 2 4 words) _ said h (λ v iv hv.
 
 device_brings : (words : List (List ℕ)) (said : Said) → said_device words ≡ Ok said → said_brings said ≡ Nothing
 unfolding said_device
-device_brings words said h = bind_ok (attributes_at 2 7 words) _ said h (λ a ia ha. bind_ok (short_at 3 7 a.1) _ said ha
+device_brings words said h = bind_ok (field _ attributes_of_word 2 7 words) _ said h (λ a ia ha. bind_ok (short_at 3 7 a.1) _ said ha
     (λ d id hd. bind_ok (short_at 4 7 d.1) _ said hd (λ t it ht. bind_ok (number_field 5 7 t.1) _ said ht
     (λ l il hl. bind_ok (number_field 6 7 l.1) _ said hl (λ b ib hb. bind_ok (number_field 7 7 b.1) _ said hb
     (λ m im hm. ends_bring _ 7 m.1 said hm))))))

@@ -5,9 +5,9 @@ use Rattle.std.specs.Prelude.{replicate, Result, Ok, Err}
 use Rattle.dfu_host.specs.declared.limits.Limits.{Limits}
 use Rattle.dfu_host.specs.declared.report.Report.{Report}
 use Rattle.dfu_sim.specs.LinkView.{LinkView, ShowsActive, WorldView}
-use Rattle.dfu_sim.specs.declared.purpose.Purpose.{Purpose}
+use Rattle.dfu_sim.specs.declared.offering.Purpose.{Purpose}
 use Rattle.dfu_sim.specs.Happening.{Happening, Offers}
-use Rattle.dfu_sim.specs.Refusing.{IsLive}
+use Rattle.dfu_sim.specs.LinkView.{IsLive}
 use Rattle.dfu_sim.specs.Play.{Answered}
 use Rattle.dfu_sim.specs.Comes.{Comes, refuses, HasCome}
 use Rattle.dfu_sim.specs.declared.fault.LinkFault.{LinkFault}

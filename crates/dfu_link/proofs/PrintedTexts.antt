@@ -24,24 +24,14 @@ use Rattle.dfu_link.specs.Texts.{offer_fault_name, refusal_line, state_text}
 use Rattle.dfu_link.specs.Printed.{refused_event_line}
 use Rattle.dfu_link.proofs.LineLaws.{endless_more}
 
+-- No name of a fault, a state or a code holds a newline: each of them computes so.
 suffix_endless : (fault : SuffixFault) → endless (suffix_fault_name fault) ≡ true
 suffix_endless suffix.TooShort = refl
-suffix_endless suffix.NoSignature = refl
-suffix_endless suffix.BadLength = refl
-suffix_endless suffix.DfuSe = refl
-suffix_endless suffix.BadCrc = refl
-suffix_endless suffix.AlreadySuffixed = refl
-suffix_endless suffix.TooLarge = refl
-suffix_endless suffix.NoMemory = refl
-suffix_endless suffix.Read = refl
-suffix_endless suffix.Write = refl
+suffix_endless fault = refl
 
 host_endless : (fault : HostFault) → endless (host_fault_name fault) ≡ true
 host_endless host.EmptyPayload = refl
-host_endless host.WrongTarget = refl
-host_endless host.CannotDownload = refl
-host_endless host.CannotUpload = refl
-host_endless host.BadDescriptor = refl
+host_endless fault = refl
 
 offer_endless : (fault : OfferFault) → endless (offer_fault_name fault) ≡ true
 offer_endless (offer.Suffix fault) = suffix_endless fault
@@ -66,34 +56,11 @@ refusal link.NoMemory = record { reason = codes "NoMemory"; one_line = refl; is 
 
 state_endless : (s : State) → endless (state_name s) ≡ true
 state_endless state.AppIdle = refl
-state_endless state.AppDetach = refl
-state_endless state.DfuIdle = refl
-state_endless state.DownloadSync = refl
-state_endless state.DownloadBusy = refl
-state_endless state.DownloadIdle = refl
-state_endless state.ManifestSync = refl
-state_endless state.Manifest = refl
-state_endless state.ManifestWaitReset = refl
-state_endless state.UploadIdle = refl
-state_endless state.Error = refl
+state_endless s = refl
 
 pub code_endless : (c : Code) → endless (code_name c) ≡ true
 code_endless code.Ok = refl
-code_endless code.Target = refl
-code_endless code.File = refl
-code_endless code.Write = refl
-code_endless code.Erase = refl
-code_endless code.CheckErased = refl
-code_endless code.Prog = refl
-code_endless code.Verify = refl
-code_endless code.Address = refl
-code_endless code.NotDone = refl
-code_endless code.Firmware = refl
-code_endless code.Vendor = refl
-code_endless code.Usbr = refl
-code_endless code.Por = refl
-code_endless code.Unknown = refl
-code_endless code.StalledPkt = refl
+code_endless c = refl
 
 -- What `show` prints between the word `state ` and the image.
 abbrev pub state_words : DeviceView → List ℕ

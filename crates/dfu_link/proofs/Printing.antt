@@ -4,10 +4,10 @@ use Rattle.std.specs.Prelude.{replicate}
 use Rattle.std.proofs.lemmas.Option.{same_Some}
 use Rattle.dfu_host.specs.declared.report.Report.{Report}
 use Rattle.dfu_host.specs.declared.limits.Limits.{Limits}
-use Rattle.dfu_sim.specs.Happening.{Happening, Offers, Uploads, Aborts, Goes, Passes, Resets, Cuts, Refuses}
+use Rattle.dfu_sim.specs.Happening.{Happening, Offers, Uploads, Goes}
 use Rattle.dfu_sim.specs.LinkView.{LinkView}
 use Rattle.dfu_link.specs.Texts.{told_line}
-use Rattle.dfu_link.specs.Said.{ConfigLine, TheIds, TheDevice, TheUnit, TheSector, TheCapacity, TheImage, TheCheck, EventLine, Offer, Upload, Abort, Go, Time, Reset, Cut, Refuse, Said, Blank, Sets, LimitsTo, Does, GoesOn, Show, Expects}
+use Rattle.dfu_link.specs.Said.{ConfigLine, TheIds, TheImage, EventLine, Go, Said, Blank, Sets, LimitsTo, Does, GoesOn, Show, Expects}
 use Rattle.dfu_link.specs.Lines.{line_of}
 use Rattle.dfu_link.specs.ScriptRun.{Settings, set as set_by, checked, events_of, Prepares, prepared, nothing, then_prepares, HasToStart, HasToAct}
 use Rattle.dfu_sim.specs.Headline.{Begun, WithOffer, AsUpload, HeadlineHolds}
@@ -21,12 +21,7 @@ use Rattle.dfu_link.proofs.LineBrings.{sessions_in, set_brings, said_brings, lin
 abbrev pub session_by : Happening → Option Begun
 session_by (Offers purpose file limits) = Some (WithOffer file)
 session_by (Uploads limits) = Some AsUpload
-session_by Aborts = None
-session_by (Goes fate harm) = None
-session_by (Passes ms) = None
-session_by Resets = None
-session_by Cuts = None
-session_by (Refuses why) = None
+session_by h = None
 
 -- A check changes nothing of that.
 pub session_checked : (check : List ℕ) (b : LinkView) (h : Happening) → session_by (checked check b h) ≡ session_by h
@@ -38,14 +33,8 @@ same_each zero h = refl
 same_each (suc times) h = ap (λ (events : List (Option Begun)). session_by h ∷ events) (same_each times h)
 
 pub same_events : (limits : Limits) (events : EventLine) → map session_by (events_of limits events) ≡ sessions_in events
-same_events limits (Offer purpose file) = refl
-same_events limits Upload = refl
-same_events limits Abort = refl
 same_events limits (Go f harm times) = same_each times (Goes f harm)
-same_events limits (Time ms) = refl
-same_events limits Reset = refl
-same_events limits Cut = refl
-same_events limits (Refuse why) = refl
+same_events limits events = refl
 
 pub same_text : (report : Option Report) (image : List ℕ) → report_text report image ≡ told_line (Ok report) image
 same_text None image = refl
@@ -58,12 +47,7 @@ pub one_prints : {factory : List ℕ} {past : List Begun} {b : LinkView} {events
     → EventsPrint factory past b (events ++ session_by h ∷ []) (printed ++ report_text report holds.says.image) (begun_by h mid) c'
 one_prints (Offers purpose file limits) prints holds = then_prints (Some (WithOffer file)) prints holds
 one_prints (Uploads limits) prints holds = then_prints (Some AsUpload) prints holds
-one_prints Aborts prints holds = then_prints None prints holds
-one_prints (Goes fate harm) prints holds = then_prints None prints holds
-one_prints (Passes ms) prints holds = then_prints None prints holds
-one_prints Resets prints holds = then_prints None prints holds
-one_prints Cuts prints holds = then_prints None prints holds
-one_prints (Refuses why) prints holds = then_prints None prints holds
+one_prints h prints holds = then_prints None prints holds
 
 -- The start.
 
@@ -76,13 +60,8 @@ set_starts {g = g} {t = t} {factory = factory} {lines = lines} {after = after} u
 line_sets : {g : Option (List ℕ)} {factory line : List ℕ} {lines after : List (List ℕ)} (s : Settings) (x : ConfigLine)
     → brought g line ≡ set_brings x
     → StartsWith g (set_by s x).image lines after factory → StartsWith g s.image (line ∷ lines) after factory
-line_sets s (TheIds ids) is starts = after_nothing is starts
-line_sets s (TheDevice functional least busy manifest) is starts = after_nothing is starts
-line_sets s (TheUnit unit) is starts = after_nothing is starts
-line_sets s (TheSector n) is starts = after_nothing is starts
-line_sets s (TheCapacity n) is starts = after_nothing is starts
 line_sets s (TheImage image) is starts = after_image is starts
-line_sets s (TheCheck front) is starts = after_nothing is starts
+line_sets s x is starts = after_nothing is starts
 
 line_starts : {g : Option (List ℕ)} {t : Settings} {factory : List ℕ} {lines after : List (List ℕ)} (line : List ℕ) (s : Settings)
     (said : Said)
@@ -99,12 +78,7 @@ line_starts line s (Expects text) is set starts = absurd cc
 
 set_keeps : (s : Settings) (x : ConfigLine) → (set_by s x).given ≡ s.given
 set_keeps s (TheIds ids) = refl
-set_keeps s (TheDevice functional least busy manifest) = refl
-set_keeps s (TheUnit unit) = refl
-set_keeps s (TheSector n) = refl
-set_keeps s (TheCapacity n) = refl
-set_keeps s (TheImage image) = refl
-set_keeps s (TheCheck front) = refl
+set_keeps s x = refl
 
 -- A line that sets something leaves the bytes that are given.
 said_keeps : {t : Settings} (s : Settings) (said : Said) → prepared s said ≡ Some t → t.given ≡ s.given

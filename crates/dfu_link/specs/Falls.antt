@@ -2,10 +2,10 @@
 use Rattle.std.specs.Prelude.{◌≡◌, ◌≢◌, ◌⊎◌, ℕ, ◌+◌, ◌%◌, ◌<◌, List, [], ◌∷◌, ◌++◌, length, Option, Some, None, Result, Ok, Err}
 use Rattle.std.specs.Io.KnownBytes.{Appends}
 use Rattle.dfu_slots.specs.Units.{IsMultiple}
-use Rattle.dfu_device.specs.declared.fault.ConfigFault.{ConfigFault}
+use Rattle.dfu_device.specs.declared.config.ConfigFault.{ConfigFault}
 use Rattle.dfu_device.specs.Setting.{FirstFault}
 use Rattle.dfu_device.specs.DeviceView.{DeviceView}
-use Rattle.dfu_sim.specs.declared.purpose.Purpose.{Purpose}
+use Rattle.dfu_sim.specs.declared.offering.Purpose.{Purpose}
 use Rattle.dfu_sim.specs.LinkView.{Nobody, LinkView}
 use Rattle.dfu_sim.specs.Happening.{Happening}
 use Rattle.dfu_suffix.specs.Writing.{IsOutInPart}

@@ -1,10 +1,10 @@
 -- The words that a line or a fate begins with.
 use Rattle.std.specs.Prelude.{ℕ, List, Option, Some, None, codes, if◌then◌else◌}
 use Rattle.std.specs.Str.{bytes_eq}
-use Rattle.dfu_link.specs.declared.scripting.keywords.Keyword.{Keyword}
-use Rattle.dfu_link.specs.declared.scripting.keywords.Keyword.TheVariants as key
-use Rattle.dfu_link.specs.declared.scripting.keywords.FateKeyword.{FateKeyword}
-use Rattle.dfu_link.specs.declared.scripting.keywords.FateKeyword.TheVariants as fate
+use Rattle.dfu_link.specs.declared.scripting.words.Keyword.{Keyword}
+use Rattle.dfu_link.specs.declared.scripting.words.Keyword.TheVariants as key
+use Rattle.dfu_link.specs.declared.scripting.words.FateKeyword.{FateKeyword}
+use Rattle.dfu_link.specs.declared.scripting.words.FateKeyword.TheVariants as fate
 
 -- The first word of a line that isn't a comment, and says nothing of the device and its medium.
 unfoldable pub later_keyword_of : List ℕ → Option Keyword

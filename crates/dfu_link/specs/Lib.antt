@@ -11,7 +11,6 @@ pub use Rattle.dfu_sim.specs.Simulation
 pub use Rattle.dfu_sim.specs.CleanRun
 pub use Rattle.dfu_sim.specs.Bytes
 pub use Rattle.dfu_sim.specs.Understood
-pub use Rattle.dfu_sim.specs.Power
 pub use Rattle.dfu_sim.specs.Refusing
 pub use Rattle.dfu_sim.specs.Comes
 pub use Rattle.dfu_sim.specs.Giving
@@ -24,9 +23,7 @@ pub use Rattle.dfu_sim.specs.FollowingRun
 pub use Rattle.dfu_sim.specs.Headline
 pub use Rattle.dfu_sim.specs.BegunBy
 pub use Rattle.dfu_sim.specs.CleanInstall
-pub use Rattle.dfu_sim.specs.NextSession
 pub use Rattle.dfu_sim.specs.CleanSteps
-pub use Rattle.dfu_sim.specs.OneResult
 pub mod Words
 pub mod Said
 pub mod Keywords

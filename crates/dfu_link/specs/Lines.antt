@@ -3,21 +3,21 @@ use Rattle.std.specs.Prelude.{◌≡◌, ℕ, Bool, false, length, ◌==◌, Lis
 use Rattle.std.specs.Str.{bytes_eq}
 use Rattle.dfu_wire.specs.Functional.{functional_of}
 use Rattle.dfu_wire.specs.Identifier.{identifier_in}
-use Rattle.dfu_sim.specs.declared.purpose.Purpose.{Purpose}
-use Rattle.dfu_sim.specs.declared.purpose.Purpose.TheVariants.{Install, Verify}
+use Rattle.dfu_sim.specs.declared.offering.Purpose.{Purpose}
+use Rattle.dfu_sim.specs.declared.offering.Purpose.TheVariants.{Install, Verify}
 use Rattle.dfu_sim.specs.Happening.{Fate, Pass, LostOut, LostBack, Twice, TwiceLostBack, Slip, CutIn, Fail, Lie, unharmed, harmed}
 use Rattle.dfu_link.specs.Words.{ok_of, hex_word_bytes, number_of, first_word, text_behind, words_of}
 use Rattle.dfu_link.specs.Fields.{small_of, count_of, attributes_of_word, unit_of_word, sector_of, objection_of, named_bytes}
 use Rattle.dfu_link.specs.Said.{Said, Blank, Sets, LimitsTo, Does, GoesOn, Show, Expects, TheIds, TheDevice, TheUnit, TheSector, TheCapacity, TheImage, TheCheck, Offer, Upload, Abort, Go, Time, Reset, Cut, Refuse}
 use Rattle.dfu_link.specs.Keywords.{keyword_of, fate_keyword_of}
-use Rattle.dfu_link.specs.declared.scripting.keywords.Keyword.{Keyword}
-use Rattle.dfu_link.specs.declared.scripting.keywords.Keyword.TheVariants as key
-use Rattle.dfu_link.specs.declared.scripting.keywords.FateKeyword.{FateKeyword}
-use Rattle.dfu_link.specs.declared.scripting.keywords.FateKeyword.TheVariants as fate
-use Rattle.dfu_link.specs.declared.scripting.wrong.Field.{Field}
-use Rattle.dfu_link.specs.declared.scripting.wrong.Field.TheVariants as a
-use Rattle.dfu_link.specs.declared.scripting.wrong.LineFault.{LineFault}
-use Rattle.dfu_link.specs.declared.scripting.wrong.LineFault.TheVariants as wrong
+use Rattle.dfu_link.specs.declared.scripting.words.Keyword.{Keyword}
+use Rattle.dfu_link.specs.declared.scripting.words.Keyword.TheVariants as key
+use Rattle.dfu_link.specs.declared.scripting.words.FateKeyword.{FateKeyword}
+use Rattle.dfu_link.specs.declared.scripting.words.FateKeyword.TheVariants as fate
+use Rattle.dfu_link.specs.declared.scripting.fault.Field.{Field}
+use Rattle.dfu_link.specs.declared.scripting.fault.Field.TheVariants as a
+use Rattle.dfu_link.specs.declared.scripting.fault.LineFault.{LineFault}
+use Rattle.dfu_link.specs.declared.scripting.fault.LineFault.TheVariants as wrong
 
 -- What is read of a line, or what is wrong with it.
 abbrev pub Read : Type 0 → Type 0
@@ -64,10 +64,6 @@ offered_file given n of words =
 unfoldable pub identifier_at : (n of : ℕ) → List (List ℕ) → Read (ℕ × List (List ℕ))
 identifier_at n of words = field a.Identifier identifier_in n of words
 
--- Two hexadecimal digits, 00 to 0f.
-unfoldable pub attributes_at : (n of : ℕ) → List (List ℕ) → Read (ℕ × List (List ℕ))
-attributes_at n of words = field a.Attributes attributes_of_word n of words
-
 -- A line is a comment if its first word begins with `#`.
 abbrev pub is_comment : List ℕ → Bool
 is_comment [] = false
@@ -89,7 +85,7 @@ said_ids words = do
 -- After `device`: the attributes, the detach timeout, the transfer size, the fewest bytes of an image, and two times.
 unfoldable pub said_device : List (List ℕ) → Read Said
 said_device words = do
-  attributes ← attributes_at 2 7 words
+  attributes ← field a.Attributes attributes_of_word 2 7 words
   detach ← short_at 3 7 attributes.1
   transfer ← short_at 4 7 detach.1
   least ← number_field 5 7 transfer.1

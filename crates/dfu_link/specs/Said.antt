@@ -3,12 +3,12 @@ use Rattle.std.specs.Borrow.{Bor}
 use Rattle.std.specs.Prelude.{ℕ, List, [], Option, Some, None, unwrap_or}
 use Rattle.dfu_wire.specs.declared.ids.Ids.{Ids}
 use Rattle.dfu_wire.specs.declared.functionals.Functional.{Functional}
-use Rattle.dfu_slots.specs.declared.unit.Unit.{Unit as WriteUnit}
+use Rattle.dfu_slots.specs.declared.layout.Unit.{Unit as WriteUnit}
 use Rattle.dfu_device.specs.declared.objection.Objection.{Objection}
 use Rattle.dfu_link.specs.Words.{hex_word_bytes}
 use Rattle.dfu_sim.specs.Happening.{Fate, CutIn, Fail, Lie, Harm, harmed, fate_of, harm_in}
-use Rattle.dfu_sim.specs.declared.purpose.Purpose.{Purpose}
-use Rattle.dfu_link.specs.declared.scripting.hex_text.HexText.{HexText}
+use Rattle.dfu_sim.specs.declared.offering.Purpose.{Purpose}
+use Rattle.dfu_link.specs.declared.scripting.line.HexText.{HexText}
 use Rattle.dfu_link.specs.declared.scripting.line.HarmKind as kinds
 use Rattle.dfu_link.specs.declared.scripting.line.HarmKind.TheVariants as kind
 use Rattle.dfu_link.specs.declared.scripting.line.Line as lines

@@ -3,7 +3,7 @@ use Rattle.std.specs.Prelude.{◌≡◌, ◌≢◌, ℕ, ◌+◌, ◌*◌, ◌�
 use Rattle.std.specs.Io.KnownBytes.{Appends}
 use Rattle.dfu_wire.specs.Functional.{functional_of}
 use Rattle.dfu_host.specs.declared.limits.Limits.{Limits}
-use Rattle.dfu_slots.specs.declared.unit.Unit.TheVariants.{Byte}
+use Rattle.dfu_slots.specs.declared.layout.Unit.TheVariants.{Byte}
 use Rattle.dfu_slots.specs.Units.{Grain, in_place, gate_room, IsWhole}
 use Rattle.dfu_slots.specs.Medium.{MediumState, AllWrites, blank_medium}
 use Rattle.dfu_slots.specs.Image.{Active}

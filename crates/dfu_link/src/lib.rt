@@ -6,14 +6,12 @@
 #![tactic(auto)]
 
 mod beside;
-mod same;
+mod notes;
 mod scripting;
-mod seen;
-mod tracer;
 
 pub use dfu_sim::{Event, Fate, LinkFault, OfferFault, Purpose, Stop, World, laws, run};
+pub use notes::{Reason, Stopped};
 pub use scripting::{
     Field, LineFault, ScriptFault, SetupFault, script, script_beside_traced_with,
     script_beside_with, script_traced, script_traced_with, script_with,
 };
-pub use seen::{Reason, Stopped};

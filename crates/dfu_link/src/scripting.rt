@@ -1,16 +1,12 @@
 //! Scripts: a text of lines that sets up a device, lets events come to the link of that device and a
 //! host, and writes what comes of them.
 
-mod checking;
-mod digits;
+mod event_parts;
 pub(crate) mod expectation;
 pub(crate) mod fault;
 mod fields;
-mod hex_text;
-mod keywords;
 mod line;
 mod line_forms;
-mod offered_file;
 mod on_board;
 mod output;
 mod playing;
@@ -24,14 +20,9 @@ pub(crate) mod setup_fault;
 pub(crate) mod showing;
 mod source;
 mod starting;
-mod values;
-mod without_file;
 mod words;
-pub(crate) mod wrong;
 
-pub use fault::ScriptFault;
+pub use fault::{Field, LineFault, ScriptFault};
 pub use on_board::{script_beside_traced_with, script_beside_with};
-pub use run_script::{script_traced_with, script_with};
+pub use run_script::{script, script_traced, script_traced_with, script_with};
 pub use setup_fault::SetupFault;
-pub use without_file::{script, script_traced};
-pub use wrong::{Field, LineFault};

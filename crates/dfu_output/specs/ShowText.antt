@@ -11,7 +11,7 @@ use Rattle.dfu_wire.specs.declared.states.State.{State}
 use Rattle.dfu_wire.specs.declared.functionals.Functional.{Functional}
 use Rattle.dfu_wire.specs.declared.fault.WireFault.{WireFault}
 use Rattle.dfu_wire.specs.declared.fault.WireFault.TheVariants as wire_fault
-use Rattle.dfu_output.specs.declared.asked.AskedBy.{AskedBy}
+use Rattle.dfu_output.specs.declared.showing.AskedBy.{AskedBy}
 use Rattle.dfu_output.specs.declared.exit.Exit.{Exit}
 use Rattle.dfu_output.specs.declared.exit.Exit.TheVariants.{Done, Refused}
 use Rattle.dfu_suffix.specs.declared.fault.SuffixFault.TheVariants.{NoMemory}

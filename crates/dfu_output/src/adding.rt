@@ -4,10 +4,8 @@ ghost use Rattle.std.specs.Prelude.{◌≡◌, IfOk};
 ghost use Rattle.std.specs.String.{string_bytes};
 ghost use Rattle.dfu_output.specs.AddText.{HasAddFault, WritesAdd, wrote_line};
 
-use crate::exit::Exit;
-use crate::faults::fault_text;
+use crate::exit::{Exit, fault_text, write_out};
 use crate::numbers::{number_field, push};
-use crate::output::write_out;
 use dfu_suffix::{SuffixFault, add};
 use dfu_wire::Ids;
 use std::alloc::{AllocError, Global};

@@ -5,10 +5,8 @@ ghost use Rattle.std.specs.String.{string_bytes};
 ghost use Rattle.dfu_output.specs.AnswerLines.{ok_line};
 ghost use Rattle.dfu_output.specs.CheckText.{HasCheckFault, HasFindings, WritesCheck};
 
-use crate::exit::Exit;
-use crate::faults::fault_text;
+use crate::exit::{Exit, fault_text, write_out};
 use crate::numbers::{hex4, hex8, made_field, number_field, push};
-use crate::output::write_out;
 use dfu_suffix::{Findings, SuffixFault, Summary, check_with};
 use std::alloc::{AllocError, Global};
 use std::io::{Read, Write};

@@ -1,7 +1,13 @@
-//! How a command ended.
+//! How a command ended, and the lines that end it.
 
 ghost use Rattle.std.specs.Prelude.{◌≡◌, max};
+ghost use Rattle.dfu_output.specs.AnswerLines.{bad_words_line, fault_line, fault_exit};
 ghost use Rattle.dfu_output.specs.Exits.{exit_status};
+ghost use Rattle.dfu_output.specs.Output.{Wrote};
+
+use dfu_suffix::{SuffixFault, write_whole};
+use std::alloc::Global;
+use std::io::Write;
 
 /// How a command ended, which is the exit status of the program.
 #[derive(Clone, Copy, Debug, PartialEq, Eq)]
@@ -39,4 +45,88 @@ impl Exit {
             self
         }
     }
+}
+
+/// How a command ended, and the line for standard error that says why, if there is one.
+#[derive(Debug, Drop)]
+pub struct Outcome {
+    /// How it ended.
+    pub exit: Exit,
+    /// Why, as a line, if the answer's own line doesn't say it and the reason is wanted.
+    pub reason: Option<String>,
+}
+
+/// The lines of two reasons, as far as there is memory for them.
+fn both(alloc: Global, first: Option<String>, second: Option<String>) -> Option<String> {
+    match (first, second) {
+        (Some(first), Some(second)) => {
+            let mut lines = String::new(alloc);
+            let _ = lines.push_str(&first);
+            let _ = lines.push_str(&second);
+            Some(lines)
+        }
+        (Some(only), None) | (None, Some(only)) => Some(only),
+        (None, None) => None,
+    }
+}
+
+impl Outcome {
+    /// This answer and the next one, of another file: the worse end, and the reasons of both, as far as there is memory for them.
+    pub fn and(self, alloc: Global, next: Outcome) -> Outcome
+        ensures { exit_status result.exit ≡ max (exit_status self.exit) (exit_status next.exit) }
+    {
+        let Outcome { exit, reason } = self;
+        Outcome {
+            exit: exit.worse(next.exit),
+            reason: both(alloc, reason, next.reason),
+        }
+    }
+}
+
+/// Writes a text whole, and then ends as `exit` says; if the writer fails, with Fault.
+// Many commands call it: once in the program is enough.
+#[inline(never)]
+pub fn write_out<W: Write>(writer: &mut W, text: &[u8], exit: Exit) -> Exit
+    ensures { Wrote (W.contents writer.old) (W.contents writer.new) text.now exit result }
+{
+    match write_whole(writer, text) {
+        Ok(()) => exit,
+        Err(_) => Exit::Fault,
+    }
+}
+
+#[tactic(auto, unfolding(crate::specs::AnswerLines::fault_line))]
+pub(crate) fn fault_line(fault: SuffixFault) -> &'static str
+    ensures { result.now ≡ fault_line fault }
+{
+    refused!(fault, SuffixFault,
+        TooShort NoSignature BadLength DfuSe BadCrc AlreadySuffixed TooLarge NoMemory,
+        Read "fault Read\n", Write "fault Write\n"
+    )
+}
+
+fn fault_exit(fault: SuffixFault) -> Exit
+    ensures { result ≡ fault_exit fault }
+{
+    match fault {
+        SuffixFault::Read | SuffixFault::Write => Exit::Fault,
+        _ => Exit::Refused,
+    }
+}
+
+/// Writes the line of a fault: `fault NAME` for Read and Write, and else `refused NAME`.
+///
+/// It returns Fault for Read and Write, else Refused; if the writer fails, Fault, and a front of
+/// the line is out, not all of it.
+pub fn fault_text<W: Write>(fault: SuffixFault, writer: &mut W) -> Exit
+    ensures { Wrote (W.contents writer.old) (W.contents writer.new) (fault_line fault) (fault_exit fault) result }
+{
+    write_out(writer, fault_line(fault).as_bytes(), fault_exit(fault))
+}
+
+/// Writes the line for words that aren't understood.
+pub fn bad_words<W: Write>(writer: &mut W) -> Exit
+    ensures { Wrote (W.contents writer.old) (W.contents writer.new) bad_words_line Exit.BadWords result }
+{
+    write_out(writer, b"bad words\n", Exit::BadWords)
 }

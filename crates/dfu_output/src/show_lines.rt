@@ -4,7 +4,7 @@ ghost use Rattle.std.specs.Prelude.{◌≡◌, ◌++◌, IfOk, OnOk};
 ghost use Rattle.std.specs.String.{string_bytes};
 ghost use Rattle.dfu_output.specs.ShowLines.{bad_hex_line, functional_line, setup_line, state_line, status_line, wire_line, yes_no};
 
-use crate::faults::fault_line;
+use crate::exit::fault_line;
 use crate::numbers::{field, hex2, hex4, made_field, number_field, push};
 use dfu_suffix::SuffixFault;
 use dfu_wire::{Functional, Request, Setup, State, Status, WireFault};
@@ -76,15 +76,9 @@ pub(crate) fn setup_line(alloc: Global, setup: &Setup, asked: Request) -> Result
 pub(crate) fn wire_line(fault: WireFault) -> &'static str
     ensures { result.now ≡ wire_line fault }
 {
-    match fault {
-        WireFault::Short => "refused Short\n",
-        WireFault::Long => "refused Long\n",
-        WireFault::WrongLength => "refused WrongLength\n",
-        WireFault::WrongType => "refused WrongType\n",
-        WireFault::UnknownState => "refused UnknownState\n",
-        WireFault::UnknownCode => "refused UnknownCode\n",
-        WireFault::PollTooLong => "refused PollTooLong\n",
-    }
+    refused!(fault, WireFault,
+        Short Long WrongLength WrongType UnknownState UnknownCode PollTooLong
+    )
 }
 
 pub(crate) fn bad_hex_line(error: FromHexError) -> &'static str

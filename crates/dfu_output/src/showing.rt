@@ -5,18 +5,25 @@ ghost use Rattle.dfu_output.specs.Output.{Wrote};
 ghost use Rattle.dfu_output.specs.AnswerLines.{bad_words_line};
 ghost use Rattle.dfu_output.specs.ShowText.{WritesFunctional, WritesStatus, WritesState, WritesSetup, WritesConfiguration, WritesBytes, IsNoKind, ReadsStateBytes, ReadsSetup};
 
-use crate::asked::AskedBy;
 use crate::configuration::configuration_text;
-use crate::exit::Exit;
-use crate::faults::{bad_words, fault_text};
-use crate::output::write_out;
+use crate::exit::{Exit, bad_words, fault_text, write_out};
 use crate::show_lines::{
     bad_hex_line, functional_line, setup_line, state_line, status_line, wire_line,
 };
 use dfu_suffix::SuffixFault;
-use dfu_wire::{Functional, Setup, State, Status, WireFault};
+use dfu_wire::{Functional, Request, Setup, State, Status, WireFault};
 use std::alloc::Global;
 use std::io::Write;
+
+/// Writes, by the call named `$write`, what the bytes of a hexadecimal text are; or the line of a text that isn't hexadecimal.
+macro_rules! decoded {
+    ($hex:ident, $write:ident($alloc:ident, $writer:ident)) => {
+        match hex::decode($alloc, $hex) {
+            Ok(bytes) => $write($alloc, &bytes, $writer),
+            Err(error) => write_out($writer, bad_hex_line(error).as_bytes(), Exit::Refused),
+        }
+    };
+}
 
 fn write_functional<W: Write>(alloc: Global, bytes: &[u8], writer: &mut W) -> Exit
     ensures { WritesFunctional bytes.now (W.contents writer.old) (W.contents writer.new) result }
@@ -65,6 +72,13 @@ fn write_state<W: Write>(alloc: Global, bytes: &[u8], writer: &mut W) -> Exit
     }
 }
 
+/// A setup, and what it asks for, whichever interface it is for.
+#[derive(Clone, Copy)]
+pub(crate) struct AskedBy {
+    pub(crate) setup: Setup,
+    pub(crate) asked: Request,
+}
+
 // The setup that eight bytes are, and what it asks for at any interface.
 fn setup_in(bytes: &[u8]) -> Result<AskedBy, WireFault>
     ensures { ReadsSetup bytes.now result }
@@ -106,46 +120,31 @@ fn write_configuration<W: Write>(alloc: Global, bytes: &[u8], writer: &mut W) ->
 fn show_functional<W: Write>(alloc: Global, hex: &str, writer: &mut W) -> Exit
     ensures { WritesBytes WritesFunctional hex.now (W.contents writer.old) (W.contents writer.new) result }
 {
-    match hex::decode(alloc, hex) {
-        Ok(bytes) => write_functional(alloc, &bytes, writer),
-        Err(error) => write_out(writer, bad_hex_line(error).as_bytes(), Exit::Refused),
-    }
+    decoded!(hex, write_functional(alloc, writer))
 }
 
 fn show_status<W: Write>(alloc: Global, hex: &str, writer: &mut W) -> Exit
     ensures { WritesBytes WritesStatus hex.now (W.contents writer.old) (W.contents writer.new) result }
 {
-    match hex::decode(alloc, hex) {
-        Ok(bytes) => write_status(alloc, &bytes, writer),
-        Err(error) => write_out(writer, bad_hex_line(error).as_bytes(), Exit::Refused),
-    }
+    decoded!(hex, write_status(alloc, writer))
 }
 
 fn show_state<W: Write>(alloc: Global, hex: &str, writer: &mut W) -> Exit
     ensures { WritesBytes WritesState hex.now (W.contents writer.old) (W.contents writer.new) result }
 {
-    match hex::decode(alloc, hex) {
-        Ok(bytes) => write_state(alloc, &bytes, writer),
-        Err(error) => write_out(writer, bad_hex_line(error).as_bytes(), Exit::Refused),
-    }
+    decoded!(hex, write_state(alloc, writer))
 }
 
 fn show_setup<W: Write>(alloc: Global, hex: &str, writer: &mut W) -> Exit
     ensures { WritesBytes WritesSetup hex.now (W.contents writer.old) (W.contents writer.new) result }
 {
-    match hex::decode(alloc, hex) {
-        Ok(bytes) => write_setup(alloc, &bytes, writer),
-        Err(error) => write_out(writer, bad_hex_line(error).as_bytes(), Exit::Refused),
-    }
+    decoded!(hex, write_setup(alloc, writer))
 }
 
 fn show_configuration<W: Write>(alloc: Global, hex: &str, writer: &mut W) -> Exit
     ensures { WritesBytes WritesConfiguration hex.now (W.contents writer.old) (W.contents writer.new) result }
 {
-    match hex::decode(alloc, hex) {
-        Ok(bytes) => write_configuration(alloc, &bytes, writer),
-        Err(error) => write_out(writer, bad_hex_line(error).as_bytes(), Exit::Refused),
-    }
+    decoded!(hex, write_configuration(alloc, writer))
 }
 
 /// Writes a line for the bytes that `hex` has, two hexadecimal digits of either case each; for a configuration one for each interface for

@@ -5,10 +5,10 @@ use Rattle.dfu_wire.specs.declared.requests.Request.{Request as Asked}
 use Rattle.dfu_wire.specs.Setup.{IsSetup}
 use Rattle.dfu_wire.specs.Request.{Asks}
 use Rattle.dfu_wire.specs.OneRequest.{Asks-one}
-use Rattle.dfu_wire.specs.OneSetup.{IsSetup-one}
+use Rattle.dfu_wire.specs.OneValue.{IsSetup-one}
 use Rattle.dfu_slots.specs.Medium.{Fuse}
 use Rattle.dfu_slots.specs.Medium.Fuse.{Whole}
-use Rattle.dfu_slots.specs.Seen.{image_of, image_fused, room_fused}
+use Rattle.dfu_slots.specs.Seen.{image_of, shows_same}
 use Rattle.dfu_device.specs.declared.answer.Answer.{Answer}
 use Rattle.dfu_device.specs.declared.objection.Objection.{Objection}
 use Rattle.dfu_device.specs.Stage.{Profile, Reply}
@@ -19,7 +19,7 @@ use Rattle.dfu_device.specs.Rows.{meant, asked_length, Answers, Done as RowDone,
 use Rattle.dfu_device.specs.Came.{Came, came, row_of, time_came}
 use Rattle.dfu_host.specs.Phases.{Deed, Send, Wait, Reset, Done, Heard, Waited, WasReset}
 use Rattle.dfu_host.specs.Wire.{IsAsked}
-use Rattle.dfu_sim.specs.declared.response.Response.{Response}
+use Rattle.dfu_sim.specs.declared.delivery.Response.{Response}
 use Rattle.dfu_sim.specs.declared.delivery.Handled.{Handled}
 use Rattle.dfu_sim.specs.declared.delivery.Handled.TheVariants.{Late}
 use Rattle.dfu_sim.specs.declared.delivery.MediumFault.{MediumFault}
@@ -33,11 +33,11 @@ use Rattle.dfu_sim.proofs.Closing.{by_table, by_objection, host_closes, host_ope
 
 -- The fuse of the medium is no part of what is shown.
 pub armed_profile : (w : DeviceView) (fuse : Fuse) → profile (armed w fuse) ≡ profile w
-armed_profile w fuse = λ k. record (profile w) { capacity = room_fused w.slots fuse k }
+armed_profile w fuse = λ k. record (profile w) { capacity = (shows_same w.slots fuse w.slots.held w.slots.put_end).room k }
 
 -- To arm a medium changes nothing in a device's situation.
 pub armed_situation : (w : DeviceView) (fuse : Fuse) → situation (armed w fuse) ≡ situation w
-armed_situation w fuse = λ k. record { image = image_fused w.slots fuse k; stage = w.stage }
+armed_situation w fuse = λ k. record { image = (shows_same w.slots fuse w.slots.held w.slots.put_end).image k; stage = w.stage }
 
 -- What a device went through is what its situation goes through by the table; with a medium that is not armed, at the luck that it works.
 pub record Went (fuse : Fuse) (c : Profile) (s : Situation) (d : Deed) (delivery : Delivery) (w' : DeviceView) (heard : Heard)

@@ -11,7 +11,7 @@ use Rattle.dfu_host.specs.declared.seen.Seen.TheVariants as seen
 use Rattle.dfu_host.specs.Host.{HostState}
 use Rattle.dfu_host.specs.Phases.{Deed, Send, Wait, Reset, Heard, Waited, WasReset}
 use Rattle.dfu_host.specs.Wire.{Spells, Hears}
-use Rattle.dfu_sim.specs.declared.response.Response.{Response}
+use Rattle.dfu_sim.specs.declared.delivery.Response.{Response}
 use Rattle.dfu_sim.specs.declared.delivery.MediumFault.{MediumFault}
 use Rattle.dfu_sim.specs.declared.delivery.MediumFault.TheVariants.{CutsPower}
 use Rattle.dfu_sim.specs.Delivery.{Delivery}

@@ -7,10 +7,9 @@ use Rattle.dfu_host.specs.Phases.{Goal, ToLoad, ToFetch, ToVerify, ToCompare}
 use Rattle.dfu_sim.specs.Session.{Machine, IsOneOf}
 use Rattle.dfu_sim.specs.Play.{Link}
 use Rattle.dfu_sim.specs.LinkView.{Session, Nobody, Hosted, LinkView}
-use Rattle.dfu_sim.specs.LinkAgreement.{IsSound, Agrees, NothingClosed, SomeAgrees, FreshAgrees, LinkAgreesOn}
+use Rattle.dfu_sim.specs.LinkAgreement.{IsSound, Agrees, NothingClosed, SomeAgrees, FreshAgrees, LinkAgreesOn, SessionsGoOn}
 use Rattle.dfu_sim.specs.Agreement.{intake_of, pending_in, live_goal, live_of, IsShutOffer, IsLiveOffer, AgreesOn}
 use Rattle.dfu_sim.specs.Bytes.{link_of}
-use Rattle.dfu_sim.specs.NextSession.{SessionsGoOn}
 use Rattle.dfu_sim.specs.Understood.{ImageShown}
 
 -- Some machine agrees with each link.

@@ -7,8 +7,8 @@ use Rattle.dfu_host.specs.Blocks.{blocks, first}
 use Rattle.dfu_host.specs.BlockLaws.{first_suc, first_all, first_le, block_counts, small_block, full_block}
 use Rattle.dfu_host.specs.Phases.{ToLoad, ToVerify, ToCompare, Find, Last}
 use Rattle.dfu_host.specs.Clean.{clean}
-use Rattle.dfu_sim.specs.declared.purpose.Purpose.{Purpose}
-use Rattle.dfu_sim.specs.declared.purpose.Purpose.TheVariants.{Install, Verify}
+use Rattle.dfu_sim.specs.declared.offering.Purpose.{Purpose}
+use Rattle.dfu_sim.specs.declared.offering.Purpose.TheVariants.{Install, Verify}
 use Rattle.dfu_sim.specs.Play.{Link, silent}
 use Rattle.dfu_sim.specs.CleanRun.{actions_of, PassesTo, Quietly, there, resting, InstalledAfter, CleanRun}
 use Rattle.dfu_sim.proofs.Blocks.{not_empty}

@@ -8,8 +8,8 @@ use Rattle.dfu_device.specs.DeviceView.{profile_of, profile}
 use Rattle.dfu_host.specs.declared.limits.Limits.{Limits}
 use Rattle.dfu_host.specs.declared.report.Report.{Report}
 use Rattle.dfu_sim.specs.Session.{said}
-use Rattle.dfu_sim.specs.declared.purpose.Purpose.{Purpose}
-use Rattle.dfu_sim.specs.declared.purpose.Purpose.TheVariants.{Install, Verify}
+use Rattle.dfu_sim.specs.declared.offering.Purpose.{Purpose}
+use Rattle.dfu_sim.specs.declared.offering.Purpose.TheVariants.{Install, Verify}
 use Rattle.dfu_sim.specs.Happening.{Pass, Happening, Offers, Goes, unharmed}
 use Rattle.dfu_sim.specs.Opening.{goal_of_purpose, opened}
 use Rattle.dfu_sim.specs.Play.{Link, Answered, silent, Played, played}

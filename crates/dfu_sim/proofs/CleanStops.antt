@@ -7,12 +7,12 @@ use Rattle.dfu_device.specs.DeviceView.{profile}
 use Rattle.dfu_host.specs.declared.limits.Limits.{Limits}
 use Rattle.dfu_host.specs.declared.report.Report.{Report}
 use Rattle.dfu_sim.specs.Session.{said}
-use Rattle.dfu_sim.specs.declared.purpose.Purpose.{Purpose}
+use Rattle.dfu_sim.specs.declared.offering.Purpose.{Purpose}
 use Rattle.dfu_sim.specs.Happening.{Pass, Happening, Offers, Aborts}
 use Rattle.dfu_sim.specs.Play.{Link, Played, gone}
-use Rattle.dfu_sim.specs.LinkView.{Session, Nobody, LinkView, WorldView}
+use Rattle.dfu_sim.specs.LinkView.{Session, Nobody, IsLive, LinkView, WorldView}
 use Rattle.dfu_sim.specs.CleanRun.{report_of_purpose, PassesTo, Quietly, here, there, resting}
-use Rattle.dfu_sim.specs.Refusing.{IsLive, IsRefused}
+use Rattle.dfu_sim.specs.Refusing.{IsRefused}
 use Rattle.dfu_sim.specs.CleanInstall.{clean_passes, CanInstall, offer_and_passes}
 use Rattle.dfu_sim.specs.declared.fault.LinkFault.{LinkFault}
 use Rattle.dfu_sim.specs.declared.fault.LinkFault.TheVariants as fault

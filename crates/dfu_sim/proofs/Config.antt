@@ -8,7 +8,7 @@ use Rattle.dfu_device.specs.DeviceView.{DeviceView, profile}
 use Rattle.dfu_device.specs.Rows.{asked_length, setup_plan, Handles, handled_as, Elapses}
 use Rattle.dfu_host.specs.Phases.{Deed, Send, Wait, Reset, Done as IsDone, Heard}
 use Rattle.dfu_host.specs.Table.{deed}
-use Rattle.dfu_sim.specs.declared.response.Response.{Response}
+use Rattle.dfu_sim.specs.declared.delivery.Response.{Response}
 use Rattle.dfu_sim.specs.declared.delivery.Handled.{Handled}
 use Rattle.dfu_sim.specs.declared.delivery.Handled.TheVariants.{Late}
 use Rattle.dfu_sim.specs.declared.delivery.MediumFault.{MediumFault}

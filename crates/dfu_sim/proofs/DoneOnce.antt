@@ -10,7 +10,7 @@ use Rattle.dfu_device.specs.Outcome.{Luck, Works, FailsOld, outcome}
 use Rattle.dfu_device.specs.DeviceView.{DeviceView}
 use Rattle.dfu_device.specs.Rows.{Answers, block_calls, Done}
 use Rattle.dfu_sim.specs.Bytes.{armed, powered_up}
-use Rattle.dfu_sim.specs.OneResult.{SameDevice}
+use Rattle.dfu_sim.specs.OneAnswer.{SameDevice}
 
 same_store : (s : SlotsState) → SameStore s s
 same_store s = record { medium = record { bytes = refl; fuse = refl; grain = refl }; held = refl; put_end = refl }

@@ -7,8 +7,8 @@ use Rattle.dfu_host.specs.Blocks.{blocks}
 use Rattle.dfu_host.specs.BlockLaws.{block_counts}
 use Rattle.dfu_host.specs.Phases.{ToFetch, Phase, Find, GiveUp, Over, OverUploaded, Restarted}
 use Rattle.dfu_host.specs.Host.{HostState, IsOn, aborted_in}
-use Rattle.dfu_sim.specs.declared.purpose.Purpose.{Purpose}
-use Rattle.dfu_sim.specs.declared.purpose.Purpose.TheVariants.{Install, Verify}
+use Rattle.dfu_sim.specs.declared.offering.Purpose.{Purpose}
+use Rattle.dfu_sim.specs.declared.offering.Purpose.TheVariants.{Install, Verify}
 use Rattle.dfu_sim.specs.Session.{Machine, Live, NoOne, Loading, SaysReport, says_not, AnOffer, ARestart, MachineStep, offered, uploads, aborts, restarts, refuses}
 use Rattle.dfu_sim.specs.Happening.{Happening, Offers, Uploads, Aborts, Goes, Passes, Resets, Cuts, Refuses}
 use Rattle.dfu_sim.specs.Opening.{goal_of_purpose}

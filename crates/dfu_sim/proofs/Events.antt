@@ -14,8 +14,8 @@ use Rattle.dfu_host.specs.declared.fault.HostFault.{HostFault}
 use Rattle.dfu_host.specs.declared.limits.Limits.{Limits}
 use Rattle.dfu_host.specs.declared.report.Report.{Report}
 use Rattle.dfu_host.specs.Host.{HostState, started}
-use Rattle.dfu_sim.specs.declared.purpose.Purpose.{Purpose}
-use Rattle.dfu_sim.specs.declared.purpose.Purpose.TheVariants.{Install, Verify}
+use Rattle.dfu_sim.specs.declared.offering.Purpose.{Purpose}
+use Rattle.dfu_sim.specs.declared.offering.Purpose.TheVariants.{Install, Verify}
 use Rattle.dfu_sim.specs.declared.fault.LinkFault.{LinkFault}
 use Rattle.dfu_sim.specs.declared.fault.LinkFault.TheVariants as fault
 use Rattle.dfu_sim.specs.declared.fault.OfferFault.TheVariants as offer_fault

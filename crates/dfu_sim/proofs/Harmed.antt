@@ -14,8 +14,8 @@ use Rattle.dfu_host.specs.Phases.{Deed, Send, Wait, Reset, Done as IsDone, Heard
 use Rattle.dfu_host.specs.Table.{deed}
 use Rattle.dfu_host.specs.Host.{HostState}
 use Rattle.dfu_host.specs.Wire.{IsAsked}
-use Rattle.dfu_sim.specs.declared.response.Response.{Response}
-use Rattle.dfu_sim.specs.declared.response.Response.TheVariants as response
+use Rattle.dfu_sim.specs.declared.delivery.Response.{Response}
+use Rattle.dfu_sim.specs.declared.delivery.Response.TheVariants as response
 use Rattle.dfu_sim.specs.declared.delivery.Handled.{Handled}
 use Rattle.dfu_sim.specs.declared.delivery.Handled.TheVariants.{Once, Late}
 use Rattle.dfu_sim.specs.declared.delivery.MediumFault.{MediumFault}
@@ -26,7 +26,7 @@ use Rattle.dfu_sim.specs.LinkView.{Hosted, LinkView}
 use Rattle.dfu_sim.specs.Play.{Answered, took, heard_as, remembered, heard_over, waits_for}
 use Rattle.dfu_sim.specs.Bytes.{fuse_of, armed, bus_was_reset, HearsBack, TakesSetup, ReachesDevice, once, Sends, Slips, Acts, device_left_by, NextAction, HappensOnBench}
 use Rattle.dfu_sim.specs.Comes.{happens}
-use Rattle.dfu_sim.specs.OneResult.{SameDevice, AreOne, HarmsAWrite, OneResult}
+use Rattle.dfu_sim.specs.OneAnswer.{SameDevice, AreOne, HarmsAWrite, OneResult}
 use Rattle.dfu_sim.proofs.Fates.{all_remembered}
 use Rattle.dfu_sim.proofs.DoneOnce.{same_device, powered_same, disarmed_same, DoneOnce, done_once}
 use Rattle.dfu_sim.proofs.Replies.{IsHosts, HostsDeed, hosts_deed, plan_heard}

@@ -2,7 +2,8 @@
 use Rattle.std.proofs.Common.{◌≡◌, Bool, true, false, IsTrue, refl, sym, ap, ◌∙◌, subst}
 use Rattle.dfu_slots.specs.Medium.{Fuse}
 use Rattle.dfu_slots.specs.Medium.Fuse.{Whole}
-use Rattle.dfu_slots.specs.Seen.{image_restarted, room_restarted}
+use Rattle.std.specs.Prelude.{[]}
+use Rattle.dfu_slots.specs.Seen.{shows_same}
 use Rattle.dfu_device.specs.Stage.{Profile, InAppIdle}
 use Rattle.dfu_device.specs.Outcome.{Situation, Luck, Works, Outcome, elapsed, powered}
 use Rattle.dfu_device.specs.DeviceView.{DeviceView, profile, situation}
@@ -30,10 +31,10 @@ armed_goes d delivery fuse w w' heard x =
     (subst (λ (c : Profile). Went fuse c (situation (armed w fuse)) d delivery w' heard) (armed_profile w fuse) x)
 
 powered_situation : (w : DeviceView) → situation (powered_up w) ≡ powered (situation w)
-powered_situation w = λ k. record { image = image_restarted w.slots Whole k; stage = InAppIdle }
+powered_situation w = λ k. record { image = (shows_same w.slots Whole [] 0).image k; stage = InAppIdle }
 
 powered_profile : (w : DeviceView) → profile (powered_up w) ≡ profile w
-powered_profile w = λ k. record (profile w) { capacity = room_restarted w.slots Whole k }
+powered_profile w = λ k. record (profile w) { capacity = (shows_same w.slots Whole [] 0).room k }
 
 after_situation : (harming : MediumFault) (w : DeviceView) → situation (device_left_by harming w) ≡ over harming (situation w)
 after_situation CutsPower w = powered_situation w

@@ -2,16 +2,16 @@
 use Rattle.std.proofs.Common.{◌≡◌, ℕ, List, Option, Some, None, refl, sym, ap, ◌∙◌, subst}
 use Rattle.dfu_suffix.proofs.ForCallers.{never_both, one_reading}
 use Rattle.dfu_host.specs.declared.fault.HostFault.{HostFault}
-use Rattle.dfu_sim.specs.declared.purpose.Purpose.{Purpose}
+use Rattle.dfu_sim.specs.declared.offering.Purpose.{Purpose}
 use Rattle.dfu_host.specs.Host.{HostState}
 use Rattle.dfu_device.specs.Setting.{Setting}
 use Rattle.dfu_sim.specs.declared.fault.LinkFault.TheVariants as fault
 use Rattle.dfu_sim.specs.declared.fault.OfferFault.{OfferFault}
 use Rattle.dfu_sim.specs.declared.fault.OfferFault.TheVariants as offer_fault
 use Rattle.dfu_sim.specs.Play.{MayHappen}
-use Rattle.dfu_sim.specs.LinkView.{Session, Nobody, Hosted}
+use Rattle.dfu_sim.specs.LinkView.{Session, Nobody, Hosted, IsLive}
 use Rattle.dfu_sim.specs.Happening.{Happening, Offers, Uploads, Aborts, Goes}
-use Rattle.dfu_sim.specs.Refusing.{first_offer_fault, IsOffered, IsBadOffer, CanGive, IsBadUpload, IsLive}
+use Rattle.dfu_sim.specs.Refusing.{first_offer_fault, IsOffered, IsBadOffer, CanGive, IsBadUpload}
 use Rattle.dfu_sim.proofs.Events.{same_fault}
 use Rattle.dfu_sim.specs.OneAnswer.{OneRefusal, RefusedIsNoPlay, OneEvent}
 

@@ -15,8 +15,8 @@ use Rattle.dfu_host.specs.Phases.{ToFetch, Deed, Send, Wait, Reset, Done, Heard,
 use Rattle.dfu_host.specs.Table.{deed}
 use Rattle.dfu_host.specs.Host.{HostState, after, wants_memory}
 use Rattle.dfu_host.specs.Wire.{IsAsked, HearsBytes}
-use Rattle.dfu_sim.specs.declared.response.Response.{Response}
-use Rattle.dfu_sim.specs.declared.response.Response.TheVariants as response
+use Rattle.dfu_sim.specs.declared.delivery.Response.{Response}
+use Rattle.dfu_sim.specs.declared.delivery.Response.TheVariants as response
 use Rattle.dfu_sim.specs.declared.delivery.Handled.{Handled}
 use Rattle.dfu_sim.specs.declared.delivery.Handled.TheVariants.{Unseen, Once, Again, Late}
 use Rattle.dfu_sim.specs.declared.delivery.MediumFault.{MediumFault}

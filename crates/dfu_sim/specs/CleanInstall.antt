@@ -9,7 +9,7 @@ use Rattle.dfu_host.specs.declared.limits.Limits.{Limits}
 use Rattle.dfu_host.specs.declared.report.Report.{Report}
 use Rattle.dfu_sim.specs.declared.fault.LinkFault.TheVariants.{NoMemory}
 use Rattle.dfu_sim.specs.declared.running.Stop.{Stop}
-use Rattle.dfu_sim.specs.declared.purpose.Purpose.{Purpose}
+use Rattle.dfu_sim.specs.declared.offering.Purpose.{Purpose}
 use Rattle.dfu_sim.specs.Happening.{Pass, Happening, Offers, Goes, unharmed}
 use Rattle.dfu_sim.specs.LinkView.{Nobody, LinkView}
 use Rattle.dfu_sim.specs.Bytes.{link_of}

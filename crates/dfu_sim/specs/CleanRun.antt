@@ -8,8 +8,8 @@ use Rattle.dfu_host.specs.Blocks.{blocks}
 use Rattle.dfu_host.specs.Clean.{clean}
 use Rattle.dfu_device.specs.Stage.{Profile, InAppIdle}
 use Rattle.dfu_device.specs.Outcome.{Luck, Works}
-use Rattle.dfu_sim.specs.declared.purpose.Purpose.{Purpose}
-use Rattle.dfu_sim.specs.declared.purpose.Purpose.TheVariants.{Install, Verify}
+use Rattle.dfu_sim.specs.declared.offering.Purpose.{Purpose}
+use Rattle.dfu_sim.specs.declared.offering.Purpose.TheVariants.{Install, Verify}
 use Rattle.dfu_sim.specs.Happening.{Pass, Offers, Goes, unharmed}
 use Rattle.dfu_sim.specs.Play.{Link, Answered, silent, played}
 use Rattle.dfu_sim.specs.LinkView.{Nobody}

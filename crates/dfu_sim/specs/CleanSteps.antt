@@ -2,7 +2,7 @@
 use Rattle.std.specs.Prelude.{◌≡◌, ℕ, ◌≤◌, List, [], ◌∷◌, ◌++◌, take, drop, Option}
 use Rattle.dfu_host.specs.declared.limits.Limits.{Limits}
 use Rattle.dfu_host.specs.declared.report.Report.{Report}
-use Rattle.dfu_sim.specs.declared.purpose.Purpose.{Purpose}
+use Rattle.dfu_sim.specs.declared.offering.Purpose.{Purpose}
 use Rattle.dfu_sim.specs.declared.fault.LinkFault.{LinkFault}
 use Rattle.dfu_sim.specs.Session.{said}
 use Rattle.dfu_sim.specs.LinkView.{LinkView}

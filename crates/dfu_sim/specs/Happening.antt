@@ -4,8 +4,8 @@ use Rattle.dfu_device.specs.declared.objection.Objection.{Objection}
 use Rattle.dfu_host.specs.declared.limits.Limits.{Limits}
 use Rattle.dfu_sim.specs.declared.fate.Fate.{Fate as GivenFate}
 use Rattle.dfu_sim.specs.declared.fate.Fate.TheVariants as fate
-use Rattle.dfu_sim.specs.declared.purpose.Purpose.{Purpose}
-use Rattle.dfu_sim.specs.declared.purpose.Purpose.TheVariants.{Install, Verify}
+use Rattle.dfu_sim.specs.declared.offering.Purpose.{Purpose}
+use Rattle.dfu_sim.specs.declared.offering.Purpose.TheVariants.{Install, Verify}
 use Rattle.dfu_sim.specs.declared.event.Event.{Event as GivenEvent}
 use Rattle.dfu_sim.specs.declared.event.Event.TheVariants as event
 

@@ -11,7 +11,6 @@ pub mod Simulation
 pub mod CleanRun
 pub mod Bytes
 pub mod Understood
-pub mod Power
 pub mod Refusing
 pub mod Comes
 pub mod Giving
@@ -24,8 +23,6 @@ pub mod FollowingRun
 pub mod Headline
 pub mod BegunBy
 pub mod CleanInstall
-pub mod NextSession
 pub mod CleanSteps
-pub mod OneResult
 pub mod Accepting
 pub mod inside

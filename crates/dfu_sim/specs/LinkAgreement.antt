@@ -1,10 +1,11 @@
--- When a link of values agrees with a session machine, and that some machine does.
+-- When a link of values agrees with a session machine, that some machine does, and that it goes on from one world to the next.
 use Rattle.std.specs.Prelude.{◌≡◌, ℕ, List, [], Option}
+use Rattle.dfu_slots.specs.Medium.Fuse.{Whole}
 use Rattle.dfu_device.specs.Stage.{Stage}
 use Rattle.dfu_sim.specs.Session.{Machine, NoOne}
 use Rattle.dfu_sim.specs.Play.{Link}
-use Rattle.dfu_sim.specs.LinkView.{LinkView, Nobody, ShowsActive}
-use Rattle.dfu_sim.specs.Bytes.{link_of}
+use Rattle.dfu_sim.specs.LinkView.{LinkView, Nobody, WorldView, ShowsActive}
+use Rattle.dfu_sim.specs.Bytes.{link_of, armed}
 use Rattle.dfu_sim.specs.Agreement.{Intake, NothingTaken, Open, Shut, intake_of, pending_in, live_of, IsShutOffer, IsLiveOffer, AgreesOn}
 
 -- What is pending on a device.
@@ -51,3 +52,9 @@ FreshAgrees = (w : Link) → w.session ≡ Nobody → NothingClosed w.device.sta
 -- A bench that shows the active image of its medium's bytes agrees with each machine that its link agrees with.
 abbrev pub LinkAgreesOn : Type 0
 LinkAgreesOn = (b : LinkView) (up : List ℕ) (m : Machine) → ShowsActive b → Agrees (link_of b) up m → AgreesOn b up m
+
+-- A world with no session is taken apart, and a new one is made over its device, whose medium it disarms: each session machine that agreed
+-- goes on, with nothing uploaded so far.
+abbrev pub SessionsGoOn : Type 0
+SessionsGoOn = (w : WorldView) (m : Machine) → w.bench.session ≡ Nobody → AgreesOn w.bench w.up m
+    → AgreesOn (record { device = armed w.bench.device Whole; session = Nobody }) [] (record m { up = [] })

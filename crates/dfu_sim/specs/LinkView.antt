@@ -10,6 +10,11 @@ pub data Session : Type 0 where
   Nobody : Session
   Hosted : HostState → Session
 
+-- A session is live.
+abbrev pub IsLive : Session → Type 0
+IsLive Nobody = ⊥
+IsLive (Hosted h) = Unit {0}
+
 -- A device on its medium, and the session that is live.
 pub record LinkView : Type 0 where
   pub device : DeviceView

@@ -4,8 +4,8 @@ use Rattle.dfu_wire.specs.declared.functionals.Functional.{Functional}
 use Rattle.dfu_device.specs.Stage.{Profile}
 use Rattle.dfu_host.specs.Phases.{Goal, ToLoad, ToVerify, Task}
 use Rattle.dfu_host.specs.Host.{host_begun, task_by_descriptor as host_task_for}
-use Rattle.dfu_sim.specs.declared.purpose.Purpose.{Purpose}
-use Rattle.dfu_sim.specs.declared.purpose.Purpose.TheVariants.{Install, Verify}
+use Rattle.dfu_sim.specs.declared.offering.Purpose.{Purpose}
+use Rattle.dfu_sim.specs.declared.offering.Purpose.TheVariants.{Install, Verify}
 use Rattle.dfu_sim.specs.LinkView.{Session, Hosted}
 
 -- The descriptor of a device with this profile, whose version no task goes by.

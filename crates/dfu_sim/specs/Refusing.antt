@@ -7,13 +7,13 @@ use Rattle.dfu_host.specs.declared.fault.HostFault.{HostFault}
 use Rattle.dfu_host.specs.Download.{first_download_fault, first_verify_fault}
 use Rattle.dfu_host.specs.Uploading.{first_upload_fault}
 use Rattle.dfu_device.specs.Setting.{Setting}
-use Rattle.dfu_sim.specs.declared.purpose.Purpose.{Purpose}
-use Rattle.dfu_sim.specs.declared.purpose.Purpose.TheVariants.{Install, Verify}
+use Rattle.dfu_sim.specs.declared.offering.Purpose.{Purpose}
+use Rattle.dfu_sim.specs.declared.offering.Purpose.TheVariants.{Install, Verify}
 use Rattle.dfu_sim.specs.declared.fault.LinkFault.{LinkFault}
 use Rattle.dfu_sim.specs.declared.fault.LinkFault.TheVariants as link_fault
 use Rattle.dfu_sim.specs.declared.fault.OfferFault.{OfferFault}
 use Rattle.dfu_sim.specs.declared.fault.OfferFault.TheVariants as offer_fault
-use Rattle.dfu_sim.specs.LinkView.{Session, Nobody, Hosted, LinkView}
+use Rattle.dfu_sim.specs.LinkView.{Nobody, IsLive, LinkView}
 use Rattle.dfu_sim.specs.Happening.{Happening, Offers, Uploads, Aborts, Goes}
 
 -- The first fault of a session with which this is offered to a device of this descriptor.
@@ -50,11 +50,6 @@ CanGive s = first_upload_fault s.functional ≡ None
 abbrev pub IsBadUpload : Setting → OfferFault → Type 0
 IsBadUpload s (offer_fault.Suffix fault) = ⊥
 IsBadUpload s (offer_fault.Host fault) = first_upload_fault s.functional ≡ Some fault
-
--- A session is live.
-abbrev pub IsLive : Session → Type 0
-IsLive Nobody = ⊥
-IsLive (Hosted h) = Unit {0}
 
 -- When an event is refused: an offer or an upload while a session is live, and an abort or an action while none is. While none is, an
 -- offer of a file that is not taken is refused too, and an upload from a device that gives no image.

@@ -2,6 +2,8 @@
 use Rattle.std.specs.Prelude.{◌≡◌, ℕ, List, Bool}
 use Rattle.dfu_slots.specs.Medium.Fuse.{Whole}
 use Rattle.dfu_slots.specs.Image.{Active, HasImage}
+use Rattle.dfu_slots.specs.Changes.{IsOpenFault}
+use Rattle.dfu_slots.specs.declared.fault.OpenFault.{OpenFault}
 use Rattle.dfu_device.specs.declared.answer.Answer.{Answer}
 use Rattle.dfu_device.specs.Table.{plan}
 use Rattle.dfu_device.specs.Outcome.{Luck, outcome}
@@ -39,3 +41,7 @@ BytesShow = (b b' : LinkView) (event : Happening) (answer : Answered) → BytePl
 abbrev pub ImageShown : Type 0
 ImageShown = (b : LinkView) → (HasImage b.device.slots.medium → ShowsActive b)
     × ((image : List ℕ) → Active b.device.slots.medium image → image ≡ (link_of b).device.image)
+
+-- Nothing for which a device is refused its start is wrong with the medium of a bench that shows the active image of its bytes.
+abbrev pub PowerComesBack : Type 0
+PowerComesBack = (b : LinkView) (fault : OpenFault) → ShowsActive b → ¬ IsOpenFault fault b.device.slots.medium

@@ -1,20 +1,23 @@
-//! One action of a host, by its delivery.
+//! One action of a host, with what its fate does to the medium and to the power.
 
 ghost use Rattle.std.specs.Prelude.{◌≡◌};
+ghost use Rattle.dfu_slots.specs.Medium.Fuse.{Whole};
 ghost use Rattle.dfu_device.specs.Rows.{Elapses};
 ghost use Rattle.dfu_host.specs.Host.{IsOn};
-ghost use Rattle.dfu_sim.specs.Play.{waits_for};
 ghost use Rattle.dfu_host.specs.Wire.{Hears};
 ghost use Rattle.dfu_host.specs.Phases.{Deed, Heard};
-ghost use Rattle.dfu_sim.specs.Bytes.{TakesSetup, ReachesDevice, Slips, bus_was_reset, came_back, ended_back, Waits, ResetsBus, HostActs};
-ghost use Rattle.dfu_sim.specs.inside.Acting.{delivery_in, seen_over, HasHeardBack};
+ghost use Rattle.dfu_sim.specs.Play.{waits_for};
+ghost use Rattle.dfu_sim.specs.Happening.{fate_of, harm_in, refused_in};
+ghost use Rattle.dfu_sim.specs.Delivery.{delivery_of};
+ghost use Rattle.dfu_sim.specs.Bytes.{TakesSetup, ReachesDevice, Slips, bus_was_reset, came_back, ended_back, Waits, ResetsBus, HostActs, HostActsArmed, fuse_of, armed, powered_up, device_left_by};
+ghost use Rattle.dfu_sim.specs.inside.Acting.{delivery_in, harm_at, seen_over, HasHeardBack};
 
-use crate::delivery::{Delivery, Handled, MediumFault};
-use crate::response::Response;
+use crate::delivery::{Answered, Delivery, Handled, MediumFault, Response, delivery_by};
+use crate::fate::Fate;
 use arrayvec::ArrayVec;
 use dfu_device::{Answer, Device, Objection};
 use dfu_host::{Action, Host, Seen};
-use dfu_slots::Medium;
+use dfu_slots::{Faulty, Medium};
 
 /// A request comes to a device, whose program refuses the image that it closes, if it closes one, or refuses none. `out` gets the answer's
 /// bytes.
@@ -145,7 +148,7 @@ fn tell(host: &mut Host<'_>, back: Response, out: &[u8])
 /// The next action of a host that is not done, by its delivery. Who harms a write has armed the
 /// medium for it. `out` is room for an answer; what it holds at first isn't read. It answers what the
 /// device answered, if it did, whether that came back or not.
-pub(crate) fn act<M: Medium>(
+fn act<M: Medium>(
     device: &mut Device<M>,
     host: &mut Host<'_>,
     delivery: Delivery<'_>,
@@ -180,4 +183,59 @@ pub(crate) fn act<M: Medium>(
         }
         Action::Done(_) => unreachable!(),
     }
+}
+
+/// Arms the medium for an action of this delivery: with a cut no later write works, with a failure and a
+/// lie all later ones do.
+fn arm<M: Faulty>(device: &mut Device<M>, delivery: Delivery<'_>)
+    requires { device.old.slots.medium.fuse ≡ Whole }
+    ensures { device.new ≡ armed device.old (fuse_of delivery.entry.harming (harm_at delivery.entry)) }
+{
+    match delivery.harming {
+        MediumFault::NoWrite => {}
+        MediumFault::CutsPower => device.arm(delivery.writes, delivery.tear, true),
+        MediumFault::FailsWrite => device.arm(delivery.writes, delivery.tear, false),
+        MediumFault::LiesInWrite => device.arm_lie(delivery.writes, delivery.tear),
+    }
+}
+
+/// A device's power goes and comes back: it starts anew, on its medium as the medium is then, and disarmed.
+/// That is never refused, since a device keeps an active image on its medium, whatever is cut or
+/// fails.
+pub(crate) fn power_cycle<M: Faulty>(device: &mut Device<M>)
+    ensures { device.new ≡ powered_up device.old }
+{
+    device.disarm();
+    device.restart();
+}
+
+/// The action is over: after a cut the power comes back, and in any case the medium is disarmed.
+fn settle<M: Faulty>(device: &mut Device<M>, harming: MediumFault)
+    ensures { device.new ≡ device_left_by harming device.old }
+{
+    match harming {
+        MediumFault::CutsPower => power_cycle(device),
+        MediumFault::NoWrite | MediumFault::FailsWrite | MediumFault::LiesInWrite =>
+            device.disarm(),
+    }
+}
+
+/// Carries out the next action of a host that is not done, by its fate, and keeps what the device answers. The device's program refuses the
+/// image that the action closes, or refuses none.
+pub(crate) fn carry_out<M: Faulty>(
+    device: &mut Device<M>,
+    host: &mut Host<'_>,
+    fate: Fate<'_>,
+    refusing: Option<Objection>,
+    out: &mut Answered,
+)
+    requires on { IsOn host.old.phase }
+    requires unarmed { device.old.slots.medium.fuse ≡ Whole }
+    ensures { HostActsArmed host.old (delivery_of (refused_in refusing (fate_of fate.entry))) (harm_in fate.entry) device.old device.new
+        host.new }
+{
+    let delivery = delivery_by(fate, refusing);
+    arm(device, delivery);
+    out.came = act(device, host, delivery, &mut out.bytes);
+    settle(device, delivery.harming);
 }

@@ -1,4 +1,4 @@
-//! What each fate comes to, as data: all else goes by it.
+//! What each fate comes to, and what comes of an action, as data: all else goes by it.
 
 ghost use Rattle.std.specs.Prelude.{◌≡◌};
 ghost use Rattle.dfu_sim.specs.Happening.{fate_of, harm_in, refused_in};
@@ -6,7 +6,8 @@ ghost use Rattle.dfu_sim.specs.Delivery.{delivery_of};
 ghost use Rattle.dfu_sim.specs.inside.Acting.{delivery_in, harm_at};
 
 use crate::fate::Fate;
-use dfu_device::Objection;
+use arrayvec::ArrayVec;
+use dfu_device::{Answer, Objection};
 
 /// What a device or a board makes of a request.
 #[derive(Clone, Copy)]
@@ -44,6 +45,25 @@ pub(crate) struct Delivery<'t> {
     pub(crate) harming: MediumFault,
     pub(crate) writes: u32,
     pub(crate) tear: &'t [u8],
+}
+
+/// What comes back of a request.
+#[derive(Clone, Copy, Debug, PartialEq, Eq)]
+pub(crate) enum Response {
+    /// The device's answer.
+    Answered(Answer),
+    /// Nothing.
+    Lost,
+    /// That the device was restarted, and no answer.
+    Restarted,
+}
+
+/// What came of the last action, and room for the bytes of an answer. The room is kept, since to make it
+/// clears 4,096 bytes, which cost more than a pass.
+#[derive(Drop)]
+pub(crate) struct Answered {
+    pub came: Response,
+    pub bytes: ArrayVec<u8, 4096>,
 }
 
 /// The delivery of each fate, if the device's program refuses nothing.

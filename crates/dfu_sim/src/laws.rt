@@ -2,17 +2,14 @@
 //! be called by programs. `World::step` calls `image_shown`, only for its law.
 
 ghost use Rattle.dfu_sim.specs.Headline.{HoldsAtRest};
-ghost use Rattle.dfu_sim.specs.LinkAgreement.{SomeAgrees, FreshAgrees, LinkAgreesOn};
+ghost use Rattle.dfu_sim.specs.LinkAgreement.{SomeAgrees, FreshAgrees, LinkAgreesOn, SessionsGoOn};
 ghost use Rattle.dfu_sim.specs.CleanRun.{CleanRun};
 ghost use Rattle.dfu_sim.specs.CleanSteps.{StepsInstall, StepsStand};
-ghost use Rattle.dfu_sim.specs.NextSession.{SessionsGoOn};
 ghost use Rattle.dfu_sim.specs.Giving.{UploadsGive, RestIsSteady};
 ghost use Rattle.dfu_sim.specs.Simulation.{OnlyOffered, Simulation};
 ghost use Rattle.dfu_sim.specs.Accepting.{LinkAccepts, OffersAccepted};
-ghost use Rattle.dfu_sim.specs.OneAnswer.{OneEvent, OneRefusal, RefusedIsNoPlay};
-ghost use Rattle.dfu_sim.specs.OneResult.{OneResult};
-ghost use Rattle.dfu_sim.specs.Power.{PowerComesBack};
-ghost use Rattle.dfu_sim.specs.Understood.{ImageShown, BytesShow, Understood};
+ghost use Rattle.dfu_sim.specs.OneAnswer.{OneEvent, OneRefusal, RefusedIsNoPlay, OneResult};
+ghost use Rattle.dfu_sim.specs.Understood.{ImageShown, BytesShow, Understood, PowerComesBack};
 
 use dfu_slots::laws::active_image_is_one;
 

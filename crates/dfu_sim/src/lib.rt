@@ -6,27 +6,20 @@
 #![tactic(auto)]
 
 mod acting;
-mod answered;
 mod delivery;
 mod event;
 mod fate;
 mod fault;
-mod going;
 pub mod laws;
 mod offering;
 mod play;
-mod power;
-mod purpose;
-mod response;
 mod running;
-mod uploading;
 mod world;
 
 pub use delivery::Handled;
 pub use event::Event;
 pub use fate::Fate;
 pub use fault::{LinkFault, OfferFault};
-pub use offering::begin;
-pub use purpose::Purpose;
+pub use offering::{Purpose, begin};
 pub use running::{Stop, run};
 pub use world::World;

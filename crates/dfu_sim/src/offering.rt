@@ -6,12 +6,26 @@ ghost use Rattle.dfu_host.specs.Host.{started};
 ghost use Rattle.dfu_sim.specs.Opening.{goal_of_purpose};
 ghost use Rattle.dfu_sim.specs.inside.Acting.{HasBegun};
 ghost use Rattle.dfu_sim.specs.Refusing.{first_offer_fault, IsBadOffer};
+ghost use Rattle.dfu_sim.specs.Standing.{bench_of, IsSteady};
+ghost use Rattle.dfu_sim.specs.Happening.{Uploads};
+ghost use Rattle.dfu_sim.specs.Comes.{HasComeAlone};
 
-use crate::fault::OfferFault;
-use crate::purpose::Purpose;
-use dfu_host::{Host, HostFault, Limits};
+use crate::fault::{LinkFault, OfferFault};
+use dfu_device::Device;
+use dfu_host::{Host, HostFault, Limits, Report};
+use dfu_slots::Medium;
 use dfu_suffix::{File, read};
 use dfu_wire::{Functional, Ids};
+use std::alloc::Global;
+
+/// What a file is offered for: no call takes it, and the clause `clean` of `run` speaks of it.
+#[derive(Clone, Copy)]
+pub enum Purpose {
+    /// To be installed.
+    Install,
+    /// To be installed, and then compared with the device's active image.
+    Verify,
+}
 
 /// A host for a file that was read, by the device's descriptor and identifiers.
 fn open<'f>(
@@ -55,5 +69,27 @@ pub fn begin<'f>(
     match open(&file, functional, ids, purpose, limits) {
         Ok(host) => Ok(host),
         Err(fault) => Err(OfferFault::Host(fault)),
+    }
+}
+
+/// An upload is to begin. Its host takes no memory yet, and keeps the allocator.
+pub(crate) fn upload<M: Medium>(
+    alloc: Global,
+    device: &Device<M>,
+    host: &mut Option<Host<'_>>,
+    limits: Limits,
+) -> Result<Option<Report>, LinkFault>
+    requires { IsSteady (bench_of device.now host.old) }
+    ensures { HasComeAlone (bench_of device.now host.old) (Uploads limits) (bench_of device.now host.new) result }
+{
+    if host.is_some() {
+        return Err(LinkFault::HostBusy);
+    }
+    match Host::upload(alloc, &device.functional(), limits) {
+        Ok(begun) => {
+            *host = Some(begun);
+            Ok(None)
+        }
+        Err(fault) => Err(LinkFault::BadOffer(OfferFault::Host(fault))),
     }
 }

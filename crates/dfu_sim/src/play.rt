@@ -8,15 +8,12 @@ ghost use Rattle.dfu_sim.specs.Happening.{Offers, Goes, fate_of, harm_in, refuse
 ghost use Rattle.dfu_sim.specs.Comes.{HasCome, HasComeAlone};
 ghost use Rattle.dfu_sim.specs.inside.Acting.{report_of, ended, abort_told};
 
-use crate::answered::Answered;
+use crate::acting::{carry_out, power_cycle};
+use crate::delivery::Answered;
 use crate::event::Event;
 use crate::fate::Fate;
 use crate::fault::LinkFault;
-use crate::going::carry_out;
-use crate::offering::begin;
-use crate::power::power_cycle;
-use crate::purpose::Purpose;
-use crate::uploading::upload;
+use crate::offering::{Purpose, begin, upload};
 use dfu_device::{Device, Objection};
 use dfu_host::{Action, Host, Limits, Report, Seen};
 use dfu_slots::{Faulty, Medium};

@@ -2,23 +2,20 @@
 
 ghost use Rattle.std.specs.Prelude.{◌≡◌, [], true, false, IfOk, IfErr, IfNone};
 ghost use Rattle.dfu_slots.specs.Medium.Fuse.{Whole};
-ghost use Rattle.dfu_sim.specs.LinkView.{Nobody};
+ghost use Rattle.dfu_sim.specs.LinkView.{Nobody, IsLive, ShowsActive};
 ghost use Rattle.dfu_sim.specs.Bytes.{armed};
-ghost use Rattle.dfu_sim.specs.LinkView.{ShowsActive};
 ghost use Rattle.dfu_sim.specs.Happening.{happening};
-ghost use Rattle.dfu_sim.specs.Refusing.{IsLive};
 ghost use Rattle.dfu_sim.specs.Comes.{HasCome};
 ghost use Rattle.dfu_sim.specs.Following.{AllFollow};
 ghost use Rattle.dfu_sim.specs.Headline.{StepKeepsHeadline};
 ghost use Rattle.dfu_sim.specs.Sure.{AllSure};
 ghost use Rattle.dfu_sim.specs.Giving.{GivesOrKeeps};
 
-use crate::answered::Answered;
+use crate::delivery::{Answered, Response};
 use crate::event::Event;
 use crate::fault::LinkFault;
 use crate::laws::image_shown;
 use crate::play::apply_event;
-use crate::response::Response;
 use arrayvec::ArrayVec;
 use dfu_device::{Answer, Device};
 use dfu_host::{Action, Host, Phase, Report};

@@ -1,8 +1,8 @@
 -- The steps of a `format` keep the length of the medium and its unit.
 use Rattle.std.proofs.Common.{◌≡◌, inr, ℕ, ◌+◌, ◌*◌, ◌≤◌, List, [], ◌++◌, length, Result, refl, sym, ap, subst, arith}
 use Rattle.dfu_suffix.specs.Register.{register}
-use Rattle.dfu_slots.specs.declared.unit.Unit.{Unit as WriteUnit}
-use Rattle.dfu_slots.specs.declared.unit.Unit.TheVariants.{Byte, U16, U64, U256}
+use Rattle.dfu_slots.specs.declared.layout.Unit.{Unit as WriteUnit}
+use Rattle.dfu_slots.specs.declared.layout.Unit.TheVariants.{Byte, U16, U64, U256}
 use Rattle.dfu_slots.specs.Units.{Grain, IsMultiple, filled}
 use Rattle.dfu_slots.specs.declared.fault.WriteFault.{WriteFault}
 use Rattle.dfu_slots.specs.Medium.{MediumState, Write, AllWrites, BrokenWrites, IsAhead}

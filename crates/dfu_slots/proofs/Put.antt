@@ -1,7 +1,7 @@
 -- The writes of a `put`, and what they leave.
 use Rattle.std.proofs.Common.{◌≡◌, Bool, true, false, if◌then◌else◌, ◌==◌, ℕ, ◌+◌, ◌-◌, ◌≤◌, min, List, ◌++◌, length, take, drop, sym, ◌∙◌, ap, subst, arith, length-append, length-drop, take-append-drop}
 use Rattle.std.proofs.lemmas.List.{length-take-le, take-take}
-use Rattle.dfu_slots.specs.declared.unit.Unit.{Unit as WriteUnit}
+use Rattle.dfu_slots.specs.declared.layout.Unit.{Unit as WriteUnit}
 use Rattle.dfu_slots.specs.Units.{Grain, unit_size, whole_part}
 use Rattle.dfu_slots.specs.Medium.{MediumState, AllWrites, written}
 use Rattle.dfu_slots.specs.Writes.{write_some, head_size, put_writes, put_rest}

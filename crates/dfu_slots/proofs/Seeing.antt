@@ -5,7 +5,7 @@ use Rattle.dfu_slots.specs.Units.{IsWhole, gate_room, Grain}
 use Rattle.dfu_slots.specs.Medium.{MediumState, Fuse, written}
 use Rattle.dfu_slots.specs.Layout.{OPEN, IsOpen, header_length}
 use Rattle.dfu_slots.specs.Image.{gate_of, slot_of, capacity_of, IsSized, Active, HasImage, has_image_fused, active_at, spare_at, spare}
-use Rattle.dfu_slots.specs.Seen.{SlotsState, store_of, store_on, fused, spare_slot, held_at, data_place, image_of, spare_of, is_begun, room_of, is_shaped, image_fused, spare_fused, begun_fused, room_fused}
+use Rattle.dfu_slots.specs.Seen.{SlotsState, store_of, store_on, fused, spare_slot, held_at, data_place, image_of, spare_of, is_begun, room_of, is_shaped, shows_same, spare_fused}
 use Rattle.dfu_slots.specs.Store.{HasPuts, IsStore}
 use Rattle.dfu_slots.specs.Leaves.{FuseLeaves}
 use Rattle.dfu_slots.proofs.Stands.{ActiveAt, standing, active_from}
@@ -175,6 +175,7 @@ pub fuse_leaves : {s v : SlotsState} → s ≡ v → IsStore s → (m : MediumSt
     → FuseLeaves v fuse (store_of m s.held s.put_end)
 fuse_leaves {s} {v} view store m fuse is =
     let same : store_of m s.held s.put_end ≡ fused s fuse = ap (λ (x : MediumState). store_of x s.held s.put_end) is in
+    let shows = shows_same s fuse s.held s.put_end in
     let kept : IsStore (store_of m s.held s.put_end) =
     subst IsStore (sym same) (record {
       has_image = has_image_fused s.medium fuse store.has_image;
@@ -184,9 +185,9 @@ fuse_leaves {s} {v} view store m fuse is =
     (record {
       medium = same;
       store = kept;
-      image = ap image_of same ∙ image_fused s fuse;
+      image = ap image_of same ∙ shows.image;
       spare = ap spare_of same ∙ spare_fused s fuse;
-      begun = ap is_begun same ∙ begun_fused s fuse;
-      room = ap room_of same ∙ room_fused s fuse;
+      begun = ap is_begun same ∙ shows.begun;
+      room = ap room_of same ∙ shows.room;
       shape = shaped kept;
     })

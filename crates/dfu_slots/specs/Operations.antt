@@ -1,6 +1,6 @@
 -- The operations of each change of a medium, in their order, and the writes that they are.
 use Rattle.std.specs.Prelude.{ℕ, zero, suc, ◌+◌, ◌-◌, ◌*◌, min, List, [], ◌∷◌, ◌++◌, replicate, slice_range, if◌then◌else◌, ◌==◌, Option, Some, None}
-use Rattle.dfu_slots.specs.declared.unit.Unit.{Unit as WriteUnit}
+use Rattle.dfu_slots.specs.declared.layout.Unit.{Unit as WriteUnit}
 use Rattle.dfu_slots.specs.declared.operation.Op.{Op}
 use Rattle.dfu_slots.specs.declared.operation.Op.TheVariants.{Erase, Program}
 use Rattle.dfu_slots.specs.declared.operation.Source.{Source}

@@ -130,32 +130,19 @@ Called old (call ∷ calls) AllWorked now = (mid : SlotsState) × Calls old call
 Called old (call ∷ calls) (BrokenBy fault) now = Calls old call (BrokenBy fault) now
     ⊎ ((mid : SlotsState) × Calls old call AllWorked mid × Called mid calls (BrokenBy fault) now)
 
--- The image does not change with the fuse.
-pub image_fused : (s : SlotsState) (fuse : Fuse) → image_of (fused s fuse) ≡ image_of s
-unfolding image_of
-image_fused s fuse = refl
+-- Two stores show the same active image, the same gate of the spare, and the same room.
+pub record ShowsSame (now old : SlotsState) : Type 0 where
+  pub image : image_of now ≡ image_of old
+  pub begun : is_begun now ≡ is_begun old
+  pub room : room_of now ≡ room_of old
 
--- Nor when the power is off.
-pub image_restarted : (s : SlotsState) (fuse : Fuse) → image_of (store_restarted s fuse) ≡ image_of s
-unfolding image_of
-image_restarted s fuse = refl
+-- Neither the fuse nor what was put changes these.
+pub shows_same : (s : SlotsState) (fuse : Fuse) (held : List ℕ) (put_end : ℕ)
+    → ShowsSame (store_of (record s.medium { fuse = fuse }) held put_end) s
+unfolding image_of is_begun room_of
+shows_same s fuse held put_end = record { image = refl; begun = refl; room = refl }
 
 -- The spare's data does not change with the fuse.
 pub spare_fused : (s : SlotsState) (fuse : Fuse) → spare_of (fused s fuse) ≡ spare_of s
 unfolding spare_of
 spare_fused s fuse = refl
-
--- Nor whether the spare's gate is closed.
-pub begun_fused : (s : SlotsState) (fuse : Fuse) → is_begun (fused s fuse) ≡ is_begun s
-unfolding is_begun
-begun_fused s fuse = refl
-
--- Nor the room.
-pub room_fused : (s : SlotsState) (fuse : Fuse) → room_of (fused s fuse) ≡ room_of s
-unfolding room_of
-room_fused s fuse = refl
-
--- Nor does the room when the power is off.
-pub room_restarted : (s : SlotsState) (fuse : Fuse) → room_of (store_restarted s fuse) ≡ room_of s
-unfolding room_of
-room_restarted s fuse = refl

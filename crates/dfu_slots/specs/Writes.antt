@@ -1,6 +1,6 @@
 -- The writes of each change of a medium, in their order.
 use Rattle.std.specs.Prelude.{ℕ, zero, suc, ◌+◌, ◌*◌, ◌%◌, min, List, [], ◌∷◌, ◌++◌, length, take, drop, replicate, if◌then◌else◌, ◌==◌}
-use Rattle.dfu_slots.specs.declared.unit.Unit.{Unit as WriteUnit}
+use Rattle.dfu_slots.specs.declared.layout.Unit.{Unit as WriteUnit}
 use Rattle.dfu_slots.specs.Units.{Grain, unit_size, gate_size, gate_room, whole_part, filled}
 use Rattle.dfu_suffix.specs.Register.{register}
 use Rattle.dfu_slots.specs.Medium.{Write}

@@ -6,10 +6,11 @@ ghost use Rattle.dfu_slots.specs.Medium.{IsAhead};
 ghost use Rattle.dfu_slots.specs.Seen.{store_of};
 ghost use Rattle.dfu_slots.specs.Store.{HasPuts, IsStore};
 
-use crate::places::Places;
+use crate::layout::capacity_of;
+use crate::places::{Places, check};
 use crate::puts::Puts;
-use crate::read::{byte_at, capacity_of, data_at};
-use crate::{Medium, Slots, open};
+use crate::read::{byte_at, data_at};
+use crate::{Medium, Slots};
 use arrayvec::ArrayVec;
 
 // Whether the bytes from there on are erased up to the sector that begins next, if there are sectors.
@@ -114,7 +115,7 @@ impl<M: Medium> Slots<M> {
         ensures store { IfOk result (λ slots. slots ≡ store_of (M.state medium) held.items end) }
         ensures err { IfErr result (λ m. m ≡ medium) }
     {
-        match open::check(&medium) {
+        match check(&medium) {
             Ok(places) => put_together(medium, held, end, places),
             Err(_) => Err(medium),
         }

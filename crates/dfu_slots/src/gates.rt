@@ -8,7 +8,7 @@ ghost use Rattle.dfu_slots.specs.Image.{gate_of, IsSized};
 ghost use Rattle.dfu_slots.specs.Operations.{held_from};
 ghost use Rattle.dfu_slots.specs.Writes.{closed_gate, part_writes, open_writes};
 
-use crate::carry::carry_out;
+use crate::carry::Sources;
 use crate::sequence::Sequence;
 use crate::{Medium, WriteFault};
 
@@ -21,7 +21,12 @@ pub(crate) fn close_gate<M: Medium>(medium: &mut M, slot: u32) -> Result<(), Wri
     ensures { let was = M.state medium.old in
         Series was (record { at = slot; bytes = closed_gate was.grain } ∷ []) result (M.state medium.new) }
 {
-    carry_out(medium, Sequence::Close { slot }, &[], &[], &[0; 16])
+    let none = Sources {
+        held: &[],
+        block: &[],
+        header: &[0; 16],
+    };
+    none.carry_out(medium, Sequence::Close { slot })
 }
 
 /// Writes what is held back, at most 256 bytes of puts that end there, into the data of the slot that begins there, then this
@@ -51,5 +56,10 @@ pub(crate) fn open_slot<M: Medium>(
         end,
         held: held.len() as u16,
     };
-    carry_out(medium, sequence, held, &[], head)
+    let from = Sources {
+        held,
+        block: &[],
+        header: head,
+    };
+    from.carry_out(medium, sequence)
 }

@@ -7,11 +7,9 @@ ghost use Rattle.dfu_slots.specs.Store.{HasPuts, IsStore};
 ghost use Rattle.dfu_slots.specs.Known.{CountsUnread, MayCount, IsNewestUnread, IsActiveUnread};
 
 use crate::from_parts::put_together;
-use crate::header::{is_formed, register_in};
-use crate::layout::{OLD_VERSION, VERSION};
-use crate::open::is_sized;
+use crate::layout::{OLD_VERSION, VERSION, capacity_of, is_formed, is_sized, register_in};
 use crate::places::{Places, places_of};
-use crate::read::{capacity_of, generation, header_of, is_open};
+use crate::read::{generation, header_of, is_open};
 use crate::{Medium, Slots};
 use arrayvec::ArrayVec;
 

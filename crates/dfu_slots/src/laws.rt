@@ -2,7 +2,7 @@
 //! not to be called for what it does. A function above calls one only for its law, as dfu_link does.
 
 ghost use Rattle.std.specs.Prelude.{◌≡◌, ◌≤◌, ◌+◌, ◌*◌, ℕ, List, [], ◌∷◌, ◌++◌, length, take, drop};
-ghost use Rattle.dfu_slots.specs.declared.unit.Unit.{Unit as WriteUnit};
+ghost use Rattle.dfu_slots.specs.declared.layout.Unit.{Unit as WriteUnit};
 ghost use Rattle.dfu_slots.specs.Units.{Grain, in_place, gate_size, gate_room, filled};
 ghost use Rattle.dfu_slots.specs.Layout.{gate_unit, header};
 ghost use Rattle.dfu_slots.specs.Writes.{closed_gate, write_anew, write_some, put_writes, part_writes, open_writes};

@@ -1,9 +1,11 @@
-//! How a slot is laid out: the gate, the header, and the data.
-ghost use Rattle.std.specs.Prelude.{◌≡◌, ◌<◌, ◌≤◌};
-ghost use Rattle.dfu_slots.specs.Units.{gate_size, gate_room, fill_size};
+//! How a medium is laid out: its unit, and of each slot the gate, the header, and the data.
+ghost use Rattle.std.specs.Prelude.{◌≡◌, ◌%◌, ◌^◌, ◌<◌, ◌≤◌, ◌↔◌, get_or, take, drop, IsTrue};
+ghost use Rattle.std.specs.Int.{w32, from_le_bytes};
+ghost use Rattle.dfu_slots.specs.Units.{unit_size, gate_size, gate_room, fill_size};
 ghost use Rattle.dfu_slots.specs.Layout.{header};
+ghost use Rattle.dfu_slots.specs.Image.{gate_of, IsSized, capacity_of};
 
-use crate::Unit;
+use crate::Medium;
 
 /// How many bytes the header has, and how many the gate unit and the header unit have at least.
 const HEADER_SIZE: u32 = 16;
@@ -20,6 +22,35 @@ pub const OPEN_GATE: u8 = 0xa5;
 /// The first byte of a gate unit that is written to close it.
 pub const CLOSED_GATE: u8 = 0x00;
 
+/// How many bytes a medium writes at a time: the place and the length of a write are multiples of it.
+#[derive(Clone, Copy, Debug, PartialEq, Eq, Drop)]
+pub enum Unit {
+    /// One byte: any place and any length.
+    Byte,
+    /// 16 bytes.
+    U16,
+    /// 64 bytes.
+    U64,
+    /// 256 bytes.
+    U256,
+}
+
+impl Unit {
+    /// How many bytes it has: 1, 16, 64 or 256.
+    pub fn size(self) -> u32
+        ensures value { result ≡ unit_size self }
+        ensures some { 0 < result }
+        ensures most { result ≤ 256 }
+    {
+        match self {
+            Unit::Byte => 1,
+            Unit::U16 => 16,
+            Unit::U64 => 64,
+            Unit::U256 => 256,
+        }
+    }
+}
+
 /// How many bytes the gate unit has, and as many the header unit, from 16 to 256.
 pub(crate) fn gate_size(unit: Unit) -> u32
     ensures value { result ≡ gate_size unit }
@@ -27,6 +58,67 @@ pub(crate) fn gate_size(unit: Unit) -> u32
     ensures most { result ≤ 256 }
 {
     HEADER_SIZE.max(unit.size())
+}
+
+/// How many bytes the gate of a slot takes up, and its header as many: a unit of at least 16, or a sector.
+pub(crate) fn gate_room(unit: Unit, sector: u32) -> u32
+    ensures { result ≡ gate_room (record { unit = unit; sector = sector }) }
+{
+    gate_size(unit).max(sector)
+}
+
+/// How many zeros fill so many bytes up to the end of a unit, from 0 to 255.
+pub(crate) fn fill_size(unit: Unit, len: u32) -> u32
+    ensures value { result ≡ fill_size unit len }
+    ensures most { result < 256 }
+{
+    let size = unit.size();
+    (size - len % size) % size
+}
+
+/// How many bytes the gate of a slot takes up, and its header as many: a unit of at least 16, or a sector.
+pub fn gate_of<M: Medium>(medium: &M) -> u32
+    ensures { result ≡ gate_of (M.state medium.now) }
+{
+    gate_room(medium.unit(), medium.sector())
+}
+
+/// How many bytes of data each slot has.
+pub fn capacity_of<M: Medium>(medium: &M) -> u32
+    requires { IsSized (M.state medium.now) }
+    ensures { result ≡ capacity_of (M.state medium.now) }
+{
+    medium.len() / 2 - 2 * gate_of(medium)
+}
+
+// Whether the store takes sectors of so many bytes: 0, or a multiple of 256 up to 131,072.
+fn is_sector(sector: u32) -> bool
+    ensures { IsTrue result ↔ ((sector % 256 ≡ 0) × (sector ≤ 2 ^ 17)) }
+{
+    sector % 256 == 0 && sector <= MAX_SECTOR
+}
+
+// Whether a length is a multiple of the unit's size, and of the sector's.
+fn is_whole(unit: Unit, sector: u32, len: u32) -> bool
+    ensures { IsTrue result ↔ ((len % unit_size unit ≡ 0) × (0 < sector → len % sector ≡ 0)) }
+{
+    len % unit.size() == 0 && (sector == 0 || len % sector == 0)
+}
+
+/// Whether the medium has a length that two slots can have, with whole units and sectors of data each.
+pub fn is_sized<M: Medium>(medium: &M) -> bool
+    ensures { IsTrue result ↔ IsSized (M.state medium.now) }
+{
+    let sector = medium.sector();
+    if !is_sector(sector) {
+        return false;
+    }
+    let gates = 2 * gate_of(medium);
+    let len = medium.len();
+    len % 2 == 0
+        && len > 2 * gates
+        && len <= 2 * (gates + MAX_CAPACITY)
+        && is_whole(medium.unit(), sector, len / 2 - gates)
 }
 
 /// The version of a header that is written. It has the register over the image.
@@ -47,18 +139,51 @@ pub fn make_header(version: u8, generation: u8, len: u32, register: u32) -> [u8;
     ]
 }
 
-/// How many bytes the gate of a slot takes up, and its header as many: a unit of at least 16, or a sector.
-pub(crate) fn gate_room(unit: Unit, sector: u32) -> u32
-    ensures { result ≡ gate_room (record { unit = unit; sector = sector }) }
+/// The length in a header that was read.
+pub fn length_in(header: &[u8; 16]) -> u32
+    ensures { result ≡ from_le_bytes w32 (take 4 (drop 4 header.now)) }
 {
-    gate_size(unit).max(sector)
+    u32::from_le_bytes([header[4], header[5], header[6], header[7]])
 }
 
-/// How many zeros fill so many bytes up to the end of a unit, from 0 to 255.
-pub(crate) fn fill_size(unit: Unit, len: u32) -> u32
-    ensures value { result ≡ fill_size unit len }
-    ensures most { result < 256 }
+/// The register in a header that was read.
+pub(crate) fn register_in(header: &[u8; 16]) -> u32
+    ensures { result ≡ from_le_bytes w32 (take 4 (drop 8 header.now)) }
 {
-    let size = unit.size();
-    (size - len % size) % size
+    u32::from_le_bytes([header[8], header[9], header[10], header[11]])
+}
+
+// The last four bytes, which are zeros in every header.
+fn rest_in(header: &[u8; 16]) -> u32
+    ensures { result ≡ from_le_bytes w32 (take 4 (drop 12 header.now)) }
+{
+    u32::from_le_bytes([header[12], header[13], header[14], header[15]])
+}
+
+/// Whether a header is of this version with this register, and well formed, whatever its generation and its length are.
+pub(crate) fn is_header(found: &[u8; 16], version: u8, register: u32) -> bool
+    ensures { IsTrue result ↔ (found.now ≡
+        header version (get_or found.now 0 0) (from_le_bytes w32 (take 4 (drop 4 found.now))) register) }
+{
+    if found[1] != version {
+        return false;
+    }
+    if found[2] != 0 {
+        return false;
+    }
+    if found[3] != 0 {
+        return false;
+    }
+    if register_in(found) != register {
+        return false;
+    }
+    rest_in(found) == 0
+}
+
+/// Whether a header is of this version with this register, and well formed, with a length up to the room.
+pub(crate) fn is_formed(found: &[u8; 16], room: u32, version: u8, register: u32) -> bool
+    ensures { let len = from_le_bytes w32 (take 4 (drop 4 found.now)) in
+        IsTrue result ↔ ((found.now ≡ header version (get_or found.now 0 0) len register) × (len ≤ room)) }
+{
+    length_in(found) <= room && is_header(found, version, register)
 }

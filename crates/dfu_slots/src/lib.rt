@@ -9,13 +9,11 @@ mod fault;
 mod format;
 mod from_parts;
 mod gates;
-mod header;
 mod known;
 pub mod laws;
 mod layout;
 mod medium;
 mod noted;
-mod open;
 mod operation;
 mod places;
 mod puts;
@@ -25,22 +23,20 @@ mod sequence;
 mod sim;
 mod slots;
 mod steps;
-mod unit;
 mod writes;
 
 // For a caller that reads a medium by itself, and knows which slot is active.
 pub use carry::byte_of;
 pub use fault::{FormatFault, OpenFault, PutFault, WriteFault};
 pub use from_parts::has_puts;
-pub use header::length_in;
-pub use layout::{OPEN_GATE, VERSION, make_header};
+pub use layout::{
+    OPEN_GATE, Unit, VERSION, capacity_of, gate_of, is_sized, length_in, make_header,
+};
 pub use medium::{Failed, Faulty, Medium};
 pub use noted::{LastWrites, WriteEnd, WriteNote};
-pub use open::{check, is_sized};
 pub use operation::{Op, Source};
-pub use places::Places;
-pub use read::{capacity_of, data_at, gate_of, generation, header_of, is_open, read_data};
+pub use places::{Places, check};
+pub use read::{data_at, generation, header_of, is_open, read_data};
 pub use sequence::Sequence;
 pub use sim::{NoMemory, SimMedium};
 pub use slots::Slots;
-pub use unit::Unit;

@@ -1,11 +1,13 @@
 //! Where the active slot and the spare one are.
-ghost use Rattle.std.specs.Prelude.{◌≡◌, ◌+◌, ◌≤◌, ◌&&◌, not, length};
+ghost use Rattle.std.specs.Prelude.{◌≡◌, ◌+◌, ◌≤◌, ◌&&◌, not, length, OnOk, IfOk, IfErr};
 ghost use Rattle.dfu_slots.specs.Layout.{slot_size};
-ghost use Rattle.dfu_slots.specs.Image.{gate_of, IsSized, slot_of, counts, is_newest, active_at, spare_at};
+ghost use Rattle.dfu_slots.specs.Image.{gate_of, IsSized, slot_of, counts, is_newest, active_at, spare_at, HasImage};
 ghost use Rattle.dfu_slots.specs.Known.{slot_place};
+ghost use Rattle.dfu_slots.specs.Changes.{IsOpenFault};
 
-use crate::Medium;
-use crate::read::{counts, generation};
+use crate::layout::is_sized;
+use crate::read::{counts, generation, header_len};
+use crate::{Medium, OpenFault};
 
 /// Where the active slot and the spare one begin.
 #[derive(Clone, Copy, Drop)]
@@ -117,4 +119,29 @@ pub(crate) fn look<M: Medium>(medium: &M) -> Places
     ensures spare { result.spare ≡ spare_at (gate_of (M.state medium.now)) (M.state medium.now).bytes }
 {
     find_places(medium, count_slots(medium))
+}
+
+/// Where the slots of a medium with an active image are, or else its first fault.
+pub fn check<M: Medium>(medium: &M) -> Result<Places, OpenFault>
+    ensures ok { OnOk result (HasImage (M.state medium.now)) }
+    ensures active { IfOk result (λ p. p.active ≡ active_at (gate_of (M.state medium.now)) (M.state medium.now).bytes) }
+    ensures spare { IfOk result (λ p. p.spare ≡ spare_at (gate_of (M.state medium.now)) (M.state medium.now).bytes) }
+    ensures fault { IfErr result (λ fault. IsOpenFault fault (M.state medium.now)) }
+    ensures sized { OnOk result (IsSized (M.state medium.now)) }
+{
+    if !is_sized(medium) {
+        return Err(OpenFault::WrongSize);
+    }
+    let counted = count_slots(medium);
+    if is_none(counted) {
+        return Err(OpenFault::NoImage);
+    }
+    let places = find_places(medium, counted);
+    if !has_newest(medium, places, counted) {
+        return Err(OpenFault::TwoImages);
+    }
+    match header_len(medium, places.active) {
+        Some(_) => Ok(places),
+        None => Err(OpenFault::BadHeader),
+    }
 }

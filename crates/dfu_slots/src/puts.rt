@@ -7,7 +7,7 @@ ghost use Rattle.dfu_slots.specs.Image.{IsSized};
 ghost use Rattle.dfu_slots.specs.Operations.{held_from};
 ghost use Rattle.dfu_slots.specs.Writes.{put_writes, put_rest};
 
-use crate::carry::carry_out;
+use crate::carry::Sources;
 use crate::sequence::Sequence;
 use crate::{Medium, Unit, WriteFault};
 use arrayvec::ArrayVec;
@@ -96,7 +96,12 @@ pub(crate) fn put_units<M: Medium>(
         held: front.len() as u16,
         block: bytes.len() as u16,
     };
-    match carry_out(medium, sequence, front, bytes, &[0; 16]) {
+    let from = Sources {
+        held: front,
+        block: bytes,
+        header: &[0; 16],
+    };
+    match from.carry_out(medium, sequence) {
         Err(fault) => Err(fault),
         Ok(()) => {
             hold_rest(held, unit, bytes);

@@ -13,8 +13,9 @@ ghost use Rattle.dfu_slots.specs.Image.{
 };
 
 use crate::Medium;
-use crate::header::{is_formed, is_header, length_in};
-use crate::layout::{OLD_VERSION, OPEN_GATE, VERSION, gate_room};
+use crate::layout::{
+    OLD_VERSION, OPEN_GATE, VERSION, capacity_of, gate_of, is_formed, is_header, length_in,
+};
 use crate::register::register_of;
 
 // How many bytes are read back at a time.
@@ -65,21 +66,6 @@ pub(crate) fn stands_at<M: Medium>(medium: &M, at: u32, bytes: &[u8]) -> bool
         rest = next;
     }
     true
-}
-
-/// How many bytes the gate of a slot takes up, and its header as many: a unit of at least 16, or a sector.
-pub fn gate_of<M: Medium>(medium: &M) -> u32
-    ensures { result ≡ gate_of (M.state medium.now) }
-{
-    gate_room(medium.unit(), medium.sector())
-}
-
-/// How many bytes of data each slot has.
-pub fn capacity_of<M: Medium>(medium: &M) -> u32
-    requires { IsSized (M.state medium.now) }
-    ensures { result ≡ capacity_of (M.state medium.now) }
-{
-    medium.len() / 2 - 2 * gate_of(medium)
 }
 
 /// Whether the slot that begins there is open.

@@ -7,10 +7,11 @@ ghost use Rattle.dfu_slots.specs.Seen.{store_on, image_of, is_begun, room_of, is
 ghost use Rattle.dfu_slots.specs.Changes.{CanFormat, IsFormatFault, IsOpenFault};
 ghost use Rattle.dfu_slots.specs.Leaves.{FuseLeaves};
 
-use crate::places::{Places, look};
+use crate::layout::{capacity_of, is_sized};
+use crate::places::{Places, check, look};
 use crate::puts::Puts;
-use crate::read::{capacity_of, data_at, header_len, is_open, read_data};
-use crate::{Faulty, FormatFault, Medium, OpenFault, WriteFault, format, open};
+use crate::read::{data_at, header_len, is_open, read_data};
+use crate::{Faulty, FormatFault, Medium, OpenFault, WriteFault, format};
 use std::marker::Model;
 
 /// Two image slots on a medium. One of them is active and holds the image; the other one is the
@@ -64,7 +65,7 @@ impl<M: Medium> Slots<M> {
         ensures rose { IfErr result (λ e. e.0 ≡ FormatFault.Failed →
             Rose (M.state medium).failures (M.state e.1).failures) }
     {
-        if !open::is_sized(&medium) {
+        if !is_sized(&medium) {
             return Err((FormatFault::WrongSize, medium));
         }
         if image.len() as u64 > u64::from(capacity_of(&medium)) {
@@ -102,7 +103,7 @@ impl<M: Medium> Slots<M> {
         ensures fault { IfErr result (λ e. IsOpenFault e.0 (M.state medium)) }
         ensures refused { OnErr result (¬ HasImage (M.state medium)) }
     {
-        match open::check(&medium) {
+        match check(&medium) {
             Ok(places) => Ok(Slots {
                 medium,
                 puts: Puts::nothing(),
@@ -178,7 +179,7 @@ impl<M: Medium> Slots<M> {
         ensures shape { is_shaped self.new ≡ true }
     {
         self.puts.clear();
-        match open::check(&self.medium) {
+        match check(&self.medium) {
             Ok(places) => self.places = places,
             Err(_) => unreachable!(),
         }

@@ -9,10 +9,10 @@ ghost use Rattle.dfu_slots.specs.Store.{HasPuts};
 ghost use Rattle.dfu_slots.specs.Changes.{IsBroken, Changes};
 
 use crate::gates::{close_gate, open_slot};
-use crate::layout::{VERSION, make_header};
+use crate::layout::{VERSION, capacity_of, make_header};
 use crate::places::Places;
 use crate::puts::{Puts, put_units};
-use crate::read::{capacity_of, generation, is_open};
+use crate::read::{generation, is_open};
 use crate::register::register_of_put;
 use crate::{Medium, PutFault, WriteFault};
 

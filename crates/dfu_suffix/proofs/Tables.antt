@@ -1,5 +1,5 @@
 -- What the tables hold, and what a byte does.
-use Rattle.std.proofs.Common.{inl, inr, append-nil, subst, fold, ◌≡◌, ℕ, zero, suc, ◌+◌, ◌*◌, ◌/◌, ◌%◌, ◌^◌, ◌<◌, ◌≤◌, Bool, true, false, cond, eqb, List, [], ◌∷◌, ◌++◌, length, take, drop, get_or, slice_index_or, bit_and, bit_xor, refl, sym, ap, ◌∙◌, arith}
+use Rattle.std.proofs.Common.{inl, inr, append-nil, subst, fold, ◌≡◌, ℕ, zero, suc, ◌+◌, ◌-◌, ◌*◌, ◌/◌, ◌%◌, ◌^◌, ◌<◌, ◌≤◌, Bool, true, false, cond, eqb, List, [], ◌∷◌, ◌++◌, length, take, drop, get_or, slice_index_or, bit_and, bit_xor, refl, sym, ap, ◌∙◌, arith}
 use Rattle.std.proofs.lemmas.Bool.{eqb-true}
 use Rattle.std.proofs.lemmas.Nat.{and_mask, xor_comm}
 use Rattle.std.proofs.Math.Nat.{eq-or-lt_of_le}
@@ -12,8 +12,7 @@ use Rattle.dfu_suffix.proofs.Fours.{four_small}
 use Rattle.dfu_suffix.specs.Laws.{AreBytes}
 use Rattle.byteorder.specs.Endian.{little_number}
 use Rattle.dfu_suffix.specs.Register.{after_bit, after_bits, low_bits, bits_of, register, shifts}
-use Rattle.dfu_suffix.specs.declared.table.to_32.TheConstants.{AFTER_8, AFTER_16, AFTER_24, AFTER_32}
-use Rattle.dfu_suffix.specs.declared.table.to_64.TheConstants.{AFTER_40, AFTER_48, AFTER_56, AFTER_64}
+use Rattle.dfu_suffix.specs.declared.table.TheConstants.{TABLES}
 
 -- Whether n numbers of a list, from place i on, are those of another after k bits 0.
 abbrev pub right_from : ℕ → (ℕ → ℕ) → List ℕ → ℕ → ℕ → Bool
@@ -66,8 +65,12 @@ chained_at k (suc i) earlier (xs ∷ tables) start h p =
 pub entry_at : (k : ℕ) (xs : List ℕ) (x : ℕ) → Holds k xs → get_or xs (bit_and x 255) 0 ≡ shifts k (x % 256)
 entry_at k xs x h = ap (λ (i : ℕ). get_or xs i 0) (and_mask x 8) ∙ h (x % 256) (omega arith)
 
+-- The table of what 8 · (i + 1) bits 0 more make of each number below 256: TABLES has it at place 7 - i.
+abbrev pub table_of : ℕ → List ℕ
+table_of i = slice_index_or TABLES (7 - i) []
+
 abbrev tables : List (List ℕ)
-tables = AFTER_8 ∷ AFTER_16 ∷ AFTER_24 ∷ AFTER_32 ∷ AFTER_40 ∷ AFTER_48 ∷ AFTER_56 ∷ AFTER_64 ∷ []
+tables = table_of 0 ∷ table_of 1 ∷ table_of 2 ∷ table_of 3 ∷ table_of 4 ∷ table_of 5 ∷ table_of 6 ∷ table_of 7 ∷ []
 
 tables_chained : chained (λ j. j) tables ≡ true
 unfolding shifts
@@ -81,8 +84,8 @@ right_table i h =
     subst (λ (n : ℕ). Holds n (slice_index_or tables i [])) none (chained_at 0 i (λ j. j) tables (λ j l. refl) tables_chained h)
 
 -- What a byte does, by the table.
-pub table_step : (r b : ℕ) → b < 256 → after_bits r (low_bits 8 b) ≡ bit_xor (r / 2 ^ 8) (get_or AFTER_8 (bit_and (bit_xor r b) 255) 0)
-table_step r b h = byte_step r b h ∙ ap (bit_xor (r / 256)) (sym (entry_at 8 AFTER_8 (bit_xor r b) (right_table 0 (omega arith))))
+pub table_step : (r b : ℕ) → b < 256 → after_bits r (low_bits 8 b) ≡ bit_xor (r / 2 ^ 8) (get_or (table_of 0) (bit_and (bit_xor r b) 255) 0)
+table_step r b h = byte_step r b h ∙ ap (bit_xor (r / 256)) (sym (entry_at 8 (table_of 0) (bit_xor r b) (right_table 0 (omega arith))))
 
 -- Bytes in two parts.
 pub after-append : (r : ℕ) (xs ys : List ℕ) → after_bits r (bits_of (xs ++ ys)) ≡ after_bits (after_bits r (bits_of xs)) (bits_of ys)

@@ -5,8 +5,8 @@ ghost use Rattle.dfu_suffix.specs.Adding.{Adds, KeepsAtFault};
 ghost use Rattle.dfu_suffix.specs.inside.Making.{Makes, gathering_fault};
 
 use crate::fault::SuffixFault;
+use crate::file::MAX_PAYLOAD;
 use crate::gathering::{GatherFault, gather};
-use crate::limits::MAX_PAYLOAD;
 use crate::making::{append_suffix, has_suffix};
 use crate::writing::write_whole;
 use dfu_wire::Ids;

@@ -1,16 +1,14 @@
 //! Checks of a file that a reader gives.
 
-ghost use Rattle.std.specs.Prelude.{◌≢◌, Err, IfSome};
+ghost use Rattle.std.specs.Prelude.{◌≡◌, ◌≢◌, ◌<◌, ◌++◌, ℕ, length, drop, slice_index, Err, IfSome};
 ghost use Rattle.dfu_suffix.specs.Checking.{Checks, FindsFile, UnlessRead};
 ghost use Rattle.dfu_suffix.specs.declared.fault.SuffixFault.TheVariants.{NoMemory};
 
 use crate::crc::Crc;
 use crate::fault::SuffixFault;
+use crate::file::{MAX_FILE, MAX_READS, PIECE};
 use crate::findings::{Findings, findings_of};
-use crate::limits::{MAX_FILE, MAX_READS, PIECE};
-use crate::summary::Summary;
-use crate::tail_checks::check_register;
-use crate::window::slide;
+use crate::summary::{Summary, check_register};
 use std::io::Read;
 
 /// Checks all that a reader gives, as `read` of those bytes. Of these it keeps the register over
@@ -73,4 +71,19 @@ pub fn check_with<R: Read + Drop>(
         }
     }
     unreachable!()
+}
+
+// Slides a window of 16 bytes over more: it becomes the last 16 of both.
+fn slide(window: &mut [u8; 16], more: &[u8])
+    ensures last { window.new ≡ drop (length more.now) (window.old ++ more.now) }
+    ensures bytes { (k : ℕ) → slice_index more.now k < 256 }
+{
+    if more.len() >= 16 {
+        let (_, last) = more.split_at(more.len() - 16);
+        window.copy_from_slice(last);
+    } else {
+        let kept = 16 - more.len();
+        window.copy_within(more.len().., 0);
+        window[kept..].copy_from_slice(more);
+    }
 }

@@ -47,17 +47,8 @@ impl SuffixFault {
     pub fn name(self) -> &'static str
         ensures { result.now ≡ suffix_fault_name self }
     {
-        match self {
-            SuffixFault::TooShort => "TooShort",
-            SuffixFault::NoSignature => "NoSignature",
-            SuffixFault::BadLength => "BadLength",
-            SuffixFault::DfuSe => "DfuSe",
-            SuffixFault::BadCrc => "BadCrc",
-            SuffixFault::AlreadySuffixed => "AlreadySuffixed",
-            SuffixFault::TooLarge => "TooLarge",
-            SuffixFault::NoMemory => "NoMemory",
-            SuffixFault::Read => "Read",
-            SuffixFault::Write => "Write",
-        }
+        dfu_wire::variant_name!(self, SuffixFault:
+            TooShort, NoSignature, BadLength, DfuSe, BadCrc, AlreadySuffixed, TooLarge, NoMemory, Read, Write
+        )
     }
 }

@@ -2,10 +2,9 @@
 
 ghost use Rattle.std.specs.Prelude.{◌≡◌, length, drop, slice_index, bit_xor};
 ghost use Rattle.byteorder.specs.Endian.{little_number};
-ghost use Rattle.dfu_suffix.specs.Register.{shifts};
+ghost use Rattle.dfu_suffix.specs.Register.{shift, shifts};
 
-use crate::fields::u32_at;
-use crate::undoing::before_four;
+use crate::summary::u32_at;
 
 /// What `check_with` finds in a file of 16 to 16,777,216 bytes: its length, two fields of its suffix (USB DFU 1.1,
 /// appendix B) as they are written, and the register that dwCRC has to be.
@@ -53,4 +52,26 @@ pub(crate) fn findings_of(tail: &[u8], count: u32, register: u32) -> Findings
         crc,
         register: before_four(register, crc),
     }
+}
+
+// The number that one bit 0 shifts to this one. The highest bit says whether the bit that was shifted out was 1.
+fn unshifted(register: u32) -> u32
+    ensures { shift result ≡ register }
+{
+    if register < 0x8000_0000 {
+        register * 2
+    } else {
+        (register ^ 0xedb8_8320) * 2 + 1
+    }
+}
+
+// The register before four bytes, from the one after them and the number that they make, the low byte first.
+fn before_four(register: u32, last: u32) -> u32
+    ensures { shifts 32 (bit_xor result last) ≡ register }
+{
+    let mut number = register;
+    for turn in 0u8..32 {
+        number = unshifted(number);
+    }
+    number ^ last
 }

@@ -3,7 +3,7 @@
 ghost use Rattle.std.specs.Prelude.{◌≤◌, length, IfOk, IfSome};
 ghost use Rattle.dfu_suffix.specs.Gathering.{Gathers};
 
-use crate::limits::{MAX_READS, PIECE};
+use crate::file::{MAX_READS, PIECE};
 use std::alloc::Global;
 use std::io::Read;
 

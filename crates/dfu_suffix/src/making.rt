@@ -8,7 +8,7 @@ ghost use Rattle.dfu_suffix.specs.declared.fault.SuffixFault.TheVariants.{DfuSe}
 
 use crate::crc::Crc;
 use crate::fault::SuffixFault;
-use crate::limits::MIN_SUFFIX;
+use crate::file::MIN_SUFFIX;
 use crate::parse::read;
 use dfu_wire::Ids;
 use std::alloc::AllocError;

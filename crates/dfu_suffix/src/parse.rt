@@ -1,15 +1,47 @@
 //! A file of the grammar, read from its end.
 
-ghost use Rattle.std.specs.Prelude.{◌≡◌, ◌+◌, ◌↔◌, ℕ, List, length, Ok, Err, IfOk};
-ghost use Rattle.dfu_suffix.specs.Grammar.{IsFile, First};
+ghost use Rattle.std.specs.Prelude.{◌≡◌, ◌+◌, ◌-◌, ◌≤◌, ◌↔◌, ℕ, List, length, take, Ok, Err, IfOk};
+ghost use Rattle.dfu_suffix.specs.Grammar.{IsFile, First, tail_of};
+ghost use Rattle.dfu_suffix.specs.Register.{register};
 ghost use Rattle.dfu_suffix.specs.inside.Reading.{reading};
 ghost use Rattle.dfu_wire.specs.declared.ids.Ids.{Ids};
 
+use crate::crc::Crc;
 use crate::fault::SuffixFault;
-use crate::fields::{payload_of, register_over, tail};
-use crate::file::File;
-use crate::limits::MAX_FILE;
-use crate::tail_checks::parse_tail;
+use crate::file::{File, MAX_FILE, MIN_SUFFIX};
+use crate::summary::parse_tail;
+
+// The last 16 bytes, or all of them if there are fewer.
+fn tail(bytes: &[u8]) -> &[u8]
+    ensures value { result.now ≡ tail_of bytes.now }
+    ensures len { 16 ≤ length bytes.now → length result.now ≡ 16 }
+{
+    let (_, tail) = bytes.split_at(bytes.len().saturating_sub(MIN_SUFFIX as usize));
+    tail
+}
+
+// The register over all bytes, which is the same by either table.
+#[inline(always)]
+fn register_over(bytes: &[u8], by_small_table: bool) -> u32
+    ensures { result ≡ register bytes.now }
+{
+    let mut crc = Crc::new();
+    if by_small_table {
+        crc.update_small(bytes);
+    } else {
+        crc.update_long(bytes);
+    }
+    crc.value()
+}
+
+// The bytes before the suffix.
+fn payload_of(bytes: &[u8], suffix: usize) -> &[u8]
+    requires { suffix ≤ length bytes.now }
+    ensures { result.now ≡ take (length bytes.now - suffix) bytes.now }
+{
+    let (payload, _) = bytes.split_at(bytes.len() - suffix);
+    payload
+}
 
 /// What the bytes say, read from their end, or their first fault. Each reader has a body of its own, so that the small
 /// one is linked without the large tables.

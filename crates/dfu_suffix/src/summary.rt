@@ -1,5 +1,15 @@
-//! What `check` says of a file.
+//! What `check` says of a file, by its end (USB DFU 1.1, appendix B).
 
+ghost use Rattle.std.specs.Prelude.{◌≡◌, ◌≢◌, ◌+◌, ◌≤◌, length, drop, Err, IfOk};
+ghost use Rattle.byteorder.specs.Endian.{little_number};
+ghost use Rattle.dfu_suffix.specs.Grammar.{is_signed};
+ghost use Rattle.dfu_suffix.specs.inside.Reading.{tail_ids};
+ghost use Rattle.dfu_suffix.specs.inside.TailChecks.{register_checked, tail_summary};
+ghost use Rattle.dfu_suffix.specs.declared.fault.SuffixFault.TheVariants.{NoMemory};
+
+use crate::fault::SuffixFault;
+use crate::file::{DFUSE, MIN_SUFFIX};
+use byteorder::{ByteOrder, LittleEndian};
 use dfu_wire::Ids;
 
 /// A file's fields and the length of its payload, as `check` answers them.
@@ -15,4 +25,86 @@ pub struct Summary {
     pub dfu: u16,
     /// dwCRC.
     pub crc: u32,
+}
+
+// Whether the last 16 bytes have the signature.
+fn is_signed(tail: &[u8]) -> bool
+    requires { length tail.now ≡ 16 }
+    ensures { result ≡ is_signed tail.now }
+{
+    tail[8] == b'U' && tail[9] == b'F' && tail[10] == b'D'
+}
+
+// The number in the two bytes from `at`, the low one first.
+fn u16_at(bytes: &[u8], at: usize) -> u16
+    requires { at + 2 ≤ length bytes.now }
+    ensures { result ≡ little_number 2 (drop at bytes.now) }
+{
+    let (_, field) = bytes.split_at(at);
+    LittleEndian::read_u16(field)
+}
+
+/// The number in the four bytes from `at`, the low one first.
+pub(crate) fn u32_at(bytes: &[u8], at: usize) -> u32
+    requires { at + 4 ≤ length bytes.now }
+    ensures { result ≡ little_number 4 (drop at bytes.now) }
+{
+    let (_, field) = bytes.split_at(at);
+    LittleEndian::read_u32(field)
+}
+
+// The identifiers in the last 16 bytes.
+fn ids_of(tail: &[u8]) -> Ids
+    requires { length tail.now ≡ 16 }
+    ensures { result ≡ tail_ids tail.now }
+{
+    Ids {
+        device: u16_at(tail, 0),
+        product: u16_at(tail, 2),
+        vendor: u16_at(tail, 4),
+    }
+}
+
+/// What the last 16 of `count` bytes say, or the first fault of the file but TooLarge and BadCrc.
+#[tactic(auto, using(std::proofs::lemmas::Bool::Decides::nat_tests), unfolding(crate::specs::inside::TailChecks::tail_summary))]
+pub(crate) fn parse_tail(tail: &[u8], count: u32) -> Result<Summary, SuffixFault>
+    requires { 16 ≤ count → length tail.now ≡ 16 }
+    ensures answer { result ≡ tail_summary tail.now count }
+    ensures fits { IfOk result (λ s. (16 ≤ s.suffix) × (s.suffix ≤ count) × (s.dfu ≢ 0x011A)) }
+    ensures memory { result ≢ Err NoMemory }
+{
+    if count < MIN_SUFFIX {
+        return Err(SuffixFault::TooShort);
+    }
+    if !is_signed(tail) {
+        return Err(SuffixFault::NoSignature);
+    }
+    let suffix = u32::from(tail[11]);
+    if suffix < MIN_SUFFIX || count < suffix {
+        return Err(SuffixFault::BadLength);
+    }
+    let dfu = u16_at(tail, 6);
+    if dfu == DFUSE {
+        return Err(SuffixFault::DfuSe);
+    }
+    Ok(Summary {
+        payload: count - suffix,
+        suffix: tail[11],
+        ids: ids_of(tail),
+        dfu,
+        crc: u32_at(tail, 12),
+    })
+}
+
+/// The summary of a file of `count` bytes, or its first fault but TooLarge, by its last 16 bytes and
+/// the register over all of it. That register is 0 exactly if dwCRC is right.
+pub(crate) fn check_register(tail: &[u8], count: u32, register: u32) -> Result<Summary, SuffixFault>
+    requires { length tail.now ≡ 16 }
+    ensures answer { result ≡ register_checked tail.now count register }
+    ensures memory { result ≢ Err NoMemory }
+{
+    match parse_tail(tail, count) {
+        Ok(_) if register != 0 => Err(SuffixFault::BadCrc),
+        answer => answer,
+    }
 }

@@ -1,7 +1,6 @@
 //! The line of an action of the host in a trace. No clause speaks of its text; tests and pictures show it.
 #![tactic(auto)]
 
-mod answers;
 mod line;
 mod words;
 

@@ -1,12 +1,8 @@
 -- The numbers that a program in C gets of a trial.
 use Rattle.std.specs.Prelude.{ℤ, negsuc}
 use Rattle.dfu_trial.specs.declared.tries.TriesFault.TheVariants.{NoSectors, TooFew, TooMany}
-use Rattle.dfu_trial_c.specs.declared.refusal.Refusal.{Refusal}
-use Rattle.dfu_trial_c.specs.declared.refusal.Refusal.TheVariants.{NoConfig, Tries, NoMedium}
-
--- DFU_ASKS.
-abbrev pub TRIAL_ASKS : ℤ
-TRIAL_ASKS = negsuc 10
+use Rattle.dfu_trial_c.specs.declared.flash.Refusal.{Refusal}
+use Rattle.dfu_trial_c.specs.declared.flash.Refusal.TheVariants.{NoConfig, Tries, NoMedium}
 
 -- DFU_ELSEWHERE.
 abbrev pub ELSEWHERE : ℤ

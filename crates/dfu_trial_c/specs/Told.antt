@@ -10,11 +10,11 @@ use Rattle.dfu_trial.specs.declared.operation.Operation.TheVariants.{Mark, Close
 use Rattle.dfu_trial.specs.declared.standing.Standing.{Standing}
 use Rattle.dfu_trial.specs.declared.standing.Standing.TheVariants.{Settled, OnTrial}
 use Rattle.dfu_trial.specs.declared.starting.Starting.{Starting}
-use Rattle.dfu_trial_c.specs.declared.ask.DfuAsk.{DfuAsk}
-use Rattle.dfu_trial_c.specs.declared.place.DfuPlace.{DfuPlace}
+use Rattle.dfu_c.specs.declared.records.DfuAsk.{DfuAsk}
+use Rattle.dfu_c.specs.declared.records.DfuPlace.{DfuPlace}
+use Rattle.dfu_c.specs.Numbers.{ASKS}
 use Rattle.dfu_trial_c.specs.declared.told.DfuStanding.{DfuStanding}
 use Rattle.dfu_trial_c.specs.declared.told.DfuStarting.{DfuStarting}
-use Rattle.dfu_trial_c.specs.Numbers.{TRIAL_ASKS}
 
 -- Where the image begins in the slot that begins there, and its length by its header.
 abbrev pub image_in : MediumState → ℕ → DfuPlace
@@ -46,9 +46,9 @@ starting_told m s = record { run = image_in m s.slot; otherwise = image_in m s.o
 abbrev pub IsTrialAsked : ℕ → Option Operation → ℤ → DfuAsk → DfuAsk → Type 0
 IsTrialAsked sector None result before after = (result ≡ pos 0) × (after ≡ before)
 IsTrialAsked sector (Some (Mark at len)) result before after =
-    (result ≡ TRIAL_ASKS) × (after ≡ record { kind = 2; at = at; length = len; bytes = replicate 256 0 })
+    (result ≡ ASKS) × (after ≡ record { kind = 2; at = at; length = len; bytes = replicate 256 0 })
 IsTrialAsked sector (Some (Close at)) result before after =
-    (result ≡ TRIAL_ASKS) × (after ≡ record { kind = 1; at = at; length = sector; bytes = before.bytes })
+    (result ≡ ASKS) × (after ≡ record { kind = 1; at = at; length = sector; bytes = before.bytes })
 
 -- Whether the mark that was asked for reads set: its range lies within the flash, and one of its bytes is not FFh.
 abbrev pub is_there : List ℕ → DfuAsk → Bool

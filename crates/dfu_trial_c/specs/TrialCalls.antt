@@ -4,9 +4,9 @@ use Rattle.dfu_trial.specs.Calls.{trial_start, confirm_of, end_of_trial, upload_
 use Rattle.dfu_trial.specs.declared.standing.Standing.{Standing}
 use Rattle.dfu_trial.specs.declared.confirming.Confirmation.{Confirmation}
 use Rattle.dfu_trial.specs.declared.confirming.Confirmation.TheVariants as confirm
-use Rattle.dfu_trial_c.specs.declared.ask.DfuAsk.{DfuAsk}
-use Rattle.dfu_trial_c.specs.declared.refusal.Refusal.{Refusal}
-use Rattle.dfu_trial_c.specs.declared.tries.DfuTries.{DfuTries}
+use Rattle.dfu_c.specs.declared.records.DfuAsk.{DfuAsk}
+use Rattle.dfu_trial_c.specs.declared.flash.Refusal.{Refusal}
+use Rattle.dfu_trial_c.specs.declared.flash.DfuTries.{DfuTries}
 use Rattle.dfu_trial_c.specs.declared.told.DfuStanding.{DfuStanding}
 use Rattle.dfu_trial_c.specs.declared.told.DfuStarting.{DfuStarting}
 use Rattle.dfu_trial_c.specs.Tries.{tries_grain, flash_state, HasStanding, IsTrialRefused}

@@ -1,7 +1,7 @@
 -- With what a program in C looks at a trial.
 use Rattle.std.specs.Prelude.{◌≡◌, ◌⊎◌, ℕ, nat_lt, ◌%◌, ◌^◌, ◌≤◌, List, length, if◌then◌else◌}
-use Rattle.dfu_slots.specs.declared.unit.Unit.{Unit as WriteUnit}
-use Rattle.dfu_slots.specs.declared.unit.Unit.TheVariants.{Byte, U16, U64, U256}
+use Rattle.dfu_slots.specs.declared.layout.Unit.{Unit as WriteUnit}
+use Rattle.dfu_slots.specs.declared.layout.Unit.TheVariants.{Byte, U16, U64, U256}
 use Rattle.dfu_slots.specs.Units.{unit_size, Grain}
 use Rattle.dfu_slots.specs.Medium.{MediumState}
 use Rattle.dfu_slots.specs.Image.{HasImage}
@@ -9,9 +9,9 @@ use Rattle.dfu_asks.specs.Mapped.{mapped}
 use Rattle.dfu_trial.specs.Marks.{AreTries}
 use Rattle.dfu_trial.specs.Calls.{IsTriesFault, IsStanding}
 use Rattle.dfu_trial.specs.declared.standing.Standing.{Standing}
-use Rattle.dfu_trial_c.specs.declared.tries.DfuTries.{DfuTries}
-use Rattle.dfu_trial_c.specs.declared.refusal.Refusal.{Refusal}
-use Rattle.dfu_trial_c.specs.declared.refusal.Refusal.TheVariants.{NoConfig, Tries, NoMedium}
+use Rattle.dfu_trial_c.specs.declared.flash.DfuTries.{DfuTries}
+use Rattle.dfu_trial_c.specs.declared.flash.Refusal.{Refusal}
+use Rattle.dfu_trial_c.specs.declared.flash.Refusal.TheVariants.{NoConfig, Tries, NoMedium}
 
 -- The largest unit of at most so many bytes.
 unfoldable pub unit_sized : ℕ → WriteUnit

@@ -1,14 +1,69 @@
-//! A flash is looked at.
+//! A flash is looked at, with the unit, the sector and the number of tries that a program in C hands in; or that is refused.
 ghost use Rattle.std.specs.Prelude.{◌≡◌, ◌≤◌, ◌^◌, ℕ, List, IfSome, IfNone, IfOk, IfErr, length};
 ghost use Rattle.dfu_asks.specs.Mapped.{grain_of as mapped_grain, mapped};
 ghost use Rattle.dfu_trial.specs.Marks.{AreTries};
-ghost use Rattle.dfu_trial_c.specs.Tries.{tries_grain, flash_state, IsTriesPart, HasStanding, IsTrialRefused};
+ghost use Rattle.dfu_trial_c.specs.Numbers.{trial_number};
+ghost use Rattle.dfu_trial_c.specs.Tries.{unit_sized, tries_grain, flash_state, IsTriesPart, HasStanding, IsTrialRefused};
 
-use crate::refusal::Refusal;
-use crate::tries::{DfuTries, unit_sized};
 use dfu_asks::Mapped;
+use dfu_slots::Unit;
 use dfu_slots::laws::active_image_is_one;
-use dfu_trial::{Standing, check_tries, look};
+use dfu_trial::{Standing, TriesFault, check_tries, look};
+
+/// How the flash is written, and how many tries a new image has: `struct dfu_tries`.
+#[repr(C)]
+#[derive(Drop)]
+pub struct DfuTries {
+    /// Bytes that are programmed at a time: 1, 16, 64 or 256.
+    pub unit: u32,
+    /// Bytes that are erased at a time: a multiple of 256 up to 131,072.
+    pub sector: u32,
+    /// How often a new image is started before the one before it comes back: 2 or more.
+    pub tries: u32,
+}
+
+/// The largest unit of at most so many bytes. (Comparisons for order: of powers of two by equality LLVM makes a count of zero bits.)
+#[inline(never)]
+#[tactic(auto, unfolding(crate::specs::Tries::unit_sized))]
+pub(crate) fn unit_sized(size: u32) -> Unit
+    ensures { result ≡ unit_sized size }
+{
+    if size < 16 {
+        Unit::Byte
+    } else if size < 64 {
+        Unit::U16
+    } else if size < 256 {
+        Unit::U64
+    } else {
+        Unit::U256
+    }
+}
+
+/// Why a call is refused. Nothing changed then.
+#[derive(Clone, Copy, Drop)]
+pub enum Refusal {
+    /// No unit has that size, or there are no such sectors.
+    NoConfig,
+    /// So many tries are refused.
+    Tries(TriesFault),
+    /// The flash has no active image, or 2^32 bytes or more.
+    NoMedium,
+}
+
+impl Refusal {
+    /// The number of the refusal, which is negative.
+    pub(crate) fn number(self) -> i32
+        ensures { result ≡ trial_number self }
+    {
+        match self {
+            Refusal::NoConfig => -2,
+            Refusal::Tries(TriesFault::NoSectors) => -16,
+            Refusal::Tries(TriesFault::TooFew) => -17,
+            Refusal::Tries(TriesFault::TooMany) => -18,
+            Refusal::NoMedium => -3,
+        }
+    }
+}
 
 /// A flash, and the standing of its images.
 #[derive(Drop)]

@@ -1,14 +1,14 @@
-//! What a program in C gets to know of a trial: the standing of the images, and what starts.
+//! What a program in C gets to know of a trial: the standing of the images, what starts, and what it is to do.
 ghost use Rattle.std.specs.Prelude.{◌≡◌, ◌+◌, ◌≤◌, length};
 ghost use Rattle.dfu_slots.specs.Layout.{slot_size};
 ghost use Rattle.dfu_slots.specs.Image.{IsSized};
 ghost use Rattle.dfu_trial.specs.Marks.{AreTries};
 ghost use Rattle.dfu_trial.specs.Calls.{IsStanding};
-ghost use Rattle.dfu_trial_c.specs.Told.{standing_told, starting_told};
+ghost use Rattle.dfu_trial_c.specs.Told.{image_in, standing_told, starting_told, IsTrialAsked};
 
-use crate::place::{DfuPlace, image_in};
-use dfu_slots::Medium;
-use dfu_trial::{Standing, Starting};
+use dfu_c::{ASKS, DfuAsk, DfuPlace, ERASE, PROGRAM};
+use dfu_slots::{Medium, data_at, header_of, length_in};
+use dfu_trial::{Operation, Standing, Starting};
 
 /// The standing of the images of a flash: `struct dfu_standing`.
 #[repr(C)]
@@ -24,6 +24,18 @@ pub struct DfuStanding {
     pub left: u32,
     /// 1 if the active image is confirmed, else 0.
     pub is_confirmed: u32,
+}
+
+/// Where the image is in the slot that begins there.
+pub(crate) fn image_in<M: Medium>(medium: &M, slot: u32) -> DfuPlace
+    requires sized { IsSized (M.state medium.now) }
+    requires within { slot + slot_size (M.state medium.now).bytes ≤ length (M.state medium.now).bytes }
+    ensures { result ≡ image_in (M.state medium.now) slot }
+{
+    DfuPlace {
+        at: data_at(medium, slot),
+        length: length_in(&header_of(medium, slot)),
+    }
 }
 
 /// The record of a standing.
@@ -73,5 +85,29 @@ pub(crate) fn starting_told<M: Medium>(medium: &M, starting: Starting) -> DfuSta
     DfuStarting {
         run: image_in(medium, starting.slot),
         otherwise: image_in(medium, starting.otherwise),
+    }
+}
+
+/// Writes an operation, if there is one, into what is asked for.
+pub(crate) fn tell(operation: Option<Operation>, sector: u32, ask: &mut DfuAsk) -> i32
+    ensures { IsTrialAsked sector operation result ask.old ask.new }
+{
+    match operation {
+        None => 0,
+        Some(Operation::Mark(at, len)) => {
+            *ask = DfuAsk {
+                kind: PROGRAM,
+                at,
+                length: len,
+                bytes: [0; 256],
+            };
+            ASKS
+        }
+        Some(Operation::Close(at)) => {
+            ask.kind = ERASE;
+            ask.at = at;
+            ask.length = sector;
+            ASKS
+        }
     }
 }

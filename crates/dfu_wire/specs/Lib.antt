@@ -1,11 +1,8 @@
 pub mod Code
 pub mod FaultName
 pub mod Functional
-pub mod OneFunctional
 pub mod OneRequest
-pub mod OneSetup
-pub mod OneState
-pub mod OneStatus
+pub mod OneValue
 pub mod Request
 pub mod Setup
 pub mod State

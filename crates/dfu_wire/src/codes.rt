@@ -49,25 +49,10 @@ impl Code {
         ensures only { (c : Code) → code_byte c ≡ byte → result ≡ Ok c }
         ensures err { IfErr result (λ e. (e ≡ WireFault.UnknownCode) × (16 ≤ byte)) }
     {
-        match byte {
-            0 => Ok(Code::Ok),
-            1 => Ok(Code::Target),
-            2 => Ok(Code::File),
-            3 => Ok(Code::Write),
-            4 => Ok(Code::Erase),
-            5 => Ok(Code::CheckErased),
-            6 => Ok(Code::Prog),
-            7 => Ok(Code::Verify),
-            8 => Ok(Code::Address),
-            9 => Ok(Code::NotDone),
-            10 => Ok(Code::Firmware),
-            11 => Ok(Code::Vendor),
-            12 => Ok(Code::Usbr),
-            13 => Ok(Code::Por),
-            14 => Ok(Code::Unknown),
-            15 => Ok(Code::StalledPkt),
-            _ => Err(WireFault::UnknownCode),
-        }
+        variant_numbered!(byte, WireFault::UnknownCode, Code:
+            0 Ok, 1 Target, 2 File, 3 Write, 4 Erase, 5 CheckErased, 6 Prog, 7 Verify, 8 Address, 9 NotDone,
+            10 Firmware, 11 Vendor, 12 Usbr, 13 Por, 14 Unknown, 15 StalledPkt
+        )
     }
 
     /// The number of the code, 0 to 15.
@@ -81,23 +66,11 @@ impl Code {
     pub fn name(self) -> &'static str
         ensures { result.now ≡ code_name self }
     {
-        match self {
-            Code::Ok => "OK",
-            Code::Target => "errTARGET",
-            Code::File => "errFILE",
-            Code::Write => "errWRITE",
-            Code::Erase => "errERASE",
-            Code::CheckErased => "errCHECK_ERASED",
-            Code::Prog => "errPROG",
-            Code::Verify => "errVERIFY",
-            Code::Address => "errADDRESS",
-            Code::NotDone => "errNOTDONE",
-            Code::Firmware => "errFIRMWARE",
-            Code::Vendor => "errVENDOR",
-            Code::Usbr => "errUSBR",
-            Code::Por => "errPOR",
-            Code::Unknown => "errUNKNOWN",
-            Code::StalledPkt => "errSTALLEDPKT",
-        }
+        variant_name!(self, Code:
+            Ok "OK", Target "errTARGET", File "errFILE", Write "errWRITE", Erase "errERASE",
+            CheckErased "errCHECK_ERASED", Prog "errPROG", Verify "errVERIFY", Address "errADDRESS",
+            NotDone "errNOTDONE", Firmware "errFIRMWARE", Vendor "errVENDOR", Usbr "errUSBR", Por "errPOR",
+            Unknown "errUNKNOWN", StalledPkt "errSTALLEDPKT"
+        )
     }
 }

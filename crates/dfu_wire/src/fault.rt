@@ -38,14 +38,8 @@ impl WireFault {
     pub fn name(self) -> &'static str
         ensures { result.now ≡ wire_fault_name self }
     {
-        match self {
-            WireFault::Short => "Short",
-            WireFault::Long => "Long",
-            WireFault::WrongLength => "WrongLength",
-            WireFault::WrongType => "WrongType",
-            WireFault::UnknownState => "UnknownState",
-            WireFault::UnknownCode => "UnknownCode",
-            WireFault::PollTooLong => "PollTooLong",
-        }
+        variant_name!(self, WireFault:
+            Short, Long, WrongLength, WrongType, UnknownState, UnknownCode, PollTooLong
+        )
     }
 }

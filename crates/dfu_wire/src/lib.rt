@@ -5,6 +5,32 @@
 //! No call takes memory, and only the readers and `Status::new` can refuse.
 #![tactic(auto)]
 
+/// The body of a `name`: `variant_name!(self, Type: Variant, ..)` is the text of the variant that `self` is, as it is
+/// written, and `variant_name!(self, Type: Variant "text", ..)` the text beside it.
+#[macro_export]
+macro_rules! variant_name {
+    ($value:expr, $type:ident: $($variant:ident $(($field:tt))?),+) => {
+        match $value {
+            $($type::$variant $(($field))? => stringify!($variant),)+
+        }
+    };
+    ($value:expr, $type:ident: $($variant:ident $(($field:tt))? $text:literal),+) => {
+        match $value {
+            $($type::$variant $(($field))? => $text,)+
+        }
+    };
+}
+
+// The body of a `from_byte`: the variant beside the number that the byte is, or else the fault.
+macro_rules! variant_numbered {
+    ($byte:expr, $fault:expr, $type:ident: $($number:literal $variant:ident),+) => {
+        match $byte {
+            $($number => Ok($type::$variant),)+
+            _ => Err($fault),
+        }
+    };
+}
+
 mod bytes;
 mod codes;
 mod fault;

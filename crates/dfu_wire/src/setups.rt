@@ -52,19 +52,12 @@ impl Setup {
     pub fn encode(&self) -> [u8; 8]
         ensures { IsSetup self.now result }
     {
-        let Setup {
-            kind,
-            request,
-            value,
-            index,
-            length,
-        } = *self;
-        let [value_low, value_high] = two_bytes(value);
-        let [index_low, index_high] = two_bytes(index);
-        let [length_low, length_high] = two_bytes(length);
+        let [value_low, value_high] = two_bytes(self.value);
+        let [index_low, index_high] = two_bytes(self.index);
+        let [length_low, length_high] = two_bytes(self.length);
         [
-            kind,
-            request,
+            self.kind,
+            self.request,
             value_low,
             value_high,
             index_low,

@@ -39,20 +39,10 @@ impl State {
         ensures only { (s : State) → state_byte s ≡ byte → result ≡ Ok s }
         ensures err { IfErr result (λ e. (e ≡ WireFault.UnknownState) × (11 ≤ byte)) }
     {
-        match byte {
-            0 => Ok(State::AppIdle),
-            1 => Ok(State::AppDetach),
-            2 => Ok(State::DfuIdle),
-            3 => Ok(State::DownloadSync),
-            4 => Ok(State::DownloadBusy),
-            5 => Ok(State::DownloadIdle),
-            6 => Ok(State::ManifestSync),
-            7 => Ok(State::Manifest),
-            8 => Ok(State::ManifestWaitReset),
-            9 => Ok(State::UploadIdle),
-            10 => Ok(State::Error),
-            _ => Err(WireFault::UnknownState),
-        }
+        variant_numbered!(byte, WireFault::UnknownState, State:
+            0 AppIdle, 1 AppDetach, 2 DfuIdle, 3 DownloadSync, 4 DownloadBusy, 5 DownloadIdle, 6 ManifestSync,
+            7 Manifest, 8 ManifestWaitReset, 9 UploadIdle, 10 Error
+        )
     }
 
     /// The number of the state, 0 to 10.
@@ -66,18 +56,11 @@ impl State {
     pub fn name(self) -> &'static str
         ensures { result.now ≡ state_name self }
     {
-        match self {
-            State::AppIdle => "appIDLE",
-            State::AppDetach => "appDETACH",
-            State::DfuIdle => "dfuIDLE",
-            State::DownloadSync => "dfuDNLOAD-SYNC",
-            State::DownloadBusy => "dfuDNBUSY",
-            State::DownloadIdle => "dfuDNLOAD-IDLE",
-            State::ManifestSync => "dfuMANIFEST-SYNC",
-            State::Manifest => "dfuMANIFEST",
-            State::ManifestWaitReset => "dfuMANIFEST-WAIT-RESET",
-            State::UploadIdle => "dfuUPLOAD-IDLE",
-            State::Error => "dfuERROR",
-        }
+        variant_name!(self, State:
+            AppIdle "appIDLE", AppDetach "appDETACH", DfuIdle "dfuIDLE", DownloadSync "dfuDNLOAD-SYNC",
+            DownloadBusy "dfuDNBUSY", DownloadIdle "dfuDNLOAD-IDLE", ManifestSync "dfuMANIFEST-SYNC",
+            Manifest "dfuMANIFEST", ManifestWaitReset "dfuMANIFEST-WAIT-RESET", UploadIdle "dfuUPLOAD-IDLE",
+            Error "dfuERROR"
+        )
     }
 }

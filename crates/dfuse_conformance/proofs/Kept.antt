@@ -1,7 +1,7 @@
 -- A run of a device of USB DFU 1.1 is one of a DfuSe device.
 use Rattle.std.specs.Prelude.{◌≡◌, ◌&&◌, Bool, true, false, List, [], ◌∷◌}
 use Rattle.std.proofs.Common.{refl, inl, inr}
-use Rattle.dfu_conformance.specs.declared.standard_state.StandardState.{StandardState}
+use Rattle.dfu_conformance.specs.declared.row.StandardState.{StandardState}
 use Rattle.dfu_conformance.specs.declared.event.LogEvent.{LogEvent}
 use Rattle.dfu_conformance.specs.declared.event.Response.{Response}
 use Rattle.dfu_conformance.specs.declared.event.Response.TheVariants as answer

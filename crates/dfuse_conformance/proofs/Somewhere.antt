@@ -1,7 +1,7 @@
 -- A device may be exactly at the places where a run ends.
 use Rattle.std.specs.Prelude.{◌≡◌, ◌↔◌, ℕ, Bool, true, false, List, slice_index_or}
 use Rattle.std.proofs.Common.{ap, ◌∙◌}
-use Rattle.dfu_conformance.specs.declared.standard_state.StandardState.{StandardState}
+use Rattle.dfu_conformance.specs.declared.row.StandardState.{StandardState}
 use Rattle.dfu_conformance.specs.declared.event.LogEvent.{LogEvent}
 use Rattle.dfu_conformance.specs.Fits.{place_number}
 use Rattle.dfuse_conformance.specs.Runs.{DfuseCanAnswer}

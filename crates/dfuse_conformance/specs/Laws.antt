@@ -1,6 +1,6 @@
 -- A law of the table.
 use Rattle.std.specs.Prelude.{List}
-use Rattle.dfu_conformance.specs.declared.standard_state.StandardState.{StandardState}
+use Rattle.dfu_conformance.specs.declared.row.StandardState.{StandardState}
 use Rattle.dfu_conformance.specs.declared.event.LogEvent.{LogEvent}
 use Rattle.dfu_conformance.specs.MayAnswer.{Run as StandardRun}
 use Rattle.dfuse_conformance.specs.Runs.{dfuse_attributes, dfuse_habits, DfuseRun}

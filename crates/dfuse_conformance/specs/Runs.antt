@@ -1,8 +1,8 @@
--- What a DfuSe device may answer: the rows are in the tables of dfu_conformance and in `src/rows.rt`, a line each.
+-- What a DfuSe device may answer: the rows are in the tables of dfu_conformance and in `src/rows.rt`.
 use Rattle.std.specs.Prelude.{◌≡◌, ◌⊎◌, ℕ, ◌&&◌, Bool, true, false, List, [], ◌∷◌}
-use Rattle.dfu_conformance.specs.declared.standard_state.StandardState.{StandardState}
-use Rattle.dfu_conformance.specs.declared.event_kind.EventKind.{EventKind}
-use Rattle.dfu_conformance.specs.declared.event_kind.EventKind.TheVariants.{GetStatus, GetState}
+use Rattle.dfu_conformance.specs.declared.row.StandardState.{StandardState}
+use Rattle.dfu_conformance.specs.declared.row.EventKind.{EventKind}
+use Rattle.dfu_conformance.specs.declared.row.EventKind.TheVariants.{GetStatus, GetState}
 use Rattle.dfu_conformance.specs.declared.event.LogEvent.{LogEvent}
 use Rattle.dfu_conformance.specs.declared.standard.TheConstants.{STANDARD}
 use Rattle.dfu_conformance.specs.declared.marks.TheConstants.{MARKS}

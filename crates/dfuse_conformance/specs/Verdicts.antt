@@ -1,6 +1,6 @@
 -- What a judge of DfuSe says.
 use Rattle.std.specs.Prelude.{◌≡◌, ◌↔◌, ℕ, ◌+◌, ◌<◌, Bool, true, false, List, [], ◌∷◌, ◌++◌, length, take, slice_index_or}
-use Rattle.dfu_conformance.specs.declared.standard_state.StandardState.{StandardState}
+use Rattle.dfu_conformance.specs.declared.row.StandardState.{StandardState}
 use Rattle.dfu_conformance.specs.declared.event.LogEvent.{LogEvent}
 use Rattle.dfu_conformance.specs.declared.verdict.Departure.{Departure}
 use Rattle.dfu_conformance.specs.Fits.{place_number}

@@ -13,7 +13,7 @@ use Rattle.dfuse_file.specs.Grammar.{four, opening, spelled_targets, IsBody, IsD
 use Rattle.dfuse_file.proofs.Steps.{bound, passed, skip, same_ok, not_zero, zero_not}
 use Rattle.dfuse_file.proofs.Fields.{cut, number_fits, number_is, six_cut}
 use Rattle.dfuse_file.proofs.TargetLaws.{targets_found, targets_read}
-use Rattle.dfuse_file.proofs.SuffixLaws.{Ends, suffix_found}
+use Rattle.dfuse_file.proofs.SuffixLaws.{suffix_found}
 use Rattle.dfuse_file.proofs.SuffixReads.{suffix_read}
 
 -- Letters that are compared one by one are DfuSe, with the version.
@@ -94,19 +94,6 @@ body_read whole b ts h =
 payload_bytes : (b rest : List ℕ) (s : Suffixed) → AreBytes b → b ≡ s.payload ++ rest → AreBytes s.payload
 payload_bytes b rest s f h = subst AreBytes (ap (take (length s.payload)) h ∙ take-append_seam s.payload rest) (AreBytes-take (length s.payload) b f)
 
-ends_body : (b : List ℕ) (s : Suffixed) (ts : List Target) → Ends b s → IsBody ts (length b) s.payload → IsDfuSe (record { ids = s.ids; targets = ts }) b
-ends_body b s ts e body = record {
-  payload = s.payload;
-  extra = e.extra;
-  spelled = e.spelled;
-  extra_fits = e.extra_fits;
-  device_fits = e.device_fits;
-  product_fits = e.product_fits;
-  vendor_fits = e.vendor_fits;
-  small = e.small;
-  body = body;
-}
-
 -- What was read is a file of the grammar.
 file_found : (b : List ℕ) (f : DfuseContent) → AreBytes b → file_at b ≡ Ok f → IsDfuSe f b
 unfolding file_at
@@ -116,7 +103,8 @@ file_found b f bytes h =
     let e = suffix_found b s bytes p.1 in
     let q = bound (body_at (length b) s.payload) _ f p.2 in
     let front = payload_bytes b _ s bytes (e.spelled ∙ append_assoc s.payload _ _) in
-    subst (λ (x : DfuseContent). IsDfuSe x b) (same_ok _ f q.2) (ends_body b s q.0 e (body_found (length b) s.payload q.0 front q.1))
+    let body = body_found (length b) s.payload q.0 front q.1 in
+    subst (λ (x : DfuseContent). IsDfuSe x b) (same_ok _ f q.2) (record { payload = s.payload; suffix = e; body = body })
 
 -- So it is for an answer that is what reading gives.
 pub answer_found : (r : Result DfuseContent FileFault) (b : List ℕ) → AreBytes b → r ≡ file_at b → IfOk r (λ f. IsDfuSe f b)
@@ -127,14 +115,6 @@ pub file_read : (b : List ℕ) (f : DfuseContent) → IsDfuSe f b → file_at b 
 unfolding file_at
 file_read b f h =
     let s : Suffixed = record { payload = h.payload; ids = f.ids } in
-    let suffix = suffix_read b s (record {
-      extra = h.extra;
-      spelled = h.spelled;
-      extra_fits = h.extra_fits;
-      device_fits = h.device_fits;
-      product_fits = h.product_fits;
-      vendor_fits = h.vendor_fits;
-      small = h.small;
-    }) in
+    let suffix = suffix_read b s h.suffix in
     ap (λ (r : Result Suffixed FileFault). r >>= λ s. of_targets s.ids (body_at (length b) s.payload)) suffix
     ∙ ap (of_targets f.ids) (body_read (length b) h.payload f.targets h.body)

@@ -4,26 +4,15 @@ use Rattle.std.specs.Prelude.{find}
 use Rattle.std.proofs.lemmas.Bool.{eqb-true}
 use Rattle.byteorder.specs.Endian.{little_number}
 use Rattle.dfu_suffix.specs.Laws.{AreBytes}
-use Rattle.dfu_suffix.specs.Register.{register}
-use Rattle.dfu_suffix.specs.Grammar.{before_crc, tail_of, has_fault, fault_order}
+use Rattle.dfu_suffix.specs.Grammar.{tail_of, has_fault, fault_order}
 use Rattle.dfu_suffix.specs.declared.fault.SuffixFault.{SuffixFault}
 use Rattle.dfu_suffix.specs.declared.fault.SuffixFault.TheVariants as suffix
 use Rattle.dfu_suffix.proofs.OneReading.{IsSpelled}
 use Rattle.dfu_suffix.proofs.NoFault.{Formed, IsIntact, extra_fits, extra_of, field_fits, formed, intact, spelled}
 use Rattle.dfuse_file.specs.declared.fault.FileFault.TheVariants.{BadCrc, NotDfuSe}
 use Rattle.dfuse_file.specs.Reading.{Suffixed, suffixed_by, is_dfuse, refusal, signed_by, suffix_by, suffix_at}
-use Rattle.dfuse_file.specs.Grammar.{four}
+use Rattle.dfuse_file.specs.Grammar.{EndsInSuffix}
 use Rattle.dfuse_file.proofs.Steps.{same_ok, passed as passed_over}
-
--- A file ends in a suffix with bcdDFU 011Ah.
-pub record Ends (b : List ℕ) (s : Suffixed) : Type 0 where
-  pub extra : List ℕ
-  pub spelled : b ≡ before_crc s.payload s.ids 0x011A extra ++ four (register (before_crc s.payload s.ids 0x011A extra))
-  pub extra_fits : length extra ≤ 239
-  pub device_fits : s.ids.device < 2 ^ 16
-  pub product_fits : s.ids.product < 2 ^ 16
-  pub vendor_fits : s.ids.vendor < 2 ^ 16
-  pub small : length b ≤ 16777216
 
 -- ---- what was found
 
@@ -88,7 +77,7 @@ signed b h =
     }
 
 -- Bytes with only the fault DfuSe end in such a suffix.
-ends : (b : List ℕ) → AreBytes b → Signed b → IsIntact b → Ends b (suffixed_by b)
+ends : (b : List ℕ) → AreBytes b → Signed b → IsIntact b → EndsInSuffix b (suffixed_by b)
 ends b f s right = record {
   extra = extra_of b;
   spelled = subst (λ (dfu : ℕ). IsSpelled (suffixed_by b).payload (suffixed_by b).ids dfu (extra_of b) b) s.version (spelled b s.formed right f);
@@ -125,7 +114,7 @@ unfolding suffix_by
 is_other b = refl
 
 -- What was read of a suffix was there.
-pub suffix_found : (b : List ℕ) (s : Suffixed) → AreBytes b → suffix_at b ≡ Ok s → Ends b s
+pub suffix_found : (b : List ℕ) (s : Suffixed) → AreBytes b → suffix_at b ≡ Ok s → EndsInSuffix b s
 suffix_found b s f h =
     let p = only_dfuse (find (has_fault b) fault_order) b s h in
-    subst (λ (x : Suffixed). Ends b x) p.2 (ends b f (signed b p.0) (intact b p.1))
+    subst (λ (x : Suffixed). EndsInSuffix b x) p.2 (ends b f (signed b p.0) (intact b p.1))

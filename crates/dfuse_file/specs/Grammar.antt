@@ -5,7 +5,7 @@ use Rattle.dfu_images.specs.Elements.{Piece}
 use Rattle.dfu_suffix.specs.Register.{register}
 use Rattle.dfu_suffix.specs.Grammar.{before_crc}
 use Rattle.dfuse_file.specs.declared.fault.FileFault.{FileFault}
-use Rattle.dfuse_file.specs.Reading.{Target, DfuseContent, file_at}
+use Rattle.dfuse_file.specs.Reading.{Target, Suffixed, DfuseContent, file_at}
 
 -- Four bytes that have this number, the low one first.
 abbrev pub four : ℕ → List ℕ
@@ -67,16 +67,20 @@ pub record IsBody (targets : List Target) (whole : ℕ) (bytes : List ℕ) : Typ
   pub few : length targets < 256
   pub fit : TargetsFit targets
 
--- The bytes are a DfuSe file: a body, and a suffix with bcdDFU 011Ah (USB DFU 1.1, appendix B).
+-- The bytes are a payload, and a suffix with these identifiers and bcdDFU 011Ah (USB DFU 1.1, appendix B).
+pub record EndsInSuffix (bytes : List ℕ) (s : Suffixed) : Type 0 where
+  pub extra : List ℕ
+  pub spelled : bytes ≡ before_crc s.payload s.ids 0x011A extra ++ four (register (before_crc s.payload s.ids 0x011A extra))
+  pub extra_fits : length extra ≤ 239
+  pub device_fits : s.ids.device < 2 ^ 16
+  pub product_fits : s.ids.product < 2 ^ 16
+  pub vendor_fits : s.ids.vendor < 2 ^ 16
+  pub small : length bytes ≤ 16777216
+
+-- The bytes are a DfuSe file: a body, and a suffix with the file's identifiers.
 pub record IsDfuSe (f : DfuseContent) (bytes : List ℕ) : Type 0 where
   pub payload : List ℕ
-  pub extra : List ℕ
-  pub spelled : bytes ≡ before_crc payload f.ids 0x011A extra ++ four (register (before_crc payload f.ids 0x011A extra))
-  pub extra_fits : length extra ≤ 239
-  pub device_fits : f.ids.device < 2 ^ 16
-  pub product_fits : f.ids.product < 2 ^ 16
-  pub vendor_fits : f.ids.vendor < 2 ^ 16
-  pub small : length bytes ≤ 16777216
+  pub suffix : EndsInSuffix bytes (record { payload = payload; ids = f.ids })
   pub body : IsBody f.targets (length bytes) payload
 
 -- This is the first fault of bytes that are not a DfuSe file.

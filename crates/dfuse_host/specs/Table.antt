@@ -136,15 +136,17 @@ abbrev pub reading_ended : Place → Place
 reading_ended (place.Reading p) = place.At p
 reading_ended p = p
 
+-- ABORT, to begin to read or to read no more: once acknowledged it leads to the next place.
+abbrev pub on_turn : Plan → Work → (p next : Place) → Step → Heard → Phase
+on_turn plan w p next s heard.Acked = settle plan w next
+on_turn plan w p next s heard.Stalled = cleared w
+on_turn plan w p next s h = stand w p s
+
 abbrev pub on_begin_reading : Plan → Work → Place → Heard → Phase
-on_begin_reading plan w p heard.Acked = settle plan w (reading_begun p)
-on_begin_reading plan w p heard.Stalled = cleared w
-on_begin_reading plan w p h = stand w p step.BeginReading
+on_begin_reading plan w p h = on_turn plan w p (reading_begun p) step.BeginReading h
 
 abbrev pub on_end_reading : Plan → Work → Place → Heard → Phase
-on_end_reading plan w p heard.Acked = settle plan w (reading_ended p)
-on_end_reading plan w p heard.Stalled = cleared w
-on_end_reading plan w p h = stand w p step.EndReading
+on_end_reading plan w p h = on_turn plan w p (reading_ended p) step.EndReading h
 
 -- The work after the bytes that were read back.
 abbrev pub read_on : Plan → Work → Work

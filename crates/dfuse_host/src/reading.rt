@@ -1,7 +1,7 @@
 //! Reading back.
 
 ghost use Rattle.std.specs.Prelude.{◌≡◌};
-ghost use Rattle.dfuse_host.specs.Table.{reading_begun, reading_ended, on_begin_reading, on_end_reading, read_on, on_read};
+ghost use Rattle.dfuse_host.specs.Table.{reading_begun, reading_ended, on_turn, read_on, on_read};
 
 use crate::command::cleared;
 use crate::heard::Heard;
@@ -14,7 +14,7 @@ use crate::step::Step;
 use crate::work::Work;
 
 /// The device went to dfuIDLE, from which bytes can be read.
-fn begun(place: Place) -> Place
+pub(crate) fn begun(place: Place) -> Place
     ensures { result ≡ reading_begun place }
 {
     match place {
@@ -24,7 +24,7 @@ fn begun(place: Place) -> Place
 }
 
 /// The device left dfuUPLOAD-IDLE.
-fn ended(place: Place) -> Place
+pub(crate) fn ended(place: Place) -> Place
     ensures { result ≡ reading_ended place }
 {
     match place {
@@ -36,25 +36,21 @@ fn ended(place: Place) -> Place
 impl Plan<'_> {
     ghost use Rattle.dfuse_host.specs.declared.work.Work.{Work};
 
-    /// ABORT, to begin to read.
-    pub(crate) fn on_begin_reading(&self, work: Work, place: Place, heard: &Heard) -> Phase
-        ensures { result ≡ on_begin_reading self.now work place heard.now }
+    /// ABORT, to begin to read or to read no more: once acknowledged it leads to the next place.
+    pub(crate) fn on_turn(
+        &self,
+        work: Work,
+        place: Place,
+        next: Place,
+        step: Step,
+        heard: &Heard,
+    ) -> Phase
+        ensures { result ≡ on_turn self.now work place next step heard.now }
     {
         match heard {
-            Heard::Acked => self.settle(work, begun(place)),
+            Heard::Acked => self.settle(work, next),
             Heard::Stalled => cleared(work),
-            _ => stand(work, place, Step::BeginReading),
-        }
-    }
-
-    /// ABORT, to read no more.
-    pub(crate) fn on_end_reading(&self, work: Work, place: Place, heard: &Heard) -> Phase
-        ensures { result ≡ on_end_reading self.now work place heard.now }
-    {
-        match heard {
-            Heard::Acked => self.settle(work, ended(place)),
-            Heard::Stalled => cleared(work),
-            _ => stand(work, place, Step::EndReading),
+            _ => stand(work, place, step),
         }
     }
 

@@ -9,7 +9,7 @@ use Rattle.dfu_wire.specs.declared.states.State.{State}
 use Rattle.dfu_wire.specs.declared.states.State.TheVariants as state
 use Rattle.dfu_wire.specs.State.{state_byte}
 use Rattle.dfu_wire.specs.Status.{StatusFields}
-use Rattle.dfu_wire.specs.OneStatus.{IsStatus-one}
+use Rattle.dfu_wire.specs.OneValue.{IsStatus-one}
 use Rattle.dfuse_host.specs.declared.plan.Plan.{Plan}
 use Rattle.dfuse_host.specs.declared.phase.Phase.{Phase}
 use Rattle.dfuse_host.specs.declared.phase.Phase.TheVariants.{Over}
@@ -29,7 +29,7 @@ use Rattle.dfuse_host.specs.Table.{state_found, polled, reading_begun, reading_e
 use Rattle.dfuse_host.specs.Wire.{DfuseReadsStatus, DfuseReadsState, DfuseHears, compared}
 use Rattle.dfuse_host.proofs.ForCallers.{AnyHeard, by_heard, compared_as, heard_nothing}
 use Rattle.dfuse_link.specs.CleanRuns.{IsGiven, TellsStatus, TellsBusy, TellsState}
-use Rattle.dfu_wire.specs.OneState.{one_state}
+use Rattle.dfu_wire.specs.OneValue.{one_state}
 use Rattle.dfuse_link.proofs.Lasting.{one_wait, session_at, Lasts, count_as, Onward, lasts_on, asked, acked}
 
 -- Bytes that are the image's are found to be so.

@@ -4,8 +4,8 @@ use Rattle.dfu_wire.specs.declared.states.State.{State}
 use Rattle.dfu_wire.specs.declared.requests.Request.TheVariants as request
 use Rattle.dfu_wire.specs.State.{state_byte}
 use Rattle.dfu_wire.specs.Status.{StatusFields, IsStatus}
-use Rattle.dfu_wire.specs.OneState.{one_state}
-use Rattle.dfu_wire.specs.OneStatus.{IsStatus-one}
+use Rattle.dfu_wire.specs.OneValue.{one_state}
+use Rattle.dfu_wire.specs.OneValue.{IsStatus-one}
 use Rattle.dfuse_host.specs.declared.plan.Plan.{Plan}
 use Rattle.dfuse_host.specs.declared.work.Work.{Work}
 use Rattle.dfuse_host.specs.declared.step.Step.{Step}

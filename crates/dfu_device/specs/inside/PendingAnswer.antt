@@ -3,10 +3,10 @@ use Rattle.std.specs.Prelude.{◌≡◌, ℕ, List, ◌++◌, length, take, drop
 use Rattle.dfu_wire.specs.declared.requests.Request.{Request as Asked}
 use Rattle.dfu_slots.specs.Seen.{image_of}
 use Rattle.dfu_device.specs.declared.answer.Answer.{Answer}
-use Rattle.dfu_device.specs.declared.pending_answer.PendingAnswer.{PendingAnswer}
-use Rattle.dfu_device.specs.declared.pending_answer.PendingAnswer.TheVariants as pending_answer
-use Rattle.dfu_device.specs.declared.reply.Reply.{Reply as ReplyRead}
-use Rattle.dfu_device.specs.declared.reply.Reply.TheVariants as reply
+use Rattle.dfu_device.specs.declared.answer.PendingAnswer.{PendingAnswer}
+use Rattle.dfu_device.specs.declared.answer.PendingAnswer.TheVariants as pending_answer
+use Rattle.dfu_device.specs.declared.decision.Reply.{Reply as ReplyRead}
+use Rattle.dfu_device.specs.declared.decision.Reply.TheVariants as reply
 use Rattle.dfu_device.specs.Stage.{Reply, Ack, Data, StateOf, Stall, state_of, status_of}
 use Rattle.dfu_device.specs.Table.{Plan}
 use Rattle.dfu_device.specs.DeviceView.{DeviceView, profile}

@@ -6,6 +6,7 @@ use super::named::{
     WRITE, WRITTEN,
 };
 use super::restart::restarted;
+use super::uploads::CANNOT_UPLOAD;
 use super::{BLOCK, CLOSE, FIRST, Row, SECOND, device, functional, play, played};
 use crate::requests::{ABORT, DETACH, GET_STATE, GET_STATUS, IDS};
 use dfu_device::{Answer, Config, ConfigFault};
@@ -63,13 +64,6 @@ pub(crate) static TOO_SHORT: [Row; 6] = [
     (Ask(CLOSE, &[]), Answer::Stall, &[], State::Error),
     (Ask(GET_STATUS, &[]), Answer::Bytes, &[9, 0, 0, 0, 10, 0], State::Error),
 ];
-
-#[rattlefmt::skip]
-#[test]
-fn an_image_that_is_too_short_is_a_fault(rt: HostRuntime) -> Result<(), Fail> {
-    played(&rt, rt.alloc(), (0x07, 5, 0, 10), &TOO_SHORT)?;
-    Ok(())
-}
 
 /// A download to a device that waits for a reset at the end.
 #[rattlefmt::skip]
@@ -133,10 +127,13 @@ static SHORT_ANSWERS: [Row; 8] = [
     (Ask(ABORT, &[]), Answer::Ack, &[], State::DfuIdle),
 ];
 
+// An image that is too short is a fault, a short answer makes its transition, and a device that cannot upload takes UPLOAD as a fault.
 #[rattlefmt::skip]
 #[test]
-fn a_short_answer_makes_its_transition(rt: HostRuntime) -> Result<(), Fail> {
+fn devices_go_by_their_rows(rt: HostRuntime) -> Result<(), Fail> {
+    played(&rt, rt.alloc(), (0x07, 5, 0, 10), &TOO_SHORT)?;
     played(&rt, rt.alloc(), (0x07, 1, 5, 10), &SHORT_ANSWERS)?;
+    played(&rt, rt.alloc(), (0x05, 1, 5, 10), &CANNOT_UPLOAD)?;
     Ok(())
 }
 

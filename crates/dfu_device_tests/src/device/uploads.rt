@@ -138,18 +138,11 @@ fn an_upload_and_a_download_do_not_mix(rt: HostRuntime) -> Result<(), Fail> {
 
 /// An UPLOAD is an error there, in dfuIDLE and in dfuERROR.
 #[rattlefmt::skip]
-static CANNOT_UPLOAD: [Row; 7] = [
+pub(super) static CANNOT_UPLOAD: [Row; 7] = [
     DETACHED, RESET, NO_UPLOAD, STALLED_PKT, CLEARED,
     (Ask([0xa1, 2, 1, 0, 0, 0, 8, 0], &[]), Answer::Stall, &[], State::Error),
     STALLED_PKT,
 ];
-
-#[rattlefmt::skip]
-#[test]
-fn a_device_that_cannot_upload_takes_it_as_a_fault(rt: HostRuntime) -> Result<(), Fail> {
-    played(&rt, rt.alloc(), (0x05, 1, 5, 10), &CANNOT_UPLOAD)?;
-    Ok(())
-}
 
 /// An image of one full piece, and then a download.
 #[rattlefmt::skip]

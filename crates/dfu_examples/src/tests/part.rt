@@ -26,7 +26,7 @@ impl SimulatedNor {
 }
 
 impl Flash for SimulatedNor {
-    ghost use Rattle.dfu_slots.specs.declared.unit.Unit.TheVariants.{U16};
+    ghost use Rattle.dfu_slots.specs.declared.layout.Unit.TheVariants.{U16};
 
     ghost cells = { λ p. p.bytes };
 

@@ -5,6 +5,7 @@ ghost use Rattle.dfuse_host.specs.declared.phase.Phase.TheVariants.{On};
 ghost use Rattle.dfu_host_c.specs.dfuse.PhaseNumbers.{dfuse_numbers_in, dfuse_phase_at, place_at, place_numbers, step_at, step_numbers, work_at, work_numbers};
 
 use crate::dfuse::reports::{report_at, report_numbers};
+use crate::tables::numbers;
 use dfuse_host::{Phase, Place, Standing, Step, Work};
 
 /// A phase as numbers.
@@ -18,6 +19,16 @@ pub(crate) struct EncodedDfusePhase {
     pub(crate) step: u32,
     pub(crate) more: u32,
     pub(crate) report: u32,
+}
+
+/// The steps by their numbers.
+macro_rules! steps {
+    ($($way:tt)*) => {
+        numbers!($($way)*, Step {
+            0 Abort, 1 AskState, 2 AskStatus, 3 ClearWait(ms), 4 ClearStatus, 5 Send, 6 Probe, 7 Poll(ms), 8 PollWait(ms),
+            9 BeginReading, 10 EndReading, 11 Read, 12 Close, 13 CloseProbe, 14 ClosePoll
+        })
+    };
 }
 
 /// The work of these numbers; None if there is no such work.
@@ -52,24 +63,7 @@ fn place_at(number: u32, pointer: u64) -> Option<Place>
 fn step_at(number: u32, ms: u32) -> Option<Step>
     ensures { result ≡ step_at number ms }
 {
-    match number {
-        0 => Some(Step::Abort),
-        1 => Some(Step::AskState),
-        2 => Some(Step::AskStatus),
-        3 => Some(Step::ClearWait(ms)),
-        4 => Some(Step::ClearStatus),
-        5 => Some(Step::Send),
-        6 => Some(Step::Probe),
-        7 => Some(Step::Poll(ms)),
-        8 => Some(Step::PollWait(ms)),
-        9 => Some(Step::BeginReading),
-        10 => Some(Step::EndReading),
-        11 => Some(Step::Read),
-        12 => Some(Step::Close),
-        13 => Some(Step::CloseProbe),
-        14 => Some(Step::ClosePoll),
-        _ => None,
-    }
+    steps!(read number, ms)
 }
 
 /// The phase of these numbers; None if there is no such phase.
@@ -128,23 +122,7 @@ fn step_numbers(step: Step) -> (u32, u32)
     ensures step { step_at result.0 result.1 ≡ Some step }
     ensures numbers { result ≡ step_numbers step }
 {
-    match step {
-        Step::Abort => (0, 0),
-        Step::AskState => (1, 0),
-        Step::AskStatus => (2, 0),
-        Step::ClearWait(ms) => (3, ms),
-        Step::ClearStatus => (4, 0),
-        Step::Send => (5, 0),
-        Step::Probe => (6, 0),
-        Step::Poll(ms) => (7, ms),
-        Step::PollWait(ms) => (8, ms),
-        Step::BeginReading => (9, 0),
-        Step::EndReading => (10, 0),
-        Step::Read => (11, 0),
-        Step::Close => (12, 0),
-        Step::CloseProbe => (13, 0),
-        Step::ClosePoll => (14, 0),
-    }
+    steps!(write step)
 }
 
 /// The numbers of a phase.

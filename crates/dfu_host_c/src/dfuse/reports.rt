@@ -4,7 +4,18 @@ ghost use Rattle.std.specs.Prelude.{◌≡◌, Some};
 ghost use Rattle.dfu_host_c.specs.dfuse.ReportNumbers.{leaving_at, leaving_number, dfuse_report_at, dfuse_report_numbers};
 
 use crate::reports::{code_at, code_number};
+use crate::tables::numbers;
 use dfuse_host::{Leaving, Report};
+
+/// The reports by their numbers.
+macro_rules! reports {
+    ($($way:tt)*) => {
+        numbers!($($way)*, Report {
+            1 Verified(leaving: leaving_at, leaving_number), 2 Different, 3 Refused(code: code_at, code_number),
+            4 ReadProtected, 5 GaveUp, 6 RestartsSpent, 7 NotDfu
+        })
+    };
+}
 
 /// How a device left, by its number; None if it is over 2.
 fn leaving_at(number: u32) -> Option<Leaving>
@@ -22,22 +33,7 @@ fn leaving_at(number: u32) -> Option<Leaving>
 pub(crate) fn report_at(number: u32, more: u32) -> Option<Report>
     ensures { result ≡ dfuse_report_at number more }
 {
-    match number {
-        1 => match leaving_at(more) {
-            Some(leaving) => Some(Report::Verified(leaving)),
-            None => None,
-        },
-        2 => Some(Report::Different),
-        3 => match code_at(more) {
-            Some(code) => Some(Report::Refused(code)),
-            None => None,
-        },
-        4 => Some(Report::ReadProtected),
-        5 => Some(Report::GaveUp),
-        6 => Some(Report::RestartsSpent),
-        7 => Some(Report::NotDfu),
-        _ => None,
-    }
+    reports!(read number, more)
 }
 
 /// The number of how a device left.
@@ -57,13 +53,5 @@ pub(crate) fn report_numbers(report: Report) -> (u32, u32)
     ensures report { dfuse_report_at result.0 result.1 ≡ Some report }
     ensures numbers { result ≡ dfuse_report_numbers report }
 {
-    match report {
-        Report::Verified(leaving) => (1, leaving_number(leaving)),
-        Report::Different => (2, 0),
-        Report::Refused(code) => (3, code_number(code)),
-        Report::ReadProtected => (4, 0),
-        Report::GaveUp => (5, 0),
-        Report::RestartsSpent => (6, 0),
-        Report::NotDfu => (7, 0),
-    }
+    reports!(write report)
 }

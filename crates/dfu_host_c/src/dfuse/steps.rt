@@ -1,15 +1,47 @@
-//! The call that steps a session.
+//! The calls that begin and step a session.
 
 ghost use Rattle.std.specs.Prelude.{◌≡◌, ◌⊎◌, None, pos};
 ghost use Rattle.dfu_host_c.specs.Refusals.{no_seen, no_session};
-ghost use Rattle.dfu_host_c.specs.dfuse.Calls.{NoSession, DfuseTook};
+ghost use Rattle.dfu_host_c.specs.dfuse.Calls.{DfuseBegins, DfuseIsRefused, DfuseTook, NoSession};
+ghost use Rattle.dfu_host_c.specs.dfuse.Maps.{IsNoMap};
 ghost use Rattle.dfu_host_c.specs.dfuse.Told.{dfuse_seen_at};
 
 use crate::dfuse::holding::{map_of, record_of, session_of};
-use crate::dfuse::seen::seen_at;
+use crate::dfuse::plan::DfusePlan;
 use crate::dfuse::session::DfuseSession;
-use crate::refusals::{NO_SEEN, NO_SESSION};
-use dfuse_host::Element;
+use crate::refusals::{NO_SEEN, NO_SESSION, Refusal};
+use crate::seen::dfuse_seen_at;
+use dfuse_host::{Element, Limits, Session};
+use dfuse_memory::Map;
+
+/// Begins a session that writes an image and reads it back: 0, or why the string is not a map, or why the plan is refused.
+#[unsafe(no_mangle)]
+pub extern "C" fn dfuse_begin(
+    session: &mut DfuseSession,
+    map: &[u8],
+    image: &[Element<'_>],
+    plan: &DfusePlan,
+) -> i32
+    ensures outcome { ((result ≡ pos 0) × DfuseBegins map.now image.entry plan.now session.new)
+        ⊎ (IsNoMap map.now result × (session.new ≡ session.old))
+        ⊎ (DfuseIsRefused map.now image.entry plan.now result × (session.new ≡ session.old)) }
+{
+    let map = match Map::read(map) {
+        Ok(map) => map,
+        Err(fault) => return Refusal::Map(fault).number(),
+    };
+    let limits = Limits {
+        actions: plan.actions,
+        restarts: plan.restarts,
+    };
+    match Session::begin(plan.over(&map, image), limits) {
+        Ok(host) => {
+            *session = record_of(&host);
+            0
+        }
+        Err(fault) => Refusal::Plan(fault).number(),
+    }
+}
 
 /// Gives a session what came of its action: 0, `DFU_NO_SESSION` or `DFU_NO_SEEN`.
 #[unsafe(no_mangle)]
@@ -30,7 +62,7 @@ pub extern "C" fn dfuse_take(
     let Some(mut host) = session_of(session, &map, image) else {
         return NO_SESSION;
     };
-    let Some(seen) = seen_at(seen, bytes) else {
+    let Some(seen) = dfuse_seen_at(seen, bytes) else {
         return NO_SEEN;
     };
     host.take(seen);

@@ -17,8 +17,8 @@ use Rattle.dfu_link.specs.inside.Expected.{at_point, Prints}
 use Rattle.dfu_link.specs.declared.scripting.expectation.ScriptContext.{ScriptContext}
 use Rattle.dfu_link.specs.inside.Source.{SourceState, GivesLines, Next, StopsSource}
 use Rattle.dfu_link.specs.declared.scripting.line.EventLine.{EventLine as EventLineRead}
-use Rattle.dfu_link.specs.declared.scripting.offered_file.OfferedFile.{OfferedFile}
-use Rattle.dfu_link.specs.declared.scripting.offered_file.OfferedFile.TheVariants.{Decoded, Given}
+use Rattle.dfu_link.specs.declared.scripting.event_parts.OfferedFile.{OfferedFile}
+use Rattle.dfu_link.specs.declared.scripting.event_parts.OfferedFile.TheVariants.{Decoded, Given}
 use Rattle.dfu_link.specs.declared.scripting.fault.ScriptFault.{ScriptFault}
 use Rattle.dfu_link.specs.declared.scripting.fault.ScriptFault.TheVariants.{NoMemory}
 

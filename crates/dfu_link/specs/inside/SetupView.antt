@@ -1,9 +1,10 @@
 -- What the `ScriptConfig` of the code means.
 use Rattle.std.specs.Prelude.{ℕ, List, [], ◌∷◌, Option, Some, None, Vec}
 use Rattle.std.specs.declared.alloc.Global.{Global}
+use Rattle.dfu_device.specs.Setting.{Setting}
 use Rattle.dfu_link.specs.Said.{given_bytes}
 use Rattle.dfu_link.specs.ScriptRun.{Settings}
-use Rattle.dfu_slots.specs.declared.unit.Unit.{Unit as WriteUnit}
+use Rattle.dfu_slots.specs.declared.layout.Unit.{Unit as WriteUnit}
 use Rattle.dfu_slots.specs.Units.{Grain}
 use Rattle.dfu_link.specs.declared.scripting.line.Sector.{Sector}
 use Rattle.dfu_link.specs.declared.scripting.script_config.ScriptConfig.{ScriptConfig}
@@ -22,10 +23,14 @@ check_bytes (Some front) = front.items
 abbrev pub setup_grain : WriteUnit → Sector → Grain
 setup_grain unit sector = record { unit = unit; sector = sector.bytes }
 
+-- What the device is set up with.
+abbrev pub setting_of_device : ScriptConfig → Setting
+setting_of_device s = record { ids = s.ids; functional = s.functional; least = s.least; busy_ms = s.busy_ms; manifest_ms = s.manifest_ms }
+
 -- What is set.
 abbrev pub settings_of : ScriptConfig → Settings
 settings_of s = record {
-  device = record { ids = s.ids; functional = s.functional; least = s.least; busy_ms = s.busy_ms; manifest_ms = s.manifest_ms };
+  device = setting_of_device s;
   grain = setup_grain s.unit s.sector;
   capacity = s.room.bytes;
   image = image_bytes s.image;

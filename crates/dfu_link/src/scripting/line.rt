@@ -1,12 +1,19 @@
 //! What a line says.
 
-ghost use Rattle.std.specs.Prelude.{◌≡◌, ◌%◌, ◌≤◌};
+ghost use Rattle.std.specs.Prelude.{◌≡◌, ◌%◌, ◌≤◌, IsTrue, is_some};
+ghost use Rattle.dfu_link.specs.Words.{hex_word_bytes};
 
-use crate::scripting::hex_text::HexText;
 use dfu_device::Objection;
 use dfu_sim::{Fate, Purpose};
 use dfu_slots::Unit;
 use dfu_wire::{Functional, Ids};
+
+/// Hexadecimal text that spells bytes, so that decoding it can only fail for want of memory.
+#[derive(Clone, Copy)]
+pub(crate) struct HexText<'l> {
+    pub text: &'l [u8],
+    ghost readable: { IsTrue (is_some (hex_word_bytes text.now)) },
+}
 
 /// How many bytes an image may have.
 #[derive(Clone, Copy)]

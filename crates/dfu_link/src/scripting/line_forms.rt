@@ -5,25 +5,22 @@ ghost use Rattle.dfu_sim.specs.Happening.{fate_of, harm_in};
 ghost use Rattle.dfu_link.specs.Said.{given_bytes, said_of, Go, Does, harm_fate};
 ghost use Rattle.dfu_link.specs.Lines.{Tells, ends, said_ids, said_device, unit_line, erase_of, said_capacity, said_image, check_of, said_limits, offer_of, time_of, refuse_of, pass_of, slip_of, harmed_of, until_of, by_fate, go_of, expect_of};
 
-use crate::scripting::fields::{
-    attributes_at, ended, file_at, hex_at, identifier_at, number_at, short_at,
-};
-use crate::scripting::keywords::{FateKeyword, read_fate};
+use crate::scripting::fault::{Field, LineFault};
+use crate::scripting::fields;
+use crate::scripting::fields::{ended, field, file_at};
 use crate::scripting::line::{ConfigLine, EventLine, HarmKind, Line, Room};
-use crate::scripting::values;
-use crate::scripting::words::{text_behind, word_at};
-use crate::scripting::wrong::{Field, LineFault};
+use crate::scripting::words::{FateKeyword, hex_text, number, read_fate, text_behind, word_at};
 use dfu_sim::{Fate, Purpose};
-use dfu_wire::{Functional, Ids};
+use dfu_wire::{Functional, Ids, identifier};
 
 /// `ids VVVV PPPP DDDD`.
-#[tactic(auto, unfolding(crate::specs::Lines::said_ids))]
+#[tactic(auto, unfolding(crate::specs::Lines::said_ids, crate::specs::Lines::identifier_at))]
 pub(crate) fn ids(line: &[u8]) -> Result<Line<'_, 'static>, LineFault>
     ensures { Tells said_of result (said_ids (words_of line.now)) }
 {
-    let (vendor, rest) = identifier_at(line, 2, 4)?;
-    let (product, rest) = identifier_at(rest, 3, 4)?;
-    let (device, rest) = identifier_at(rest, 4, 4)?;
+    let (vendor, rest) = field!(line, 2, 4, Identifier, identifier);
+    let (product, rest) = field!(rest, 3, 4, Identifier, identifier);
+    let (device, rest) = field!(rest, 4, 4, Identifier, identifier);
     let ids = Ids {
         device,
         product,
@@ -33,16 +30,16 @@ pub(crate) fn ids(line: &[u8]) -> Result<Line<'_, 'static>, LineFault>
 }
 
 /// `device FF DETACH TRANSFER LEAST BUSY MANIFEST`.
-#[tactic(auto, unfolding(crate::specs::Lines::said_device))]
+#[tactic(auto, unfolding(crate::specs::Lines::said_device, crate::specs::Lines::short_at, crate::specs::Lines::number_field))]
 pub(crate) fn device(line: &[u8]) -> Result<Line<'_, 'static>, LineFault>
     ensures { Tells said_of result (said_device (words_of line.now)) }
 {
-    let (attributes, rest) = attributes_at(line, 2, 7)?;
-    let (detach_ms, rest) = short_at(rest, 3, 7)?;
-    let (transfer, rest) = short_at(rest, 4, 7)?;
-    let (least, rest) = number_at(rest, 5, 7)?;
-    let (busy_ms, rest) = number_at(rest, 6, 7)?;
-    let (manifest_ms, rest) = number_at(rest, 7, 7)?;
+    let (attributes, rest) = field!(line, 2, 7, Attributes, fields::attributes);
+    let (detach_ms, rest) = field!(rest, 3, 7, Short, fields::short);
+    let (transfer, rest) = field!(rest, 4, 7, Short, fields::short);
+    let (least, rest) = field!(rest, 5, 7, Number, number);
+    let (busy_ms, rest) = field!(rest, 6, 7, Number, number);
+    let (manifest_ms, rest) = field!(rest, 7, 7, Number, number);
     let functional = Functional::of_attributes(attributes, detach_ms, transfer, 0x0110);
     let said = Line::Set(ConfigLine::Device {
         functional,
@@ -58,8 +55,7 @@ pub(crate) fn device(line: &[u8]) -> Result<Line<'_, 'static>, LineFault>
 pub(crate) fn unit(line: &[u8]) -> Result<Line<'_, 'static>, LineFault>
     ensures { Tells said_of result (unit_line (words_of line.now)) }
 {
-    let (word, rest) = word_at(line).ok_or(LineFault::Count(2))?;
-    let unit = values::unit(word).ok_or(LineFault::Word(Field::Unit, 2))?;
+    let (unit, rest) = field!(line, 2, 2, Unit, fields::unit);
     ended(Line::Set(ConfigLine::Unit(unit)), 2, rest)
 }
 
@@ -68,8 +64,7 @@ pub(crate) fn unit(line: &[u8]) -> Result<Line<'_, 'static>, LineFault>
 pub(crate) fn erase(line: &[u8]) -> Result<Line<'_, 'static>, LineFault>
     ensures { Tells said_of result (erase_of (words_of line.now)) }
 {
-    let (word, rest) = word_at(line).ok_or(LineFault::Count(2))?;
-    let sector = values::sector(word).ok_or(LineFault::Word(Field::Sector, 2))?;
+    let (sector, rest) = field!(line, 2, 2, Sector, fields::sector);
     ended(Line::Set(ConfigLine::Erase(sector)), 2, rest)
 }
 
@@ -78,36 +73,35 @@ pub(crate) fn erase(line: &[u8]) -> Result<Line<'_, 'static>, LineFault>
 pub(crate) fn capacity(line: &[u8]) -> Result<Line<'_, 'static>, LineFault>
     ensures { Tells said_of result (said_capacity (words_of line.now)) }
 {
-    let (word, rest) = word_at(line).ok_or(LineFault::Count(2))?;
-    let bytes = values::count(word, 1_048_576).ok_or(LineFault::Word(Field::Capacity, 2))?;
+    let (bytes, rest) = field!(line, 2, 2, Capacity, fields::count, 1_048_576);
     ended(Line::Set(ConfigLine::Capacity(Room { bytes })), 2, rest)
 }
 
 /// `image HEX`.
-#[tactic(auto, unfolding(crate::specs::Lines::said_image))]
+#[tactic(auto, unfolding(crate::specs::Lines::said_image, crate::specs::Lines::hex_at))]
 pub(crate) fn image(line: &[u8]) -> Result<Line<'_, 'static>, LineFault>
     ensures { Tells said_of result (said_image (words_of line.now)) }
 {
-    let (image, rest) = hex_at(line, 2, 2)?;
+    let (image, rest) = field!(line, 2, 2, Bytes, hex_text);
     ended(Line::Set(ConfigLine::Image(image)), 2, rest)
 }
 
 /// `check HEX`.
-#[tactic(auto, unfolding(crate::specs::Lines::check_of))]
+#[tactic(auto, unfolding(crate::specs::Lines::check_of, crate::specs::Lines::hex_at))]
 pub(crate) fn check(line: &[u8]) -> Result<Line<'_, 'static>, LineFault>
     ensures { Tells said_of result (check_of (words_of line.now)) }
 {
-    let (front, rest) = hex_at(line, 2, 2)?;
+    let (front, rest) = field!(line, 2, 2, Bytes, hex_text);
     ended(Line::Set(ConfigLine::Check(front)), 2, rest)
 }
 
 /// `limits A R`.
-#[tactic(auto, unfolding(crate::specs::Lines::said_limits))]
+#[tactic(auto, unfolding(crate::specs::Lines::said_limits, crate::specs::Lines::number_field, crate::specs::Lines::short_at))]
 pub(crate) fn limits(line: &[u8]) -> Result<Line<'_, 'static>, LineFault>
     ensures { Tells said_of result (said_limits (words_of line.now)) }
 {
-    let (actions, rest) = number_at(line, 2, 3)?;
-    let (restarts, rest) = short_at(rest, 3, 3)?;
+    let (actions, rest) = field!(line, 2, 3, Number, number);
+    let (restarts, rest) = field!(rest, 3, 3, Short, fields::short);
     ended(Line::Limits { actions, restarts }, 3, rest)
 }
 
@@ -125,11 +119,11 @@ pub(crate) fn offer<'l, 'g>(
 }
 
 /// `time MS`.
-#[tactic(auto, unfolding(crate::specs::Lines::time_of))]
+#[tactic(auto, unfolding(crate::specs::Lines::time_of, crate::specs::Lines::number_field))]
 pub(crate) fn time(line: &[u8]) -> Result<Line<'_, 'static>, LineFault>
     ensures { Tells said_of result (time_of (words_of line.now)) }
 {
-    let (ms, rest) = number_at(line, 2, 2)?;
+    let (ms, rest) = field!(line, 2, 2, Number, number);
     ended(Line::Do(EventLine::Time(ms)), 2, rest)
 }
 
@@ -138,8 +132,7 @@ pub(crate) fn time(line: &[u8]) -> Result<Line<'_, 'static>, LineFault>
 pub(crate) fn refuse(line: &[u8]) -> Result<Line<'_, 'static>, LineFault>
     ensures { Tells said_of result (refuse_of (words_of line.now)) }
 {
-    let (word, rest) = word_at(line).ok_or(LineFault::Count(2))?;
-    let objection = values::objection(word).ok_or(LineFault::Word(Field::Objection, 2))?;
+    let (objection, rest) = field!(line, 2, 2, Objection, fields::objection);
     ended(Line::Do(EventLine::Refuse(objection)), 2, rest)
 }
 
@@ -148,8 +141,7 @@ pub(crate) fn refuse(line: &[u8]) -> Result<Line<'_, 'static>, LineFault>
 fn pass(line: &[u8]) -> Result<Line<'_, 'static>, LineFault>
     ensures { Tells said_of result (pass_of (words_of line.now)) }
 {
-    let (word, rest) = word_at(line).ok_or(LineFault::Count(3))?;
-    let times = values::count(word, 1_000_000).ok_or(LineFault::Word(Field::Times, 3))?;
+    let (times, rest) = field!(line, 3, 3, Times, fields::count, 1_000_000);
     let fate = Fate::Pass;
     ended(Line::Do(EventLine::Go { fate, times }), 3, rest)
 }
@@ -162,21 +154,21 @@ fn once<'l>(fate: Fate<'l>, of: usize, rest: &[u8]) -> Result<Line<'l, 'static>,
 }
 
 /// `go slip MS`.
-#[tactic(auto, unfolding(crate::specs::Lines::slip_of))]
+#[tactic(auto, unfolding(crate::specs::Lines::slip_of, crate::specs::Lines::number_field))]
 fn slip(line: &[u8]) -> Result<Line<'_, 'static>, LineFault>
     ensures { Tells said_of result (slip_of (words_of line.now)) }
 {
-    let (ms, rest) = number_at(line, 3, 3)?;
+    let (ms, rest) = field!(line, 3, 3, Number, number);
     once(Fate::Slip(ms), 3, rest)
 }
 
 /// `go cut W HEX` and `go fail W HEX`.
-#[tactic(auto, unfolding(crate::specs::Lines::harmed_of))]
+#[tactic(auto, unfolding(crate::specs::Lines::harmed_of, crate::specs::Lines::number_field, crate::specs::Lines::hex_at))]
 fn harmed(harm: HarmKind, line: &[u8]) -> Result<Line<'_, 'static>, LineFault>
     ensures { Tells said_of result (harmed_of (harm_fate harm) (words_of line.now)) }
 {
-    let (writes, rest) = number_at(line, 3, 4)?;
-    let (tear, rest) = hex_at(rest, 4, 4)?;
+    let (writes, rest) = field!(line, 3, 4, Number, number);
+    let (tear, rest) = field!(rest, 4, 4, Bytes, hex_text);
     let events = EventLine::GoHarmed { harm, writes, tear };
     ended(Line::Do(events), 4, rest)
 }

@@ -5,13 +5,77 @@ ghost use Rattle.dfu_link.specs.Said.{given_bytes};
 ghost use Rattle.dfu_link.specs.Falls.{Ended};
 ghost use Rattle.dfu_link.specs.Printed.{HasPrinted};
 
+use crate::notes::{NoTrace, Stopped, TraceWriter, Tracer};
 use crate::scripting::fault::ScriptFault;
 use crate::scripting::run_script::run_lines;
-use crate::seen::{Stopped, Until};
-use crate::tracer::{NoTrace, TraceWriter};
 use dfu_sim::laws::image_shown;
+use dfu_slots::SimMedium;
 use std::alloc::Global;
-use std::io::{Read, Write};
+use std::io::{self, ErrorKind, Read, Write};
+
+/// A reader or a writer of a script that fails once a board differs from the device: no further byte is read or written then.
+#[derive(Drop)]
+pub(crate) struct Until<'d, S> {
+    pub inner: S,
+    pub seen: &'d Stopped,
+}
+
+/// The run is over.
+fn over() -> io::Error {
+    io::Error::from(ErrorKind::Other)
+}
+
+impl<R: Read> Read for Until<'_, R> {
+    ghost remaining = { λ u. R.remaining u.inner };
+
+    fn read(&mut self, buf: &mut [u8]) -> io::Result<usize> {
+        if self.seen.line().is_some() {
+            return Err(over());
+        }
+        self.inner.read(buf)
+    }
+}
+
+impl<W: Write> Write for Until<'_, W> {
+    ghost contents = { λ u. W.contents u.inner };
+
+    fn write(&mut self, buf: &[u8]) -> io::Result<usize> {
+        if self.seen.line().is_some() {
+            return Err(over());
+        }
+        self.inner.write(buf)
+    }
+
+    fn flush(&mut self) -> io::Result<()> {
+        if self.seen.line().is_some() {
+            return Err(over());
+        }
+        self.inner.flush()
+    }
+}
+
+/// Runs a script on a device and a board beside it, with this tracer, and with a writer that fails once they differ.
+fn run_beside<T: Tracer<SimMedium>, R: Read + Drop, W: Write>(
+    alloc: Global,
+    given: Option<&[u8]>,
+    reader: R,
+    until: &mut Until<'_, W>,
+    tracer: &mut T,
+    stopped: &Stopped,
+) -> Result<(), ScriptFault>
+    ensures ended { IfSome (R.remaining reader)
+        (λ text. Ended (given_bytes given.entry) text (W.contents until.old.inner) (W.contents until.new.inner) result) }
+    ensures printed { IfSome (R.remaining reader)
+        (λ text. HasPrinted (given_bytes given.entry) text (W.contents until.old.inner) (W.contents until.new.inner) result) }
+{
+    // Called for its law, which `printed` needs: no image but the one that is shown is active.
+    image_shown();
+    let reader = Until {
+        inner: reader,
+        seen: stopped,
+    };
+    run_lines::<T, Until<'_, R>, Until<'_, W>>(alloc, given, reader, until, tracer, true, stopped)
+}
 
 /// Runs a script as `script_with` does, and plays each event on a board beside the device: a device that asks for its writes, whose program
 /// carries them out on flash in memory (`dfu_board_sim::BoardWorld`). It begins with the bytes of the device's medium.
@@ -40,22 +104,16 @@ pub fn script_beside_with<R: Read + Drop, W: Write + Drop>(
     ensures printed { IfSome (R.remaining reader)
         (λ text. HasPrinted (given_bytes given.entry) text (W.contents writer) (W.contents result.2) result.0) }
 {
-    // Called for its law, which `printed` needs: no image but the one that is shown is active.
-    image_shown();
     let mut until = Until {
         inner: writer,
         seen: stopped,
     };
-    let answer = run_lines::<NoTrace, Until<'_, R>, Until<'_, W>>(
+    let answer = run_beside::<NoTrace, R, W>(
         alloc,
         given,
-        Until {
-            inner: reader,
-            seen: stopped,
-        },
+        reader,
         &mut until,
         &mut NoTrace,
-        true,
         stopped,
     );
     let Until {
@@ -85,23 +143,17 @@ pub fn script_beside_traced_with<R: Read + Drop, W: Write + Drop, N: Write>(
     ensures printed { IfSome (R.remaining reader)
         (λ text. HasPrinted (given_bytes given.entry) text (W.contents writer) (W.contents result.2) result.0) }
 {
-    // Called for its law, which `printed` needs: no image but the one that is shown is active.
-    image_shown();
+    let mut trace_writer = TraceWriter::new(alloc, trace);
     let mut until = Until {
         inner: writer,
         seen: stopped,
     };
-    let mut trace_writer = TraceWriter::new(alloc, trace);
-    let answer = run_lines::<TraceWriter<'_, N>, Until<'_, R>, Until<'_, W>>(
+    let answer = run_beside::<TraceWriter<'_, N>, R, W>(
         alloc,
         given,
-        Until {
-            inner: reader,
-            seen: stopped,
-        },
+        reader,
         &mut until,
         &mut trace_writer,
-        true,
         stopped,
     );
     let is_traced = !trace_writer.is_broken;

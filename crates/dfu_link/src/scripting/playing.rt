@@ -3,22 +3,22 @@
 ghost use Rattle.std.specs.Prelude.{◌≡◌, ℕ, List, Option, [], ◌∷◌, replicate};
 ghost use Rattle.dfu_sim.specs.LinkView.{ShowsActive};
 ghost use Rattle.dfu_sim.specs.Comes.{HasCome};
-ghost use Rattle.dfu_sim.specs.Happening.{Offers, Goes, harmed, fate_of, harm_in, happening};
+ghost use Rattle.dfu_sim.specs.Happening.{Goes, fate_of, harm_in, happening};
 ghost use Rattle.dfu_link.specs.ScriptRun.{checked};
-ghost use Rattle.dfu_sim.specs.Refusing.{IsLive};
-ghost use Rattle.dfu_link.specs.Said.{GoesOn, harm_fate, said_by, tear_bytes};
+ghost use Rattle.dfu_sim.specs.LinkView.{IsLive};
+ghost use Rattle.dfu_link.specs.Said.{GoesOn, said_by, tear_bytes};
 ghost use Rattle.dfu_link.specs.inside.Expected.{expectation_of, point_at, at_point};
 ghost use Rattle.dfu_link.specs.inside.Moving.{PlaysEvents, DoesLine, file_bytes};
 
 use crate::beside::Played;
-use crate::scripting::checking::checked;
+use crate::notes::Tracer;
+use crate::scripting::event_parts::{checked, harmed, offered};
 use crate::scripting::expectation::{Expectation, ScriptContext};
 use crate::scripting::fault::ScriptFault;
-use crate::scripting::line::{EventLine, HarmKind};
+use crate::scripting::line::EventLine;
 use crate::scripting::saying::{is_silent, say_next};
-use crate::tracer::Tracer;
 use dfu_host::{Limits, Report};
-use dfu_sim::{Event, Fate, LinkFault, Purpose, World};
+use dfu_sim::{Event, Fate, LinkFault, World};
 use dfu_slots::Faulty;
 use std::io::Write;
 
@@ -108,28 +108,6 @@ fn pass_on<'f, T: Tracer<M>, M: Faulty, W: Write>(
         if !is_silent(answer) {
             return Ok(());
         }
-    }
-}
-
-/// The fate of an action in which a write is harmed.
-fn harmed(harm: HarmKind, writes: u32, tear: &[u8]) -> Fate<'_>
-    ensures fate { fate_of result ≡ harm_fate harm }
-    ensures harm { harm_in result ≡ harmed writes tear.now }
-{
-    match harm {
-        HarmKind::Cut => Fate::Cut { writes, tear },
-        HarmKind::Fail => Fate::Fail { writes, tear },
-        HarmKind::Lie => Fate::Lie { writes, tear },
-    }
-}
-
-/// The offer of a file.
-fn offered<'f>(purpose: Purpose, file: &'f [u8], limits: Limits) -> Event<'f, 'static>
-    ensures { happening result ≡ Offers purpose file.now limits }
-{
-    match purpose {
-        Purpose::Install => Event::Offer { file, limits },
-        Purpose::Verify => Event::OfferVerified { file, limits },
     }
 }
 

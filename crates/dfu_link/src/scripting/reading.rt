@@ -4,15 +4,14 @@ ghost use Rattle.dfu_link.specs.Words.{Reads, words_of};
 ghost use Rattle.dfu_link.specs.Said.{given_bytes, said_of};
 ghost use Rattle.dfu_link.specs.Lines.{Tells, says, by_keyword, read_line, line_of};
 
+use crate::notes::{Reason, Stopped};
+use crate::scripting::fault::LineFault;
 use crate::scripting::fields::{ended, is_comment};
-use crate::scripting::keywords::{Keyword, read_keyword};
 use crate::scripting::line::{EventLine, Line};
 use crate::scripting::line_forms::{
     capacity, check, device, erase, expect, go, ids, image, limits, offer, refuse, time, unit,
 };
-use crate::scripting::words::word_at;
-use crate::scripting::wrong::LineFault;
-use crate::seen::{Reason, Stopped};
+use crate::scripting::words::{Keyword, read_keyword, word_at};
 use dfu_sim::Purpose;
 
 /// The most bytes of a line, without its 0Ah.

@@ -4,22 +4,22 @@
 //! made over the device and taken apart again. So is that of a board that plays the script beside it.
 
 ghost use Rattle.std.specs.Prelude.{◌≤◌, OnOk, IfOk, IfErr, IfSome};
-ghost use Rattle.dfu_sim.specs.Refusing.{IsLive};
+ghost use Rattle.dfu_sim.specs.LinkView.{IsLive};
 ghost use Rattle.dfu_link.specs.ScriptRun.{at_rest};
 ghost use Rattle.dfu_link.specs.inside.Expected.{at_point};
 ghost use Rattle.dfu_link.specs.inside.Source.{Next, GivesLine, SourceState};
 ghost use Rattle.dfu_link.specs.inside.Moving.{LineEnds, Ends, LinesDone, IsUnarmed, Plainly, PlainlyFalls, MovesAndFalls};
 
 use crate::beside::{Beside, Played};
+use crate::notes::Tracer;
+use crate::scripting::event_parts::{file_of, tear_of};
 use crate::scripting::expectation::{ScriptContext, expect};
 use crate::scripting::fault::ScriptFault;
 use crate::scripting::line::{EventLine, Line};
-use crate::scripting::offered_file::{file_of, tear_of};
 use crate::scripting::playing::{play_events, play_live};
 use crate::scripting::reading::{note_line, parse};
 use crate::scripting::showing::{image_next, show_next};
 use crate::scripting::source::Source;
-use crate::tracer::Tracer;
 use dfu_device::Device;
 use dfu_host::Limits;
 use dfu_sim::World;

@@ -4,10 +4,9 @@ ghost use Rattle.std.specs.Prelude.{◌≡◌, ◌≢◌, Ok, None, true, false}
 ghost use Rattle.dfu_link.specs.inside.Expected.{expectation_of, Puts, PrintsNext};
 ghost use Rattle.dfu_link.specs.Texts.{offer_fault_name, uploaded_line, report_line, refusal_line, told_line};
 
-use crate::scripting::digits::write_bytes;
 use crate::scripting::expectation::{Expectation, write_next};
 use crate::scripting::fault::ScriptFault;
-use crate::scripting::output::{write_out, write_three};
+use crate::scripting::output::{write_bytes, write_out, write_three};
 use dfu_host::Report;
 use dfu_sim::{LinkFault, OfferFault};
 use std::io::Write;

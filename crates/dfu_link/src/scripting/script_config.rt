@@ -54,15 +54,7 @@ pub(crate) fn beginning(given: Option<&[u8]>) -> ScriptConfig<'_>
             product: 0x0001,
             vendor: 0x1209,
         },
-        functional: Functional {
-            can_download: true,
-            can_upload: true,
-            tolerant: true,
-            will_detach: false,
-            detach_ms: 255,
-            transfer: 8,
-            version: 0x0110,
-        },
+        functional: Functional::of_attributes(0x07, 255, 8, 0x0110),
         least: 1,
         busy_ms: 5,
         manifest_ms: 10,
@@ -110,18 +102,9 @@ pub(crate) fn set(
             setup.manifest_ms = manifest_ms;
             setup.lines.device = number;
         }
-        ConfigLine::Unit(unit) => {
-            setup.unit = unit;
-            setup.lines.unit = number;
-        }
-        ConfigLine::Erase(sector) => {
-            setup.sector = sector;
-            setup.lines.sector = number;
-        }
-        ConfigLine::Capacity(room) => {
-            setup.room = room;
-            setup.lines.capacity = number;
-        }
+        ConfigLine::Unit(unit) => (setup.unit, setup.lines.unit) = (unit, number),
+        ConfigLine::Erase(sector) => (setup.sector, setup.lines.sector) = (sector, number),
+        ConfigLine::Capacity(room) => (setup.room, setup.lines.capacity) = (room, number),
         ConfigLine::Image(text) => {
             setup.image = Some(bytes_of(alloc, text)?);
             setup.lines.image = number;

@@ -5,8 +5,8 @@ ghost use Rattle.dfu_link.specs.inside.SetupFaults.{HasRoomFault};
 ghost use Rattle.dfu_link.specs.inside.SetupView.{settings_of};
 
 use crate::scripting::script_config::ScriptConfig;
-use crate::scripting::starting::{cuts_sector, first_image};
-use dfu_device::{Config, ConfigFault};
+use crate::scripting::starting::{cuts_sector, device_config, first_image};
+use dfu_device::ConfigFault;
 
 /// The most milliseconds of a poll time, which has 24 bits.
 const MAX_POLL: u32 = 16_777_215;
@@ -64,14 +64,7 @@ fn room_fault(setup: &ScriptConfig<'_>) -> Option<SetupFault>
 
 /// The first fault of what is set, if it has one.
 pub(crate) fn setup_fault(setup: &ScriptConfig<'_>) -> Option<SetupFault> {
-    let config = Config::new(
-        setup.ids,
-        setup.functional,
-        setup.least,
-        setup.busy_ms,
-        setup.manifest_ms,
-    );
-    match config {
+    match device_config(setup) {
         Ok(_) => room_fault(setup),
         Err(fault) => Some(device_fault(setup, fault)),
     }

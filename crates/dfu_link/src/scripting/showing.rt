@@ -6,10 +6,9 @@ ghost use Rattle.dfu_slots.specs.Seen.{image_of};
 ghost use Rattle.dfu_link.specs.inside.Expected.{expectation_of, Puts, PrintsNext};
 ghost use Rattle.dfu_link.specs.Texts.{hex_text, image_line, state_text, show_line};
 
-use crate::scripting::digits::write_digits;
 use crate::scripting::expectation::{Expectation, write_next};
 use crate::scripting::fault::ScriptFault;
-use crate::scripting::output::{write_out, write_three, write_two};
+use crate::scripting::output::{write_digits, write_out, write_three, write_two};
 use dfu_device::Device;
 use dfu_slots::{Medium, Slots};
 use std::io::Write;

@@ -2,20 +2,20 @@
 
 ghost use Rattle.std.specs.Prelude.{◌≡◌, ◌≢◌, ◌<◌, ◌+◌, ◌*◌, ◌%◌, IfOk, IfErr, true, false};
 ghost use Rattle.dfu_slots.specs.Units.{gate_room, IsMultiple};
+ghost use Rattle.dfu_device.specs.Setting.{FirstFault, IsAllowed, of_this_version};
 ghost use Rattle.dfu_link.specs.Said.{hex_bytes};
 ghost use Rattle.dfu_link.specs.ScriptRun.{DeviceStarts};
 ghost use Rattle.dfu_link.specs.Falls.{StartFalls};
 ghost use Rattle.dfu_link.specs.inside.Moving.{IsUnarmed};
-ghost use Rattle.dfu_link.specs.inside.SetupView.{settings_of, setup_grain, image_bytes};
+ghost use Rattle.dfu_link.specs.inside.SetupView.{setting_of_device, settings_of, setup_grain, image_bytes};
 ghost use Rattle.dfu_link.specs.inside.Forming.{Formed, FormFalls};
 
+use crate::notes::{Reason, Stopped};
 use crate::scripting::fault::ScriptFault;
-use crate::scripting::hex_text::HexText;
-use crate::scripting::line::{Room, Sector};
+use crate::scripting::line::{HexText, Room, Sector};
 use crate::scripting::script_config::ScriptConfig;
 use crate::scripting::setup_fault::{line_of_fault, setup_fault};
-use crate::seen::{Reason, Stopped};
-use dfu_device::{Config, Device};
+use dfu_device::{Config, ConfigFault, Device};
 use dfu_slots::{FormatFault, SimMedium, Slots, Unit};
 use std::alloc::Global;
 
@@ -91,20 +91,28 @@ fn form(
     }
 }
 
+/// The configuration of the device, or the first fault of what it is set up with.
+pub(crate) fn device_config(setup: &ScriptConfig<'_>) -> Result<Config, ConfigFault>
+    ensures ok { IfOk result (λ c. c ≡ record (setting_of_device setup.now) { functional = of_this_version setup.now.functional }) }
+    ensures allowed { IfOk result (λ c. IsAllowed c) }
+    ensures err { IfErr result (λ e. FirstFault e (setting_of_device setup.now)) }
+{
+    Config::new(
+        setup.ids,
+        setup.functional,
+        setup.least,
+        setup.busy_ms,
+        setup.manifest_ms,
+    )
+}
+
 /// Starts the device, in appIDLE on a formatted medium in memory.
 fn start_device(alloc: Global, setup: &ScriptConfig<'_>) -> Result<Device<SimMedium>, ScriptFault>
     ensures ok { IfOk result (λ d. DeviceStarts (settings_of setup.now) d) }
     ensures unarmed { IfOk result (λ d. IsUnarmed d) }
     ensures fault { IfErr result (λ f. StartFalls (settings_of setup.now) f) }
 {
-    let config = Config::new(
-        setup.ids,
-        setup.functional,
-        setup.least,
-        setup.busy_ms,
-        setup.manifest_ms,
-    );
-    let Ok(config) = config else {
+    let Ok(config) = device_config(setup) else {
         return Err(ScriptFault::BadConfig);
     };
     let slots = form(

@@ -1,4 +1,4 @@
-//! Words of a line, numbers and hexadecimal text.
+//! Words of a line: keywords, numbers and hexadecimal text.
 
 ghost use Rattle.std.specs.Prelude.{◌≡◌, ◌↔◌, ◌+◌, ◌*◌, Some, None, IsTrue, is_some};
 ghost use Rattle.std.specs.List.{position, AllPass};
@@ -6,9 +6,9 @@ ghost use Rattle.hex.specs.Hex.{is_hex_digit};
 ghost use Rattle.dfu_link.specs.Words.{Reads, is_space, is_no_space, words_of, first_word, text_behind, number_of, hex_word_bytes, pair_of};
 ghost use Rattle.dfu_link.specs.Said.{given_bytes, hex_bytes, offered_bytes};
 ghost use Rattle.dfu_link.specs.Fields.{named_bytes};
+ghost use Rattle.dfu_link.specs.Keywords.{keyword_of, later_keyword_of, fate_keyword_of};
 
-use crate::scripting::hex_text::HexText;
-use crate::scripting::line::Offered;
+use crate::scripting::line::{HexText, Offered};
 
 /// Where the first space is.
 fn space_at(line: &[u8]) -> Option<usize>
@@ -127,4 +127,114 @@ pub(crate) fn pair(word: &[u8]) -> Option<u8>
         Ok(()) => Some(bytes[0]),
         Err(_) => None,
     }
+}
+
+/// The variant whose word this is, in the order of the table, or else the last value.
+macro_rules! one_of {
+    ($word:ident, $of:ident, $none:expr, { $text:literal => $variant:ident, $($texts:literal => $variants:ident,)* }) => {
+        if $word == $text.as_slice() {
+            Some($of::$variant)
+        } $(else if $word == $texts.as_slice() {
+            Some($of::$variants)
+        })* else {
+            $none
+        }
+    };
+}
+
+pub(crate) use one_of;
+
+/// The first word of a line.
+#[derive(Clone, Copy, Debug, PartialEq, Eq)]
+pub(crate) enum Keyword {
+    Ids,
+    Device,
+    Unit,
+    Erase,
+    Capacity,
+    Image,
+    Limits,
+    Offer,
+    Verify,
+    Upload,
+    Abort,
+    Go,
+    Time,
+    Reset,
+    Cut,
+    Show,
+    Expect,
+    Check,
+    Refuse,
+}
+
+/// The word after `go`.
+#[derive(Clone, Copy, Debug, PartialEq, Eq)]
+pub(crate) enum FateKeyword {
+    Pass,
+    LostOut,
+    LostBack,
+    Twice,
+    TwiceLostBack,
+    Slip,
+    Cut,
+    Fail,
+    Lie,
+    Until,
+}
+
+/// The first word of a line that says nothing of the device and its medium.
+#[tactic(auto, unfolding(crate::specs::Keywords::later_keyword_of))]
+fn read_later(word: &[u8]) -> Option<Keyword>
+    ensures { result ≡ later_keyword_of word.now }
+{
+    one_of!(word, Keyword, None, {
+        b"limits" => Limits,
+        b"offer" => Offer,
+        b"verify" => Verify,
+        b"upload" => Upload,
+        b"abort" => Abort,
+        b"go" => Go,
+        b"time" => Time,
+        b"reset" => Reset,
+        b"cut" => Cut,
+        b"show" => Show,
+        b"expect" => Expect,
+        b"check" => Check,
+        b"refuse" => Refuse,
+    })
+}
+
+/// The keyword that the first word of a line is, if it is one.
+#[tactic(auto, unfolding(crate::specs::Keywords::keyword_of))]
+pub(crate) fn read_keyword(word: &[u8]) -> Option<Keyword>
+    ensures { result ≡ keyword_of word.now }
+{
+    one_of!(word, Keyword, read_later(word), {
+        b"ids" => Ids,
+        b"device" => Device,
+        b"unit" => Unit,
+        b"erase" => Erase,
+        b"capacity" => Capacity,
+        b"image" => Image,
+    })
+}
+
+/// The keyword that the word after `go` is, if it is one.
+#[tactic(auto, unfolding(crate::specs::Keywords::fate_keyword_of))]
+pub(crate) fn read_fate(word: &[u8]) -> Option<FateKeyword>
+    ensures { result ≡ fate_keyword_of word.now }
+{
+    one_of!(word, FateKeyword, None, {
+        b"pass" => Pass,
+        b"lostout" => LostOut,
+        b"lostback" => LostBack,
+        b"twice" => Twice,
+        b"twicelostback" => TwiceLostBack,
+        b"slip" => Slip,
+        b"cut" => Cut,
+        b"fail" => Fail,
+        b"lie" => Lie,
+        b"until" => Until,
+    })
 }

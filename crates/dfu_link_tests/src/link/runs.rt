@@ -2,7 +2,7 @@
 
 ghost use Rattle.std.specs.Prelude.{◌≡◌, ℕ, List, IsTrue};
 ghost use Rattle.dfu_host.specs.declared.limits.Limits.{Limits};
-ghost use Rattle.dfu_sim.specs.declared.purpose.Purpose.{Purpose};
+ghost use Rattle.dfu_sim.specs.declared.offering.Purpose.{Purpose};
 ghost use Rattle.dfu_link.specs.Bytes.{link_of};
 ghost use Rattle.dfu_link.specs.CleanRun.{resting};
 ghost use Rattle.dfu_link.specs.Running.{happenings};

@@ -1,15 +1,15 @@
 -- The names that a line of `dfu judge` has.
 use Rattle.std.specs.Prelude.{ℕ, List, [], codes}
-use Rattle.dfu_conformance.specs.declared.standard_state.StandardState.{StandardState}
-use Rattle.dfu_conformance.specs.declared.standard_state.StandardState.TheVariants as place
-use Rattle.dfu_conformance.specs.declared.event_kind.EventKind.{EventKind}
-use Rattle.dfu_conformance.specs.declared.event_kind.EventKind.TheVariants as asked
+use Rattle.dfu_conformance.specs.declared.row.StandardState.{StandardState}
+use Rattle.dfu_conformance.specs.declared.row.StandardState.TheVariants as place
+use Rattle.dfu_conformance.specs.declared.row.EventKind.{EventKind}
+use Rattle.dfu_conformance.specs.declared.row.EventKind.TheVariants as asked
 use Rattle.dfu_conformance.specs.declared.row.Gives.{Gives}
 use Rattle.dfu_conformance.specs.declared.row.Gives.TheVariants as answer
 use Rattle.dfu_conformance.specs.declared.row.Source.{Source}
 use Rattle.dfu_conformance.specs.declared.row.Source.TheVariants as source
-use Rattle.dfu_conformance.specs.declared.reading.Reading.{Reading}
-use Rattle.dfu_conformance.specs.declared.reading.Reading.TheVariants as reading
+use Rattle.dfu_conformance.specs.declared.row.Reading.{Reading}
+use Rattle.dfu_conformance.specs.declared.row.Reading.TheVariants as reading
 use Rattle.dfu_conformance.specs.declared.row.When.{When}
 use Rattle.dfu_conformance.specs.declared.row.When.TheVariants.{Always, CanDownload, CanUpload, Tolerant, NotTolerant, WillDetach, By}
 

@@ -1,6 +1,14 @@
-//! Why a log was judged no further.
+//! Why a log was judged no further, and its line.
 
+ghost use Rattle.std.specs.Prelude.{◌≡◌, IfOk};
+ghost use Rattle.std.specs.String.{string_bytes};
+ghost use Rattle.dfu_output.specs.judge.Judging.{WritesLogStop, bad_line};
+
+use crate::exit::{Exit, fault_text, write_out};
 use dfu_conformance::LineFault;
+use dfu_suffix::SuffixFault;
+use std::alloc::{AllocError, Global};
+use std::io::Write;
 
 /// Why a log was judged no further.
 #[derive(Clone, Copy, Debug, PartialEq, Eq)]
@@ -20,4 +28,27 @@ pub enum LogFault {
     Read,
     /// The writer failed.
     Write,
+}
+
+#[tactic(auto, unfolding(crate::specs::judge::Judging::bad_line))]
+fn bad_line(alloc: Global, number: u64) -> Result<String, AllocError>
+    ensures { IfOk result (λ t. string_bytes t ≡ bad_line number) }
+{
+    format!(in alloc; "refused BadLine {number}\n")
+}
+
+/// Writes the line for a log that was judged no further. Where the writer failed nothing more is written.
+pub fn stop_text<W: Write>(alloc: Global, fault: LogFault, writer: &mut W) -> Exit
+    ensures { WritesLogStop fault (W.contents writer.old) (W.contents writer.new) result }
+{
+    match fault {
+        LogFault::BadLine { number, .. } => match bad_line(alloc, number) {
+            Ok(line) => write_out(writer, line.as_bytes(), Exit::Refused),
+            Err(_) => fault_text(SuffixFault::NoMemory, writer),
+        },
+        LogFault::TooLarge => fault_text(SuffixFault::TooLarge, writer),
+        LogFault::NoMemory => fault_text(SuffixFault::NoMemory, writer),
+        LogFault::Read => fault_text(SuffixFault::Read, writer),
+        LogFault::Write => Exit::Fault,
+    }
 }

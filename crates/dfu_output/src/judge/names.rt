@@ -33,76 +33,47 @@ pub(crate) static READINGS: [Reading; 6] = [
 pub(crate) fn place_name(place: StandardState) -> &'static str
     ensures { result.now ≡ place_name place }
 {
-    match place {
-        StandardState::AppIdle => "appIDLE",
-        StandardState::AppDetach => "appDETACH",
-        StandardState::DfuIdle => "dfuIDLE",
-        StandardState::DownloadSync => "dfuDNLOAD-SYNC",
-        StandardState::DownloadBusy => "dfuDNBUSY",
-        StandardState::DownloadIdle => "dfuDNLOAD-IDLE",
-        StandardState::ManifestSync => "dfuMANIFEST-SYNC",
-        StandardState::Manifest => "dfuMANIFEST",
-        StandardState::ManifestWaitReset => "dfuMANIFEST-WAIT-RESET",
-        StandardState::UploadIdle => "dfuUPLOAD-IDLE",
-        StandardState::Error => "dfuERROR",
-        StandardState::Fresh => "dfuIDLE",
-    }
+    named!(place, StandardState,
+        AppIdle "appIDLE", AppDetach "appDETACH", DfuIdle "dfuIDLE", DownloadSync "dfuDNLOAD-SYNC",
+        DownloadBusy "dfuDNBUSY", DownloadIdle "dfuDNLOAD-IDLE", ManifestSync "dfuMANIFEST-SYNC",
+        Manifest "dfuMANIFEST", ManifestWaitReset "dfuMANIFEST-WAIT-RESET", UploadIdle "dfuUPLOAD-IDLE",
+        Error "dfuERROR", Fresh "dfuIDLE"
+    )
 }
 
 pub(crate) fn asked_name(asked: EventKind) -> &'static str
     ensures { result.now ≡ asked_name asked }
 {
-    match asked {
-        EventKind::Detach => "DETACH",
-        EventKind::Block => "DNLOAD",
-        EventKind::Close => "DNLOAD-0",
-        EventKind::Upload => "UPLOAD",
-        EventKind::GetStatus => "GETSTATUS",
-        EventKind::ClrStatus => "CLRSTATUS",
-        EventKind::GetState => "GETSTATE",
-        EventKind::Abort => "ABORT",
-        EventKind::Other => "other",
-        EventKind::Reset => "reset",
-        EventKind::Power => "power",
-    }
+    named!(asked, EventKind,
+        Detach "DETACH", Block "DNLOAD", Close "DNLOAD-0", Upload "UPLOAD", GetStatus "GETSTATUS",
+        ClrStatus "CLRSTATUS", GetState "GETSTATE", Abort "ABORT", Other "other", Reset "reset",
+        Power "power"
+    )
 }
 
 pub(crate) fn answer_name(gives: Gives) -> &'static str
     ensures { result.now ≡ answer_name gives }
 {
-    match gives {
-        Gives::Ack => "ack",
-        Gives::Stall => "stall",
-        Gives::Status => "status",
-        Gives::NoCode => "status-OK",
-        Gives::State => "state",
-        Gives::Full => "full",
-        Gives::Short => "short",
-        Gives::Silent => "nothing",
-    }
+    named!(gives, Gives,
+        Ack "ack", Stall "stall", Status "status", NoCode "status-OK", State "state", Full "full",
+        Short "short", Silent "nothing"
+    )
 }
 
 pub(crate) fn source_name(source: Source) -> &'static str
     ensures { result.now ≡ source_name source }
 {
-    match source {
-        Source::A => "appendix-A",
-        Source::Open => "open",
-        Source::Habit => "habit",
-    }
+    named!(source, Source, A "appendix-A", Open "open", Habit "habit")
 }
 
 pub(crate) fn reading_name(reading: Reading) -> &'static str
     ensures { result.now ≡ reading_name reading }
 {
-    match reading {
-        Reading::Bootloader => "bootloader",
-        Reading::RuntimeMute => "runtime-mute",
-        Reading::SelfReset => "self-reset",
-        Reading::DetachAtOnce => "detach-at-once",
-        Reading::DetachLeaves => "detach-leaves",
-        Reading::ErrorWithoutCode => "error-without-code",
-    }
+    named!(reading, Reading,
+        Bootloader "bootloader", RuntimeMute "runtime-mute", SelfReset "self-reset",
+        DetachAtOnce "detach-at-once", DetachLeaves "detach-leaves",
+        ErrorWithoutCode "error-without-code"
+    )
 }
 
 pub(crate) fn when_name(when: When) -> &'static str

@@ -1,18 +1,41 @@
 //! `dfu judge`: what is written of a log.
 
 ghost use Rattle.std.specs.Prelude.{◌≡◌, ◌+◌, ◌++◌, ◌∷◌, [], IfErr, IfSome, List, OnOk, Option, length, ℕ};
-ghost use Rattle.dfu_output.specs.judge.Judging.{LogStops, WritesJudgment, WritesOfLog};
+ghost use Rattle.std.specs.Io.KnownBytes.{Appends};
+ghost use Rattle.dfu_output.specs.judge.Judging.{CannotTell, LogStops, WritesJudgment, WritesOfLog, WritesVerdict, exit_of};
+ghost use Rattle.dfu_output.specs.judge.Texts.{departure_text};
 ghost use Rattle.dfu_output.specs.judge.inside.Going.{Going};
 
-use crate::exit::Exit;
-use crate::judge::fault::LogFault;
+use crate::exit::{Exit, fault_text, write_out};
+use crate::judge::fault::{LogFault, stop_text};
 use crate::judge::judging::Judging;
-use crate::judge::telling::{stop_text, tell, verdict_out};
+use crate::judge::texts::{departure_text, verdict_text};
+use dfu_conformance::{Departure, Verdict};
+use dfu_suffix::{SuffixFault, write_whole};
 use std::alloc::Global;
 use std::io::{Read, Write};
 
 /// How many bytes are asked for at a time.
 const PIECE: usize = 65_536;
+
+/// Writes the lines of a departure.
+fn tell<W: Write>(
+    alloc: Global,
+    number: u64,
+    departure: &Departure,
+    writer: &mut W,
+) -> Result<(), LogFault>
+    ensures ok { OnOk result (Appends (W.contents writer.old) (W.contents writer.new) (departure_text number departure.now)) }
+    ensures err { IfErr result (λ f. CannotTell (departure_text number departure.now) (W.contents writer.old) (W.contents writer.new) f) }
+{
+    match departure_text(alloc, number, departure) {
+        Ok(text) => match write_whole(writer, text.as_bytes()) {
+            Ok(()) => Ok(()),
+            Err(_) => Err(LogFault::Write),
+        },
+        Err(_) => Err(LogFault::NoMemory),
+    }
+}
 
 /// A byte of the log comes, and a departure is written.
 fn step<W: Write>(
@@ -88,6 +111,28 @@ fn judge_all<R: Read + Drop, W: Write>(
             }
             Err(_) => return Err(LogFault::Read),
         }
+    }
+}
+
+fn exit_of(verdict: Verdict) -> Exit
+    ensures { result ≡ exit_of verdict }
+{
+    match verdict {
+        Verdict::Kept => Exit::Done,
+        _ => Exit::Refused,
+    }
+}
+
+/// Writes the verdict on all events that came.
+fn verdict_out<W: Write>(alloc: Global, judging: &Judging, writer: &mut W) -> Exit
+    ensures { (interface : ℕ) (old : Option (List ℕ)) (text : List ℕ) (g : Going interface old (W.contents writer.old) text judging.now)
+        → WritesVerdict g.course old (W.contents writer.new) result }
+{
+    let (verdict, at) = judging.verdict();
+    let (events, single) = judging.counts();
+    match verdict_text(alloc, verdict, &at, events, single) {
+        Ok(line) => write_out(writer, line.as_bytes(), exit_of(verdict)),
+        Err(_) => fault_text(SuffixFault::NoMemory, writer),
     }
 }
 

@@ -10,8 +10,8 @@ use Rattle.dfu_host.specs.declared.seen.Seen.TheVariants as seen
 use Rattle.dfu_host.specs.Host.{HostState, after, started, wants_memory}
 use Rattle.dfu_host.specs.Phases.{Phase, Over, OverUploaded, Heard, NoRoom}
 use Rattle.dfu_host.specs.Table.{deed}
-use Rattle.dfu_sim.specs.declared.purpose.Purpose.{Purpose}
-use Rattle.dfu_sim.specs.declared.response.Response.{Response}
+use Rattle.dfu_sim.specs.declared.offering.Purpose.{Purpose}
+use Rattle.dfu_sim.specs.declared.delivery.Response.{Response}
 use Rattle.dfu_sim.specs.declared.delivery.Delivery.{Delivery as GivenDelivery}
 use Rattle.dfu_sim.specs.declared.delivery.MediumFault.{MediumFault}
 use Rattle.dfu_sim.specs.declared.delivery.MediumFault.TheVariants.{NoWrite, CutsPower, FailsWrite, LiesInWrite}

@@ -1,7 +1,7 @@
 use Rattle.std.proofs.Common.{◌≡◌, ℕ, ◌+◌, length, refl, sym, ap, subst, arith}
 use Rattle.dfu_slots.specs.Units.{fill_size}
-use Rattle.dfu_asks.specs.declared.format_step.FormatStep.{FormatStep}
-use Rattle.dfu_asks.specs.declared.format_step.FormatStep.TheVariants as format_step
+use Rattle.dfu_asks.specs.declared.formatting.FormatStep.{FormatStep}
+use Rattle.dfu_asks.specs.declared.formatting.FormatStep.TheVariants as format_step
 use Rattle.dfu_asks.proofs.FormatParts.{IsFollowed, image_last, image_next, no_image}
 use Rattle.dfu_asks.proofs.FormatPieces.{no_fill, filled_size, header_total, gate_total, front_total}
 use Rattle.dfu_asks.proofs.format.part_behind.Goals as goal

@@ -1,6 +1,6 @@
 use Rattle.std.proofs.Common.{◌≡◌, ◌+◌, ◌/◌, List, length, refl, ◌∙◌, subst, arith}
 use Rattle.dfu_slots.specs.Layout.{header}
-use Rattle.dfu_asks.specs.declared.format_step.FormatStep.TheVariants as format_step
+use Rattle.dfu_asks.specs.declared.formatting.FormatStep.TheVariants as format_step
 use Rattle.dfu_asks.specs.Steps.{Step, step_writes}
 use Rattle.dfu_asks.specs.Carried.{total, IsPiece}
 use Rattle.dfu_asks.specs.Cuts.{step_of}

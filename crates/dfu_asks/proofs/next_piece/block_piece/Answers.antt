@@ -1,5 +1,5 @@
 use Rattle.std.proofs.Common.{◌≡◌, ◌+◌, ◌≤◌, List, [], ◌∷◌, length, if◌then◌else◌, not, sym, ap, subst, arith}
-use Rattle.dfu_asks.specs.declared.write_inputs.WriteInputs.{WriteInputs}
+use Rattle.dfu_asks.specs.declared.pending_writes.WriteInputs.{WriteInputs}
 use Rattle.dfu_asks.specs.Steps.{Step, step_writes, put_steps, close_step}
 use Rattle.dfu_asks.specs.Carried.{total, IsPiece}
 use Rattle.dfu_asks.specs.Jobs.{grain_for, held_place}

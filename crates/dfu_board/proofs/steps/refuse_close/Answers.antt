@@ -1,6 +1,6 @@
 use Rattle.std.specs.Prelude.{Bool, IsTrue, not, Result, Ok, Err, IfOk}
 use Rattle.std.proofs.Common.{◌≡◌, refl}
-use Rattle.dfu_asks.specs.declared.refusal.Refusal.{Refusal}
+use Rattle.dfu_asks.specs.declared.reply.Refusal.{Refusal}
 use Rattle.dfu_board.specs.Steps.{board}
 use Rattle.dfu_board.proofs.Served.{on_err}
 use Rattle.dfu_board.proofs.Objected.{close_step}

@@ -5,8 +5,7 @@ use Rattle.dfu_board_sim.proofs.ActsOn.{not_done, cuts_send, cuts_wait, cuts_res
 use Rattle.dfu_board_sim.proofs.acting.act_cut.Goals as goal
 
 pub unreachable-requires : goal.unreachable-requires
-unreachable-requires c =
-    not_done c.args.host.now.task c.args.host.now.phase c.in-Done.field-0 c.requires.on c.in-Done.ensures.act
+unreachable-requires c = not_done c.args.host.now c.in-Done.field-0 c.requires.on c.in-Done.ensures.act
 
 pub returns-in-Send-clause-acted : goal.returns-in-Send-clause-acted
 returns-in-Send-clause-acted c =

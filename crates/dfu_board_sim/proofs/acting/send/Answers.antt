@@ -7,6 +7,5 @@ returns-clause-sent c = record {
   says = says_of c.reach-came.result c.reach-came.new.out;
   mid = board_of c.reach-came.new.chip;
   handled = rw c.handling_of.ensures at c.reach-came.ensures.handled;
-  heard = rw c.comes_back.ensures at c.tell.ensures;
-  slips = rw c.handling_of-2.ensures at c.slip.ensures.slips;
+  follows = c.finish.ensures.follows;
 }

@@ -1,11 +1,11 @@
-use Rattle.std.proofs.Common.{refl, take, arith, []}
+use Rattle.std.proofs.Common.{refl, arith, []}
 use Rattle.dfu_device.specs.Rows.{Passing}
 use Rattle.dfu_board.specs.Board.{Elapse}
 use Rattle.dfu_board.specs.Steps.{board}
 use Rattle.dfu_board_sim.specs.Standing.{board_of}
-use Rattle.dfu_board_sim.proofs.Resting.{room_on, served_rests, served_due}
+use Rattle.dfu_board_sim.proofs.Resting.{room_on, served_due}
 use Rattle.dfu_board_sim.proofs.Standing.{never_refused}
-use Rattle.dfu_board_sim.proofs.Working.{called_works, called_once}
+use Rattle.dfu_board_sim.proofs.Working.{called_works, called_answered}
 use Rattle.dfu_board_sim.proofs.calls.elapse.Goals as goal
 
 pub unreachable-requires : goal.unreachable-requires
@@ -25,18 +25,11 @@ work_off-requires-clause-due c =
 pub returns-in-Ok-Answered-clause-called : goal.returns-in-Ok-Answered-clause-called
 returns-in-Ok-Answered-clause-called c =
     let chip = c.args.chip.now in
-    let b = board_of chip in
-    let b' = board c.elapse.new.asking c.elapse.new.block c.elapse.new.held chip.flash.items in
-    let step = rw (c.in-Ok-Answered.field-0-is, c.deref.ensures.value) at c.in-Ok-Answered.ensures.step in
-    let given = take c.in-Ok-Answered.count [] in
-    let once = called_once b b' (Elapse c.args.ms) c.in-Ok-Answered.ensures.same c.in-Ok-Answered.answer given step in (
+    let b' = board c.elapse.new.asking c.elapse.new.block c.elapse.new.held chip.flash.items in (
       [],
-      (
-        once.0,
-        once.1,
-        served_rests b b' (Passing c.args.ms) refl
-            (room_on b b' c.requires.holds.room c.in-Ok-Answered.ensures.same c.elapse.auto.block) c.in-Ok-Answered.answer given c.requires.rest step,
-      ),
+      called_answered (board_of chip) b' (Elapse c.args.ms) c.in-Ok-Answered.ensures.same (Passing c.args.ms) c.in-Ok-Answered.answer
+          c.in-Ok-Answered.count [] c.requires.holds.room c.requires.rest refl c.elapse.auto.block (λ step. step)
+          (rw (c.in-Ok-Answered.field-0-is, c.deref.ensures.value) at c.in-Ok-Answered.ensures.step),
     )
 
 pub returns-in-Ok-Asks-clause-called : goal.returns-in-Ok-Asks-clause-called

@@ -1,12 +1,12 @@
-use Rattle.std.proofs.Common.{refl, take, length, arith}
+use Rattle.std.proofs.Common.{refl, length, arith}
 use Rattle.dfu_device.specs.Borrowed.{answer_room}
 use Rattle.dfu_device.specs.Rows.{Transfer}
 use Rattle.dfu_board.specs.Board.{Handle}
 use Rattle.dfu_board.specs.Steps.{board}
 use Rattle.dfu_board_sim.specs.Standing.{board_of}
-use Rattle.dfu_board_sim.proofs.Resting.{room_on, served_rests, served_due}
+use Rattle.dfu_board_sim.proofs.Resting.{room_on, served_due}
 use Rattle.dfu_board_sim.proofs.Standing.{never_refused}
-use Rattle.dfu_board_sim.proofs.Working.{called_works, called_once}
+use Rattle.dfu_board_sim.proofs.Working.{called_works, called_answered}
 use Rattle.dfu_board_sim.proofs.calls.handle.Goals as goal
 
 pub unreachable-requires : goal.unreachable-requires
@@ -26,16 +26,11 @@ work_off-requires-clause-due c =
 pub returns-in-Ok-Answered-clause-called : goal.returns-in-Ok-Answered-clause-called
 returns-in-Ok-Answered-clause-called c =
     let chip = c.args.chip.now in
-    let b = board_of chip in
     let b' = board c.handle.new.asking c.handle.new.block c.handle.new.held chip.flash.items in
-    let step = rw (c.in-Ok-Answered.field-0-is, c.deref.ensures.value) at c.in-Ok-Answered.ensures.step in
-    let given = take c.in-Ok-Answered.count c.handle.new.out in
-    let once = called_once b b' (Handle c.args.setup.now c.args.body.now) c.in-Ok-Answered.ensures.same c.in-Ok-Answered.answer given step in (
-      once.0,
-      once.1,
-      served_rests b b' (Transfer c.args.setup.now c.args.body.now) refl
-          (room_on b b' c.requires.holds.room c.in-Ok-Answered.ensures.same c.handle.auto.block) c.in-Ok-Answered.answer given c.requires.rest step,
-    )
+    called_answered (board_of chip) b' (Handle c.args.setup.now c.args.body.now) c.in-Ok-Answered.ensures.same
+    (Transfer c.args.setup.now c.args.body.now) c.in-Ok-Answered.answer c.in-Ok-Answered.count c.handle.new.out c.requires.holds.room
+    c.requires.rest refl c.handle.auto.block (λ step. step)
+    (rw (c.in-Ok-Answered.field-0-is, c.deref.ensures.value) at c.in-Ok-Answered.ensures.step)
 
 pub returns-in-Ok-Asks-clause-called : goal.returns-in-Ok-Asks-clause-called
 returns-in-Ok-Asks-clause-called c =

@@ -1,9 +1,9 @@
-use Rattle.std.proofs.Common.{◌∙◌, refl, sym, ap, arith}
+use Rattle.std.proofs.Common.{refl, arith}
 use Rattle.dfu_board.specs.Steps.{board}
+use Rattle.dfu_board_sim.specs.declared.board.Chip.{Chip}
 use Rattle.dfu_board_sim.specs.Standing.{board_of}
-use Rattle.dfu_board_sim.proofs.Resting.{room_on}
 use Rattle.dfu_board_sim.proofs.Standing.{never_refused}
-use Rattle.dfu_board_sim.proofs.Working.{reset_served, reset_ran, reset_rests}
+use Rattle.dfu_board_sim.proofs.Working.{reset_served, reset_ran, reset_rests, stands_on}
 use Rattle.dfu_board_sim.proofs.calls.usb_reset.Goals as goal
 
 pub unreachable-requires : goal.unreachable-requires
@@ -19,15 +19,8 @@ returns-clause-served c =
 pub returns-clause-stands : goal.returns-clause-stands
 returns-clause-stands c =
     let chip = c.args.chip.now in
-    let b = board_of chip in
-    let b' = board c.usb_reset.new.asking chip.block chip.held chip.flash.items in
+    let left : Chip = record chip { asking = c.usb_reset.new.asking } in
     let same = c.in-Ok.ensures.same in
     let step = rw c.deref.ensures.value at c.in-Ok.ensures.step in
-    record {
-      holds = record {
-        room = room_on b b' c.requires.holds.room same refl;
-        ids = c.requires.holds.ids ∙ sym (ap (λ s. s.ids) same.config);
-      };
-      ran = reset_ran b b' same step c.requires.ran;
-      rest = reset_rests b b' same step c.requires.rest;
-    }
+    stands_on chip left c.requires same refl refl (reset_ran (board_of chip) (board_of left) same step c.requires.ran)
+    (λ room. reset_rests (board_of chip) (board_of left) same step c.requires.rest)

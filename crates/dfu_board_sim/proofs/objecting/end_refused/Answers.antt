@@ -7,6 +7,5 @@ returns-clause-ended c = record {
   says = says_of c.again-came.result c.again-came.new.out;
   mid = board_of c.again-came.new.chip;
   again = rw c.handling_of.ensures at c.again-came.ensures.again;
-  heard = rw c.comes_back.ensures at c.tell.ensures;
-  slips = rw c.handling_of-2.ensures at c.slip.ensures.slips;
+  follows = c.finish.ensures.follows;
 }

@@ -2,8 +2,8 @@ use Rattle.std.proofs.Common.{◌≡◌, ◌≢◌, not, ◌==◌, ℤ, Some, re
 use Rattle.std.proofs.lemmas.Int.{to_z-of_z}
 use Rattle.std.proofs.lemmas.Option.{MatchOption-at_some}
 use Rattle.dfu_asks.specs.declared.sector.Sector.{Sector}
-use Rattle.dfu_asks.specs.declared.format_progress.FormatProgress.{FormatProgress}
-use Rattle.dfu_asks.specs.declared.format_progress.FormatProgress.TheVariants as format_progress
+use Rattle.dfu_asks.specs.declared.formatting.FormatProgress.{FormatProgress}
+use Rattle.dfu_asks.specs.declared.formatting.FormatProgress.TheVariants as format_progress
 use Rattle.dfu_device_c.specs.declared.record.DfuRecord.{DfuRecord}
 use Rattle.dfu_device_c.specs.Formatting.{IsFormatting}
 use Rattle.dfu_device_c.specs.Formats.{progress_number, GoesFormat}

@@ -1,5 +1,5 @@
 use Rattle.std.proofs.Common.{length, ap, arith}
-use Rattle.dfu_slots.specs.declared.unit.Unit.{Unit as WriteUnit}
+use Rattle.dfu_slots.specs.declared.layout.Unit.{Unit as WriteUnit}
 use Rattle.dfu_slots.specs.Units.{fill_size}
 use Rattle.dfu_slots.proofs.ImagePieces.{way_begins, way_on, way_broken, way_ends, may_next}
 use Rattle.dfu_slots.proofs.Formatting.{data_ahead}

@@ -1,22 +1,18 @@
-use Rattle.std.proofs.Common.{◌+◌, ◌<◌, ℕ, length, take, ap, arith}
+use Rattle.std.proofs.Common.{◌+◌, ℕ, take, ap, arith}
 use Rattle.dfu_suffix.proofs.ReadLaws.{end_here}
 use Rattle.dfu_suffix.proofs.StreamLaws.{seen_more, seen_end, seen_found, seen_over, none_found}
 use Rattle.dfu_suffix.proofs.checking.check_with.Goals as goal
 
 pub returns-in-Ok-eq0-clause-answer : goal.returns-in-Ok-eq0-clause-answer
 returns-in-Ok-eq0-clause-answer g c =
-    let room : 0 < length c.read.new.buf = omega arith in
-    let test = c.in-Ok-eq0.field-0-test in
     let over = end_here (g.R.Read.remaining c.loop-turn.reader) (g.R.Read.remaining c.read.new.self) c.in-Ok-eq0.field-0
-    c.read.new.buf (omega arith) room c.in-Ok-eq0.ensures.bytes in
+    c.read.new.buf (omega (arith, c.in-Ok-eq0.field-0-test)) (omega arith) c.in-Ok-eq0.ensures.bytes in
     seen_end _ _ _ _ _ _ _ _ c.loop-turn.invariant over c.check_register.ensures.answer c.value-register.ensures
 
 pub returns-in-Ok-eq0-clause-findings : goal.returns-in-Ok-eq0-clause-findings
 returns-in-Ok-eq0-clause-findings g c =
-    let room : 0 < length c.read.new.buf = omega arith in
-    let test = c.in-Ok-eq0.field-0-test in
     let over = end_here (g.R.Read.remaining c.loop-turn.reader) (g.R.Read.remaining c.read.new.self) c.in-Ok-eq0.field-0
-    c.read.new.buf (omega arith) room c.in-Ok-eq0.ensures.bytes in
+    c.read.new.buf (omega (arith, c.in-Ok-eq0.field-0-test)) (omega arith) c.in-Ok-eq0.ensures.bytes in
     seen_found _ _ _ _ _ _ _ _ _ c.loop-turn.invariant over c.findings_of.ensures.count c.findings_of.ensures.suffix
     c.findings_of.ensures.crc (omega arith) c.findings_of.ensures.register c.value-register.ensures
 
@@ -36,9 +32,7 @@ returns-then-taken-count-clause-findings g c =
 
 pub loop-turn-preserved : goal.loop-turn-preserved
 loop-turn-preserved g c =
-    let p = c.in-Ok.ensures.bytes in
     let b = c.in-Ok.ensures.bound in
-    let more = take c.in-Ok.taken c.read.new.buf in
-    let some : 0 < length more = omega (arith, b.1, c.in-Ok.taken-test.1) in
-    seen_more _ _ _ _ _ _ _ _ _ _ more c.loop-turn.invariant p.0 c.slide.ensures.bytes some
-    c.update_long.ensures.more (ap (λ (n : ℕ). c.loop-turn.count + n) b.1) c.slide.ensures.last (omega (arith, b.1))
+    seen_more _ _ _ _ _ _ _ _ _ _ (take c.in-Ok.taken c.read.new.buf) c.loop-turn.invariant c.in-Ok.ensures.bytes.0
+    c.slide.ensures.bytes (omega (arith, b.1, c.in-Ok.taken-test.1)) c.update_long.ensures.more
+    (ap (λ (n : ℕ). c.loop-turn.count + n) b.1) c.slide.ensures.last (omega (arith, b.1))

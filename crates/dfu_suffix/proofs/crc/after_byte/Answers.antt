@@ -1,10 +1,9 @@
 use Rattle.std.proofs.Common.{◌≡◌, ap, ◌∙◌, sym, bit_xor, bit_and, get_or, ◌/◌, arith}
-use Rattle.dfu_suffix.specs.declared.table.to_32.TheConstants.{AFTER_8}
-use Rattle.dfu_suffix.proofs.Tables.{table_step}
+use Rattle.dfu_suffix.proofs.Tables.{table_of, table_step}
 use Rattle.dfu_suffix.proofs.crc.after_byte.Goals as goal
 
 pub returns : goal.returns
 returns c =
     let step = table_step c.args.register c.args.byte (omega arith) in
-    let entry : c.entry.result ≡ get_or AFTER_8 (bit_and (bit_xor c.args.register c.args.byte) 255) 0 = cc in
+    let entry : c.entry.result ≡ get_or (table_of 0) (bit_and (bit_xor c.args.register c.args.byte) 255) 0 = cc in
     ap (bit_xor (c.args.register / 256)) entry ∙ sym step

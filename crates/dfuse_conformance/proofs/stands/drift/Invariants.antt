@@ -1,6 +1,6 @@
 use Rattle.std.specs.Prelude.{◌≡◌, ◌||◌, take}
 use Rattle.std.specs.List.{list_any}
-use Rattle.dfu_conformance.specs.declared.standard_state.StandardState.{StandardState}
+use Rattle.dfu_conformance.specs.declared.row.StandardState.{StandardState}
 use Rattle.dfuse_conformance.specs.Verdicts.{may_stand}
 use Rattle.dfuse_conformance.specs.inside.Stepped.{moves_to}
 use Rattle.dfuse_conformance.proofs.stands.drift.Given as goal

@@ -4,7 +4,7 @@ use Rattle.dfu_slots.specs.Seen.{SlotsState, is_begun}
 use Rattle.dfu_device.specs.declared.device_state.DeviceState.{DeviceState}
 use Rattle.dfu_device.specs.declared.device_state.DeviceState.TheVariants as device_state
 use Rattle.dfu_device.specs.Parts.{stage_of, is_sound}
-use Rattle.dfu_asks.specs.declared.slot_write.SlotWrite.{SlotWrite}
+use Rattle.dfu_asks.specs.declared.pending_writes.SlotWrite.{SlotWrite}
 use Rattle.dfu_asks.specs.Lent.{lent}
 use Rattle.dfu_asks.specs.Due.{IsDueStage}
 use Rattle.dfu_asks.specs.Asks.{store_in, IsCommitJob, IsJobOf}

@@ -5,7 +5,7 @@ use Rattle.dfu_slots.specs.Image.{gate_of, spare_at}
 use Rattle.dfu_slots.specs.Seen.{spare_of, active_slot}
 use Rattle.dfu_asks.specs.Lent.{lent}
 use Rattle.dfu_asks.specs.Asks.{store_in}
-use Rattle.dfu_asks.specs.declared.slot_write.SlotWrite.TheVariants.{Commit}
+use Rattle.dfu_asks.specs.declared.pending_writes.SlotWrite.TheVariants.{Commit}
 use Rattle.dfu_asks.proofs.Calling.{mapped_as}
 use Rattle.dfu_asks.proofs.Noting.{noted_spare}
 use Rattle.dfu_asks.proofs.Room.{held_size}

@@ -1,5 +1,5 @@
 use Rattle.std.proofs.Common.{◌/◌, length, refl, subst}
-use Rattle.dfu_asks.specs.declared.format_step.FormatStep.{FormatStep}
+use Rattle.dfu_asks.specs.declared.formatting.FormatStep.{FormatStep}
 use Rattle.dfu_asks.specs.Phases.{grain_within}
 use Rattle.dfu_asks.proofs.FormatParts.{IsFollowed}
 use Rattle.dfu_asks.proofs.FormatGoing.{way_next, way_done}

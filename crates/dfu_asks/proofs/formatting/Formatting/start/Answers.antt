@@ -1,5 +1,5 @@
 use Rattle.std.proofs.Common.{◌/◌, [], length, sym, arith}
-use Rattle.dfu_asks.specs.declared.format_step.FormatStep.TheVariants.{CloseSecond}
+use Rattle.dfu_asks.specs.declared.formatting.FormatStep.TheVariants.{CloseSecond}
 use Rattle.dfu_asks.specs.Mapped.{grain_of, mapped}
 use Rattle.dfu_asks.specs.Steps.{step_writes}
 use Rattle.dfu_asks.specs.Phases.{steps_from, format_steps}

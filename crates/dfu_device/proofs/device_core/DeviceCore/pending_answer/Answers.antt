@@ -1,5 +1,5 @@
 use Rattle.std.proofs.Common.{refl, sym, ◌∙◌}
-use Rattle.dfu_device.specs.declared.pending_answer.PendingAnswer.TheVariants as pending_answer
+use Rattle.dfu_device.specs.declared.answer.PendingAnswer.TheVariants as pending_answer
 use Rattle.dfu_device.specs.inside.PendingAnswer.{HandledPending}
 use Rattle.dfu_device.specs.Rows.{handled_as}
 use Rattle.dfu_device.specs.inside.View.{shown}

@@ -1,25 +1,5 @@
 use Rattle.dfu_host.proofs.task.Task.row.Goals as goal
 
-pub returns-in-Find-clause-next : goal.returns-in-Find-clause-next
-returns-in-Find-clause-next c = λ memory memory' part keeps compares.
-    rw c.in-Find.is (rw c.in-Find.is at c.on_status.ensures.next memory' part)
-
-pub returns-in-FindAgain-clause-next : goal.returns-in-FindAgain-clause-next
-returns-in-FindAgain-clause-next c = λ memory memory' part keeps compares.
-    rw c.in-FindAgain.is (rw c.in-FindAgain.is at c.on_status-in-FindAgain.ensures.next memory' part)
-
-pub returns-in-Poll-clause-next : goal.returns-in-Poll-clause-next
-returns-in-Poll-clause-next c = λ memory memory' part keeps compares.
-    rw c.in-Poll.is (rw c.in-Poll.is at c.on_status-in-Poll.ensures.next memory' part)
-
-pub returns-in-Manifest-clause-next : goal.returns-in-Manifest-clause-next
-returns-in-Manifest-clause-next c = λ memory memory' part keeps compares.
-    rw c.in-Manifest.is (rw c.in-Manifest.is at c.on_status-in-Manifest.ensures.next memory' part)
-
-pub returns-in-Trouble-clause-next : goal.returns-in-Trouble-clause-next
-returns-in-Trouble-clause-next c = λ memory memory' part keeps compares.
-    rw c.in-Trouble.is (rw c.in-Trouble.is at c.on_status-in-Trouble.ensures.next memory' part)
-
 pub returns-in-Detach-clause-within : goal.returns-in-Detach-clause-within
 returns-in-Detach-clause-within c = c.on_ack.ensures.within c.args.self.now.goal c.args.self.now.transfer tt tt tt
 

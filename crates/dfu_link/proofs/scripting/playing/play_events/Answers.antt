@@ -1,7 +1,7 @@
 use Rattle.std.proofs.Common.{◌≡◌, ◌∙◌, ℕ, List, [], ◌∷◌, refl, ap}
 use Rattle.dfu_host.specs.declared.limits.Limits.{Limits}
 use Rattle.dfu_sim.specs.Happening.{Happening, Fate, Harm, Offers, Goes, harmed, fate_of, harm_in}
-use Rattle.dfu_sim.specs.declared.purpose.Purpose.{Purpose}
+use Rattle.dfu_sim.specs.declared.offering.Purpose.{Purpose}
 use Rattle.dfu_link.specs.Said.{Offer, Upload, Abort, Go, Time, Reset, Cut, Refuse, given_bytes, hex_bytes, offered_bytes, harm_fate, said_by, tear_bytes}
 use Rattle.dfu_link.specs.inside.Moving.{file_bytes}
 use Rattle.dfu_link.specs.declared.scripting.line.EventLine.{EventLine}

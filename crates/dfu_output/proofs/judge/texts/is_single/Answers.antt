@@ -2,7 +2,7 @@ use Rattle.std.proofs.Common.{◌≡◌, ◌==◌, ◌+◌, ℕ, List, arith, sy
 use Rattle.std.specs.List.{filter}
 use Rattle.std.proofs.lemmas.List.{take_all}
 use Rattle.std.proofs.lemmas.List.Filters.{length-filter_more}
-use Rattle.dfu_conformance.specs.declared.standard_state.StandardState.{StandardState}
+use Rattle.dfu_conformance.specs.declared.row.StandardState.{StandardState}
 use Rattle.dfu_output.specs.declared.judge.names.TheConstants.{STATES}
 use Rattle.dfu_output.specs.judge.Texts.{is_single, may_be_in}
 use Rattle.dfu_output.proofs.judge.texts.is_single.Goals as goal

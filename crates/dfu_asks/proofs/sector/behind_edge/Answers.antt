@@ -1,0 +1,11 @@
+use Rattle.std.proofs.Common.{◌≡◌, ◌+◌, ◌*◌, ◌/◌, ◌%◌, ℕ, sym, ◌∙◌, ap, arith}
+use Rattle.std.proofs.Math.Nat.{mod-add-div', add-mul-mod_self_right}
+use Rattle.dfu_asks.proofs.sector.behind_edge.Goals as goal
+
+pub returns : goal.returns
+returns c =
+    let at = c.args.at in
+    let s = c.args.sector in
+    let q = at / 32768 in
+    let whole : q % s * 32768 + at % 32768 + q / s * 32768 * s ≡ at = grind (arith, mod-add-div' q s, mod-add-div' at 32768) in
+    sym (add-mul-mod_self_right (q % s * 32768 + at % 32768) (q / s * 32768) s) ∙ ap (λ (k : ℕ). k % s) whole

@@ -1,0 +1,22 @@
+use Rattle.std.proofs.Common.{◌≡◌, ℕ, List, refl, arith}
+use Rattle.dfu_device.specs.declared.device_state.DeviceState.{DeviceState}
+use Rattle.dfu_device.specs.declared.device_state.DeviceState.TheVariants as device_state
+use Rattle.dfu_device.specs.Stage.{Profile, poll_of}
+use Rattle.dfu_device.specs.DeviceView.{profile_of}
+use Rattle.dfu_device.specs.Parts.{stage_of}
+use Rattle.dfu_device.proofs.device_state.poll_ms.Goals as goal
+
+-- In every other state a host has not to wait.
+no_poll : (c : Profile) (m : DeviceState) (spare block : List ℕ)
+    → ((written number passed : ℕ) → m ≡ device_state.DownloadBusy written number passed → ⊥)
+    → ((written passed : ℕ) → m ≡ device_state.Manifest written passed → ⊥) → 0 ≡ poll_of c (stage_of m spare block)
+no_poll c (device_state.DownloadBusy written number passed) spare block busy manifest = absurd (busy written number passed refl)
+no_poll c (device_state.Manifest written passed) spare block busy manifest = absurd (manifest written passed refl)
+no_poll c m spare block busy manifest = refl
+
+pub returns-in_default : goal.returns-in_default
+returns-in_default c = record {
+  value = λ room spare block.
+      no_poll (profile_of c.args.config.now room) c.args.mode spare block c.in_default.not-DownloadBusy c.in_default.not-Manifest;
+  fits = omega arith;
+}

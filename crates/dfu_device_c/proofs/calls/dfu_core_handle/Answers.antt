@@ -1,0 +1,82 @@
+use Rattle.std.proofs.Common.{◌≡◌, ◌≤◌, ℕ, ℤ, List, ◌++◌, Ok, length, inl, inr, refl, sym, ◌∙◌, ap, subst, w32, arith}
+use Rattle.std.proofs.lemmas.Int.{to_z-of_z}
+use Rattle.std.proofs.lemmas.Result.{IfOk-at_ok}
+use Rattle.dfu_device.specs.Borrowed.{answer_room}
+use Rattle.dfu_device.specs.Rows.{Handles}
+use Rattle.dfu_asks.specs.declared.reply.Reply.{Reply}
+use Rattle.dfu_asks.specs.Asks.{device_in}
+use Rattle.dfu_asks.specs.Calls.{DeviceCalled}
+use Rattle.dfu_device_c.specs.declared.record.DfuRecord.{DfuRecord}
+use Rattle.dfu_device_c.specs.Addressed.{addressed}
+use Rattle.dfu_device_c.specs.Kept.{IsSetUp, IsKept, with_memory}
+use Rattle.dfu_device_c.specs.Numbers.{reply_number}
+use Rattle.dfu_device_c.specs.Calls.{Goes, Replied, IsIntact}
+use Rattle.dfu_device_c.proofs.Split.{whole, in_memory, IsParted, is_parted, has_room, split_in, split_after, fits_front, unchanged, goes, refuses}
+use Rattle.dfu_device_c.proofs.calls.dfu_core_handle.Goals.{After-handle}
+use Rattle.dfu_device_c.proofs.calls.dfu_core_handle.Goals as goal
+
+pub split_at_mut-front-requires : goal.split_at_mut-front-requires
+split_at_mut-front-requires c = omega (arith, IfOk-at_ok _ c.in-Ok.is c.found.ensures.room, c.from.ensures)
+
+pub handle-requires : goal.handle-requires
+handle-requires c = has_room (is_parted _ _ _ _ c.split_at_mut-front.result.0.now _ _ c.in-Ok.is c.found.ensures.ok c.found.ensures.config
+    c.found.ensures.room c.split_at_mut-front.ensures.value (omega (arith, c.split_at_mut-front.ensures.front_len, c.from.ensures)))
+
+-- The device that the record is, and the two parts of its memory.
+parted : (c : After-handle) → IsParted c.args.config.now c.args.device.now c.in-Ok.asking c.args.block.now
+    c.split_at_mut-front.result.0.now c.split_at_mut-front.result.1.now
+parted c = is_parted _ _ _ _ _ _ _ c.in-Ok.is c.found.ensures.ok c.found.ensures.config c.found.ensures.room
+    c.split_at_mut-front.ensures.value (omega (arith, c.split_at_mut-front.ensures.front_len, c.from.ensures))
+
+-- The setup is answered, or its writes are asked for: whatever is replied, the device is kept.
+replied : (c : After-handle) (reply : Reply) (r' : DfuRecord) {n : ℤ} → c.handle.result ≡ Ok reply → n ≡ reply_number reply →
+    let k = c.args.config.now in
+    let block = c.args.block.now in
+    let flash = c.args.flash.now in
+    let a' = c.handle.new.self in
+    let memory = c.handle.new.block ++ c.handle.new.held in
+    (IsSetUp k a'.config a'.unit a'.sector → IsKept k r' a') → Goes k c.args.device.now block r' memory
+    (λ x y. Replied (IsIntact block flash x) (with_memory block x) flash c.args.out.now
+    (λ z sent d'. Handles (addressed k.interface c.args.setup.now) c.args.body.now (device_in (with_memory block x) flash) z sent d')
+    reply_number n (with_memory memory y) c.handle.new.out)
+replied c reply r' is number_is kept =
+    let p = parted c in
+    let done = c.handle.ensures in
+    let flash = c.args.flash.now in
+    let after = split_after p _ _ _ done.same refl c.handle.auto.block in
+    goes p done.same kept (λ _. fits_front p _ c.handle.auto.block (IfOk-at_ok _ is done.fits)) (record {
+      idle = (IfOk-at_ok _ is done.served).work;
+      reply = reply;
+      number_is = number_is;
+      called = λ intact. subst (λ (own : List ℕ). DeviceCalled (with_memory c.args.block.now c.in-Ok.asking) flash c.args.out.now
+          (λ z sent d'. Handles own c.args.body.now (device_in (with_memory c.args.block.now c.in-Ok.asking) flash) z sent d')
+          (with_memory (c.handle.new.block ++ c.handle.new.held) c.handle.new.self) c.handle.new.out reply) c.addressed-setup.ensures
+          (in_memory (λ l l'. DeviceCalled l flash c.args.out.now
+          (λ z sent d'. Handles c.addressed-setup.result c.args.body.now (device_in l flash) z sent d') l' c.handle.new.out reply)
+          (split_in p) after (IfOk-at_ok _ is done.outcome (whole (split_in p) flash intact)));
+    })
+
+pub returns-in-Ok-Asks-clause-outcome : goal.returns-in-Ok-Asks-clause-outcome
+returns-in-Ok-Asks-clause-outcome c =
+    inl (replied (goal.at.returns-in-Ok-Asks-clause-outcome c).After-handle _ _ c.in-Ok-Asks.is
+    (sym (ap reply_number c.in-Ok-Asks.field-0-is)) (c.keep.ensures c.args.config.now))
+
+pub returns-in-Ok-Answered-clause-outcome : goal.returns-in-Ok-Answered-clause-outcome
+returns-in-Ok-Answered-clause-outcome c =
+    inl (replied (goal.at.returns-in-Ok-Answered-clause-outcome c).After-handle _ _ c.in-Ok-Answered.is
+    (to_z-of_z w32 _ (omega (arith, c.number_of.type_inv)) ∙ c.number_of.ensures ∙ sym (ap reply_number c.in-Ok-Answered.field-0-is))
+    (c.keep-in-Ok-Answered.ensures c.args.config.now))
+
+pub returns-in-Err-handle-clause-outcome : goal.returns-in-Err-handle-clause-outcome
+returns-in-Err-handle-clause-outcome c =
+    let p = parted (goal.at.returns-in-Err-handle-clause-outcome c).After-handle in
+    let a = c.in-Ok.asking in
+    let done = c.in-Err-handle.ensures in
+    let need : answer_room a.config ≤ length c.args.out.now =
+    omega (arith, c.if-out-room_for.false, c.room_for.ensures, ap answer_room p.kept.set_up.config_is) in
+    inr (inl (
+      refuses p c.in-Err-handle.refusal c.args.flash.now (answer_room a.config) (length c.args.out.now) need done.refused c.refused.ensures
+          (to_z-of_z w32 _ (omega (arith, c.number-in-Err-handle.type_inv)) ∙ c.number-in-Err-handle.ensures)
+          refl (unchanged p _ _ done.unchanged.1 done.unchanged.2),
+      done.unchanged.3,
+    ))

@@ -1,0 +1,116 @@
+use Rattle.std.proofs.Common.{◌≡◌, ◌==◌, ◌++◌, not, ℕ, ℤ, List, Ok, inl, inr, refl, sym, ◌∙◌, ap, subst, w32, arith}
+use Rattle.std.proofs.lemmas.Int.{to_z-of_z}
+use Rattle.std.proofs.lemmas.Result.{IfOk-at_ok, IfErr-at_err}
+use Rattle.dfu_slots.specs.Medium.{Torn}
+use Rattle.dfu_slots.specs.Seen.{SlotsState}
+use Rattle.dfu_device.specs.Setting.{Setting}
+use Rattle.dfu_asks.specs.declared.reply.Reply.{Reply}
+use Rattle.dfu_asks.specs.Steps.{Step}
+use Rattle.dfu_asks.specs.Carried.{IsPiece}
+use Rattle.dfu_asks.specs.Lent.{LentAsking}
+use Rattle.dfu_asks.specs.Asks.{device_of, steps_in}
+use Rattle.dfu_asks.specs.Calls.{AsksWrites, DeviceTook}
+use Rattle.dfu_asks.specs.Refused.{IsLeft}
+use Rattle.dfu_device_c.specs.declared.record.DfuRecord.{DfuRecord}
+use Rattle.dfu_device_c.specs.Kept.{IsSetUp, IsKept, with_memory}
+use Rattle.dfu_device_c.specs.Numbers.{reply_number}
+use Rattle.dfu_device_c.specs.Calls.{Goes, Went}
+use Rattle.dfu_device_c.specs.Writes.{AsksOnSomeFlash, refuses_unfound, refuses_piece}
+use Rattle.dfu_device_c.proofs.Found.{not_taken}
+use Rattle.dfu_device_c.proofs.Split.{lent_is, in_memory, IsParted, is_parted, has_room, split_in, split_after, unchanged, same_front, goes}
+use Rattle.dfu_device_c.proofs.calls.dfu_core_took.Goals.{After-took}
+use Rattle.dfu_device_c.proofs.calls.dfu_core_took.Goals as goal
+
+pub split_at_mut-front-requires : goal.split_at_mut-front-requires
+split_at_mut-front-requires c = omega (arith, IfOk-at_ok _ c.in-Ok.is c.found.ensures.room, c.from.ensures)
+
+pub took-requires : goal.took-requires
+took-requires c = has_room (is_parted _ _ _ _ c.split_at_mut-front.result.0.now _ _ c.in-Ok.is c.found.ensures.ok c.found.ensures.config
+    c.found.ensures.room c.split_at_mut-front.ensures.value (omega (arith, c.split_at_mut-front.ensures.front_len, c.from.ensures)))
+
+pub returns-in-Err : goal.returns-in-Err
+returns-in-Err c = record {
+  outcome = inr (inl (
+    refuses_unfound c.in-Err.refusal (to_z-of_z w32 _ (omega (arith, c.number.type_inv)) ∙ c.number.ensures)
+        (IfErr-at_err _ c.in-Err.is c.found.ensures.err),
+    refl,
+    refl,
+    refl,
+  ));
+  block = refl;
+  short = λ less. absurd (omega (arith, less, c.if-out-lt6.false));
+}
+
+-- The device that the record is, and the two parts of its memory.
+parted : (c : After-took) → IsParted c.args.config.now c.args.device.now c.in-Ok.asking c.args.block.now
+    c.split_at_mut-front.result.0.now c.split_at_mut-front.result.1.now
+parted c = is_parted _ _ _ _ _ _ _ c.in-Ok.is c.found.ensures.ok c.found.ensures.config c.found.ensures.room
+    c.split_at_mut-front.ensures.value (omega (arith, c.split_at_mut-front.ensures.front_len, c.from.ensures))
+
+-- The piece was taken: whatever is replied, the device is kept.
+went : (c : After-took) (reply : Reply) (r' : DfuRecord) {n : ℤ} → c.took.result ≡ Ok reply → n ≡ reply_number reply →
+    let k = c.args.config.now in
+    let a' = c.took.new.self in
+    let memory = c.split_at_mut-front.result.0.now ++ c.took.new.held in
+    (IsSetUp k a'.config a'.unit a'.sector → IsKept k r' a') → Goes k c.args.device.now c.args.block.now r' memory
+    (λ x y. Went (with_memory c.args.block.now x) c.args.flash.now (not (c.args.failed == 0)) c.args.out.now n
+    (with_memory memory y) c.took.new.out)
+went c reply r' is number_is kept =
+    let p = parted c in
+    let done = c.took.ensures in
+    let after = split_after p _ _ _ done.same refl refl in
+    let taken = IfOk-at_ok _ is done.taken in
+    goes p done.same kept
+    (λ fits. record {
+      block = omega (arith, fits.block, done.block);
+      transfer = omega (arith, fits.transfer, ap (λ (s : Setting). s.functional.transfer) done.same.config);
+    })
+    (record {
+      work = taken.work;
+      left = subst (λ (l : LentAsking). IsLeft l taken.work) (sym (lent_is (split_in p))) taken.is_left;
+      reply = reply;
+      number_is = number_is;
+      took = in_memory (λ l l'. (len : ℕ) (s : SlotsState) (was mid : List ℕ) (asks : AsksWrites l len s was mid) (piece : Step)
+          → IsPiece (steps_in l asks.work) asks.work.done piece → Torn mid piece.write.at piece.write.bytes c.args.flash.now
+          → DeviceTook (device_of l s) len s was piece.write
+          (not (c.args.failed == 0)) c.args.flash.now c.args.out.now l' c.took.new.out reply)
+          (split_in p) after (IfOk-at_ok _ is done.outcome);
+    })
+
+pub returns-in-Ok-Asks : goal.returns-in-Ok-Asks
+returns-in-Ok-Asks c =
+    let at = (goal.at.returns-in-Ok-Asks c).After-took in
+    record {
+      outcome = inl (went at _ _ c.in-Ok-Asks.is (sym (ap reply_number c.in-Ok-Asks.field-0-is)) (c.keep.ensures c.args.config.now));
+      block = same_front (parted at) c.took.new.held;
+      short = λ less. absurd (omega (arith, less, c.if-out-lt6.false));
+    }
+
+pub returns-in-Ok-Answered : goal.returns-in-Ok-Answered
+returns-in-Ok-Answered c =
+    let at = (goal.at.returns-in-Ok-Answered c).After-took in
+    record {
+      outcome = inl (went at _ _ c.in-Ok-Answered.is
+          (to_z-of_z w32 _ (omega (arith, c.number_of.type_inv)) ∙ c.number_of.ensures ∙ sym (ap reply_number c.in-Ok-Answered.field-0-is))
+          (c.keep-in-Ok-Answered.ensures c.args.config.now));
+      block = same_front (parted at) c.took.new.held;
+      short = λ less. absurd (omega (arith, less, c.if-out-lt6.false));
+    }
+
+pub returns-in-Err-took : goal.returns-in-Err-took
+returns-in-Err-took c =
+    let p = parted (goal.at.returns-in-Err-took c).After-took in
+    let done = c.in-Err-took.ensures in
+    record {
+      outcome = inr (inl (
+        refuses_piece c.in-Ok.asking (to_z-of_z w32 _ (omega (arith, c.number-in-Err-took.type_inv)) ∙ c.number-in-Err-took.ensures)
+            p.config p.room p.kept
+            (subst (λ (l : LentAsking). ¬ AsksOnSomeFlash l) (sym (lent_is (split_in p)))
+            (not_taken c.in-Err-took.field-0 _ _ (omega (arith, c.if-out-lt6.false)) done.refused)),
+        refl,
+        unchanged p _ _ refl done.unchanged.1,
+        done.unchanged.2,
+      ));
+      block = same_front p c.took.new.held;
+      short = λ less. absurd (omega (arith, less, c.if-out-lt6.false));
+    }

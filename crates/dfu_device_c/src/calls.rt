@@ -1,0 +1,188 @@
+//! The calls for a device that asks, as a program in C makes them: `include/dfu_core.h` says each for a reader of C.
+ghost use Rattle.std.specs.Prelude.{◌≡◌, ◌⊎◌, ◌<◌, not, ◌==◌, [], ℕ, List, pos, length, take, if◌then◌else◌, None};
+ghost use Rattle.dfu_device.specs.Rows.{Handles, Elapses};
+ghost use Rattle.dfu_device.specs.Table.{reset_stage};
+ghost use Rattle.dfu_device.specs.Borrowed.{answer_room};
+ghost use Rattle.dfu_asks.specs.Asks.{device_in};
+ghost use Rattle.dfu_device_c.specs.Addressed.{addressed};
+ghost use Rattle.dfu_device_c.specs.Calls.{Goes, Went, Replied, TimePassed, CoreRefuses, HasNoRoom, IsIntact};
+ghost use Rattle.dfu_device_c.specs.Config.{setting_of, transfer_of};
+ghost use Rattle.dfu_device_c.specs.Kept.{with_memory};
+ghost use Rattle.dfu_device_c.specs.Numbers.{reply_number, NO_ROOM};
+ghost use Rattle.dfu_device_c.specs.Writes.{HandsOut, RefusesPiece, HandsNothing, AsksOnSomeFlash};
+
+use crate::config::{DfuConfig, addressed};
+use crate::keeping::{found, keep};
+use crate::numbers::{NO_ROOM, Refusal, kind_of, number_of, refused, room_for};
+use crate::record::DfuRecord;
+use dfu_asks::Reply;
+use dfu_c::{ASKS, DfuAsk};
+use dfu_device::Answer;
+
+// Keeps the device after a call, and gives the number of what it replied; or that of the refusal, and nothing is kept.
+macro_rules! reply {
+    ($asking:ident, $device:ident, $called:expr, $answered:pat => $number:expr, $refusal:pat => $refused:expr) => {
+        match $called {
+            Ok(Reply::Asks) => {
+                keep($asking, $device);
+                ASKS
+            }
+            Ok($answered) => {
+                keep($asking, $device);
+                $number
+            }
+            Err($refusal) => $refused,
+        }
+    };
+}
+
+/// Answers a setup with its body, as `Asking::handle`: how many bytes of the answer are in `out`, or -1 for a stall; or -11
+/// if its writes are due now.
+///
+/// Refused with -5 if `out` has less room than an answer may need; then as every call.
+#[unsafe(no_mangle)]
+pub extern "C" fn dfu_core_handle(
+    config: &DfuConfig,
+    device: &mut DfuRecord,
+    block: &mut [u8],
+    flash: &[u8],
+    setup: &[u8; 8],
+    body: &[u8],
+    out: &mut [u8],
+) -> i32
+    ensures outcome { Goes config.now device.old block.old device.new block.new
+        (λ a a'. let before = with_memory block.old a in Replied (IsIntact block.old flash.now a) before flash.now out.old
+        (λ x sent d'. Handles (addressed config.now.interface setup.now) body.now (device_in before flash.now) x sent d') reply_number result
+        (with_memory block.new a') out.new)
+        ⊎ (CoreRefuses config.now device.old block.old flash.now result device.new block.new × (out.new ≡ out.old))
+        ⊎ HasNoRoom (answer_room (setting_of config.now)) device.old block.old out.old result device.new block.new out.new }
+    ensures short { length out.old < answer_room (setting_of config.now) → result ≡ NO_ROOM }
+{
+    if out.len() < room_for(config) {
+        return NO_ROOM;
+    }
+    find!(asking, config, device, block.len(), mut);
+    let setup = addressed(config.interface, setup);
+    let (front, held) = block.split_at_mut(usize::from(config.transfer));
+    reply!(
+        asking,
+        device,
+        asking.handle(front, held, flash, &setup, body, out),
+        Reply::Answered(answer, count) => number_of(answer, count),
+        refusal => refused(refusal).number()
+    )
+}
+
+/// So many milliseconds pass, as `Asking::elapse`: 0; or -11 if writes are due now.
+#[unsafe(no_mangle)]
+pub extern "C" fn dfu_core_elapse(
+    config: &DfuConfig,
+    device: &mut DfuRecord,
+    block: &mut [u8],
+    flash: &[u8],
+    ms: u32,
+) -> i32
+    ensures outcome { Goes config.now device.old block.old device.new block.new
+        (λ a a'. let before = with_memory block.old a in TimePassed (IsIntact block.old flash.now a) before flash.now
+        (λ x sent d'. (x ≡ Answer.Ack) × (sent ≡ []) × Elapses ms (device_in before flash.now) d') result
+        (with_memory block.new a'))
+        ⊎ CoreRefuses config.now device.old block.old flash.now result device.new block.new }
+{
+    find!(asking, config, device, block.len(), mut);
+    let (front, held) = block.split_at_mut(usize::from(config.transfer));
+    reply!(
+        asking,
+        device,
+        asking.elapse(front, held, flash, ms),
+        Reply::Answered(_, _) => 0,
+        refusal => refused(refusal).number()
+    )
+}
+
+/// The bus is reset, as `Asking::usb_reset`: 0.
+#[unsafe(no_mangle)]
+pub extern "C" fn dfu_core_usb_reset(
+    config: &DfuConfig,
+    device: &mut DfuRecord,
+    block: &mut [u8],
+    flash: &[u8],
+) -> i32
+    ensures outcome { Goes config.now device.old block.old device.new block.new
+        (λ a a'. let before = device_in (with_memory block.old a) flash.now in (a.work ≡ None) × (result ≡ pos 0) × (a'.work ≡ None)
+        × (device_in (with_memory block.new a') flash.now ≡ record before { stage = reset_stage before.stage })
+        × (IsIntact block.old flash.now a → IsIntact block.new flash.now a'))
+        ⊎ CoreRefuses config.now device.old block.old flash.now result device.new block.new }
+{
+    find!(asking, config, device, block.len(), mut);
+    let (front, held) = block.split_at(usize::from(config.transfer));
+    match asking.usb_reset(front, held, flash) {
+        Ok(_) => {
+            keep(asking, device);
+            0
+        }
+        Err(refusal) => refused(refusal).number(),
+    }
+}
+
+/// The write that `dfu_core_next` gave was carried out, or failed if `failed` is not 0; as `Asking::took`: -11, and the next
+/// one is due; or the answer of the call that asked. Of the block's memory only the bytes after the transfer size may change.
+///
+/// Refused with -5 if `out` has less room than 6 bytes; then as every call, and with -4 if no write is due.
+#[unsafe(no_mangle)]
+pub extern "C" fn dfu_core_took(
+    config: &DfuConfig,
+    device: &mut DfuRecord,
+    block: &mut [u8],
+    flash: &[u8],
+    failed: u32,
+    out: &mut [u8],
+) -> i32
+    ensures outcome { Goes config.now device.old block.old device.new block.new
+        (λ a a'. Went (with_memory block.old a) flash.now (not (failed == 0)) out.old result (with_memory block.new a')
+        out.new)
+        ⊎ (RefusesPiece config.now device.old block.old (λ a. ¬ AsksOnSomeFlash (with_memory block.old a)) result
+        × (device.new ≡ device.old) × (block.new ≡ block.old) × (out.new ≡ out.old))
+        ⊎ HasNoRoom 6 device.old block.old out.old result device.new block.new out.new }
+    ensures block { take (transfer_of config.now) block.new ≡ take (transfer_of config.now) block.old }
+    ensures short { length out.old < 6 → result ≡ NO_ROOM }
+{
+    if out.len() < 6 {
+        return NO_ROOM;
+    }
+    find!(asking, config, device, block.len(), mut);
+    let (front, held) = block.split_at_mut(usize::from(config.transfer));
+    reply!(
+        asking,
+        device,
+        asking.took(front, held, flash, failed != 0, out),
+        Reply::Answered(answer, count) => number_of(answer, count),
+        _ => Refusal::NoDevice.number()
+    )
+}
+
+/// The next write, as `Asking::next`: 0, and `ask` has it. Nothing else changes.
+///
+/// Refused with -4 if no write is due, or its range is not in the spare slot; before that as every call.
+#[unsafe(no_mangle)]
+pub extern "C" fn dfu_core_next(
+    config: &DfuConfig,
+    device: &DfuRecord,
+    block: &[u8],
+    flash: &[u8],
+    ask: &mut DfuAsk,
+) -> i32
+    ensures outcome { HandsOut config.now device.now block.now flash.now result ask.new
+        ⊎ (RefusesPiece config.now device.now block.now (λ a. HandsNothing (with_memory block.now a) flash.now) result
+        × (ask.new ≡ ask.old)) }
+{
+    find!(asking, config, device, block.len());
+    if flash.len() > 0xffff_ffff {
+        return Refusal::NoDevice.number();
+    }
+    let (front, held) = block.split_at(usize::from(config.transfer));
+    let Some(piece) = asking.next(front, held, flash, &mut ask.bytes) else {
+        return Refusal::NoDevice.number();
+    };
+    hand_out!(piece, ask);
+    0
+}

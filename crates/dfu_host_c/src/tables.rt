@@ -1,0 +1,43 @@
+//! Numbers by a table, both ways.
+
+/// Reads or writes a number by a table, which has a number for each variant of a type.
+///
+/// `read` gives the variant of a number, and None if there is none; what the variant holds is read from the second number. `write` gives
+/// the number of a variant, and that of what it holds, or 0. The table names how what is held is read and written if it is no number.
+macro_rules! numbers {
+    (read $number:ident, $more:ident,
+        $kind:ident { $($n:literal $name:ident $(($held:ident $(: $at:ident, $of:ident)?))?),* }) => {
+        match $number {
+            $($n => numbers!(@held $kind $name $($held $more $($at)?)?),)*
+            _ => None,
+        }
+    };
+    (write $given:ident, $kind:ident { $($n:literal $name:ident $(($held:ident $(: $at:ident, $of:ident)?))?),* }) => {
+        match $given {
+            $($kind::$name $(($held))? => ($n, numbers!(@number $($held $($of)?)?)),)*
+        }
+    };
+    (@held $kind:ident $name:ident) => {
+        Some($kind::$name)
+    };
+    (@held $kind:ident $name:ident $held:ident $more:ident) => {
+        Some($kind::$name($more))
+    };
+    (@held $kind:ident $name:ident $held:ident $more:ident $at:ident) => {
+        match $at($more) {
+            Some($held) => Some($kind::$name($held)),
+            None => None,
+        }
+    };
+    (@number) => {
+        0
+    };
+    (@number $held:ident) => {
+        $held
+    };
+    (@number $held:ident $of:ident) => {
+        $of($held)
+    };
+}
+
+pub(crate) use numbers;

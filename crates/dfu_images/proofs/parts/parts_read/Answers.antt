@@ -1,0 +1,30 @@
+use Rattle.std.proofs.Common.{◌≡◌, ◌-◌, ◌+◌, ◌*◌, ◌∙◌, ℕ, ap, suc, arith}
+use Rattle.std.proofs.Math.Nat.{suc-mul}
+use Rattle.dfu_images.proofs.ReadLaws.{part_done, part_fault, parts_done}
+use Rattle.dfu_images.proofs.parts.parts_read.Goals as goal
+
+pub returns-in-Err : goal.returns-in-Err
+returns-in-Err g c =
+    let left : c.args.total - c.loop-index.index ≡ suc (c.args.total - (c.loop-index.index + 1)) = omega arith in
+    part_fault c.args.size (g.F.ByPart.part_read c.args.file.now) c.in-Err.fault _ _ _ _ _ _ _ left c.split_at.ensures.front
+    c.in-Err.ensures c.loop-index.invariant.so_far
+
+pub loop-index-preserved : goal.loop-index-preserved
+loop-index-preserved g c =
+    let left : c.args.total - c.loop-index.index ≡ suc (c.args.total - (c.loop-index.index + 1)) = omega arith in
+    record {
+      within = omega arith;
+      left = omega (
+        arith,
+        c.split_at.ensures.back_len,
+        c.loop-index.invariant.left,
+        ap (λ (n : ℕ). n * c.args.size) left ∙ suc-mul (c.args.total - (c.loop-index.index + 1)) c.args.size,
+      );
+      so_far = part_done c.args.size (g.F.ByPart.part_read c.args.file.now) _ _ _ _ _ _ _ _ _ left c.split_at.ensures.front
+          c.split_at.ensures.back c.in-Ok.ensures c.loop-index.invariant.so_far;
+    }
+
+pub returns : goal.returns
+returns g c =
+    let left : c.args.total - c.loop-index.index ≡ 0 = omega arith in
+    parts_done c.args.size (g.F.ByPart.part_read c.args.file.now) _ _ _ _ _ left c.loop-index.invariant.so_far

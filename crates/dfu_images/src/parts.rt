@@ -1,0 +1,79 @@
+//! Formats that are read part by part, each part of one size.
+
+ghost use Rattle.std.specs.Prelude.{◌≡◌, ◌+◌, ◌*◌, ◌≤◌, ℕ, List, Result, length, IfOk};
+ghost use Rattle.dfu_images.specs.declared.fault.ImageFault as declared;
+ghost use Rattle.dfu_images.specs.Reading.{parts_read, Gives, FailsToRead};
+ghost use Rattle.dfu_images.specs.Elements as elements;
+ghost use Rattle.dfu_images.specs.Elements.{AreApart, Lists, nothing, elements_by_part};
+
+use crate::element::Element;
+use crate::fault::ImageFault;
+use crate::gathering::Gathering;
+use std::alloc::Global;
+
+/// What is known of a file before its parts are read, in a format that is read part by part.
+pub(crate) trait ByPart {
+    /// How many bytes a part has.
+    ghost size: { Self → ℕ };
+
+    /// What comes of a part, by its index.
+    ghost part_read: { Self → (index : ℕ) → elements.Gathering → List ℕ → Result elements.Gathering declared.ImageFault };
+
+    fn part_read(
+        &self,
+        alloc: Global,
+        index: usize,
+        gathering: Gathering,
+        part: &[u8],
+    ) -> Result<Gathering, ImageFault>
+        requires { length part.now ≡ size self.now }
+        ensures { Gives result (part_read self.now index gathering part.now) };
+}
+
+/// What so many parts give.
+fn parts_read<F: ByPart>(
+    alloc: Global,
+    file: &F,
+    size: usize,
+    total: usize,
+    parts: &[u8],
+) -> Result<Gathering, ImageFault>
+    requires sized { size ≡ F.size file.now }
+    requires whole { total * size ≤ length parts.now }
+    ensures { Gives result (parts_read size (F.part_read file.now) total 0 nothing parts.now) }
+{
+    let mut gathering = Gathering::new(alloc);
+    let mut rest = parts;
+    let mut index: usize = 0;
+    while index < total {
+        let (part, behind) = rest.split_at(size);
+        gathering = match file.part_read(alloc, index, gathering, part) {
+            Ok(next) => next,
+            Err(fault) => return Err(fault),
+        };
+        rest = behind;
+        index += 1;
+    }
+    Ok(gathering)
+}
+
+/// The elements of so many parts.
+pub(crate) fn elements_by_part<F: ByPart>(
+    alloc: Global,
+    file: &F,
+    size: usize,
+    total: usize,
+    parts: &[u8],
+) -> Result<Vec<Element>, ImageFault>
+    requires sized { size ≡ F.size file.now }
+    requires whole { total * size ≤ length parts.now }
+    // What the parts say, or the first fault.
+    ensures value { Lists result (elements_by_part size (F.part_read file.now) total parts.now) }
+    // The elements are by address, and no two share one.
+    ensures apart { IfOk result (λ v. AreApart 0 v.items) }
+{
+    match parts_read(alloc, file, size, total, parts) {
+        Ok(gathering) => gathering.finish(),
+        Err(fault) => Err(fault),
+    }
+}

@@ -1,0 +1,170 @@
+//! What the events of a line are made of: the file that they offer, the tear of a write, the fate of an action, and whether the device's
+//! program accepts the image that the action closes.
+
+ghost use Rattle.std.specs.Prelude.{◌≡◌, IfOk, IfErr, ◌+◌, ◌≤◌, ◌<◌, ◌∷◌, [], length, get_or, drop, IfSome, IfNone};
+ghost use Rattle.dfu_link.specs.Said.{said_by, tear_bytes, harm_fate};
+ghost use Rattle.dfu_link.specs.inside.Moving.{held_bytes, file_bytes, FindsNoRoom, FindsNoTear};
+ghost use Rattle.dfu_device.specs.Candidate.{candidate_in};
+ghost use Rattle.dfu_sim.specs.Happening.{Goes, fate_of, harm_in, happening, Offers, harmed};
+ghost use Rattle.dfu_link.specs.ScriptRun.{begins_with, is_accepted, checked_fate};
+ghost use Rattle.dfu_link.specs.inside.Taken.{taken_at};
+
+use crate::scripting::fault::ScriptFault;
+use crate::scripting::line::{EventLine, HarmKind, Offered};
+use crate::scripting::starting::bytes_of;
+use dfu_device::{Candidate, Device, Objection};
+use dfu_host::Limits;
+use dfu_sim::{Event, Fate, Purpose};
+use dfu_slots::{Medium, Slots};
+use std::alloc::Global;
+
+/// A file that is offered: in memory of its own, or the bytes that are given to the script.
+#[derive(Drop)]
+pub(crate) enum OfferedFile<'g> {
+    Decoded(Vec<u8>),
+    Given(&'g [u8]),
+}
+
+impl<'g> OfferedFile<'g> {
+    /// Its bytes.
+    pub(crate) fn bytes(&self) -> &[u8]
+        ensures { result.now ≡ held_bytes self.now }
+    {
+        match self {
+            OfferedFile::Decoded(bytes) => bytes,
+            OfferedFile::Given(bytes) => bytes,
+        }
+    }
+}
+
+/// The file that is offered. Other events have none. Of one that is given nothing is copied.
+pub(crate) fn file_of<'g>(
+    alloc: Global,
+    events: EventLine<'_, 'g>,
+) -> Result<OfferedFile<'g>, ScriptFault>
+    ensures ok { IfOk result (λ file. held_bytes file ≡ file_bytes (said_by events.entry)) }
+    ensures fault { IfErr result (λ f. FindsNoRoom (said_by events.entry) f) }
+{
+    match events {
+        EventLine::Offer { file, .. } => match file {
+            Offered::Given(bytes) => Ok(OfferedFile::Given(bytes)),
+            Offered::Spelled(text) => Ok(OfferedFile::Decoded(bytes_of(alloc, text)?)),
+        },
+        _ => Ok(OfferedFile::Given(&[])),
+    }
+}
+
+/// The tear of a write that is harmed. Other events have none.
+pub(crate) fn tear_of(alloc: Global, events: EventLine<'_, '_>) -> Result<Vec<u8>, ScriptFault>
+    ensures ok { IfOk result (λ v. v.items ≡ tear_bytes events.entry) }
+    ensures fault { IfErr result (λ f. FindsNoTear (said_by events.entry) f) }
+{
+    match events {
+        EventLine::GoHarmed { tear, .. } => bytes_of(alloc, tear),
+        _ => Ok(Vec::new(alloc)),
+    }
+}
+
+/// The fate of an action in which a write is harmed.
+pub(crate) fn harmed(harm: HarmKind, writes: u32, tear: &[u8]) -> Fate<'_>
+    ensures fate { fate_of result ≡ harm_fate harm }
+    ensures harm { harm_in result ≡ harmed writes tear.now }
+{
+    match harm {
+        HarmKind::Cut => Fate::Cut { writes, tear },
+        HarmKind::Fail => Fate::Fail { writes, tear },
+        HarmKind::Lie => Fate::Lie { writes, tear },
+    }
+}
+
+/// The offer of a file.
+pub(crate) fn offered<'f>(purpose: Purpose, file: &'f [u8], limits: Limits) -> Event<'f, 'static>
+    ensures { happening result ≡ Offers purpose file.now limits }
+{
+    match purpose {
+        Purpose::Install => Event::Offer { file, limits },
+        Purpose::Verify => Event::OfferVerified { file, limits },
+    }
+}
+
+/// The byte of the medium at this place.
+fn stored_byte<M: Medium>(slots: &Slots<M>, at: u32, i: usize) -> u8
+    requires { at + i < length slots.now.medium.bytes }
+    ensures { result ≡ get_or slots.now.medium.bytes (at + i) 0 }
+{
+    let medium = slots.medium();
+    // Called for its clause: each place within the medium is a number of 32 bits.
+    let _end = medium.len();
+    let mut byte = [0; 1];
+    medium.read(at + i as u32, &mut byte);
+    byte[0]
+}
+
+/// The byte at this place of an image that was taken, or none past its end.
+fn byte_at<M: Medium>(slots: &Slots<M>, candidate: Candidate, i: usize) -> Option<u8>
+    requires { candidate.at + candidate.stored ≤ length slots.now.medium.bytes }
+    ensures some { IfSome result (λ byte. (i < length (taken_at slots.now candidate)) × (byte ≡ get_or (taken_at slots.now candidate) i 0)) }
+    ensures none { IfNone result (length (taken_at slots.now candidate) ≤ i) }
+{
+    let stored = candidate.stored as usize;
+    if i < stored {
+        return Some(stored_byte::<M>(slots, candidate.at, i));
+    }
+    let held = slots.held();
+    if i - stored < held.len() {
+        return Some(held[i - stored]);
+    }
+    None
+}
+
+/// Whether this byte is at this place of an image that was taken.
+fn has_byte<M: Medium>(slots: &Slots<M>, candidate: Candidate, i: usize, byte: u8) -> bool
+    requires { candidate.at + candidate.stored ≤ length slots.now.medium.bytes }
+    ensures { result ≡ begins_with (byte ∷ []) (drop i (taken_at slots.now candidate)) }
+{
+    match byte_at::<M>(slots, candidate, i) {
+        None => false,
+        Some(found) => byte == found,
+    }
+}
+
+/// Whether an image that was taken begins with these bytes.
+fn begins<M: Medium>(slots: &Slots<M>, candidate: Candidate, check: &[u8]) -> bool
+    requires { candidate.at + candidate.stored ≤ length slots.now.medium.bytes }
+    ensures { result ≡ begins_with check.now (taken_at slots.now candidate) }
+{
+    for i in 0..check.len() {
+        if !has_byte::<M>(slots, candidate, i, check[i]) {
+            return false;
+        }
+    }
+    true
+}
+
+/// Whether a program that takes only images that begin with these bytes has nothing against the image that was taken, or none was.
+fn is_accepted<M: Medium>(device: &Device<M>, check: &[u8]) -> bool
+    ensures { result ≡ is_accepted check.now (candidate_in device.now.stage) }
+{
+    match device.candidate() {
+        None => true,
+        Some(candidate) => begins::<M>(device.slots(), candidate, check),
+    }
+}
+
+/// An action of this fate on a device whose program takes only images that begin with these bytes.
+pub(crate) fn checked<'f, 't, M: Medium>(
+    device: &Device<M>,
+    check: &[u8],
+    fate: Fate<'t>,
+) -> Event<'f, 't>
+    ensures { happening result ≡ Goes (checked_fate check.now device.now (fate_of fate.entry)) (harm_in fate.entry) }
+{
+    if is_accepted::<M>(device, check) {
+        Event::Go(fate)
+    } else {
+        Event::GoRefused {
+            fate,
+            objection: Objection::File,
+        }
+    }
+}

@@ -1,0 +1,41 @@
+use Rattle.std.proofs.Common.{◌≡◌, ◌∙◌, ◌⊎◌, ap, sym, subst, inl, inr, Bool, Option, List, ℕ, length}
+use Rattle.dfu_conformance.specs.declared.verdict.Verdict.{Verdict}
+use Rattle.dfu_conformance.specs.Verdict.{IsVerdict, ArePlacesAfter}
+use Rattle.dfu_suffix.specs.declared.fault.SuffixFault.TheVariants as suffix
+use Rattle.dfu_output.specs.AnswerLines.{fault_line}
+use Rattle.dfu_output.specs.Output.{Wrote}
+use Rattle.dfu_output.specs.declared.exit.Exit.{Exit}
+use Rattle.dfu_output.specs.declared.exit.Exit.TheVariants.{Refused}
+use Rattle.dfu_output.specs.judge.Judging.{WritesVerdict, exit_of, readings_of}
+use Rattle.dfu_output.specs.judge.inside.Going.{Going, JudgingState}
+use Rattle.dfu_output.specs.judge.Texts.{verdict_text}
+use Rattle.dfu_output.proofs.judge.reading.verdict_out.Goals as goal
+
+told : (old new : Option (List ℕ)) (bytes text : List ℕ) (x y r : Exit) → bytes ≡ text → x ≡ y → Wrote old new bytes x r
+    → Wrote old new text y r
+told old new bytes text x y r same exit wrote =
+    subst (λ (e : Exit). Wrote old new text e r) exit (subst (λ (xs : List ℕ). Wrote old new xs x r) same wrote)
+
+-- What is printed of the events is out; after it the line of the verdict on them is written, or that there was no memory for it.
+written : (interface : ℕ) (old mid new : Option (List ℕ)) (text : List ℕ) (s : JudgingState) (going : Going interface old mid text s)
+    (verdict : Verdict) (at : List Bool) (result : Exit)
+    → IsVerdict verdict going.course.events × ArePlacesAfter (readings_of verdict) going.course.events at
+    → Wrote mid new (verdict_text verdict at (length going.course.events) going.course.single) (exit_of verdict) result
+    ⊎ Wrote mid new (fault_line suffix.NoMemory) Refused result
+    → WritesVerdict going.course old new result
+written interface old mid new text s going verdict at result v wrote =
+    record { verdict = verdict; is = v.0; at = at; places = v.1; mid = mid; told = going.out; wrote = wrote }
+
+pub returns-in-Ok : goal.returns-in-Ok
+returns-in-Ok g c interface old text going =
+    written interface old (g.W.Write.contents c.args.writer.now) _ text _ going c.verdict-verdict.result.0 c.verdict-verdict.result.1 _
+    (c.verdict-verdict.ensures text going.course going.at)
+    (inl (told (g.W.Write.contents c.args.writer.now) (g.W.Write.contents c.write_out.new.writer) _ _ _ _ _
+    (c.as_bytes.ensures.value ∙ c.in-Ok.ensures
+    ∙ (λ i. verdict_text c.verdict-verdict.result.0 c.verdict-verdict.result.1 ((c.counts-events.ensures.events ∙ going.at.events) i)
+    ((c.counts-events.ensures.single ∙ going.at.single) i))) c.exit_of.ensures c.write_out.ensures))
+
+pub returns-in-Err : goal.returns-in-Err
+returns-in-Err g c interface old text going =
+    written interface old (g.W.Write.contents c.args.writer.now) _ text _ going c.verdict-verdict.result.0 c.verdict-verdict.result.1 _
+    (c.verdict-verdict.ensures text going.course going.at) (inr c.fault_text.ensures)

@@ -1,0 +1,6 @@
+use Rattle.dfu_sim.proofs.Acts.{gone_by}
+use Rattle.dfu_sim.proofs.acting.carry_out.Goals as goal
+
+pub returns : goal.returns
+returns g c = gone_by c.delivery_by-delivery.ensures.delivery c.delivery_by-delivery.ensures.harm c.arm.ensures c.act-out.ensures
+    c.settle.ensures

@@ -1,7 +1,0 @@
-use Rattle.std.proofs.Common.{◌≡◌}
-use Rattle.dfu_suffix.specs.Register.{shifts}
-use Rattle.dfu_suffix.proofs.undoing.before_four.Given as goal
-
--- So many shifts make the register of the number.
-abbrev pub invariant-loop-turn : goal.invariant-loop-turn
-invariant-loop-turn l = shifts l.turn l.number ≡ l.register
