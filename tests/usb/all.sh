@@ -136,11 +136,28 @@ reap() {
     wait "$first" || code=$?
 }
 last_of() {
-    grep '^[0-9]' "log-$1" | tail -n 1 | cut -d ' ' -f 2
+    grep '^[0-9]' "log-$1" 2> never-read | tail -n 1 | cut -d ' ' -f 2
+}
+# soon COMMAND..: waits until the command succeeds, half a minute at most.
+soon() {
+    for _ in $(seq 300); do
+        "$@" && return
+        sleep 0.1
+    done
+}
+# sent COUNT PATH..: so many requests at least were sent to each of these.
+sent() {
+    least=$1
+    shift
+    for path in "$@"; do
+        test "$(grep -c '^[0-9]' "log-$path" 2> never-read)" -ge "$least" || return
+    done
 }
 board 1-3 USB_BUSY=60000
 begin new.dfu
-sleep 0.7
+soon grep -q '^1-1 ' out
+soon sent 2 1-3
+soon sent 6 1-2
 kill -INT "$first"
 reap
 expect 'a signal' test "$code" -eq 11
@@ -154,15 +171,15 @@ for signals in 'INT INT' KILL; do
     board 1-1 USB_BUSY=60000
     board 1-2 USB_SLOW=1500
     begin new.dfu
-    sleep 0.5
+    soon sent 1 1-1 1-2
     for signal in $signals; do
         kill "-$signal" "$first"
         sleep 0.3
     done
     reap
     expect "$signals: at once" test "$code" -gt 128
-    sleep 4
     for path in 1-1 1-2; do
+        soon test -s "saved-$path"
         expect "$signals, $path: ABORT" test "$(last_of $path)" = ABORT
         expect "$signals, $path: the old image" cmp "saved-$path" old
     done
