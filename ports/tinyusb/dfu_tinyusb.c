@@ -4,7 +4,9 @@
 
 static struct dfu_device *dfu;
 static int32_t refusal;
-static bool is_awaited; /* a data stage of the host */
+/* is_awaited: a data stage of the host. is_refused: no stall has told the host of a refusal yet. is_upgrade: the device was in DFU mode when
+ * a call was last not refused. */
+static bool is_awaited, is_refused, is_upgrade;
 static uint8_t data[DFU_TINYUSB_TRANSFER < 6 ? 6 : DFU_TINYUSB_TRANSFER]; /* of a data stage, of either side */
 
 static int32_t state(void)
@@ -12,11 +14,17 @@ static int32_t state(void)
     return dfu == NULL ? DFU_NO_DEVICE : dfu_device_state(dfu);
 }
 
-/* noted: an answer, whose refusal is kept. */
+/* noted: an answer. After a refusal the device begins again, once, in the mode in which it was. Then a host whose image was not put in
+ * place must not find dfuIDLE, as if it were: one request is stalled first. */
 static int32_t noted(int32_t n)
 {
-    if (n < 0 && n != DFU_STALL)
-        refusal = n;
+    if (n < DFU_STALL) {
+        const int32_t begun = is_upgrade ? dfu_device_begin(dfu) : dfu_device_power_on(dfu);
+        refusal = begun < 0 ? begun : n;
+        is_refused = true;
+    } else {
+        is_upgrade = dfu_tinyusb_protocol() == 2;
+    }
     return n;
 }
 
@@ -24,8 +32,10 @@ static void reset(uint8_t rhport)
 {
     (void)rhport;
     is_awaited = false;
-    if (counts())
-        (void)noted(dfu_device_reset(dfu));
+    if (!counts())
+        return;
+    is_upgrade = false; /* it leads to run-time mode, also if it is refused */
+    (void)noted(dfu_device_reset(dfu));
 }
 
 static uint16_t open_interface(uint8_t rhport, tusb_desc_interface_t const *interface, uint16_t most)
@@ -38,12 +48,15 @@ static uint16_t open_interface(uint8_t rhport, tusb_desc_interface_t const *inte
  * there. TinyUSB does not say how much came: if a data stage ends early, the rest reads 0, and not what an earlier one left. */
 static bool await(uint8_t rhport, tusb_control_request_t const *request, const uint8_t setup[8])
 {
+    int32_t stalls = 1;
     if (noted(dfu_device_work(dfu)) < 0)
         return false;
-    if (request->wLength > dfu->config->transfer || noted(dfu_device_would_stall(dfu, setup)) != 0) {
+    if (request->wLength <= dfu->config->transfer)
+        stalls = noted(dfu_device_would_stall(dfu, setup));
+    if (stalls > 0)
         (void)noted(dfu_device_serve(dfu, setup, data, data, sizeof data));
+    if (stalls != 0)
         return false;
-    }
     memset(data, 0, request->wLength);
     is_awaited = tud_control_xfer(rhport, request, data, request->wLength);
     return is_awaited;
@@ -52,7 +65,6 @@ static bool await(uint8_t rhport, tusb_control_request_t const *request, const u
 static bool begin(uint8_t rhport, tusb_control_request_t const *request, const uint8_t setup[8])
 {
     int32_t n;
-    is_awaited = false;
     if (request->bmRequestType_bit.direction == TUSB_DIR_OUT && request->wLength > 0)
         return await(rhport, request, setup);
     n = noted(dfu_device_serve(dfu, setup, data, data, sizeof data));
@@ -64,23 +76,30 @@ static bool begin(uint8_t rhport, tusb_control_request_t const *request, const u
 static bool control(uint8_t rhport, uint8_t stage, tusb_control_request_t const *request)
 {
     const bool was_awaited = is_awaited;
+    bool is_taken = true;
     uint8_t setup[8];
     if (!is_ours(request))
         return false;
     memcpy(setup, request, sizeof setup);
     switch (stage) {
-    case CONTROL_STAGE_SETUP: return begin(rhport, request, setup);
+    case CONTROL_STAGE_SETUP:
+        is_awaited = false;
+        is_taken = !is_refused && begin(rhport, request, setup);
+        break;
     case CONTROL_STAGE_DATA:
         is_awaited = false;
-        if (request->bmRequestType_bit.direction == TUSB_DIR_IN)
-            return true;
-        return was_awaited && noted(dfu_device_serve(dfu, setup, data, data, sizeof data)) >= 0;
+        if (request->bmRequestType_bit.direction == TUSB_DIR_OUT)
+            is_taken = was_awaited && !is_refused && noted(dfu_device_serve(dfu, setup, data, data, sizeof data)) >= 0;
+        break;
     case CONTROL_STAGE_ACK:
         ahead_ms = 0;
         (void)noted(dfu_device_work(dfu));
-        return true;
+        break;
     default: return false;
     }
+    if (!is_taken)
+        is_refused = false; /* the stall */
+    return is_taken;
 }
 
 usbd_class_driver_t const dfu_tinyusb_driver = {
@@ -94,13 +113,14 @@ int32_t dfu_tinyusb_start(struct dfu_device *device)
         return DFU_NO_ROOM;
     dfu = device;
     refusal = 0;
+    is_upgrade = dfu_tinyusb_protocol() == 2;
     return 0;
 }
 
 /* When a device with bitWillDetach that left comes back, the reset of that does not count. */
 void dfu_tinyusb_task(uint32_t now_ms)
 {
-    const uint32_t ms = passed(now_ms, state() == DFU_STATE_APP_DETACH);
+    const uint32_t ms = passed(now_ms, !is_refused && state() == DFU_STATE_APP_DETACH);
     if (ms == 0)
         return;
     (void)noted(dfu_device_elapse(dfu, ms));

@@ -83,8 +83,10 @@ bool dfu_tinyusb_leaves(void);
 /** @brief bInterfaceProtocol: 1 in run-time mode, 2 in DFU mode. */
 uint8_t dfu_tinyusb_protocol(void);
 
-/** @brief The last refusal of the device (enum dfu_result, but DFU_STALL), or 0: what to do then is in dfu_device.h. The host got a
- *         stall. */
+/** @brief The last refusal of the device (enum dfu_result, but DFU_STALL), or 0; for a log. The driver begins the device again from the
+ *         flash: in dfuIDLE, or in appIDLE if it was in run-time mode or the bus was reset. The host gets one stall. If the device
+ *         can't begin, this is why, and the driver tries again at a later request: dfu_device_image answers DFU_NO_MEDIUM too if there
+ *         is no image any more. */
 int32_t dfu_tinyusb_refusal(void);
 
 #ifdef __cplusplus
