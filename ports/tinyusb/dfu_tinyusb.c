@@ -4,8 +4,8 @@
 
 static struct dfu_device *dfu;
 static int32_t refusal;
-/* is_awaited: a data stage of the host. is_refused: no stall has told the host of a refusal yet. is_upgrade: the device was in DFU mode when
- * a call was last not refused. */
+/* is_awaited: a data stage of the host. is_refused: no stall has told the host of a refusal yet. is_upgrade: the device was in DFU mode
+ * when a call was last not refused. */
 static bool is_awaited, is_refused, is_upgrade;
 static uint8_t data[DFU_TINYUSB_TRANSFER < 6 ? 6 : DFU_TINYUSB_TRANSFER]; /* of a data stage, of either side */
 

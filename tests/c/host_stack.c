@@ -1,10 +1,7 @@
 /* How deep each call goes below its caller: a thread runs it on a stack that was painted. It takes the most bytes that
  * are allowed. */
-#define _GNU_SOURCE
-#include <pthread.h>
+#include "painted.h"
 #include <stdio.h>
-#include <stdlib.h>
-#include <string.h>
 
 #include "dfu_host.h"
 
@@ -15,7 +12,7 @@ static const uint8_t idle[6] = {0, 0, 0, 0, 2, 0};
 static struct dfu_session session;
 static struct dfu_action action;
 static struct dfu_file said;
-static uint8_t buffer[4096], part[4096], painted[1 << 20] __attribute__((aligned(4096)));
+static uint8_t buffer[4096], part[4096];
 
 static void *run(void *word) {
     switch (*(int *)word) {
@@ -37,18 +34,7 @@ int main(int count, char **words) {
         "take, a part of 4,096", "abort", "name"};
     size_t empty = 0, most = 0, allowed = count > 1 ? (size_t)atol(words[1]) : 0;
     for (int call = 0; call < 10; call++) {
-        pthread_attr_t how;
-        pthread_t thread;
-        size_t untouched = 0;
-        memset(painted, 0xaa, sizeof painted);
-        pthread_attr_init(&how);
-        pthread_attr_setstack(&how, painted, sizeof painted);
-        if (pthread_create(&thread, &how, run, &call) != 0)
-            return 1;
-        pthread_join(thread, NULL);
-        while (painted[untouched] == 0xaa)
-            untouched++;
-        size_t deep = sizeof painted - untouched;
+        const size_t deep = touched(run, &call);
         if (call == 0)
             empty = deep;
         else

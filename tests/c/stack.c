@@ -1,10 +1,7 @@
 /* How deep each call goes below its caller: a thread runs it on a stack that was painted. It takes the most bytes that are allowed, and
  * prints the size of the record too. The lines that begin with "format" are those of calls that a bootloader may leave out. */
-#define _GNU_SOURCE
-#include <pthread.h>
+#include "painted.h"
 #include <stdio.h>
-#include <stdlib.h>
-#include <string.h>
 
 #include "dfu_device_memory.h"
 
@@ -12,7 +9,6 @@ static const struct dfu_config config = {DFU_VERSION, 0x0100, 1, 0x1209, 255, 40
 static struct dfu_place place;
 static struct dfu_ask due;
 static uint8_t medium[DFU_MEDIUM_SIZE(256, 0, 256 * 400)], out[4096], block[4096], pending[DFU_BLOCK_SIZE(4096, 256)];
-static uint8_t painted[1 << 20] __attribute__((aligned(4096)));
 static const struct dfu_driver driver = DFU_MEMORY_DRIVER(medium);
 static struct dfu_device device = {.config = &config, .flash = medium, .size = sizeof medium, .block = pending, .most = sizeof pending,
                                    .driver = &driver};
@@ -68,18 +64,7 @@ int main(int count, char **words) {
         return 1;
     other = device;
     for (int call = 0; call < (int)(sizeof names / sizeof *names); call++) {
-        pthread_attr_t how;
-        pthread_t thread;
-        size_t untouched = 0;
-        memset(painted, 0xaa, sizeof painted);
-        pthread_attr_init(&how);
-        pthread_attr_setstack(&how, painted, sizeof painted);
-        if (pthread_create(&thread, &how, run, &call) != 0)
-            return 1;
-        pthread_join(thread, NULL);
-        while (painted[untouched] == 0xaa)
-            untouched++;
-        size_t deep = sizeof painted - untouched;
+        const size_t deep = touched(run, &call);
         if (call == 0)
             empty = deep;
         else
