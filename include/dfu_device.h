@@ -64,7 +64,7 @@
  *   docs/PORTING.md says what is known of flash with ECC whose torn words don't read so.
  * - Nothing but the operations that are asked for changes the flash.
  *
- * What to do on a refusal. Stall the request, and:
+ * What to do on a refusal. Stall the request, or after a refused dfu_device_work the next one, and:
  * - DFU_NO_CONFIG, DFU_NO_BLOCK, DFU_NO_ROOM, DFU_WRONG_SIZE, DFU_TOO_LARGE: a mistake of the program, which has to be mended.
  * - DFU_NO_MEDIUM of power_on, begin or image: there is no image, or another sector or size wrote the slots. Format, which gives both up.
  * - DFU_NO_MEDIUM or DFU_NO_DEVICE elsewhere: flash, block or record changed. Call dfu_device_power_on or
