@@ -65,16 +65,24 @@ static bool are_digits(const uint8_t *bytes, size_t count)
     return count == 0;
 }
 
-/* How --format of `dfu add` names the format that the file looks to be of, by its front; or NULL. */
-static const char *format_of(const struct image *image)
+/* How --format of `dfu add` names the format of text that the file looks to be of, by its front; or NULL. */
+static const char *text_format_of(const struct image *image)
 {
     const uint8_t *bytes = image->bytes;
     if (image->length < 11)
         return NULL;
     if (bytes[0] == ':' && are_digits(bytes + 1, 10))
         return "ihex";
-    if (bytes[0] == 'S' && isdigit(bytes[1]) && are_digits(bytes + 2, 6))
-        return "srec";
+    return bytes[0] == 'S' && isdigit(bytes[1]) && are_digits(bytes + 2, 6) ? "srec" : NULL;
+}
+
+/* The same of each format. */
+static const char *format_of(const struct image *image)
+{
+    const uint8_t *bytes = image->bytes;
+    const char *text = text_format_of(image);
+    if (image->length < 11 || text != NULL)
+        return text;
     if (memcmp(bytes, "UF2\n", 4) == 0)
         return "uf2";
     return memcmp(bytes,
@@ -102,6 +110,15 @@ static bool is_raw(const struct image *image, const struct words *words, int32_t
         return true;
     fputs("dfu-flash: an image without a suffix is taken with --device VID:PID, both not ffff\n", stderr);
     return false;
+}
+
+/* The refusal of a file that may not be sent. Of text it is another one: `dfu add` by itself would take the text for the image. */
+static int32_t refuse(const struct image *image, int32_t refusal)
+{
+    if (refusal != DFU_FILE_NO_SIGNATURE || text_format_of(image) == NULL)
+        return refusal;
+    fputs("dfu-flash: for a DfuSe device give --address too, with the address that `dfu add --format auto` prints\n", stderr);
+    return IMAGE_TEXT;
 }
 
 static int32_t look(struct image *image)
@@ -158,8 +175,10 @@ int32_t image_read(struct image *image, const struct words *words)
         return IMAGE_WORDS;
     if (image->is_dfuse)
         return read_dfuse(image, words);
-    if (refusal == 0 || !is_raw(image, words, refusal))
-        return refusal;
+    if (refusal == 0)
+        return 0;
+    if (!is_raw(image, words, refusal))
+        return refuse(image, refusal);
     if (!words->quiet && words->has_address)
         fprintf(stderr, "dfu-flash: there is no suffix: all %zu bytes are written, from %08lx on\n", image->length,
                 (unsigned long)words->address);

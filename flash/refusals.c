@@ -1,6 +1,7 @@
 /* SPDX-License-Identifier: MIT OR Apache-2.0 */
 /* Why a session does not begin: the host's refusals of dfu_host.h, with their names in docs/REFUSALS.md, and those of
    this program's own. */
+#include "image.h"
 #include "say.h"
 #include "session.h"
 
@@ -14,6 +15,7 @@ struct refusal {
 static const struct refusal refusals[] = {
     {DFU_FILE_TOO_SHORT, "TooShort", "the file has under 16 bytes, too few for a suffix"},
     {DFU_FILE_NO_SIGNATURE, "NoSignature", "the file has no DFU suffix; `dfu add` gives it one"},
+    {IMAGE_TEXT, "NoSignature", "the file is text of Intel HEX or S-records; `dfu add --format auto` makes a DFU file of the image in it"},
     {DFU_FILE_BAD_LENGTH, "BadLength", "the suffix's length is under 16 or over the file's"},
     {DFU_FILE_BAD_CRC, "BadCrc", "the file's check sum is wrong: it was changed or cut"},
     {DFU_FILE_TOO_LARGE, "TooLarge", "the file has over 16777216 bytes"},

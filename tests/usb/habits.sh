@@ -64,10 +64,20 @@ printf ':0400000041414141F8\n:00000001FF\n' > it.ihex
 printf 'S1070000414141414F4\nS9030000FC\n' > it.srec
 { printf 'UF2\n'; head -c 508 /dev/zero; } > it.uf2
 { printf '\177ELF'; head -c 100 /dev/zero; } > it.elf
+# Of text the refusal names the words that keep it from the device; of others it is that of any file without a suffix.
+no_suffix="NoSignature: the file has no DFU suffix; \`dfu add\` gives it one"
+of_text="NoSignature: the file is text of Intel HEX or S-records; \`dfu add --format auto\` makes a DFU file of the image in it"
 for format in ihex srec uf2 elf; do
+    case $format in
+    ihex | srec) line=$of_text notes=1 ;;
+    *) line=$no_suffix notes=0 ;;
+    esac
     for words in '--device 1209:0001' '--address 0x08000000' ''; do
         # shellcheck disable=SC2086
-        row 1 old 'NoSignature: ' '' $words "it.$format"
+        row 1 old "$line" '' $words "it.$format"
+        expect "$format: the whole line" test "$(cat out)" = "$line"
+        found=$(grep -c 'for a DfuSe device give --address too, .*--format auto' err) || :
+        expect "$format: what a DfuSe device needs" test "$found" -eq "$notes"
         says "it looks like $format: \`dfu add --format $format\`"
         expect "$format: nothing is sent" is_silent
     done
@@ -77,6 +87,23 @@ done
 for text in ':04000000x1414141' 'S10700x041414141' ':sensible text' 'Sensible text' 'UF2 is no format' ':04000000'; do
     printf '%s' "$text" > likely
     row 0 likely 'verified: ' USB_CAPACITY=1000 --device 1209:0001 likely
+done
+row 1 old "{\"status\":1,\"report\":\"NoSignature\",\"words\":\"${of_text#*: }\"}" '' --json it.srec
+for text in 'S10700x041414141...' ':04000000x1414141' 'a raw image of text'; do
+    printf '%s' "$text" > likely
+    row 1 old "$no_suffix" '' likely
+    expect 'no text of an image' test "$(cat out)-$(grep -c -e --format -e DfuSe err)" = "$no_suffix-0"
+done
+# Who follows it sends the image, and not its text.
+printf AAAA > inside
+printf 'S107000041414141F4\nS9030000FC\n' > whole.srec
+cp it.ihex whole.ihex
+for format in ihex srec; do
+    "$dfu" add --format auto "whole.$format" it.dfu > added
+    expect "$format: the address is printed" grep -q 'address 00000000' added
+    row 0 inside 'verified: ' '' it.dfu
+    row 0 - 'verified: ' 'USB_DEVICE=dfuse USB_IDS=1209:0001:0100' --address 0x08000000 it.dfu
+    expect "$format: the image at the address" test "$(head -c 4 saved)" = AAAA
 done
 # The suffix that it gets is that of `dfu add`, for many sizes: the host refuses one with another check sum.
 for size in 1 15 16 17 255 1000 65537; do
