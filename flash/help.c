@@ -9,6 +9,7 @@ static const char usage[] =
     "\n"
     "Usage: dfu-flash [OPTIONS] FILE, or - for standard input\n"
     "       dfu-flash [OPTIONS] --all FILE\n"
+    "       dfu-flash [OPTIONS] --all --address A FILE\n"
     "       dfu-flash [OPTIONS] --upload OUT\n"
     "       dfu-flash [OPTIONS] --address A FILE\n"
     "       dfu-flash [OPTIONS] --address A --length N --upload OUT\n"

@@ -138,8 +138,8 @@ static bool is_fit_for_all(const struct words *words)
 static bool is_fit_for_dfuse(const struct words *words)
 {
     bool is_upload = words->job == JOB_UPLOAD, is_download = words->job == JOB_DOWNLOAD;
-    if (words->has_address && ((!is_upload && !is_download) || words->all))
-        return words_refuse("--address goes with a FILE or with --upload, for one device", "");
+    if (words->has_address && !is_upload && !is_download)
+        return words_refuse("--address goes with a FILE or with --upload", "");
     if (words->has_address && !words->verify)
         return words_refuse("--no-verify doesn't go with --address: what is written there is read back", "");
     if (words->has_address && words->transfer != 0)
