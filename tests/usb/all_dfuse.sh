@@ -1,4 +1,4 @@
-# Rows of tests/flash: --all with --address, over several boards that speak DfuSe. It has read all.sh.
+# Rows of tests/flash: --all with --address, over several boards that speak DfuSe. It has read all_boards.sh.
 # shellcheck shell=sh disable=SC2154
 
 # What the boards have, 16 pages of 1,024 bytes, and what they have then to have: the image from the second page on, with the rest of its
@@ -36,7 +36,7 @@ flash_map='@Internal Flash  /0x08000000/16*001Kg'
 raw='--device 1209:0001 --address 0x08000400 image'
 # asked LOG: its requests, without when and with what they were answered.
 asked() {
-    sed -n 's/^[0-9]* \([A-Z]* [0-9]* [0-9]*\) .*/\1/p' "$1"
+    sed -n 's/^[0-9]* \([A-Z]* [0-9]* [0-9]*\) .*/\1/p' "$1" 2> never-read || :
 }
 
 # Each board has the image at the address, or its own refusal or fault, as one by itself has it.
