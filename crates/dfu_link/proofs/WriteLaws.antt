@@ -1,12 +1,16 @@
 -- What is out of texts that are written one after the other.
-use Rattle.std.proofs.Common.{◌≡◌, ℕ, List, ◌++◌, length-append, Option, sym, ap, ◌∙◌, subst, arith}
+use Rattle.std.proofs.Common.{◌≡◌, ℕ, List, [], ◌++◌, length-append, Option, sym, ap, ◌∙◌, subst, arith}
 use Rattle.std.proofs.lemmas.List.{append_assoc}
 use Rattle.std.specs.Io.KnownBytes.{Appends}
 use Rattle.std.specs.Prelude.{Result, Ok, Err, IsErrAnd}
-use Rattle.std.proofs.KnownBytes.{Appends-trans}
+use Rattle.std.proofs.KnownBytes.{Appends-nil, Appends-trans}
 use Rattle.dfu_suffix.specs.Writing.{IsOutInPart}
 use Rattle.dfu_link.specs.declared.scripting.fault.ScriptFault.{ScriptFault}
 use Rattle.dfu_link.specs.inside.Expected.{Puts}
+
+-- No text is out if nothing is written.
+pub puts_none : (old : Option (List ℕ)) → Puts [] old old (Ok tt)
+puts_none old = record { ok = Appends-nil old; err = tt; fault = tt }
 
 -- A text that broke, and would have gone on.
 pub broke_before : (old new : Option (List ℕ)) (xs ys : List ℕ) → IsOutInPart old new xs → IsOutInPart old new (xs ++ ys)

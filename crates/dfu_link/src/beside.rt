@@ -87,20 +87,16 @@ fn board_of(alloc: Global, device: &Device<SimMedium>) -> Option<MemoryBoard> {
     MemoryBoard::power_on(device.config(), device.ids(), medium.unit(), sector, flash)
 }
 
-/// A board beside the device in a session, if one plays the script too, and the number of the line that is played.
+/// A board beside the device in a session, if one plays the script too, the number of the line that is played, and the place that keeps the
+/// first difference.
 #[derive(Drop)]
 pub(crate) struct Played<'f, 'd> {
     world: Option<BoardWorld<'f>>,
     pub number: u32,
-    seen: &'d Stopped,
+    pub seen: &'d Stopped,
 }
 
 impl<'f> Played<'f, '_> {
-    /// Whether the board differed from the device.
-    pub(crate) fn is_over(&self) -> bool {
-        self.seen.line().is_some()
-    }
-
     /// An event came to the device, which answered this: it comes to the board too. If the answer, the state, the status code, the image,
     /// what was uploaded or whether a session is live differs, that is noted with the number of the line, and the board plays no further.
     pub(crate) fn meet<M: Faulty>(

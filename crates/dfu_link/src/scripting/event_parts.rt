@@ -1,18 +1,17 @@
-//! What the events of a line are made of: the file that they offer, the tear of a write, the fate of an action, and whether the device's
-//! program accepts the image that the action closes.
+//! What the events of a line are made of: the file that they offer, the fate of an action in which a write is harmed, and how the image
+//! begins that an action closes.
 
 ghost use Rattle.std.specs.Prelude.{◌≡◌, IfOk, IfErr, ◌+◌, ◌≤◌, ◌<◌, ◌∷◌, [], length, get_or, drop, IfSome, IfNone};
-ghost use Rattle.dfu_link.specs.Said.{said_by, tear_bytes, harm_fate};
-ghost use Rattle.dfu_link.specs.inside.Moving.{held_bytes, file_bytes, FindsNoRoom, FindsNoTear};
-ghost use Rattle.dfu_device.specs.Candidate.{candidate_in};
-ghost use Rattle.dfu_sim.specs.Happening.{Goes, fate_of, harm_in, happening, Offers, harmed};
-ghost use Rattle.dfu_link.specs.ScriptRun.{begins_with, is_accepted, checked_fate};
+ghost use Rattle.dfu_link.specs.Said.{said_by, harm_fate};
+ghost use Rattle.dfu_link.specs.inside.Moving.{held_bytes, file_bytes, FindsNoRoom};
+ghost use Rattle.dfu_sim.specs.Happening.{fate_of, harm_in, happening, Offers, harmed};
+ghost use Rattle.dfu_link.specs.ScriptRun.{begins_with};
 ghost use Rattle.dfu_link.specs.inside.Taken.{taken_at};
 
 use crate::scripting::fault::ScriptFault;
 use crate::scripting::line::{EventLine, HarmKind, Offered};
 use crate::scripting::starting::bytes_of;
-use dfu_device::{Candidate, Device, Objection};
+use dfu_device::Candidate;
 use dfu_host::Limits;
 use dfu_sim::{Event, Fate, Purpose};
 use dfu_slots::{Medium, Slots};
@@ -51,17 +50,6 @@ pub(crate) fn file_of<'g>(
             Offered::Spelled(text) => Ok(OfferedFile::Decoded(bytes_of(alloc, text)?)),
         },
         _ => Ok(OfferedFile::Given(&[])),
-    }
-}
-
-/// The tear of a write that is harmed. Other events have none.
-pub(crate) fn tear_of(alloc: Global, events: EventLine<'_, '_>) -> Result<Vec<u8>, ScriptFault>
-    ensures ok { IfOk result (λ v. v.items ≡ tear_bytes events.entry) }
-    ensures fault { IfErr result (λ f. FindsNoTear (said_by events.entry) f) }
-{
-    match events {
-        EventLine::GoHarmed { tear, .. } => bytes_of(alloc, tear),
-        _ => Ok(Vec::new(alloc)),
     }
 }
 
@@ -129,7 +117,7 @@ fn has_byte<M: Medium>(slots: &Slots<M>, candidate: Candidate, i: usize, byte: u
 }
 
 /// Whether an image that was taken begins with these bytes.
-fn begins<M: Medium>(slots: &Slots<M>, candidate: Candidate, check: &[u8]) -> bool
+pub(crate) fn begins<M: Medium>(slots: &Slots<M>, candidate: Candidate, check: &[u8]) -> bool
     requires { candidate.at + candidate.stored ≤ length slots.now.medium.bytes }
     ensures { result ≡ begins_with check.now (taken_at slots.now candidate) }
 {
@@ -139,32 +127,4 @@ fn begins<M: Medium>(slots: &Slots<M>, candidate: Candidate, check: &[u8]) -> bo
         }
     }
     true
-}
-
-/// Whether a program that takes only images that begin with these bytes has nothing against the image that was taken, or none was.
-fn is_accepted<M: Medium>(device: &Device<M>, check: &[u8]) -> bool
-    ensures { result ≡ is_accepted check.now (candidate_in device.now.stage) }
-{
-    match device.candidate() {
-        None => true,
-        Some(candidate) => begins::<M>(device.slots(), candidate, check),
-    }
-}
-
-/// An action of this fate on a device whose program takes only images that begin with these bytes.
-pub(crate) fn checked<'f, 't, M: Medium>(
-    device: &Device<M>,
-    check: &[u8],
-    fate: Fate<'t>,
-) -> Event<'f, 't>
-    ensures { happening result ≡ Goes (checked_fate check.now device.now (fate_of fate.entry)) (harm_in fate.entry) }
-{
-    if is_accepted::<M>(device, check) {
-        Event::Go(fate)
-    } else {
-        Event::GoRefused {
-            fate,
-            objection: Objection::File,
-        }
-    }
 }

@@ -1,104 +1,77 @@
-//! Fields of a line: what a word means by itself, and each field as the first word that is left, word `n` of a line that has to have `of`,
-//! with what is left of the line after it.
+//! What a word of a line means by itself if it isn't just a number: hexadecimal text, a file, 16 bits, attributes, a unit, a sector, an
+//! objection.
 
-ghost use Rattle.std.specs.Prelude.{◌≡◌, ◌≤◌, IfSome};
-ghost use Rattle.dfu_link.specs.Words.{words_of, Reads};
-ghost use Rattle.dfu_link.specs.Said.{given_bytes, offered_bytes, said_of};
-ghost use Rattle.dfu_link.specs.Lines.{Tells, no_file, offered_file, is_comment, ends};
-ghost use Rattle.dfu_link.specs.Fields.{small_of, count_of, attributes_of_word, unit_named, unit_of_word, sector_of, objection_of};
+ghost use Rattle.std.specs.Prelude.{◌≡◌, ◌↔◌, IsTrue, is_some};
+ghost use Rattle.std.specs.List.{AllPass};
+ghost use Rattle.hex.specs.Hex.{is_hex_digit};
+ghost use Rattle.dfu_link.specs.Words.{Reads, hex_word_bytes, pair_of};
+ghost use Rattle.dfu_link.specs.Said.{given_bytes, hex_bytes, offered_bytes};
+ghost use Rattle.dfu_link.specs.Fields.{small_of, named_bytes, attributes_of_word, unit_named, unit_of_word, sector_of, objection_of};
 
-use crate::scripting::fault::{Field, LineFault};
-use crate::scripting::line::{Line, Offered, Sector};
-use crate::scripting::words::{number, offered, one_of, pair, word_at};
+use crate::scripting::line::{HexText, Offered, Sector};
+use crate::scripting::words::{number, one_of, small};
 use dfu_device::Objection;
 use dfu_slots::Unit;
 
-/// A field of a line, as this function reads its word, and what is left of the line after it.
-macro_rules! field {
-    ($line:ident, $n:expr, $of:expr, $field:ident, $read:path $(, $most:expr)?) => {{
-        let (word, rest) = word_at($line).ok_or(LineFault::Count($of))?;
-        let value = $read(word $(, $most)?).ok_or(LineFault::Word(Field::$field, $n))?;
-        (value, rest)
-    }};
+#[tactic(auto, using(std::proofs::lemmas::Bool::Decides::nat_tests))]
+fn is_digit(byte: u8) -> bool
+    ensures { result ≡ is_hex_digit byte }
+{
+    matches!(byte, b'A'..=b'F' | b'a'..=b'f' | b'0'..=b'9')
 }
 
-pub(crate) use field;
+fn are_digits(word: &[u8]) -> bool
+    ensures { IsTrue result ↔ AllPass is_hex_digit word.now }
+{
+    word.iter().all(|byte| is_digit(*byte))
+}
 
-/// What is wrong with a word that names no file.
-fn no_file(word: &[u8], n: usize) -> LineFault
-    ensures { result ≡ no_file word.now n }
+fn is_hex_text(word: &[u8]) -> bool
+    ensures { result ≡ is_some (hex_word_bytes word.now) }
+{
+    if word == b"-".as_slice() {
+        return true;
+    }
+    word.len() % 2 == 0 && are_digits(word)
+}
+
+/// An even number of hexadecimal digits of either case, or `-` for no bytes.
+pub(crate) fn hex_text(word: &[u8]) -> Option<HexText<'_>>
+    ensures { Reads hex_bytes result (hex_word_bytes word.now) }
+{
+    if is_hex_text(word) {
+        Some(HexText { text: word })
+    } else {
+        None
+    }
+}
+
+/// The file that a word of an offer means: FILE the bytes that are given, which are not
+/// copied, any other for those that it spells.
+#[tactic(auto, unfolding(crate::specs::Fields::named_bytes))]
+pub(crate) fn offered<'l, 'g>(given: Option<&'g [u8]>, word: &'l [u8]) -> Option<Offered<'l, 'g>>
+    ensures { Reads offered_bytes result (named_bytes (given_bytes given.entry) word.now) }
 {
     if word == b"FILE".as_slice() {
-        LineFault::NoFile
-    } else {
-        LineFault::Word(Field::Bytes, n)
-    }
-}
-
-/// A file that is offered, if these bytes are given.
-#[tactic(auto, unfolding(crate::specs::Lines::offered_file))]
-pub(crate) fn file_at<'l, 'g>(
-    given: Option<&'g [u8]>,
-    line: &'l [u8],
-    n: usize,
-    of: usize,
-) -> Result<(Offered<'l, 'g>, &'l [u8]), LineFault>
-    ensures { Tells (λ x. (offered_bytes x.0, words_of x.1.now)) result (offered_file (given_bytes given.entry) n of (words_of line.now)) }
-{
-    let (word, rest) = word_at(line).ok_or(LineFault::Count(of))?;
-    let file = offered(given, word).ok_or(no_file(word, n))?;
-    Ok((file, rest))
-}
-
-/// Whether a line with this first word is a comment.
-pub(crate) fn is_comment(word: &[u8]) -> bool
-    ensures { result ≡ is_comment word.now }
-{
-    match word {
-        [b'#', ..] => true,
-        _ => false,
-    }
-}
-
-/// What the line says, if it has no further word; it has to have `of`.
-pub(crate) fn ended<'l, 'g>(
-    said: Line<'l, 'g>,
-    of: usize,
-    rest: &[u8],
-) -> Result<Line<'l, 'g>, LineFault>
-    ensures { Tells said_of result (ends (said_of said.entry) of (words_of rest.now)) }
-{
-    match word_at(rest) {
-        None => Ok(said),
-        Some((word, _)) => {
-            if is_comment(word) {
-                Err(LineFault::Comment)
-            } else {
-                Err(LineFault::Count(of))
-            }
+        match given {
+            Some(bytes) => Some(Offered::Given(bytes)),
+            None => None,
         }
+    } else {
+        let text = hex_text(word)?;
+        Some(Offered::Spelled(text))
     }
 }
 
-/// A number of at most `most`.
-#[tactic(auto, unfolding(crate::specs::Fields::small_of), using(std::proofs::lemmas::Bool::Decides::nat_tests))]
-pub(crate) fn small(word: &[u8], most: u32) -> Option<u32>
-    ensures read { Reads (λ n. n) result (small_of most word.now) }
-    ensures most { IfSome result (λ n. n ≤ most) }
+/// Two hexadecimal digits.
+pub(crate) fn pair(word: &[u8]) -> Option<u8>
+    ensures { Reads (λ n. n) result (pair_of word.now) }
 {
-    let n = number(word)?;
-    if n <= most { Some(n) } else { None }
-}
-
-/// A number from 1 to `most`.
-#[tactic(auto, unfolding(crate::specs::Fields::count_of), using(std::proofs::lemmas::Bool::Decides::nat_tests))]
-pub(crate) fn count(word: &[u8], most: u32) -> Option<u32>
-    ensures read { Reads (λ n. n) result (count_of most word.now) }
-    ensures some { IfSome result (λ n. 1 ≤ n) }
-    ensures most { IfSome result (λ n. n ≤ most) }
-{
-    let n = small(word, most)?;
-    if n > 0 { Some(n) } else { None }
+    let mut bytes = [0; 1];
+    match hex::decode_to_slice(word, &mut bytes) {
+        Ok(()) => Some(bytes[0]),
+        Err(_) => None,
+    }
 }
 
 /// A number of at most 65,535.

@@ -1,16 +1,16 @@
-//! What follows the first word of a line.
+//! What follows the first word of a line, unless that is `go`.
 
+ghost use Rattle.std.specs.Prelude.{◌≡◌};
 ghost use Rattle.dfu_link.specs.Words.{words_of};
-ghost use Rattle.dfu_sim.specs.Happening.{fate_of, harm_in};
-ghost use Rattle.dfu_link.specs.Said.{given_bytes, said_of, Go, Does, harm_fate};
-ghost use Rattle.dfu_link.specs.Lines.{Tells, ends, said_ids, said_device, unit_line, erase_of, said_capacity, said_image, check_of, said_limits, offer_of, time_of, refuse_of, pass_of, slip_of, harmed_of, until_of, by_fate, go_of, expect_of};
+ghost use Rattle.dfu_link.specs.Said.{given_bytes, offered_bytes, said_of};
+ghost use Rattle.dfu_link.specs.Lines.{Tells, said_ids, said_device, unit_line, erase_of, said_capacity, said_image, check_of, said_limits, no_file, offered_file, offer_of, time_of, refuse_of, expect_of};
 
 use crate::scripting::fault::{Field, LineFault};
-use crate::scripting::fields;
-use crate::scripting::fields::{ended, field, file_at};
-use crate::scripting::line::{ConfigLine, EventLine, HarmKind, Line, Room};
-use crate::scripting::words::{FateKeyword, hex_text, number, read_fate, text_behind, word_at};
-use dfu_sim::{Fate, Purpose};
+use crate::scripting::fields::{hex_text, offered};
+use crate::scripting::line::{ConfigLine, EventLine, Line, Offered, Room};
+use crate::scripting::words::{ended, field, number, text_behind, word_at};
+use crate::scripting::{fields, words};
+use dfu_sim::Purpose;
 use dfu_wire::{Functional, Ids, identifier};
 
 /// `ids VVVV PPPP DDDD`.
@@ -73,7 +73,7 @@ pub(crate) fn erase(line: &[u8]) -> Result<Line<'_, 'static>, LineFault>
 pub(crate) fn capacity(line: &[u8]) -> Result<Line<'_, 'static>, LineFault>
     ensures { Tells said_of result (said_capacity (words_of line.now)) }
 {
-    let (bytes, rest) = field!(line, 2, 2, Capacity, fields::count, 1_048_576);
+    let (bytes, rest) = field!(line, 2, 2, Capacity, words::count, 1_048_576);
     ended(Line::Set(ConfigLine::Capacity(Room { bytes })), 2, rest)
 }
 
@@ -105,6 +105,32 @@ pub(crate) fn limits(line: &[u8]) -> Result<Line<'_, 'static>, LineFault>
     ended(Line::Limits { actions, restarts }, 3, rest)
 }
 
+/// What is wrong with a word that names no file.
+fn no_file(word: &[u8], n: usize) -> LineFault
+    ensures { result ≡ no_file word.now n }
+{
+    if word == b"FILE".as_slice() {
+        LineFault::NoFile
+    } else {
+        LineFault::Word(Field::Bytes, n)
+    }
+}
+
+/// A file that is offered, if these bytes are given.
+#[tactic(auto, unfolding(crate::specs::Lines::offered_file))]
+fn file_at<'l, 'g>(
+    given: Option<&'g [u8]>,
+    line: &'l [u8],
+    n: usize,
+    of: usize,
+) -> Result<(Offered<'l, 'g>, &'l [u8]), LineFault>
+    ensures { Tells (λ x. (offered_bytes x.0, words_of x.1.now)) result (offered_file (given_bytes given.entry) n of (words_of line.now)) }
+{
+    let (word, rest) = word_at(line).ok_or(LineFault::Count(of))?;
+    let file = offered(given, word).ok_or(no_file(word, n))?;
+    Ok((file, rest))
+}
+
 /// `offer HEX`, `offer FILE`, `verify HEX` and `verify FILE`, if these bytes are given.
 #[tactic(auto, unfolding(crate::specs::Lines::offer_of))]
 pub(crate) fn offer<'l, 'g>(
@@ -134,83 +160,6 @@ pub(crate) fn refuse(line: &[u8]) -> Result<Line<'_, 'static>, LineFault>
 {
     let (objection, rest) = field!(line, 2, 2, Objection, fields::objection);
     ended(Line::Do(EventLine::Refuse(objection)), 2, rest)
-}
-
-/// `go pass N`.
-#[tactic(auto, unfolding(crate::specs::Lines::pass_of))]
-fn pass(line: &[u8]) -> Result<Line<'_, 'static>, LineFault>
-    ensures { Tells said_of result (pass_of (words_of line.now)) }
-{
-    let (times, rest) = field!(line, 3, 3, Times, fields::count, 1_000_000);
-    let fate = Fate::Pass;
-    ended(Line::Do(EventLine::Go { fate, times }), 3, rest)
-}
-
-/// One action.
-fn once<'l>(fate: Fate<'l>, of: usize, rest: &[u8]) -> Result<Line<'l, 'static>, LineFault>
-    ensures { Tells said_of result (ends (Does (Go (fate_of fate.entry) (harm_in fate.entry) 1)) of (words_of rest.now)) }
-{
-    ended(Line::Do(EventLine::Go { fate, times: 1 }), of, rest)
-}
-
-/// `go slip MS`.
-#[tactic(auto, unfolding(crate::specs::Lines::slip_of, crate::specs::Lines::number_field))]
-fn slip(line: &[u8]) -> Result<Line<'_, 'static>, LineFault>
-    ensures { Tells said_of result (slip_of (words_of line.now)) }
-{
-    let (ms, rest) = field!(line, 3, 3, Number, number);
-    once(Fate::Slip(ms), 3, rest)
-}
-
-/// `go cut W HEX` and `go fail W HEX`.
-#[tactic(auto, unfolding(crate::specs::Lines::harmed_of, crate::specs::Lines::number_field, crate::specs::Lines::hex_at))]
-fn harmed(harm: HarmKind, line: &[u8]) -> Result<Line<'_, 'static>, LineFault>
-    ensures { Tells said_of result (harmed_of (harm_fate harm) (words_of line.now)) }
-{
-    let (writes, rest) = field!(line, 3, 4, Number, number);
-    let (tear, rest) = field!(rest, 4, 4, Bytes, hex_text);
-    let events = EventLine::GoHarmed { harm, writes, tear };
-    ended(Line::Do(events), 4, rest)
-}
-
-/// `go until report`.
-#[tactic(auto, unfolding(crate::specs::Lines::until_of))]
-fn until(line: &[u8]) -> Result<Line<'_, 'static>, LineFault>
-    ensures { Tells said_of result (until_of (words_of line.now)) }
-{
-    let (word, rest) = word_at(line).ok_or(LineFault::Count(3))?;
-    if word != b"report".as_slice() {
-        return Err(LineFault::Word(Field::Report, 3));
-    }
-    ended(Line::Do(EventLine::GoOn), 3, rest)
-}
-
-/// What follows `go`, by its first word.
-fn by_fate(keyword: FateKeyword, rest: &[u8]) -> Result<Line<'_, 'static>, LineFault>
-    ensures { Tells said_of result (by_fate keyword (words_of rest.now)) }
-{
-    match keyword {
-        FateKeyword::Pass => pass(rest),
-        FateKeyword::LostOut => once(Fate::LostOut, 2, rest),
-        FateKeyword::LostBack => once(Fate::LostBack, 2, rest),
-        FateKeyword::Twice => once(Fate::Twice, 2, rest),
-        FateKeyword::TwiceLostBack => once(Fate::TwiceLostBack, 2, rest),
-        FateKeyword::Slip => slip(rest),
-        FateKeyword::Cut => harmed(HarmKind::Cut, rest),
-        FateKeyword::Fail => harmed(HarmKind::Fail, rest),
-        FateKeyword::Lie => harmed(HarmKind::Lie, rest),
-        FateKeyword::Until => until(rest),
-    }
-}
-
-/// `go` with a fate, or `until`.
-#[tactic(auto, unfolding(crate::specs::Lines::go_of))]
-pub(crate) fn go(line: &[u8]) -> Result<Line<'_, 'static>, LineFault>
-    ensures { Tells said_of result (go_of (words_of line.now)) }
-{
-    let (word, rest) = word_at(line).ok_or(LineFault::NoFate)?;
-    let keyword = read_fate(word).ok_or(LineFault::Fate)?;
-    by_fate(keyword, rest)
 }
 
 /// `expect TEXT`: the text is all that follows one space.

@@ -1,25 +1,29 @@
 //! The events of an event line, played.
 
-ghost use Rattle.std.specs.Prelude.{◌≡◌, ℕ, List, Option, [], ◌∷◌, replicate};
+ghost use Rattle.std.specs.Prelude.{◌≡◌, ℕ, List, Option, [], ◌∷◌, replicate, IfOk, IfErr};
+ghost use Rattle.dfu_device.specs.Candidate.{candidate_in};
 ghost use Rattle.dfu_sim.specs.LinkView.{ShowsActive};
 ghost use Rattle.dfu_sim.specs.Comes.{HasCome};
 ghost use Rattle.dfu_sim.specs.Happening.{Goes, fate_of, harm_in, happening};
-ghost use Rattle.dfu_link.specs.ScriptRun.{checked};
+ghost use Rattle.dfu_link.specs.ScriptRun.{is_accepted, checked, checked_fate};
 ghost use Rattle.dfu_sim.specs.LinkView.{IsLive};
 ghost use Rattle.dfu_link.specs.Said.{GoesOn, said_by, tear_bytes};
 ghost use Rattle.dfu_link.specs.inside.Expected.{expectation_of, point_at, at_point};
-ghost use Rattle.dfu_link.specs.inside.Moving.{PlaysEvents, DoesLine, file_bytes};
+ghost use Rattle.dfu_link.specs.inside.Moving.{PlaysEvents, DoesLine, file_bytes, FindsNoTear};
 
 use crate::beside::Played;
 use crate::notes::Tracer;
-use crate::scripting::event_parts::{checked, harmed, offered};
+use crate::scripting::event_parts::{begins, harmed, offered};
 use crate::scripting::expectation::{Expectation, ScriptContext};
 use crate::scripting::fault::ScriptFault;
 use crate::scripting::line::EventLine;
 use crate::scripting::saying::{is_silent, say_next};
+use crate::scripting::starting::bytes_of;
+use dfu_device::{Device, Objection};
 use dfu_host::{Limits, Report};
 use dfu_sim::{Event, Fate, LinkFault, World};
-use dfu_slots::Faulty;
+use dfu_slots::{Faulty, Medium};
+use std::alloc::Global;
 use std::io::Write;
 
 /// Lets an event come that is no action of the host, to the board beside the device too, and writes what is printed of it.
@@ -39,6 +43,30 @@ fn play<'f, M: Faulty, W: Write>(
     say_next(writer, next, answer, world.uploaded())
 }
 
+/// Whether a program that takes only images that begin with these bytes has nothing against the image that was taken, or none was.
+fn is_accepted<M: Medium>(device: &Device<M>, check: &[u8]) -> bool
+    ensures { result ≡ is_accepted check.now (candidate_in device.now.stage) }
+{
+    match device.candidate() {
+        None => true,
+        Some(candidate) => begins::<M>(device.slots(), candidate, check),
+    }
+}
+
+/// An action of this fate on a device whose program takes only images that begin with these bytes.
+fn checked<'f, 't, M: Medium>(device: &Device<M>, check: &[u8], fate: Fate<'t>) -> Event<'f, 't>
+    ensures { happening result ≡ Goes (checked_fate check.now device.now (fate_of fate.entry)) (harm_in fate.entry) }
+{
+    if is_accepted::<M>(device, check) {
+        Event::Go(fate)
+    } else {
+        Event::GoRefused {
+            fate,
+            objection: Objection::File,
+        }
+    }
+}
+
 /// Lets the host take an action, on the board beside the device too, and shows the link to who watches before and after it. The device's
 /// program refuses an image that does not begin with these bytes, if the action closes it. What is printed of it is still to be written.
 fn take<'f, T: Tracer<M>, M: Faulty>(
@@ -52,7 +80,7 @@ fn take<'f, T: Tracer<M>, M: Faulty>(
     ensures active { ShowsActive world.new.bench }
 {
     // Once the board differs the run is over, and what it still does isn't traced.
-    let before = if beside.is_over() {
+    let before = if beside.seen.line().is_some() {
         None
     } else {
         tracer.snapshot(world)
@@ -108,6 +136,17 @@ fn pass_on<'f, T: Tracer<M>, M: Faulty, W: Write>(
         if !is_silent(answer) {
             return Ok(());
         }
+    }
+}
+
+/// The tear of a write that is harmed. Other events have none.
+pub(crate) fn tear_of(alloc: Global, events: EventLine<'_, '_>) -> Result<Vec<u8>, ScriptFault>
+    ensures ok { IfOk result (λ v. v.items ≡ tear_bytes events.entry) }
+    ensures fault { IfErr result (λ f. FindsNoTear (said_by events.entry) f) }
+{
+    match events {
+        EventLine::GoHarmed { tear, .. } => bytes_of(alloc, tear),
+        _ => Ok(Vec::new(alloc)),
     }
 }
 

@@ -1,22 +1,104 @@
-//! What a line says, read.
+//! What a line says, read: by its first word, and after `go` by the fate.
 
 ghost use Rattle.dfu_link.specs.Words.{Reads, words_of};
-ghost use Rattle.dfu_link.specs.Said.{given_bytes, said_of};
-ghost use Rattle.dfu_link.specs.Lines.{Tells, says, by_keyword, read_line, line_of};
+ghost use Rattle.dfu_sim.specs.Happening.{fate_of, harm_in};
+ghost use Rattle.dfu_link.specs.Said.{given_bytes, said_of, Go, Does, harm_fate};
+ghost use Rattle.dfu_link.specs.Lines.{Tells, ends, pass_of, slip_of, harmed_of, until_of, by_fate, go_of, by_keyword, read_line, line_of};
 
 use crate::notes::{Reason, Stopped};
-use crate::scripting::fault::LineFault;
-use crate::scripting::fields::{ended, is_comment};
-use crate::scripting::line::{EventLine, Line};
+use crate::scripting::fault::{Field, LineFault};
+use crate::scripting::fields::hex_text;
+use crate::scripting::line::{EventLine, HarmKind, Line};
 use crate::scripting::line_forms::{
-    capacity, check, device, erase, expect, go, ids, image, limits, offer, refuse, time, unit,
+    capacity, check, device, erase, expect, ids, image, limits, offer, refuse, time, unit,
 };
-use crate::scripting::words::{Keyword, read_keyword, word_at};
-use dfu_sim::Purpose;
+use crate::scripting::words;
+use crate::scripting::words::{
+    FateKeyword, Keyword, ended, field, is_comment, number, read_fate, read_keyword, word_at,
+};
+use dfu_sim::{Fate, Purpose};
 
 /// The most bytes of a line, without its 0Ah.
 pub(crate) const MAX_LINE: usize = 65_536;
 
+/// `go pass N`.
+#[tactic(auto, unfolding(crate::specs::Lines::pass_of))]
+fn pass(line: &[u8]) -> Result<Line<'_, 'static>, LineFault>
+    ensures { Tells said_of result (pass_of (words_of line.now)) }
+{
+    let (times, rest) = field!(line, 3, 3, Times, words::count, 1_000_000);
+    let fate = Fate::Pass;
+    ended(Line::Do(EventLine::Go { fate, times }), 3, rest)
+}
+
+/// One action.
+fn once<'l>(fate: Fate<'l>, of: usize, rest: &[u8]) -> Result<Line<'l, 'static>, LineFault>
+    ensures { Tells said_of result (ends (Does (Go (fate_of fate.entry) (harm_in fate.entry) 1)) of (words_of rest.now)) }
+{
+    ended(Line::Do(EventLine::Go { fate, times: 1 }), of, rest)
+}
+
+/// `go slip MS`.
+#[tactic(auto, unfolding(crate::specs::Lines::slip_of, crate::specs::Lines::number_field))]
+fn slip(line: &[u8]) -> Result<Line<'_, 'static>, LineFault>
+    ensures { Tells said_of result (slip_of (words_of line.now)) }
+{
+    let (ms, rest) = field!(line, 3, 3, Number, number);
+    once(Fate::Slip(ms), 3, rest)
+}
+
+/// `go cut W HEX` and `go fail W HEX`.
+#[tactic(auto, unfolding(crate::specs::Lines::harmed_of, crate::specs::Lines::number_field, crate::specs::Lines::hex_at))]
+fn harmed(harm: HarmKind, line: &[u8]) -> Result<Line<'_, 'static>, LineFault>
+    ensures { Tells said_of result (harmed_of (harm_fate harm) (words_of line.now)) }
+{
+    let (writes, rest) = field!(line, 3, 4, Number, number);
+    let (tear, rest) = field!(rest, 4, 4, Bytes, hex_text);
+    let events = EventLine::GoHarmed { harm, writes, tear };
+    ended(Line::Do(events), 4, rest)
+}
+
+/// `go until report`.
+#[tactic(auto, unfolding(crate::specs::Lines::until_of))]
+fn until(line: &[u8]) -> Result<Line<'_, 'static>, LineFault>
+    ensures { Tells said_of result (until_of (words_of line.now)) }
+{
+    let (word, rest) = word_at(line).ok_or(LineFault::Count(3))?;
+    if word != b"report".as_slice() {
+        return Err(LineFault::Word(Field::Report, 3));
+    }
+    ended(Line::Do(EventLine::GoOn), 3, rest)
+}
+
+/// What follows `go`, by its first word.
+fn by_fate(keyword: FateKeyword, rest: &[u8]) -> Result<Line<'_, 'static>, LineFault>
+    ensures { Tells said_of result (by_fate keyword (words_of rest.now)) }
+{
+    match keyword {
+        FateKeyword::Pass => pass(rest),
+        FateKeyword::LostOut => once(Fate::LostOut, 2, rest),
+        FateKeyword::LostBack => once(Fate::LostBack, 2, rest),
+        FateKeyword::Twice => once(Fate::Twice, 2, rest),
+        FateKeyword::TwiceLostBack => once(Fate::TwiceLostBack, 2, rest),
+        FateKeyword::Slip => slip(rest),
+        FateKeyword::Cut => harmed(HarmKind::Cut, rest),
+        FateKeyword::Fail => harmed(HarmKind::Fail, rest),
+        FateKeyword::Lie => harmed(HarmKind::Lie, rest),
+        FateKeyword::Until => until(rest),
+    }
+}
+
+/// `go` with a fate, or `until`.
+#[tactic(auto, unfolding(crate::specs::Lines::go_of))]
+fn go(line: &[u8]) -> Result<Line<'_, 'static>, LineFault>
+    ensures { Tells said_of result (go_of (words_of line.now)) }
+{
+    let (word, rest) = word_at(line).ok_or(LineFault::NoFate)?;
+    let keyword = read_fate(word).ok_or(LineFault::Fate)?;
+    by_fate(keyword, rest)
+}
+
+/// What a line says, by its first word.
 fn by_keyword<'l, 'g>(
     given: Option<&'g [u8]>,
     keyword: Keyword,
@@ -48,9 +130,14 @@ fn by_keyword<'l, 'g>(
     }
 }
 
-fn words_say<'l, 'g>(given: Option<&'g [u8]>, line: &'l [u8]) -> Result<Line<'l, 'g>, LineFault>
-    ensures { Tells said_of result (says (given_bytes given.entry) line.now (words_of line.now)) }
+/// What a line says if these bytes are given, or what is wrong with it. A line over 65,536 bytes is not one of the language.
+#[tactic(auto, unfolding(crate::specs::Lines::read_line))]
+fn read_line<'l, 'g>(given: Option<&'g [u8]>, line: &'l [u8]) -> Result<Line<'l, 'g>, LineFault>
+    ensures { Tells said_of result (read_line (given_bytes given.entry) line.now) }
 {
+    if line.len() > MAX_LINE {
+        return Err(LineFault::Long);
+    }
     match word_at(line) {
         None => Ok(Line::Blank),
         Some((word, rest)) => {
@@ -61,17 +148,6 @@ fn words_say<'l, 'g>(given: Option<&'g [u8]>, line: &'l [u8]) -> Result<Line<'l,
             by_keyword(given, keyword, line, rest)
         }
     }
-}
-
-/// What a line says if these bytes are given, or what is wrong with it. A line over 65,536 bytes is not one of the language.
-#[tactic(auto, unfolding(crate::specs::Lines::read_line))]
-fn read_line<'l, 'g>(given: Option<&'g [u8]>, line: &'l [u8]) -> Result<Line<'l, 'g>, LineFault>
-    ensures { Tells said_of result (read_line (given_bytes given.entry) line.now) }
-{
-    if line.len() > MAX_LINE {
-        return Err(LineFault::Long);
-    }
-    words_say(given, line)
 }
 
 /// What a line says if these bytes are given, or nothing if it is not one of the language.

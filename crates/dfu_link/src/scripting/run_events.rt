@@ -12,11 +12,11 @@ ghost use Rattle.dfu_link.specs.inside.Moving.{LineEnds, Ends, LinesDone, IsUnar
 
 use crate::beside::{Beside, Played};
 use crate::notes::Tracer;
-use crate::scripting::event_parts::{file_of, tear_of};
+use crate::scripting::event_parts::file_of;
 use crate::scripting::expectation::{ScriptContext, expect};
 use crate::scripting::fault::ScriptFault;
 use crate::scripting::line::{EventLine, Line};
-use crate::scripting::playing::{play_events, play_live};
+use crate::scripting::playing::{play_events, play_live, tear_of};
 use crate::scripting::reading::{note_line, parse};
 use crate::scripting::showing::{image_next, show_next};
 use crate::scripting::source::Source;

@@ -60,6 +60,7 @@ fn say_refusal<W: Write>(writer: &mut W, fault: LinkFault) -> Result<(), ScriptF
 }
 
 /// Writes what is printed of an event, if this was uploaded last.
+#[tactic(auto, using(crate::proofs::WriteLaws::puts_none))]
 pub(crate) fn say<W: Write>(
     writer: &mut W,
     answer: Result<Option<Report>, LinkFault>,
@@ -68,7 +69,7 @@ pub(crate) fn say<W: Write>(
     ensures { Puts (told_line answer uploaded.now) (W.contents writer.old) (W.contents writer.new) result }
 {
     match answer {
-        Ok(None) => write_out(writer, &[]),
+        Ok(None) => Ok(()),
         Ok(Some(report)) => say_report(writer, report, uploaded),
         Err(fault) => say_refusal(writer, fault),
     }

@@ -1,14 +1,15 @@
-//! Words of a line: keywords, numbers and hexadecimal text.
+//! Words of a line: where they are and where they end, numbers, and keywords.
 
-ghost use Rattle.std.specs.Prelude.{◌≡◌, ◌↔◌, ◌+◌, ◌*◌, Some, None, IsTrue, is_some};
-ghost use Rattle.std.specs.List.{position, AllPass};
-ghost use Rattle.hex.specs.Hex.{is_hex_digit};
-ghost use Rattle.dfu_link.specs.Words.{Reads, is_space, is_no_space, words_of, first_word, text_behind, number_of, hex_word_bytes, pair_of};
-ghost use Rattle.dfu_link.specs.Said.{given_bytes, hex_bytes, offered_bytes};
-ghost use Rattle.dfu_link.specs.Fields.{named_bytes};
+ghost use Rattle.std.specs.Prelude.{◌≡◌, ◌≤◌, ◌+◌, ◌*◌, Some, None, IfSome};
+ghost use Rattle.std.specs.List.{position};
+ghost use Rattle.dfu_link.specs.Words.{Reads, is_space, is_no_space, words_of, first_word, text_behind, number_of};
+ghost use Rattle.dfu_link.specs.Said.{said_of};
+ghost use Rattle.dfu_link.specs.Lines.{Tells, is_comment, ends};
+ghost use Rattle.dfu_link.specs.Fields.{small_of, count_of};
 ghost use Rattle.dfu_link.specs.Keywords.{keyword_of, later_keyword_of, fate_keyword_of};
 
-use crate::scripting::line::{HexText, Offered};
+use crate::scripting::fault::LineFault;
+use crate::scripting::line::Line;
 
 /// Where the first space is.
 fn space_at(line: &[u8]) -> Option<usize>
@@ -48,6 +49,47 @@ pub(crate) fn text_behind(line: &[u8]) -> Option<&[u8]>
     Some(text)
 }
 
+/// Whether a line with this first word is a comment.
+pub(crate) fn is_comment(word: &[u8]) -> bool
+    ensures { result ≡ is_comment word.now }
+{
+    match word {
+        [b'#', ..] => true,
+        _ => false,
+    }
+}
+
+/// What the line says, if it has no further word; it has to have `of`.
+pub(crate) fn ended<'l, 'g>(
+    said: Line<'l, 'g>,
+    of: usize,
+    rest: &[u8],
+) -> Result<Line<'l, 'g>, LineFault>
+    ensures { Tells said_of result (ends (said_of said.entry) of (words_of rest.now)) }
+{
+    match word_at(rest) {
+        None => Ok(said),
+        Some((word, _)) => {
+            if is_comment(word) {
+                Err(LineFault::Comment)
+            } else {
+                Err(LineFault::Count(of))
+            }
+        }
+    }
+}
+
+/// A field of a line, as this function reads its word, and what is left of the line after it.
+macro_rules! field {
+    ($line:ident, $n:expr, $of:expr, $field:ident, $read:path $(, $most:expr)?) => {{
+        let (word, rest) = word_at($line).ok_or(LineFault::Count($of))?;
+        let value = $read(word $(, $most)?).ok_or(LineFault::Word(Field::$field, $n))?;
+        (value, rest)
+    }};
+}
+
+pub(crate) use field;
+
 /// A number of 1 to 10 decimal digits, at most 4,294,967,295.
 pub(crate) fn number(word: &[u8]) -> Option<u32>
     ensures { Reads (λ n. n) result (number_of word.now) }
@@ -68,65 +110,25 @@ pub(crate) fn number(word: &[u8]) -> Option<u32>
     }
 }
 
-#[tactic(auto, using(std::proofs::lemmas::Bool::Decides::nat_tests))]
-fn is_digit(byte: u8) -> bool
-    ensures { result ≡ is_hex_digit byte }
+/// A number of at most `most`.
+#[tactic(auto, unfolding(crate::specs::Fields::small_of), using(std::proofs::lemmas::Bool::Decides::nat_tests))]
+pub(crate) fn small(word: &[u8], most: u32) -> Option<u32>
+    ensures read { Reads (λ n. n) result (small_of most word.now) }
+    ensures most { IfSome result (λ n. n ≤ most) }
 {
-    matches!(byte, b'A'..=b'F' | b'a'..=b'f' | b'0'..=b'9')
+    let n = number(word)?;
+    if n <= most { Some(n) } else { None }
 }
 
-fn are_digits(word: &[u8]) -> bool
-    ensures { IsTrue result ↔ AllPass is_hex_digit word.now }
+/// A number from 1 to `most`.
+#[tactic(auto, unfolding(crate::specs::Fields::count_of), using(std::proofs::lemmas::Bool::Decides::nat_tests))]
+pub(crate) fn count(word: &[u8], most: u32) -> Option<u32>
+    ensures read { Reads (λ n. n) result (count_of most word.now) }
+    ensures some { IfSome result (λ n. 1 ≤ n) }
+    ensures most { IfSome result (λ n. n ≤ most) }
 {
-    word.iter().all(|byte| is_digit(*byte))
-}
-
-fn is_hex_text(word: &[u8]) -> bool
-    ensures { result ≡ is_some (hex_word_bytes word.now) }
-{
-    if word == b"-".as_slice() {
-        return true;
-    }
-    word.len() % 2 == 0 && are_digits(word)
-}
-
-/// An even number of hexadecimal digits of either case, or `-` for no bytes.
-pub(crate) fn hex_text(word: &[u8]) -> Option<HexText<'_>>
-    ensures { Reads hex_bytes result (hex_word_bytes word.now) }
-{
-    if is_hex_text(word) {
-        Some(HexText { text: word })
-    } else {
-        None
-    }
-}
-
-/// The file that a word of an offer means: FILE the bytes that are given, which are not
-/// copied, any other for those that it spells.
-#[tactic(auto, unfolding(crate::specs::Fields::named_bytes))]
-pub(crate) fn offered<'l, 'g>(given: Option<&'g [u8]>, word: &'l [u8]) -> Option<Offered<'l, 'g>>
-    ensures { Reads offered_bytes result (named_bytes (given_bytes given.entry) word.now) }
-{
-    if word == b"FILE".as_slice() {
-        match given {
-            Some(bytes) => Some(Offered::Given(bytes)),
-            None => None,
-        }
-    } else {
-        let text = hex_text(word)?;
-        Some(Offered::Spelled(text))
-    }
-}
-
-/// Two hexadecimal digits.
-pub(crate) fn pair(word: &[u8]) -> Option<u8>
-    ensures { Reads (λ n. n) result (pair_of word.now) }
-{
-    let mut bytes = [0; 1];
-    match hex::decode_to_slice(word, &mut bytes) {
-        Ok(()) => Some(bytes[0]),
-        Err(_) => None,
-    }
+    let n = small(word, most)?;
+    if n > 0 { Some(n) } else { None }
 }
 
 /// The variant whose word this is, in the order of the table, or else the last value.

@@ -2,7 +2,7 @@ use Rattle.std.proofs.Common.{sym, ◌∙◌, ◌≡◌, false, List, ℕ, ap}
 use Rattle.std.specs.Prelude.{codes}
 use Rattle.std.specs.Str.{bytes_eq}
 use Rattle.dfu_link.proofs.WordLaws.{hex_same}
-use Rattle.dfu_link.proofs.scripting.words.is_hex_text.Goals as goal
+use Rattle.dfu_link.proofs.scripting.fields.is_hex_text.Goals as goal
 
 pub returns-then-word-eq0 : goal.returns-then-word-eq0
 returns-then-word-eq0 c =

@@ -1,6 +1,6 @@
 use Rattle.std.proofs.Common.{◌∙◌, ap, refl, List, ℕ}
 use Rattle.dfu_link.specs.ScriptRun.{begins_with}
-use Rattle.dfu_link.proofs.scripting.event_parts.is_accepted.Goals as goal
+use Rattle.dfu_link.proofs.scripting.playing.is_accepted.Goals as goal
 
 pub returns-in-None : goal.returns-in-None
 returns-in-None g c = rw c.in-None.ensures.none refl
