@@ -1,9 +1,19 @@
-//! How a device answers a setup.
+//! How a device answers a setup: what is answered, and its bytes in the buffer of the caller.
 
-ghost use Rattle.std.specs.Prelude.{◌≡◌};
-ghost use Rattle.dfu_device.specs.inside.PendingAnswer.{pending_answer_of};
+ghost use Rattle.std.specs.Prelude.{◌≡◌, ◌≤◌, ◌<◌, ◌+◌, ◌++◌, ◌∷◌, ◌^◌, max, ℕ, List, [], length, take, drop, slice_range, IfSome, IfNone};
+ghost use Rattle.dfu_wire.specs.State.{state_byte};
+ghost use Rattle.dfu_slots.specs.Seen.{image_of};
+ghost use Rattle.dfu_device.specs.Stage.{state_of};
+ghost use Rattle.dfu_device.specs.Rows.{Handles};
+ghost use Rattle.dfu_device.specs.Borrowed.{answer_room, HandlesInto};
+ghost use Rattle.dfu_device.specs.inside.PendingAnswer.{pending_answer_of, AnswersPending, GavePending};
+ghost use Rattle.dfu_device.specs.inside.View.{shown};
 
+use crate::block::Block;
 use crate::decision::Reply;
+use crate::device_core::DeviceCore;
+use arrayvec::ArrayVec;
+use dfu_slots::{Medium, Slots};
 
 /// How a device answers a setup. The bytes of an answer are in the buffer that the caller gave.
 #[derive(Clone, Copy, Debug, PartialEq, Eq)]
@@ -44,4 +54,146 @@ pub(crate) fn pending_answer_of(reply: Reply, asked: u16) -> PendingAnswer
         Reply::State => PendingAnswer::State { asked },
         Reply::Stall => PendingAnswer::Stall,
     }
+}
+
+impl<M: Medium, B: Block> DeviceCore<M, B> {
+    /// Answers a setup with its body.
+    pub(crate) fn handle(
+        &mut self,
+        setup: &[u8; 8],
+        body: &[u8],
+        out: &mut ArrayVec<u8, 4096>,
+    ) -> Answer
+        ensures row { Handles setup.now body.now (shown self.old) result out.new.items (shown self.new) }
+    {
+        // Called for its clause `fits`, which `give` needs; its result isn't used.
+        let _ = self.config.transfer();
+        let pending_answer = self.pending_answer(setup, body);
+        out.clear();
+        self.give(pending_answer, out)
+    }
+
+    /// Answers a setup with its body into a buffer, if that has room for any answer.
+    pub(crate) fn handle_into(
+        &mut self,
+        setup: &[u8; 8],
+        body: &[u8],
+        out: &mut [u8],
+    ) -> Option<(Answer, usize)>
+        ensures row { IfSome result (λ r. HandlesInto setup.now body.now (shown self.old) r.0 r.1 out.old out.new (shown self.new)) }
+        ensures short { IfNone result (length out.old < answer_room self.old.config) }
+        ensures room { IfSome result (λ r. answer_room self.old.config ≤ length out.old) }
+        ensures unchanged { IfNone result ((shown self.new ≡ shown self.old) × (out.new ≡ out.old)) }
+        ensures memory { B.memory self.new.block ≡ B.memory self.old.block }
+    {
+        if out.len() < usize::from(self.config.transfer()).max(6) {
+            return None;
+        }
+        let pending_answer = self.pending_answer(setup, body);
+        Some(self.give_into(pending_answer, out))
+    }
+
+    /// Puts the bytes of an answer into an empty buffer.
+    fn give(&self, pending_answer: PendingAnswer, out: &mut ArrayVec<u8, 4096>) -> Answer
+        requires out { out.old.items ≡ [] }
+        requires fits { (a : Answer) (sent : List ℕ) → AnswersPending pending_answer (shown self.now) a sent → length sent ≤ 4096 }
+        ensures { AnswersPending pending_answer (shown self.now) result out.new.items }
+    {
+        match pending_answer {
+            PendingAnswer::Ack => Answer::Ack,
+            PendingAnswer::Status { asked } => {
+                let bytes = self.status();
+                let _ = out.try_extend_from_slice(&bytes[..usize::from(asked).min(6)]);
+                Answer::Bytes
+            }
+            PendingAnswer::State { asked } => {
+                if asked > 0 {
+                    out.push(self.state().byte());
+                }
+                Answer::Bytes
+            }
+            PendingAnswer::Piece { place, asked } => {
+                let count = self.piece_len(place, asked);
+                if count > 0 {
+                    copy_image(&self.slots, place, count, out);
+                }
+                Answer::Bytes
+            }
+            PendingAnswer::Stall => Answer::Stall,
+        }
+    }
+
+    /// Puts the bytes of an answer at the front of a buffer, and returns their number.
+    fn give_into(&self, pending_answer: PendingAnswer, out: &mut [u8]) -> (Answer, usize)
+        requires fits { (a : Answer) (sent : List ℕ) → AnswersPending pending_answer (shown self.now) a sent
+            → length sent ≤ length out.old }
+        ensures { GavePending pending_answer (shown self.now) result.0 result.1 out.old out.new }
+    {
+        match pending_answer {
+            PendingAnswer::Ack => (Answer::Ack, 0),
+            PendingAnswer::Status { asked } => {
+                let bytes = self.status();
+                (Answer::Bytes, put_front(&bytes, asked, out))
+            }
+            PendingAnswer::State { asked } => {
+                let bytes = [self.state().byte()];
+                (Answer::Bytes, put_front(&bytes, asked, out))
+            }
+            PendingAnswer::Piece { place, asked } => (
+                Answer::Bytes,
+                self.put_piece(place, asked, out),
+            ),
+            PendingAnswer::Stall => (Answer::Stall, 0),
+        }
+    }
+
+    /// How many bytes the image has from `place` on, at most `len`.
+    #[inline(never)]
+    pub(crate) fn piece_len(&self, place: u32, len: u16) -> u16
+        ensures count { result ≡ length (take len (drop place (image_of self.now.slots))) }
+        ensures bytes { slice_range (image_of self.now.slots) place (place + result) ≡ take len (drop place (image_of self.now.slots)) }
+        ensures within { 0 < result → place + result ≤ length (image_of self.now.slots) }
+        ensures fits { 0 < result → place + result ≤ 2 ^ 24 }
+    {
+        let rest = self.slots.active_len().saturating_sub(place);
+        rest.min(len as u32) as u16
+    }
+
+    /// Puts bytes of the image at the front of a buffer, from `place` on, at most `asked`, and returns their number.
+    fn put_piece(&self, place: u32, asked: u16, out: &mut [u8]) -> usize
+        requires { length (take asked (drop place (image_of self.now.slots))) ≤ length out.old }
+        ensures count { result ≡ length (take asked (drop place (image_of self.now.slots))) }
+        ensures bytes { out.new ≡ take asked (drop place (image_of self.now.slots)) ++ drop result out.old }
+    {
+        let count = self.piece_len(place, asked);
+        if count > 0 {
+            self.slots
+                .read_active(place, &mut out[..usize::from(count)]);
+        }
+        usize::from(count)
+    }
+}
+
+/// Puts the first of some bytes at the front of a buffer, at most `asked`, and returns their number.
+fn put_front(bytes: &[u8], asked: u16, out: &mut [u8]) -> usize
+    requires { length (take asked bytes.now) ≤ length out.old }
+    ensures count { result ≡ length (take asked bytes.now) }
+    ensures bytes { out.new ≡ take asked bytes.now ++ drop result out.old }
+{
+    let count = usize::from(asked).min(bytes.len());
+    out[..count].copy_from_slice(&bytes[..count]);
+    count
+}
+
+/// Copies so many bytes of the active image, from `place` on.
+fn copy_image<M: Medium>(slots: &Slots<M>, place: u32, count: u16, out: &mut ArrayVec<u8, 4096>)
+    requires within { place + count ≤ length (image_of slots.now) }
+    requires most { count ≤ 4096 }
+    requires out { out.old.items ≡ [] }
+    ensures { out.new.items ≡ slice_range (image_of slots.now) place (place + count) }
+{
+    let mut buffer = [0; 4096];
+    let piece = &mut buffer[..count as usize];
+    slots.read_active(place, piece);
+    let _ = out.try_extend_from_slice(piece);
 }

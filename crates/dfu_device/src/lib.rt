@@ -15,7 +15,6 @@ mod device_state;
 mod effects;
 mod filled;
 mod from_parts;
-mod giving;
 pub mod laws;
 mod objection;
 mod plans;
