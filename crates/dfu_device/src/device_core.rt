@@ -1,20 +1,21 @@
 //! The core of a device.
 
-ghost use Rattle.std.specs.Prelude.{◌≡◌, ◌≢◌, ◌<◌, ◌≤◌, ◌==◌, ◌^◌, length, ℕ, List, IsTrue, [], ◌↔◌, not};
-ghost use Rattle.dfu_slots.specs.Seen.{image_of, room_of};
-ghost use Rattle.dfu_device.specs.Stage.{InAppIdle, InError, state_of, code_of};
+ghost use Rattle.std.specs.Prelude.{◌≡◌, ◌<◌, ◌≤◌, ◌+◌, ◌↔◌, length, take, drop, nat_lt, ℕ, List, [], IsTrue, not, if◌then◌else◌};
+ghost use Rattle.dfu_slots.specs.Seen.{image_of, spare_of, room_of};
+ghost use Rattle.dfu_device.specs.Stage.{InAppIdle, InError, state_of, code_of, status_of};
 ghost use Rattle.dfu_device.specs.Table.{reset_stage, objection_code, refuse_stage};
 ghost use Rattle.dfu_device.specs.DeviceView.{DeviceView, profile, powered_on};
 ghost use Rattle.dfu_device.specs.Parts.{is_sound};
-ghost use Rattle.dfu_device.specs.Rows.{Handles, Elapses, ClosesDownload};
+ghost use Rattle.dfu_device.specs.Rows.{Handles, Answers, Elapses, ClosesDownload};
 ghost use Rattle.dfu_device.specs.Borrowed.{answer_room};
-ghost use Rattle.dfu_device.specs.Decision.{profile_in, HasLength};
-ghost use Rattle.dfu_device.specs.inside.PendingAnswer.{AnswersPending, ServedPending, HandledPending};
+ghost use Rattle.dfu_device.specs.Decision.{profile_in, plan_of, HasLength, IsPossible, IsSilent};
+ghost use Rattle.dfu_device.specs.inside.PendingAnswer.{AnswersPending, DonePending, ServedPending, HandledPending};
 
-use crate::answer::PendingAnswer;
+use crate::answer::{PendingAnswer, pending_answer_of};
 use crate::block::Block;
 use crate::config::Profile;
-use crate::device_state::DeviceState;
+use crate::decision::Decision;
+use crate::device_state::{DeviceState, status_in};
 use crate::table::{asked_length, decide, goes_with, is_close};
 use crate::time_table::decide_time;
 use crate::{Answer, Config, Objection};
@@ -73,6 +74,15 @@ impl<M: Medium, B: Block> DeviceCore<M, B> {
         self.mode.code()
     }
 
+    /// The six bytes of the status.
+    pub(crate) fn status(&self) -> [u8; 6]
+        ensures answers { (len : ℕ) →
+            Answers len (status_of (profile (shown self.now)) (shown self.now).stage) Answer.Bytes (take len result) }
+        ensures size { length result ≡ 6 }
+    {
+        status_in(&self.config, self.mode)
+    }
+
     /// What the table reads of it.
     fn profile(&self) -> Profile
         ensures profile { profile_in result ≡ profile (shown self.now) }
@@ -110,6 +120,67 @@ impl<M: Medium, B: Block> DeviceCore<M, B> {
     {
         let decision = decide(&self.profile(), self.mode, request);
         self.carry_out(decision, asked_length(request), body)
+    }
+
+    /// Carries a decision out, with the body of its request, which asks for so many bytes of a status or of a state.
+    pub(crate) fn carry_out(&mut self, decision: Decision, asked: u16, body: &[u8]) -> PendingAnswer
+        requires { IsPossible self.old.config.functional.transfer (length (B.items self.old.block)) (length body.now) self.old.slots decision }
+        ensures row { let w = shown self.old in let spare = spare_of w.slots in
+            DonePending (plan_of (profile w) (image_of w.slots) spare (B.items self.old.block) body.now decision) asked w result
+            (shown self.new) }
+        ensures silent { IsSilent decision → result ≡ PendingAnswer.Ack }
+        ensures memory { B.memory self.new.block ≡ B.memory self.old.block }
+    {
+        match decision {
+            Decision::Sure { reply, mode } => {
+                self.mode = mode;
+                pending_answer_of(reply, asked)
+            }
+            Decision::Holds { mode } => {
+                self.block.hold(body);
+                self.mode = mode;
+                PendingAnswer::Ack
+            }
+            Decision::Sends {
+                place,
+                size,
+                number,
+            } => {
+                self.mode = self.after_piece(place, size, number);
+                PendingAnswer::Piece { place, asked: size }
+            }
+            Decision::Writes {
+                reply,
+                written,
+                number,
+                late,
+            } => {
+                let _ = self.write_block(written, number, late);
+                pending_answer_of(reply, asked)
+            }
+            Decision::Commits {
+                reply,
+                written,
+                mode,
+            } => {
+                let _ = self.commit_taken(written, mode);
+                pending_answer_of(reply, asked)
+            }
+        }
+    }
+
+    /// The mode after these bytes of the image are sent: fewer than `size` are the last ones.
+    fn after_piece(&self, place: u32, size: u16, number: u16) -> DeviceState
+        ensures mode { let part = take size (drop place (image_of self.now.slots)) in
+            result ≡ (if nat_lt (length part) size then DeviceState.DfuIdle else DeviceState.UploadIdle (place + size) number) }
+    {
+        if self.piece_len(place, size) < size {
+            return DeviceState::DfuIdle;
+        }
+        DeviceState::UploadIdle {
+            place: place + u32::from(size),
+            number,
+        }
     }
 
     /// This many milliseconds pass.

@@ -1,98 +1,22 @@
-//! What a device does: a function for each effect.
+//! What a device does to its slot store: it writes a block, or makes the bytes taken the active image.
 
-ghost use Rattle.std.specs.Prelude.{◌≡◌, ◌<◌, ◌≤◌, ◌+◌, ◌++◌, ◌^◌, ◌⊎◌, ℕ, length, take, drop, nat_lt, List, [], IsTrue, true, false, if◌then◌else◌, OnOk, OnErr, IfErr};
+ghost use Rattle.std.specs.Prelude.{◌≡◌, ◌<◌, ◌≤◌, ◌+◌, ◌++◌, ◌⊎◌, length, take, [], IsTrue, true, OnOk, OnErr, IfErr};
 ghost use Rattle.dfu_slots.specs.Medium.{Rose};
 ghost use Rattle.dfu_slots.specs.Seen.{image_of, spare_of, room_of, is_shaped, Called};
 ghost use Rattle.dfu_slots.specs.Changes.{fault_of, ending_of};
-ghost use Rattle.dfu_device.specs.Stage.{status_of};
 ghost use Rattle.dfu_device.specs.Table.{write_code, commit_code};
-ghost use Rattle.dfu_device.specs.DeviceView.{profile};
 ghost use Rattle.dfu_device.specs.Parts.{is_put, is_filled, stage_of};
-ghost use Rattle.dfu_device.specs.Rows.{Answers, WroteBlock, FailedBlock, Committed, FailedCommit, block_calls};
-ghost use Rattle.dfu_device.specs.Decision.{plan_of, written_stage, TakesNothing, IsPossible, IsSilent};
-ghost use Rattle.dfu_device.specs.inside.PendingAnswer.{DonePending};
+ghost use Rattle.dfu_device.specs.Rows.{WroteBlock, FailedBlock, Committed, FailedCommit, block_calls};
+ghost use Rattle.dfu_device.specs.Decision.{written_stage, TakesNothing};
 ghost use Rattle.dfu_device.specs.inside.View.{shown};
 
-use crate::Answer;
-use crate::answer::{PendingAnswer, pending_answer_of};
 use crate::block::Block;
-use crate::decision::Decision;
 use crate::device_core::DeviceCore;
-use crate::device_state::{DeviceState, status_in};
+use crate::device_state::DeviceState;
 use dfu_slots::{Medium, PutFault, Slots, WriteFault};
 use dfu_wire::Code;
 
 impl<M: Medium, B: Block> DeviceCore<M, B> {
-    /// The six bytes of the status.
-    pub(crate) fn status(&self) -> [u8; 6]
-        ensures answers { (len : ℕ) →
-            Answers len (status_of (profile (shown self.now)) (shown self.now).stage) Answer.Bytes (take len result) }
-        ensures size { length result ≡ 6 }
-    {
-        status_in(&self.config, self.mode)
-    }
-
-    /// Carries a decision out, with the body of its request, which asks for so many bytes of a status or of a state.
-    pub(crate) fn carry_out(&mut self, decision: Decision, asked: u16, body: &[u8]) -> PendingAnswer
-        requires { IsPossible self.old.config.functional.transfer (length (B.items self.old.block)) (length body.now) self.old.slots decision }
-        ensures row { let w = shown self.old in let spare = spare_of w.slots in
-            DonePending (plan_of (profile w) (image_of w.slots) spare (B.items self.old.block) body.now decision) asked w result
-            (shown self.new) }
-        ensures silent { IsSilent decision → result ≡ PendingAnswer.Ack }
-        ensures memory { B.memory self.new.block ≡ B.memory self.old.block }
-    {
-        match decision {
-            Decision::Sure { reply, mode } => {
-                self.mode = mode;
-                pending_answer_of(reply, asked)
-            }
-            Decision::Holds { mode } => {
-                self.block.hold(body);
-                self.mode = mode;
-                PendingAnswer::Ack
-            }
-            Decision::Sends {
-                place,
-                size,
-                number,
-            } => {
-                self.mode = self.after_piece(place, size, number);
-                PendingAnswer::Piece { place, asked: size }
-            }
-            Decision::Writes {
-                reply,
-                written,
-                number,
-                late,
-            } => {
-                let _ = self.write_block(written, number, late);
-                pending_answer_of(reply, asked)
-            }
-            Decision::Commits {
-                reply,
-                written,
-                mode,
-            } => {
-                let _ = self.commit_taken(written, mode);
-                pending_answer_of(reply, asked)
-            }
-        }
-    }
-
-    /// The mode after these bytes of the image are sent: fewer than `size` are the last ones.
-    fn after_piece(&self, place: u32, size: u16, number: u16) -> DeviceState
-        ensures mode { let part = take size (drop place (image_of self.now.slots)) in
-            result ≡ (if nat_lt (length part) size then DeviceState.DfuIdle else DeviceState.UploadIdle (place + size) number) }
-    {
-        if self.piece_len(place, size) < size {
-            return DeviceState::DfuIdle;
-        }
-        DeviceState::UploadIdle {
-            place: place + u32::from(size),
-            number,
-        }
-    }
-
     /// Writes the block, and returns the fault if a write had one. `late` is true if time passed, so that the
     /// host has to ask for the status once more.
     pub(crate) fn write_block(
