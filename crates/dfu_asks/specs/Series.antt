@@ -13,7 +13,7 @@ use Rattle.dfu_device.specs.Rows.{block_calls}
 abbrev pub held_before : SlotsState → ℕ → List ℕ
 held_before s n = if n == 0 then [] else s.held
 
--- The writes of a block after so many bytes; before the first one the spare is closed.
+-- The writes of a block after so many bytes; before those of the first block come those that close the spare.
 abbrev pub block_series : SlotsState → ℕ → List ℕ → List Write
 block_series s n block =
     if n == 0 then writes_of s Begin ++ put_writes s.medium.grain (data_place s 0) [] block else writes_of s (Put n block)
@@ -22,7 +22,8 @@ block_series s n block =
 abbrev pub block_store : SlotsState → ℕ → List ℕ → MediumState → SlotsState
 block_store s n block m = store_of m (put_rest s.medium.grain.unit (held_before s n) block) (n + length block)
 
--- The block was written after so many bytes: the calls of its row worked, and the image stays in place.
+-- The block was written after so many bytes: the calls of its row worked, the spare has those bytes and then the block's, all of them count
+-- as put, and the image, its place and the room stay.
 pub record BlockWritten (s : SlotsState) (n : ℕ) (block : List ℕ) (now : SlotsState) : Type 0 where
   pub calls : Called s (block_calls (take n (spare_of s)) block) AllWorked now
   pub store : IsStore now
@@ -32,7 +33,7 @@ pub record BlockWritten (s : SlotsState) (n : ℕ) (block : List ℕ) (now : Slo
   pub put : is_put (n + length block) now ≡ true
   pub spare : take (n + length block) (spare_of now) ≡ take n (spare_of s) ++ block
 
--- A write of the block had this fault: the calls of its row were broken off by it, and the image stays in place.
+-- A write of the block had this fault: the calls of its row were broken off by it, and the image, its place and the room stay.
 pub record BlockBroken (fault : WriteFault) (s : SlotsState) (n : ℕ) (block : List ℕ) (now : SlotsState) : Type 0 where
   pub calls : Called s (block_calls (take n (spare_of s)) block) (BrokenBy fault) now
   pub store : IsStore now
@@ -40,14 +41,14 @@ pub record BlockBroken (fault : WriteFault) (s : SlotsState) (n : ℕ) (block : 
   pub place : active_at (gate_of now.medium) now.medium.bytes ≡ active_at (gate_of s.medium) s.medium.bytes
   pub room : room_of now ≡ room_of s
 
--- What was put was made the active image.
+-- The first n bytes of the spare were made the active image, and the room stays.
 pub record CommitDone (s : SlotsState) (n : ℕ) (now : SlotsState) : Type 0 where
   pub calls : Called s (Commit (length (take n (spare_of s))) ∷ []) AllWorked now
   pub store : IsStore now
   pub image : image_of now ≡ take n (spare_of s)
   pub room : room_of now ≡ room_of s
 
--- A write of the commit had this fault: the old image is active, or the whole new one.
+-- A write of the commit of the spare's first n bytes had this fault: the old image is active, or those bytes are, whole. The room stays.
 pub record CommitBroken (fault : WriteFault) (s : SlotsState) (n : ℕ) (now : SlotsState) : Type 0 where
   pub calls : Called s (Commit (length (take n (spare_of s))) ∷ []) (BrokenBy fault) now
   pub store : IsStore now

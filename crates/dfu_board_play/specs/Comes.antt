@@ -54,7 +54,7 @@ pub data BoardComes (l : BoardLink) : List BoardStep → Answered → BoardLink 
   -- The board's program refuses the image that was closed, if one was.
   refuses : {why : Objection} {steps : List BoardStep} {a : Answer} {out : List ℕ} {b' : Board} → Serves l.board (Refuse why) steps a out b'
       → BoardComes l steps silent (record { board = b'; session = l.session })
-  -- The host's wait is over, and any time passed at the board.
+  -- The host's wait is over. The board makes no step in it: the time that passes there comes by itself, as in `passes`, and may be any.
   waits : {h : HostState} {ms : ℕ} → l.session ≡ Hosted h → deed h.task h.phase ≡ Wait ms
       → BoardComes l [] (took h Waited).answer (left l.board (took h Waited))
   -- The host resets the bus.

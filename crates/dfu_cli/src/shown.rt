@@ -27,7 +27,7 @@ impl<W> Remembering<W> {
         }
     }
 
-    /// The first bytes, at most 32.
+    /// The first bytes that were written, at most 32.
     pub(crate) fn front(&self) -> &[u8] {
         self.kept.get(..self.count).unwrap_or(&[])
     }
@@ -85,7 +85,8 @@ fn why(line: &[u8]) -> Option<&'static str> {
     }
 }
 
-/// The line that says why bytes of this kind are refused, if that line was printed.
+/// The line that says why bytes of this kind are refused, if `line` is a refusal of `dfu show`. None
+/// if it is no such line, or if there is no memory.
 pub(crate) fn show_reason(alloc: Global, kind: &str, line: &[u8]) -> Option<String> {
     let why = why(line)?;
     match reason_line(alloc, "", kind, why) {

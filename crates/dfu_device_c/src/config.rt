@@ -60,7 +60,7 @@ pub(crate) struct Settings {
     pub(crate) sector: Sector,
 }
 
-/// Whether it is of this version, and a device can be set up so, with a unit and sectors that there are.
+/// Whether the configuration is of this version, `Config::new` takes its numbers, a unit has that size, and there are such sectors.
 pub(crate) fn is_allowed(config: &DfuConfig) -> bool
     ensures yes { IsTrue result → IsConfig config.now }
     ensures no { IsTrue (not result) → ¬ IsConfig config.now }
@@ -71,7 +71,7 @@ pub(crate) fn is_allowed(config: &DfuConfig) -> bool
     }
 }
 
-/// The functional descriptor.
+/// The functional descriptor of these numbers, with bcdDFUVersion 0110h.
 pub(crate) fn functional_of(config: &DfuConfig) -> Functional
     ensures { result ≡ (setting_of config.now).functional }
 {
@@ -99,7 +99,8 @@ pub(crate) fn unit_of(config: &DfuConfig) -> Unit
     }
 }
 
-/// What it sets up, if it is of this version, and a device can be set up so, with a unit and sectors that there are.
+/// What the configuration sets up. None if it is of another version, `Config::new` refuses its numbers, no unit has that size, or
+/// there are no such sectors.
 #[inline(never)]
 pub(crate) fn settings_of(config: &DfuConfig) -> Option<Settings>
     ensures config { IfSome result (λ s. s.config ≡ setting_of config.now) }
@@ -135,7 +136,8 @@ pub(crate) fn settings_of(config: &DfuConfig) -> Option<Settings>
     }
 }
 
-/// How many bytes the gate of a slot has for itself, and its header as many, in flash that is written in this unit and these sectors.
+/// How many bytes the gate of a slot has for itself, and its header as many, in flash that is written in this unit and these sectors: the
+/// largest of 16, the unit and the sector.
 pub(crate) fn gate_of(unit: Unit, sector: u32) -> u32
     requires { sector ≤ 2 ^ 17 }
     ensures value { result ≡ gate_room (record { unit = unit; sector = sector }) }

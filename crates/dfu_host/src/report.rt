@@ -8,7 +8,8 @@ use dfu_wire::Code;
 /// How a session ended.
 ///
 /// Only [`Report::Installed`] and [`Report::Verified`] say that the payload of this session is in
-/// place. All others leave open which image the device has.
+/// place. [`Report::Different`] says that the device gave other bytes than those, and
+/// [`Report::Uploaded`] that it gave an image. All others leave open which image the device has.
 #[derive(Clone, Copy, Debug, PartialEq, Eq)]
 pub enum Report {
     /// A tolerant device took the whole payload, reported dfuIDLE with OK after it, and was

@@ -4,11 +4,11 @@
 #[repr(C)]
 #[derive(Drop)]
 pub struct DfuWatch {
-    /// Requests and resets in a row that had no answer; 24 or more end the session.
+    /// Requests and resets in a row that were not finished; 24 or more end the session.
     pub silent: u32,
     /// Resets in a row since requests that the device stalled in run-time mode.
     pub resets: u32,
-    /// 1 if the device stalled the last request, in run-time mode.
+    /// 1 if the device stalled the last request that went out, in run-time mode.
     pub stalled: u8,
     /// 1 if the session sent a block or the end of a download.
     pub sent: u8,

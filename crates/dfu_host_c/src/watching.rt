@@ -86,7 +86,8 @@ pub extern "C" fn dfu_watch_before(watch: &DfuWatch, action: &DfuAction, by_anot
     }
 }
 
-/// Whether the program sends a DETACH of its own before the reset that the session asks for: 1, or 0.
+/// Whether the program sends a DETACH of its own before the reset that the session asks for: 1 if the device stalled the last
+/// request in run-time mode and no reset followed a stall yet, else 0.
 #[unsafe(no_mangle)]
 pub extern "C" fn dfu_watch_detaches(watch: &DfuWatch) -> u32
     ensures { result ≡ detaches watch.now }
@@ -94,7 +95,7 @@ pub extern "C" fn dfu_watch_detaches(watch: &DfuWatch) -> u32
     u32::from(watch.stalled != 0 && watch.resets == 0)
 }
 
-/// How many requests and resets in a row had no answer, after an action.
+/// How many requests and resets in a row were not finished, after an action.
 fn silent_after(watch: &DfuWatch, action: &DfuAction, seen: u32) -> u32
     ensures { result ≡ silent_after watch.now action.now seen }
 {
@@ -107,7 +108,8 @@ fn silent_after(watch: &DfuWatch, action: &DfuAction, seen: u32) -> u32
     }
 }
 
-/// How many resets in a row followed nothing but stalls, after an action.
+/// How many resets in a row followed nothing but stalls, after an action: 0 once a request went out, and the device is in DFU
+/// mode or acknowledged or answered it.
 fn resets_after(watch: &DfuWatch, action: &DfuAction, seen: u32, facts: &DfuFacts) -> u32
     ensures { result ≡ resets_after watch.now action.now seen facts.now }
 {
@@ -120,7 +122,7 @@ fn resets_after(watch: &DfuWatch, action: &DfuAction, seen: u32, facts: &DfuFact
     }
 }
 
-/// Whether the last request was stalled, in run-time mode.
+/// Whether the last request that went out was stalled, in run-time mode.
 fn stalled_after(watch: &DfuWatch, action: &DfuAction, seen: u32, facts: &DfuFacts) -> bool
     ensures { result ≡ stalled_after watch.now action.now seen facts.now }
 {
@@ -144,7 +146,7 @@ fn watched(watch: &DfuWatch, action: &DfuAction, seen: u32, facts: &DfuFacts) ->
     }
 }
 
-/// Whether the device that is open is another one than the session's. Once a block was sent, a device in run-time mode may
+/// Whether the device that is open is another one than the session's. Once a DNLOAD was sent, a device in run-time mode may
 /// run another image, and is not compared.
 fn is_other(watch: &DfuWatch, facts: &DfuFacts) -> bool
     ensures { result ≡ is_other watch.now facts.now }
@@ -185,7 +187,8 @@ fn course(watch: &DfuWatch, facts: &DfuFacts) -> u32
     }
 }
 
-/// What follows an action of which this was seen, and of the device these facts.
+/// What follows an action of which this was seen, and of the device these facts: 0 to go on, 1 to begin another session in
+/// place of this one, 2 to 5 how the session ends. If it begins anew, the record has that.
 #[unsafe(no_mangle)]
 pub extern "C" fn dfu_watch_after(
     watch: &mut DfuWatch,

@@ -55,8 +55,9 @@ pub record InstalledAfter (c : Profile) (w : Link) (count : ℕ) (payload : List
   pub quiet : Quietly c w (count - 1) before
   pub last : PassesTo c before (resting payload) (record { report = Some report; gave = None })
 
--- Given are a tolerant device that can do it, in appIDLE, a payload with at least the fewest bytes and at most the room, and enough
--- actions for a clean run. Then after the offer exactly as many passes as a clean run has end in its report.
+-- Given are a tolerant device that can do it, in appIDLE and with no session, blocks of at least one byte, a payload of at least one byte,
+-- at least the fewest bytes and at most the room, with fewer than 65,535 full blocks if it is verified, and limits with enough actions for
+-- a clean run. Then after the offer exactly as many passes as a clean run has end in its report, and those before the last report nothing.
 abbrev pub CleanRun : Type 0
 CleanRun = (c : Profile) (purpose : Purpose) (image payload : List ℕ) (limits : Limits) → c.tolerant ≡ true → CanDo purpose c
     → 0 < c.transfer

@@ -38,19 +38,20 @@ abbrev pub gave_of : Result Answered LinkFault → Option (List ℕ)
 gave_of (Ok answer) = answer.gave
 gave_of (Err fault) = None
 
--- Bytes come with Uploaded, and with no other report.
+-- Bytes come with Uploaded, and neither with another report nor with none.
 abbrev pub ComesWith : Option Report → Option (List ℕ) → Type 0
 ComesWith None None = Unit {0}
 ComesWith (Some report) None = GivesNothing report
 ComesWith (Some Uploaded) (Some bytes) = Unit {0}
 ComesWith report (Some bytes) = ⊥
 
--- So it is of what comes of an event.
+-- If an event is not refused, bytes come of it with Uploaded, and neither with another report nor with none.
 abbrev pub GivesWithUploaded : Result Answered LinkFault → Type 0
 GivesWithUploaded (Ok answer) = ComesWith answer.report answer.gave
 GivesWithUploaded (Err fault) = Unit {0}
 
--- An event came, what was uploaded took the place of what the upload before gave, and its caller got the report.
+-- An event came: it was refused, or it was a play. Bytes came if it reported Uploaded, and then they took the place of what the upload
+-- before gave; else that stays. Its caller got the report, or the fault.
 pub record HasCome (w : WorldView) (h : Happening) (w' : WorldView) (result : Result (Option Report) LinkFault) : Type 0 where
   pub answer : Result Answered LinkFault
   pub comes : Comes w.bench h w'.bench answer
@@ -58,6 +59,6 @@ pub record HasCome (w : WorldView) (h : Happening) (w' : WorldView) (result : Re
   pub up_is : w'.up ≡ given (gave_of answer) w.up
   pub told : result ≡ shown_as answer
 
--- An event came with which nothing is given.
+-- An event came, and what the upload before gave stays, whatever that is.
 abbrev pub HasComeAlone : LinkView → Happening → LinkView → Result (Option Report) LinkFault → Type 0
 HasComeAlone b h b' result = (up : List ℕ) → HasCome (linked b up) h (linked b' up) result

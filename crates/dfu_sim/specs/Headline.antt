@@ -43,8 +43,8 @@ IsLastPayload [] x = ⊥
 IsLastPayload (WithOffer file ∷ past) x = IsPayload x file
 IsLastPayload (AsUpload ∷ past) x = ⊥
 
--- What the headline says, when these sessions have begun and this was reported last. The active image is the factory image or a payload
--- offered so far. If Installed or Verified was reported, the device is in appIDLE, and that image is the last session's payload.
+-- What the headline says of a link after an event that reported this, if these sessions have begun. The active image is the factory image
+-- or a payload offered so far. If it reported Installed or Verified, the device is in appIDLE with the last session's payload active.
 pub record HeadlineSays (factory : List ℕ) (past : List Begun) (report : Option Report) (b : LinkView) : Type 0 where
   pub image : List ℕ
   pub active : Active b.device.slots.medium image

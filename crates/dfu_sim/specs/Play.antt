@@ -222,8 +222,7 @@ played c w Resets l k room = restarted_to (was_reset w.device) w.session
 played c w Cuts l k room = restarted_to (powered w.device) w.session
 played c w (Refuses why) l k room = record { link = record { device = image_refused why w.device; session = w.session }; answer = silent }
 
--- An event that is not refused: a session begins only if none is live, and no offer is empty; an abort and an action need a live
--- session.
+-- An event that is not refused: a session begins only if none is live, and no offer is empty; an abort and an action need a live one.
 abbrev pub MayHappen : Session → Happening → Type 0
 MayHappen Nobody (Offers purpose payload limits) = 0 < length payload
 MayHappen Nobody (Uploads limits) = Unit {0}

@@ -7,29 +7,32 @@ use dfu_host::Limits;
 /// What happens to a link. A file lasts as long as its session, a tear as long as the event.
 #[derive(Clone, Copy, Debug, PartialEq, Eq)]
 pub enum Event<'f, 't> {
-    /// A whole DFU file (USB DFU 1.1, appendix B) is offered to the device; the session that
-    /// begins may last for so long.
+    /// A whole DFU file (USB DFU 1.1, appendix B) is offered to the device. The session that begins
+    /// has so many actions and takes so many restarts.
     Offer {
         file: &'f [u8],
         limits: Limits,
     },
     /// A whole DFU file is offered, to be installed as with `Offer`, and compared with the device's
-    /// active image after the reset at its end. Only a device that uploads takes it.
+    /// active image after the reset at its end. It is refused if the device does not upload.
     OfferVerified {
         file: &'f [u8],
         limits: Limits,
     },
-    /// An upload of the device's active image begins; the session may last for so long.
+    /// An upload of the device's active image begins. The session has so many actions and takes so
+    /// many restarts.
     Upload {
         limits: Limits,
     },
-    /// The session that is live is given up.
+    /// The session that is live is given up: from its next action on the host only leaves the
+    /// transfer, and then reports Aborted.
     Abort,
     /// The host takes its next action.
     Go(Fate<'t>),
     /// The host takes its next action, of this fate. If that is the request that closes a download, with as many bytes taken as an image
-    /// has at least, the program of the device refuses the image. Then the request is stalled, nothing is written, and the device is in
-    /// dfuERROR with the code of the objection (`Device::refuse_close`). Any other action goes as with `Go`.
+    /// has at least, and it reaches the device, the program of the device refuses the image (`Device::refuse_close`): the request is
+    /// stalled, nothing is written, and the device enters dfuERROR with the code of the objection. Of a request that is handled twice it
+    /// refuses the first; and if the power is cut, the device starts again. Any other action goes as with `Go`.
     GoRefused {
         fate: Fate<'t>,
         objection: Objection,

@@ -1,11 +1,12 @@
 //! What becomes of an action.
 
 /// What becomes of one action of the host: a request, a wait or a reset of the bus. Losses and
-/// doublings concern only requests: a wait and a reset pass with them.
+/// doublings concern only requests: a wait and a reset pass with them, as with `Pass`.
 ///
-/// `Cut`, `Fail` and `Lie` harm a write of the medium. After `writes` writes that work comes the one that is harmed. It leaves
-/// the first bytes of `tear` at the front of its range and the old bytes in the rest of it, and fails, or with `Lie` answers
-/// that it worked. Of `tear` at most 4,096 bytes count. If the action makes no such write, none is harmed.
+/// `Cut`, `Fail` and `Lie` harm a write of the medium in any action. After `writes` writes that work comes the one that is harmed.
+/// Of its range the first bytes become those of `tear`, as many as `tear` has and fit in, and the rest keeps the old bytes. It
+/// fails, or with `Lie` answers that it worked. Of `tear` at most 4,096 bytes count. If the action makes no such write, none is
+/// harmed; with `Cut` the power is cut at its end all the same.
 #[derive(Clone, Copy, Debug, PartialEq, Eq)]
 pub enum Fate<'t> {
     /// It goes as it should.

@@ -20,9 +20,13 @@ pub fn simulation()
     ensures { Simulation }
 {}
 
-/// A download in which nothing is lost and nothing fails is installed after exactly the clean count
-/// of actions, and verified after exactly the clean count of that: Installed or Verified is reported
-/// in the last of them and nothing in those before.
+/// A clean run. A tolerant device that downloads, in blocks of at least one byte, is in appIDLE
+/// with no session. It is offered a payload of at least one byte, at least its fewest bytes and at
+/// most its room, and the limits allow as many actions as the clean count. If the payload is to be
+/// verified, the device uploads too, and the payload has fewer than 65,535 full blocks. If then
+/// nothing is lost and nothing fails, the last action of the clean count reports Installed, or
+/// Verified, with the payload active and the device in appIDLE, and none before it reports
+/// anything.
 pub fn clean_run()
     ensures { CleanRun }
 {}

@@ -129,8 +129,8 @@ impl<'f, M: Faulty> World<'f, M> {
         }
     }
 
-    /// What the last session gave that reported Uploaded: the device's active image at that time.
-    /// At first it is empty.
+    /// What the last session gave that reported Uploaded: by `gives` of `step` the device's active
+    /// image at that time. At first it is empty.
     pub fn uploaded(&self) -> &[u8]
         ensures { result.now ≡ self.now.up }
     {
@@ -172,7 +172,8 @@ impl<'f, M: Faulty> World<'f, M> {
         }
     }
 
-    /// The device by itself. Within `into_device` it would be moved piece by piece, in half a megabyte of code.
+    /// The device back, also while a session is live, which ends with the link and reports nothing. What was uploaded is dropped.
+    /// (A function of its own: within `into_device` the device would be moved piece by piece, in half a megabyte of code.)
     #[inline(never)]
     pub fn release(self) -> Device<M>
         ensures device { result ≡ self.entry.bench.device }

@@ -12,7 +12,7 @@ use Rattle.dfu_slots.specs.Seen.{SlotsState, spare_of, Call, Begin, Put, Commit,
 
 -- Lists of writes.
 
--- The fuse stays known.
+-- If all of these writes work, a fuse that was known stays known.
 pub all_known : (ws : List Write) (s x : MediumState) → IsKnown s.fuse → AllWrites s ws x → IsKnown x.fuse
 all_known [] s x k same = subst IsKnown (sym (ap (λ (m : MediumState). m.fuse) same)) k
 all_known (w ∷ ws) s x k (p, a, more) = all_known ws p x (known_next w s p k a) more
@@ -26,7 +26,7 @@ all_same_end [] s t x y same a b = record {
 }
 all_same_end (w ∷ ws) s t x y same (p, a, more) (q, b, rest) = all_same_end ws p q x y (wrote_same w s t p q same a b) more rest
 
--- They do not all work here and break off there.
+-- If the fuse is known, the same writes from the same medium never all work once and are broken off the other time.
 pub never_both : (f : WriteFault) (ws : List Write) (s t x y : MediumState) → Same s t → IsKnown s.fuse → AllWrites s ws x
     → BrokenWrites f t ws y → ⊥
 never_both f [] s t x y same k a b = b
@@ -34,7 +34,7 @@ never_both f (w ∷ ws) s t x y same k (p, a, more) (inl failed) = one_way w s t
 never_both f (w ∷ ws) s t x y same k (p, a, more) (inr (q, b, rest)) = never_both f ws p q x y (wrote_same w s t p q same a b)
     (known_next w s p k a) more rest
 
--- Broken off on both, they are so by the same fault.
+-- If the fuse is known, and the same writes from the same medium are broken off both times, it is by the same fault.
 pub broken_one : (f g : WriteFault) (ws : List Write) (s t x y : MediumState) → Same s t → IsKnown s.fuse → BrokenWrites f s ws x
     → BrokenWrites g t ws y → f ≡ g
 broken_one f g [] s t x y same k a b = absurd a
@@ -45,7 +45,7 @@ broken_one f g (w ∷ ws) s t x y same k (inr (p, a, more)) (inl b) = absurd (on
 broken_one f g (w ∷ ws) s t x y same k (inr (p, a, more)) (inr (q, b, rest)) = broken_one f g ws p q x y (wrote_same w s t p q same a b)
     (known_next w s p k a) more rest
 
--- Then they leave the same medium too.
+-- If they are broken off by the same fault, they leave the same medium too.
 pub broken_same_end : (f : WriteFault) (ws : List Write) (s t x y : MediumState) → Same s t → IsKnown s.fuse → BrokenWrites f s ws x
     → BrokenWrites f t ws y → Same x y
 broken_same_end f [] s t x y same k a b = absurd a

@@ -13,7 +13,7 @@ use Rattle.dfu_trial_c.specs.declared.flash.DfuTries.{DfuTries}
 use Rattle.dfu_trial_c.specs.declared.flash.Refusal.{Refusal}
 use Rattle.dfu_trial_c.specs.declared.flash.Refusal.TheVariants.{NoConfig, Tries, NoMedium}
 
--- The largest unit of at most so many bytes.
+-- The largest unit of at most so many bytes; for 0 the byte.
 unfoldable pub unit_sized : ℕ → WriteUnit
 unit_sized n = if nat_lt n 16 then Byte else if nat_lt n 64 then U16 else if nat_lt n 256 then U64 else U256
 
@@ -25,7 +25,7 @@ tries_grain t = record { unit = unit_sized t.unit; sector = t.sector }
 abbrev pub flash_state : DfuTries → List ℕ → MediumState
 flash_state t flash = mapped (tries_grain t) flash
 
--- A unit has that size, and there are such sectors.
+-- A unit has that size, and there are such sectors, or 0 says that there are none.
 pub record IsTriesPart (t : DfuTries) : Type 0 where
   pub unit_is : unit_size (unit_sized t.unit) ≡ t.unit
   pub pages : t.sector % 256 ≡ 0

@@ -16,13 +16,15 @@ use dfu_trial::{Standing, TriesFault, check_tries, look};
 pub struct DfuTries {
     /// Bytes that are programmed at a time: 1, 16, 64 or 256.
     pub unit: u32,
-    /// Bytes that are erased at a time: a multiple of 256 up to 131,072.
+    /// Bytes that are erased at a time: a multiple of 256 up to 131,072, not 0.
     pub sector: u32,
-    /// How often a new image is started before the one before it comes back: 2 or more.
+    /// How often a new image is started before the one before it comes back: 2 or more. In a sector
+    /// (tries + 2) units of at least 16 bytes have room.
     pub tries: u32,
 }
 
-/// The largest unit of at most so many bytes. (Comparisons for order: of powers of two by equality LLVM makes a count of zero bits.)
+/// The largest unit of at most so many bytes; for 0 the byte. (Comparisons for order: of powers of two by equality LLVM makes a count of
+/// zero bits.)
 #[inline(never)]
 #[tactic(auto, unfolding(crate::specs::Tries::unit_sized))]
 pub(crate) fn unit_sized(size: u32) -> Unit
@@ -44,7 +46,7 @@ pub(crate) fn unit_sized(size: u32) -> Unit
 pub enum Refusal {
     /// No unit has that size, or there are no such sectors.
     NoConfig,
-    /// So many tries are refused.
+    /// So many tries are refused: there are no sectors, or they are too few or too many.
     Tries(TriesFault),
     /// The flash has no active image, or 2^32 bytes or more.
     NoMedium,
@@ -99,7 +101,7 @@ fn refused(tries: &DfuTries) -> Option<Refusal>
     }
 }
 
-/// Looks for the standing of the images of the flash, or for the reason why there is none.
+/// The standing of the images of the flash, or why there is none: the first of the refusals, in their order.
 pub(crate) fn looked<'f>(tries: &DfuTries, flash: &'f [u8]) -> Result<Flash<'f>, Refusal>
     ensures state { IfOk result (λ l. mapped (mapped_grain l.medium.unit l.medium.sector) l.medium.bytes.now
         ≡ flash_state tries.now flash.now) }

@@ -26,7 +26,7 @@ pub struct DfuStanding {
     pub is_confirmed: u32,
 }
 
-/// Where the image is in the slot that begins there.
+/// Where the image of the slot that begins there has its first byte, and its length by the slot's header.
 pub(crate) fn image_in<M: Medium>(medium: &M, slot: u32) -> DfuPlace
     requires sized { IsSized (M.state medium.now) }
     requires within { slot + slot_size (M.state medium.now).bytes ≤ length (M.state medium.now).bytes }

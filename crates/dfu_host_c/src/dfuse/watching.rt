@@ -55,7 +55,7 @@ fn is_status(action: &DfuseAction) -> bool
     action.setup[0] == 0xa1 && action.setup[1] == 3
 }
 
-/// Whether the memory may be another one after an action: a block of data is sent, or the command 41h, which erases.
+/// Whether the memory may be another one after an action: a block of data, whose number isn't 0, or the command 41h, which erases.
 fn changes(action: &DfuseAction, command: u32) -> bool
     ensures { result ≡ dfuse_changes action.now command }
 {
@@ -66,7 +66,7 @@ fn changes(action: &DfuseAction, command: u32) -> bool
         && (action.setup[2] != 0 || action.setup[3] != 0 || command == 0x41)
 }
 
-/// How many requests in a row had no answer, after an action.
+/// How many requests in a row went out and had no answer, after an action.
 fn silent_after(watch: &DfuseWatch, action: &DfuseAction, seen: u32, facts: &DfuFacts) -> u32
     ensures { result ≡ dfuse_silent_after watch.now action.now seen facts.now }
 {
@@ -100,7 +100,8 @@ fn watched(
     }
 }
 
-/// Whether a device that was asked to leave is taken for gone.
+/// Whether a device that was asked to leave is taken for gone after this action, a request: another one is open, or it is gone,
+/// or it left by itself, or at least three requests in a row had no answer.
 fn is_gone_by_then(watch: &DfuseWatch, action: &DfuseAction, seen: u32, facts: &DfuFacts) -> bool
     ensures { result ≡ is_gone_by_then watch.now action.now seen facts.now }
 {
