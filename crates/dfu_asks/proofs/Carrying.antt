@@ -17,7 +17,7 @@ carried_none (w ∷ ws) m =
     let none : 0 - length w.bytes ≡ 0 = omega arith in
     (λ i. carried (written_nil m w.at i) ws (none i)) ∙ carried_none ws m
 
--- A front that is longer than its list is the list.
+-- A prefix that is longer than its list is the list.
 front_whole : (l : List ℕ) (n : ℕ) → length l ≤ n → take n l ≡ l
 front_whole l n le = take_all n l le
 

@@ -24,7 +24,7 @@ piece_behind [] ys n k p count piece = let e : k ≡ n = omega (arith, count) in
 piece_behind (x ∷ xs) ys n k p count piece =
     inr (omega (arith, count), piece_behind xs ys (n - length x.write.bytes) k p (omega (arith, count)) piece)
 
--- A range of a front is that of the whole.
+-- A range of a prefix is that of the whole.
 pub range_of_front : (l : List ℕ) (h i j : ℕ) → j ≤ h → slice_range (take h l) i j ≡ slice_range l i j
 range_of_front l h i j le =
     between_is (take h l) i j ∙ ap (λ (x : List ℕ). drop i x) (take-take j h l le) ∙ sym (between_is l i j)

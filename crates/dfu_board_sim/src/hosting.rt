@@ -73,7 +73,7 @@ pub(crate) fn restart<'f>(
     end(host, gave)
 }
 
-/// The front of so many bytes, or all that there are.
+/// The first so many bytes, or all that there are.
 fn front_of(out: &[u8], count: usize) -> &[u8]
     ensures { result.now ≡ take count out.now }
 {

@@ -3,7 +3,7 @@ use Rattle.std.proofs.Common.{refl, sym, ℕ, List, None, Option, Some, IfSome}
 use Rattle.std.specs.Io.KnownBytes.{Keeps, append_known}
 use Rattle.dfu_cli.specs.Buffering.{HasFront}
 
--- What the writer of a buffer got is a front of what was written, if that is known.
+-- What the writer of a buffer got is a prefix of what was written, if that is known.
 pub front_out : (written behind : Option (List ℕ)) (buffer : List ℕ) → Keeps written (append_known behind buffer)
     → IfSome written (λ w. HasFront w behind)
 front_out None behind buffer kept = tt

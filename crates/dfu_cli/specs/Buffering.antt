@@ -5,14 +5,14 @@ use Rattle.dfu_output.specs.declared.exit.Exit.{Exit}
 use Rattle.dfu_output.specs.declared.exit.Exit.TheVariants.{Fault}
 use Rattle.dfu_cli.specs.RunText.{WritesRun, WritesPrinted}
 
--- Of what was written these bytes are out, and they are a front of it.
+-- Of what was written these bytes are out, and they are a prefix of it.
 pub record HasFront (written : List ℕ) (new : Option (List ℕ)) : Type 0 where
   pub front : List ℕ
   pub rest : List ℕ
   pub whole : written ≡ front ++ rest
   pub out : new ≡ Some front
 
--- What was written is out whole, and the end is that of the writing; or a front of it is out, and the end is a fault.
+-- What was written is out whole, and the end is that of the writing; or a prefix of it is out, and the end is a fault.
 abbrev pub ComesOut : (written new : Option (List ℕ)) (end result : Exit) → Type 0
 ComesOut written new end result =
     (Keeps written new × (result ≡ end)) ⊎ (IfSome written (λ w. HasFront w new) × (result ≡ Fault))

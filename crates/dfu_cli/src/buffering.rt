@@ -14,7 +14,7 @@ use std::io::{BufWriter, Read, Write};
 /// Runs the script as `run_text` does, into the buffer, and then writes what the buffer still
 /// holds. It returns how the script ended, and the writer that the buffer had.
 ///
-/// If that writer fails, it returns Fault, and a front of the text is out.
+/// If that writer fails, it returns Fault, and a prefix of the text is out.
 pub fn run_buffered<R: Read + Drop, W: Write + Drop>(
     alloc: Global,
     reader: R,

@@ -61,7 +61,7 @@ pub(crate) fn end_text<W: Write>(
 /// the lines before printed precedes it. If there is no memory for the line with a number, it is
 /// `refused NoMemory`.
 ///
-/// If the writer fails, it returns Fault; a front of the text is out, not all of it, and nothing
+/// If the writer fails, it returns Fault; a prefix of the text is out, not all of it, and nothing
 /// more is written.
 pub fn run_text<R: Read + Drop, W: Write>(alloc: Global, reader: R, writer: &mut W) -> Exit
     ensures run { WritesRun None (R.remaining reader) (W.contents writer.old) (W.contents writer.new) result }

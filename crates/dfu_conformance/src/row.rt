@@ -120,12 +120,12 @@ pub enum Gives {
     Ack,
     /// It stalls.
     Stall,
-    /// The front of six bytes (section 6.1.2): the code is OK outside dfuERROR, and another one in it; the state is the one that is
-    /// entered.
+    /// Six bytes, or as many of them as were asked for (section 6.1.2): the code is OK outside dfuERROR, and another one in it; the
+    /// state is the one that is entered.
     Status,
     /// As `Status`, but with the code OK in dfuERROR.
     NoCode,
-    /// The front of one byte: the state as it is.
+    /// One byte, or none if none was asked for: the state as it is.
     State,
     /// As many bytes of an image as were asked for.
     Full,

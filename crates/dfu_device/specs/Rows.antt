@@ -20,7 +20,7 @@ use Rattle.dfu_device.specs.DeviceView.{DeviceView, profile}
 
 -- The answer to its bytes.
 
--- A reply is answered like this, if so many bytes of a status or a state were asked for: the front of six bytes, or of one byte.
+-- A reply is answered like this, if so many bytes of a status or a state were asked for: the first so many of six, or of one.
 abbrev pub Answers : ℕ → Reply → Answer → List ℕ → Type 0
 Answers len Ack a out = (a ≡ answer.Ack) × (out ≡ [])
 Answers len Stall a out = (a ≡ answer.Stall) × (out ≡ [])

@@ -49,7 +49,7 @@ writer_failed (Err g) e e' old new text f h same = record {
   fault = subst (λ (x : ScriptFault). FailsToPrint e text old new x) (sym h.fault) tt;
 }
 
--- The writer failed in a front of the text that is printed next.
+-- The writer failed in a prefix of the text that is printed next.
 pub falls_short : {e e' : Option Expectation} {old new : Option (List ℕ)} {xs text : List ℕ} {f : ScriptFault} {r : Result Unit ScriptFault}
     (ys : List ℕ) → Puts xs old new (Err f) → IsErrAnd r (λ g. g ≡ f) → text ≡ xs ++ ys → PrintsNext e old text e' new r
 falls_short {e = e} {e' = e'} {old = old} {new = new} {text = text} {f = f} {r = r} ys h same is =

@@ -27,7 +27,7 @@ digits_more : (bytes : List ℕ) (at n : ℕ) → encode_lower (take (at + n) by
 digits_more bytes at n = ap encode_lower (piece_more bytes at n)
     ∙ encode-append lower_digits (take at bytes) (slice_range bytes at (at + n))
 
--- The digits of bytes are those of a front of them, and then those of the others.
+-- The digits of bytes are those of a prefix of them, and then those of the others.
 digits_front : (bytes : List ℕ) (at : ℕ) → encode_lower bytes ≡ encode_lower (take at bytes) ++ encode_lower (drop at bytes)
 digits_front bytes at = ap encode_lower (sym (take-append-drop at bytes)) ∙ encode-append lower_digits (take at bytes) (drop at bytes)
 

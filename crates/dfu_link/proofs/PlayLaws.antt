@@ -97,7 +97,7 @@ pub busy_plays : (check : List ℕ) {b : LinkView} (purpose : Purpose) (file : L
 busy_plays check {b = b} purpose file limits {e = e} {old = old} {done = done} live active prints =
     played_then done (Offers purpose file limits) (played_none check b e old) (busy_offer b purpose file limits live) active prints
 
--- What is played before another event is a front of what is played in all.
+-- What is played before another event is a prefix of what is played in all.
 replicate_front : {A : Type 0} (k n : ℕ) (x : A) → k < n → (left : List A) × (replicate n x ≡ (replicate k x ++ x ∷ []) ++ left)
 replicate_front k zero x h = absurd (omega (arith, h))
 replicate_front zero (suc n) x h = (replicate n x, refl)

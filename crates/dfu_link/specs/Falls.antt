@@ -20,7 +20,7 @@ use Rattle.dfu_link.specs.declared.scripting.fault.ScriptFault.{ScriptFault}
 use Rattle.dfu_link.specs.declared.scripting.fault.ScriptFault.TheVariants.{BadLine, LateConfig, BadConfig, Expected, NonePrinted, TooLarge, NoMemory, Read, Write}
 
 -- It stopped among events, with a program that takes only images that begin with these bytes, and this is expected: some were played, and a
--- front of their text is out, and not all of it.
+-- prefix of their text is out, and not all of it.
 pub record HasBroken (check : List ℕ) (b : LinkView) (next : Option Expectation) (events : List Happening) (old new : Option (List ℕ))
     (fault : ScriptFault)
     : Type 0 where

@@ -166,7 +166,7 @@ pub record WrotePrinted (given : Option (List ℕ)) (text : List ℕ) (old new :
   pub told : Appends old new (printed ++ line_of_image image)
 
 -- A script stopped before the first of these lines, or before its last line if none is left. What is out of that line: nothing, or a
--- front of what is printed of the line or of the first of its events.
+-- prefix of what is printed of the line or of the first of its events.
 pub data PartPrints (given : Option (List ℕ)) (factory : List ℕ) (past : List Begun) (b : LinkView) (image : List ℕ) :
     List (List ℕ) → (old new : Option (List ℕ)) → Type 0 where
   nothing_out : {lines : List (List ℕ)} {old : Option (List ℕ)} → PartPrints given factory past b image lines old old

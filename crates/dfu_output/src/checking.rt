@@ -32,7 +32,7 @@ fn ok_line(alloc: Global, summary: &Summary) -> Result<String, AllocError>
 /// `fault Read` with Fault. Memory is taken only for the line of a file: if that is refused,
 /// the line is `refused NoMemory`.
 ///
-/// If the writer fails, it returns Fault; a front of the line is out, not all of it, and nothing
+/// If the writer fails, it returns Fault; a prefix of the line is out, not all of it, and nothing
 /// more is written.
 pub fn check_text<R: Read + Drop, W: Write>(alloc: Global, reader: R, writer: &mut W) -> Exit
     ensures { WritesCheck (R.remaining reader) (W.contents writer.old) (W.contents writer.new) result }

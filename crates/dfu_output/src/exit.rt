@@ -116,7 +116,7 @@ fn fault_exit(fault: SuffixFault) -> Exit
 
 /// Writes the line of a fault: `fault NAME` for Read and Write, and else `refused NAME`.
 ///
-/// It returns Fault for Read and Write, else Refused; if the writer fails, Fault, and a front of
+/// It returns Fault for Read and Write, else Refused; if the writer fails, Fault, and a prefix of
 /// the line is out, not all of it.
 pub fn fault_text<W: Write>(fault: SuffixFault, writer: &mut W) -> Exit
     ensures { Wrote (W.contents writer.old) (W.contents writer.new) (fault_line fault) (fault_exit fault) result }

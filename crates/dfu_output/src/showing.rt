@@ -163,7 +163,7 @@ fn show_configuration<W: Write>(alloc: Global, hex: &str, writer: &mut W) -> Exi
 ///     being `run-time`, `dfu` or `other`, and `functional ..` as above, in the order of the bytes.
 ///
 /// They are looked for in this order. If an allocation is refused, the line is `refused NoMemory`, with Refused. If the writer fails,
-/// it returns Fault, and a front of the text is out, not all of it.
+/// it returns Fault, and a prefix of the text is out, not all of it.
 pub fn show_text<W: Write>(alloc: Global, kind: &str, hex: &str, writer: &mut W) -> Exit
     ensures functional { kind.now ≡ codes "functional"
         → WritesBytes WritesFunctional hex.now (W.contents writer.old) (W.contents writer.new) result }

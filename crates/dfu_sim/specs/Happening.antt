@@ -24,7 +24,7 @@ pub data Fate : Type 0 where
   Lie : Fate
   Refusing : (why : Objection) → (fate : Fate) → Fate
 
--- How a write is harmed by a cut, a failure or a lie: after so many writes that work one leaves the front of these bytes.
+-- How a write is harmed by a cut, a failure or a lie: after so many writes that work one leaves the first of these bytes.
 pub record Harm : Type 0 where
   pub writes : ℕ
   pub tear : List ℕ
@@ -45,7 +45,7 @@ pub data Happening : Type 0 where
 abbrev pub unharmed : Harm
 unharmed = record { writes = 0; tear = [] }
 
--- A write is harmed after so many that work, and leaves the front of this tear. A medium keeps at most 4,096 bytes of it.
+-- A write is harmed after so many that work, and leaves the first bytes of this tear. A medium keeps at most 4,096 bytes of it.
 abbrev pub harmed : (writes : ℕ) (tear : List ℕ) → Harm
 harmed writes tear = record { writes = writes; tear = take 4096 tear }
 

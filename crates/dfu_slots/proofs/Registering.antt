@@ -8,7 +8,7 @@ pub record SoFar (bytes : List ℕ) (len at crc : ℕ) : Type 0 where
   pub within : at ≤ len
   pub register_is : crc ≡ register (take at bytes)
 
--- A front goes on with the range after it.
+-- A prefix goes on with the range after it.
 front_on : (bytes : List ℕ) (at n : ℕ) → take at bytes ++ slice_range bytes at (at + n) ≡ take (at + n) bytes
 front_on bytes at n =
     let e : at + n - at ≡ n = omega arith in

@@ -5,7 +5,7 @@ use Rattle.std.proofs.Math.Seq.{take-append-add}
 use Rattle.dfu_slots.specs.Medium.{written}
 use Rattle.dfu_slots.proofs.Torn.{written_torn, drop_past}
 
--- A front that is longer than the first of two lists goes on in the second.
+-- A prefix that is longer than the first of two lists goes on in the second.
 pub take_past : (xs ys : List ℕ) (n : ℕ) → length xs ≤ n → take n (xs ++ ys) ≡ xs ++ take (n - length xs) ys
 take_past xs ys n le = let e : n ≡ length xs + (n - length xs) = omega arith in
     ap (λ (k : ℕ). take k (xs ++ ys)) e ∙ take-append-add xs ys (n - length xs)

@@ -10,12 +10,12 @@ pub data Fuse : Type 0 where
   Unknown : Fuse
   -- No write fails.
   Whole : Fuse
-  -- So many writes work, and then one fails and leaves the front of this tear;
-  -- with `stop` every later one fails too, else none.
+  -- So many writes work, and then one fails and leaves the first bytes of this tear, as many as fit into its range;
+  -- with `stop` every later one fails too and leaves the old bytes, else none fails.
   Armed : (writes : ℕ) (tear : List ℕ) (stop : Bool) → Fuse
-  -- So many writes work, and then one lies: it returns Ok and leaves the front of this tear. The later ones work.
+  -- So many writes work, and then one lies: it returns Ok and leaves the first bytes of this tear, as above. The later ones work.
   Lying : (writes : ℕ) (tear : List ℕ) → Fuse
-  -- Every write fails and leaves nothing.
+  -- Every write fails and leaves the old bytes.
   Stopped : Fuse
 
 -- A medium: its bytes, how often a write has failed, what the next writes will do, its grain, and a tag by which its owner knows it.
@@ -64,7 +64,7 @@ Torn old at new left = KeepsOutside at (at + length new) old left
 abbrev pub Rose : ℕ → ℕ → Type 0
 Rose before now = max before (min (before + 1) (2 ^ 64 - 1)) ≤ now
 
--- The front of a tear is at the front of the write's range.
+-- The first bytes of a tear, as many as were to be written at most, are at the beginning of the write's range.
 abbrev pub torn_by : List ℕ → ℕ → List ℕ → List ℕ → List ℕ
 torn_by old at new tear = written old at (take (length new) tear)
 

@@ -175,7 +175,7 @@ fn after_tear(stop: bool) -> Mode
     if stop { Mode::Stopped } else { Mode::Whole }
 }
 
-// The front of a tear that is kept.
+// The first bytes of a tear, at most 4,096, which are kept.
 fn keep_tear(tear: &[u8]) -> ArrayVec<u8, 4096>
     ensures { result.items ≡ take 4096 tear.now }
 {

@@ -5,7 +5,7 @@ use Rattle.std.proofs.lemmas.List.{append_assoc, take-append-drop, append-nil}
 use Rattle.std.specs.Io.KnownBytes.{Appends, Keeps}
 use Rattle.dfu_suffix.specs.Writing.{IsOutInPart}
 
--- A front of the text is out, and the rest is left.
+-- A prefix of the text is out, and the rest is left.
 abbrev pub Progress : Option (List ℕ) → Option (List ℕ) → List ℕ → List ℕ → Type 0
 Progress old new text rest = (front : List ℕ) × (text ≡ front ++ rest) × Appends old new front
 
@@ -19,7 +19,7 @@ progress_more old mid new text rest n p k = (
   Appends-trans old mid new p.0 (take n rest) p.2 k,
 )
 
--- If something is left, and no more was written, a front of the text is written, and not all of it.
+-- If something is left, and no more was written, a prefix of the text is written, and not all of it.
 pub progress_stopped : (old mid new : Option (List ℕ)) (text rest : List ℕ) →
     Progress old mid text rest → 0 < length rest → Appends mid new [] → IsOutInPart old new text
 progress_stopped old mid new text rest p some k = record {

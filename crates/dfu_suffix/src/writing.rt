@@ -16,7 +16,7 @@ pub struct OutputError;
 /// what is left.
 #[inline(never)]
 pub fn write_whole<W: Write>(writer: &mut W, text: &[u8]) -> Result<(), OutputError>
-    // At Ok the whole text is written, and at a fault only a front of it.
+    // At Ok the whole text is written, and at a fault only a prefix of it.
     ensures { WritesWhole (W.contents writer.old) (W.contents writer.new) text.now result }
 {
     let mut rest = text;

@@ -12,7 +12,7 @@ use Rattle.dfu_link.specs.declared.scripting.expectation.ScriptContext.{ScriptCo
 use Rattle.dfu_link.specs.declared.scripting.fault.ScriptFault.{ScriptFault}
 use Rattle.dfu_link.specs.declared.scripting.fault.ScriptFault.TheVariants.{NonePrinted, NoMemory, Write}
 
--- How writing a text went: with Ok it is out; with a fault the writer failed, and a front of the text is out, and not all of it.
+-- How writing a text went: with Ok it is out; with a fault the writer failed, and a prefix of the text is out, and not all of it.
 pub record Puts (text : List ℕ) (old new : Option (List ℕ)) (r : Result Unit ScriptFault) : Type 0 where
   pub ok : OnOk r (Appends old new text)
   pub err : OnErr r (IsOutInPart old new text)
@@ -38,7 +38,7 @@ pub record Prints (e : Option Expectation) (old : Option (List ℕ)) (text : Lis
   pub meets : Meets e text
   pub left : e' ≡ still e text
 
--- How printing a text next went: with Ok it is out, as expected; with a fault it fell short, and a front of it is out, and not all of it.
+-- How printing a text next went: with Ok it is out, as expected; with a fault it fell short, and a prefix of it is out, and not all of it.
 pub record PrintsNext (e : Option Expectation) (old : Option (List ℕ)) (text : List ℕ) (e' : Option Expectation) (new : Option (List ℕ))
     (r : Result Unit ScriptFault) : Type 0 where
   pub ok : OnOk r (Prints e old text e' new)

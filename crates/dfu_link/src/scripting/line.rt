@@ -90,7 +90,7 @@ pub(crate) enum EventLine<'l, 'g> {
         times: u32,
     },
     /// The host takes its next action: after so many writes that work one is harmed, and leaves the
-    /// front of this tear.
+    /// first bytes of this tear, as many as fit into its range.
     GoHarmed {
         harm: HarmKind,
         writes: u32,

@@ -109,7 +109,7 @@ pub(super) fn run_lines<T: Tracer<SimMedium>, R: Read + Drop, W: Write>(
 /// lines before it is out whole. TooLarge comes if the byte 16,777,217 comes before the end of a
 /// line, and before the byte of that line that is one too many; no read is made after that byte was
 /// read. Read comes at the first error of the reader, with no second try. With BadConfig nothing is
-/// written; with Write a front of the text.
+/// written; with Write a prefix of the text.
 pub fn script_with<R: Read + Drop, W: Write>(
     alloc: Global,
     given: Option<&[u8]>,

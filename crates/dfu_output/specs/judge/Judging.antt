@@ -23,7 +23,7 @@ CannotGo interface front c rest (BadLine n why) = (n ≡ c.number + 1) × IsBadL
 CannotGo interface front c rest TooLarge = length front ≡ 1099511627776
 CannotGo interface front c rest fault = ⊥
 
--- What is out when judging stopped: what is printed of the text so far, or a front of it if the writer failed.
+-- What is out when judging stopped: what is printed of the text so far, or a prefix of it if the writer failed.
 abbrev pub StopsWith : (interface : ℕ) (front : List ℕ) → LogCourse → (rest : List ℕ) (old new : Option (List ℕ)) → LogFault → Type 0
 StopsWith interface front c rest old new NoMemory = Appends old new c.out
 StopsWith interface front c rest old new Read = Appends old new c.out
@@ -87,7 +87,7 @@ pub data WritesJudgment (interface : ℕ) (given old new : Option (List ℕ)) (r
 abbrev pub WritesOfLog : (interface : ℕ) (given old new : Option (List ℕ)) → Exit → Type 0
 WritesOfLog interface given old new result = (stop : Option LogFault) × WritesJudgment interface given old new result stop
 
--- Why a departure wasn't written: there was no memory for its lines and none is out, or the writer failed and a front of them is.
+-- Why a departure wasn't written: there was no memory for its lines and none is out, or the writer failed and a prefix of them is.
 abbrev pub CannotTell : (text : List ℕ) (old new : Option (List ℕ)) → LogFault → Type 0
 CannotTell text old new NoMemory = new ≡ old
 CannotTell text old new Write = IsOutInPart old new text

@@ -161,7 +161,7 @@ pub fn judge_with_fault<R: Read + Drop, W: Write>(
 ///
 /// For a log that was judged no further the line is `refused BadLine N` or `refused NAME` with Refused, or `fault Read` with Fault; what
 /// was written before precedes it. Memory is taken for a line and for what is written: if it is refused, the line is `refused
-/// NoMemory`. If the writer fails, it returns Fault; a front of the text is out, not all of it, and nothing more is written.
+/// NoMemory`. If the writer fails, it returns Fault; a prefix of the text is out, not all of it, and nothing more is written.
 pub fn judge_text<R: Read + Drop, W: Write>(
     alloc: Global,
     interface: u8,

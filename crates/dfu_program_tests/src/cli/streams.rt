@@ -11,7 +11,7 @@ fn runs_a_script_that_cannot_be_read(rt: HostRuntime) {
     assert_eq!(rt; out.as_slice(), &b"fault Read\n"[..]);
 }
 
-// A writer that fails after some bytes: a front is written, and nothing more is tried.
+// A writer that fails after some bytes: a prefix is written, and nothing more is tried.
 #[test]
 fn stops_a_script_at_a_writer_that_fails(rt: HostRuntime) {
     let mut out = Refusing {

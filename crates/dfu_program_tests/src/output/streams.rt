@@ -14,7 +14,7 @@ fn checks_a_reader_that_fails(rt: HostRuntime) {
     assert_eq!(rt; out.as_slice(), &b"fault Read\n"[..]);
 }
 
-// A writer that fails after some bytes: a front is written, and nothing more is tried.
+// A writer that fails after some bytes: a prefix is written, and nothing more is tried.
 #[test]
 fn stops_at_a_writer_that_fails(rt: HostRuntime) {
     for room in [0usize, 1, 16] {

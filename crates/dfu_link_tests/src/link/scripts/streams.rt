@@ -202,7 +202,7 @@ fn fails_at(rt: &impl Abort, alloc: Global, text: &[u8], front: &[u8]) {
     assert_eq!(rt; narrow.taken.as_slice(), front);
 }
 
-/// The writer fails at each byte in turn, and a front of the text is written.
+/// The writer fails at each byte in turn, and a prefix of the text is written.
 #[test]
 fn writers_fail_anywhere(rt: HostRuntime) -> Result<(), Fail> {
     let text = text_of(

@@ -105,7 +105,7 @@ pub(crate) fn do_steps(model: &mut [u8], steps: &[Step]) {
     }
 }
 
-/// A step that writes only the front of this tear.
+/// A step that writes only the first bytes of this tear.
 fn tear_step(model: &mut [u8], step: Step, tear: &[u8]) {
     let (at, len) = range_of(step);
     for number in 0..len {
