@@ -183,8 +183,9 @@ struct dfu_place {
     uint32_t length; /**< bytes; 0: there is no application */
 };
 
-/* The calls. Each returns the first of its refusals that holds, in the order in which they are named. A refusal changes nothing, and no
- * call writes the flash. */
+/* The calls. Each returns the first of its refusals that holds, in the order in which they are named; but if a format is due, those that
+ * can return DFU_NO_BLOCK, and dfu_core_candidate, return DFU_ASKED before DFU_NO_CONFIG. A refusal changes nothing, and no call writes
+ * the flash. */
 
 /** @brief The device gets power: afterwards the record is that of a device in appIDLE, whatever it held before.
  * @return 0; DFU_NO_CONFIG, DFU_NO_MEDIUM */

@@ -6,11 +6,11 @@ use Rattle.std.specs.List.{fold}
 abbrev pub is_between : ℕ → Bool
 is_between b = (b == 32) || ((b == 9) || ((b == 10) || ((b == 13) || ((b == 58) || (b == 44)))))
 
--- An x after the 0 that would be the first digit of a byte is a mark before bytes.
+-- An x or X after a 0 that would be the first digit of a byte is a mark before bytes.
 abbrev pub is_mark : List ℕ → ℕ → Bool
 is_mark digits b = ((b == 120) || (b == 88)) && ((length digits % 2 == 1) && (slice_index digits (length digits - 1) == 48))
 
--- A sign between bytes goes, and so does a mark with its 0; a byte that is parted gets a sign that is no digit.
+-- A sign between bytes is left out, and so is a mark with its 0; in a byte that is parted comes `?`, which is no digit, in its place.
 unfoldable pub step : List ℕ → ℕ → List ℕ
 step digits b =
     if is_between b then (if length digits % 2 == 0 then digits else digits ++ 63 ∷ [])

@@ -9,7 +9,7 @@ abbrev pub ids_in : (vendor product device : Option ℕ) → Option Ids
 ids_in (Some vendor) (Some product) (Some device) = Some (record { device = device; product = product; vendor = vendor })
 ids_in vendor product device = None
 
--- Three texts of four hexadecimal digits are the identifiers of a device.
+-- Three texts are the identifiers of a device, if each is four hexadecimal digits.
 abbrev pub ids_said : (vendor product device : List ℕ) → Option Ids
 ids_said vendor product device = ids_in (identifier_in vendor) (identifier_in product) (identifier_in device)
 
@@ -19,7 +19,7 @@ wrong_option vendor product device =
     if is_some (identifier_in vendor) then (if is_some (identifier_in product) then (if is_some (identifier_in device) then None
     else Some (codes "--did ", device)) else Some (codes "--pid ", product)) else Some (codes "--vid ", vendor)
 
--- The identifiers that change: each option that is given, with its number.
+-- The identifiers that change: of each option that is given and is four hexadecimal digits the number. Any other stays.
 abbrev pub change_said : (vendor product device : Option (List ℕ)) → Change
 change_said vendor product device = record {
   vendor = option_and_then identifier_in vendor;

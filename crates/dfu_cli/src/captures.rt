@@ -12,7 +12,7 @@ pub(crate) fn interface_in(word: &str) -> Option<u8> {
     u8::try_from(number_of(word)?).ok()
 }
 
-/// The address that `--device` says; `Some(None)` if it is `only`, and `None` if it is neither.
+/// The address that `--device` says as BUS.DEVICE, up to 65,535 and 255; `Some(None)` if it is `only`, and `None` if it is neither.
 pub(crate) fn device_in(word: &str) -> Option<Option<Address>> {
     if word == "only" {
         return Some(None);

@@ -54,8 +54,8 @@ fn with_word(digits: Vec<u8>, word: &str) -> Result<Vec<u8>, AllocError>
     stepped(digits, b' ')
 }
 
-/// The digits of bytes in words: without signs between bytes, as spaces, line ends, colons and commas, and without 0x before a byte. Where
-/// a byte is parted, there is a sign that is no digit.
+/// The digits of bytes in words: without signs between bytes, as spaces, line ends, colons and commas, and without 0x before a byte. If a
+/// byte is parted, there is `?` in it, which is no digit.
 pub(crate) fn bare(alloc: Global, words: &[String]) -> Result<Vec<u8>, AllocError>
     ensures { IfOk result (λ v. v.items ≡ bare_digits (map string_bytes words.now)) }
 {

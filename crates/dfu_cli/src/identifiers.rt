@@ -75,7 +75,7 @@ fn number_in(text: &Option<String>) -> Option<u16>
     }
 }
 
-/// The identifiers that change, if each text is four hexadecimal digits.
+/// The identifiers that change: of each text that is given and is four hexadecimal digits the number. Any other stays.
 pub(crate) fn change_said(
     vendor: &Option<String>,
     product: &Option<String>,

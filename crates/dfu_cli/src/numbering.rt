@@ -27,7 +27,7 @@ pub(crate) fn number_text<W: Write>(alloc: Global, text: &str, number: u32, writ
     }
 }
 
-/// A number of 1 to 10 digits.
+/// A number of 1 to 10 decimal digits, up to 4,294,967,295.
 pub(crate) fn number_of(word: &str) -> Option<u32> {
     let digits = word.as_bytes();
     if digits.len() > 10 || !digits.iter().all(|digit| digit.is_ascii_digit()) {

@@ -13,7 +13,7 @@ use dfu_suffix::SuffixFault;
 use std::alloc::Global;
 use std::io::{Read, Write};
 
-/// Writes the line for a script that stopped. Where the writer failed nothing more is written.
+/// Writes the line for a script that stopped. If the writer failed, nothing more is written.
 pub(crate) fn stop_text<W: Write>(alloc: Global, fault: ScriptFault, writer: &mut W) -> Exit
     ensures { WritesStop fault (W.contents writer.old) (W.contents writer.new) result }
 {

@@ -150,7 +150,7 @@ impl Config {
         self.least
     }
 
-    /// How long it takes to write a block.
+    /// How long it takes to write a block, in milliseconds.
     pub fn busy_ms(&self) -> u32
         ensures value { result ≡ self.now.busy_ms }
         ensures fits { result < 2 ^ 24 }
@@ -158,7 +158,7 @@ impl Config {
         self.busy_ms
     }
 
-    /// How long it takes to put an image in place.
+    /// How long it takes to put an image in place, in milliseconds.
     pub fn manifest_ms(&self) -> u32
         ensures value { result ≡ self.now.manifest_ms }
         ensures fits { result < 2 ^ 24 }

@@ -23,8 +23,8 @@ use Rattle.dfu_device_c.specs.Formatting.{FORMAT}
 use Rattle.dfu_device_c.specs.Numbers.{refusal_number, reply_number, passed_number, NO_ROOM}
 
 -- Why there is no device that asks, if the memory of its block has so many bytes: a format is due; or else the
--- configuration is not allowed; or else the memory has too little room; or else the record is not that of such a device with a block of at
--- most the transfer size.
+-- configuration is not allowed; or else the memory has less room than the transfer size and the unit together; or else the record is not
+-- that of such a device with a block of at most the transfer size.
 abbrev pub IsUnfound : Refusal → DfuConfig → DfuRecord → ℕ → Type 0
 IsUnfound refusal.Asked c r room = r.work ≡ FORMAT
 IsUnfound refusal.NoConfig c r room = (r.work ≢ FORMAT) × ¬ IsConfig c

@@ -19,7 +19,7 @@ pub record IsIdleRecord (c : DfuConfig) (r : DfuRecord) : Type 0 where
   pub has_mode : HasMode r mode
   pub idle : r.work ≡ 0
 
--- One of the former; or else writes are due.
+-- The configuration is not allowed; or else the record has no mode; or else writes are due, or a format is.
 abbrev pub RefusesSetup : DfuConfig → DfuRecord → ℤ → Type 0
 RefusesSetup c r result = RefusesRecord c r result
     ⊎ ((result ≡ ASKED) × IsConfig c × ((m : DeviceState) × HasMode r m) × (r.work ≢ 0))

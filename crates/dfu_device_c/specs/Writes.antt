@@ -51,11 +51,11 @@ IsAsking a flash = (len : ℕ) × (s : SlotsState) × (was : List ℕ) × AsksWr
 abbrev pub HandsNothing : LentAsking → List ℕ → Type 0
 HandsNothing a flash = ¬ IsAsking a flash ⊎ 2 ^ 32 ≤ length flash
 
--- So it is on some flash.
+-- There is a flash on which it asks for the writes of a row.
 abbrev pub AsksOnSomeFlash : LentAsking → Type 0
 AsksOnSomeFlash a = (flash : List ℕ) × IsAsking a flash
 
--- There is no device that asks; or else it is refused with DFU_NO_DEVICE, for this.
+-- There is no device that asks; or else it is refused with DFU_NO_DEVICE, for this reason.
 pub data RefusesPiece (c : DfuConfig) (r : DfuRecord) (block : List ℕ) (Why : Asking → Type 0) (result : ℤ) : Type 0 where
   refuses_unfound : (e : Refusal) → result ≡ refusal_number e → IsUnfound e c r (length block) → RefusesPiece c r block Why result
   refuses_piece : (a : Asking) → result ≡ NO_DEVICE → IsConfig c → block_memory_size c ≤ length block → IsKept c r a → Why a

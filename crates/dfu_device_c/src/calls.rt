@@ -1,4 +1,8 @@
 //! The calls for a device that asks, as a program in C makes them: `include/dfu_core.h` says each for a reader of C.
+//!
+//! Every call is refused, in this order, with -12 if a format is due; -2 if the configuration is not allowed; -10 if the block's memory
+//! has less room than the transfer size and the unit together; -4 if the record is no device's; -12 if writes are due; -3 if the header
+//! that the record notes is not in an open slot of the flash; -4 if record or memory are not as the last call left them on this flash.
 ghost use Rattle.std.specs.Prelude.{◌≡◌, ◌⊎◌, ◌<◌, not, ◌==◌, [], ℕ, List, pos, length, take, if◌then◌else◌, None};
 ghost use Rattle.dfu_device.specs.Rows.{Handles, Elapses};
 ghost use Rattle.dfu_device.specs.Table.{reset_stage};
@@ -73,7 +77,7 @@ pub extern "C" fn dfu_core_handle(
     )
 }
 
-/// So many milliseconds pass, as `Asking::elapse`: 0; or -11 if writes are due now.
+/// So many milliseconds pass, as `Asking::elapse`: 0; or -11 if writes are due now. Refused as every call.
 #[unsafe(no_mangle)]
 pub extern "C" fn dfu_core_elapse(
     config: &DfuConfig,
@@ -99,7 +103,7 @@ pub extern "C" fn dfu_core_elapse(
     )
 }
 
-/// The bus is reset, as `Asking::usb_reset`: 0.
+/// The bus is reset, as `Asking::usb_reset`: 0. Refused as every call.
 #[unsafe(no_mangle)]
 pub extern "C" fn dfu_core_usb_reset(
     config: &DfuConfig,
@@ -127,7 +131,7 @@ pub extern "C" fn dfu_core_usb_reset(
 /// The write that `dfu_core_next` gave was carried out, or failed if `failed` is not 0; as `Asking::took`: -11, and the next
 /// one is due; or the answer of the call that asked. Of the block's memory only the bytes after the transfer size may change.
 ///
-/// Refused with -5 if `out` has less room than 6 bytes; then as every call, and with -4 if no write is due.
+/// Refused with -5 if `out` has less room than 6 bytes; then as every call up to the first -4, and with -4 if no write is due.
 #[unsafe(no_mangle)]
 pub extern "C" fn dfu_core_took(
     config: &DfuConfig,
@@ -162,7 +166,9 @@ pub extern "C" fn dfu_core_took(
 
 /// The next write, as `Asking::next`: 0, and `ask` has it. Nothing else changes.
 ///
-/// Refused with -4 if no write is due, or its range is not in the spare slot; before that as every call.
+/// Refused as every call up to the first -4; then with -4 if no write is due, its range is not in the spare slot, that slot's gate is
+/// open and no image is active, it would erase less than a sector, or the flash has 2^32 bytes or more. Only the last of these can be if a
+/// call returned -11 and the writes before this one are on the flash.
 #[unsafe(no_mangle)]
 pub extern "C" fn dfu_core_next(
     config: &DfuConfig,

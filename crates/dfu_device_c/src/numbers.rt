@@ -16,13 +16,14 @@ pub(crate) const NO_ROOM: i32 = -5;
 pub enum Refusal {
     /// The configuration is of another version, or not allowed.
     NoConfig,
-    /// The block's memory has less room than the transfer size.
+    /// The block's memory has less room than the transfer size and the unit together.
     NoBlock,
-    /// Writes are due: they come first.
+    /// Writes are due, of a device or of a format: they come first.
     Asked,
-    /// The flash has no active image, or 2^32 bytes or more.
+    /// At power on: the flash has no active image, or 2^32 bytes or more. Of a device: the header that it
+    /// noted is not in an open slot of the flash.
     NoMedium,
-    /// The record is not that of a device that asks on that flash.
+    /// The record is not that of a device that asks, or not as the last call left it on that flash.
     NoDevice,
 }
 

@@ -67,8 +67,9 @@ fn new_part<R: Files + AllocGlobal>(rt: &R, place: Destination) -> io::Result<Te
     Err(io::Error::new(ErrorKind::AlreadyExists, why))
 }
 
-/// The rights that a file has in place of one with this mode: the same; if it has another owner
-/// and group, that group has those of all others. In octal, the masks of the clauses are 777, 707 and 7.
+/// The rights that a file has in place of one with this mode, without setuid, setgid and sticky. If
+/// the owner and the group are kept, they are the same; else the group has those of all others. In
+/// octal, the masks of the clauses are 777, 707 and 7.
 pub fn rights_after(mode: u32, is_kept: bool) -> u32
     ensures kept { is_kept ≡ true → result ≡ bit_and mode 511 }
     ensures given { is_kept ≡ false → result ≡ bit_or (bit_and mode 455) (bit_and mode 7 * 8) }

@@ -29,8 +29,8 @@ pub fn wrote_line(alloc: Global, count: u32) -> Result<String, AllocError>
 /// Writes to `file` what the reader gives and a suffix for it, and one line to `out`: `wrote N`
 /// with Done, N being the number of bytes in `file`; `refused NAME` with Refused; `fault Read` or
 /// `fault Write`, of `file`, with Fault. After `fault Write` a prefix of the text is in `file`, not
-/// all of it, and after any other line but `wrote N` nothing is. Where the line can't be made for
-/// want of memory it is `refused NoMemory`, and `file` may be whole.
+/// all of it, and after any other line but `wrote N` nothing is. But if there is no memory for the
+/// line `wrote N`, it is `refused NoMemory`, and `file` is whole.
 ///
 /// If `out` fails, it returns Fault, and a prefix of the line is out, not all of it.
 pub fn add_text<R: Read + Drop, F: Write, W: Write>(

@@ -37,7 +37,7 @@ fn bad_line(alloc: Global, number: u64) -> Result<String, AllocError>
     format!(in alloc; "refused BadLine {number}\n")
 }
 
-/// Writes the line for a log that was judged no further. Where the writer failed nothing more is written.
+/// Writes the line for a log that was judged no further. If the writer failed, nothing more is written.
 pub fn stop_text<W: Write>(alloc: Global, fault: LogFault, writer: &mut W) -> Exit
     ensures { WritesLogStop fault (W.contents writer.old) (W.contents writer.new) result }
 {
