@@ -18,7 +18,7 @@ slot_of m at = slot (gate_room m.grain) m.bytes at
 abbrev pub capacity_of : MediumState → ℕ
 capacity_of m = capacity (gate_of m) m.bytes
 
--- The medium is two slots of one size, each with 1 to 2^24 bytes of data in whole units and sectors.
+-- The medium is two slots of one size, each with 1 to 2^24 bytes of data in whole units and sectors, of a size that the store takes.
 pub record IsSized (m : MediumState) : Type 0 where
   pub even : length m.bytes ≡ 2 * slot_size m.bytes
   pub room : 2 * gate_room m.grain < slot_size m.bytes
@@ -82,15 +82,15 @@ counts s = (s.gate == OPEN) && (not (header_version s == 2) || is_intact s)
 abbrev pub is_newest : Slot → Slot → Bool
 is_newest mine other = counts mine && (not (counts other) || (generation mine == next_generation (generation other)))
 
--- Whether the first slot is the active one.
+-- Whether the first slot is the active one, on a medium that has an active image; else nothing follows of it, nor of the places below.
 abbrev pub first_is_active : ℕ → List ℕ → Bool
 first_is_active g bytes = is_newest (slot g bytes 0) (slot g bytes (slot_size bytes))
 
--- Where the active slot begins.
+-- Where the active slot begins, on a medium that has an active image.
 abbrev pub active_at : ℕ → List ℕ → ℕ
 active_at g bytes = if first_is_active g bytes then 0 else slot_size bytes
 
--- Where the spare slot begins.
+-- Where the spare slot begins, on a medium that has an active image.
 abbrev pub spare_at : ℕ → List ℕ → ℕ
 spare_at g bytes = if first_is_active g bytes then slot_size bytes else 0
 

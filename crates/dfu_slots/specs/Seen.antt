@@ -29,7 +29,7 @@ fused s fuse = record s { medium = record s.medium { fuse = fuse } }
 abbrev pub store_restarted : SlotsState → Fuse → SlotsState
 store_restarted s fuse = store_on (record s.medium { fuse = fuse })
 
--- What is in the active slot.
+-- What is in the active slot, if the medium has an active image.
 abbrev pub active_slot : SlotsState → Slot
 active_slot s = slot (gate_of s.medium) s.medium.bytes (active_at (gate_of s.medium) s.medium.bytes)
 
@@ -37,7 +37,7 @@ active_slot s = slot (gate_of s.medium) s.medium.bytes (active_at (gate_of s.med
 abbrev pub spare_slot : SlotsState → Slot
 spare_slot s = spare (gate_of s.medium) s.medium.bytes
 
--- The active image.
+-- The active image, if the medium has one.
 unfoldable pub image_of : SlotsState → List ℕ
 image_of s = take (header_length (active_slot s)) (active_slot s).data_bytes
 

@@ -60,7 +60,7 @@ pub(crate) fn gate_size(unit: Unit) -> u32
     HEADER_SIZE.max(unit.size())
 }
 
-/// How many bytes the gate of a slot takes up, and its header as many: a unit of at least 16, or a sector.
+/// How many bytes the gate of a slot takes up, and its header as many: 16, a unit or a sector, whichever is most.
 pub(crate) fn gate_room(unit: Unit, sector: u32) -> u32
     ensures { result ≡ gate_room (record { unit = unit; sector = sector }) }
 {
@@ -76,7 +76,7 @@ pub(crate) fn fill_size(unit: Unit, len: u32) -> u32
     (size - len % size) % size
 }
 
-/// How many bytes the gate of a slot takes up, and its header as many: a unit of at least 16, or a sector.
+/// How many bytes the gate of a slot takes up, and its header as many: 16, a unit or a sector, whichever is most.
 pub fn gate_of<M: Medium>(medium: &M) -> u32
     ensures { result ≡ gate_of (M.state medium.now) }
 {

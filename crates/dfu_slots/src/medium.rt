@@ -80,7 +80,7 @@ pub trait Faulty: Medium {
     /// The next `writes` writes work; the one after them fails and leaves the first bytes of `tear`
     /// at the front of its range, and the old bytes in the rest of it. Of `tear` at most 4,096 bytes are kept.
     ///
-    /// With `stop` all later writes fail too and leave nothing, until `disarm`; without it they work.
+    /// With `stop` all later writes fail too and leave the old bytes, until `disarm`; without it they work.
     /// It replaces an earlier `arm` or `arm_lie`, and changes no byte.
     fn arm(&mut self, writes: u32, tear: &[u8], stop: bool)
         ensures { Self.state self.new ≡ record (Self.state self.old) { fuse = Armed writes (take 4096 tear.now) stop } };
