@@ -19,7 +19,7 @@ pub record IsNoted (n : Noted) (m : MediumState) : Type 0 where
   pub place : noted_at n m.bytes ≡ active_at (gate_of m) m.bytes
   pub header : n.header ≡ (slot_of m (active_at (gate_of m) m.bytes)).header
 
--- The noted slot of a medium is open, and has the noted header, whose length fits. No image is read to tell that.
+-- A medium is two slots, and the noted one is open, and has the noted header, whose length fits. No image is read to tell that.
 pub record NotedStands (n : Noted) (m : MediumState) : Type 0 where
   pub sized : IsSized m
   pub is_open : (slot_of m (noted_at n m.bytes)).gate ≡ OPEN

@@ -20,7 +20,7 @@ pub record IsKeptOn (a : Asking) (block held flash : List ℕ) : Type 0 where
   pub fits : Fits a (length block)
   pub is : IsDevice (lent a block held) flash
 
--- The noted header is in an open slot of this flash.
+-- This flash is two slots, and the noted one is open and has the noted header, whose length fits.
 abbrev pub IsThere : Asking → List ℕ → Type 0
 IsThere a flash = NotedStands a.noted (mapped (grain_of a.unit a.sector) flash)
 
@@ -50,7 +50,7 @@ IsNotTaken refusal.NoRoom a room = room < 6
 IsNotTaken refusal.NoDevice a room = (6 ≤ room) × ((w : PendingWrites) → ¬ IsLeft a w)
 IsNotTaken e a room = ⊥
 
--- It has no cause to be refused.
+-- `took` has no cause to be refused.
 pub record IsTaken (a : LentAsking) (room : ℕ) : Type 0 where
   pub fits : 6 ≤ room
   pub work : PendingWrites

@@ -28,9 +28,10 @@ pub struct FlashOp {
 pub enum Refusal {
     /// Writes are due: they come first.
     Asked,
-    /// The flash has no active image, or 2^32 bytes or more.
+    /// The noted header is not in an open slot of the flash, or the flash is not two slots, as one of 2^32 bytes or more.
     NoMedium,
-    /// What is kept is not a device on that flash.
+    /// What is kept is not a device on that flash, or the block's memory has less room than the transfer size. Of `took`: no
+    /// write is due.
     NoDevice,
     /// The buffer of the answer has less room than an answer may need.
     NoRoom,

@@ -45,7 +45,7 @@ pub record IsBack (m : MediumState) (t : Trial) (now : MediumState) : Type 0 whe
   pub image : image_at now t.base ≡ image_at m t.base
 
 -- What comes of the operation of a start, with a start left: the image on trial runs, and the start is recorded; or the confirmed one runs,
--- and nothing changed.
+-- and the trial goes on as it was.
 abbrev pub AfterMark : MediumState → ℕ → Trial → MediumState → ℕ → Type 0
 AfterMark m tries t now ran = (HasStarted m tries t now × (ran ≡ t.slot)) ⊎ (GoesOn m tries t now × (ran ≡ t.base))
 
