@@ -14,7 +14,8 @@ pub enum LinkFault {
     #[error("no session is live")]
     NoHost,
     /// While no session is live: of an offer, the fault of `dfu_suffix::read`, else that of
-    /// `Host::download`; of an upload, that of `Host::upload`.
+    /// `Host::download`, or `Host::download_verified` if it is to be verified; of an upload, that of
+    /// `Host::upload`.
     #[error("the session is refused: {0}")]
     BadOffer(OfferFault),
     /// There was no memory for a report. Only `run` answers it.
@@ -28,8 +29,9 @@ pub enum OfferFault {
     /// The bytes are no DFU file: this is the first fault of `dfu_suffix::read`. Only an offer has it.
     #[error("{0}")]
     Suffix(SuffixFault),
-    /// The file is read, and this is the first fault of `Host::download` with the device's
-    /// descriptor and identifiers; or of `Host::upload` with the descriptor.
+    /// The file is read, and this is the first fault of `Host::download`, or of
+    /// `Host::download_verified` if it is to be verified, with the device's descriptor and
+    /// identifiers; or that of `Host::upload` with the descriptor.
     #[error("{0}")]
     Host(HostFault),
 }

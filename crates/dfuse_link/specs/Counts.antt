@@ -97,8 +97,8 @@ pub record EndsCounted (plan : Plan) (n waits : ℕ) (seens : List Seen) (s : Se
       (waits_in seens ≡ waits)
   pub enough : n ≤ length seens → DfuseIsOver s.phase
 
--- If the device works, and nothing gets lost, a session ends as Verified after exactly as many requests as are counted, and a wait for each
--- command.
+-- If the device works, nothing gets lost, and the limits allow as many actions, a session ends as Verified after exactly as many requests
+-- as are counted, and a wait for each command.
 abbrev pub CleanRunsAreCounted : Type 0
 CleanRunsAreCounted = (plan : Plan) (limits : Limits) (c : PlanCounts plan) (seens : List Seen) (s : Session) → IsPlanned plan →
     requests plan c + commands plan c ≤ limits.actions → CleanSession (dfuse_begun plan limits) seens s →

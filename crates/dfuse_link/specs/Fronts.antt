@@ -45,7 +45,9 @@ ErasesFront chip plan = (a : ℕ) → IsOfFront plan a → chip.erases (page_sta
 abbrev pub FrontIsBlank : Chip → Plan → (memory : ℕ → ℕ) → Type 0
 FrontIsBlank chip plan memory = (a : ℕ) → IsOfFront plan a → chip.blank (memory a) ≡ true
 
--- At each moment the front is blank, or what isn't on its page is all old, or all new.
+-- At each moment the front is blank, or what isn't on its page is all as it was, or has each byte of the image: if no two ranges of the
+-- map share an address, the map is true of the image's pages, the device carries out no order at first, and an erase of the front's page
+-- reaches the front.
 abbrev pub NoMixture : Type 0
 NoMixture = (chip : Chip) (plan : Plan) (limits : Limits) (d d' : Device) (s : Session) (seens : List Seen) → IsFor chip plan →
     are_apart plan.map.now.ranges ≡ true → IsTrueMap chip plan → ErasesFront chip plan → CarriesNone d →
@@ -53,7 +55,8 @@ NoMixture = (chip : Chip) (plan : Plan) (limits : Limits) (d d' : Device) (s : S
     ((a : ℕ) → IsElsewhere plan a → d'.memory a ≡ d.memory a)
     ⊎ (FrontIsBlank chip plan d'.memory ⊎ ImageStands plan (IsElsewhere plan) d'.memory)
 
--- While a session's work is not to erase, nor to erase again, the front is blank, or all after it is in the memory, on its page too.
+-- If the same holds, while a session's work is not to erase, nor to erase again, the front is blank, or each byte of the image after it is
+-- in the memory, on its page too.
 abbrev pub NoneButErasing : Type 0
 NoneButErasing = (chip : Chip) (plan : Plan) (limits : Limits) (d d' : Device) (s : Session) (seens : List Seen) (here : Standing) →
     IsFor chip plan → are_apart plan.map.now.ranges ≡ true → IsTrueMap chip plan → ErasesFront chip plan → CarriesNone d →

@@ -21,7 +21,8 @@ IsTrueMap chip plan =
 abbrev pub CarriesNone : Device → Type 0
 CarriesNone d = (order : Order) → d.doing ≡ Busy order → ⊥
 
--- At each moment, a byte on a page that has no byte of the image is as it was when the session began.
+-- At each moment, a byte on a page that has no byte of the image is as it was when the session began, if the map is true of the image's
+-- pages, and the device carried out no order then.
 abbrev pub OthersStay : Type 0
 OthersStay = (chip : Chip) (plan : Plan) (limits : Limits) (d d' : Device) (s : Session) (seens : List Seen) (a : ℕ) → IsFor chip plan
     → IsTrueMap chip plan → CarriesNone d → History chip d (dfuse_begun plan limits) seens d' s → (IsTouched plan (page_start plan a) → ⊥)

@@ -41,8 +41,8 @@ pub fn others_stay()
     only_touched();
 }
 
-/// If nothing gets lost, and the device works, a session ends as Verified after exactly as many requests and waits as its plan's pages and
-/// blocks make, and no earlier. Each plan has such numbers.
+/// If nothing gets lost, the device works, and the limits allow as many actions, a session ends as Verified after exactly as many requests
+/// and waits as its plan's pages and blocks make, and no earlier. Each plan has such numbers.
 pub fn clean_runs_are_counted()
     ensures exact { CleanRunsAreCounted }
     ensures counts { PlansHaveCounts }
@@ -50,9 +50,10 @@ pub fn clean_runs_are_counted()
     one_page();
 }
 
-/// Say the map is true, the device carries out no order at first, and an erase of the front's page reaches the front. Then at each
-/// moment the front is blank, or what isn't on its page is all as it was, or the image is there. While the session's work is another one
-/// than to erase, the front is blank, or the image follows it in the memory, on its page too.
+/// Say no two ranges of the map share an address, the map is true of the image's pages, the device carries out no order at first, and an
+/// erase of the front's page reaches the front. Then at each moment the front is blank, or what isn't on its page is all as it was, or the
+/// image is there. While the session's work is another one than to erase, the front is blank, or the image follows it in the memory, on its
+/// page too.
 pub fn no_mixture()
     ensures always { NoMixture }
     ensures but_erasing { NoneButErasing }
