@@ -5,7 +5,7 @@ use Rattle.std.specs.Char.{is_ascii_digit}
 use Rattle.std.specs.Str.{bytes_eq}
 use Rattle.dfu_json.specs.declared.name.Name.{Name}
 use Rattle.dfu_json.specs.declared.part.WordKind.{WordKind}
-use Rattle.dfu_json.specs.declared.part.WordKind.TheVariants.{Number, Flag, Word}
+use Rattle.dfu_json.specs.declared.part.WordKind.TheVariants.{Number, Flag, Word, Inner}
 use Rattle.dfu_json.specs.declared.part.LinePart.{LinePart}
 use Rattle.dfu_json.specs.declared.part.LinePart.TheVariants as part
 use Rattle.dfu_json.specs.Names.{name_text}
@@ -47,7 +47,7 @@ list_length (b ∷ bs) = if starts_with nat_eq (b ∷ bs) (codes " events ") the
 abbrev pub is_number : List ℕ → Bool
 is_number word = list_all is_ascii_digit word && (nat_le (length word) 1 || not (slice_index word 0 == 48))
 
--- The text so far and the value that a word is, if it is of this kind.
+-- The text so far and the value that a word is, if it is of this kind. An inner object is not ended.
 unfoldable pub with_value : WordKind → (out word : List ℕ) → Option (List ℕ)
 with_value Number out word = if is_number word then Some (out ++ word) else None
 with_value Flag out word =
@@ -55,6 +55,7 @@ with_value Flag out word =
     else if bytes_eq word (codes "no") then Some (out ++ codes "false")
     else None
 with_value Word out word = Some (out ++ quoted word)
+with_value (Inner key) out word = Some (out ++ 123 ∷ [] ++ quoted (name_text key) ++ 58 ∷ [] ++ quoted word)
 
 -- A comma parts a member from the one before it.
 abbrev pub joint : List ℕ → List ℕ
@@ -73,18 +74,12 @@ valued key kind out line = word_in line >>= λ w. with_value kind (keyed out key
 abbrev pub with_list : Name → (out line : List ℕ) → Option (List ℕ × List ℕ)
 with_list key out line = Some (keyed out key ++ array (take (list_length line) line), drop (list_length line + 1) line)
 
--- The members so far with an object as the value of the first key, in which a word is the value of the second, and the words after it.
-abbrev pub nested : Name → Name → (out line : List ℕ) → Option (List ℕ × List ℕ)
-nested outer key out line =
-    word_in line >>= λ w. Some (keyed out outer ++ 123 ∷ [] ++ quoted (name_text key) ++ 58 ∷ [] ++ quoted w.0, w.1)
-
 -- The members so far and that of a part, and the words after the part; nothing if the words are not of this part.
 unfoldable pub taken : LinePart → (out line : List ℕ) → Option (List ℕ × List ℕ)
 taken (part.Says key word) out line = rest_after line (name_text word) >>= λ r. Some (keyed out key ++ quoted (name_text word), r)
 taken (part.Value key kind) out line = valued key kind out line
 taken (part.Pair key kind) out line = rest_after line (name_text key) >>= λ r. valued key kind out r
 taken (part.List word key) out line = rest_after line (name_text word) >>= λ r. with_list key out r
-taken (part.Opens word key) out line = rest_after line (name_text word) >>= λ r. nested word key out r
 taken (part.Rest key) out line = Some (keyed out key ++ array line ++ 125 ∷ [], [])
 taken (part.Without key) out line = Some (keyed out key ++ array [], line)
 taken part.Blank out line = Some (out, line)

@@ -2,8 +2,8 @@
 
 use crate::name::Name;
 use crate::part::LinePart;
-use crate::part::LinePart::{Blank, List, Opens, Pair, Rest, Says, Value, Without};
-use crate::part::WordKind::{Flag, Number, Word};
+use crate::part::LinePart::{Blank, List, Pair, Rest, Says, Value, Without};
+use crate::part::WordKind::{Flag, Inner, Number, Word};
 
 /// The forms of the lines, in the order in which they are tried.
 #[rattlefmt::skip]
@@ -28,7 +28,7 @@ pub(crate) static FORMS: [[LinePart; 8]; 15] = [
         Pair(Name::String, Number), Blank, Blank, Blank],
     // dfu judge
     [Pair(Name::Departs, Number), Value(Name::Request, Word), List(Name::In, Name::States), Blank, Blank, Blank, Blank, Blank],
-    [Opens(Name::Allowed, Name::State), Value(Name::Request, Word), Value(Name::Answer, Word), Value(Name::Next, Word),
+    [Pair(Name::Allowed, Inner(Name::State)), Value(Name::Request, Word), Value(Name::Answer, Word), Value(Name::Next, Word),
         Value(Name::Source, Word), Rest(Name::For), Blank, Blank],
     [Says(Name::Verdict, Name::Kept), List(Name::By, Name::Habits), Pair(Name::Events, Number), Pair(Name::Single, Number),
         List(Name::States, Name::States), Blank, Blank, Blank],

@@ -11,6 +11,8 @@ pub(crate) enum WordKind {
     Flag,
     /// Any word: a string.
     Word,
+    /// Any word: an object, whose member of this name has the word as its string, and which a later part ends.
+    Inner(Name),
 }
 
 /// A part of a line, which gives a member of the object.
@@ -24,8 +26,6 @@ pub(crate) enum LinePart {
     Pair(Name, WordKind),
     /// The first name and words, up to ` events ` or to the end: the member of the second name has them as its array.
     List(Name, Name),
-    /// The first name and a word: the member of the first name is an object, whose member of the second name has the word as its string.
-    Opens(Name, Name),
     /// All words that are left: the member of this name has them as its array, and the inner object ends.
     Rest(Name),
     /// No word: the member of this name has an empty array.

@@ -3,7 +3,7 @@
 ghost use Rattle.std.specs.Prelude.{◌≡◌, IfOk, MatchBool, MatchOption, OnOk, None, Some};
 ghost use Rattle.std.specs.Char.{is_ascii_digit};
 ghost use Rattle.std.specs.List.{list_all};
-ghost use Rattle.dfu_json.specs.Parts.{is_number, keyed, with_list, nested, taken, valued, with_value};
+ghost use Rattle.dfu_json.specs.Parts.{is_number, keyed, with_list, taken, valued, with_value};
 
 use crate::arrays::push_array;
 use crate::name::Name;
@@ -68,6 +68,13 @@ fn push_value(out: &mut Vec<u8>, kind: WordKind, word: &[u8]) -> Result<bool, Al
             push_quoted(out, word)?;
             Ok(true)
         }
+        WordKind::Inner(key) => {
+            out.extend_from_slice(b"{")?;
+            push_quoted(out, key.text().as_bytes())?;
+            out.extend_from_slice(b":")?;
+            push_quoted(out, word)?;
+            Ok(true)
+        }
     }
 }
 
@@ -106,27 +113,6 @@ fn take_list<'l>(out: &mut Vec<u8>, key: Name, line: &'l [u8]) -> Result<&'l [u8
     Ok(rest)
 }
 
-/// Takes a word that is the value of a key of an inner object.
-fn take_nested<'l>(
-    out: &mut Vec<u8>,
-    outer: Name,
-    key: Name,
-    line: &'l [u8],
-) -> Result<Option<&'l [u8]>, AllocError>
-    ensures { IfOk result (λ r. MatchOption r (nested outer key out.old.items line.now ≡ None)
-        (λ rest. nested outer key out.old.items line.now ≡ Some (out.new.items, rest.now))) }
-{
-    let Some((word, rest)) = word_in(line) else {
-        return Ok(None);
-    };
-    push_key(out, outer)?;
-    out.extend_from_slice(b"{")?;
-    push_quoted(out, key.text().as_bytes())?;
-    out.extend_from_slice(b":")?;
-    push_quoted(out, word)?;
-    Ok(Some(rest))
-}
-
 /// Takes a part: adds its member, and returns the words after it. Nothing if the words are not of this part.
 #[tactic(auto, unfolding(crate::specs::Parts::taken))]
 pub(crate) fn take_part<'l>(
@@ -153,10 +139,6 @@ pub(crate) fn take_part<'l>(
         },
         LinePart::List(word, key) => match rest_after(line, word.text()) {
             Some(rest) => Ok(Some(take_list(out, key, rest)?)),
-            None => Ok(None),
-        },
-        LinePart::Opens(word, key) => match rest_after(line, word.text()) {
-            Some(rest) => take_nested(out, word, key, rest),
             None => Ok(None),
         },
         LinePart::Rest(key) => {
