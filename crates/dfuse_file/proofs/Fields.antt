@@ -1,6 +1,7 @@
 -- Numbers of four bytes among others.
-use Rattle.std.proofs.Common.{◌≡◌, ℕ, ◌+◌, ◌^◌, ◌<◌, ◌≤◌, List, ◌∷◌, ◌++◌, length, take, drop, refl, sym, ap, ◌∙◌, arith, length-take, length-drop, get_or}
+use Rattle.std.proofs.Common.{◌≡◌, ℕ, ◌+◌, ◌^◌, ◌<◌, ◌≤◌, ◌&&◌, Bool, true, eqb, List, ◌∷◌, ◌++◌, length, take, drop, refl, sym, ap, ◌∙◌, arith, length-take, length-drop, get_or}
 use Rattle.std.specs.Int.{w32, from_le_bytes}
+use Rattle.std.proofs.lemmas.Bool.{eqb-true, and_parts}
 use Rattle.std.proofs.lemmas.List.{take-append-drop, drop-drop}
 use Rattle.std.proofs.lemmas.Nat.{from_le_bytes-to_le_bytes_4, le_bytes_4}
 use Rattle.std.proofs.Math.Seq.{drop-cons}
@@ -20,6 +21,17 @@ six_cut b long =
     let c4 : drop 4 b ≡ get_or b 4 0 ∷ drop 5 b = drop-cons b 4 0 (omega (arith, long)) in
     let c5 : drop 5 b ≡ get_or b 5 0 ∷ drop 6 b = drop-cons b 5 0 (omega (arith, long)) in
     cc
+
+-- Four letters that are compared one by one are these, and so is what is asked after them.
+pub letters_are : (b : List ℕ) (l0 l1 l2 l3 : ℕ) (more : Bool)
+    → (eqb (get_or b 0 0) l0 && (eqb (get_or b 1 0) l1 && (eqb (get_or b 2 0) l2 && (eqb (get_or b 3 0) l3 && more)))) ≡ true
+    → (get_or b 0 0 ≡ l0) × (get_or b 1 0 ≡ l1) × (get_or b 2 0 ≡ l2) × (get_or b 3 0 ≡ l3) × (more ≡ true)
+letters_are b l0 l1 l2 l3 more h =
+    let s0 = and_parts (eqb (get_or b 0 0) l0) _ h in
+    let s1 = and_parts (eqb (get_or b 1 0) l1) _ s0.1 in
+    let s2 = and_parts (eqb (get_or b 2 0) l2) _ s1.1 in
+    let s3 = and_parts (eqb (get_or b 3 0) l3) more s2.1 in
+    (eqb-true _ _ s0.0, eqb-true _ _ s1.0, eqb-true _ _ s2.0, eqb-true _ _ s3.0, s3.1)
 
 -- From a place on there are the four bytes of the number there, and what follows them.
 pub cut : (place next : ℕ) (b : List ℕ) → AreBytes b → next ≡ place + 4 → next ≤ length b → drop place b ≡ four (number_at place b) ++ drop next b

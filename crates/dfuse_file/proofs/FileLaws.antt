@@ -1,6 +1,6 @@
 -- What reading a file has to do with the grammar.
-use Rattle.std.proofs.Common.{◌≡◌, ◌⊎◌, ℕ, ◌≤◌, ◌&&◌, ◌||◌, true, not, eqb, ltb, List, ◌∷◌, ◌++◌, length, take, drop, get_or, Result, Ok, IfOk, inl, inr, refl, sym, ap, ◌∙◌, subst, arith}
-use Rattle.std.proofs.lemmas.Bool.{eqb-true, eq-eqb, ltb-false, not-false, and_parts, le-ltb, or_cases, or_left, or_right}
+use Rattle.std.proofs.Common.{◌≡◌, ◌⊎◌, ℕ, ◌≤◌, ◌||◌, true, not, eqb, ltb, List, ◌∷◌, ◌++◌, length, take, drop, get_or, Result, Ok, IfOk, inl, inr, refl, sym, ap, ◌∙◌, subst, arith}
+use Rattle.std.proofs.lemmas.Bool.{eqb-true, eq-eqb, ltb-false, not-false, le-ltb, or_cases, or_left, or_right}
 use Rattle.std.proofs.lemmas.List.{append_assoc}
 use Rattle.std.proofs.Math.Seq.{drop-cons, take-append_seam}
 use Rattle.dfu_suffix.proofs.FileLaws.{if_ok}
@@ -11,7 +11,7 @@ use Rattle.dfuse_file.specs.declared.fault.FileFault.TheVariants.{NoPrefix, BadV
 use Rattle.dfuse_file.specs.Reading.{Target, Suffixed, DfuseContent, ◌>>=◌, number_at, is_prefixed, targets_at, body_at, suffix_at, of_targets, file_at}
 use Rattle.dfuse_file.specs.Grammar.{four, opening, spelled_targets, IsBody, IsDfuSe}
 use Rattle.dfuse_file.proofs.Steps.{bound, passed, skip, same_ok, not_zero, zero_not}
-use Rattle.dfuse_file.proofs.Fields.{cut, number_fits, number_is, six_cut}
+use Rattle.dfuse_file.proofs.Fields.{cut, letters_are, number_fits, number_is, six_cut}
 use Rattle.dfuse_file.proofs.TargetLaws.{targets_found, targets_read}
 use Rattle.dfuse_file.proofs.SuffixLaws.{suffix_found}
 use Rattle.dfuse_file.proofs.SuffixReads.{suffix_read}
@@ -19,16 +19,8 @@ use Rattle.dfuse_file.proofs.SuffixReads.{suffix_read}
 -- Letters that are compared one by one are DfuSe, with the version.
 opening_is : (b : List ℕ) → 6 ≤ length b → is_prefixed b ≡ true → get_or b 5 0 ≡ 1 → b ≡ opening ++ drop 6 b
 opening_is b long h v =
-    let s0 = and_parts (eqb (get_or b 0 0) 68) (eqb (get_or b 1 0) 102 && (eqb (get_or b 2 0) 117 && (eqb (get_or b 3 0) 83
-    && eqb (get_or b 4 0) 101))) h in
-    let s1 = and_parts (eqb (get_or b 1 0) 102) (eqb (get_or b 2 0) 117 && (eqb (get_or b 3 0) 83 && eqb (get_or b 4 0) 101)) s0.1 in
-    let s2 = and_parts (eqb (get_or b 2 0) 117) (eqb (get_or b 3 0) 83 && eqb (get_or b 4 0) 101) s1.1 in
-    let s3 = and_parts (eqb (get_or b 3 0) 83) (eqb (get_or b 4 0) 101) s2.1 in
-    let e0 = eqb-true (get_or b 0 0) 68 s0.0 in
-    let e1 = eqb-true (get_or b 1 0) 102 s1.0 in
-    let e2 = eqb-true (get_or b 2 0) 117 s2.0 in
-    let e3 = eqb-true (get_or b 3 0) 83 s3.0 in
-    let e4 = eqb-true (get_or b 4 0) 101 s3.1 in
+    let (e0, e1, e2, e3, last) = letters_are b 68 102 117 83 (eqb (get_or b 4 0) 101) h in
+    let e4 = eqb-true (get_or b 4 0) 101 last in
     let cells = six_cut b long in
     cc
 

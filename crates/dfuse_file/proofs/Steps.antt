@@ -10,6 +10,12 @@ pub bound : {A B : Type 0} (r : Result A FileFault) (k : A → Result B FileFaul
 bound (Ok y) k x h = (y, refl, h)
 bound (Err fault) k x h = cc
 
+-- Nothing comes of a first step with a fault.
+pub never_bound : {A B : Type 0} (r : Result A FileFault) (k : A → Result B FileFault) (fault : FileFault) (x : B) → r ≡ Err fault →
+    (r >>= k) ≡ Ok x → ⊥
+never_bound (Ok y) k fault x is h = cc
+never_bound (Err other) k fault x is h = cc
+
 -- A condition that doesn't hold is passed over.
 pub passed : {A : Type 0} (t : Bool) (fault : FileFault) (r : Result A FileFault) (x : A) → cond t (Err fault) r ≡ Ok x →
     (t ≡ false) × (r ≡ Ok x)

@@ -11,7 +11,7 @@ use Rattle.dfuse_file.specs.declared.fault.FileFault.TheVariants.{NoTarget, BadT
 use Rattle.dfuse_file.specs.Reading.{Target, Heading, ◌>>=◌, number_at, elements_at, is_target, heading_at, target_of, before_targets, targets_at}
 use Rattle.dfuse_file.specs.Grammar.{four, spelled_elements, ElementsFit, target_letters, spelled_targets, TargetsFit}
 use Rattle.dfuse_file.proofs.Steps.{bound, passed, skip, same_ok}
-use Rattle.dfuse_file.proofs.Fields.{cut, number_fits, number_is, six_cut}
+use Rattle.dfuse_file.proofs.Fields.{cut, letters_are, number_fits, number_is, six_cut}
 use Rattle.dfuse_file.proofs.ElementLaws.{AreAll, none_of, elements_found, elements_read}
 
 -- A target is spelled so, with what follows it.
@@ -31,21 +31,12 @@ record Heads (b : List ℕ) (h : Heading) : Type 0 where
   pub rest_bytes : AreBytes h.rest
 
 -- Letters that are compared one by one are Target.
-letters_are : (b : List ℕ) → 6 ≤ length b → is_target b ≡ true → b ≡ target_letters ++ drop 6 b
-letters_are b long h =
-    let s0 = and_parts (eqb (get_or b 0 0) 84) (eqb (get_or b 1 0) 97 && (eqb (get_or b 2 0) 114 && (eqb (get_or b 3 0) 103
-    && (eqb (get_or b 4 0) 101 && eqb (get_or b 5 0) 116)))) h in
-    let s1 = and_parts (eqb (get_or b 1 0) 97) (eqb (get_or b 2 0) 114 && (eqb (get_or b 3 0) 103 && (eqb (get_or b 4 0) 101
-    && eqb (get_or b 5 0) 116))) s0.1 in
-    let s2 = and_parts (eqb (get_or b 2 0) 114) (eqb (get_or b 3 0) 103 && (eqb (get_or b 4 0) 101 && eqb (get_or b 5 0) 116)) s1.1 in
-    let s3 = and_parts (eqb (get_or b 3 0) 103) (eqb (get_or b 4 0) 101 && eqb (get_or b 5 0) 116) s2.1 in
-    let s4 = and_parts (eqb (get_or b 4 0) 101) (eqb (get_or b 5 0) 116) s3.1 in
-    let e0 = eqb-true (get_or b 0 0) 84 s0.0 in
-    let e1 = eqb-true (get_or b 1 0) 97 s1.0 in
-    let e2 = eqb-true (get_or b 2 0) 114 s2.0 in
-    let e3 = eqb-true (get_or b 3 0) 103 s3.0 in
-    let e4 = eqb-true (get_or b 4 0) 101 s4.0 in
-    let e5 = eqb-true (get_or b 5 0) 116 s4.1 in
+target_is : (b : List ℕ) → 6 ≤ length b → is_target b ≡ true → b ≡ target_letters ++ drop 6 b
+target_is b long h =
+    let (e0, e1, e2, e3, more) = letters_are b 84 97 114 103 (eqb (get_or b 4 0) 101 && eqb (get_or b 5 0) 116) h in
+    let last = and_parts (eqb (get_or b 4 0) 101) (eqb (get_or b 5 0) 116) more in
+    let e4 = eqb-true (get_or b 4 0) 101 last.0 in
+    let e5 = eqb-true (get_or b 5 0) 116 last.1 in
     let cells = six_cut b long in
     cc
 
@@ -71,7 +62,7 @@ heading_found b h f e =
     sym (take-append-drop 255 (drop 11 b)) ∙ ap (λ (z : List ℕ). name ++ z) (drop-drop 255 11 b) in
     let d7 : drop 7 b ≡ four (number_at 7 b) ++ drop 11 b = cut 7 11 b f refl (omega (arith, long)) in
     let d6 : drop 6 b ≡ get_or b 6 0 ∷ drop 7 b = drop-cons b 6 0 (omega (arith, long)) in
-    let d0 : b ≡ target_letters ++ drop 6 b = letters_are b (omega (arith, long)) (not-false (is_target b) p1.0) in
+    let d0 : b ≡ target_letters ++ drop 6 b = target_is b (omega (arith, long)) (not-false (is_target b) p1.0) in
     let w270 = d270 ∙ ap (λ (z : List ℕ). four (number_at 270 b) ++ z) d274 in
     let w266 = d266 ∙ ap (λ (z : List ℕ). four (length content) ++ z) w270 in
     let w11 = d11 ∙ ap (λ (z : List ℕ). name ++ z) w266 in

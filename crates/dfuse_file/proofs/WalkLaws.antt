@@ -6,7 +6,7 @@ use Rattle.dfuse_file.specs.declared.fault.FileFault.{FileFault}
 use Rattle.dfuse_file.specs.declared.fault.FileFault.TheVariants.{BadTargetSize, Trailing}
 use Rattle.dfuse_file.specs.Reading.{Split, Target, Heading, ◌>>=◌, front_element, before_elements, elements_at, heading_at, target_of, before_targets, targets_at}
 use Rattle.dfuse_file.specs.Found.{found, fault_only}
-use Rattle.dfuse_file.proofs.Steps.{bound, same_ok, not_zero, positive}
+use Rattle.dfuse_file.proofs.Steps.{bound, never_bound, same_ok, not_zero, positive}
 
 -- ---- a walk that counts, and asks the same of what is left as of all
 
@@ -141,10 +141,7 @@ pub element_there : (left : ℕ) (b : List ℕ) (fault : FileFault) (xs : List P
     elements_at left b ≡ Ok xs → ⊥
 unfolding elements_at
 element_there zero b fault xs some h e = some refl
-element_there (suc n) b fault xs some h e =
-    let p = bound (front_element b) _ xs e in
-    let one = p.1 in
-    cc
+element_there (suc n) b fault xs some h e = never_bound (front_element b) _ fault xs h e
 
 -- No target is left if there were none.
 pub no_target_left : (b : List ℕ) → found (targets_at 0 b) ≡ []
@@ -184,30 +181,28 @@ pub target_there : (left : ℕ) (b : List ℕ) (fault : FileFault) (xs : List Ta
     targets_at left b ≡ Ok xs → ⊥
 unfolding targets_at
 target_there zero b fault xs some h e = some refl
-target_there (suc n) b fault xs some h e =
-    let p = bound (heading_at b) _ xs e in
-    let one = p.1 in
-    cc
+target_there (suc n) b fault xs some h e = never_bound (heading_at b) _ fault xs h e
+
+-- With one more before so many, there is one more.
+one_longer : {A : Type 0} (n : ℕ) (x : A) (more xs : List A) → length more ≡ n
+    → ◌≡◌ {A = Result (List A) FileFault} (Ok (x ∷ more)) (Ok xs) → length xs ≡ suc n
+one_longer n x more xs number h = ap length (sym (same_ok (x ∷ more) xs h)) ∙ omega (arith, number)
 
 -- As many elements were found as the count says.
 pub elements_number : (n : ℕ) (b : List ℕ) (xs : List Piece) → elements_at n b ≡ Ok xs → length xs ≡ n
 unfolding elements_at
-elements_number zero [] xs h = ap length (sym (same_ok [] xs h))
-elements_number zero (x ∷ b) xs h = cc
+elements_number zero b xs h = ap length (sym (ap found h) ∙ none_left b)
 elements_number (suc n) b xs h =
     let p = bound (front_element b) _ xs h in
     let q = bound (elements_at n p.0.rest) _ xs p.2 in
-    let more = elements_number n p.0.rest q.0 q.1 in
-    ap length (sym (same_ok _ xs q.2)) ∙ omega (arith, more)
+    one_longer n p.0.element q.0 xs (elements_number n p.0.rest q.0 q.1) q.2
 
 -- As many targets were found as the count says.
 pub targets_number : (n : ℕ) (b : List ℕ) (xs : List Target) → targets_at n b ≡ Ok xs → length xs ≡ n
 unfolding targets_at
-targets_number zero [] xs h = ap length (sym (same_ok [] xs h))
-targets_number zero (x ∷ b) xs h = cc
+targets_number zero b xs h = ap length (sym (ap found h) ∙ no_target_left b)
 targets_number (suc n) b xs h =
     let p = bound (heading_at b) _ xs h in
     let q = bound (elements_at p.0.count p.0.content) _ xs p.2 in
     let r = bound (targets_at n p.0.rest) _ xs q.2 in
-    let more = targets_number n p.0.rest r.0 r.1 in
-    ap length (sym (same_ok _ xs r.2)) ∙ omega (arith, more)
+    one_longer n (target_of p.0 q.0) r.0 xs (targets_number n p.0.rest r.0 r.1) r.2
