@@ -39,13 +39,7 @@ gives_of n =
 gives_back : (g : Gives) → gives_of (gives_number g) ≡ g
 unfolding gives_of
 gives_back gives.Ack = refl
-gives_back gives.Stall = refl
-gives_back gives.Status = refl
-gives_back gives.NoCode = refl
-gives_back gives.State = refl
-gives_back gives.Full = refl
-gives_back gives.Short = refl
-gives_back gives.Silent = refl
+gives_back g = refl
 
 -- For which devices a row is, by number.
 abbrev pub when_number : When → ℕ
@@ -66,17 +60,9 @@ when_of n =
 when_back : (w : When) → when_of (when_number w) ≡ w
 unfolding when_of
 when_back Always = refl
-when_back CanDownload = refl
-when_back CanUpload = refl
-when_back Tolerant = refl
-when_back NotTolerant = refl
-when_back WillDetach = refl
 when_back (By Bootloader) = refl
-when_back (By RuntimeMute) = refl
-when_back (By SelfReset) = refl
-when_back (By DetachAtOnce) = refl
-when_back (By DetachLeaves) = refl
-when_back (By ErrorWithoutCode) = refl
+when_back (By reading) = refl
+when_back w = refl
 
 -- The row has these fields.
 abbrev pub is_row : StandardState → EventKind → When → Gives → StandardState → Row → Bool

@@ -24,17 +24,7 @@ place_of n =
 
 place_back : (p : StandardState) → place_of (place_number p) ≡ p
 place_back AppIdle = refl
-place_back AppDetach = refl
-place_back DfuIdle = refl
-place_back DownloadSync = refl
-place_back DownloadBusy = refl
-place_back DownloadIdle = refl
-place_back ManifestSync = refl
-place_back Manifest = refl
-place_back ManifestWaitReset = refl
-place_back UploadIdle = refl
-place_back Error = refl
-place_back Fresh = refl
+place_back p = refl
 
 -- No two places have one number.
 pub same_place : (p q : StandardState) → place_number p ≡ place_number q → p ≡ q
@@ -47,14 +37,4 @@ number_back n below = eqb-true _ _ (agree_below_at (λ (k : ℕ). place_number (
 -- The number of a place is below twelve.
 pub number_below : (p : StandardState) → place_number p < 12
 number_below AppIdle = lit< tt
-number_below AppDetach = lit< tt
-number_below DfuIdle = lit< tt
-number_below DownloadSync = lit< tt
-number_below DownloadBusy = lit< tt
-number_below DownloadIdle = lit< tt
-number_below ManifestSync = lit< tt
-number_below Manifest = lit< tt
-number_below ManifestWaitReset = lit< tt
-number_below UploadIdle = lit< tt
-number_below Error = lit< tt
-number_below Fresh = lit< tt
+number_below p = lit< tt
