@@ -51,11 +51,9 @@ impl Task<'_> {
         ensures within { IsWithin self.now.goal self.now.transfer result }
     {
         match phase {
-            Phase::Find => self.on_status(Phase::Find, heard, Phase::FindAgain),
-            Phase::FindAgain => self.on_status(Phase::FindAgain, heard, Phase::ResetFind),
-            Phase::Poll(n) => self.on_status(Phase::Poll(n), heard, Phase::Trouble),
-            Phase::Manifest => self.on_status(Phase::Manifest, heard, Phase::Trouble),
-            Phase::Trouble => self.on_status(Phase::Trouble, heard, Phase::FindAgain),
+            Phase::Find | Phase::Trouble => self.on_status(phase, heard, Phase::FindAgain),
+            Phase::FindAgain => self.on_status(phase, heard, Phase::ResetFind),
+            Phase::Poll(_) | Phase::Manifest => self.on_status(phase, heard, Phase::Trouble),
             Phase::Detach => on_ack(heard, Phase::Enter, Phase::Find, Phase::Find),
             Phase::Enter => self.after_enter(heard),
             Phase::Clear | Phase::Quit => Phase::Find,

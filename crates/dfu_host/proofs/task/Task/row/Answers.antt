@@ -1,4 +1,24 @@
+use Rattle.std.proofs.Common.{◌⊎◌, inl, inr}
 use Rattle.dfu_host.proofs.task.Task.row.Goals as goal
+
+-- What follows from the one and from the other follows from either.
+from_either : {A B C : Type 0} → A ⊎ B → (A → C) → (B → C) → C
+from_either (inl a) first second = first a
+from_either (inr b) first second = second b
+
+pub returns-in-Find-clause-next : goal.returns-in-Find-clause-next
+returns-in-Find-clause-next c = λ memory memory' part keeps compares. from_either c.in-Find.is
+    (λ is. rw is (rw is at c.on_status.ensures.next memory' part))
+    (λ is. rw is (rw is at c.on_status.ensures.next memory' part))
+
+pub returns-in-FindAgain-clause-next : goal.returns-in-FindAgain-clause-next
+returns-in-FindAgain-clause-next c = λ memory memory' part keeps compares.
+    rw c.in-FindAgain.is (rw c.in-FindAgain.is at c.on_status-in-FindAgain.ensures.next memory' part)
+
+pub returns-in-Poll-clause-next : goal.returns-in-Poll-clause-next
+returns-in-Poll-clause-next c = λ memory memory' part keeps compares. from_either c.in-Poll.is
+    (λ is. rw is.1 (rw is.1 at c.on_status-in-Poll.ensures.next memory' part))
+    (λ is. rw is (rw is at c.on_status-in-Poll.ensures.next memory' part))
 
 pub returns-in-Detach-clause-within : goal.returns-in-Detach-clause-within
 returns-in-Detach-clause-within c = c.on_ack.ensures.within c.args.self.now.goal c.args.self.now.transfer tt tt tt
