@@ -136,6 +136,12 @@ abbrev pub reading_ended : Place → Place
 reading_ended (place.Reading p) = place.At p
 reading_ended p = p
 
+-- The place after a step, if it is an ABORT that begins or ends reading.
+abbrev pub turned : Step → Place → Place
+turned step.BeginReading p = reading_begun p
+turned step.EndReading p = reading_ended p
+turned s p = p
+
 -- ABORT, to begin to read or to read no more: once acknowledged it leads to the next place.
 abbrev pub on_turn : Plan → Work → (p next : Place) → Step → Heard → Phase
 on_turn plan w p next s heard.Acked = settle plan w next

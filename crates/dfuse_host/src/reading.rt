@@ -1,7 +1,7 @@
 //! Reading back.
 
 ghost use Rattle.std.specs.Prelude.{◌≡◌};
-ghost use Rattle.dfuse_host.specs.Table.{reading_begun, reading_ended, on_turn, read_on, on_read};
+ghost use Rattle.dfuse_host.specs.Table.{reading_begun, reading_ended, turned, on_turn, read_on, on_read};
 
 use crate::command::cleared;
 use crate::heard::Heard;
@@ -14,7 +14,7 @@ use crate::step::Step;
 use crate::work::Work;
 
 /// The device went to dfuIDLE, from which bytes can be read.
-pub(crate) fn begun(place: Place) -> Place
+fn begun(place: Place) -> Place
     ensures { result ≡ reading_begun place }
 {
     match place {
@@ -24,7 +24,7 @@ pub(crate) fn begun(place: Place) -> Place
 }
 
 /// The device left dfuUPLOAD-IDLE.
-pub(crate) fn ended(place: Place) -> Place
+fn ended(place: Place) -> Place
     ensures { result ≡ reading_ended place }
 {
     match place {
@@ -33,22 +33,26 @@ pub(crate) fn ended(place: Place) -> Place
     }
 }
 
+/// Where the device is after this step, if it is an ABORT that begins or ends reading.
+fn turned(step: Step, place: Place) -> Place
+    ensures { result ≡ turned step place }
+{
+    match step {
+        Step::BeginReading => begun(place),
+        Step::EndReading => ended(place),
+        _ => place,
+    }
+}
+
 impl Plan<'_> {
     ghost use Rattle.dfuse_host.specs.declared.work.Work.{Work};
 
-    /// ABORT, to begin to read or to read no more: once acknowledged it leads to the next place.
-    pub(crate) fn on_turn(
-        &self,
-        work: Work,
-        place: Place,
-        next: Place,
-        step: Step,
-        heard: &Heard,
-    ) -> Phase
-        ensures { result ≡ on_turn self.now work place next step heard.now }
+    /// ABORT, to begin to read or to read no more.
+    pub(crate) fn on_turn(&self, work: Work, place: Place, step: Step, heard: &Heard) -> Phase
+        ensures { result ≡ on_turn self.now work place (turned step place) step heard.now }
     {
         match heard {
-            Heard::Acked => self.settle(work, next),
+            Heard::Acked => self.settle(work, turned(step, place)),
             Heard::Stalled => cleared(work),
             _ => stand(work, place, step),
         }

@@ -10,7 +10,6 @@ use crate::heard::Heard;
 use crate::phase::Phase;
 use crate::place::Place;
 use crate::plan::Plan;
-use crate::reading::{begun, ended};
 use crate::sending::{on_poll_wait, on_send};
 use crate::step::Step;
 use crate::work::Work;
@@ -30,14 +29,7 @@ impl Plan<'_> {
             Step::Probe => self.on_probe(work, place, heard),
             Step::Poll(last) => self.on_poll(work, place, last, heard),
             Step::PollWait(ms) => on_poll_wait(work, place, ms, heard),
-            Step::BeginReading => self.on_turn(
-                work,
-                place,
-                begun(place),
-                Step::BeginReading,
-                heard,
-            ),
-            Step::EndReading => self.on_turn(work, place, ended(place), Step::EndReading, heard),
+            Step::BeginReading | Step::EndReading => self.on_turn(work, place, step, heard),
             Step::Read => self.on_read(work, place, heard),
             Step::Close => on_close(work, place, heard),
             Step::CloseProbe => on_close_probe(work, place, heard),
