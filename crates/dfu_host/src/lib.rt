@@ -6,18 +6,15 @@
 #![tactic(auto)]
 
 mod action;
-mod asking;
 mod comparing;
 mod ending;
 mod fault;
 mod fetching;
-mod finding;
 mod goal;
 mod heard;
 mod host;
 pub mod laws;
 mod limits;
-mod memory;
 mod part;
 mod parts;
 mod phase;
@@ -27,7 +24,6 @@ mod report;
 mod room;
 mod row;
 mod seen;
-mod sending;
 mod session;
 mod target;
 mod task;

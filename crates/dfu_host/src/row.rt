@@ -1,18 +1,21 @@
-//! The host's table.
+//! The host's table, and its rows for the phases that bring a device to dfuIDLE, send the blocks and close the transfer (states:
+//! USB DFU 1.1, appendix A). The other rows are in `fetching` and `ending`.
 
-ghost use Rattle.std.specs.Prelude.{◌≡◌, List, ℕ};
+ghost use Rattle.std.specs.Prelude.{◌≡◌, ◌*◌, ◌<◌, length, List, ℕ};
 ghost use Rattle.dfu_host.specs.inside.Comparing.{Compares};
 ghost use Rattle.dfu_host.specs.inside.HeardParts.{Keeps};
 ghost use Rattle.dfu_host.specs.Table as table;
 ghost use Rattle.dfu_host.specs.InParts.{IsWithin, phase_of};
 ghost use Rattle.dfu_host.specs.declared.goal.Goal.{Goal};
 ghost use Rattle.dfu_host.specs.inside.View.{heard_of, status_row, task_of};
+ghost use Rattle.dfu_host.specs.Goals.{goal_of, payload_of};
 
+use crate::goal::Goal;
 use crate::heard::Heard;
 use crate::phase::Phase;
 use crate::report::Report;
 use crate::task::Task;
-use dfu_wire::Status;
+use dfu_wire::{State, Status};
 
 /// What follows a request without an answer of bytes: by its acknowledgement, by a stall, or by anything else.
 fn on_ack(heard: Heard, acked: Phase, stalled: Phase, nothing: Phase) -> Phase
@@ -104,6 +107,101 @@ impl Task<'_> {
             Phase::Manifest => self.manifested(status),
             Phase::Trouble => self.troubled(status),
             _ => self.listed(status),
+        }
+    }
+
+    /// The phase in which the work begins once the device is in dfuIDLE. A payload has a first
+    /// block; no part of an image is kept or compared yet.
+    fn start(&self) -> Phase
+        ensures next { (memory : List ℕ) → phase_of memory result ≡ table.work_start (goal_of self.now.goal) }
+        ensures within { IsWithin self.now.goal self.now.transfer result }
+    {
+        match &self.goal {
+            Goal::Load(_) => Phase::Block(0),
+            Goal::Fetch => Phase::Fetch(0),
+            Goal::Verify(_) => Phase::Block(0),
+            Goal::Compare(_) => Phase::Compare(0),
+        }
+    }
+
+    /// The list: what follows a status, by its state.
+    pub(crate) fn listed(&self, status: Status) -> Phase
+        ensures next { (memory : List ℕ)
+            → phase_of memory result ≡ table.listed (table.work_start (goal_of self.now.goal)) status.state status.poll_ms }
+        ensures within { IsWithin self.now.goal self.now.transfer result }
+    {
+        match status.state() {
+            State::AppIdle => Phase::Detach,
+            State::AppDetach => Phase::Enter,
+            State::DfuIdle => self.start(),
+            State::DownloadSync | State::DownloadBusy | State::ManifestSync | State::Manifest =>
+                Phase::WaitFind(status.poll_ms()),
+            State::DownloadIdle | State::UploadIdle => Phase::Quit,
+            State::ManifestWaitReset => Phase::ResetFind,
+            State::Error => Phase::Clear,
+        }
+    }
+
+    /// A wait if the device detaches by itself, else a reset.
+    pub(crate) fn after_enter(&self, heard: Heard) -> Phase
+        ensures next { (memory part : List ℕ) → phase_of memory result
+            ≡ table.host_row (task_of self.now) table.Enter (heard_of part heard) }
+        ensures within { IsWithin self.now.goal self.now.transfer result }
+    {
+        match heard {
+            Heard::Waited if self.will_detach => Phase::Find,
+            Heard::WasReset if !self.will_detach => Phase::Find,
+            _ => Phase::Enter,
+        }
+    }
+
+    /// GETSTATE, to learn whether a block came whose answer was lost.
+    pub(crate) fn after_ask(&self, number: usize, heard: Heard) -> Phase
+        requires { number * self.now.transfer < length (payload_of self.now.goal) }
+        ensures next { (memory part : List ℕ)
+            → phase_of memory result ≡ table.host_row (task_of self.now) (table.Ask number) (heard_of part heard) }
+        ensures within { IsWithin self.now.goal self.now.transfer result }
+    {
+        match heard {
+            Heard::StateIs(State::DownloadSync) => Phase::Poll(number),
+            Heard::StateIs(State::DfuIdle) if number == 0 => Phase::Block(number),
+            Heard::StateIs(State::DownloadIdle) if number > 0 => Phase::Block(number),
+            Heard::StateIs(_) | Heard::Stalled => Phase::Trouble,
+            _ => Phase::Ask(number),
+        }
+    }
+
+    /// What follows the status that was asked for after a block.
+    pub(crate) fn polled(&self, number: usize, status: Status) -> Phase
+        requires { number * self.now.transfer < length (payload_of self.now.goal) }
+        ensures next { (memory : List ℕ)
+            → phase_of memory result
+            ≡ table.polled_phase (table.work_start (goal_of self.now.goal)) (length (table.pieces (task_of self.now))) number
+            status.code status.poll_ms status.state }
+        ensures within { IsWithin self.now.goal self.now.transfer result }
+    {
+        match status.state() {
+            State::DownloadSync | State::DownloadBusy => {
+                Phase::WaitPoll(number, status.poll_ms())
+            }
+            State::DownloadIdle if self.is_last(number) => Phase::Close,
+            State::DownloadIdle => Phase::Block(number + 1),
+            _ => self.troubled(status),
+        }
+    }
+
+    /// GETSTATE, to learn whether the close came whose answer was lost.
+    pub(crate) fn after_ask_last(&self, heard: Heard) -> Phase
+        requires { 0 < length (payload_of self.now.goal) }
+        ensures next { (memory part : List ℕ) → phase_of memory result
+            ≡ table.host_row (task_of self.now) table.AskLast (heard_of part heard) }
+        ensures within { IsWithin self.now.goal self.now.transfer result }
+    {
+        match heard {
+            Heard::StateIs(State::ManifestSync) => Phase::Manifest,
+            Heard::StateIs(State::DownloadIdle) => Phase::Close,
+            Heard::StateIs(_) | Heard::Stalled => Phase::Trouble,
+            _ => Phase::AskLast,
         }
     }
 }

@@ -1,7 +1,7 @@
 -- What a host of the code has in memory.
 use Rattle.std.specs.Prelude.{ℕ, List, []}
-use Rattle.dfu_host.specs.declared.memory.Memory.{Memory}
-use Rattle.dfu_host.specs.declared.memory.Memory.TheVariants as memory
+use Rattle.dfu_host.specs.declared.host.Memory.{Memory}
+use Rattle.dfu_host.specs.declared.host.Memory.TheVariants as memory
 
 -- The bytes in a host's memory.
 abbrev pub bytes_of : Memory → List ℕ
