@@ -208,9 +208,6 @@ static _Alignas(8) const uint64_t switch_table_dfu_host_name[11] = {
 static _Alignas(8) const uint64_t switch_table_dfu_host_name_1[11] = {
     9, 0x15, 0x1d, 0x25, 0x2d, 0x3c, 0x45, 0x55, 0x5f, 0x68, 0x72
 };
-static _Alignas(4) const uint32_t switch_table_dfuse_take[7] = {
-    1, 0, 0, 0, 1, 0, 0
-};
 
 static uint8_t dfu_host_c_watching_is_download(unsigned char *a0);
 static uint8_t dfu_host_c_watching_is_other(unsigned char *a0, unsigned char *a1);
@@ -230,8 +227,8 @@ static void dfu_host_c_holding_session_of(unsigned char *a0, unsigned char *a1, 
 static void dfu_host_c_holding_record_of(unsigned char *a0, unsigned char *a1, uint64_t a2);
 static struct i32_i32 dfu_host_c_reports_report_numbers(uint8_t a0, uint8_t a1);
 static struct ptr_i64 dfu_host_task_Task_block(unsigned char *a0, uint64_t a1);
-static void dfu_host_asking_download(unsigned char *a0, uint64_t a1, unsigned char *a2, uint64_t a3);
-static void dfu_host_asking_send(unsigned char *a0, unsigned char *a1, unsigned char *a2, uint64_t a3);
+static void dfu_host_task_download(unsigned char *a0, uint64_t a1, unsigned char *a2, uint64_t a3);
+static void dfu_host_task_send(unsigned char *a0, unsigned char *a1, unsigned char *a2, uint64_t a3);
 static void dfu_wire_requests_Request_setup(unsigned char *a0, unsigned char *a1);
 static void dfu_wire_setups_Setup_encode(unsigned char *a0, unsigned char *a1);
 static void dfu_wire_bytes_two_bytes(unsigned char *a0, uint16_t a1);
@@ -286,7 +283,6 @@ static uint8_t dfuse_host_plan_Plan_comparing(unsigned char *a0, uint64_t a1, ui
 static void dfuse_host_plan_Plan_to_write_front(unsigned char *a0, unsigned char *a1, uint8_t a2, uint64_t a3, uint64_t a4);
 static void dfuse_host_plan_Plan_to_compare_front(unsigned char *a0, unsigned char *a1, uint8_t a2, uint64_t a3, uint64_t a4);
 static void dfuse_host_plan_Plan_unsure_of(unsigned char *a0, unsigned char *a1, unsigned char *a2, uint8_t a3, uint64_t a4);
-static void dfuse_host_plan_Plan_on_turn(unsigned char *a0, unsigned char *a1, unsigned char *a2, uint8_t a3, uint64_t a4, uint8_t a5, uint64_t a6, uint8_t a7, unsigned char *a9);
 static void dfuse_host_session_Session_spent(unsigned char *a0, unsigned char *a1, unsigned char *a2, uint16_t a3);
 
 /* dfu_host_c::watching::is_download */
@@ -2078,14 +2074,14 @@ dfu_host_task_Task_payload_exit:;
     return r47;
 }
 
-/* dfu_host::asking::download */
-static void dfu_host_asking_download(unsigned char *a0, uint64_t a1, unsigned char *a2, uint64_t a3) {
+/* dfu_host::task::download */
+static void dfu_host_task_download(unsigned char *a0, uint64_t a1, unsigned char *a2, uint64_t a3) {
     _Alignas(8) unsigned char r0[32];
     _Alignas(4) unsigned char r6[6];
     store16(r6, 1);
     store16(r6 + 2, (uint16_t)a1);
     store16(r6 + 4, (uint16_t)a3);
-    dfu_host_asking_send(r0, r6, a2, a3);
+    dfu_host_task_send(r0, r6, a2, a3);
     uint8_t v0 = *r0;
     *a0 = v0;
     uint64_t v1 = load64u(r0 + 1);
@@ -2094,8 +2090,8 @@ static void dfu_host_asking_download(unsigned char *a0, uint64_t a1, unsigned ch
     return;
 }
 
-/* dfu_host::asking::send */
-static void dfu_host_asking_send(unsigned char *a0, unsigned char *a1, unsigned char *a2, uint64_t a3) {
+/* dfu_host::task::send */
+static void dfu_host_task_send(unsigned char *a0, unsigned char *a1, unsigned char *a2, uint64_t a3) {
     _Alignas(4) unsigned char r12[10];
     _Alignas(8) unsigned char r11[8];
     _Alignas(8) unsigned char r15[8];
@@ -2535,39 +2531,33 @@ static void dfu_host_session_Session_on_result(unsigned char *a0, unsigned char 
     unsigned char *const r5 = r17_2;
     unsigned char *const r4 = r17_2;
     _Alignas(8) unsigned char r1_3[32];
-    unsigned char *const r24 = r1_3;
+    unsigned char *const r1_4 = r1_3;
     _Alignas(8) unsigned char r1_2[32];
     _Alignas(8) unsigned char r7_2[32];
+    _Alignas(8) unsigned char r23[24];
+    unsigned char *const r2 = r23;
+    _Alignas(8) unsigned char r24[24];
     _Alignas(8) unsigned char r25[24];
-    unsigned char *const r2 = r25;
     _Alignas(8) unsigned char r26[24];
-    _Alignas(8) unsigned char r27_2[24];
-    _Alignas(8) unsigned char r28[24];
-    _Alignas(8) unsigned char r29[24];
-    _Alignas(8) unsigned char r30[24];
-    _Alignas(8) unsigned char r31[24];
-    _Alignas(8) unsigned char r32[24];
-    _Alignas(8) unsigned char r33[24];
-    _Alignas(8) unsigned char r34[24];
     _Alignas(8) unsigned char r10_2[24];
     _Alignas(8) unsigned char r12_2[16];
-    _Alignas(4) unsigned char r35_4[2];
+    _Alignas(4) unsigned char r27_4[2];
+    _Alignas(4) unsigned char r28_4[2];
+    _Alignas(4) unsigned char r29_4[2];
+    _Alignas(4) unsigned char r32_4[2];
+    _Alignas(4) unsigned char r33_4[2];
+    _Alignas(4) unsigned char r34_4[2];
     _Alignas(4) unsigned char r36_4[2];
     _Alignas(4) unsigned char r37_4[2];
-    _Alignas(4) unsigned char r40_4[2];
-    _Alignas(4) unsigned char r41_4[2];
-    _Alignas(4) unsigned char r42_4[2];
-    _Alignas(4) unsigned char r44_4[2];
-    _Alignas(4) unsigned char r45_4[2];
-    _Alignas(4) unsigned char r46_4[2];
-    uint64_t r0_3_0_0_copyload, r0_3_3_0_copyload, r18_14_0, r1_6_0_copyload, r1_8_0_copyload, r39_10_0, r39_17_0_in_speculated, r6_10_0, r15, r19;
+    _Alignas(4) unsigned char r38_4[2];
+    uint64_t r0_3_0_0_copyload, r0_3_3_0_copyload, r18_14_0, r1_6_0_copyload, r1_8_0_copyload, r31_10_0, r39_17_0_in_speculated, r6_10_0, r15, r19;
     unsigned char *r12, *r21, *r14, *r39_9_0_in, *r39_9_0_in_2, *r39_9_0_in_3;
-    uint16_t v0, r1_4_0_copyload, r1_9_0_copyload, v8, r39_6_0_0, r26_2, r40, r8_6_0;
+    uint16_t v0, r1_4_0_copyload, r1_9_0_copyload, v8, r31_6_0_0, r26_2, r40, r8_6_0;
     uint8_t common_ret_op, v10, or_cond;
-    uint8_t r18_0_0, r18_10_0, r10, r13_2, r1_3_0_copyload, r1_17_0_0_extract_trunc, r39_0_0_in_speculated, r6_0_0, r39_4_0, r39_0_0, r39_0_0_in_speculated_2, r6_0_0_2;
+    uint8_t r18_0_0, r18_10_0, r10, r13_2, r1_3_0_copyload, v12, r39_0_0_in_speculated, r6_0_0, r31_4_0, r31_0_0, r39_0_0_in_speculated_2, r6_0_0_2;
     uint8_t r39_0_0_in_speculated_3, r6_0_0_3, r7_0_0, r7_5_0, r7_8_0_0, r7_8_4_0_0, r6_4_0, r6_7_0_0, r6_7_4_0_0, r6_0_0_4, r8_0_0, r8_4_0;
     uint8_t r8_7_0_0, r8_0_0_2, r8_4_0_2;
-    uint32_t r18_121_0, r1_5_0_copyload, r1_7_0_copyload, r39_8_0, r39_12_0;
+    uint32_t r18_121_0, r1_5_0_copyload, r1_7_0_copyload, r31_8_0, r31_12_0;
     uint8_t r1 = *a1;
     r0_3_0_0_copyload = load64(a1 + 8);
     r0_3_3_0_copyload = load64(a1 + 16);
@@ -2902,89 +2892,76 @@ arm_7_2:
     v8 = load16(r1_2 + 30);
     v10 = r18_0_0 == 9;
     or_cond = v10 & (r10 == 20);
-    r1_17_0_0_extract_trunc = (uint8_t)r1_4_0_copyload;
+    unsigned char *v11 = r1_4 + 16;
+    store64(v11, 0);
+    *r1_4 = r10;
+    r1_4[1] = r1_3_0_copyload;
+    store16(r1_4 + 2, r1_4_0_copyload);
+    store32(r1_4 + 4, r1_5_0_copyload);
+    store64(r1_4 + 8, r1_6_0_copyload);
+    store32(v11, r1_7_0_copyload);
     store64(r12_2, 0);
     *r12_2 = r18_0_0;
     r12_2[1] = r18_10_0;
     store32(r12_2 + 4, r18_121_0);
     store64(r12_2 + 8, r18_14_0);
+    memset(r23, 0, 24);
     memset(r24, 0, 24);
     memset(r25, 0, 24);
     memset(r26, 0, 24);
-    memset(r27_2, 0, 24);
-    memset(r28, 0, 24);
-    memset(r29, 0, 24);
-    memset(r30, 0, 24);
-    memset(r31, 0, 24);
-    memset(r32, 0, 24);
-    memset(r33, 0, 24);
-    memset(r34, 0, 24);
-    store16(r35_4, 0);
+    store16(r27_4, 0);
+    store16(r28_4, 0);
+    store16(r29_4, 0);
+    store16(r32_4, 0);
+    store16(r33_4, 0);
+    store16(r34_4, 0);
     store16(r36_4, 0);
     store16(r37_4, 0);
-    store16(r40_4, 0);
-    store16(r41_4, 0);
-    store16(r42_4, 0);
-    store16(r44_4, 0);
-    store16(r45_4, 0);
-    store16(r46_4, 0);
+    store16(r38_4, 0);
+    v12 = (uint8_t)r1_4_0_copyload;
     switch (r10) {
     case 0: goto arm_1_2;
+    case 17: goto arm_1_2;
     case 1: goto arm_2_3;
     case 10: goto arm_3_3;
-    case 14: goto arm_4_3;
-    case 17: goto arm_5_3;
-    case 2: goto arm_6_3;
-    case 3: goto arm_7_3;
-    case 4: goto arm_8_2;
-    case 5: goto arm_8_2;
-    case 6: goto arm_9;
-    case 7: goto arm_10;
-    case 8: goto arm_11;
-    case 9: goto arm_12;
-    case 11: goto arm_13;
-    case 12: goto arm_14;
-    case 13: goto arm_15;
-    case 15: goto arm_16;
-    case 16: goto arm_17;
-    case 18: goto arm_18;
-    case 19: goto arm_19;
-    case 20: goto arm_20;
-    case 21: goto arm_21;
-    case 22: goto arm_22;
+    case 14: goto arm_3_3;
+    case 2: goto arm_4_3;
+    case 3: goto arm_5_3;
+    case 4: goto dfu_host_task_Task_row_exit;
+    case 5: goto dfu_host_task_Task_row_exit;
+    case 6: goto arm_7_3;
+    case 7: goto arm_8_2;
+    case 8: goto arm_9;
+    case 9: goto arm_10;
+    case 11: goto arm_11;
+    case 12: goto arm_12;
+    case 13: goto arm_13;
+    case 15: goto arm_14;
+    case 16: goto arm_15;
+    case 18: goto arm_16;
+    case 19: goto arm_17;
+    case 20: goto arm_18;
+    case 21: goto arm_19;
+    case 22: goto arm_20;
     default: never();
     }
 arm_1_2:
-    *r25 = 0;
-    *r26 = 1;
-    dfu_host_task_Task_on_status(r24, a0, r25, r12_2, r26);
+    *r24 = 1;
+    dfu_host_task_Task_on_status(r23, a0, r1_4, r12_2, r24);
     goto dfu_host_task_Task_row_exit;
 arm_2_3:
-    *r27_2 = 1;
-    *r28 = 7;
-    dfu_host_task_Task_on_status(r24, a0, r27_2, r12_2, r28);
+    *r25 = 7;
+    dfu_host_task_Task_on_status(r23, a0, r1_4, r12_2, r25);
     goto dfu_host_task_Task_row_exit;
 arm_3_3:
-    *r29 = 10;
-    store64(r29 + 8, r1_6_0_copyload);
-    *r30 = 17;
-    dfu_host_task_Task_on_status(r24, a0, r29, r12_2, r30);
+    *r26 = 17;
+    dfu_host_task_Task_on_status(r23, a0, r1_4, r12_2, r26);
     goto dfu_host_task_Task_row_exit;
 arm_4_3:
-    *r31 = 14;
-    *r32 = 17;
-    dfu_host_task_Task_on_status(r24, a0, r31, r12_2, r32);
-    goto dfu_host_task_Task_row_exit;
-arm_5_3:
-    *r33 = 17;
-    *r34 = 1;
-    dfu_host_task_Task_on_status(r24, a0, r33, r12_2, r34);
-    goto dfu_host_task_Task_row_exit;
-arm_6_3:
     switch (r18_0_0) {
     case 0:
         r39_0_0_in_speculated = 3;
-        r39_9_0_in = r35_4;
+        r39_9_0_in = r27_4;
         goto dfu_host_row_on_ack_exit;
     case 6: goto arm_2_4;
     case 1: goto arm_3_4;
@@ -2999,20 +2976,19 @@ arm_6_3:
     }
 arm_2_4:
     r39_0_0_in_speculated = 0;
-    r39_9_0_in = r36_4;
+    r39_9_0_in = r28_4;
     goto dfu_host_row_on_ack_exit;
 arm_3_4:
     r39_0_0_in_speculated = 0;
-    r39_9_0_in = r37_4;
+    r39_9_0_in = r29_4;
     goto dfu_host_row_on_ack_exit;
 dfu_host_row_on_ack_exit:;
     uint16_t r39_9_0 = load16(r39_9_0_in);
-    *r24 = r39_0_0_in_speculated;
-    r24[1] = 0;
-    store16(r24 + 2, r39_9_0);
-    memset(r24 + 4, 0, 16);
+    *r23 = r39_0_0_in_speculated;
+    store16(r23 + 2, r39_9_0);
+    memset(r23 + 4, 0, 16);
     goto dfu_host_task_Task_row_exit;
-arm_7_3:
+arm_5_3:
     switch (r18_0_0) {
     case 8: goto arm_3_5;
     case 9: goto arm_4_4;
@@ -3043,50 +3019,47 @@ after_2:
     r6_0_0 = 3;
     goto dfu_host_task_Task_after_enter_exit;
 dfu_host_task_Task_after_enter_exit:
-    *r24 = r6_0_0;
-    memset(r24 + 1, 0, 19);
+    *r23 = r6_0_0;
+    memset(r23 + 1, 0, 19);
+    goto dfu_host_task_Task_row_exit;
+arm_7_3:;
+    uint8_t v13 = r18_0_0 == 8;
+    *r23 = (uint8_t)(v13 ? 0 : 6);
+    r23[1] = (uint8_t)(v13 ? 0 : r1_3_0_copyload);
+    store16(r23 + 2, (uint16_t)(v13 ? 0 : r1_4_0_copyload));
+    store32(r23 + 4, (uint32_t)(v13 ? 0 : r1_5_0_copyload));
+    store64(r23 + 8, (uint64_t)(v13 ? 0 : r1_6_0_copyload));
+    store32(r23 + 16, (uint32_t)(v13 ? 0 : r1_7_0_copyload));
     goto dfu_host_task_Task_row_exit;
 arm_8_2:
-    *r24 = 0;
-    goto dfu_host_task_Task_row_exit;
-arm_9:;
-    uint8_t v11 = r18_0_0 == 8;
-    *r24 = (uint8_t)(v11 ? 0 : 6);
-    r24[1] = (uint8_t)(v11 ? 0 : r1_3_0_copyload);
-    store16(r24 + 2, (uint16_t)(v11 ? 0 : r1_4_0_copyload));
-    store32(r24 + 4, (uint32_t)(v11 ? 0 : r1_5_0_copyload));
-    store64(r24 + 8, (uint64_t)(v11 ? 0 : r1_6_0_copyload));
-    store32(r24 + 16, (uint32_t)(v11 ? 0 : r1_7_0_copyload));
-    goto dfu_host_task_Task_row_exit;
-arm_10:
     if (v10) {
-        r39_6_0_0 = 0;
-        r39_4_0 = 0;
-        r39_8_0 = 0;
-        r39_10_0 = 0;
-        r39_12_0 = 0;
-        r39_0_0 = 0;
-        goto join_28;
+        r31_6_0_0 = 0;
+        r31_4_0 = 0;
+        r31_8_0 = 0;
+        r31_10_0 = 0;
+        r31_12_0 = 0;
+        r31_0_0 = 0;
+        goto join_26;
     }
-    r39_6_0_0 = r1_4_0_copyload;
-    r39_4_0 = r1_3_0_copyload;
-    r39_8_0 = r1_5_0_copyload;
-    r39_10_0 = r1_6_0_copyload;
-    r39_12_0 = r1_7_0_copyload;
-    r39_0_0 = 7;
-join_28:
-    *r24 = r39_0_0;
-    r24[1] = r39_4_0;
-    store16(r24 + 2, r39_6_0_0);
-    store32(r24 + 4, r39_8_0);
-    store64(r24 + 8, r39_10_0);
-    store32(r24 + 16, r39_12_0);
+    r31_6_0_0 = r1_4_0_copyload;
+    r31_4_0 = r1_3_0_copyload;
+    r31_8_0 = r1_5_0_copyload;
+    r31_10_0 = r1_6_0_copyload;
+    r31_12_0 = r1_7_0_copyload;
+    r31_0_0 = 7;
+join_26:
+    *r23 = r31_0_0;
+    r23[1] = r31_4_0;
+    store16(r23 + 2, r31_6_0_0);
+    store32(r23 + 4, r31_8_0);
+    store64(r23 + 8, r31_10_0);
+    store32(r23 + 16, r31_12_0);
     goto dfu_host_task_Task_row_exit;
-arm_11:
+arm_9:
     switch (r18_0_0) {
     case 0:
         r39_0_0_in_speculated_2 = 10;
-        r39_9_0_in_2 = r40_4;
+        r39_9_0_in_2 = r32_4;
         r39_17_0_in_speculated = r1_6_0_copyload;
         goto dfu_host_row_on_ack_exit48;
     case 6: goto arm_2_5;
@@ -3102,24 +3075,21 @@ arm_11:
     }
 arm_2_5:
     r39_0_0_in_speculated_2 = 17;
-    r39_9_0_in_2 = r41_4;
+    r39_9_0_in_2 = r33_4;
     r39_17_0_in_speculated = 0;
     goto dfu_host_row_on_ack_exit48;
 arm_3_6:
     r39_0_0_in_speculated_2 = 9;
-    r39_9_0_in_2 = r42_4;
+    r39_9_0_in_2 = r34_4;
     r39_17_0_in_speculated = r1_6_0_copyload;
     goto dfu_host_row_on_ack_exit48;
 dfu_host_row_on_ack_exit48:;
     uint16_t r39_9_0_2 = load16(r39_9_0_in_2);
-    *r24 = r39_0_0_in_speculated_2;
-    r24[1] = 0;
-    store16(r24 + 2, r39_9_0_2);
-    store32(r24 + 4, 0);
-    store64(r24 + 8, r39_17_0_in_speculated);
-    store32(r24 + 16, 0);
+    *r23 = r39_0_0_in_speculated_2;
+    store16(r23 + 2, r39_9_0_2);
+    store64(r23 + 8, r39_17_0_in_speculated);
     goto dfu_host_task_Task_row_exit;
-arm_12:
+arm_10:
     switch (r18_0_0) {
     case 2: goto arm_3_7;
     case 6: goto after_2_2;
@@ -3193,27 +3163,23 @@ after_2_2:
     r6_10_0 = 0;
     goto dfu_host_task_Task_after_ask_exit;
 dfu_host_task_Task_after_ask_exit:
-    *r24 = r6_0_0_2;
-    r24[1] = 0;
-    store16(r24 + 2, 0);
-    store32(r24 + 4, 0);
-    store64(r24 + 8, r6_10_0);
-    store32(r24 + 16, 0);
+    *r23 = r6_0_0_2;
+    store64(r23 + 8, r6_10_0);
     goto dfu_host_task_Task_row_exit;
-arm_13:;
-    uint8_t v12 = r18_0_0 == 8;
-    *r24 = (uint8_t)(v12 ? 10 : 11);
-    r24[1] = (uint8_t)(v12 ? 0 : r1_3_0_copyload);
-    store16(r24 + 2, (uint16_t)(v12 ? 0 : r1_4_0_copyload));
-    store32(r24 + 4, (uint32_t)(v12 ? 0 : r1_5_0_copyload));
-    store64(r24 + 8, r1_6_0_copyload);
-    store32(r24 + 16, (uint32_t)(v12 ? 0 : r1_7_0_copyload));
+arm_11:;
+    uint8_t v14 = r18_0_0 == 8;
+    *r23 = (uint8_t)(v14 ? 10 : 11);
+    r23[1] = (uint8_t)(v14 ? 0 : r1_3_0_copyload);
+    store16(r23 + 2, (uint16_t)(v14 ? 0 : r1_4_0_copyload));
+    store32(r23 + 4, (uint32_t)(v14 ? 0 : r1_5_0_copyload));
+    store64(r23 + 8, r1_6_0_copyload);
+    store32(r23 + 16, (uint32_t)(v14 ? 0 : r1_7_0_copyload));
     goto dfu_host_task_Task_row_exit;
-arm_14:
+arm_12:
     switch (r18_0_0) {
     case 0:
         r39_0_0_in_speculated_3 = 14;
-        r39_9_0_in_3 = r44_4;
+        r39_9_0_in_3 = r36_4;
         goto dfu_host_row_on_ack_exit112;
     case 6: goto arm_2_6;
     case 1: goto arm_3_8;
@@ -3228,20 +3194,19 @@ arm_14:
     }
 arm_2_6:
     r39_0_0_in_speculated_3 = 17;
-    r39_9_0_in_3 = r45_4;
+    r39_9_0_in_3 = r37_4;
     goto dfu_host_row_on_ack_exit112;
 arm_3_8:
     r39_0_0_in_speculated_3 = 13;
-    r39_9_0_in_3 = r46_4;
+    r39_9_0_in_3 = r38_4;
     goto dfu_host_row_on_ack_exit112;
 dfu_host_row_on_ack_exit112:;
     uint16_t r39_9_0_3 = load16(r39_9_0_in_3);
-    *r24 = r39_0_0_in_speculated_3;
-    r24[1] = 0;
-    store16(r24 + 2, r39_9_0_3);
-    memset(r24 + 4, 0, 16);
+    *r23 = r39_0_0_in_speculated_3;
+    store16(r23 + 2, r39_9_0_3);
+    memset(r23 + 4, 0, 16);
     goto dfu_host_task_Task_row_exit;
-arm_15:
+arm_13:
     switch (r18_0_0) {
     case 2: goto switch_lookup;
     case 6: goto after_2_3;
@@ -3278,28 +3243,28 @@ switch_lookup:;
     uint8_t switch_load = *(PLACE(switch_table_dfu_host_session_Session_on_result) + (size_t)r18_10_0);
     r6_0_0_3 = switch_load;
 dfu_host_task_Task_after_ask_last_exit:
-    *r24 = r6_0_0_3;
-    memset(r24 + 1, 0, 19);
+    *r23 = r6_0_0_3;
+    memset(r23 + 1, 0, 19);
     goto dfu_host_task_Task_row_exit;
-arm_16:;
-    uint8_t v14 = r18_0_0 == 8;
-    *r24 = (uint8_t)(v14 ? 14 : 15);
-    r24[1] = (uint8_t)(v14 ? 0 : r1_3_0_copyload);
-    store16(r24 + 2, (uint16_t)(v14 ? 0 : r1_4_0_copyload));
-    store32(r24 + 4, (uint32_t)(v14 ? 0 : r1_5_0_copyload));
-    store64(r24 + 8, (uint64_t)(v14 ? 0 : r1_6_0_copyload));
-    store32(r24 + 16, (uint32_t)(v14 ? 0 : r1_7_0_copyload));
+arm_14:;
+    uint8_t v16 = r18_0_0 == 8;
+    *r23 = (uint8_t)(v16 ? 14 : 15);
+    r23[1] = (uint8_t)(v16 ? 0 : r1_3_0_copyload);
+    store16(r23 + 2, (uint16_t)(v16 ? 0 : r1_4_0_copyload));
+    store32(r23 + 4, (uint32_t)(v16 ? 0 : r1_5_0_copyload));
+    store64(r23 + 8, (uint64_t)(v16 ? 0 : r1_6_0_copyload));
+    store32(r23 + 16, (uint32_t)(v16 ? 0 : r1_7_0_copyload));
     goto dfu_host_task_Task_row_exit;
-arm_17:;
-    uint8_t v15 = r18_0_0 == 8;
-    *r24 = (uint8_t)(v15 ? 20 : 16);
-    r24[1] = (uint8_t)(v15 ? 1 : r1_3_0_copyload);
-    store16(r24 + 2, (uint16_t)(v15 ? 0 : r1_4_0_copyload));
-    store32(r24 + 4, (uint32_t)(v15 ? 0 : r1_5_0_copyload));
-    store64(r24 + 8, (uint64_t)(v15 ? 0 : r1_6_0_copyload));
-    store32(r24 + 16, (uint32_t)(v15 ? 0 : r1_7_0_copyload));
+arm_15:;
+    uint8_t v17 = r18_0_0 == 8;
+    *r23 = (uint8_t)(v17 ? 20 : 16);
+    r23[1] = (uint8_t)(v17 ? 1 : r1_3_0_copyload);
+    store16(r23 + 2, (uint16_t)(v17 ? 0 : r1_4_0_copyload));
+    store32(r23 + 4, (uint32_t)(v17 ? 0 : r1_5_0_copyload));
+    store64(r23 + 8, (uint64_t)(v17 ? 0 : r1_6_0_copyload));
+    store32(r23 + 16, (uint32_t)(v17 ? 0 : r1_7_0_copyload));
     goto dfu_host_task_Task_row_exit;
-arm_18:
+arm_16:
     switch (r18_0_0) {
     case 3: goto arm_1_3;
     case 5:
@@ -3355,12 +3320,12 @@ arm_3_9:
     r7_8_4_0_0 = 0;
     goto dfu_host_task_Task_after_fetch_exit;
 dfu_host_task_Task_after_fetch_exit:
-    *r24 = r7_0_0;
-    r24[1] = r7_5_0;
-    store16(r24 + 2, (uint16_t)((uint32_t)r7_8_4_0_0 << 8) | r7_8_0_0);
-    memset(r24 + 4, 0, 16);
+    *r23 = r7_0_0;
+    r23[1] = r7_5_0;
+    store16(r23 + 2, (uint16_t)((uint32_t)r7_8_4_0_0 << 8) | r7_8_0_0);
+    memset(r23 + 4, 0, 16);
     goto dfu_host_task_Task_row_exit;
-arm_19:
+arm_17:
     if (r18_0_0 != 4) {
         r8_0_0 = 0;
         r8_4_0 = 0;
@@ -3406,51 +3371,50 @@ join_6:
     r8_4_0 = r6_4_0;
     r8_6_0 = (uint16_t)((uint32_t)r6_7_4_0_0 << 8) | r6_7_0_0;
 dfu_host_task_Task_after_compare_exit:
-    *r24 = r8_0_0;
-    r24[1] = r8_4_0;
-    store16(r24 + 2, r8_6_0);
-    memset(r24 + 4, 0, 16);
+    *r23 = r8_0_0;
+    r23[1] = r8_4_0;
+    store16(r23 + 2, r8_6_0);
+    memset(r23 + 4, 0, 16);
     goto dfu_host_task_Task_row_exit;
-arm_20:
+arm_18:
     if (!v10) {
-        r8_7_0_0 = r1_17_0_0_extract_trunc;
+        r8_7_0_0 = v12;
         r8_0_0_2 = 20;
         r8_4_0_2 = r1_3_0_copyload;
         goto dfu_host_task_Task_after_last_exit_2;
     }
     uint8_t r13_4 = *a0;
-    uint8_t v17 = r13_4 == 2;
-    r8_7_0_0 = (uint8_t)(v17 ? 0 : r1_17_0_0_extract_trunc);
-    r8_0_0_2 = (uint8_t)(v17 ? 0 : 23);
-    r8_4_0_2 = (uint8_t)(v17 ? 0 : r1_3_0_copyload);
+    uint8_t v19 = r13_4 == 2;
+    r8_7_0_0 = (uint8_t)(v19 ? 0 : v12);
+    r8_0_0_2 = (uint8_t)(v19 ? 0 : 23);
+    r8_4_0_2 = (uint8_t)(v19 ? 0 : r1_3_0_copyload);
 dfu_host_task_Task_after_last_exit_2:
-    *r24 = r8_0_0_2;
-    r24[1] = r8_4_0_2;
-    r24[2] = r8_7_0_0;
-    memset(r24 + 3, 0, 17);
+    *r23 = r8_0_0_2;
+    r23[1] = r8_4_0_2;
+    r23[2] = r8_7_0_0;
+    memset(r23 + 3, 0, 17);
     goto dfu_host_task_Task_row_exit;
-arm_21:
-    *r24 = (uint8_t)(v10 ? 24 : 21);
-    memset(r24 + 1, 0, 19);
+arm_19:
+    *r23 = (uint8_t)(v10 ? 24 : 21);
+    memset(r23 + 1, 0, 19);
     goto dfu_host_task_Task_row_exit;
-arm_22:
-    *r24 = 23;
-    r24[1] = 2;
-    r24[2] = 0;
+arm_20:
+    *r23 = 23;
+    r23[1] = 2;
     goto dfu_host_task_Task_row_exit;
 dfu_host_task_Task_row_exit:;
-    uint8_t v18 = *r24;
-    uint8_t v19 = r24[1];
-    uint16_t v20 = load16(r24 + 2);
-    uint32_t v21 = load32(r24 + 4);
-    uint64_t v22 = load64(r24 + 8);
-    uint32_t v23 = load32(r24 + 16);
-    *r10_2 = v18;
-    r10_2[1] = v19;
-    store16(r10_2 + 2, v20);
-    store32(r10_2 + 4, v21);
-    store64(r10_2 + 8, v22);
-    store32(r10_2 + 16, v23);
+    uint8_t v20 = *r23;
+    uint8_t v21 = r23[1];
+    uint16_t v22 = load16(r23 + 2);
+    uint32_t v23 = load32(r23 + 4);
+    uint64_t v24 = load64(r23 + 8);
+    uint32_t v25 = load32(r23 + 16);
+    *r10_2 = v20;
+    r10_2[1] = v21;
+    store16(r10_2 + 2, v22);
+    store32(r10_2 + 4, v23);
+    store64(r10_2 + 8, v24);
+    store32(r10_2 + 16, v25);
     if (!or_cond) goto dfu_host_progress_Progress_by_row_exit;
     uint8_t r10_3 = *a0;
     if (r10_3 != 2) goto dfu_host_progress_Progress_by_row_exit;
@@ -5965,68 +5929,6 @@ static void dfuse_host_plan_Plan_unsure_of(unsigned char *a0, unsigned char *a1,
     return;
 }
 
-/* dfuse_host::plan::Plan::on_turn */
-static void dfuse_host_plan_Plan_on_turn(unsigned char *a0, unsigned char *a1, unsigned char *a2, uint8_t a3, uint64_t a4, uint8_t a5, uint64_t a6, uint8_t a7, unsigned char *a9) {
-    _Alignas(8) unsigned char r17[56];
-    _Alignas(8) unsigned char r1[24];
-    uint64_t r3, v0, v1;
-    uint8_t v2, v3, v4;
-    uint8_t r2 = *a2;
-    r3 = (uint64_t)r2;
-    store64(r1, r3);
-    v0 = load64(a2 + 8);
-    store64(r1 + 8, v0);
-    v1 = load64(a2 + 16);
-    store64(r1 + 16, v1);
-    memset(r17, 0, 56);
-    uint8_t r18 = *a9;
-    switch (r18) {
-    case 0: goto arm_1;
-    case 4: goto arm_2;
-    case 1: goto arm_3;
-    case 2: goto arm_3;
-    case 3: goto arm_3;
-    case 5: goto arm_3;
-    case 6: goto arm_3;
-    case 7: goto arm_3;
-    default: never();
-    }
-arm_1:
-    dfuse_host_plan_Plan_settle(r17, a1, r1, a5, a6);
-    uint8_t pre = *r17;
-    uint8_t pre6 = r17[1];
-    uint8_t pre7 = r17[2];
-    v2 = pre7;
-    v3 = pre6;
-    v4 = pre;
-    goto join_5;
-arm_2:
-    store64(r17 + 8, r3);
-    store64(r17 + 16, v0);
-    store64(r17 + 24, v1);
-    memset(r17 + 32, 0, 24);
-    v2 = 0;
-    v3 = 0;
-    v4 = 0;
-    goto join_5;
-arm_3:
-    store64(r17 + 8, r3);
-    store64(r17 + 16, v0);
-    store64(r17 + 24, v1);
-    store64(r17 + 32, (uint64_t)a3);
-    store64(r17 + 40, a4);
-    store32(r17 + 48, (uint32_t)a7);
-    v2 = 0;
-    v3 = 0;
-    v4 = 0;
-join_5:
-    *a0 = v4;
-    a0[1] = v3;
-    a0[2] = v2;
-    memcpy(a0 + 8, r17 + 8, 48);
-    return;
-}
-
 /* dfuse_host::session::Session::spent */
 static void dfuse_host_session_Session_spent(unsigned char *a0, unsigned char *a1, unsigned char *a2, uint16_t a3) {
     _Alignas(8) unsigned char r9_21[16];
@@ -6581,18 +6483,18 @@ int32_t dfu_host_next(const struct dfu_session *session, const uint8_t *payload,
 arm_4:
     store16(r19, 3);
     store16(r19 + 2, 6);
-    dfu_host_asking_send(r18, r19, PLACE(static_2), 0);
+    dfu_host_task_send(r18, r19, PLACE(static_2), 0);
     goto dfu_host_session_Session_next_exitthread_pre_split;
 arm_5:
     store16(r23, 5);
     store16(r23 + 2, 1);
-    dfu_host_asking_send(r18, r23, PLACE(static_2), 0);
+    dfu_host_task_send(r18, r23, PLACE(static_2), 0);
     goto dfu_host_session_Session_next_exitthread_pre_split;
 arm_6:;
     uint16_t r65 = load16(r3 + 28);
     store16(r27, 0);
     store16(r27 + 2, r65);
-    dfu_host_asking_send(r18, r27, PLACE(static_2), 0);
+    dfu_host_task_send(r18, r27, PLACE(static_2), 0);
     goto dfu_host_session_Session_next_exitthread_pre_split;
 arm_7:;
     uint8_t r7 = r3[27];
@@ -6604,15 +6506,15 @@ arm_7:;
     goto dfu_host_session_Session_next_exitthread_pre_split;
 arm_8:
     store16(r31, 4);
-    dfu_host_asking_send(r18, r31, PLACE(static_2), 0);
+    dfu_host_task_send(r18, r31, PLACE(static_2), 0);
     goto dfu_host_session_Session_next_exitthread_pre_split;
 arm_9:
     store16(r35, 6);
-    dfu_host_asking_send(r18, r35, PLACE(static_2), 0);
+    dfu_host_task_send(r18, r35, PLACE(static_2), 0);
     goto dfu_host_session_Session_next_exitthread_pre_split;
 arm_10:;
     struct ptr_i64 r89 = dfu_host_task_Task_block(r3, v5);
-    dfu_host_asking_download(r18, v5, r89.a, r89.b);
+    dfu_host_task_download(r18, v5, r89.a, r89.b);
     goto dfu_host_session_Session_next_exitthread_pre_split;
 arm_11:
     r16 = load16(r3 + 24);
@@ -6621,7 +6523,7 @@ arm_11:
 dfu_host_task_Task_count_exit:;
     uint8_t r7_2 = *r3;
     uint64_t r16_2 = load64(r3 + 16);
-    dfu_host_asking_download(r18, ((uint64_t)((r7_2 == 1) ? 0xffffffffffffffffULL : (r16_2 + 0xffffffffffffffffULL)) / (uint64_t)r16) + 1, PLACE(static_2), 0);
+    dfu_host_task_download(r18, ((uint64_t)((r7_2 == 1) ? 0xffffffffffffffffULL : (r16_2 + 0xffffffffffffffffULL)) / (uint64_t)r16) + 1, PLACE(static_2), 0);
     goto dfu_host_session_Session_next_exitthread_pre_split;
 arm_13:
     r14_0 = v6;
@@ -6638,7 +6540,7 @@ after_3:;
     store16(r45, 2);
     store16(r45 + 2, v3);
     store16(r45 + 4, r127);
-    dfu_host_asking_send(r18, r45, PLACE(static_2), 0);
+    dfu_host_task_send(r18, r45, PLACE(static_2), 0);
     goto dfu_host_session_Session_next_exitthread_pre_split;
 after_2:
     store32(r18 + 4, r14_0);
@@ -7742,59 +7644,48 @@ int32_t dfuse_take(struct dfuse_session *session, const uint8_t *map, size_t map
     _Alignas(8) unsigned char r3[104];
     unsigned char *const r5 = r3;
     unsigned char *const r4 = r3;
-    unsigned char *const r5_6 = r3;
     _Alignas(8) unsigned char r4_2[104];
     unsigned char *const r11_3 = r4_2;
     unsigned char *const r12_5 = r4_2;
     unsigned char *const r10_4 = r4_2;
     unsigned char *const r10_3 = r4_2;
     unsigned char *const r12_3 = r4_2;
-    unsigned char *const r9_4 = r4_2;
+    unsigned char *const r9_3 = r4_2;
     unsigned char *const r1 = r4_2;
-    _Alignas(8) unsigned char r9_3[104];
-    unsigned char *const r14_2 = r9_3;
-    unsigned char *const r12_2 = r9_3;
-    unsigned char *const r1_9 = r9_3;
-    unsigned char *const r1_8 = r9_3;
-    unsigned char *const r1_3 = r9_3;
-    unsigned char *const r5_5 = r9_3;
+    _Alignas(8) unsigned char r9_2[104];
+    unsigned char *const r14_3 = r9_2;
+    unsigned char *const r14_2 = r9_2;
+    unsigned char *const r1_9 = r9_2;
+    unsigned char *const r1_7 = r9_2;
+    unsigned char *const r1_4 = r9_2;
+    unsigned char *const r1_2 = r9_2;
     _Alignas(8) unsigned char r5_2[104];
     unsigned char *const r12_4 = r5_2;
-    unsigned char *const r13_2 = r5_2;
-    unsigned char *const r1_5 = r5_2;
-    unsigned char *const r13_10 = r5_2;
+    unsigned char *const r12_2 = r5_2;
     _Alignas(8) unsigned char r10_2[104];
     _Alignas(8) unsigned char r12[104];
     _Alignas(8) unsigned char r11_2[104];
     _Alignas(8) unsigned char r8[104];
     _Alignas(8) unsigned char r17[64];
-    _Alignas(8) unsigned char r17_2[56];
-    unsigned char *const r7_2 = r17_2;
+    _Alignas(8) unsigned char r7_2[56];
+    unsigned char *const r13_2 = r7_2;
+    unsigned char *const r1_6 = r7_2;
     _Alignas(8) unsigned char r13[56];
     _Alignas(8) unsigned char r2_2[48];
-    unsigned char *const r1_7 = r2_2;
-    unsigned char *const r1_4 = r2_2;
+    unsigned char *const r1_8 = r2_2;
+    unsigned char *const r1_5 = r2_2;
     _Alignas(8) unsigned char r2[48];
-    unsigned char *const r1_6 = r2;
-    unsigned char *const r9_23 = r2;
-    _Alignas(8) unsigned char r1_2[24];
-    _Alignas(8) unsigned char r9_21[16];
-    _Alignas(4) unsigned char r9_2[16];
-    _Alignas(2) unsigned char r17_10[14];
-    _Alignas(4) unsigned char r5_4[7];
-    _Alignas(4) unsigned char r5_11[7];
-    _Alignas(4) unsigned char r5_16[3];
-    unsigned char *r22, *r31, *r23, *r23_2, *r22_4;
-    uint64_t r3_16_0_0, r3_16_8_0, r5_6_0_copyload, r5_8_0_copyload, r5_13_0_copyload, r18, r9_19_8_copyload20, r9_17_8_copyload19, r9_1317_8_copyload18, r9_1317_0, r9_17_0, r9_19_0;
-    uint64_t r9_1926_0, r9_24_0, r9_28_0, r9_1317_0_2, r9_17_0_2, r9_20_0, r33, r12_1327_0, r12_17_0, r12_19_0, r12_21_0, r12_23_0;
-    uint64_t r14_3, r11_5_0, r11_9_0, r12_26_0, r12_13_0, r12_15_0, r12_19_0_2;
-    uint8_t r3_9_0_0, r5_0_0_copyload, r5_10_0_copyload, r5_14_0_copyload, r5_0_0, r5_4_0, r5_0_0_2, r10_0_0, r10_4_0, r13_0_0, r13_6_0, r17_0_0;
-    uint8_t r17_8_0, v11, v12, v13, r9_0_0, r9_5_0, r9_9_0, r0_0_0_copyload_2, r9_0_0_2, r9_7_0, r9_13_0, r9_0_0_3;
-    uint8_t r9_5_0_2, r9_9_0_2, v17, v18, v19, v20, v21, v22, v31, v32, v33, r0_0_0_copyload_4;
-    uint8_t v34, v35, v36, v37, v38, v39, r12_0_0, r12_5_0, r12_9_0, v43, v44, v45;
-    uint8_t r12_23_0_in, r12_0_0_2, r12_108_0_in, r12_17_0_in;
-    uint32_t r5_18_0_copyload, r9_25_8_copyload22, r9_23_8_copyload21, r9_23_0, r9_25_0, r9_36_0, r9_39_0, r9_26_0, r9_29_0, r12_25_0, r12_27_0, r12_29_0;
-    uint32_t r12_21_0_2, common_ret_op;
+    unsigned char *const r1_3 = r2;
+    unsigned char *r22, *r31, *v3, *v4, *v5, *r23, *r23_2;
+    uint64_t r3_16_0_0, r3_16_8_0, r5_6_0_copyload, r5_8_0_copyload, r5_13_0_copyload, r18, r9_21_6_0_copyload, r9_21_0_0_copyload, r9_19_8_copyload20, r9_17_8_copyload19, r9_1317_8_copyload18, r33;
+    uint64_t r17_94_8_copyload239, r17_83_8_copyload234, r17_72_8_copyload231, r17_61_8_copyload228, r17_46223_8_copyload225, r14_4, r11_5_0, r11_9_0, r17_94_8_copyload240, r17_83_8_copyload235, r17_72_8_copyload232, r17_61_8_copyload229;
+    uint64_t r17_46223_8_copyload226, r12_26_0, r12_13_0, r12_15_0, r12_19_0, r17_46223_0, r17_61_0, r17_72_0, r17_83_0, r17_94_0;
+    uint8_t r3_9_0_0, r5_0_0_copyload, r5_10_0_copyload, r5_14_0_copyload, r5_5_3_0, r5_5_7_0, r5_0_0, r13_10_3_0, r13_10_9_0, r13_0_0, r13_6_0, r17_10_3_0;
+    uint8_t r17_10_7_0, r17_0_0, r17_8_0, v10, v11, v12, v16, v17, v18, v19, v20, v21;
+    uint8_t v30, v31, v32, v33, v34, v35, v36, v37, v38, v43, v44, v45;
+    uint8_t v46, v47, v48, r12_23_0_in, r12_0_0, r12_108_0_in, r12_17_0_in, r17_0_0_2, r17_16_0, r17_31_0;
+    uint32_t r5_18_0_copyload, r5_5_6_0, r13_10_8_0, r17_10_6_0, r9_25_8_copyload22, r9_23_8_copyload21, r17_110_8_copyload247, r17_100_8_copyload244, r17_110_8_copyload248, r17_100_8_copyload245, r12_29_0, r12_21_0;
+    uint32_t r17_100_0, r17_110_0, common_ret_op;
     uint8_t common_ret_op_2;
     uint16_t r8_3_0_copyload, r8_5_0_copyload;
     r22 = (unsigned char *)((uintptr_t)a6 + (uintptr_t)(uint64_t)((a6 == NULL) ? 4096 : 0));
@@ -7858,19 +7749,21 @@ arm_8:
     uint8_t r14 = r8[40];
     if (r14 != 0) goto dfuse_host_session_Session_take_exit;
     r5_0_0_copyload = r8[48];
-    memcpy(r5_4, r11 + 57, 7);
+    v3 = r11 + 57;
     r5_6_0_copyload = load64(r8 + 56);
     r5_8_0_copyload = load64(r8 + 64);
     r5_10_0_copyload = r8[72];
-    memcpy(r5_11, r11 + 81, 7);
+    v4 = r11 + 81;
     r5_13_0_copyload = load64(r8 + 80);
     r5_14_0_copyload = r8[88];
-    memcpy(r5_16, r11 + 97, 3);
+    v5 = r11 + 97;
     r5_18_0_copyload = load32(r8 + 92);
     r18 = (uint64_t)r5_0_0_copyload;
-    memset(r17_10, 0, 14);
     switch (r3_9_0_0) {
     case 0:
+        r17_10_3_0 = r3_9_0_0;
+        r17_10_6_0 = 0;
+        r17_10_7_0 = r3_9_0_0;
         r17_0_0 = r3_9_0_0;
         r17_8_0 = r3_9_0_0;
         goto dfuse_host_plan_Plan_hear_exit;
@@ -7886,7 +7779,6 @@ arm_2_2:
     store64(r1, r18);
     store64(r1 + 8, r5_6_0_copyload);
     store64(r1 + 16, r5_8_0_copyload);
-    memset(r13_10, 0, 14);
     switch (r5_14_0_copyload) {
     case 1: goto arm_1;
     case 6: goto arm_1;
@@ -7896,79 +7788,115 @@ arm_2_2:
     case 14: goto arm_2_3;
     case 11: goto arm_3_3;
     case 0:
+        r13_10_3_0 = 0;
+        r13_10_8_0 = 0;
+        r13_10_9_0 = 0;
         r13_0_0 = 5;
         r13_6_0 = 0;
         goto dfuse_host_plan_Plan_answered_exit;
     case 3:
+        r13_10_3_0 = 0;
+        r13_10_8_0 = 0;
+        r13_10_9_0 = 0;
         r13_0_0 = 5;
         r13_6_0 = 0;
         goto dfuse_host_plan_Plan_answered_exit;
     case 4:
+        r13_10_3_0 = 0;
+        r13_10_8_0 = 0;
+        r13_10_9_0 = 0;
         r13_0_0 = 5;
         r13_6_0 = 0;
         goto dfuse_host_plan_Plan_answered_exit;
     case 5:
+        r13_10_3_0 = 0;
+        r13_10_8_0 = 0;
+        r13_10_9_0 = 0;
         r13_0_0 = 5;
         r13_6_0 = 0;
         goto dfuse_host_plan_Plan_answered_exit;
     case 8:
+        r13_10_3_0 = 0;
+        r13_10_8_0 = 0;
+        r13_10_9_0 = 0;
         r13_0_0 = 5;
         r13_6_0 = 0;
         goto dfuse_host_plan_Plan_answered_exit;
     case 9:
+        r13_10_3_0 = 0;
+        r13_10_8_0 = 0;
+        r13_10_9_0 = 0;
         r13_0_0 = 5;
         r13_6_0 = 0;
         goto dfuse_host_plan_Plan_answered_exit;
     case 10:
+        r13_10_3_0 = 0;
+        r13_10_8_0 = 0;
+        r13_10_9_0 = 0;
         r13_0_0 = 5;
         r13_6_0 = 0;
         goto dfuse_host_plan_Plan_answered_exit;
     case 12:
+        r13_10_3_0 = 0;
+        r13_10_8_0 = 0;
+        r13_10_9_0 = 0;
         r13_0_0 = 5;
         r13_6_0 = 0;
         goto dfuse_host_plan_Plan_answered_exit;
     default: never();
     }
 arm_1:
-    memset(r5_6, 0, 14);
     if (r3_16_8_0 != 1) {
-        r5_0_0 = 5;
-        r5_4_0 = 0;
-        goto dfuse_host_heard_state_in_exit;
+        r13_10_3_0 = 0;
+        r13_10_8_0 = 0;
+        r13_10_9_0 = 0;
+        r13_0_0 = 5;
+        r13_6_0 = 0;
+        goto dfuse_host_plan_Plan_answered_exit;
     }
     uint8_t r27 = *r23;
     uint8_t v6 = r27 < 11;
-    memset(r5_6 + 2, 0, 12);
-    r5_0_0 = (uint8_t)(v6 ? 2 : 5);
-    r5_4_0 = (uint8_t)(v6 ? r27 : 0);
-dfuse_host_heard_state_in_exit:
-    memcpy(r13_10 + 2, r5_6 + 2, 12);
-    r13_0_0 = r5_0_0;
-    r13_6_0 = r5_4_0;
+    r13_10_3_0 = 0;
+    r13_10_8_0 = 0;
+    r13_10_9_0 = 0;
+    r13_0_0 = (uint8_t)(v6 ? 2 : 5);
+    r13_6_0 = (uint8_t)(v6 ? r27 : 0);
     goto dfuse_host_plan_Plan_answered_exit;
 arm_2_3:
     memset(r4, 0, 16);
-    memset(r5_5, 0, 14);
     dfu_wire_statuses_Status_decode(r4, r23, r3_16_8_0);
     uint8_t r9 = *r4;
     if (r9 != 0) {
-        r5_0_0_2 = 5;
+        r5_5_3_0 = 0;
+        r5_5_6_0 = 0;
+        r5_5_7_0 = 0;
+        r5_0_0 = 5;
         goto dfuse_host_heard_status_in_exit;
     }
-    memcpy(r5_5 + 2, r4 + 4, 12);
-    r5_0_0_2 = 1;
+    uint8_t r5_5_3_2_copyload = r4[4];
+    uint32_t r5_5_6_2_copyload = load32(r4 + 8);
+    uint8_t r5_5_7_2_copyload = r4[12];
+    r5_5_3_0 = r5_5_3_2_copyload;
+    r5_5_6_0 = r5_5_6_2_copyload;
+    r5_5_7_0 = r5_5_7_2_copyload;
+    r5_0_0 = 1;
 dfuse_host_heard_status_in_exit:
-    memcpy(r13_10 + 2, r5_5 + 2, 12);
-    r13_0_0 = r5_0_0_2;
+    r13_10_3_0 = r5_5_3_0;
+    r13_10_8_0 = r5_5_6_0;
+    r13_10_9_0 = r5_5_7_0;
+    r13_0_0 = r5_0_0;
     r13_6_0 = 0;
     goto dfuse_host_plan_Plan_answered_exit;
 arm_3_3:;
     struct ptr_i64 r22_3 = dfuse_host_plan_Plan_read_bytes(r31, r1);
     r23_2 = r22_3.a;
     if (r3_16_8_0 != r22_3.b) {
-        r10_0_0 = 5;
-        r10_4_0 = 0;
-        goto dfuse_host_heard_compared_exit;
+        r13_10_3_0 = 0;
+        r13_10_8_0 = 0;
+        r13_10_9_0 = 0;
+        r13_0_0 = 5;
+        r13_6_0 = 0;
+        goto dfuse_host_plan_Plan_answered_exit;
     }
     store64(r5, r3_16_0_0);
     store64(r5 + 8, r3_16_8_0);
@@ -7987,70 +7915,78 @@ join_9:;
     uint8_t r83 = core_cmp_slices_groups_equal_i8_core_cmp_numbers_U8PartialEq(r23, r3_16_8_0, r23_2, r3_16_8_0);
     common_ret_op_2 = r83;
 core_cmp_slices_slices_equal_i8_core_cmp_numbers_U8PartialEq_exit:
-    r10_0_0 = 3;
-    r10_4_0 = common_ret_op_2;
-dfuse_host_heard_compared_exit:
-    memset(r13_10 + 2, 0, 12);
-    r13_0_0 = r10_0_0;
-    r13_6_0 = r10_4_0;
+    r13_10_3_0 = 0;
+    r13_10_8_0 = 0;
+    r13_10_9_0 = 0;
+    r13_0_0 = 3;
+    r13_6_0 = common_ret_op_2;
     goto dfuse_host_plan_Plan_answered_exit;
 dfuse_host_plan_Plan_answered_exit:
-    memcpy(r17_10 + 2, r13_10 + 2, 12);
+    r17_10_3_0 = r13_10_3_0;
+    r17_10_6_0 = r13_10_8_0;
+    r17_10_7_0 = r13_10_9_0;
     r17_0_0 = r13_0_0;
     r17_8_0 = r13_6_0;
     goto dfuse_host_plan_Plan_hear_exit;
 arm_3_2:
+    r17_10_3_0 = 0;
+    r17_10_6_0 = 0;
+    r17_10_7_0 = 0;
     r17_0_0 = 4;
     r17_8_0 = 0;
     goto dfuse_host_plan_Plan_hear_exit;
 arm_4_2:
+    r17_10_3_0 = 0;
+    r17_10_6_0 = 0;
+    r17_10_7_0 = 0;
     r17_0_0 = 5;
     r17_8_0 = 0;
     goto dfuse_host_plan_Plan_hear_exit;
 arm_5_2:
+    r17_10_3_0 = 0;
+    r17_10_6_0 = 0;
+    r17_10_7_0 = 0;
     r17_0_0 = 6;
     r17_8_0 = 0;
     goto dfuse_host_plan_Plan_hear_exit;
 arm_6_2:
+    r17_10_3_0 = 0;
+    r17_10_6_0 = 0;
+    r17_10_7_0 = 0;
     r17_0_0 = 7;
     r17_8_0 = 0;
     goto dfuse_host_plan_Plan_hear_exit;
 dfuse_host_plan_Plan_hear_exit:
-    r22_4 = r9_2 + 4;
-    memcpy(r22_4, r17_10 + 2, 12);
-    store32(r9_2, 0);
     memset(r10_2, 0, 104);
     memset(r13, 0, 56);
-    r8_3_0_copyload = load16(r8 + 100);
-    r8_5_0_copyload = load16(r8 + 102);
-    *r9_2 = r17_0_0;
-    r9_2[1] = r17_8_0;
+    r8_3_0_copyload = load16(r11 + 108);
+    r8_5_0_copyload = load16(r11 + 110);
     if (r17_0_0 != 7) goto arm_2_4;
     *r2 = r5_0_0_copyload;
-    memcpy(r2 + 1, r5_4, 7);
+    memcpy(r2 + 1, v3, 7);
     store64(r2 + 8, r5_6_0_copyload);
     store64(r2 + 16, r5_8_0_copyload);
     r2[24] = r5_10_0_copyload;
-    memcpy(r2 + 25, r5_11, 7);
+    memcpy(r2 + 25, v4, 7);
     store64(r2 + 32, r5_13_0_copyload);
     r2[40] = r5_14_0_copyload;
-    memcpy(r2 + 41, r5_16, 3);
+    memcpy(r2 + 41, v5, 3);
     store32(r2 + 44, r5_18_0_copyload);
     if (r5_0_0_copyload != 6) goto arm_2_5;
     *r2_2 = 6;
-    memcpy(r2_2 + 1, r5_4, 7);
+    memcpy(r2_2 + 1, v3, 7);
     store64(r2_2 + 8, r5_6_0_copyload);
     store64(r2_2 + 16, r5_8_0_copyload);
     r2_2[24] = r5_10_0_copyload;
-    memcpy(r2_2 + 25, r5_11, 7);
+    memcpy(r2_2 + 25, v4, 7);
     store64(r2_2 + 32, r5_13_0_copyload);
     r2_2[40] = r5_14_0_copyload;
-    memcpy(r2_2 + 41, r5_16, 3);
+    memcpy(r2_2 + 41, v5, 3);
     store32(r2_2 + 44, r5_18_0_copyload);
     memset(r3, 0, 104);
     memset(r7_2, 0, 56);
     if ((uint8_t)(r5_14_0_copyload + 244) >= 3) goto arm_2_6;
-    memcpy(r4_2, r8, 100);
+    memcpy(r4_2, r31, 100);
     store16(r4_2 + 100, r8_3_0_copyload);
     store16(r4_2 + 102, r8_5_0_copyload);
     *r7_2 = 1;
@@ -8058,14 +7994,14 @@ dfuse_host_plan_Plan_hear_exit:
     dfuse_host_session_Session_spent(r3, r4_2, r7_2, r8_3_0_copyload);
     goto dfuse_host_session_Session_restarted_leaving_exit;
 arm_2_6:
-    memcpy(r9_3, r8, 100);
-    store16(r9_3 + 100, r8_3_0_copyload);
-    store16(r9_3 + 102, r8_5_0_copyload);
-    dfuse_host_session_Session_restarted_once(r3, r9_3, r2_2);
+    memcpy(r9_2, r31, 100);
+    store16(r9_2 + 100, r8_3_0_copyload);
+    store16(r9_2 + 102, r8_5_0_copyload);
+    dfuse_host_session_Session_restarted_once(r3, r9_2, r2_2);
 dfuse_host_session_Session_restarted_leaving_exit:
     goto dfuse_host_session_Session_restarted_exit;
 arm_2_5:
-    memcpy(r5_2, r8, 100);
+    memcpy(r5_2, r31, 100);
     store16(r5_2 + 100, r8_3_0_copyload);
     store16(r5_2 + 102, r8_5_0_copyload);
     dfuse_host_session_Session_restarted_once(r3, r5_2, r2);
@@ -8073,42 +8009,129 @@ dfuse_host_session_Session_restarted_exit:
     memcpy(r10_2, r3, 104);
     goto dfuse_host_session_Session_after_exit;
 arm_2_4:
-    memcpy(r12, r8, 104);
-    store64(r1_2, r18);
-    store64(r1_2 + 8, r5_6_0_copyload);
-    store64(r1_2 + 16, r5_8_0_copyload);
-    memset(r17_2, 0, 56);
+    memcpy(r12, r31, 104);
     switch (r5_14_0_copyload) {
-    case 0: goto switch_lookup;
+    case 0: goto arm_1_2;
     case 1: goto arm_2_7;
     case 2: goto arm_3_4;
     case 3: goto arm_4_3;
-    case 4: goto arm_5_3;
+    case 4:
+        r17_0_0_2 = 0;
+        r17_16_0 = 0;
+        r17_31_0 = 0;
+        r17_46223_0 = r18;
+        r17_61_0 = r5_6_0_copyload;
+        r17_72_0 = r5_8_0_copyload;
+        r17_83_0 = 0;
+        r17_94_0 = 0;
+        r17_100_0 = 0;
+        r17_110_0 = 0;
+        goto dfuse_host_plan_Plan_row_exit;
     case 5: goto arm_6_3;
     case 6: goto arm_7;
     case 7: goto arm_8_2;
     case 8: goto arm_9;
     case 9: goto arm_10;
-    case 10: goto arm_11;
-    case 11: goto arm_12;
-    case 12: goto arm_13;
-    case 13: goto arm_14;
-    case 14: goto arm_15;
+    case 10: goto arm_10;
+    case 11: goto arm_11;
+    case 12: goto arm_12;
+    case 13: goto arm_13;
+    case 14: goto arm_14;
     default: never();
     }
-switch_lookup:;
-    uint32_t switch_load = load32(PLACE(switch_table_dfuse_take) + 4 * (size_t)r17_0_0);
-    store64(r17_2 + 8, r18);
-    store64(r17_2 + 16, r5_6_0_copyload);
-    store64(r17_2 + 24, r5_8_0_copyload);
-    memset(r17_2 + 32, 0, 16);
-    store32(r17_2 + 48, switch_load);
-    store32(r17_2 + 52, 0);
+arm_1_2:
+    switch (r17_0_0) {
+    case 0: goto after_2;
+    case 4: goto after_2;
+    case 1:
+        r17_0_0_2 = 0;
+        r17_16_0 = 0;
+        r17_31_0 = 0;
+        r17_46223_0 = r18;
+        r17_61_0 = r5_6_0_copyload;
+        r17_72_0 = r5_8_0_copyload;
+        r17_83_0 = 0;
+        r17_94_0 = 0;
+        r17_100_0 = 0;
+        r17_110_0 = 0;
+        goto dfuse_host_plan_Plan_row_exit;
+    case 2:
+        r17_0_0_2 = 0;
+        r17_16_0 = 0;
+        r17_31_0 = 0;
+        r17_46223_0 = r18;
+        r17_61_0 = r5_6_0_copyload;
+        r17_72_0 = r5_8_0_copyload;
+        r17_83_0 = 0;
+        r17_94_0 = 0;
+        r17_100_0 = 0;
+        r17_110_0 = 0;
+        goto dfuse_host_plan_Plan_row_exit;
+    case 3:
+        r17_0_0_2 = 0;
+        r17_16_0 = 0;
+        r17_31_0 = 0;
+        r17_46223_0 = r18;
+        r17_61_0 = r5_6_0_copyload;
+        r17_72_0 = r5_8_0_copyload;
+        r17_83_0 = 0;
+        r17_94_0 = 0;
+        r17_100_0 = 0;
+        r17_110_0 = 0;
+        goto dfuse_host_plan_Plan_row_exit;
+    case 5:
+        r17_0_0_2 = 0;
+        r17_16_0 = 0;
+        r17_31_0 = 0;
+        r17_46223_0 = r18;
+        r17_61_0 = r5_6_0_copyload;
+        r17_72_0 = r5_8_0_copyload;
+        r17_83_0 = 0;
+        r17_94_0 = 0;
+        r17_100_0 = 0;
+        r17_110_0 = 0;
+        goto dfuse_host_plan_Plan_row_exit;
+    case 6:
+        r17_0_0_2 = 0;
+        r17_16_0 = 0;
+        r17_31_0 = 0;
+        r17_46223_0 = r18;
+        r17_61_0 = r5_6_0_copyload;
+        r17_72_0 = r5_8_0_copyload;
+        r17_83_0 = 0;
+        r17_94_0 = 0;
+        r17_100_0 = 0;
+        r17_110_0 = 0;
+        goto dfuse_host_plan_Plan_row_exit;
+    default: never();
+    }
+after_2:
+    r17_0_0_2 = 0;
+    r17_16_0 = 0;
+    r17_31_0 = 0;
+    r17_46223_0 = r18;
+    r17_61_0 = r5_6_0_copyload;
+    r17_72_0 = r5_8_0_copyload;
+    r17_83_0 = 0;
+    r17_94_0 = 0;
+    r17_100_0 = 1;
+    r17_110_0 = 0;
     goto dfuse_host_plan_Plan_row_exit;
 arm_2_7:
     switch (r17_0_0) {
-    case 2: goto arm_1_2;
-    case 4: goto arm_2_8;
+    case 2: goto arm_1_3;
+    case 4:
+        r17_0_0_2 = 0;
+        r17_16_0 = 0;
+        r17_31_0 = 0;
+        r17_46223_0 = r18;
+        r17_61_0 = r5_6_0_copyload;
+        r17_72_0 = r5_8_0_copyload;
+        r17_83_0 = 0;
+        r17_94_0 = 0;
+        r17_100_0 = 2;
+        r17_110_0 = 0;
+        goto dfuse_host_plan_Plan_row_exit;
     case 0: goto arm_3_5;
     case 1: goto arm_3_5;
     case 3: goto arm_3_5;
@@ -8116,33 +8139,37 @@ arm_2_7:
     case 6: goto arm_3_5;
     default: never();
     }
-arm_1_2:
-    store64(r1_3, r18);
-    store64(r1_3 + 8, r5_6_0_copyload);
-    store64(r1_3 + 16, r5_8_0_copyload);
-    memset(r9_4, 0, 56);
+arm_1_3:
+    store64(r1_2, r18);
+    store64(r1_2 + 8, r5_6_0_copyload);
+    store64(r1_2 + 16, r5_8_0_copyload);
+    memset(r9_3, 0, 56);
     switch (r17_8_0) {
     case 0:
+        r9_21_6_0_copyload = 0;
+        r9_21_0_0_copyload = 0;
         r9_25_8_copyload22 = 0;
         r9_23_8_copyload21 = 0;
         r9_19_8_copyload20 = 0;
         r9_17_8_copyload19 = 0;
         r9_1317_8_copyload18 = 0;
-        v11 = 0;
-        v12 = 6;
-        v13 = 1;
+        v10 = 0;
+        v11 = 6;
+        v12 = 1;
         goto dfuse_host_plan_Plan_state_found_exit;
     case 1:
+        r9_21_6_0_copyload = 0;
+        r9_21_0_0_copyload = 0;
         r9_25_8_copyload22 = 0;
         r9_23_8_copyload21 = 0;
         r9_19_8_copyload20 = 0;
         r9_17_8_copyload19 = 0;
         r9_1317_8_copyload18 = 0;
-        v11 = 0;
-        v12 = 6;
-        v13 = 1;
+        v10 = 0;
+        v11 = 6;
+        v12 = 1;
         goto dfuse_host_plan_Plan_state_found_exit;
-    case 2: goto arm_2_9;
+    case 2: goto arm_2_8;
     case 3: goto arm_3_6;
     case 5: goto arm_3_6;
     case 6: goto arm_3_6;
@@ -8153,94 +8180,92 @@ arm_1_2:
     case 10: goto arm_4_4;
     default: never();
     }
-arm_2_9:
-    dfuse_host_plan_Plan_settle(r9_4, r8, r1_3, 0, 0);
-    uint8_t pre = *r9_4;
-    uint8_t pre8 = r9_4[1];
-    uint8_t pre9 = r9_4[2];
-    uint64_t r9_1317_8_copyload18_pre = load64(r9_4 + 8);
-    uint64_t r9_17_8_copyload19_pre = load64(r9_4 + 16);
-    uint64_t r9_19_8_copyload20_pre = load64(r9_4 + 24);
-    uint32_t r9_23_8_copyload21_pre = load32(r9_4 + 48);
-    uint32_t r9_25_8_copyload22_pre = load32(r9_4 + 52);
+arm_2_8:
+    dfuse_host_plan_Plan_settle(r9_3, r31, r1_2, 0, 0);
+    uint8_t pre = *r9_3;
+    uint8_t pre8 = r9_3[1];
+    uint8_t pre9 = r9_3[2];
+    uint64_t r9_1317_8_copyload18_pre = load64(r9_3 + 8);
+    uint64_t r9_17_8_copyload19_pre = load64(r9_3 + 16);
+    uint64_t r9_19_8_copyload20_pre = load64(r9_3 + 24);
+    uint32_t r9_23_8_copyload21_pre = load32(r9_3 + 48);
+    uint32_t r9_25_8_copyload22_pre = load32(r9_3 + 52);
+    uint64_t r9_21_0_0_copyload_pre = load64(r9_3 + 32);
+    uint64_t r9_21_6_0_copyload_pre = load64(r9_3 + 40);
+    r9_21_6_0_copyload = r9_21_6_0_copyload_pre;
+    r9_21_0_0_copyload = r9_21_0_0_copyload_pre;
     r9_25_8_copyload22 = r9_25_8_copyload22_pre;
     r9_23_8_copyload21 = r9_23_8_copyload21_pre;
     r9_19_8_copyload20 = r9_19_8_copyload20_pre;
     r9_17_8_copyload19 = r9_17_8_copyload19_pre;
     r9_1317_8_copyload18 = r9_1317_8_copyload18_pre;
-    v11 = pre9;
-    v12 = pre8;
-    v13 = pre;
+    v10 = pre9;
+    v11 = pre8;
+    v12 = pre;
     goto dfuse_host_plan_Plan_state_found_exit;
 arm_3_6:
-    memset(r9_4 + 32, 0, 24);
+    r9_21_6_0_copyload = 0;
+    r9_21_0_0_copyload = 0;
     r9_25_8_copyload22 = 0;
     r9_23_8_copyload21 = 0;
     r9_19_8_copyload20 = r5_8_0_copyload;
     r9_17_8_copyload19 = r5_6_0_copyload;
     r9_1317_8_copyload18 = r18;
+    v10 = 0;
     v11 = 0;
     v12 = 0;
-    v13 = 0;
     goto dfuse_host_plan_Plan_state_found_exit;
 arm_4_4:
-    memset(r9_4 + 32, 0, 16);
+    r9_21_6_0_copyload = 0;
+    r9_21_0_0_copyload = 0;
     r9_25_8_copyload22 = 0;
     r9_23_8_copyload21 = 2;
     r9_19_8_copyload20 = r5_8_0_copyload;
     r9_17_8_copyload19 = r5_6_0_copyload;
     r9_1317_8_copyload18 = r18;
+    v10 = 0;
     v11 = 0;
     v12 = 0;
-    v13 = 0;
     goto dfuse_host_plan_Plan_state_found_exit;
 dfuse_host_plan_Plan_state_found_exit:
-    memcpy(r9_21, r9_4 + 32, 16);
-    r9_0_0 = v13;
-    r9_5_0 = v12;
-    r9_9_0 = v11;
-    r9_1317_0 = r9_1317_8_copyload18;
-    r9_17_0 = r9_17_8_copyload19;
-    r9_19_0 = r9_19_8_copyload20;
-    r9_23_0 = r9_23_8_copyload21;
-    r9_25_0 = r9_25_8_copyload22;
-    goto dfuse_host_plan_Plan_on_ask_state_exit;
-arm_2_8:
-    memset(r9_21, 0, 16);
-    r9_0_0 = 0;
-    r9_5_0 = 0;
-    r9_9_0 = 0;
-    r9_1317_0 = r18;
-    r9_17_0 = r5_6_0_copyload;
-    r9_19_0 = r5_8_0_copyload;
-    r9_23_0 = 2;
-    r9_25_0 = 0;
-    goto dfuse_host_plan_Plan_on_ask_state_exit;
+    r17_0_0_2 = v12;
+    r17_16_0 = v11;
+    r17_31_0 = v10;
+    r17_46223_0 = r9_1317_8_copyload18;
+    r17_61_0 = r9_17_8_copyload19;
+    r17_72_0 = r9_19_8_copyload20;
+    r17_83_0 = r9_21_0_0_copyload;
+    r17_94_0 = r9_21_6_0_copyload;
+    r17_100_0 = r9_23_8_copyload21;
+    r17_110_0 = r9_25_8_copyload22;
+    goto dfuse_host_plan_Plan_row_exit;
 arm_3_5:
-    memset(r9_21, 0, 16);
-    r9_0_0 = 0;
-    r9_5_0 = 0;
-    r9_9_0 = 0;
-    r9_1317_0 = r18;
-    r9_17_0 = r5_6_0_copyload;
-    r9_19_0 = r5_8_0_copyload;
-    r9_23_0 = 1;
-    r9_25_0 = 0;
-dfuse_host_plan_Plan_on_ask_state_exit:
-    *r17_2 = r9_0_0;
-    r17_2[1] = r9_5_0;
-    r17_2[2] = r9_9_0;
-    store64(r17_2 + 8, r9_1317_0);
-    store64(r17_2 + 16, r9_17_0);
-    store64(r17_2 + 24, r9_19_0);
-    memcpy(r17_2 + 32, r9_21, 16);
-    store32(r17_2 + 48, r9_23_0);
-    store32(r17_2 + 52, r9_25_0);
+    r17_0_0_2 = 0;
+    r17_16_0 = 0;
+    r17_31_0 = 0;
+    r17_46223_0 = r18;
+    r17_61_0 = r5_6_0_copyload;
+    r17_72_0 = r5_8_0_copyload;
+    r17_83_0 = 0;
+    r17_94_0 = 0;
+    r17_100_0 = 1;
+    r17_110_0 = 0;
     goto dfuse_host_plan_Plan_row_exit;
 arm_3_4:
     switch (r17_0_0) {
-    case 1: goto arm_1_3;
-    case 4: goto arm_2_10;
+    case 1: goto arm_1_4;
+    case 4:
+        r17_0_0_2 = 0;
+        r17_16_0 = 0;
+        r17_31_0 = 0;
+        r17_46223_0 = r18;
+        r17_61_0 = r5_6_0_copyload;
+        r17_72_0 = r5_8_0_copyload;
+        r17_83_0 = 0;
+        r17_94_0 = 0;
+        r17_100_0 = 3;
+        r17_110_0 = 100;
+        goto dfuse_host_plan_Plan_row_exit;
     case 0: goto arm_3_7;
     case 2: goto arm_3_7;
     case 3: goto arm_3_7;
@@ -8248,223 +8273,212 @@ arm_3_4:
     case 6: goto arm_3_7;
     default: never();
     }
-arm_1_3:;
-    uint8_t r0_0_0_copyload = r9_2[12];
-    switch (r0_0_0_copyload) {
+arm_1_4:
+    switch (r17_10_7_0) {
     case 0:
-        r9_0_0_2 = 1;
-        r9_7_0 = 6;
-        r9_13_0 = 0;
-        r9_1926_0 = 0;
-        r9_24_0 = 0;
-        r9_28_0 = 0;
-        r9_36_0 = 0;
-        r9_39_0 = 0;
-        goto dfuse_host_clearing_status_found_exit;
+        r17_0_0_2 = 1;
+        r17_16_0 = 6;
+        r17_31_0 = 0;
+        r17_46223_0 = 0;
+        r17_61_0 = 0;
+        r17_72_0 = 0;
+        r17_83_0 = 0;
+        r17_94_0 = 0;
+        r17_100_0 = 0;
+        r17_110_0 = 0;
+        goto dfuse_host_plan_Plan_row_exit;
     case 1:
-        r9_0_0_2 = 1;
-        r9_7_0 = 6;
-        r9_13_0 = 0;
-        r9_1926_0 = 0;
-        r9_24_0 = 0;
-        r9_28_0 = 0;
-        r9_36_0 = 0;
-        r9_39_0 = 0;
-        goto dfuse_host_clearing_status_found_exit;
-    case 2: goto arm_2_11;
+        r17_0_0_2 = 1;
+        r17_16_0 = 6;
+        r17_31_0 = 0;
+        r17_46223_0 = 0;
+        r17_61_0 = 0;
+        r17_72_0 = 0;
+        r17_83_0 = 0;
+        r17_94_0 = 0;
+        r17_100_0 = 0;
+        r17_110_0 = 0;
+        goto dfuse_host_plan_Plan_row_exit;
+    case 2: goto arm_2_9;
     case 5: goto arm_3_8;
     case 9: goto arm_3_8;
     case 10: goto arm_4_5;
-    case 3: goto arm_5_4;
-    case 4: goto arm_5_4;
-    case 6: goto arm_5_4;
-    case 7: goto arm_5_4;
-    case 8: goto arm_5_4;
+    case 3: goto arm_5_3;
+    case 4: goto arm_5_3;
+    case 6: goto arm_5_3;
+    case 7: goto arm_5_3;
+    case 8: goto arm_5_3;
     default: never();
     }
-arm_2_11:
-    r9_0_0_2 = 0;
-    r9_7_0 = 0;
-    r9_13_0 = 0;
-    r9_1926_0 = r18;
-    r9_24_0 = r5_6_0_copyload;
-    r9_28_0 = r5_8_0_copyload;
-    r9_36_0 = 1;
-    r9_39_0 = 0;
-    goto dfuse_host_clearing_status_found_exit;
+arm_2_9:
+    r17_0_0_2 = 0;
+    r17_16_0 = 0;
+    r17_31_0 = 0;
+    r17_46223_0 = r18;
+    r17_61_0 = r5_6_0_copyload;
+    r17_72_0 = r5_8_0_copyload;
+    r17_83_0 = 0;
+    r17_94_0 = 0;
+    r17_100_0 = 1;
+    r17_110_0 = 0;
+    goto dfuse_host_plan_Plan_row_exit;
 arm_3_8:
-    r9_0_0_2 = 0;
-    r9_7_0 = 0;
-    r9_13_0 = 0;
-    r9_1926_0 = r18;
-    r9_24_0 = r5_6_0_copyload;
-    r9_28_0 = r5_8_0_copyload;
-    r9_36_0 = 0;
-    r9_39_0 = 0;
-    goto dfuse_host_clearing_status_found_exit;
+    r17_0_0_2 = 0;
+    r17_16_0 = 0;
+    r17_31_0 = 0;
+    r17_46223_0 = r18;
+    r17_61_0 = r5_6_0_copyload;
+    r17_72_0 = r5_8_0_copyload;
+    r17_83_0 = 0;
+    r17_94_0 = 0;
+    r17_100_0 = 0;
+    r17_110_0 = 0;
+    goto dfuse_host_plan_Plan_row_exit;
 arm_4_5:
-    r0_0_0_copyload_2 = *r22_4;
     switch (r5_0_0_copyload) {
     case 0:
-        r9_0_0_2 = r5_0_0_copyload;
-        r9_7_0 = r5_0_0_copyload;
-        r9_13_0 = r5_0_0_copyload;
-        r9_1926_0 = 0;
-        r9_24_0 = r5_6_0_copyload;
-        r9_28_0 = r5_8_0_copyload;
-        r9_36_0 = 4;
-        r9_39_0 = 0;
-        goto dfuse_host_clearing_status_found_exit;
+        r17_0_0_2 = r5_0_0_copyload;
+        r17_16_0 = r5_0_0_copyload;
+        r17_31_0 = r5_0_0_copyload;
+        r17_46223_0 = 0;
+        r17_61_0 = r5_6_0_copyload;
+        r17_72_0 = r5_8_0_copyload;
+        r17_83_0 = 0;
+        r17_94_0 = 0;
+        r17_100_0 = 4;
+        r17_110_0 = 0;
+        goto dfuse_host_plan_Plan_row_exit;
     case 3: goto arm_4_6;
     case 5: goto arm_4_6;
-    case 1: goto arm_5_5;
-    case 2: goto arm_5_5;
-    case 4: goto arm_5_5;
-    case 6: goto arm_5_5;
+    case 1: goto arm_5_4;
+    case 2: goto arm_5_4;
+    case 4: goto arm_5_4;
+    case 6: goto arm_5_4;
     default: never();
     }
 arm_4_6:
-    switch (r0_0_0_copyload_2) {
+    switch (r17_10_3_0) {
     case 11:
-        r9_0_0_2 = 1;
-        r9_7_0 = 3;
-        r9_13_0 = 0;
-        r9_1926_0 = 0;
-        r9_24_0 = 0;
-        r9_28_0 = 0;
-        r9_36_0 = 0;
-        r9_39_0 = 0;
-        goto dfuse_host_clearing_status_found_exit;
-    case 15: goto arm_1_4;
+        r17_0_0_2 = 1;
+        r17_16_0 = 3;
+        r17_31_0 = 0;
+        r17_46223_0 = 0;
+        r17_61_0 = 0;
+        r17_72_0 = 0;
+        r17_83_0 = 0;
+        r17_94_0 = 0;
+        r17_100_0 = 0;
+        r17_110_0 = 0;
+        goto dfuse_host_plan_Plan_row_exit;
+    case 15: goto arm_1_5;
     default: goto dfuse_host_clearing_ends_comparing_exit;
     }
-arm_1_4:
-    r9_0_0_2 = 0;
-    r9_7_0 = 0;
-    r9_13_0 = 0;
-    r9_1926_0 = r18;
-    r9_24_0 = r5_6_0_copyload;
-    r9_28_0 = r5_8_0_copyload;
-    r9_36_0 = 4;
-    r9_39_0 = 0;
-    goto dfuse_host_clearing_status_found_exit;
-dfuse_host_clearing_ends_comparing_exit:
-    r9_0_0_2 = 1;
-    r9_7_0 = 2;
-    r9_13_0 = r0_0_0_copyload_2;
-    r9_1926_0 = 0;
-    r9_24_0 = 0;
-    r9_28_0 = 0;
-    r9_36_0 = 0;
-    r9_39_0 = 0;
-    goto dfuse_host_clearing_status_found_exit;
-arm_5_5:
-    if (r0_0_0_copyload_2 == 11) {
-        r9_0_0_2 = 1;
-        r9_7_0 = 3;
-        r9_13_0 = 0;
-        r9_1926_0 = 0;
-        r9_24_0 = 0;
-        r9_28_0 = 0;
-        r9_36_0 = 0;
-        r9_39_0 = 0;
-        goto dfuse_host_clearing_status_found_exit;
-    }
-    r9_0_0_2 = 0;
-    r9_7_0 = 0;
-    r9_13_0 = 0;
-    r9_1926_0 = r18;
-    r9_24_0 = r5_6_0_copyload;
-    r9_28_0 = r5_8_0_copyload;
-    r9_36_0 = 4;
-    r9_39_0 = 0;
-    goto dfuse_host_clearing_status_found_exit;
-arm_5_4:;
-    uint32_t r2_3 = load32(r9_2 + 8);
-    r9_0_0_2 = 0;
-    r9_7_0 = 0;
-    r9_13_0 = 0;
-    r9_1926_0 = r18;
-    r9_24_0 = r5_6_0_copyload;
-    r9_28_0 = r5_8_0_copyload;
-    r9_36_0 = 3;
-    r9_39_0 = r2_3;
-    goto dfuse_host_clearing_status_found_exit;
-dfuse_host_clearing_status_found_exit:
-    memset(r9_23, 0, 16);
-    r9_0_0_3 = r9_0_0_2;
-    r9_5_0_2 = r9_7_0;
-    r9_9_0_2 = r9_13_0;
-    r9_1317_0_2 = r9_1926_0;
-    r9_17_0_2 = r9_24_0;
-    r9_20_0 = r9_28_0;
-    r9_26_0 = r9_36_0;
-    r9_29_0 = r9_39_0;
-    goto dfuse_host_clearing_on_ask_status_exit;
-arm_2_10:
-    memset(r9_23, 0, 16);
-    r9_0_0_3 = 0;
-    r9_5_0_2 = 0;
-    r9_9_0_2 = 0;
-    r9_1317_0_2 = r18;
-    r9_17_0_2 = r5_6_0_copyload;
-    r9_20_0 = r5_8_0_copyload;
-    r9_26_0 = 3;
-    r9_29_0 = 100;
-    goto dfuse_host_clearing_on_ask_status_exit;
-arm_3_7:
-    memset(r9_23, 0, 16);
-    r9_0_0_3 = 0;
-    r9_5_0_2 = 0;
-    r9_9_0_2 = 0;
-    r9_1317_0_2 = r18;
-    r9_17_0_2 = r5_6_0_copyload;
-    r9_20_0 = r5_8_0_copyload;
-    r9_26_0 = 2;
-    r9_29_0 = 0;
-dfuse_host_clearing_on_ask_status_exit:
-    *r17_2 = r9_0_0_3;
-    r17_2[1] = r9_5_0_2;
-    r17_2[2] = r9_9_0_2;
-    store64(r17_2 + 8, r9_1317_0_2);
-    store64(r17_2 + 16, r9_17_0_2);
-    store64(r17_2 + 24, r9_20_0);
-    memcpy(r17_2 + 32, r9_23, 16);
-    store32(r17_2 + 48, r9_26_0);
-    store32(r17_2 + 52, r9_29_0);
+arm_1_5:
+    r17_0_0_2 = 0;
+    r17_16_0 = 0;
+    r17_31_0 = 0;
+    r17_46223_0 = r18;
+    r17_61_0 = r5_6_0_copyload;
+    r17_72_0 = r5_8_0_copyload;
+    r17_83_0 = 0;
+    r17_94_0 = 0;
+    r17_100_0 = 4;
+    r17_110_0 = 0;
     goto dfuse_host_plan_Plan_row_exit;
-arm_4_3:;
-    uint8_t v15 = r17_0_0 == 6;
-    store64(r17_2 + 8, r18);
-    store64(r17_2 + 16, r5_6_0_copyload);
-    store64(r17_2 + 24, r5_8_0_copyload);
-    memset(r17_2 + 32, 0, 16);
-    store32(r17_2 + 48, (uint32_t)(v15 ? 1 : 3));
-    store32(r17_2 + 52, (uint32_t)(v15 ? 0 : r5_18_0_copyload));
+dfuse_host_clearing_ends_comparing_exit:
+    r17_0_0_2 = 1;
+    r17_16_0 = 2;
+    r17_31_0 = r17_10_3_0;
+    r17_46223_0 = 0;
+    r17_61_0 = 0;
+    r17_72_0 = 0;
+    r17_83_0 = 0;
+    r17_94_0 = 0;
+    r17_100_0 = 0;
+    r17_110_0 = 0;
+    goto dfuse_host_plan_Plan_row_exit;
+arm_5_4:
+    if (r17_10_3_0 == 11) {
+        r17_0_0_2 = 1;
+        r17_16_0 = 3;
+        r17_31_0 = 0;
+        r17_46223_0 = 0;
+        r17_61_0 = 0;
+        r17_72_0 = 0;
+        r17_83_0 = 0;
+        r17_94_0 = 0;
+        r17_100_0 = 0;
+        r17_110_0 = 0;
+        goto dfuse_host_plan_Plan_row_exit;
+    }
+    r17_0_0_2 = 0;
+    r17_16_0 = 0;
+    r17_31_0 = 0;
+    r17_46223_0 = r18;
+    r17_61_0 = r5_6_0_copyload;
+    r17_72_0 = r5_8_0_copyload;
+    r17_83_0 = 0;
+    r17_94_0 = 0;
+    r17_100_0 = 4;
+    r17_110_0 = 0;
     goto dfuse_host_plan_Plan_row_exit;
 arm_5_3:
-    store64(r17_2 + 8, r18);
-    store64(r17_2 + 16, r5_6_0_copyload);
-    store64(r17_2 + 24, r5_8_0_copyload);
-    memset(r17_2 + 32, 0, 24);
+    r17_0_0_2 = 0;
+    r17_16_0 = 0;
+    r17_31_0 = 0;
+    r17_46223_0 = r18;
+    r17_61_0 = r5_6_0_copyload;
+    r17_72_0 = r5_8_0_copyload;
+    r17_83_0 = 0;
+    r17_94_0 = 0;
+    r17_100_0 = 3;
+    r17_110_0 = r17_10_6_0;
+    goto dfuse_host_plan_Plan_row_exit;
+arm_3_7:
+    r17_0_0_2 = 0;
+    r17_16_0 = 0;
+    r17_31_0 = 0;
+    r17_46223_0 = r18;
+    r17_61_0 = r5_6_0_copyload;
+    r17_72_0 = r5_8_0_copyload;
+    r17_83_0 = 0;
+    r17_94_0 = 0;
+    r17_100_0 = 2;
+    r17_110_0 = 0;
+    goto dfuse_host_plan_Plan_row_exit;
+arm_4_3:;
+    uint8_t v14 = r17_0_0 == 6;
+    r17_0_0_2 = 0;
+    r17_16_0 = 0;
+    r17_31_0 = 0;
+    r17_46223_0 = r18;
+    r17_61_0 = r5_6_0_copyload;
+    r17_72_0 = r5_8_0_copyload;
+    r17_83_0 = 0;
+    r17_94_0 = 0;
+    r17_100_0 = (uint32_t)(v14 ? 1 : 3);
+    r17_110_0 = (uint32_t)(v14 ? 0 : r5_18_0_copyload);
     goto dfuse_host_plan_Plan_row_exit;
 arm_6_3:
-    store64(r17_2 + 8, r18);
-    store64(r17_2 + 16, r5_6_0_copyload);
-    store64(r17_2 + 24, r5_8_0_copyload);
-    store64(r17_2 + 32, (uint64_t)r5_10_0_copyload);
-    store64(r17_2 + 40, r5_13_0_copyload);
-    store32(r17_2 + 48, (uint32_t)((r17_0_0 == 0) ? 7 : 6));
-    store32(r17_2 + 52, 0);
+    r17_0_0_2 = 0;
+    r17_16_0 = 0;
+    r17_31_0 = 0;
+    r17_46223_0 = r18;
+    r17_61_0 = r5_6_0_copyload;
+    r17_72_0 = r5_8_0_copyload;
+    r17_83_0 = (uint64_t)r5_10_0_copyload;
+    r17_94_0 = r5_13_0_copyload;
+    r17_100_0 = (uint32_t)((r17_0_0 == 0) ? 7 : 6);
+    r17_110_0 = 0;
     goto dfuse_host_plan_Plan_row_exit;
 arm_7:
-    store64(r1_4, r18);
-    store64(r1_4 + 8, r5_6_0_copyload);
-    store64(r1_4 + 16, r5_8_0_copyload);
+    store64(r1_3, r18);
+    store64(r1_3 + 8, r5_6_0_copyload);
+    store64(r1_3 + 16, r5_8_0_copyload);
     memset(r12_2, 0, 56);
     switch (r17_0_0) {
-    case 2: goto arm_1_5;
-    case 4: goto arm_2_12;
+    case 2: goto arm_1_6;
+    case 4: goto arm_2_10;
     case 0: goto arm_3_9;
     case 1: goto arm_3_9;
     case 3: goto arm_3_9;
@@ -8472,15 +8486,15 @@ arm_7:
     case 6: goto arm_3_9;
     default: never();
     }
-arm_1_5:
-    store64(r1_5, r18);
-    store64(r1_5 + 8, r5_6_0_copyload);
-    store64(r1_5 + 16, r5_8_0_copyload);
+arm_1_6:
+    store64(r1_4, r18);
+    store64(r1_4 + 8, r5_6_0_copyload);
+    store64(r1_4 + 16, r5_8_0_copyload);
     memset(r12_3, 0, 56);
     switch (r17_8_0) {
-    case 3: goto arm_1_6;
-    case 2: goto arm_2_13;
-    case 5: goto arm_2_13;
+    case 3: goto arm_1_7;
+    case 2: goto arm_2_11;
+    case 5: goto arm_2_11;
     case 10: goto arm_3_10;
     case 0: goto arm_4_7;
     case 1: goto arm_4_7;
@@ -8491,60 +8505,60 @@ arm_1_5:
     case 9: goto arm_4_7;
     default: never();
     }
-arm_1_6:
+arm_1_7:
     store64(r12_3 + 8, r18);
     store64(r12_3 + 16, r5_6_0_copyload);
     store64(r12_3 + 24, r5_8_0_copyload);
     store64(r12_3 + 32, (uint64_t)r5_10_0_copyload);
     store64(r12_3 + 40, r5_13_0_copyload);
     store32(r12_3 + 48, 7);
+    v16 = 0;
     v17 = 0;
     v18 = 0;
-    v19 = 0;
     goto dfuse_host_plan_Plan_probed_exit;
-arm_2_13:
+arm_2_11:
     store64(r12_3 + 8, r18);
     store64(r12_3 + 16, r5_6_0_copyload);
     store64(r12_3 + 24, r5_8_0_copyload);
     store64(r12_3 + 32, (uint64_t)r5_10_0_copyload);
     store64(r12_3 + 40, r5_13_0_copyload);
     store32(r12_3 + 48, 5);
+    v16 = 0;
     v17 = 0;
     v18 = 0;
-    v19 = 0;
     goto dfuse_host_plan_Plan_probed_exit;
 arm_3_10:
     store64(r12_3 + 8, r18);
     store64(r12_3 + 16, r5_6_0_copyload);
     store64(r12_3 + 24, r5_8_0_copyload);
     memset(r12_3 + 32, 0, 24);
+    v16 = 0;
     v17 = 0;
     v18 = 0;
-    v19 = 0;
     goto dfuse_host_plan_Plan_probed_exit;
 arm_4_7:
-    dfuse_host_plan_Plan_unsure_of(r12_3, r8, r1_5, r5_10_0_copyload, r5_13_0_copyload);
+    dfuse_host_plan_Plan_unsure_of(r12_3, r31, r1_4, r5_10_0_copyload, r5_13_0_copyload);
     uint8_t pre_2 = *r12_3;
     uint8_t pre26 = r12_3[1];
     uint8_t pre27 = r12_3[2];
-    v17 = pre27;
-    v18 = pre26;
-    v19 = pre_2;
+    v16 = pre27;
+    v17 = pre26;
+    v18 = pre_2;
     goto dfuse_host_plan_Plan_probed_exit;
 dfuse_host_plan_Plan_probed_exit:
     memcpy(r12_2 + 8, r12_3 + 8, 48);
+    v19 = v16;
     v20 = v17;
     v21 = v18;
-    v22 = v19;
     goto dfuse_host_plan_Plan_on_probe_exit;
-arm_2_12:
-    dfuse_host_plan_Plan_unsure_of(r12_2, r8, r1_4, r5_10_0_copyload, r5_13_0_copyload);
+arm_2_10:
+    dfuse_host_plan_Plan_unsure_of(r12_2, r31, r1_3, r5_10_0_copyload, r5_13_0_copyload);
     uint8_t pre_3 = *r12_2;
     uint8_t pre10 = r12_2[1];
     uint8_t pre11 = r12_2[2];
-    v20 = pre11;
-    v21 = pre10;
-    v22 = pre_3;
+    v19 = pre11;
+    v20 = pre10;
+    v21 = pre_3;
     goto dfuse_host_plan_Plan_on_probe_exit;
 arm_3_9:
     store64(r12_2 + 8, r18);
@@ -8553,19 +8567,32 @@ arm_3_9:
     store64(r12_2 + 32, (uint64_t)r5_10_0_copyload);
     store64(r12_2 + 40, r5_13_0_copyload);
     store32(r12_2 + 48, 6);
+    v19 = 0;
     v20 = 0;
     v21 = 0;
-    v22 = 0;
-dfuse_host_plan_Plan_on_probe_exit:
-    *r17_2 = v22;
-    r17_2[1] = v21;
-    r17_2[2] = v20;
-    memcpy(r17_2 + 8, r12_2 + 8, 48);
+dfuse_host_plan_Plan_on_probe_exit:;
+    uint64_t r17_46223_8_copyload224 = load64(r12_2 + 8);
+    uint64_t r17_61_8_copyload227 = load64(r12_2 + 16);
+    uint64_t r17_72_8_copyload230 = load64(r12_2 + 24);
+    uint64_t r17_83_8_copyload233 = load64(r12_2 + 32);
+    uint64_t r17_94_8_copyload238 = load64(r12_2 + 40);
+    uint32_t r17_100_8_copyload243 = load32(r12_2 + 48);
+    uint32_t r17_110_8_copyload246 = load32(r12_2 + 52);
+    r17_0_0_2 = v21;
+    r17_16_0 = v20;
+    r17_31_0 = v19;
+    r17_46223_0 = r17_46223_8_copyload224;
+    r17_61_0 = r17_61_8_copyload227;
+    r17_72_0 = r17_72_8_copyload230;
+    r17_83_0 = r17_83_8_copyload233;
+    r17_94_0 = r17_94_8_copyload238;
+    r17_100_0 = r17_100_8_copyload243;
+    r17_110_0 = r17_110_8_copyload246;
     goto dfuse_host_plan_Plan_row_exit;
 arm_8_2:
     switch (r17_0_0) {
-    case 1: goto arm_1_7;
-    case 4: goto arm_2_14;
+    case 1: goto arm_1_8;
+    case 4: goto arm_2_12;
     case 0: goto arm_3_11;
     case 2: goto arm_3_11;
     case 3: goto arm_3_11;
@@ -8573,16 +8600,15 @@ arm_8_2:
     case 6: goto arm_3_11;
     default: never();
     }
-arm_1_7:
-    store64(r1_6, r18);
-    store64(r1_6 + 8, r5_6_0_copyload);
-    store64(r1_6 + 16, r5_8_0_copyload);
+arm_1_8:
+    store64(r1_5, r18);
+    store64(r1_5 + 8, r5_6_0_copyload);
+    store64(r1_5 + 16, r5_8_0_copyload);
     memset(r12_4, 0, 56);
-    uint8_t r0_0_0_copyload_3 = r9_2[12];
-    switch (r0_0_0_copyload_3) {
-    case 3: goto arm_1_8;
-    case 4: goto arm_1_8;
-    case 5: goto arm_2_15;
+    switch (r17_10_7_0) {
+    case 3: goto arm_1_9;
+    case 4: goto arm_1_9;
+    case 5: goto arm_2_13;
     case 10: goto arm_3_12;
     case 0: goto arm_4_8;
     case 1: goto arm_4_8;
@@ -8593,95 +8619,93 @@ arm_1_7:
     case 9: goto arm_4_8;
     default: never();
     }
-arm_1_8:;
-    uint32_t r2_4 = load32(r9_2 + 8);
+arm_1_9:
     store64(r12_4 + 8, r18);
     store64(r12_4 + 16, r5_6_0_copyload);
     store64(r12_4 + 24, r5_8_0_copyload);
     store64(r12_4 + 32, (uint64_t)r5_10_0_copyload);
     store64(r12_4 + 40, r5_13_0_copyload);
     store32(r12_4 + 48, 8);
-    store32(r12_4 + 52, r2_4);
+    store32(r12_4 + 52, r17_10_6_0);
+    v36 = 0;
     v37 = 0;
     v38 = 0;
-    v39 = 0;
     goto dfuse_host_plan_Plan_polled_exit;
-arm_2_15:;
-    struct i8_i64 r31_2 = dfuse_host_plan_Plan_command_of(r8, r1_6, r5_10_0_copyload, r5_13_0_copyload);
+arm_2_13:;
+    struct i8_i64 r31_2 = dfuse_host_plan_Plan_command_of(r31, r1_5, r5_10_0_copyload, r5_13_0_copyload);
     r33 = r31_2.b;
-    store64(r1_7, r18);
-    store64(r1_7 + 8, r5_6_0_copyload);
-    store64(r1_7 + 16, r5_8_0_copyload);
+    store64(r1_6, r18);
+    store64(r1_6 + 8, r5_6_0_copyload);
+    store64(r1_6 + 16, r5_8_0_copyload);
     memset(r14_2, 0, 56);
     switch (r31_2.a) {
-    case 0: goto arm_1_9;
-    case 1: goto arm_2_16;
+    case 0: goto arm_1_10;
+    case 1: goto arm_2_14;
     case 2: goto arm_3_13;
     default: never();
     }
-arm_1_9:
-    dfuse_host_plan_Plan_settle(r14_2, r8, r1_7, 1, r33);
+arm_1_10:
+    dfuse_host_plan_Plan_settle(r14_2, r31, r1_6, 1, r33);
     uint8_t pre_4 = *r14_2;
     uint8_t pre15 = r14_2[1];
     uint8_t pre16 = r14_2[2];
-    v31 = pre16;
-    v32 = pre15;
-    v33 = pre_4;
+    v30 = pre16;
+    v31 = pre15;
+    v32 = pre_4;
     goto dfuse_host_plan_Plan_done_exit;
-arm_2_16:
+arm_2_14:
     memset(r10_3, 0, 56);
-    if (r5_0_0_copyload != 1) goto arm_2_17;
-    uint64_t r21 = dfuse_host_plan_Plan_front_end(r8);
-    dfuse_host_plan_Plan_to_write(r10_3, r8, 0, 0, umax64(r21, r5_6_0_copyload), r5_8_0_copyload);
+    if (r5_0_0_copyload != 1) goto arm_2_15;
+    uint64_t r21 = dfuse_host_plan_Plan_front_end(r31);
+    dfuse_host_plan_Plan_to_write(r10_3, r31, 0, 0, umax64(r21, r5_6_0_copyload), r5_8_0_copyload);
     goto dfuse_host_plan_Plan_erased_exit;
-arm_2_17:;
-    uint64_t r30_2 = dfuse_host_plan_Plan_page_end(r8, r33);
-    dfuse_host_plan_Plan_to_erase(r10_3, r8, 0, 0, r30_2);
+arm_2_15:;
+    uint64_t r30_2 = dfuse_host_plan_Plan_page_end(r31, r33);
+    dfuse_host_plan_Plan_to_erase(r10_3, r31, 0, 0, r30_2);
 dfuse_host_plan_Plan_erased_exit:;
-    uint8_t v24 = *r10_3;
-    uint8_t v25 = r10_3[1];
-    uint8_t v26 = r10_3[2];
+    uint8_t v23 = *r10_3;
+    uint8_t v24 = r10_3[1];
+    uint8_t v25 = r10_3[2];
     memcpy(r14_2 + 8, r10_3 + 8, 48);
-    v31 = v26;
-    v32 = v25;
-    v33 = v24;
+    v30 = v25;
+    v31 = v24;
+    v32 = v23;
     goto dfuse_host_plan_Plan_done_exit;
 arm_3_13:
     memset(r10_4, 0, 56);
-    if (r5_0_0_copyload != 2) goto arm_2_18;
-    uint64_t r23_3 = dfuse_host_plan_Plan_write_end(r8, r33, r5_8_0_copyload);
-    dfuse_host_plan_Plan_to_write(r10_4, r8, 0, 0, umax64(r23_3, r5_6_0_copyload), r5_8_0_copyload);
+    if (r5_0_0_copyload != 2) goto arm_2_16;
+    uint64_t r23_3 = dfuse_host_plan_Plan_write_end(r31, r33, r5_8_0_copyload);
+    dfuse_host_plan_Plan_to_write(r10_4, r31, 0, 0, umax64(r23_3, r5_6_0_copyload), r5_8_0_copyload);
     goto dfuse_host_plan_Plan_written_exit;
-arm_2_18:;
-    uint64_t r32 = dfuse_host_plan_Plan_front_end(r8);
-    uint64_t r34 = dfuse_host_plan_Plan_write_end(r8, r33, r32);
-    dfuse_host_plan_Plan_to_write_front(r10_4, r8, 0, 0, r34);
+arm_2_16:;
+    uint64_t r32 = dfuse_host_plan_Plan_front_end(r31);
+    uint64_t r34 = dfuse_host_plan_Plan_write_end(r31, r33, r32);
+    dfuse_host_plan_Plan_to_write_front(r10_4, r31, 0, 0, r34);
 dfuse_host_plan_Plan_written_exit:;
-    uint8_t v28 = *r10_4;
-    uint8_t v29 = r10_4[1];
-    uint8_t v30 = r10_4[2];
+    uint8_t v27 = *r10_4;
+    uint8_t v28 = r10_4[1];
+    uint8_t v29 = r10_4[2];
     memcpy(r14_2 + 8, r10_4 + 8, 48);
-    v31 = v30;
-    v32 = v29;
-    v33 = v28;
+    v30 = v29;
+    v31 = v28;
+    v32 = v27;
 dfuse_host_plan_Plan_done_exit:
     memcpy(r12_4 + 8, r14_2 + 8, 48);
+    v36 = v30;
     v37 = v31;
     v38 = v32;
-    v39 = v33;
     goto dfuse_host_plan_Plan_polled_exit;
 arm_3_12:
-    r0_0_0_copyload_4 = *r22_4;
-    store64(r1_8, r18);
-    store64(r1_8 + 8, r5_6_0_copyload);
-    store64(r1_8 + 16, r5_8_0_copyload);
+    store64(r1_7, r18);
+    store64(r1_7 + 8, r5_6_0_copyload);
+    store64(r1_7 + 16, r5_8_0_copyload);
     memset(r12_5, 0, 56);
-    switch (r0_0_0_copyload_4) {
-    case 15: goto arm_1_10;
+    switch (r17_10_3_0) {
+    case 15: goto arm_1_11;
     case 11:
-        v34 = 0;
-        v35 = 3;
-        v36 = 1;
+        v33 = 0;
+        v34 = 3;
+        v35 = 1;
         goto dfuse_host_plan_Plan_refused_exit;
     case 0: goto arm_3_14;
     case 1: goto arm_3_14;
@@ -8699,34 +8723,34 @@ arm_3_12:
     case 14: goto arm_3_14;
     default: never();
     }
-arm_1_10:
-    dfuse_host_plan_Plan_unsure_of(r12_5, r8, r1_8, r5_10_0_copyload, r5_13_0_copyload);
+arm_1_11:
+    dfuse_host_plan_Plan_unsure_of(r12_5, r31, r1_7, r5_10_0_copyload, r5_13_0_copyload);
     uint8_t pre_5 = *r12_5;
     uint8_t pre4 = r12_5[1];
     uint8_t pre5 = r12_5[2];
-    v34 = pre5;
-    v35 = pre4;
-    v36 = pre_5;
+    v33 = pre5;
+    v34 = pre4;
+    v35 = pre_5;
     goto dfuse_host_plan_Plan_refused_exit;
 arm_3_14:
-    v34 = r0_0_0_copyload_4;
-    v35 = 2;
-    v36 = 1;
+    v33 = r17_10_3_0;
+    v34 = 2;
+    v35 = 1;
     goto dfuse_host_plan_Plan_refused_exit;
 dfuse_host_plan_Plan_refused_exit:
     memcpy(r12_4 + 8, r12_5 + 8, 48);
+    v36 = v33;
     v37 = v34;
     v38 = v35;
-    v39 = v36;
     goto dfuse_host_plan_Plan_polled_exit;
 arm_4_8:
-    dfuse_host_plan_Plan_unsure_of(r12_4, r8, r1_6, r5_10_0_copyload, r5_13_0_copyload);
+    dfuse_host_plan_Plan_unsure_of(r12_4, r31, r1_5, r5_10_0_copyload, r5_13_0_copyload);
     uint8_t pre_6 = *r12_4;
     uint8_t pre30 = r12_4[1];
     uint8_t pre31 = r12_4[2];
-    v37 = pre31;
-    v38 = pre30;
-    v39 = pre_6;
+    v36 = pre31;
+    v37 = pre30;
+    v38 = pre_6;
     goto dfuse_host_plan_Plan_polled_exit;
 dfuse_host_plan_Plan_polled_exit:;
     uint64_t r12_1327_8_copyload28 = load64(r12_4 + 8);
@@ -8736,93 +8760,169 @@ dfuse_host_plan_Plan_polled_exit:;
     uint64_t r12_23_8_copyload32 = load64(r12_4 + 40);
     uint32_t r12_25_8_copyload33 = load32(r12_4 + 48);
     uint32_t r12_27_8_copyload34 = load32(r12_4 + 52);
-    r12_0_0 = v39;
-    r12_5_0 = v38;
-    r12_9_0 = v37;
-    r12_1327_0 = r12_1327_8_copyload28;
-    r12_17_0 = r12_17_8_copyload29;
-    r12_19_0 = r12_19_8_copyload30;
-    r12_21_0 = r12_21_8_copyload31;
-    r12_23_0 = r12_23_8_copyload32;
-    r12_25_0 = r12_25_8_copyload33;
-    r12_27_0 = r12_27_8_copyload34;
-    goto dfuse_host_plan_Plan_on_poll_exit;
-arm_2_14:
-    r12_0_0 = 0;
-    r12_5_0 = 0;
-    r12_9_0 = 0;
-    r12_1327_0 = r18;
-    r12_17_0 = r5_6_0_copyload;
-    r12_19_0 = r5_8_0_copyload;
-    r12_21_0 = (uint64_t)r5_10_0_copyload;
-    r12_23_0 = r5_13_0_copyload;
-    r12_25_0 = 8;
-    r12_27_0 = (uint32_t)((r5_18_0_copyload == 0) ? 100 : r5_18_0_copyload);
-    goto dfuse_host_plan_Plan_on_poll_exit;
+    r17_0_0_2 = v38;
+    r17_16_0 = v37;
+    r17_31_0 = v36;
+    r17_46223_0 = r12_1327_8_copyload28;
+    r17_61_0 = r12_17_8_copyload29;
+    r17_72_0 = r12_19_8_copyload30;
+    r17_83_0 = r12_21_8_copyload31;
+    r17_94_0 = r12_23_8_copyload32;
+    r17_100_0 = r12_25_8_copyload33;
+    r17_110_0 = r12_27_8_copyload34;
+    goto dfuse_host_plan_Plan_row_exit;
+arm_2_12:
+    r17_0_0_2 = 0;
+    r17_16_0 = 0;
+    r17_31_0 = 0;
+    r17_46223_0 = r18;
+    r17_61_0 = r5_6_0_copyload;
+    r17_72_0 = r5_8_0_copyload;
+    r17_83_0 = (uint64_t)r5_10_0_copyload;
+    r17_94_0 = r5_13_0_copyload;
+    r17_100_0 = 8;
+    r17_110_0 = (uint32_t)((r5_18_0_copyload == 0) ? 100 : r5_18_0_copyload);
+    goto dfuse_host_plan_Plan_row_exit;
 arm_3_11:
-    r12_0_0 = 0;
-    r12_5_0 = 0;
-    r12_9_0 = 0;
-    r12_1327_0 = r18;
-    r12_17_0 = r5_6_0_copyload;
-    r12_19_0 = r5_8_0_copyload;
-    r12_21_0 = (uint64_t)r5_10_0_copyload;
-    r12_23_0 = r5_13_0_copyload;
-    r12_25_0 = 7;
-    r12_27_0 = r5_18_0_copyload;
-dfuse_host_plan_Plan_on_poll_exit:
-    *r17_2 = r12_0_0;
-    r17_2[1] = r12_5_0;
-    r17_2[2] = r12_9_0;
-    store64(r17_2 + 8, r12_1327_0);
-    store64(r17_2 + 16, r12_17_0);
-    store64(r17_2 + 24, r12_19_0);
-    store64(r17_2 + 32, r12_21_0);
-    store64(r17_2 + 40, r12_23_0);
-    store32(r17_2 + 48, r12_25_0);
-    store32(r17_2 + 52, r12_27_0);
+    r17_0_0_2 = 0;
+    r17_16_0 = 0;
+    r17_31_0 = 0;
+    r17_46223_0 = r18;
+    r17_61_0 = r5_6_0_copyload;
+    r17_72_0 = r5_8_0_copyload;
+    r17_83_0 = (uint64_t)r5_10_0_copyload;
+    r17_94_0 = r5_13_0_copyload;
+    r17_100_0 = 7;
+    r17_110_0 = r5_18_0_copyload;
     goto dfuse_host_plan_Plan_row_exit;
 arm_9:
-    store64(r17_2 + 8, r18);
-    store64(r17_2 + 16, r5_6_0_copyload);
-    store64(r17_2 + 24, r5_8_0_copyload);
-    store64(r17_2 + 32, (uint64_t)r5_10_0_copyload);
-    store64(r17_2 + 40, r5_13_0_copyload);
-    store32(r17_2 + 48, (uint32_t)((r17_0_0 == 6) ? 7 : 8));
-    store32(r17_2 + 52, r5_18_0_copyload);
+    r17_0_0_2 = 0;
+    r17_16_0 = 0;
+    r17_31_0 = 0;
+    r17_46223_0 = r18;
+    r17_61_0 = r5_6_0_copyload;
+    r17_72_0 = r5_8_0_copyload;
+    r17_83_0 = (uint64_t)r5_10_0_copyload;
+    r17_94_0 = r5_13_0_copyload;
+    r17_100_0 = (uint32_t)((r17_0_0 == 6) ? 7 : 8);
+    r17_110_0 = r5_18_0_copyload;
     goto dfuse_host_plan_Plan_row_exit;
 arm_10:
-    dfuse_host_plan_Plan_on_turn(r17_2, r8, r1_2, r5_10_0_copyload, r5_13_0_copyload, (uint8_t)((r5_10_0_copyload == 1) ? 2 : r5_10_0_copyload), r5_13_0_copyload, 9, r9_2);
-    goto dfuse_host_plan_Plan_row_exit;
-arm_11:
-    dfuse_host_plan_Plan_on_turn(r17_2, r8, r1_2, r5_10_0_copyload, r5_13_0_copyload, (uint8_t)((r5_10_0_copyload == 2) ? 1 : r5_10_0_copyload), r5_13_0_copyload, 10, r9_2);
-    goto dfuse_host_plan_Plan_row_exit;
-arm_12:
-    memset(r11_3, 0, 56);
+    store64(r1_8, r18);
+    store64(r1_8 + 8, r5_6_0_copyload);
+    store64(r1_8 + 16, r5_8_0_copyload);
+    memset(r14_3, 0, 56);
     switch (r17_0_0) {
-    case 3: goto arm_1_11;
-    case 4: goto arm_2_19;
-    case 0: goto arm_3_15;
+    case 0: goto arm_1_12;
+    case 4:
+        r17_110_8_copyload247 = 0;
+        r17_100_8_copyload244 = 0;
+        r17_94_8_copyload239 = 0;
+        r17_83_8_copyload234 = 0;
+        r17_72_8_copyload231 = r5_8_0_copyload;
+        r17_61_8_copyload228 = r5_6_0_copyload;
+        r17_46223_8_copyload225 = r18;
+        v43 = 0;
+        v44 = 0;
+        v45 = 0;
+        goto dfuse_host_plan_Plan_on_turn_exit;
     case 1: goto arm_3_15;
     case 2: goto arm_3_15;
+    case 3: goto arm_3_15;
     case 5: goto arm_3_15;
     case 6: goto arm_3_15;
     default: never();
     }
-arm_1_11:
+arm_1_12:
+    dfuse_host_plan_Plan_settle(r14_3, r31, r1_8, (uint8_t)((r5_14_0_copyload == 9) ? (uint8_t)((r5_10_0_copyload == 1) ? 2 : r5_10_0_copyload) : (uint8_t)((r5_10_0_copyload == 2) ? 1 : r5_10_0_copyload)), r5_13_0_copyload);
+    uint8_t pre_7 = *r14_3;
+    uint8_t pre10_2 = r14_3[1];
+    uint8_t pre11_2 = r14_3[2];
+    uint64_t r17_46223_8_copyload225_pre = load64(r14_3 + 8);
+    uint64_t r17_61_8_copyload228_pre = load64(r14_3 + 16);
+    uint64_t r17_72_8_copyload231_pre = load64(r14_3 + 24);
+    uint64_t r17_83_8_copyload234_pre = load64(r14_3 + 32);
+    uint64_t r17_94_8_copyload239_pre = load64(r14_3 + 40);
+    uint32_t r17_100_8_copyload244_pre = load32(r14_3 + 48);
+    uint32_t r17_110_8_copyload247_pre = load32(r14_3 + 52);
+    r17_110_8_copyload247 = r17_110_8_copyload247_pre;
+    r17_100_8_copyload244 = r17_100_8_copyload244_pre;
+    r17_94_8_copyload239 = r17_94_8_copyload239_pre;
+    r17_83_8_copyload234 = r17_83_8_copyload234_pre;
+    r17_72_8_copyload231 = r17_72_8_copyload231_pre;
+    r17_61_8_copyload228 = r17_61_8_copyload228_pre;
+    r17_46223_8_copyload225 = r17_46223_8_copyload225_pre;
+    v43 = pre11_2;
+    v44 = pre10_2;
+    v45 = pre_7;
+    goto dfuse_host_plan_Plan_on_turn_exit;
+arm_3_15:
+    r17_110_8_copyload247 = r5_18_0_copyload;
+    r17_100_8_copyload244 = (uint32_t)r5_14_0_copyload;
+    r17_94_8_copyload239 = r5_13_0_copyload;
+    r17_83_8_copyload234 = (uint64_t)r5_10_0_copyload;
+    r17_72_8_copyload231 = r5_8_0_copyload;
+    r17_61_8_copyload228 = r5_6_0_copyload;
+    r17_46223_8_copyload225 = r18;
+    v43 = 0;
+    v44 = 0;
+    v45 = 0;
+dfuse_host_plan_Plan_on_turn_exit:
+    r17_0_0_2 = v45;
+    r17_16_0 = v44;
+    r17_31_0 = v43;
+    r17_46223_0 = r17_46223_8_copyload225;
+    r17_61_0 = r17_61_8_copyload228;
+    r17_72_0 = r17_72_8_copyload231;
+    r17_83_0 = r17_83_8_copyload234;
+    r17_94_0 = r17_94_8_copyload239;
+    r17_100_0 = r17_100_8_copyload244;
+    r17_110_0 = r17_110_8_copyload247;
+    goto dfuse_host_plan_Plan_row_exit;
+arm_11:
+    memset(r11_3, 0, 56);
+    switch (r17_0_0) {
+    case 3: goto arm_1_13;
+    case 4:
+        r17_110_8_copyload248 = 0;
+        r17_100_8_copyload245 = 0;
+        r17_94_8_copyload240 = 0;
+        r17_83_8_copyload235 = 0;
+        r17_72_8_copyload232 = r5_8_0_copyload;
+        r17_61_8_copyload229 = r5_6_0_copyload;
+        r17_46223_8_copyload226 = r18;
+        v46 = 0;
+        v47 = 0;
+        v48 = 0;
+        goto dfuse_host_plan_Plan_on_read_exit;
+    case 0: goto arm_3_16;
+    case 1: goto arm_3_16;
+    case 2: goto arm_3_16;
+    case 5: goto arm_3_16;
+    case 6: goto arm_3_16;
+    default: never();
+    }
+arm_1_13:
     if (!(r17_8_0 & 1)) {
-        v43 = 0;
-        v44 = 1;
-        v45 = 1;
+        r17_110_8_copyload248 = 0;
+        r17_100_8_copyload245 = 0;
+        r17_94_8_copyload240 = 0;
+        r17_83_8_copyload235 = 0;
+        r17_72_8_copyload232 = 0;
+        r17_61_8_copyload229 = 0;
+        r17_46223_8_copyload226 = 0;
+        v46 = 0;
+        v47 = 1;
+        v48 = 1;
         goto dfuse_host_plan_Plan_on_read_exit;
     }
     store64(r1_9, r18);
     store64(r1_9 + 8, r5_6_0_copyload);
     store64(r1_9 + 16, r5_8_0_copyload);
-    r14_3 = dfuse_host_plan_Plan_end_of_work(r8, r1_9);
+    r14_4 = dfuse_host_plan_Plan_end_of_work(r31, r1_9);
     switch (r5_0_0_copyload) {
-    case 3: goto arm_1_12;
-    case 5: goto arm_2_20;
+    case 3: goto arm_1_14;
+    case 5: goto arm_2_17;
     case 0:
         r11_5_0 = r5_6_0_copyload;
         r11_9_0 = r5_8_0_copyload;
@@ -8845,13 +8945,13 @@ arm_1_11:
         goto dfuse_host_plan_Plan_read_on_exit;
     default: never();
     }
-arm_1_12:;
-    uint64_t r20 = dfuse_host_plan_Plan_read_end(r8, r5_6_0_copyload, r14_3);
+arm_1_14:;
+    uint64_t r20 = dfuse_host_plan_Plan_read_end(r31, r5_6_0_copyload, r14_4);
     r11_5_0 = r20;
     r11_9_0 = 0;
     goto dfuse_host_plan_Plan_read_on_exit;
-arm_2_20:;
-    uint64_t r27_2 = dfuse_host_plan_Plan_read_end(r8, r5_6_0_copyload, r14_3);
+arm_2_17:;
+    uint64_t r27_2 = dfuse_host_plan_Plan_read_end(r31, r5_6_0_copyload, r14_4);
     r11_5_0 = r27_2;
     r11_9_0 = 0;
     goto dfuse_host_plan_Plan_read_on_exit;
@@ -8859,189 +8959,208 @@ dfuse_host_plan_Plan_read_on_exit:
     store64(r13_2, r18);
     store64(r13_2 + 8, r11_5_0);
     store64(r13_2 + 16, r11_9_0);
-    dfuse_host_plan_Plan_settle(r11_3, r8, r13_2, r5_10_0_copyload, r5_13_0_copyload);
-    uint8_t pre_7 = *r11_3;
+    dfuse_host_plan_Plan_settle(r11_3, r31, r13_2, r5_10_0_copyload, r5_13_0_copyload);
+    uint8_t pre_8 = *r11_3;
     uint8_t pre20 = r11_3[1];
     uint8_t pre21 = r11_3[2];
-    v43 = pre21;
-    v44 = pre20;
-    v45 = pre_7;
+    uint64_t r17_46223_8_copyload226_pre = load64(r11_3 + 8);
+    uint64_t r17_61_8_copyload229_pre = load64(r11_3 + 16);
+    uint64_t r17_72_8_copyload232_pre = load64(r11_3 + 24);
+    uint64_t r17_83_8_copyload235_pre = load64(r11_3 + 32);
+    uint64_t r17_94_8_copyload240_pre = load64(r11_3 + 40);
+    uint32_t r17_100_8_copyload245_pre = load32(r11_3 + 48);
+    uint32_t r17_110_8_copyload248_pre = load32(r11_3 + 52);
+    r17_110_8_copyload248 = r17_110_8_copyload248_pre;
+    r17_100_8_copyload245 = r17_100_8_copyload245_pre;
+    r17_94_8_copyload240 = r17_94_8_copyload240_pre;
+    r17_83_8_copyload235 = r17_83_8_copyload235_pre;
+    r17_72_8_copyload232 = r17_72_8_copyload232_pre;
+    r17_61_8_copyload229 = r17_61_8_copyload229_pre;
+    r17_46223_8_copyload226 = r17_46223_8_copyload226_pre;
+    v46 = pre21;
+    v47 = pre20;
+    v48 = pre_8;
     goto dfuse_host_plan_Plan_on_read_exit;
-arm_2_19:
-    store64(r11_3 + 8, r18);
-    store64(r11_3 + 16, r5_6_0_copyload);
-    store64(r11_3 + 24, r5_8_0_copyload);
-    memset(r11_3 + 32, 0, 24);
-    v43 = 0;
-    v44 = 0;
-    v45 = 0;
-    goto dfuse_host_plan_Plan_on_read_exit;
-arm_3_15:
-    store64(r11_3 + 8, r18);
-    store64(r11_3 + 16, r5_6_0_copyload);
-    store64(r11_3 + 24, r5_8_0_copyload);
-    store64(r11_3 + 32, (uint64_t)r5_10_0_copyload);
-    store64(r11_3 + 40, r5_13_0_copyload);
-    store32(r11_3 + 48, 11);
-    v43 = 0;
-    v44 = 0;
-    v45 = 0;
+arm_3_16:
+    r17_110_8_copyload248 = 0;
+    r17_100_8_copyload245 = 11;
+    r17_94_8_copyload240 = r5_13_0_copyload;
+    r17_83_8_copyload235 = (uint64_t)r5_10_0_copyload;
+    r17_72_8_copyload232 = r5_8_0_copyload;
+    r17_61_8_copyload229 = r5_6_0_copyload;
+    r17_46223_8_copyload226 = r18;
+    v46 = 0;
+    v47 = 0;
+    v48 = 0;
 dfuse_host_plan_Plan_on_read_exit:
-    *r17_2 = v45;
-    r17_2[1] = v44;
-    r17_2[2] = v43;
-    memcpy(r17_2 + 8, r11_3 + 8, 48);
+    r17_0_0_2 = v48;
+    r17_16_0 = v47;
+    r17_31_0 = v46;
+    r17_46223_0 = r17_46223_8_copyload226;
+    r17_61_0 = r17_61_8_copyload229;
+    r17_72_0 = r17_72_8_copyload232;
+    r17_83_0 = r17_83_8_copyload235;
+    r17_94_0 = r17_94_8_copyload240;
+    r17_100_0 = r17_100_8_copyload245;
+    r17_110_0 = r17_110_8_copyload248;
+    goto dfuse_host_plan_Plan_row_exit;
+arm_12:
+    r17_0_0_2 = 0;
+    r17_16_0 = 0;
+    r17_31_0 = 0;
+    r17_46223_0 = r18;
+    r17_61_0 = r5_6_0_copyload;
+    r17_72_0 = r5_8_0_copyload;
+    r17_83_0 = (uint64_t)r5_10_0_copyload;
+    r17_94_0 = r5_13_0_copyload;
+    r17_100_0 = (uint32_t)((r17_0_0 == 0) ? 14 : 13);
+    r17_110_0 = 0;
     goto dfuse_host_plan_Plan_row_exit;
 arm_13:
-    store64(r17_2 + 8, r18);
-    store64(r17_2 + 16, r5_6_0_copyload);
-    store64(r17_2 + 24, r5_8_0_copyload);
-    store64(r17_2 + 32, (uint64_t)r5_10_0_copyload);
-    store64(r17_2 + 40, r5_13_0_copyload);
-    store32(r17_2 + 48, (uint32_t)((r17_0_0 == 0) ? 14 : 13));
-    store32(r17_2 + 52, 0);
-    goto dfuse_host_plan_Plan_row_exit;
-arm_14:
     switch (r17_0_0) {
-    case 2: goto arm_1_13;
+    case 2: goto arm_1_15;
     case 4:
         r12_23_0_in = r5_10_0_copyload;
         r12_26_0 = r5_13_0_copyload;
         r12_29_0 = 14;
         goto dfuse_host_closing_on_close_probe_exit;
-    case 0: goto arm_3_16;
-    case 1: goto arm_3_16;
-    case 3: goto arm_3_16;
-    case 5: goto arm_3_16;
-    case 6: goto arm_3_16;
+    case 0: goto arm_3_17;
+    case 1: goto arm_3_17;
+    case 3: goto arm_3_17;
+    case 5: goto arm_3_17;
+    case 6: goto arm_3_17;
     default: never();
     }
-arm_1_13:
+arm_1_15:
     switch (r17_8_0) {
-    case 2: goto arm_1_14;
-    case 5: goto arm_1_14;
+    case 2: goto arm_1_16;
+    case 5: goto arm_1_16;
     case 10:
         r12_23_0_in = 0;
         r12_26_0 = 0;
         r12_29_0 = 0;
         goto dfuse_host_closing_on_close_probe_exit;
-    case 0: goto arm_3_17;
-    case 1: goto arm_3_17;
-    case 3: goto arm_3_17;
-    case 4: goto arm_3_17;
-    case 6: goto arm_3_17;
-    case 7: goto arm_3_17;
-    case 8: goto arm_3_17;
-    case 9: goto arm_3_17;
+    case 0: goto arm_3_18;
+    case 1: goto arm_3_18;
+    case 3: goto arm_3_18;
+    case 4: goto arm_3_18;
+    case 6: goto arm_3_18;
+    case 7: goto arm_3_18;
+    case 8: goto arm_3_18;
+    case 9: goto arm_3_18;
     default: never();
     }
-arm_1_14:
+arm_1_16:
     r12_23_0_in = r5_10_0_copyload;
     r12_26_0 = r5_13_0_copyload;
     r12_29_0 = 12;
     goto dfuse_host_closing_on_close_probe_exit;
-arm_3_17:
+arm_3_18:
     r12_23_0_in = r5_10_0_copyload;
     r12_26_0 = r5_13_0_copyload;
     r12_29_0 = 14;
     goto dfuse_host_closing_on_close_probe_exit;
-arm_3_16:
+arm_3_17:
     r12_23_0_in = r5_10_0_copyload;
     r12_26_0 = r5_13_0_copyload;
     r12_29_0 = 13;
 dfuse_host_closing_on_close_probe_exit:
-    store64(r17_2 + 8, r18);
-    store64(r17_2 + 16, r5_6_0_copyload);
-    store64(r17_2 + 24, r5_8_0_copyload);
-    store64(r17_2 + 32, (uint64_t)r12_23_0_in);
-    store64(r17_2 + 40, r12_26_0);
-    store32(r17_2 + 48, r12_29_0);
-    store32(r17_2 + 52, 0);
+    r17_0_0_2 = 0;
+    r17_16_0 = 0;
+    r17_31_0 = 0;
+    r17_46223_0 = r18;
+    r17_61_0 = r5_6_0_copyload;
+    r17_72_0 = r5_8_0_copyload;
+    r17_83_0 = (uint64_t)r12_23_0_in;
+    r17_94_0 = r12_26_0;
+    r17_100_0 = r12_29_0;
+    r17_110_0 = 0;
     goto dfuse_host_plan_Plan_row_exit;
-arm_15:
+arm_14:
     if (r17_0_0 != 1) {
-        r12_0_0_2 = 0;
+        r12_0_0 = 0;
         r12_108_0_in = r5_0_0_copyload;
         r12_13_0 = r5_6_0_copyload;
         r12_15_0 = r5_8_0_copyload;
         r12_17_0_in = r5_10_0_copyload;
-        r12_19_0_2 = r5_13_0_copyload;
-        r12_21_0_2 = 14;
+        r12_19_0 = r5_13_0_copyload;
+        r12_21_0 = 14;
         goto dfuse_host_closing_on_close_poll_exit;
     }
-    uint8_t r0_0_0_copyload_5 = r9_2[12];
-    switch (r0_0_0_copyload_5) {
-    case 2: goto arm_3_18;
-    case 5: goto arm_3_18;
+    switch (r17_10_7_0) {
+    case 2: goto arm_3_19;
+    case 5: goto arm_3_19;
     case 10:
-        r12_0_0_2 = 0;
+        r12_0_0 = 0;
         r12_108_0_in = r5_0_0_copyload;
         r12_13_0 = r5_6_0_copyload;
         r12_15_0 = r5_8_0_copyload;
         r12_17_0_in = 0;
-        r12_19_0_2 = 0;
-        r12_21_0_2 = 0;
+        r12_19_0 = 0;
+        r12_21_0 = 0;
         goto dfuse_host_closing_on_close_poll_exit;
-    case 7: goto arm_5_6;
-    case 8: goto arm_5_6;
-    case 0: goto after_2;
-    case 1: goto after_2;
-    case 3: goto after_2;
-    case 4: goto after_2;
-    case 6: goto after_2;
-    case 9: goto after_2;
+    case 7: goto arm_5_5;
+    case 8: goto arm_5_5;
+    case 0: goto after_2_2;
+    case 1: goto after_2_2;
+    case 3: goto after_2_2;
+    case 4: goto after_2_2;
+    case 6: goto after_2_2;
+    case 9: goto after_2_2;
     default: never();
     }
-arm_3_18:
-    r12_0_0_2 = 0;
+arm_3_19:
+    r12_0_0 = 0;
     r12_108_0_in = r5_0_0_copyload;
     r12_13_0 = r5_6_0_copyload;
     r12_15_0 = r5_8_0_copyload;
     r12_17_0_in = r5_10_0_copyload;
-    r12_19_0_2 = r5_13_0_copyload;
-    r12_21_0_2 = 12;
+    r12_19_0 = r5_13_0_copyload;
+    r12_21_0 = 12;
     goto dfuse_host_closing_on_close_poll_exit;
-arm_5_6:;
-    uint8_t r0_0_0_copyload_6 = *r22_4;
-    if (r0_0_0_copyload_6 == 0) {
-        r12_0_0_2 = 1;
+arm_5_5:
+    if (r17_10_3_0 == 0) {
+        r12_0_0 = 1;
         r12_108_0_in = 0;
         r12_13_0 = 0;
         r12_15_0 = 0;
         r12_17_0_in = 0;
-        r12_19_0_2 = 0;
-        r12_21_0_2 = 0;
+        r12_19_0 = 0;
+        r12_21_0 = 0;
         goto dfuse_host_closing_on_close_poll_exit;
     }
-after_2:
-    r12_0_0_2 = 0;
+after_2_2:
+    r12_0_0 = 0;
     r12_108_0_in = r5_0_0_copyload;
     r12_13_0 = r5_6_0_copyload;
     r12_15_0 = r5_8_0_copyload;
     r12_17_0_in = r5_10_0_copyload;
-    r12_19_0_2 = r5_13_0_copyload;
-    r12_21_0_2 = 14;
+    r12_19_0 = r5_13_0_copyload;
+    r12_21_0 = 14;
     goto dfuse_host_closing_on_close_poll_exit;
 dfuse_host_closing_on_close_poll_exit:
-    *r17_2 = r12_0_0_2;
-    r17_2[1] = 0;
-    r17_2[2] = r12_0_0_2;
-    store64(r17_2 + 8, (uint64_t)r12_108_0_in);
-    store64(r17_2 + 16, r12_13_0);
-    store64(r17_2 + 24, r12_15_0);
-    store64(r17_2 + 32, (uint64_t)r12_17_0_in);
-    store64(r17_2 + 40, r12_19_0_2);
-    store32(r17_2 + 48, r12_21_0_2);
-    store32(r17_2 + 52, 0);
+    r17_0_0_2 = r12_0_0;
+    r17_16_0 = 0;
+    r17_31_0 = r12_0_0;
+    r17_46223_0 = (uint64_t)r12_108_0_in;
+    r17_61_0 = r12_13_0;
+    r17_72_0 = r12_15_0;
+    r17_83_0 = (uint64_t)r12_17_0_in;
+    r17_94_0 = r12_19_0;
+    r17_100_0 = r12_21_0;
+    r17_110_0 = 0;
     goto dfuse_host_plan_Plan_row_exit;
-dfuse_host_plan_Plan_row_exit:;
-    uint8_t v49 = *r17_2;
-    uint8_t v50 = r17_2[1];
-    uint8_t v51 = r17_2[2];
-    *r13 = v49;
-    r13[1] = v50;
-    r13[2] = v51;
-    memcpy(r13 + 8, r17_2 + 8, 48);
+dfuse_host_plan_Plan_row_exit:
+    *r13 = r17_0_0_2;
+    r13[1] = r17_16_0;
+    r13[2] = r17_31_0;
+    store64(r13 + 8, r17_46223_0);
+    store64(r13 + 16, r17_61_0);
+    store64(r13 + 24, r17_72_0);
+    store64(r13 + 32, r17_83_0);
+    store64(r13 + 40, r17_94_0);
+    store32(r13 + 48, r17_100_0);
+    store32(r13 + 52, r17_110_0);
     dfuse_host_session_Session_spent(r10_2, r12, r13, r8_3_0_copyload);
 dfuse_host_session_Session_after_exit:
     memcpy(r11_2, r10_2, 104);

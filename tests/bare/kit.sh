@@ -180,7 +180,7 @@ sizes() {
     program stack "$top/tests/c/stack.c" "$device"
     is "$target: stack of the device" deepest stack 1500
     program host_stack "$top/tests/c/host_stack.c" "$host"
-    is "$target: stack of the host" deepest host_stack 1100
+    is "$target: stack of the host" deepest host_stack 900
     program trial_stack "$top/tests/c/trial_stack.c" "$trial" "$device"
     is "$target: stack of trials" deepest trial_stack 1200
 }
