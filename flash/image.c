@@ -121,6 +121,16 @@ static int32_t refuse(const struct image *image, int32_t refusal)
     return IMAGE_TEXT;
 }
 
+/* A file with a suffix is sent, since it says for which device. But `dfu add` without --format takes a build's text for the image. */
+static void warn(const struct image *image)
+{
+    const char *format = text_format_of(image);
+    if (format != NULL)
+        fprintf(stderr,
+                "dfu-flash: the image in the file looks like text of %s: `dfu add --format %s` takes out the image that it describes\n",
+                format, format);
+}
+
 static int32_t look(struct image *image)
 {
     struct dfu_file file;
@@ -175,8 +185,10 @@ int32_t image_read(struct image *image, const struct words *words)
         return IMAGE_WORDS;
     if (image->is_dfuse)
         return read_dfuse(image, words);
-    if (refusal == 0)
+    if (refusal == 0) {
+        warn(image);
         return 0;
+    }
     if (!is_raw(image, words, refusal))
         return refuse(image, refusal);
     if (!words->quiet && words->has_address)

@@ -143,7 +143,7 @@ extern "C" {
 struct dfu_driver {
     void *own;                                                                            /**< handed to both functions */
     int (*erase)(void *own, uint32_t at, uint32_t length);                                /**< the sector at flash[at], to FFh */
-    int (*program)(void *own, uint32_t at, const uint8_t *bytes, uint32_t length);        /**< 1 to 256 bytes at flash[at] */
+    int (*program)(void *own, uint32_t at, const uint8_t *bytes, uint32_t length);        /**< 1 to 256 bytes at flash[at]; they begin at a multiple of 4 */
 };
 
 /** @brief A device. The program fills in all but the last two fields. */

@@ -124,7 +124,7 @@ static inline int32_t dfu_trial_accept(const struct dfu_trial *t, uint32_t at) {
     if (n == DFU_ASKS && t->driver) {
         (void)dfu_device_carry_out(t->driver, &ask);
         n = dfu_trial_confirm(t, at, &ask);
-        return n == DFU_ASKS ? DFU_NOT_WRITTEN : n;
+        return n == DFU_ASKS ? DFU_TO(int32_t, DFU_NOT_WRITTEN) : n;
     }
     return n;
 }
@@ -138,7 +138,7 @@ static inline int32_t dfu_trial_give_up(const struct dfu_trial *t) {
     if (n == DFU_ASKS && t->driver) {
         (void)dfu_device_carry_out(t->driver, &ask);
         n = dfu_trial_end(t, &ask);
-        return n == DFU_ASKS ? DFU_NOT_WRITTEN : n;
+        return n == DFU_ASKS ? DFU_TO(int32_t, DFU_NOT_WRITTEN) : n;
     }
     return n;
 }
@@ -160,7 +160,7 @@ static inline int32_t dfu_trial_transfer(const struct dfu_trial *t, struct dfu_d
         return n;
     (void)dfu_device_carry_out(t->driver, &ask);
     n = dfu_trial_end(t, &ask);
-    return n == 0 ? dfu_device_begin(d) : n == DFU_ASKS ? DFU_NOT_WRITTEN : n;
+    return n == 0 ? dfu_device_begin(d) : n == DFU_ASKS ? DFU_TO(int32_t, DFU_NOT_WRITTEN) : n;
 }
 
 #ifdef __cplusplus

@@ -107,7 +107,7 @@ reap() {
     wait "$first" || code=$?
 }
 last_of() {
-    grep '^[0-9]' "log-$1" 2> never-read | tail -n 1 | cut -d ' ' -f 2
+    grep '^[0-9]' "log-$1" | tail -n 1 | cut -d ' ' -f 2
 }
 # soon COMMAND..: waits until the command succeeds, half a minute at most.
 soon() {
@@ -121,7 +121,7 @@ sent() {
     least=$1
     shift
     for path in "$@"; do
-        test "$(grep -c '^[0-9]' "log-$path" 2> never-read)" -ge "$least" || return
+        test -e "log-$path" && test "$(grep -c '^[0-9]' "log-$path")" -ge "$least" || return
     done
 }
 board 1-3 USB_BUSY=60000

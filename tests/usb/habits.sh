@@ -83,6 +83,8 @@ for format in ihex srec uf2 elf; do
     done
     "$dfu" add "it.$format" it.dfu > /dev/null
     row 0 "it.$format" 'verified: ' USB_CAPACITY=1000 it.dfu
+    found=$(grep -c "the image in the file looks like text of $format: " err) || :
+    expect "$format: a warning" test "$found" -eq "$notes"
 done
 for text in ':04000000x1414141' 'S10700x041414141' ':sensible text' 'Sensible text' 'UF2 is no format' ':04000000'; do
     printf '%s' "$text" > likely
