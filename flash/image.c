@@ -112,13 +112,13 @@ static bool is_raw(const struct image *image, const struct words *words, int32_t
     return false;
 }
 
-/* The refusal of a file that may not be sent. Of text it is another one: `dfu add` by itself would take the text for the image. */
+/* The refusal of a file that may not be sent. One in a build's format has its own: `dfu add` by itself would take it as it is. */
 static int32_t refuse(const struct image *image, int32_t refusal)
 {
-    if (refusal != DFU_FILE_NO_SIGNATURE || text_format_of(image) == NULL)
+    if (refusal != DFU_FILE_NO_SIGNATURE || format_of(image) == NULL)
         return refusal;
     fputs("dfu-flash: for a DfuSe device give --address too, with the address that `dfu add --format auto` prints\n", stderr);
-    return IMAGE_TEXT;
+    return IMAGE_FORMAT;
 }
 
 /* A file with a suffix is sent, since it says for which device. But `dfu add` without --format takes a build's text for the image. */

@@ -19,12 +19,12 @@ struct image {
 };
 
 /* Reads FILE of the words. A raw image, which has no suffix, gets one for the device that --device names. 0; a refusal of the host
-   (dfu_host.h), of dfuse_file.h or of session.h; IMAGE_TEXT, the refusal of a file that is text of an image; IMAGE_UNREAD if the file
+   (dfu_host.h), of dfuse_file.h or of session.h; IMAGE_FORMAT, the refusal of a file in a build's format; IMAGE_UNREAD if the file
    can't be read; or IMAGE_WORDS if the words don't go with it. The last two, and what else is to know, are said on standard error. */
 int32_t image_read(struct image *image, const struct words *words);
 
 #define IMAGE_UNREAD (-100)
 #define IMAGE_WORDS (-101)
-#define IMAGE_TEXT (-109)
+#define IMAGE_FORMAT (-109)
 
 #endif

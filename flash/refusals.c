@@ -15,7 +15,7 @@ struct refusal {
 static const struct refusal refusals[] = {
     {DFU_FILE_TOO_SHORT, "TooShort", "the file has under 16 bytes, too few for a suffix"},
     {DFU_FILE_NO_SIGNATURE, "NoSignature", "the file has no DFU suffix; `dfu add` gives it one"},
-    {IMAGE_TEXT, "NoSignature", "the file is text of Intel HEX or S-records; `dfu add --format auto` makes a DFU file of the image in it"},
+    {IMAGE_FORMAT, "NoSignature", "the file is HEX, S-records, UF2 or ELF; `dfu add --format auto` makes a DFU file of the image in it"},
     {DFU_FILE_BAD_LENGTH, "BadLength", "the suffix's length is under 16 or over the file's"},
     {DFU_FILE_BAD_CRC, "BadCrc", "the file's check sum is wrong: it was changed or cut"},
     {DFU_FILE_TOO_LARGE, "TooLarge", "the file has over 16777216 bytes"},

@@ -4,7 +4,7 @@
 #define DFU_FLASH_STATUS_H
 
 enum status {
-    STATUS_DONE = 0,        /* Installed, Verified or Uploaded; or a list, a dry run, help or the version was printed */
+    STATUS_DONE = 0,        /* Installed, Verified, Uploaded or Detached; or a list, a dry run, help or the version was printed */
     STATUS_REFUSED = 1,     /* refused before a byte of the image was sent */
     STATUS_WORDS = 2,       /* the words aren't understood */
     STATUS_FILE = 3,        /* a file or a stream failed, or there was no memory */

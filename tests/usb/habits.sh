@@ -64,33 +64,30 @@ printf ':0400000041414141F8\n:00000001FF\n' > it.ihex
 printf 'S1070000414141414F4\nS9030000FC\n' > it.srec
 { printf 'UF2\n'; head -c 508 /dev/zero; } > it.uf2
 { printf '\177ELF'; head -c 100 /dev/zero; } > it.elf
-# Of text the refusal names the words that keep it from the device; of others it is that of any file without a suffix.
+# The refusal names the words that keep it from the device. If text was given a suffix there is a warning.
 no_suffix="NoSignature: the file has no DFU suffix; \`dfu add\` gives it one"
-of_text="NoSignature: the file is text of Intel HEX or S-records; \`dfu add --format auto\` makes a DFU file of the image in it"
+of_format="NoSignature: the file is HEX, S-records, UF2 or ELF; \`dfu add --format auto\` makes a DFU file of the image in it"
 for format in ihex srec uf2 elf; do
-    case $format in
-    ihex | srec) line=$of_text notes=1 ;;
-    *) line=$no_suffix notes=0 ;;
-    esac
+    case $format in ihex | srec) warnings=1 ;; *) warnings=0 ;; esac
     for words in '--device 1209:0001' '--address 0x08000000' ''; do
         # shellcheck disable=SC2086
-        row 1 old "$line" '' $words "it.$format"
-        expect "$format: the whole line" test "$(cat out)" = "$line"
+        row 1 old "$of_format" '' $words "it.$format"
+        expect "$format: the whole line" test "$(cat out)" = "$of_format"
         found=$(grep -c 'for a DfuSe device give --address too, .*--format auto' err) || :
-        expect "$format: what a DfuSe device needs" test "$found" -eq "$notes"
+        expect "$format: what a DfuSe device needs" test "$found" -eq 1
         says "it looks like $format: \`dfu add --format $format\`"
         expect "$format: nothing is sent" is_silent
     done
     "$dfu" add "it.$format" it.dfu > /dev/null
     row 0 "it.$format" 'verified: ' USB_CAPACITY=1000 it.dfu
     found=$(grep -c "the image in the file looks like text of $format: " err) || :
-    expect "$format: a warning" test "$found" -eq "$notes"
+    expect "$format: a warning" test "$found" -eq "$warnings"
 done
 for text in ':04000000x1414141' 'S10700x041414141' ':sensible text' 'Sensible text' 'UF2 is no format' ':04000000'; do
     printf '%s' "$text" > likely
     row 0 likely 'verified: ' USB_CAPACITY=1000 --device 1209:0001 likely
 done
-row 1 old "{\"status\":1,\"report\":\"NoSignature\",\"words\":\"${of_text#*: }\"}" '' --json it.srec
+row 1 old "{\"status\":1,\"report\":\"NoSignature\",\"words\":\"${of_format#*: }\"}" '' --json it.srec
 for text in 'S10700x041414141...' ':04000000x1414141' 'a raw image of text'; do
     printf '%s' "$text" > likely
     row 1 old "$no_suffix" '' likely
