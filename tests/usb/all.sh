@@ -109,13 +109,6 @@ reap() {
 last_of() {
     grep '^[0-9]' "log-$1" | tail -n 1 | cut -d ' ' -f 2
 }
-# soon COMMAND..: waits until the command succeeds, half a minute at most.
-soon() {
-    for _ in $(seq 300); do
-        "$@" && return
-        sleep 0.1
-    done
-}
 # sent COUNT PATH..: so many requests at least were sent to each of these.
 sent() {
     least=$1

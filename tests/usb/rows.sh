@@ -28,6 +28,14 @@ printf 'a new image of 26 bytes ..' > new
 "$dfu" add new any.dfu > /dev/null
 "$dfu" add new other.dfu --vid 1209 --pid 0002 > /dev/null
 
+# soon COMMAND..: waits until the command succeeds, half a minute at most.
+soon() {
+    for _ in $(seq 300); do
+        "$@" && return
+        sleep 0.1
+    done
+}
+
 # flash SETTINGS WORDS..: runs it over a device that is set up so, as the user $as, with the fate of a transfer in $fate.
 # Its status is in $code, its texts in out and err, what was sent in log, and the image that the device has then in saved.
 flash() {

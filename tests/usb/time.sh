@@ -1,16 +1,20 @@
 # Rows of tests/flash: how a wait ends at a signal, --timeout, --wait, and the trace of --verbose.
 
-# stopped SIGNAL SECONDS SETTINGS WORDS..: as `flash`, with the signal after so many seconds. How long all took is in $took.
+# stopped SIGNAL SECONDS SETTINGS WORDS..: as `flash`, with the signal after so many seconds; again, up to three times, if the program had
+# neither sent nor said anything by then. How long it took is in $took.
 stopped() {
     signal=$1 after=$2 settings=$3
     shift 3
-    code=0
-    rm -f saved log
-    began=$(date +%s)
-    # shellcheck disable=SC2086
-    env LD_LIBRARY_PATH="$work" USB_IMAGE="$work/old" USB_SAVE="$work/saved" USB_LOG="$work/log" USB_FATE="$fate" $settings \
-        timeout --preserve-status -k 30 -s "$signal" "$after" ./dfu-flash "$@" > out 2> err || code=$?
-    took=$(($(date +%s) - began))
+    for _ in 1 2 3 4; do
+        code=0
+        rm -f saved log
+        began=$(date +%s)
+        # shellcheck disable=SC2086
+        env LD_LIBRARY_PATH="$work" USB_IMAGE="$work/old" USB_SAVE="$work/saved" USB_LOG="$work/log" USB_FATE="$fate" $settings \
+            timeout --preserve-status -k 30 -s "$signal" "$after" ./dfu-flash "$@" > out 2> err || code=$?
+        took=$(($(date +%s) - began))
+        if [ -s log ] || [ -s err ]; then return; fi
+    done
 }
 last_request() {
     grep '^[0-9]' log | tail -n 1 | cut -d ' ' -f 2
@@ -43,8 +47,9 @@ expect 'a signal while it is away: at once' test "$took" -le 4
 fate=
 # A transfer is waited for; a second signal of the kind ends the program, and the device stays as it is.
 code=0
+rm -f log
 env LD_LIBRARY_PATH="$work" USB_SLOW=1500 USB_LOG="$work/log" ./dfu-flash new.dfu > out 2> err &
-sleep 0.5
+soon test -s log
 kill -INT "$!" || :
 sleep 0.2
 kill -INT "$!" || :
@@ -54,8 +59,9 @@ expect 'a second Ctrl-C: no report' test ! -s out
 
 # timeout sends its signal twice, to the program and to its group, which is one signal.
 code=0
+rm -f log
 env LD_LIBRARY_PATH="$work" USB_SLOW=1000 USB_LOG="$work/log" ./dfu-flash new.dfu > out 2> err &
-sleep 0.5
+soon test -s log
 kill -TERM "$!" || :
 kill -TERM "$!" || :
 sleep 0.02
