@@ -31,10 +31,12 @@ pub enum Ending {
 pub struct UsbEvent<'c> {
     /// Which part of the transfer it is.
     pub kind: PacketKind,
-    /// What joins a submission and its completion.
+    /// The id of the transfer: no two that are pending on a bus have the same, and the next transfer of any device may have it again.
     pub id: [u8; 8],
     /// Where the device is.
     pub address: Address,
+    /// Whether the transfer's data goes to the host, if each of its packets says so.
+    pub is_in: Option<bool>,
     /// Of a submission: the eight bytes that begin the request.
     pub setup: Option<[u8; 8]>,
     /// How it ended, if it completes the transfer.

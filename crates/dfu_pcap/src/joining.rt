@@ -9,6 +9,7 @@ use crate::event::{Ending, PacketKind, UsbEvent};
 use crate::exchange::{Exchange, Seen};
 use crate::fault::CaptureFault;
 use crate::numbers::from;
+use crate::pending::{Pending, PendingTransfers};
 use crate::records::{Packet, form_of, head_of};
 use crate::usbmon::{self, packet_event};
 use crate::usbpcap::recorded_event;
@@ -41,17 +42,6 @@ fn given_by(setup: &[u8; 8], address: Address, link: u16) -> Option<Address> {
     }
 }
 
-/// A transfer that was submitted and isn't completed.
-#[derive(Clone, Copy)]
-struct Pending<'c> {
-    id: [u8; 8],
-    address: Address,
-    setup: [u8; 8],
-    body: &'c [u8],
-    is_cut: bool,
-    is_done: bool,
-}
-
 /// What was seen of the answer to a transfer, by its completion.
 fn seen_of<'c>(setup: &[u8; 8], event: &UsbEvent<'c>) -> Seen<'c> {
     let [kind, _, _, _, _, _, low, high] = *setup;
@@ -64,77 +54,69 @@ fn seen_of<'c>(setup: &[u8; 8], event: &UsbEvent<'c>) -> Seen<'c> {
     }
 }
 
+/// Whether a completion moved no more bytes than the setup asks for. One that did completes another request, whose submission is missing.
+fn fits(setup: &[u8; 8], event: &UsbEvent<'_>) -> bool {
+    let [_, _, _, _, _, _, low, high] = *setup;
+    let wanted = u16::from_le_bytes([low, high]);
+    match event.moved {
+        Some(moved) => moved <= wanted as u32,
+        None => event.data.len() <= wanted as usize,
+    }
+}
+
 /// Transfers, as they come.
 #[derive(Drop)]
 struct Joining<'c> {
     // How many packets came.
     count: usize,
-    pending: Vec<Pending<'c>>,
+    pending: PendingTransfers<'c>,
     exchanges: Vec<Exchange<'c>>,
 }
 
 impl<'c> Joining<'c> {
-    /// A transfer is submitted.
+    /// A transfer is submitted. One that had its id before is over, though its completion is missing.
     fn submit(&mut self, event: &UsbEvent<'c>, setup: [u8; 8]) -> Result<(), CaptureFault> {
+        let _over = self.pending.take(event);
         let [kind, ..] = setup;
-        let new = Pending {
-            id: event.id,
-            address: event.address,
+        self.pending.put(Pending {
+            submission: *event,
             setup,
             body: if kind < 0x80 { event.data } else { &[] },
             is_cut: kind < 0x80 && event.is_cut,
-            is_done: false,
+        })
+    }
+
+    /// The bytes of a transfer that was submitted without them come. One whose bytes come from the device has none, so it is over.
+    fn carry(&mut self, event: &UsbEvent<'c>) -> Result<(), CaptureFault> {
+        let Some(mut began) = self.pending.take_same(event) else {
+            return Ok(());
         };
-        for old in &mut self.pending {
-            if old.is_done || old.id == new.id {
-                *old = new;
-                return Ok(());
-            }
+        let [kind, ..] = began.setup;
+        if kind >= 0x80 {
+            return Ok(());
         }
-        match self.pending.push(new) {
-            Ok(()) => Ok(()),
-            Err(_) => Err(CaptureFault::NoMemory),
-        }
-    }
-
-    /// The transfer of this id, which is taken.
-    fn take(&mut self, id: &[u8; 8]) -> Option<Pending<'c>> {
-        for old in &mut self.pending {
-            if !old.is_done && old.id == *id {
-                old.is_done = true;
-                return Some(*old);
-            }
-        }
-        None
-    }
-
-    /// The bytes of a transfer that was submitted without them come.
-    fn carry(&mut self, event: &UsbEvent<'c>) {
-        for old in &mut self.pending {
-            let [kind, ..] = old.setup;
-            if !old.is_done && old.id == event.id && kind < 0x80 {
-                old.body = event.data;
-                old.is_cut = event.is_cut;
-            }
-        }
+        began.body = event.data;
+        began.is_cut = event.is_cut;
+        self.pending.put(began)
     }
 
     /// A transfer is completed, by a packet of this link type.
     fn complete(&mut self, event: &UsbEvent<'c>, link: u16) -> Result<(), CaptureFault> {
-        let Some(began) = self.take(&event.id) else {
+        let Some(began) = self.pending.take_same(event) else {
             return Ok(());
         };
         let [kind, ..] = began.setup;
+        let address = began.submission.address;
         let exchange = Exchange {
             packet: self.count,
-            address: began.address,
+            address,
             setup: began.setup,
             body: began.body,
             seen: seen_of(&began.setup, event),
-            given: given_by(&began.setup, began.address, link),
+            given: given_by(&began.setup, address, link),
             is_cut: began.is_cut || kind >= 0x80 && event.ending == Ending::Done && event.is_cut,
         };
-        if !exchange.is_class() && exchange.given.is_none() {
+        if !fits(&began.setup, event) || !exchange.is_class() && exchange.given.is_none() {
             return Ok(());
         }
         match self.exchanges.push(exchange) {
@@ -147,10 +129,7 @@ impl<'c> Joining<'c> {
     fn come(&mut self, event: &UsbEvent<'c>, link: u16) -> Result<(), CaptureFault> {
         match (event.kind, event.setup) {
             (PacketKind::Submits, Some(setup)) => self.submit(event, setup),
-            (PacketKind::Carries, _) => {
-                self.carry(event);
-                Ok(())
-            }
+            (PacketKind::Carries, _) => self.carry(event),
             (PacketKind::Completes, _) => self.complete(event, link),
             _ => Ok(()),
         }
@@ -158,7 +137,8 @@ impl<'c> Joining<'c> {
 }
 
 /// The requests of the class and those that show a reset, with their answers, in the order of the completions. A completion without a
-/// submission is passed over, as at the begin of a capture, and so is a submission without a completion.
+/// submission of the same transfer is passed over, as at the begin of a capture or after packets that are missing, and so is a submission
+/// without a completion.
 ///
 /// NotUsbmon if it is no capture, or a packet has another link type; NoMemory if an allocation was refused.
 pub(crate) fn exchanges_of(alloc: Global, capture: &[u8]) -> Result<Vec<Exchange<'_>>, CaptureFault>
@@ -170,7 +150,7 @@ pub(crate) fn exchanges_of(alloc: Global, capture: &[u8]) -> Result<Vec<Exchange
     };
     let mut joining = Joining {
         count: 0,
-        pending: Vec::new(alloc),
+        pending: PendingTransfers::new(alloc),
         exchanges: Vec::new(alloc),
     };
     let mut rest = from(capture, head_of(&form));

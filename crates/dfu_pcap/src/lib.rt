@@ -10,6 +10,7 @@ mod fault;
 mod joining;
 mod logging;
 mod numbers;
+mod pending;
 mod records;
 mod usbmon;
 mod usbpcap;

@@ -1,6 +1,6 @@
 //! The packets of usbmon (link types 189 and 220).
 
-ghost use Rattle.std.specs.Prelude.{◌≡◌, drop, take, length, nat_lt, not, is_none, Some, IfSome};
+ghost use Rattle.std.specs.Prelude.{◌≡◌, drop, take, length, nat_le, nat_lt, not, is_none, Some, IfSome};
 ghost use Rattle.dfu_pcap.specs.Packets.{byte, two_in, four_in, eight_in, head_in, is_control, kind_in, setup_in_packet, ending_in};
 
 use crate::address::Address;
@@ -52,13 +52,14 @@ fn setup_of(bytes: &[u8]) -> Option<[u8; 8]>
 }
 
 /// What a packet says that has this many bytes before its data; `None` if it is no control transfer to endpoint 0, or hasn't a whole head.
-/// The bytes of each number are in the order that is given: bytes 0 to 7 are the id, 11 the device, 12 and 13 the bus, 28 to 31 the status,
-/// 32 to 35 the length, and 36 to 39 how many bytes of data follow the head.
+/// The bytes of each number are in the order that is given: bytes 0 to 7 are the id, bit 7 of byte 10 the direction, byte 11 the device, 12
+/// and 13 the bus, 28 to 31 the status, 32 to 35 the length, and 36 to 39 how many bytes of data follow the head.
 pub fn packet_event(bytes: &[u8], head: usize, is_big: bool) -> Option<UsbEvent<'_>>
     ensures none { is_none result ≡ not (is_control head bytes.now) }
     ensures kind { IfSome result (λ e. e.kind ≡ kind_in bytes.now) }
     ensures id { IfSome result (λ e. e.id ≡ eight_in (drop 0 bytes.now)) }
     ensures address { IfSome result (λ e. (e.address.bus ≡ two_in is_big (drop 12 bytes.now)) × (e.address.device ≡ byte bytes.now 11)) }
+    ensures direction { IfSome result (λ e. e.is_in ≡ Some (nat_le 128 (byte bytes.now 10))) }
     ensures setup { IfSome result (λ e. e.setup ≡ setup_in_packet bytes.now) }
     ensures ending { IfSome result (λ e. e.ending ≡ ending_in is_big bytes.now) }
     ensures moved { IfSome result (λ e. e.moved ≡ Some (four_in is_big (drop 32 bytes.now))) }
@@ -77,6 +78,7 @@ pub fn packet_event(bytes: &[u8], head: usize, is_big: bool) -> Option<UsbEvent<
             bus: two(from(bytes, 12), is_big),
             device: byte_at(bytes, 11),
         },
+        is_in: Some(byte_at(bytes, 10) >= 128),
         setup: setup_of(bytes),
         ending: ending_of(bytes, is_big),
         moved: Some(length),

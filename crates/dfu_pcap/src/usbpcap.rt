@@ -59,6 +59,7 @@ pub fn recorded_event(bytes: &[u8]) -> Option<UsbEvent<'_>>
     ensures kind { IfSome result (λ e. e.kind ≡ recorded_kind bytes.now) }
     ensures id { IfSome result (λ e. e.id ≡ eight_in (drop 2 bytes.now)) }
     ensures address { IfSome result (λ e. (e.address.bus ≡ two_in false (drop 17 bytes.now)) × (e.address.device ≡ byte bytes.now 19)) }
+    ensures direction { IfSome result (λ e. e.is_in ≡ None) }
     ensures setup { IfSome result (λ e. e.setup ≡ recorded_setup (two_in false bytes.now) bytes.now) }
     ensures ending { IfSome result (λ e. e.ending ≡ recorded_ending bytes.now) }
     ensures moved { IfSome result (λ e. e.moved ≡ None) }
@@ -83,6 +84,7 @@ pub fn recorded_event(bytes: &[u8]) -> Option<UsbEvent<'_>>
             bus: two(from(bytes, 17), false),
             device: byte_at(bytes, 19),
         },
+        is_in: None,
         setup,
         ending: ending_of(bytes),
         moved: None,

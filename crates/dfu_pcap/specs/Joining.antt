@@ -1,0 +1,12 @@
+-- Which packets are of one transfer.
+use Rattle.std.specs.Prelude.{◌≡◌}
+use Rattle.dfu_pcap.specs.declared.event.UsbEvent.{UsbEvent}
+
+-- Two events have the same id on the same bus. An id is in use once: it is the address of a kernel's object, which the next transfer of any
+-- device may have again.
+abbrev pub HasSameId : UsbEvent → UsbEvent → Type 0
+HasSameId one other = (one.id ≡ other.id) × (one.address.bus ≡ other.address.bus)
+
+-- Two events may be of one transfer: they have the same id, bus, device and direction.
+abbrev pub IsSameTransfer : UsbEvent → UsbEvent → Type 0
+IsSameTransfer one other = (one.id ≡ other.id) × ((one.address ≡ other.address) × (one.is_in ≡ other.is_in))

@@ -1,0 +1,86 @@
+//! Transfers that were submitted and aren't completed, by their ids.
+
+ghost use Rattle.std.specs.Prelude.{◌↔◌, IsTrue, IfSome};
+ghost use Rattle.dfu_pcap.specs.Joining.{IsSameTransfer, HasSameId};
+
+use crate::event::UsbEvent;
+use crate::fault::CaptureFault;
+use std::alloc::Global;
+
+/// A transfer that was submitted and isn't completed.
+#[derive(Clone, Copy)]
+pub(crate) struct Pending<'c> {
+    /// The event that submitted it.
+    pub submission: UsbEvent<'c>,
+    /// The eight bytes that begin the request.
+    pub setup: [u8; 8],
+    /// The bytes that the host sends with it.
+    pub body: &'c [u8],
+    /// Not all of these were captured.
+    pub is_cut: bool,
+}
+
+/// Whether two events are of transfers with the same id on the same bus.
+fn has_same_id(one: &UsbEvent<'_>, other: &UsbEvent<'_>) -> bool
+    ensures { IsTrue result ↔ HasSameId one.now other.now }
+{
+    one.id == other.id && one.address.bus == other.address.bus
+}
+
+/// Whether two events may be of one transfer: they have the same id, bus, device and direction. Their endpoint is always 0.
+fn is_same_transfer(one: &UsbEvent<'_>, other: &UsbEvent<'_>) -> bool
+    ensures { IsTrue result ↔ IsSameTransfer one.now other.now }
+{
+    one.id == other.id && one.address == other.address && one.is_in == other.is_in
+}
+
+/// The transfers that were submitted and aren't completed. No two of them have the same id on the same bus.
+#[derive(Drop)]
+pub(crate) struct PendingTransfers<'c> {
+    all: Vec<Pending<'c>>,
+}
+
+impl<'c> PendingTransfers<'c> {
+    /// None.
+    pub(crate) fn new(alloc: Global) -> PendingTransfers<'c> {
+        PendingTransfers {
+            all: Vec::new(alloc),
+        }
+    }
+
+    /// Adds a transfer, after the one with its id was taken.
+    pub(crate) fn put(&mut self, new: Pending<'c>) -> Result<(), CaptureFault> {
+        match self.all.push(new) {
+            Ok(()) => Ok(()),
+            Err(_) => Err(CaptureFault::NoMemory),
+        }
+    }
+
+    /// The transfer that has the id of this event on its bus, whatever its device, which is taken: an id is in use once, so an event of
+    /// another transfer shows that it is over.
+    pub(crate) fn take(&mut self, event: &UsbEvent<'c>) -> Option<Pending<'c>>
+        ensures { IfSome result (λ p. HasSameId p.submission event.now) }
+    {
+        for place in 0..self.all.len() {
+            let old = self.all[place];
+            if has_same_id(&old.submission, event) {
+                let _old = self.all.swap_remove(place);
+                return Some(old);
+            }
+        }
+        None
+    }
+
+    /// The transfer that this event carries on or completes, which is taken; `None` if that was submitted before the capture, or its
+    /// submission is missing.
+    pub(crate) fn take_same(&mut self, event: &UsbEvent<'c>) -> Option<Pending<'c>>
+        ensures { IfSome result (λ p. IsSameTransfer p.submission event.now) }
+    {
+        let old = self.take(event)?;
+        if is_same_transfer(&old.submission, event) {
+            Some(old)
+        } else {
+            None
+        }
+    }
+}
