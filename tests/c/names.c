@@ -2,6 +2,7 @@
 #include "dfu_device_memory.h"
 #include "dfu_runtime.h"
 #include "dfu_host.h"
+#include "dfu_image.h"
 #include "dfuse_watch.h"
 #include "dfuse_file.h"
 #include "dfu_install.h"
@@ -211,3 +212,20 @@ IS(DFUSE_FILE_PAST_THE_END, -85);
 IS(DFUSE_FILE_TRAILING, -86);
 IS(DFUSE_FILE_NO_SETTING, -87);
 IS(DFUSE_FILE_TOO_MANY_ELEMENTS, -88);
+
+IS(DFU_LOOKS_RAW, 0);
+IS(DFU_LOOKS_IHEX, 1);
+IS(DFU_LOOKS_SREC, 2);
+IS(DFU_LOOKS_UF2, 3);
+IS(DFU_LOOKS_ELF, 4);
+IS(DFU_LOOKS_DFUSE, 5);
+IS(DFU_LOOKS_ZIP, 6);
+IS(DFU_LOOKS_GZIP, 7);
+IS(DFU_LOOKS_TEXT, 8);
+IS(DFU_LOOKS_NAMED, 9);
+IS(DFU_NAMED_NONE, 0);
+IS(DFU_NAMED_IHEX, 1);
+IS(DFU_NAMED_SREC, 2);
+IS(DFU_NAMED_UF2, 3);
+IS(DFU_NAMED_ELF, 4);
+IS(DFU_NAMED_DFU, 5);

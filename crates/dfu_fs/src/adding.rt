@@ -1,16 +1,18 @@
 //! `dfu add`.
 
-use crate::gathering::{MAX_FILE, gather_fault, refused, unread};
+use crate::gathering::{MAX_FILE, gather_fault, refused, refused_bytes, unread};
 use crate::given::{Given, Held, RecordingReader, open};
 use crate::reasons::{error_reason, file_reason, given_reason};
 use crate::replacing::{Replacement, finish};
 use crate::temp_file::Owned;
-use dfu_image_output::{FormatChoice, image_line, looks_like, refused_line, why};
-use dfu_images::{ImageFileFault, format_of, image_of};
+use dfu_image_output::{
+    FormatChoice, image_line, looks_like, not_image_line, refused_line, why, why_not,
+};
+use dfu_images::{Format, ImageFileFault, Looks, bad_place, image_of, look_at};
 use dfu_output::{Exit, Outcome, add_with_fault, fault_text, write_out};
-use dfu_suffix::{Findings, SuffixFault, gather};
+use dfu_suffix::{Findings, SuffixFault, gather, read};
 use dfu_wire::Ids;
-use std::alloc::Global;
+use std::alloc::{AllocError, Global};
 use std::io::{self, Read};
 use std::rt::Files;
 
@@ -31,9 +33,11 @@ struct Added<'w> {
     ids: Ids,
 }
 
-/// What a file was taken as that looks like one of a format.
+/// What a file was taken as that looks like one of a format, by its first bytes.
 fn hint(alloc: Global, file: &str, head: &[u8]) -> Option<String> {
-    let format = format_of(head)?;
+    let Looks::Of(format) = look_at(head, b"").looks else {
+        return None;
+    };
     match looks_like(alloc, format) {
         Ok(why) => file_reason(alloc, file, &why),
         Err(_) => None,
@@ -76,20 +80,40 @@ where
     }
 }
 
-/// A file that makes no image.
-fn refuse_image<R: Print + AllocGlobal>(rt: &R, file: &str, fault: ImageFileFault) -> Outcome {
-    let alloc = rt.alloc();
+/// A file that is refused with this line and for this reason.
+fn refuse_with<R: Print + AllocGlobal>(
+    rt: &R,
+    file: &str,
+    line: Result<String, AllocError>,
+    why: Result<String, AllocError>,
+) -> Outcome {
     let mut out = io::writer(rt);
     Outcome {
-        exit: match refused_line(alloc, fault) {
+        exit: match line {
             Ok(line) => write_out(&mut out, line.as_bytes(), Exit::Refused),
             Err(_) => fault_text(SuffixFault::NoMemory, &mut out),
         },
-        reason: match why(alloc, fault) {
-            Ok(why) => file_reason(alloc, file, &why),
+        reason: match why {
+            Ok(why) => file_reason(rt.alloc(), file, &why),
             Err(_) => None,
         },
     }
+}
+
+/// A file of a format that makes no image.
+fn refuse_image<R: Print + AllocGlobal>(
+    rt: &R,
+    file: &str,
+    fault: ImageFileFault,
+    format: Format,
+    bytes: &[u8],
+) -> Outcome {
+    let bad = match fault {
+        ImageFileFault::Unread(_) => bad_place(format, bytes),
+        _ => None,
+    };
+    let alloc = rt.alloc();
+    refuse_with(rt, file, refused_line(alloc, fault), why(alloc, fault, bad))
 }
 
 /// Adds a suffix to bytes that were read.
@@ -106,8 +130,34 @@ where
     add_read(rt, added, &mut RecordingReader::new(given), behind)
 }
 
-/// Adds a suffix to the image of a file, of the format that is asked for or that its first bytes look like; to the file as it is if
-/// they look like none.
+/// Adds a suffix to the image in bytes of a format.
+fn add_of<R: Files + Input + Print + AllocGlobal>(
+    rt: &R,
+    added: Added<'_>,
+    format: Format,
+    fill: Option<u8>,
+    bytes: &[u8],
+) -> Outcome
+where
+    R::File: Owned,
+{
+    let alloc = rt.alloc();
+    match image_of(alloc, format, fill, bytes) {
+        Ok(image) => match image_line(alloc, format, image.address) {
+            Ok(line) => add_bytes(rt, added, image.bytes, &line),
+            Err(_) => refused_bytes(rt, added.file, SuffixFault::NoMemory, bytes, false),
+        },
+        Err(fault) => refuse_image(rt, added.file, fault, format, bytes),
+    }
+}
+
+/// Whether bytes end with a suffix of DFU or of DfuSe.
+fn has_suffix(bytes: &[u8]) -> bool {
+    matches!(read(bytes), Ok(_) | Err(SuffixFault::DfuSe))
+}
+
+/// Adds a suffix to the image of a file, of the format that is asked for or that it looks like; to the file as it is if nothing is known
+/// against that. What has a suffix already is refused for that.
 fn add_image<R: Files + Input + Print + AllocGlobal>(
     rt: &R,
     added: Added<'_>,
@@ -122,19 +172,19 @@ where
         Ok(bytes) => bytes,
         Err(fault) => return refused(rt, added.file, gather_fault(fault), noting),
     };
-    let format = match how.taken {
-        FormatChoice::As(format) => Some(format),
-        _ => format_of(&bytes),
+    let looks = match how.taken {
+        FormatChoice::As(format) => Looks::Of(format),
+        _ => look_at(&bytes, added.file.as_bytes()).looks,
     };
-    let Some(format) = format else {
-        return add_bytes(rt, added, bytes, "");
-    };
-    match image_of(alloc, format, how.fill, &bytes) {
-        Ok(image) => match image_line(alloc, format, image.address) {
-            Ok(line) => add_bytes(rt, added, image.bytes, &line),
-            Err(_) => refused(rt, added.file, SuffixFault::NoMemory, noting),
-        },
-        Err(fault) => refuse_image(rt, added.file, fault),
+    match looks {
+        Looks::Of(format) => add_of(rt, added, format, how.fill, &bytes),
+        Looks::Other(other) if !has_suffix(&bytes) => refuse_with(
+            rt,
+            added.file,
+            not_image_line(alloc, other),
+            why_not(alloc, other),
+        ),
+        _ => add_bytes(rt, added, bytes, ""),
     }
 }
 

@@ -64,7 +64,7 @@ impl<F: IsTerminal, I: IsTerminal> IsTerminal for Given<F, I> {
 #[derive(Drop)]
 pub(crate) struct RecordingReader<R> {
     reader: R,
-    head: [u8; 4],
+    head: [u8; 64],
     held: usize,
     pub error: Option<io::Error>,
 }
@@ -74,13 +74,13 @@ impl<R> RecordingReader<R> {
     pub(crate) fn new(reader: R) -> RecordingReader<R> {
         RecordingReader {
             reader,
-            head: [0; 4],
+            head: [0; 64],
             held: 0,
             error: None,
         }
     }
 
-    /// The first four bytes, or fewer if it gave fewer.
+    /// The first 64 bytes, or fewer if it gave fewer.
     pub(crate) fn head(&self) -> &[u8] {
         self.head.get(..self.held).unwrap_or(&[])
     }

@@ -4,6 +4,7 @@ pub mod PhaseNumbers
 pub mod WrittenNumbers
 pub mod Sessions
 pub mod FileRecords
+pub mod Looks
 pub mod Refusals
 pub mod Told
 pub mod Actions

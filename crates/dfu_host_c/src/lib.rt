@@ -12,6 +12,7 @@ mod file;
 mod goals;
 mod holding;
 mod ids;
+mod looks;
 mod names;
 mod phases;
 mod refusals;

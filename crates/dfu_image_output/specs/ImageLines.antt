@@ -9,6 +9,10 @@ use Rattle.dfu_images.specs.declared.making.ImageFileFault.{ImageFileFault}
 use Rattle.dfu_images.specs.declared.making.ImageFileFault.TheVariants.{Unread, NoData, Unlaid}
 use Rattle.dfu_images.specs.declared.format.Format.{Format}
 use Rattle.dfu_images.specs.declared.format.Format.TheVariants.{IntelHex, SRecord, Uf2, Elf}
+use Rattle.dfu_images.specs.declared.endings.Ending.{Ending}
+use Rattle.dfu_images.specs.declared.endings.Ending.TheVariants as ending
+use Rattle.dfu_images.specs.declared.looks.NotImage.{NotImage}
+use Rattle.dfu_images.specs.declared.looks.NotImage.TheVariants.{DfuSe, Zip, Gzip, Text, Named}
 use Rattle.dfu_output.specs.AnswerLines.{hex}
 
 -- The name of a format, as `--format` has it.
@@ -63,3 +67,20 @@ fault_text (Unlaid fault) = unlaid_text fault
 -- The line for a file that makes no image is `refused NAME`, and what the fault names.
 unfoldable pub refused_line : ImageFileFault → List ℕ
 refused_line fault = codes "refused " ++ fault_text fault ++ 10 ∷ []
+
+-- The word for what a name says: a format, or a DFU file.
+abbrev pub ending_name : Ending → List ℕ
+ending_name (ending.Of format) = format_name format
+ending_name ending.Dfu = codes "dfu"
+
+-- The word for a file of which no image is taken.
+abbrev pub not_image_word : NotImage → List ℕ
+not_image_word DfuSe = codes "dfuse"
+not_image_word Zip = codes "zip"
+not_image_word Gzip = codes "gzip"
+not_image_word Text = codes "text"
+not_image_word (Named ending) = codes "named-" ++ ending_name ending
+
+-- The line for a file of which no image is taken is `refused NotAnImage WORD`.
+unfoldable pub not_image_line : NotImage → List ℕ
+not_image_line other = codes "refused NotAnImage " ++ not_image_word other ++ 10 ∷ []

@@ -12,7 +12,7 @@ pub enum FormatChoice {
     Unsaid,
     /// As it is.
     Raw,
-    /// As a file of the format that its first bytes look like, and as it is if they look like no format.
+    /// As a file of the format that it looks like, or as it is if nothing is known against a raw image; else not at all.
     Auto,
     /// As a file of this format.
     As(Format),

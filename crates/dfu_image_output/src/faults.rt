@@ -2,10 +2,11 @@
 
 ghost use Rattle.std.specs.Prelude.{◌≡◌, IfOk};
 ghost use Rattle.std.specs.String.{string_bytes};
-ghost use Rattle.dfu_image_output.specs.ImageLines.{fault_text, refused_line, unlaid_text, unread_text};
+ghost use Rattle.dfu_image_output.specs.ImageLines.{ending_name, fault_text, not_image_line, not_image_word, refused_line, unlaid_text, unread_text};
 
+use crate::lines::format_name;
 use crate::numbers::{addressed, numbered};
-use dfu_images::{ImageFault, ImageFileFault, LayFault};
+use dfu_images::{Ending, ImageFault, ImageFileFault, LayFault, NotImage};
 use dfu_output::{made_field, push};
 use std::alloc::{AllocError, Global};
 
@@ -79,6 +80,49 @@ pub fn refused_line(alloc: Global, fault: ImageFileFault) -> Result<String, Allo
 {
     let mut line = String::from_str(alloc, "refused ")?;
     push(&mut line, &fault_text(alloc, fault)?)?;
+    push(&mut line, "\n")?;
+    Ok(line)
+}
+
+/// The word for what a name says.
+pub(crate) fn ending_name(ending: Ending) -> &'static str
+    ensures { result.now ≡ ending_name ending }
+{
+    match ending {
+        Ending::Of(format) => format_name(format),
+        Ending::Dfu => "dfu",
+    }
+}
+
+/// The word for a file of which no image is taken.
+fn not_image_word(alloc: Global, other: NotImage) -> Result<String, AllocError>
+    ensures { IfOk result (λ t. string_bytes t ≡ not_image_word other) }
+{
+    match other {
+        NotImage::DfuSe => String::from_str(alloc, "dfuse"),
+        NotImage::Zip => String::from_str(alloc, "zip"),
+        NotImage::Gzip => String::from_str(alloc, "gzip"),
+        NotImage::Text => String::from_str(alloc, "text"),
+        NotImage::Named(ending) => {
+            let mut word = String::from_str(alloc, "named-")?;
+            push(&mut word, ending_name(ending))?;
+            Ok(word)
+        }
+    }
+}
+
+/// The line for a file of which no image is taken: `refused NotAnImage WORD`, with the word dfuse, zip, gzip, text, named-dfu, or named-
+/// and the name of a format.
+///
+/// # Errors
+///
+/// There is no memory for it.
+#[tactic(auto, unfolding(crate::specs::ImageLines::not_image_line))]
+pub fn not_image_line(alloc: Global, other: NotImage) -> Result<String, AllocError>
+    ensures { IfOk result (λ t. string_bytes t ≡ not_image_line other) }
+{
+    let mut line = String::from_str(alloc, "refused NotAnImage ")?;
+    push(&mut line, &not_image_word(alloc, other)?)?;
     push(&mut line, "\n")?;
     Ok(line)
 }

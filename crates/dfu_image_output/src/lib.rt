@@ -8,6 +8,6 @@ mod numbers;
 mod reasons;
 
 pub use asked::{FormatChoice, fill_in, format_in};
-pub use faults::refused_line;
+pub use faults::{not_image_line, refused_line};
 pub use lines::{format_name, image_line};
-pub use reasons::{looks_like, why};
+pub use reasons::{looks_like, why, why_not};

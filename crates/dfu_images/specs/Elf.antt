@@ -1,5 +1,5 @@
 -- How an ELF file of 32 bits, little endian, is read, segment by segment, with the fault of each. Segments are counted from 0.
-use Rattle.std.specs.Prelude.{ℕ, ◌+◌, ◌*◌, ◌^◌, ◌==◌, ◌&&◌, not, nat_lt, Bool, if◌then◌else◌, List, length, take, drop, slice_index, Result, Ok, Err}
+use Rattle.std.specs.Prelude.{ℕ, ◌+◌, ◌*◌, ◌^◌, ◌==◌, ◌&&◌, ◌||◌, not, nat_lt, Bool, if◌then◌else◌, List, length, take, drop, slice_index, Result, Ok, Err}
 use Rattle.dfu_images.specs.declared.fault.ImageFault.{ImageFault}
 use Rattle.dfu_images.specs.declared.fault.ImageFault.TheVariants.{NotElf, CutHeader, CutSegment, PastTheEnd}
 use Rattle.dfu_images.specs.Numbers.{le16, le32}
@@ -11,10 +11,10 @@ is_elf file =
     not (nat_lt (length file) 52) && ((le32 file 0 == 0x464C457F)
     && ((slice_index file 4 == 1) && ((slice_index file 5 == 1) && (slice_index file 6 == 1))))
 
--- What a segment has in the file goes to its physical address. A segment that isn't to be loaded says nothing.
+-- What a segment has in the file goes to its physical address. A segment that isn't to be loaded, or has no bytes there, says nothing.
 unfoldable pub segment_read : (file : List ℕ) → (index : ℕ) → Gathering → (header : List ℕ) → Result Gathering ImageFault
 segment_read file index g header =
-    if not (le32 header 0 == 1) then Ok g
+    if not (le32 header 0 == 1) || (le32 header 16 == 0) then Ok g
     else if nat_lt (length file) (le32 header 4 + le32 header 16) then Err (CutSegment index)
     else if nat_lt (2 ^ 32) (le32 header 12 + le32 header 16) then Err (PastTheEnd index)
     else added index g (record { address = le32 header 12; bytes = take (le32 header 16) (drop (le32 header 4) file) })

@@ -1,5 +1,5 @@
 -- How a file of Intel HEX is read, line by line, with the fault of each.
-use Rattle.std.specs.Prelude.{ℕ, ◌+◌, ◌*◌, ◌%◌, ◌^◌, ◌==◌, ◌||◌, not, nat_lt, true, if◌then◌else◌, List, [], ◌∷◌, length, take, drop, slice_index, sum, Result, Ok, Err}
+use Rattle.std.specs.Prelude.{ℕ, ◌+◌, ◌*◌, ◌%◌, ◌^◌, ◌==◌, ◌&&◌, ◌||◌, Bool, not, nat_lt, true, if◌then◌else◌, List, [], ◌∷◌, length, take, drop, slice_index, sum, Result, Ok, Err}
 use Rattle.dfu_images.specs.declared.fault.ImageFault.{ImageFault}
 use Rattle.dfu_images.specs.declared.fault.ImageFault.TheVariants.{NoMark, BadLength, BadChecksum, BadType, PastSegment}
 use Rattle.dfu_images.specs.Reading.{◌>>=◌}
@@ -29,16 +29,23 @@ hex_framed at bytes =
       content = take (slice_index bytes 0) (drop 4 bytes);
     })
 
--- Data at an offset from the base, which ends by the last address of 32 bits.
+-- The data of a record goes past the end of its segment of 65,536 bytes. A base that is no segment has no end.
+abbrev pub leaves_segment : State → HexRecord → Bool
+leaves_segment s r = s.is_segment && nat_lt 65536 (r.offset + length r.content)
+
+-- Data at an offset from the base, which ends by the end of its segment, if it has one, and by the last address of 32 bits.
 unfoldable pub hex_data_at : (at : ℕ) → State → HexRecord → Result State ImageFault
 hex_data_at at s r =
-    if nat_lt (2 ^ 32) (s.base + r.offset + length r.content) then Err (PastSegment at)
+    if leaves_segment s r || nat_lt (2 ^ 32) (s.base + r.offset + length r.content) then Err (PastSegment at)
     else added at s.gathering (record { address = s.base + r.offset; bytes = r.content }) >>= λ g. Ok (record s { gathering = g })
 
--- A new base: two bytes, in units of so many addresses.
+-- A new base: two bytes, in units of so many addresses. In units of 16 it is a segment.
 unfoldable pub based : (at unit : ℕ) → State → HexRecord → Result State ImageFault
 based at unit s r =
-    if length r.content == 2 then Ok (record s { base = unit * (256 * slice_index r.content 0 + slice_index r.content 1) })
+    if length r.content == 2 then Ok (record s {
+      base = unit * (256 * slice_index r.content 0 + slice_index r.content 1);
+      is_segment = unit == 16;
+    })
     else Err (BadLength at)
 
 -- What a record says: 0 data, 1 the end, 2 a segment in paragraphs of 16, 4 the upper half of addresses, 3 and 5 where a program begins.

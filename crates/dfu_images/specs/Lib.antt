@@ -2,11 +2,14 @@ pub mod Blocks
 pub mod Digits
 pub mod Elements
 pub mod Elf
-pub mod Formats
+pub mod Endings
 pub mod IntelHex
 pub mod Laying
 pub mod Lines
+pub mod Looks
 pub mod Making
 pub mod Numbers
+pub mod Places
 pub mod Reading
 pub mod SRecord
+pub mod Text

@@ -2,7 +2,9 @@
 use Rattle.std.specs.Prelude.{ℕ, ◌+◌, ◌-◌, ◌==◌, if◌then◌else◌, List, [], ◌∷◌, length, take, slice_index, Bool, false, Result, Ok, Err}
 use Rattle.dfu_images.specs.declared.fault.ImageFault.{ImageFault}
 use Rattle.dfu_images.specs.declared.fault.ImageFault.TheVariants.{Trailing, NoEnd}
+use Rattle.std.specs.List.{list_all}
 use Rattle.dfu_images.specs.Reading.{◌>>=◌}
+use Rattle.dfu_images.specs.Text.{is_blank_byte, unmarked}
 use Rattle.dfu_images.specs.Elements.{Piece, Gathering, nothing, gathered}
 
 -- A byte before the first line.
@@ -23,24 +25,25 @@ is_feed b = b == 10
 unfoldable pub bare : List ℕ → List ℕ
 bare line = if slice_index line (length line - 1) == 13 then take (length line - 1) line else line
 
--- What was read up to a line: the elements, what Intel HEX counts offsets from, how many S-records of data there were, whether the text
--- may end here, and whether it ended.
+-- What was read up to a line: the elements, what Intel HEX counts offsets from, whether that is a segment of 65,536 bytes, how many
+-- S-records of data there were, whether the text may end here, and whether it ended.
 pub record State : Type 0 where
   pub gathering : Gathering
   pub base : ℕ
+  pub is_segment : Bool
   pub count : ℕ
   pub is_whole : Bool
   pub is_ended : Bool
 
 -- Before the first line.
 abbrev pub text_start : State
-text_start = record { gathering = nothing; base = 0; count = 0; is_whole = false; is_ended = false }
+text_start = record { gathering = nothing; base = 0; is_segment = false; count = 0; is_whole = false; is_ended = false }
 
--- A line: a record, or nothing. After the end there is nothing.
+-- A line: a record, or blanks alone, or nothing. After the end there is no record.
 unfoldable pub line_read : (record_read : ℕ → State → List ℕ → Result State ImageFault) → (at : ℕ) → State → List ℕ →
     Result State ImageFault
 line_read record_read at s line =
-    if length line == 0 then Ok s
+    if list_all is_blank_byte line then Ok s
     else if s.is_ended then Err (Trailing at)
     else record_read at s line
 
@@ -50,6 +53,6 @@ unfoldable pub lines_read : (read : ℕ → State → List ℕ → Result State 
 lines_read read at s [] = if s.is_whole then Ok s else Err NoEnd
 lines_read read at s (line ∷ more) = read at s (bare line) >>= λ t. lines_read read (at + 1) t more
 
--- The elements that a text has, or its first fault.
+-- The elements that a text has, behind its byte order mark, or its first fault.
 abbrev pub elements_by_line : (record_read : ℕ → State → List ℕ → Result State ImageFault) → List ℕ → Result (List Piece) ImageFault
-elements_by_line record_read text = lines_read (line_read record_read) 1 text_start (lines text) >>= λ s. gathered s.gathering
+elements_by_line record_read text = lines_read (line_read record_read) 1 text_start (lines (unmarked text)) >>= λ s. gathered s.gathering

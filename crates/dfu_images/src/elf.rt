@@ -40,12 +40,12 @@ impl ByPart for Segments<'_> {
         gathering: Gathering,
         header: &[u8],
     ) -> Result<Gathering, ImageFault> {
-        if le32(header, 0) != 1 {
+        let count = le32(header, 16) as usize;
+        if le32(header, 0) != 1 || count == 0 {
             return Ok(gathering);
         }
         let from = le32(header, 4) as usize;
         let address = le32(header, 12) as u64;
-        let count = le32(header, 16) as usize;
         if from + count > self.file.len() {
             return Err(ImageFault::CutSegment(index));
         }

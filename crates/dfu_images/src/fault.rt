@@ -26,10 +26,10 @@ pub enum ImageFault {
     /// A count of records isn't the number of data records before it.
     #[error("line {0}: the count of records is wrong")]
     BadCount(usize),
-    /// The data goes past address FFFFFFFFh.
-    #[error("line {0}: the data ends behind the last address")]
+    /// The data goes past the end of its segment, or past address FFFFFFFFh.
+    #[error("line {0}: the data ends behind its segment, or behind the last address")]
     PastSegment(usize),
-    /// Something other than empty lines follows the end record.
+    /// Something other than blank lines follows the end record.
     #[error("line {0}: something stands behind the end record")]
     Trailing(usize),
     /// There is no end record, nor a count of S-records after the last data.

@@ -1,13 +1,14 @@
 //! Intel HEX, records 00 to 05.
 //!
-//! A line ends with a line feed, or a carriage return and a line feed, and the last one needs neither; empty lines are passed over.
-//! Digits have either case. There is one end record, and only empty lines follow it. The data of a record may go on past the 65,536
-//! bytes of its base, as some tools write it. The address at which a program begins says nothing of the image.
+//! A line ends with a line feed, or a carriage return and a line feed, and the last one needs neither. A byte order mark and blank lines
+//! are passed over. Digits have either case. There is one end record, and only blank lines follow it. The data of a record may go on past
+//! the 65,536 bytes of a linear base (type 04, or none), but not past those of a segment (type 02). The address at which a program begins
+//! says nothing of the image.
 
 ghost use Rattle.std.specs.Prelude.{◌≡◌, ◌+◌, ◌≤◌, ◌<◌, ◌^◌, length, IfOk, MatchResult, Ok, Err};
 ghost use Rattle.dfu_images.specs.Reading.{Gives, FailsToRead};
 ghost use Rattle.dfu_images.specs.Elements.{AreApart, Lists};
-ghost use Rattle.dfu_images.specs.IntelHex.{hex_spelled, hex_framed, hex_data_at, based, hex_record_read, hex_elements_of};
+ghost use Rattle.dfu_images.specs.IntelHex.{hex_spelled, hex_framed, hex_data_at, leaves_segment, based, hex_record_read, hex_elements_of};
 
 use crate::digits::{bytes_at, sum_of};
 use crate::element::Element;
@@ -71,6 +72,14 @@ fn framed(at: usize, bytes: &[u8]) -> Result<Record<'_>, ImageFault>
     })
 }
 
+/// Whether the data of a record goes past the end of its segment, if it has one.
+fn leaves_segment(state: &State, said: &Record<'_>) -> bool
+    requires { said.now.offset < 65536 }
+    ensures { result ≡ leaves_segment state.now said.now }
+{
+    state.is_segment && said.offset as usize + said.content.len() > 65_536
+}
+
 /// Data at an offset from the base.
 #[tactic(auto, using(std::proofs::lemmas::Bool::Decides::nat_tests), unfolding(crate::specs::IntelHex::hex_data_at))]
 fn data_at(alloc: Global, at: usize, state: State, said: &Record<'_>) -> Result<State, ImageFault>
@@ -79,7 +88,7 @@ fn data_at(alloc: Global, at: usize, state: State, said: &Record<'_>) -> Result<
     ensures counted { IfOk result (λ s. s.count ≡ state.count) }
 {
     let address = state.base + said.offset as u64;
-    if address + said.content.len() as u64 > 0x1_0000_0000 {
+    if leaves_segment(&state, said) || address + said.content.len() as u64 > 0x1_0000_0000 {
         return Err(ImageFault::PastSegment(at));
     }
     match state.gathering.add(alloc, at, address, said.content) {
@@ -98,6 +107,7 @@ fn based(at: usize, unit: u64, state: State, said: &Record<'_>) -> Result<State,
     match said.content {
         [high, low] => Ok(State {
             base: unit * (256 * *high as u64 + *low as u64),
+            is_segment: unit == 16,
             ..state
         }),
         _ => Err(ImageFault::BadLength(at)),

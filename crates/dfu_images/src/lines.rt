@@ -1,15 +1,17 @@
 //! The lines of a text, and formats that are read line by line.
 
 ghost use Rattle.std.specs.Prelude.{◌≡◌, ◌+◌, ◌≤◌, ◌<◌, ℕ, List, Result, [], ◌∷◌, length, IfOk, IfSome, MatchOption};
-ghost use Rattle.std.specs.List.{position};
+ghost use Rattle.std.specs.List.{list_all, position};
 ghost use Rattle.dfu_images.specs.declared.fault.ImageFault as declared;
 ghost use Rattle.dfu_images.specs.Reading.{Gives, FailsToRead};
 ghost use Rattle.dfu_images.specs.Elements.{AreApart, Lists};
+ghost use Rattle.dfu_images.specs.Text.{is_blank_byte};
 ghost use Rattle.dfu_images.specs.Lines.{lines, is_feed, bare, text_start, line_read, lines_read, elements_by_line};
 
 use crate::element::Element;
 use crate::fault::ImageFault;
 use crate::gathering::Gathering;
+use crate::text::{is_blank_byte, unmarked};
 use std::alloc::Global;
 use std::marker::Model;
 
@@ -52,12 +54,13 @@ fn bare(line: &[u8]) -> &[u8]
     line
 }
 
-/// What was read of a text up to a line: the elements, what Intel HEX counts offsets from, how many S-records of data there were,
-/// whether the text may end here, and whether only empty lines may follow.
+/// What was read of a text up to a line: the elements, what Intel HEX counts offsets from, whether that is a segment of 65,536 bytes,
+/// how many S-records of data there were, whether the text may end here, and whether only blank lines may follow.
 #[derive(Drop)]
 pub(crate) struct State {
     pub gathering: Gathering,
     pub base: u64,
+    pub is_segment: bool,
     pub count: usize,
     pub is_whole: bool,
     pub is_ended: bool,
@@ -69,7 +72,14 @@ impl Model for State {
 
     ghost Value = { lines.State };
 
-    ghost view = { λ s. record { gathering = s.gathering; base = s.base; count = s.count; is_whole = s.is_whole; is_ended = s.is_ended } };
+    ghost view = { λ s. record {
+      gathering = s.gathering;
+      base = s.base;
+      is_segment = s.is_segment;
+      count = s.count;
+      is_whole = s.is_whole;
+      is_ended = s.is_ended;
+    } };
 
     ghost invariant = { λ s. s.base ≤ 4294901760 };
 }
@@ -87,7 +97,14 @@ pub(crate) trait TextFormat {
         ensures counted { IfOk result (λ s. s.count ≤ state.count + 1) };
 }
 
-/// A line: a record, or nothing.
+/// Whether a line has nothing but blanks.
+fn is_blank_line(line: &[u8]) -> bool
+    ensures { result ≡ list_all is_blank_byte line.now }
+{
+    line.iter().all(|byte| is_blank_byte(*byte))
+}
+
+/// A line: a record, or blanks alone, or nothing.
 #[tactic(auto, using(std::proofs::lemmas::Bool::Decides::nat_tests), unfolding(crate::specs::Lines::line_read))]
 fn line_read<F: TextFormat>(
     alloc: Global,
@@ -99,7 +116,7 @@ fn line_read<F: TextFormat>(
     ensures value { Gives result (line_read F.step at state line.now) }
     ensures counted { IfOk result (λ s. s.count ≤ state.count + 1) }
 {
-    if line.len() == 0 {
+    if is_blank_line(line) {
         return Ok(state);
     }
     if state.is_ended {
@@ -115,6 +132,7 @@ fn lines_read<F: TextFormat>(alloc: Global, text: &[u8]) -> Result<State, ImageF
     let mut state = State {
         gathering: Gathering::new(alloc),
         base: 0,
+        is_segment: false,
         count: 0,
         is_whole: false,
         is_ended: false,
@@ -136,7 +154,7 @@ fn lines_read<F: TextFormat>(alloc: Global, text: &[u8]) -> Result<State, ImageF
     }
 }
 
-/// The elements of a text.
+/// The elements of a text, behind its byte order mark.
 pub(crate) fn elements_by_line<F: TextFormat>(
     alloc: Global,
     text: &[u8],
@@ -146,7 +164,7 @@ pub(crate) fn elements_by_line<F: TextFormat>(
     // The elements are by address, and no two share one.
     ensures apart { IfOk result (λ v. AreApart 0 v.items) }
 {
-    match lines_read::<F>(alloc, text) {
+    match lines_read::<F>(alloc, unmarked(text)) {
         Ok(state) => state.gathering.finish(),
         Err(fault) => Err(fault),
     }

@@ -4,6 +4,7 @@ mod acting;
 mod adding;
 mod commands;
 mod host;
+mod looking;
 mod machine;
 mod making;
 mod opened;

@@ -3,6 +3,7 @@
 mod elf;
 mod ihex;
 mod laying;
+mod looks;
 mod making;
 mod srec;
 mod uf2;

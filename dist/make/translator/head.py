@@ -16,7 +16,7 @@ WHAT_IT_IS = """/* SPDX-License-Identifier: MIT OR Apache-2.0
 WHAT = {
     "dfu_core.h": "a device of USB DFU 1.1.",
     "dfu_host.h": "the host of USB DFU 1.1.",
-    "dfuse_watch.h": "the hosts of USB DFU 1.1 (dfu_host.h) and of DfuSe (dfuse_host.h), DfuSe files (dfuse_file.h), and\n * when a device is given up (dfu_watch.h and this one).",
+    "dfuse_watch.h": "the hosts of USB DFU 1.1 (dfu_host.h) and of DfuSe (dfuse_host.h), DfuSe files (dfuse_file.h),\n * what a file is (dfu_image.h), and when a device is given up (dfu_watch.h and this one).",
     "dfu_install_core.h": "a run area, to which images are linked.",
     "dfu_trial_core.h": "images on trial.",
 }

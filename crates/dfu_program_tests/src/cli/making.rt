@@ -36,10 +36,13 @@ fn adds_the_image(rt: HostRuntime) -> Result<(), Fail> {
     adds(&rt, rt.alloc(), DIGITS_HEX, "ihex", printed)
 }
 
-// A raw image is taken unchanged.
+// A raw image is taken unchanged, and with `raw` so is text.
 #[test]
 fn adds_what_looks_like_none(rt: HostRuntime) -> Result<(), Fail> {
-    adds(&rt, rt.alloc(), b"123456789", "auto", "wrote 25\n")?;
+    let machine = machine_with(rt.alloc(), &[0xff; 4], "")?;
+    ends(&rt, &machine, "dfu add a b --format auto", 0)?;
+    prints(&rt, &machine, "wrote 20\n")?;
+    holds(&rt, &machine, "a;b;", "b", &FOUR_ONES)?;
     adds(&rt, rt.alloc(), b"123456789", "raw", "wrote 25\n")
 }
 

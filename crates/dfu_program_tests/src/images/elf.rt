@@ -36,13 +36,14 @@ fn file_of(alloc: Global, first: &Fields, second: &Fields) -> Result<Vec<u8>, Fa
 
 /// Two program headers, and what is read of the file.
 #[rattlefmt::skip]
-static ROWS: [(Fields, Fields, &'static str); 10] = [
+static ROWS: [(Fields, Fields, &'static str); 11] = [
     ([1, 116, 0x0800_0000, 2], [1, 118, 0x0800_0002, 2], " 08000000:A0A1A2A3"),
     ([1, 116, 0x0800_0000, 2], [1, 116, 0x0800_0003, 1], " 08000000:A0A1 08000003:A0"),
     ([1, 118, 0x0800_0010, 2], [1, 116, 0x0800_0000, 2], " 08000000:A0A1 08000010:A2A3"),
     // Only segments that are loaded and have bytes.
     ([6, 52, 0, 64], [1, 116, 0x0800_0000, 4], " 08000000:A0A1A2A3"),
     ([1, 116, 0x0800_0000, 1], [1, 120, 0x2000_0000, 0], " 08000000:A0"),
+    ([1, 116, 0x0800_0000, 1], [1, 0x20000, 0x2000_0000, 0], " 08000000:A0"),
     ([1, 119, 0xffff_ffff, 1], [0, 0, 0, 0], " FFFFFFFF:A3"),
     ([1, 116, 0, 1], [1, 117, 0x0800_0000, 4], "segment 1: it is cut off"),
     ([1, 0xffff_ffff, 0, 0xffff_ffff], [0, 0, 0, 0], "segment 0: it is cut off"),

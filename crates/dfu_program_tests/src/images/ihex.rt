@@ -1,7 +1,7 @@
 //! Intel HEX.
 
 /// Texts, and what is read of them. The checksum of a record makes the sum of its bytes 0: :01 0000 00 AA 55 is 01 + AA + 55 = 100h.
-pub(crate) static ROWS: [(&'static str, &'static str); 45] = [
+pub(crate) static ROWS: [(&'static str, &'static str); 54] = [
     (":00000001FF\n", ""),
     (":00000001FF", ""),
     (":00000001ff\r\n\r\n\n", ""),
@@ -53,6 +53,36 @@ pub(crate) static ROWS: [(&'static str, &'static str); 45] = [
         " 0000FFFF:AABB",
     ),
     (":02FFFF00AABB9B\n:00000001FF", " 0000FFFF:AABB"),
+    (
+        ":020000040800F2\n:02FFFF00AABB9B\n:00000001FF",
+        " 0800FFFF:AABB",
+    ),
+    // A segment ends with its 65,536 bytes: 04 + FF + FE + 01 + 02 + 03 + 04 = 20B, so F5; 02 + FF + FE + 01 + 02 = 202, so FE.
+    (
+        ":020000021000EC\n:04FFFE0001020304F5\n:00000001FF",
+        "line 2: the data ends behind its segment, or behind the last address",
+    ),
+    (
+        ":020000021000EC\n:02FFFE000102FE\n:00000001FF",
+        " 0001FFFE:0102",
+    ),
+    (
+        ":020000020000FC\n:02FFFF00AABB9B\n:00000001FF",
+        "line 2: the data ends behind its segment, or behind the last address",
+    ),
+    // The upper half of addresses takes its place, and ends it.
+    (
+        ":020000021000EC\n:020000040001F9\n:02FFFF00AABB9B\n:00000001FF",
+        " 0001FFFF:AABB",
+    ),
+    // A byte order mark at the front, and lines of blanks.
+    ("\u{feff}:01000000AA55\n:00000001FF", " 00000000:AA"),
+    ("\u{feff}\u{feff}:00000001FF", "line 1: no record begins so"),
+    (
+        ":00000001FF\n\u{feff}",
+        "line 2: something stands behind the end record",
+    ),
+    (" \t\r\n:01000000AA55\n \n:00000001FF\n\t", " 00000000:AA"),
     ("", "the end record is missing"),
     (":01000000AA55\n", "the end record is missing"),
     ("x", "line 1: no record begins so"),
@@ -91,14 +121,14 @@ pub(crate) static ROWS: [(&'static str, &'static str); 45] = [
     (":00000006FA", "line 1: the record has an unknown type"),
     (
         ":02000004FFFFFC\n:02FFFF00AABB9B",
-        "line 2: the data ends behind the last address",
+        "line 2: the data ends behind its segment, or behind the last address",
     ),
     (
         ":00000001FF\n:00000001FF",
         "line 2: something stands behind the end record",
     ),
     (
-        ":00000001FF\n\n ",
+        ":00000001FF\n\n x",
         "line 3: something stands behind the end record",
     ),
     (

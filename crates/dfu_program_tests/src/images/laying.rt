@@ -1,6 +1,6 @@
-//! Images of elements with gaps, and formats by first bytes.
+//! Images of elements with gaps.
 
-use dfu_images::{Format, LayFault, format_of, ihex, lay, lowest};
+use dfu_images::{LayFault, ihex, lay, lowest};
 use std::test::Fail;
 
 /// Two bytes at 0, and one at 3.
@@ -49,24 +49,4 @@ fn nothing(rt: HostRuntime) -> Result<(), Fail> {
     assert_eq!(rt; lowest(&elements), 0);
     assert_eq!(rt; lay(rt.alloc(), &elements, None)?.len(), 0);
     Ok(())
-}
-
-/// First bytes, and the format that they show.
-static FRONTS: [(&'static str, Option<Format>); 9] = [
-    (":020000040800F2", Some(Format::IntelHex)),
-    ("S00600004844521B", Some(Format::SRecord)),
-    ("S9..", Some(Format::SRecord)),
-    ("UF2\nWQ", Some(Format::Uf2)),
-    ("\x7fELF\x02", Some(Format::Elf)),
-    ("SA06", None),
-    ("UF2 ", None),
-    ("\x7fELf", None),
-    (":00", None),
-];
-
-#[test]
-fn first_bytes(rt: HostRuntime) {
-    for (text, format) in &FRONTS {
-        assert_eq!(rt; format_of(text.as_bytes()), *format, "{text}");
-    }
 }

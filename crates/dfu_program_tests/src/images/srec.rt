@@ -1,11 +1,12 @@
 //! S-records.
 
 /// Texts, and what is read of them. The checksum of a record makes the sum of its bytes FFh: S1 04 0000 AA 51 is 04 + AA + 51 = FFh.
-pub(crate) static ROWS: [(&'static str, &'static str); 42] = [
+pub(crate) static ROWS: [(&'static str, &'static str); 43] = [
     ("S9030000FC\n", ""),
     ("S9030000fc", ""),
     ("\r\nS9030000FC\r\n\r\n\n", ""),
     ("S70508000000F2\n", ""),
+    ("\u{feff} \nS9030000FC\n\t\r\n", ""),
     ("S804010000FA\n", ""),
     ("S1040000AA51\nS9030000FC\n", " 00000000:AA"),
     (
@@ -76,7 +77,7 @@ pub(crate) static ROWS: [(&'static str, &'static str); 42] = [
     ("S105FFFFAABB97\nS9030000FC", " 0000FFFF:AABB"),
     (
         "S307FFFFFFFFAABB97\n",
-        "line 1: the data ends behind the last address",
+        "line 1: the data ends behind its segment, or behind the last address",
     ),
     (
         "S9030000FC\nS9030000FC\n",

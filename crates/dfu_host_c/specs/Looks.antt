@@ -1,0 +1,54 @@
+-- What a file without a DFU suffix is, as a record for C.
+use Rattle.std.specs.Prelude.{ℕ, Option, Some, None}
+use Rattle.dfu_images.specs.declared.format.Format.{Format}
+use Rattle.dfu_images.specs.declared.format.Format.TheVariants.{IntelHex, SRecord, Uf2, Elf}
+use Rattle.dfu_images.specs.declared.endings.Ending.{Ending}
+use Rattle.dfu_images.specs.declared.endings.Ending.TheVariants as ending
+use Rattle.dfu_images.specs.declared.places.Place.{Place}
+use Rattle.dfu_images.specs.declared.looks.NotImage.TheVariants.{DfuSe, Zip, Gzip, Text, Named}
+use Rattle.dfu_images.specs.declared.looks.Looks.{Looks}
+use Rattle.dfu_images.specs.declared.looks.Looks.TheVariants as looks
+use Rattle.dfu_images.specs.declared.looks.Look.{Look}
+use Rattle.dfu_host_c.specs.declared.looks.DfuLook.{DfuLook}
+
+-- The number of a format, 1 to 4.
+abbrev pub image_format_number : Format → ℕ
+image_format_number IntelHex = 1
+image_format_number SRecord = 2
+image_format_number Uf2 = 3
+image_format_number Elf = 4
+
+-- The number of what a file is, 0 to 9. That of a format is the format's.
+abbrev pub looks_number : Looks → ℕ
+looks_number looks.Raw = 0
+looks_number (looks.Of format) = image_format_number format
+looks_number (looks.Other DfuSe) = 5
+looks_number (looks.Other Zip) = 6
+looks_number (looks.Other Gzip) = 7
+looks_number (looks.Other Text) = 8
+looks_number (looks.Other (Named ending)) = 9
+
+-- The number of what a name says, 0 to 5. That of a format is the format's.
+abbrev pub ending_number : Option Ending → ℕ
+ending_number None = 0
+ending_number (Some (ending.Of format)) = image_format_number format
+ending_number (Some ending.Dfu) = 5
+
+-- The line of a place, or 0 without one.
+abbrev pub line_number : Option Place → ℕ
+line_number None = 0
+line_number (Some place) = place.line
+
+-- The column of a place, or 0 without one.
+abbrev pub column_number : Option Place → ℕ
+column_number None = 0
+column_number (Some place) = place.column
+
+-- The record of a look at a file.
+abbrev pub record_of_look : Look → DfuLook
+record_of_look look = record {
+  looks = looks_number look.looks;
+  named = ending_number look.ending;
+  line = line_number look.bad;
+  column = column_number look.bad;
+}

@@ -1,0 +1,85 @@
+//! What a file without a DFU suffix is, as a record for C: `include/dfu_image.h` describes this call.
+
+ghost use Rattle.std.specs.Prelude.{◌≡◌};
+ghost use Rattle.dfu_images.specs.Looks.{look_of};
+ghost use Rattle.dfu_host_c.specs.Looks.{ending_number, image_format_number, looks_number, record_of_look};
+
+use dfu_images::{Ending, Format, Look, Looks, NotImage, look_at};
+
+/// `struct dfu_look`: what a look at a file finds. The header says what each number means.
+#[repr(C)]
+#[derive(Drop)]
+pub struct DfuLook {
+    /// What the file is, 0 to 9.
+    pub looks: u32,
+    /// What the ending of its name says, 0 to 5.
+    pub named: u32,
+    /// The line of the first byte that no record has there, from 1; 0 if there is none.
+    pub line: u64,
+    /// Its place in the line, from 1; 0 if there is none.
+    pub column: u64,
+}
+
+/// The number of a format, 1 to 4.
+fn image_format_number(format: Format) -> u32
+    ensures { result ≡ image_format_number format }
+{
+    u32::from(match format {
+        Format::IntelHex => 1u8,
+        Format::SRecord => 2,
+        Format::Uf2 => 3,
+        Format::Elf => 4,
+    })
+}
+
+/// The number of what a file is.
+fn looks_number(looks: Looks) -> u32
+    ensures { result ≡ looks_number looks }
+{
+    match looks {
+        Looks::Raw => 0,
+        Looks::Of(format) => image_format_number(format),
+        Looks::Other(NotImage::DfuSe) => 5,
+        Looks::Other(NotImage::Zip) => 6,
+        Looks::Other(NotImage::Gzip) => 7,
+        Looks::Other(NotImage::Text) => 8,
+        Looks::Other(NotImage::Named(_)) => 9,
+    }
+}
+
+/// The number of what a name says.
+fn ending_number(ending: Option<Ending>) -> u32
+    ensures { result ≡ ending_number ending }
+{
+    match ending {
+        None => 0,
+        Some(Ending::Of(format)) => image_format_number(format),
+        Some(Ending::Dfu) => 5,
+    }
+}
+
+/// The record of a look.
+fn record_of_look(look: Look) -> DfuLook
+    ensures { result ≡ record_of_look look }
+{
+    let (line, column) = match look.bad {
+        Some(place) => (place.line, place.column),
+        None => (0, 0),
+    };
+    DfuLook {
+        looks: looks_number(look.looks),
+        named: ending_number(look.ending),
+        line,
+        column,
+    }
+}
+
+/// Looks at a file with a name, and gives the number of what it is.
+#[unsafe(no_mangle)]
+pub extern "C" fn dfu_image_look(file: &[u8], name: &[u8], look: &mut DfuLook) -> u32
+    ensures number { result ≡ looks_number (look_of file.now name.now).looks }
+    ensures record { look.new ≡ record_of_look (look_of file.now name.now) }
+{
+    *look = record_of_look(look_at(file, name));
+    look.looks
+}

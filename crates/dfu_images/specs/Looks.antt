@@ -1,0 +1,64 @@
+-- What a file without a DFU suffix is, by its bytes and its name.
+use Rattle.std.specs.Prelude.{ℕ, ◌==◌, ◌&&◌, ◌||◌, nat_le, nat_lt, nat_eq, Bool, false, if◌then◌else◌, List, [], ◌∷◌, codes, Option, Some, None}
+use Rattle.std.specs.List.{starts_with}
+use Rattle.dfu_images.specs.Digits.{hex_value}
+use Rattle.dfu_images.specs.Text.{unmarked, unblanked, is_text}
+use Rattle.dfu_images.specs.Endings.{name_ending}
+use Rattle.dfu_images.specs.Places.{bad_place}
+use Rattle.dfu_images.specs.declared.format.Format.TheVariants.{IntelHex, SRecord, Uf2, Elf}
+use Rattle.dfu_images.specs.declared.endings.Ending.{Ending}
+use Rattle.dfu_images.specs.declared.looks.NotImage.TheVariants.{DfuSe, Zip, Gzip, Text, Named}
+use Rattle.dfu_images.specs.declared.places.Place.{Place}
+use Rattle.dfu_images.specs.declared.looks.Looks.{Looks}
+use Rattle.dfu_images.specs.declared.looks.Looks.TheVariants as looks
+use Rattle.dfu_images.specs.declared.looks.Look.{Look}
+
+-- The file begins with these bytes.
+abbrev pub begins : (front file : List ℕ) → Bool
+begins front file = starts_with nat_eq file front
+
+-- The first two bytes are hexadecimal digits.
+abbrev pub has_digits : List ℕ → Bool
+has_digits (a ∷ b ∷ bs) = nat_lt (hex_value a) 16 && nat_lt (hex_value b) 16
+has_digits bs = false
+
+-- The text of this file begins as Intel HEX: `:`, and two digits; or anything behind it, if the file is text alone.
+abbrev pub begins_ihex : (file text : List ℕ) → Bool
+begins_ihex file (a ∷ bs) = (a == 58) && (has_digits bs || is_text file)
+begins_ihex file [] = false
+
+-- The text begins as an S-record: `S`, its type, and two digits.
+abbrev pub begins_srec : List ℕ → Bool
+begins_srec (a ∷ b ∷ bs) = (a == 83) && ((nat_le 48 b && nat_le b 57) && has_digits bs)
+begins_srec bs = false
+
+-- What a file is if its bytes say nothing: what its name says, or else a raw image.
+abbrev pub looks_by_name : Option Ending → Looks
+looks_by_name None = looks.Raw
+looks_by_name (Some ending) = looks.Other (Named ending)
+
+-- What a file is: the first of these that holds, and else what its name says.
+abbrev pub looks_of : (file : List ℕ) → (ending : Option Ending) → Looks
+looks_of file ending =
+    if begins (codes "DfuSe") file then looks.Other DfuSe
+    else if begins_ihex file (unblanked (unmarked file)) then looks.Of IntelHex
+    else if begins_srec (unblanked (unmarked file)) then looks.Of SRecord
+    else if begins (85 ∷ 70 ∷ 50 ∷ 10 ∷ []) file then looks.Of Uf2
+    else if begins (127 ∷ 69 ∷ 76 ∷ 70 ∷ []) file then looks.Of Elf
+    else if begins (80 ∷ 75 ∷ 3 ∷ 4 ∷ []) file then looks.Other Zip
+    else if begins (31 ∷ 139 ∷ []) file then looks.Other Gzip
+    else if is_text file then looks.Other Text
+    else looks_by_name ending
+
+-- The first byte that no record has there, of a file that looks like one of a format of text.
+abbrev pub bad_of : Looks → (file : List ℕ) → Option Place
+bad_of (looks.Of format) file = bad_place format file
+bad_of other file = None
+
+-- A look at a file: what it is, what its name says, and its first byte that no record has there.
+abbrev pub look_of : (file name : List ℕ) → Look
+look_of file name = record {
+  looks = looks_of file (name_ending name);
+  ending = name_ending name;
+  bad = bad_of (looks_of file (name_ending name)) file;
+}

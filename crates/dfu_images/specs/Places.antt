@@ -1,0 +1,34 @@
+-- The first byte of a text of records that no record has there.
+use Rattle.std.specs.Prelude.{ℕ, ◌+◌, ◌==◌, nat_lt, if◌then◌else◌, List, [], ◌∷◌, Option, Some, None}
+use Rattle.dfu_images.specs.Digits.{hex_value}
+use Rattle.dfu_images.specs.Text.{is_blank_byte, unmarked}
+use Rattle.dfu_images.specs.declared.format.Format.{Format}
+use Rattle.dfu_images.specs.declared.format.Format.TheVariants.{IntelHex, SRecord, Uf2, Elf}
+use Rattle.dfu_images.specs.declared.places.Part.{Part}
+use Rattle.dfu_images.specs.declared.places.Part.TheVariants.{Front, Digits, Back}
+use Rattle.dfu_images.specs.declared.places.Place.{Place}
+
+-- The part of a line that a byte leads to, if a record has such a byte there. A line is blanks, the mark, digits, and blanks.
+abbrev pub led_to : (mark : ℕ) → Part → ℕ → Option Part
+led_to mark Front b = if is_blank_byte b then Some Front else if b == mark then Some Digits else None
+led_to mark Digits b = if nat_lt (hex_value b) 16 then Some Digits else if is_blank_byte b then Some Back else None
+led_to mark Back b = if is_blank_byte b then Some Back else None
+
+-- A byte that no record has there is the answer; behind any other the search goes on, in the part that it leads to.
+abbrev pub found_or : Place → (part : Option Part) → (more : Part → Option Place) → Option Place
+found_or place None more = Some place
+found_or place (Some part) more = more part
+
+-- The first byte that no record has there, in bytes of which the first stands at this line and column. A line feed ends a line.
+unfoldable pub bad_from : (mark : ℕ) → Part → (line column : ℕ) → List ℕ → Option Place
+bad_from mark part line column [] = None
+bad_from mark part line column (b ∷ bs) =
+    if b == 10 then bad_from mark Front (line + 1) 1 bs
+    else found_or (record { line = line; column = column }) (led_to mark part b) (λ next. bad_from mark next line (column + 1) bs)
+
+-- The first byte that no record has there, in a file of a format of text. Lines and columns count from 1, behind a byte order mark.
+abbrev pub bad_place : Format → List ℕ → Option Place
+bad_place IntelHex file = bad_from 58 Front 1 1 (unmarked file)
+bad_place SRecord file = bad_from 83 Front 1 1 (unmarked file)
+bad_place Uf2 file = None
+bad_place Elf file = None

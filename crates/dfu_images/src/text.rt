@@ -1,0 +1,125 @@
+//! The text of a file: its byte order mark, its blanks, and whether it is text alone.
+
+ghost use Rattle.std.specs.Prelude.{◌≡◌};
+ghost use Rattle.dfu_images.specs.Text.{awaited_behind, awaited_behind_first, is_blank_byte, is_text_byte, is_text, nothing_awaited, text_from, unblanked, unmarked};
+
+/// A text without the byte order mark of UTF-8 at its front, if it has one.
+pub(crate) fn unmarked(text: &[u8]) -> &[u8]
+    ensures { result.now ≡ unmarked text.now }
+{
+    match text {
+        [0xef, 0xbb, 0xbf, rest @ ..] => rest,
+        _ => text,
+    }
+}
+
+/// Whether a byte is a space, a tab or a carriage return.
+pub(crate) fn is_blank_byte(byte: u8) -> bool
+    ensures { result ≡ is_blank_byte byte }
+{
+    byte == b' ' || byte == b'\t' || byte == b'\r'
+}
+
+/// A text without the blanks and line feeds at its front.
+#[tactic(auto, using(std::proofs::lemmas::Bool::Decides::nat_tests), unfolding(crate::specs::Text::unblanked))]
+pub(crate) fn unblanked(text: &[u8]) -> &[u8]
+    ensures { result.now ≡ unblanked text.now }
+{
+    let mut rest = text;
+    while let [first, more @ ..] = rest {
+        if !(is_blank_byte(*first) || *first == b'\n') {
+            return rest;
+        }
+        rest = more;
+    }
+    rest
+}
+
+/// Whether a byte is no control character but a tab, line feed, form feed or carriage return.
+#[tactic(auto, using(std::proofs::lemmas::Bool::Decides::nat_tests))]
+fn is_text_byte(byte: u8) -> bool
+    ensures { result ≡ is_text_byte byte }
+{
+    match byte {
+        b'\t' | b'\n' | 0x0c | b'\r' => true,
+        _ => byte >= b' ' && byte != 0x7f,
+    }
+}
+
+/// What is awaited of a character of UTF-8: how many bytes, and the bounds of the next one.
+#[derive(Clone, Copy)]
+struct Awaited {
+    left: u8,
+    low: u8,
+    high: u8,
+}
+
+/// No byte of a character.
+const NOTHING: Awaited = Awaited {
+    left: 0,
+    low: 0x80,
+    high: 0xbf,
+};
+
+/// What is awaited behind the first byte of a character.
+#[tactic(auto, using(std::proofs::lemmas::Bool::Decides::nat_tests))]
+fn awaited_behind_first(byte: u8) -> Option<Awaited>
+    ensures { result ≡ awaited_behind_first byte }
+{
+    let (left, low, high) = match byte {
+        0..=0x7f => return if is_text_byte(byte) {
+            Some(NOTHING)
+        } else {
+            None
+        },
+        0xc2..=0xdf => (1, 0x80, 0xbf),
+        0xe0 => (2, 0xa0, 0xbf),
+        0xed => (2, 0x80, 0x9f),
+        0xe1..=0xef => (2, 0x80, 0xbf),
+        0xf0 => (3, 0x90, 0xbf),
+        0xf1..=0xf3 => (3, 0x80, 0xbf),
+        0xf4 => (3, 0x80, 0x8f),
+        _ => return None,
+    };
+    Some(Awaited { left, low, high })
+}
+
+/// What is awaited behind a byte.
+#[tactic(auto, using(std::proofs::lemmas::Bool::Decides::nat_tests))]
+fn awaited_behind(awaited: Awaited, byte: u8) -> Option<Awaited>
+    ensures { result ≡ awaited_behind awaited byte }
+{
+    if awaited.left == 0 {
+        return awaited_behind_first(byte);
+    }
+    if awaited.low <= byte && byte <= awaited.high {
+        return Some(Awaited {
+            left: awaited.left - 1,
+            ..NOTHING
+        });
+    }
+    None
+}
+
+/// Whether bytes are characters of UTF-8, none of them another control character.
+#[tactic(auto, using(std::proofs::lemmas::Bool::Decides::nat_tests), unfolding(crate::specs::Text::text_from))]
+fn are_characters(bytes: &[u8]) -> bool
+    ensures { result ≡ text_from nothing_awaited bytes.now }
+{
+    let mut awaited = NOTHING;
+    for byte in bytes {
+        match awaited_behind(awaited, *byte) {
+            Some(next) => awaited = next,
+            None => return false,
+        }
+    }
+    awaited.left == 0
+}
+
+/// Whether a file is text alone: UTF-8, without other control characters.
+#[tactic(auto, using(std::proofs::lemmas::Bool::Decides::nat_tests))]
+pub(crate) fn is_text(file: &[u8]) -> bool
+    ensures { result ≡ is_text file.now }
+{
+    file.len() != 0 && are_characters(file)
+}
