@@ -85,13 +85,14 @@ static void send(struct function *function, const uint8_t setup[8], int32_t answ
         function_acknowledge(function);
 }
 
-/* The program of --check refuses the image that this setup closes. Then the machine is in dfuERROR. */
+/* The program of --check refuses the image that this setup closes. Then the machine is in dfuERROR. What can't be checked is not handed
+   in. */
 static bool is_refused(struct bus *bus, const uint8_t setup[8])
 {
     struct dfu_place place;
     uint8_t why;
     if (bus->check.program == NULL || !machine_closes(&bus->machine, setup, &place))
-        return false;
+        return bus->machine.refusal != 0;
     why = check_image(&bus->check, place.at, place.length);
     return why != 0 && machine_refuse_close(&bus->machine, setup, why);
 }
@@ -111,7 +112,8 @@ static bool decide(struct bus *bus, const uint8_t setup[8], uint8_t out[MOST_TRA
         if (!is_refused(bus, setup))
             break;
         *answer = DFU_STALL;
-        say_exchange(setup, body, 0, DFU_STALL, out);
+        if (bus->machine.refusal == 0)
+            say_exchange(setup, body, 0, DFU_STALL, out);
         return true;
     case PLAN_TAKE:
         if (function_take(&bus->functions[bus->mode], body, length) != (int)length)

@@ -140,8 +140,8 @@ int32_t machine_handle(struct machine *machine, const uint8_t setup[8], const ui
 /* A byte of the image is on the disk as soon as it was taken, since the medium's unit is a byte: none is held back in memory. */
 bool machine_closes(struct machine *machine, const uint8_t setup[8], struct dfu_place *place)
 {
-    return setup[0] == 0x21 && setup[1] == DFU_DNLOAD && setup[6] == 0 && setup[7] == 0 && machine_state(machine) == DFU_STATE_DNLOAD_IDLE
-           && dfu_device_candidate(&machine->device, place) == 0 && place->length >= machine->config.least;
+    return note(machine, dfu_device_closes(&machine->device, setup)) == 1
+           && note(machine, dfu_device_candidate(&machine->device, place)) == 0;
 }
 
 bool machine_refuse_close(struct machine *machine, const uint8_t setup[8], uint8_t why)
@@ -192,8 +192,8 @@ int32_t machine_image(const struct medium *medium, struct dfu_place *place)
 int32_t machine_format(uint8_t *memory, size_t size, const uint8_t *image, size_t length, uint32_t tries)
 {
     const struct dfu_config config = layout(tries == 0 ? 0 : MEDIUM_TRIAL_SECTOR);
-    const int32_t refusal = dfu_memory_format(&config, memory, size, image, length);
-    return refusal != 0 || tries == 0 ? refusal : trial_confirm_first(memory, size, tries);
+    return tries == 0 ? dfu_memory_format(&config, memory, size, image, length)
+                      : dfu_trial_format_memory(&config, tries, memory, size, image, length);
 }
 
 const char *machine_words(int32_t refusal)

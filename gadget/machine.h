@@ -41,8 +41,8 @@ enum plan machine_plan(struct machine *machine, const uint8_t setup[8]);
 /* The answer: how many bytes of `out`, or negative for a stall. If the host sends, the body has wLength bytes. */
 int32_t machine_handle(struct machine *machine, const uint8_t setup[8], const uint8_t *body, uint8_t out[MOST_TRANSFER]);
 
-/* Whether this setup closes a download, of an image with enough bytes, and where that image is; and that the image is refused, with
-   errTARGET or errFILE: false if it is no such setup. */
+/* Whether this setup closes a download, and where its image is; and that the image is refused, with errTARGET or errFILE: false if it is no
+   such setup. */
 bool machine_closes(struct machine *machine, const uint8_t setup[8], struct dfu_place *place);
 bool machine_refuse_close(struct machine *machine, const uint8_t setup[8], uint8_t why);
 

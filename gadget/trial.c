@@ -2,7 +2,6 @@
 /* Each of start, confirm and end is one call of the library, which asks for at most one write. It waits for its turn, since `run` may have
    the medium meanwhile. */
 #include "trial.h"
-#include "dfu_device_memory.h"
 #include "driver.h"
 #include "machine.h"
 #include "say.h"
@@ -17,16 +16,6 @@ struct dfu_trial trial_of(const struct medium *medium, const struct dfu_driver *
                               .size = medium->size,
                               .driver = driver,
                               .tries = {.unit = MACHINE_UNIT, .sector = MEDIUM_TRIAL_SECTOR, .tries = tries}};
-}
-
-int32_t trial_confirm_first(uint8_t *memory, size_t size, uint32_t tries)
-{
-    const struct dfu_driver driver = DFU_MEMORY_DRIVER(memory);
-    const struct medium medium = {.bytes = memory, .size = size};
-    const struct dfu_trial trial = trial_of(&medium, &driver, tries);
-    struct dfu_standing standing;
-    const int32_t refusal = dfu_trial_look(&trial, &standing);
-    return refusal != 0 ? refusal : dfu_trial_accept(&trial, standing.active.at);
 }
 
 /* An image on trial that was not started yet is the next one: what runs is the one before. */

@@ -10,9 +10,6 @@
 /* The trial of a medium that is mapped. */
 struct dfu_trial trial_of(const struct medium *medium, const struct dfu_driver *driver, uint32_t tries);
 
-/* The image of a new medium in memory counts as confirmed: 0, or the library's refusal. */
-int32_t trial_confirm_first(uint8_t *memory, size_t size, uint32_t tries);
-
 /* The name of the interface: the version in bcdDevice, and the trial, as "1.1.0, on trial, 2 starts left". */
 #define TRIAL_WORDS 64
 void trial_words(const struct dfu_trial *trial, uint16_t release, char text[TRIAL_WORDS]);

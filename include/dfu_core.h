@@ -236,6 +236,12 @@ int32_t dfu_core_took(const struct dfu_config *config, struct dfu_record *record
  * @return 1 or 0; DFU_NO_CONFIG, DFU_NO_DEVICE, DFU_ASKED */
 int32_t dfu_core_would_stall(const struct dfu_config *config, const struct dfu_record *record, size_t size, const uint8_t setup[8]);
 
+/** @brief Whether this setup closes a download: a DNLOAD with wLength 0 to this interface in dfuDNLOAD-IDLE, once at least config.least
+ *         bytes were taken. With 1 dfu_core_handle would acknowledge it, and from then on the image waits to be put in place; so a program
+ *         that checks images does it now. With 1 dfu_core_refuse_close would refuse the image, and with 0 it would return DFU_NO_CLOSE.
+ * @return 1 or 0; DFU_NO_CONFIG, DFU_NO_DEVICE, DFU_ASKED */
+int32_t dfu_core_closes(const struct dfu_config *config, const struct dfu_record *record, const uint8_t setup[8]);
+
 /** @brief As dfu_core_handle for a setup whose data stage is longer than the transfer size, without its bytes.
  * @return DFU_STALL; DFU_NO_CONFIG, DFU_NO_DEVICE, DFU_ASKED, DFU_NOT_LONG */
 int32_t dfu_core_too_long(const struct dfu_config *config, struct dfu_record *record, const uint8_t setup[8]);
@@ -281,6 +287,11 @@ int32_t dfu_core_code(const struct dfu_record *record);
 /** @brief Where the active image is, until the next one is put in place.
  * @return 0; DFU_NO_CONFIG, DFU_NO_MEDIUM */
 int32_t dfu_core_image(const struct dfu_config *config, const uint8_t *flash, size_t size, struct dfu_place *place);
+
+/** @brief Whether the flash reads as a part that was never written: every byte that the gates and the headers of both slots take up is FFh.
+ *         These are DFU_GATE bytes for each, so the first 2 * DFU_GATE of each half of the flash; the data of the slots is not looked at.
+ * @return 1, and then there is no active image; 0; DFU_NO_CONFIG, DFU_NO_MEDIUM (2^32 bytes or more), DFU_WRONG_SIZE */
+int32_t dfu_core_is_blank(const struct dfu_config *config, const uint8_t *flash, size_t size);
 
 /** @brief Begins a format, which puts the image, of 0 bytes or more, into the first slot, whatever is on the flash. Until it ends other
  *         calls are refused with DFU_ASKED. Pass the same image to all three calls: the record keeps no pointer.

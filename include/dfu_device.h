@@ -11,8 +11,9 @@
  *     static struct dfu_device dfu = {.config = &config, .flash = flash, .size = size, .block = block, .most = sizeof block,
  *                                     .driver = &driver};
  *
- *     power:                dfu_device_power_on(&dfu), or dfu_device_begin(&dfu) to begin in dfuIDLE, as for a button or a flag.
- *                           DFU_NO_MEDIUM: a new board. dfu_device_format(&dfu, image, length), and again
+ *     power:                dfu_device_power_on_or_format(&dfu, image, length): a part that was never written gets its first image.
+ *                           DFU_NO_MEDIUM: a damaged board, which stays as it is (see below)
+ *     then, to upgrade:     dfu_device_begin(&dfu) begins in dfuIDLE, as for a button or a flag
  *     a request of this class (bmRequestType 21h or A1h; other requests are the program's own):
  *                           if the host sends, receive the whole data stage into data
  *                           n = dfu_device_serve(&dfu, setup, data, data, sizeof data)
@@ -45,7 +46,8 @@
  * - busy_ms and manifest_ms are sent as bwPollTimeout, after which the host asks again. busy_ms is how long it takes to write a block:
  *   DFU_BLOCK_ERASES and DFU_BLOCK_PROGRAMS times what the part needs at most. manifest_ms is the same for an image, with
  *   DFU_COMMIT_ERASES and DFU_COMMIT_PROGRAMS. With 0 they are written before the GETSTATUS is answered. For fwupd manifest_ms should be 0
- *   if the device is tolerant.
+ *   if the device is tolerant. The host waits busy_ms after every block, also after one that erases nothing: if the stack sends NAK
+ *   meanwhile, take the time of such a block (docs/PORTING.md, "How long a host waits").
  * - If the stack acknowledges a data stage while it receives it, as Linux's FunctionFS does, ask before it comes: call dfu_device_work,
  *   then dfu_device_would_stall. If that says 1, call dfu_device_handle with any body of that length, and stall the setup. If it says 0,
  *   receive the data stage.
@@ -66,7 +68,10 @@
  *
  * What to do on a refusal. Stall the request, or after a refused dfu_device_work the next one, and:
  * - DFU_NO_CONFIG, DFU_NO_BLOCK, DFU_NO_ROOM, DFU_WRONG_SIZE, DFU_TOO_LARGE: a mistake of the program, which has to be mended.
- * - DFU_NO_MEDIUM of power_on, begin or image: there is no image, or another sector or size wrote the slots. Format, which gives both up.
+ * - DFU_NO_MEDIUM of power_on, begin or image: there is no image, or a byte was misread, or another sector or size wrote the slots. Look
+ *   again. A format gives up both slots, so make one only on a part that was never written (dfu_device_is_blank, twice), or because
+ *   somebody asks for it, by a jumper or a command. dfu_device_power_on_or_format does so. FRAM and other memory that comes with any bytes
+ *   is never known to be new: there the factory puts the first image in place.
  * - DFU_NO_MEDIUM or DFU_NO_DEVICE elsewhere: flash, block or record changed. Call dfu_device_power_on or
  *   dfu_device_begin again; the host begins again.
  * - DFU_ASKED: operations are due. Carry them out (dfu_device_settle with DFU_ASKS), then make the call again.
@@ -74,10 +79,11 @@
  * - DFU_NOT_LONG, DFU_NO_CLOSE: call dfu_device_handle with this request.
  * - DFU_NO_STATUS: a mistake of the program. DFU_NO_CANDIDATE: there is nothing to check.
  *
- * A check of images, for a program that takes only its maker's. When a DNLOAD with wLength 0 comes in dfuDNLOAD-IDLE, and
- * dfu_device_would_stall says 0 of it, check the bytes that dfu_device_candidate names; the last of them may be in the block's memory. If
- * they fail, call dfu_device_refuse_close, else dfu_device_handle. A program that never checks takes every image. Such a check is no
- * secure boot, since who can write the flash can write an image: check it again before it is started.
+ * A check of images, for a program that takes only its maker's. After the work, and before dfu_device_handle or serve, ask
+ * dfu_device_closes of each setup. If it says 1, check the bytes that dfu_device_candidate names; the last of them may be in the block's
+ * memory. If they fail, call dfu_device_refuse_close, else hand the setup in. If either call is refused, stall the setup: it must not be
+ * handed in unchecked. A program that never asks takes every image. Such a check is no secure boot, since who can write the flash can
+ * write an image: check it again before it is started.
  *
  * Images are read by power_on, begin, image and format_start, at the start and the end of the work that puts one in place, and by the
  * first operation of a download. No other call checks a whole image; an UPLOAD reads the bytes that it sends, unchecked. So if an image's
@@ -201,6 +207,11 @@ static inline int32_t dfu_device_would_stall(const struct dfu_device *d, const u
     return dfu_core_would_stall(d->config, &d->record, d->size, setup);
 }
 
+/** @brief As dfu_core_closes. */
+static inline int32_t dfu_device_closes(const struct dfu_device *d, const uint8_t setup[8]) {
+    return dfu_core_closes(d->config, &d->record, setup);
+}
+
 /** @brief As dfu_core_too_long. */
 static inline int32_t dfu_device_too_long(struct dfu_device *d, const uint8_t setup[8]) {
     return dfu_core_too_long(d->config, &d->record, setup);
@@ -239,6 +250,11 @@ static inline int32_t dfu_device_code(const struct dfu_device *d) {
 /** @brief As dfu_core_image. */
 static inline int32_t dfu_device_image(const struct dfu_device *d, struct dfu_place *place) {
     return dfu_core_image(d->config, d->flash, d->size, place);
+}
+
+/** @brief As dfu_core_is_blank. */
+static inline int32_t dfu_device_is_blank(const struct dfu_device *d) {
+    return dfu_core_is_blank(d->config, d->flash, d->size);
 }
 
 /** @brief As dfu_core_functional. */
@@ -306,8 +322,8 @@ static inline int32_t dfu_device_reset(struct dfu_device *d) {
     return worked < 0 ? worked : dfu_device_usb_reset(d);
 }
 
-/** @brief By the driver, puts an image of 0 bytes or more into the first slot, whatever is on the flash. A loss of power within it may
- *         leave no image. Afterwards call dfu_device_power_on. @return 0; as the calls of a format */
+/** @brief By the driver, puts an image of 0 bytes or more into the first slot, whatever is on the flash: both images are given up. A loss
+ *         of power within it may leave no image. Afterwards call dfu_device_power_on. @return 0; as the calls of a format */
 static inline int32_t dfu_device_format(struct dfu_device *d, const uint8_t *image, size_t length) {
     int32_t n = dfu_device_format_start(d, image, length);
     while (n == DFU_ASKS && d->driver) {
@@ -317,6 +333,21 @@ static inline int32_t dfu_device_format(struct dfu_device *d, const uint8_t *ima
             n = dfu_device_format_took(d, image, length, dfu_device_carry_out(d->driver, &ask));
     }
     return n;
+}
+
+/** @brief After each loss of power: dfu_device_power_on, and if it says DFU_NO_MEDIUM a second time and dfu_device_is_blank says 1 twice,
+ *         dfu_device_format with this image of 0 bytes or more, and dfu_device_power_on. So a byte that is misread once gives up no image.
+ *         (Where the flash is read through a cache make these calls by hand, and invalidate the cache between two looks.)
+ * @return 0; DFU_NO_MEDIUM: there is no image, and the part is not blank: nothing was written; DFU_NO_CONFIG; as dfu_device_format */
+static inline int32_t dfu_device_power_on_or_format(struct dfu_device *d, const uint8_t *image, size_t length) {
+    struct dfu_device *volatile again = d; /* so that a compiler can't take a first look for a second one */
+    int32_t n = dfu_device_power_on(d);
+    if (n == DFU_NO_MEDIUM)
+        n = dfu_device_power_on(again);
+    if (n != DFU_NO_MEDIUM || dfu_device_is_blank(d) != 1 || dfu_device_is_blank(again) != 1)
+        return n;
+    n = dfu_device_format(d, image, length);
+    return n == 0 ? dfu_device_power_on(d) : n;
 }
 
 #ifdef __cplusplus

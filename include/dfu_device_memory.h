@@ -48,17 +48,16 @@ static inline int dfu_memory_program(void *own, uint32_t at, const uint8_t *byte
 }
 
 /** @brief Makes, in memory, the first contents of a flash, for a programmer to write. @return as dfu_device_format */
-static inline int32_t dfu_memory_format(const struct dfu_config *config, uint8_t *medium, size_t size, const uint8_t *image,
-                                        size_t length) {
-    const struct dfu_driver driver = DFU_MEMORY_DRIVER(medium);
-    struct dfu_device device;
-    device.config = config;
-    device.flash = medium;
-    device.size = size;
-    device.block = medium;
-    device.most = 0;
-    device.driver = &driver;
-    return dfu_device_format(&device, image, length);
+static inline int32_t dfu_memory_format(const struct dfu_config *c, uint8_t *medium, size_t size, const uint8_t *image, size_t length) {
+    const struct dfu_driver stores = DFU_MEMORY_DRIVER(medium);
+    struct dfu_device d;
+    d.config = c;
+    d.flash = medium;
+    d.size = size;
+    d.block = medium;
+    d.most = 0;
+    d.driver = &stores;
+    return dfu_device_format(&d, image, length);
 }
 
 #ifdef __cplusplus

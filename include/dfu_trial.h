@@ -4,7 +4,9 @@
  * @brief A new image in the slots of dfu_device.h runs on trial until it confirms itself; else the image before it comes back.
  *
  * Marks in a header's sector, after the header, say what was confirmed and how often an image was started. The device doesn't read them,
- * and erases them with each new header. Nothing is on trial before an image was confirmed once: until then all is as without this.
+ * and erases them with each new header. Nothing is on trial before an image was confirmed once: until then all is as without this, and an
+ * update that hangs is started for ever. So the first image must be confirmed where it is made: dfu_trial_format, or in a factory's file
+ * dfu_trial_format_memory.
  *
  * TRIALS END WHAT IS PROVED OF SESSIONS: what dfu_device.h says of lists of calls, and what a host's report says, is not proved of a
  * program that runs images on trial. What is proved: each call dfu_core_trial_* answers as dfu_trial_core.h says. And of the source in
@@ -14,6 +16,7 @@
  *     static struct dfu_trial trial = {.flash = slots, .size = size, .driver = &driver, .tries = {16, 4096, 4}};
  *     struct dfu_place place;
  *
+ *     the first image, on a board that has none:     dfu_trial_format(&trial, &dfu, image, length)
  *     the bootloader, before it starts an image:     if (dfu_trial_boot(&trial, &place) == 0) start what place says
  *     the bootloader, before each dfu_device_serve:  if (dfu_trial_transfer(&trial, &dfu, setup) != 0) stall the setup
  *     the application, once it knows that it works:  dfu_trial_accept(&trial, the offset of its first byte in flash)
@@ -47,7 +50,7 @@
 #ifndef DFU_TRIAL_H
 #define DFU_TRIAL_H
 
-#include "dfu_device.h"
+#include "dfu_device_memory.h"
 #include "dfu_trial_core.h"
 
 #if defined(__clang__) && defined(__has_warning)
@@ -141,6 +144,44 @@ static inline int32_t dfu_trial_give_up(const struct dfu_trial *t) {
         return n == DFU_ASKS ? DFU_TO(int32_t, DFU_NOT_WRITTEN) : n;
     }
     return n;
+}
+
+/** @brief Puts the first image on the flash by the drivers, as dfu_device_format, and confirms it, so that each later one runs on trial.
+ *         Both slots are given up. A loss of power within it may leave no image, or one that is not confirmed: then make it again.
+ * @param t of the same flash, unit and sector as d
+ * @return 0: it is active and confirmed; as dfu_core_trial_look, but for DFU_NO_MEDIUM, and nothing was written; as dfu_device_format and
+ *         dfu_trial_accept. Afterwards call dfu_device_power_on */
+static inline int32_t dfu_trial_format(const struct dfu_trial *t, struct dfu_device *d, const uint8_t *image, size_t length) {
+    struct dfu_standing standing;
+    int32_t n = dfu_trial_look(t, &standing);
+    if (n != 0 && n != DFU_NO_MEDIUM)
+        return n;
+    n = dfu_device_format(d, image, length);
+    if (n == 0)
+        n = dfu_trial_look(t, &standing);
+    return n == 0 ? dfu_trial_accept(t, standing.active.at) : n;
+}
+
+/** @brief Makes, in memory, the first contents of a flash whose image is confirmed, for a programmer to write: dfu_memory_format, and then
+ *         the mark. Unit and sector are those of the configuration. @return as dfu_trial_format */
+static inline int32_t dfu_trial_format_memory(const struct dfu_config *c, uint32_t tries, uint8_t *medium, size_t size,
+                                              const uint8_t *image, size_t length) {
+    const struct dfu_driver stores = DFU_MEMORY_DRIVER(medium);
+    struct dfu_device d;
+    struct dfu_trial t;
+    d.config = c;
+    d.flash = medium;
+    d.size = size;
+    d.block = medium;
+    d.most = 0;
+    d.driver = &stores;
+    t.flash = medium;
+    t.size = size;
+    t.driver = &stores;
+    t.tries.unit = c->unit;
+    t.tries.sector = c->sector;
+    t.tries.tries = tries;
+    return dfu_trial_format(&t, &d, image, length);
 }
 
 /** @brief Call it before dfu_device_serve. If the setup begins a download, or an upload while no start is left, it ends a trial by the

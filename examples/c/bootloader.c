@@ -67,10 +67,15 @@ static void get_status(void) {
 }
 
 int main(void) {
-    /* A board that was never written formats itself. Here the flash is memory, which is empty each time. */
-    if (dfu_device_power_on(&dfu) == DFU_NO_MEDIUM && dfu_device_format(&dfu, (const uint8_t *)"\x11\x22", 2) != 0)
+    /* Memory such as FRAM comes with any bytes, and never shows that it is new: the factory puts the first image in place. */
+    if (dfu_device_format(&dfu, (const uint8_t *)"\x11\x22", 2) != 0)
         return 1;
-    show("power on", dfu_device_power_on(&dfu));
+    /* From here on as at each power-on. A byte that was misread reads well the next time; a damaged board stays as it is. */
+    if (dfu_device_power_on(&dfu) != 0 && dfu_device_power_on(&dfu) != 0) {
+        puts("no image: nothing is written until somebody asks for a format");
+        return 1;
+    }
+    show("power on", 0);
     detach();
     show("bus reset", dfu_device_reset(&dfu));
     download(0, "\xaa\xbb\xcc\xdd", 4);

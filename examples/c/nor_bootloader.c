@@ -1,8 +1,9 @@
 /* SPDX-License-Identifier: MIT OR Apache-2.0 */
 /* A bootloader on NOR flash, as an external QSPI part that is mapped for reading, or a microcontroller's own: it is programmed in pages of
  * 256 bytes, and erased before, in sectors of 4,096. The part is a model here: a program only clears bits, and refuses a page that was
- * programmed since its sector was erased. A board that was never written formats itself. Then a host that stands in for the USB stack
- * installs an image of 5,000 bytes; each transfer prints its request, the answer and the state, each erase and each program its place. */
+ * programmed since its sector was erased. A part that was never written is formatted; one that is damaged stays as it is. Then a host that
+ * stands in for the USB stack installs an image of 5,000 bytes; each transfer prints its request, the answer and the state, each erase and
+ * each program its place. */
 #include <stdio.h>
 #include <string.h>
 
@@ -97,15 +98,17 @@ static void download(void) {
 }
 
 int main(void) {
+    int32_t n;
     for (size_t i = 0; i < sizeof image; i++)
         image[i] = (uint8_t)(i * 7);
-    /* A part as it comes: whatever it holds, there is no image in it. */
-    for (size_t i = 0; i < sizeof part; i++)
-        part[i] = (uint8_t)(i * 3);
-    memset(is_programmed, 1, sizeof is_programmed);
-    if (dfu_device_power_on(&dfu) == DFU_NO_MEDIUM && dfu_device_format(&dfu, image, 2) != 0)
+    /* A part as it comes from its maker. */
+    memset(part, 0xff, sizeof part);
+    n = dfu_device_power_on_or_format(&dfu, image, 2);
+    if (n == DFU_NO_MEDIUM)
+        puts("no image, and the part was written before: nothing is written until somebody asks for a format");
+    if (n != 0)
         return 1;
-    show("power on", dfu_device_power_on(&dfu));
+    show("power on", n);
     transfer("DETACH", 0x21, DFU_DETACH, 1000, 0);
     show("bus reset", dfu_device_reset(&dfu));
     download();

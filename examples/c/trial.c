@@ -1,7 +1,7 @@
 /* SPDX-License-Identifier: MIT OR Apache-2.0 */
 /* A bootloader whose new images run on trial, with three tries. A NOR part, a model here, has two slots in sectors of 4,096 bytes. The
- * first image confirms itself; the second never does, so that the first comes back; the third does. Each mark and each gate that is erased
- * prints its place. */
+ * first image is made as a confirmed one; the second never confirms itself, so that the first comes back; the third does. Each mark and
+ * each gate that is erased prints its place. */
 #include <stdio.h>
 #include <string.h>
 
@@ -93,8 +93,10 @@ static void download(char letter) {
 int main(void) {
     memset(part, 0xff, sizeof part);
     power_on();
-    dfu_device_format(&dfu, (const uint8_t *)"A", 1);
-    confirm(power_on());
+    /* The first image: without its confirmation the second one would have nothing to give way to. */
+    if (dfu_trial_format(&trial, &dfu, (const uint8_t *)"A", 1) != 0)
+        return 1;
+    power_on();
     download('B');
     for (int i = 0; i < 5; i++)
         power_on();

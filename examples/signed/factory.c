@@ -5,7 +5,6 @@
 #include <string.h>
 
 #include "board.h"
-#include "dfu_device_memory.h"
 
 static uint8_t flash[FLASH_SIZE], image[FLASH_SIZE];
 
@@ -19,15 +18,6 @@ static int read_file(const char *path, uint8_t *to, size_t room, size_t *length)
     return is_wrong ? -1 : 0;
 }
 
-/* Nothing runs on trial before an image was confirmed once. */
-static int32_t confirm(void) {
-    const struct dfu_driver driver = DFU_MEMORY_DRIVER(flash + MEDIUM);
-    const struct dfu_trial trial = {.flash = flash + MEDIUM, .size = MEDIUM_SIZE, .driver = &driver, .tries = board_tries};
-    struct dfu_standing standing;
-    int32_t refusal = dfu_trial_look(&trial, &standing);
-    return refusal == 0 ? dfu_trial_accept(&trial, standing.active.at) : refusal;
-}
-
 int main(int count, char **words) {
     size_t length;
     if (count != 4) {
@@ -39,9 +29,8 @@ int main(int count, char **words) {
         fprintf(stderr, "factory: a file can't be read, or is too large\n");
         return 1;
     }
-    int32_t refusal = dfu_memory_format(&board_config, flash + MEDIUM, MEDIUM_SIZE, image, length);
-    if (refusal == 0)
-        refusal = confirm();
+    /* Nothing runs on trial before an image was confirmed once. */
+    int32_t refusal = dfu_trial_format_memory(&board_config, board_tries.tries, flash + MEDIUM, MEDIUM_SIZE, image, length);
     if (refusal != 0) {
         fprintf(stderr, "factory: refused %d\n", (int)refusal);
         return 1;

@@ -1,15 +1,6 @@
 /* SPDX-License-Identifier: MIT OR Apache-2.0 */
 #include "serve.h"
 
-/* Whether this setup closes a download whose image the device would put in place: 1 or 0; or a refusal of the library. */
-static int32_t closes(const struct dfu_device *device, const uint8_t setup[8]) {
-    int32_t stalls;
-    if (setup[0] != 0x21 || setup[1] != DFU_DNLOAD || setup[6] != 0 || setup[7] != 0 || dfu_device_state(device) != DFU_STATE_DNLOAD_IDLE)
-        return 0;
-    stalls = dfu_device_would_stall(device, setup);
-    return stalls < 0 ? stalls : stalls == 0;
-}
-
 /* The place of the image with which counters are compared. */
 static int32_t confirmed(const struct signed_board *board, struct dfu_place *place) {
     struct dfu_standing standing;
@@ -54,7 +45,7 @@ int32_t signed_serve(struct signed_board *board, const uint8_t setup[8], const u
     if (n == 0 && board->trial != NULL)
         n = dfu_trial_transfer(board->trial, device, setup);
     if (n == 0)
-        n = closes(device, setup);
+        n = dfu_device_closes(device, setup);
     if (n == 1) {
         n = check(board);
         if (n == 0 && board->verdict != SIGNED_TAKEN)

@@ -13,11 +13,14 @@
  *     uint32_t milliseconds(void);
  *
  *     int main(void) {
+ *         static const uint8_t none[1] = {0};
  *         bool upgrades = false;
- *         if (dfu_device_power_on(&dfu) == 0 && !is_asked())
+ *         if (dfu_device_power_on_or_format(&dfu, none, 0) != 0)
+ *             return 1;                           // DFU_NO_MEDIUM: the board is damaged (docs/PORTING.md, step 7)
+ *         if (!is_asked())
  *             start_image();                      // it comes back if there is none that can be started
  *         if (dfu_device_begin(&dfu) != 0 || dfu_tinyusb_start(&dfu) != 0)
- *             return 1;                           // DFU_NO_MEDIUM is a new board: dfu_device_format first
+ *             return 1;
  *         tud_init(0);
  *         for (;;) {
  *             tud_task();                         // requests are answered, and the flash is erased and written, in here

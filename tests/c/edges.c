@@ -112,12 +112,14 @@ static void nothing(void) {
     is("no time", dfu_core_elapse(&config, &record, NULL, 0, NULL, 0, 1), DFU_NO_BLOCK);
     is("no reset", dfu_core_usb_reset(&config, &record, block, sizeof block, NULL, 0), DFU_NO_MEDIUM);
     is("no place", dfu_core_image(&config, NULL, 0, &place), DFU_NO_MEDIUM);
+    is("nothing is blank", dfu_core_is_blank(&config, NULL, 0), DFU_WRONG_SIZE);
     is("status", dfu_core_handle(&config, &record, block, sizeof block, medium, sizeof medium, setup, NULL, 0, out, 64), 6);
     for (uint32_t mode = 0; mode < 14; mode++) {
         struct dfu_record it = record, old;
         it.mode = mode, it.number = 0, old = it;
         is("due", dfu_core_due(&config, &it) < 0, mode == 13);
         is("would stall", dfu_core_would_stall(&config, &it, sizeof medium, setup) < 0, mode == 13);
+        is("closes", dfu_core_closes(&config, &it, setup), mode == 13 ? DFU_NO_DEVICE : 0);
         is("as it was", memcmp(&it, &old, sizeof it), 0);
         is("not long", dfu_core_too_long(&config, &it, setup), mode == 13 ? DFU_NO_DEVICE : DFU_NOT_LONG);
         is("detach is not long", dfu_core_too_long(&config, &it, detach), mode == 13 ? DFU_NO_DEVICE : DFU_NOT_LONG);

@@ -64,7 +64,9 @@ static int32_t one_call(const uint8_t setup[8], const uint8_t *body, uint32_t wh
     case 1: return dfu_core_usb_reset(&config, &b->record, b->pending, most, b->flash, b->size);
     case 2: return dfu_core_next(&config, &b->record, b->pending, most, b->flash, b->size, ask);
     case 3: return dfu_core_took(&config, &b->record, b->pending, most, b->flash, b->size, roll(4) == 0, b->out, room);
-    case 5: return dfu_core_would_stall(&config, &b->record, b->size, setup);
+    case 5:
+        return roll(2) ? dfu_core_would_stall(&config, &b->record, b->size, setup)
+                       : dfu_core_closes(&config, &b->record, setup);
     case 6: return dfu_core_too_long(&config, &b->record, setup);
     case 4:
         return roll(2) ? dfu_core_power_on(&config, &b->record, b->flash, b->size)

@@ -1,6 +1,6 @@
-/* What a program asks beside the rows: whether a setup will be stalled, held against what dfu_device_handle then does, in
- * each mode; when time changes the state; a body that is too long; the functional descriptor; a beginning in dfuIDLE; a
- * board without an application; the version. */
+/* What a program asks beside the rows: whether a setup will be stalled, and whether it closes a download, held against what
+ * dfu_device_handle then does, in each mode; whether the flash is blank, by each of its bytes; when time changes the state; a body that is
+ * too long; the functional descriptor; a beginning in dfuIDLE; a board without an application; the version. */
 #include <stdio.h>
 #include <string.h>
 
@@ -14,7 +14,7 @@ static const struct dfu_driver driver = DFU_MEMORY_DRIVER(medium);
 static struct dfu_device device = {.config = &config, .flash = medium, .size = sizeof medium, .block = pending, .most = sizeof pending,
                                    .driver = &driver};
 static struct dfu_record stations[MODES];
-static int wrong, stalls, others;
+static int wrong, stalls, others, closed;
 
 static void expect(const char *what, int is) {
     if (!is) {
@@ -66,7 +66,7 @@ static void compare(int station, uint8_t kind, uint8_t request, uint16_t value, 
     uint8_t setup[8] = {kind, request, (uint8_t)value, (uint8_t)(value >> 8), (uint8_t)index, (uint8_t)(index >> 8), (uint8_t)length, 0};
     device.record = stations[station];
     memcpy(medium, mediums[station], sizeof medium);
-    int32_t will = dfu_device_would_stall(&device, setup);
+    int32_t will = dfu_device_would_stall(&device, setup), closes = dfu_device_closes(&device, setup);
     int32_t did = handle_in_memory(&device, setup, body,
                                     kind == 0x21 ? length : 0, out, sizeof out);
     if (will != (did == DFU_STALL)) {
@@ -74,6 +74,8 @@ static void compare(int station, uint8_t kind, uint8_t request, uint16_t value, 
             (int)did);
         wrong = 1;
     }
+    expect("closes", closes == (station == 6 && kind == 0x21 && did == 0 && device.record.mode == 7));
+    closed += closes;
     if (index != config.interface_number)
         expect("another interface", will == 1 && memcmp(&device.record, &stations[station], sizeof device.record) == 0);
     *(will ? &stalls : &others) += 1;
@@ -134,6 +136,24 @@ static void all(void) {
     }
 }
 
+/* A part is blank if every byte of its gates and headers is FFh, whatever its data holds. */
+static void blank(uint32_t unit, uint32_t sector) {
+    static uint8_t part[2 * (2 * 512 + 512)];
+    const struct dfu_config other = {DFU_VERSION, 0x0100, 1, 0x1209, 255, 8, 7, 0, 0, 0, 1, unit, sector};
+    const size_t front = 2 * DFU_GATE(unit, sector), size = 2 * (front + 512);
+    memset(part, 0xff, sizeof part);
+    expect("blank", dfu_core_is_blank(&other, part, size) == 1);
+    for (size_t at = 0; at < size; at++)
+        for (unsigned value = 0; value < 255; value += 51) {
+            part[at] = (uint8_t)value;
+            expect("by each byte", dfu_core_is_blank(&other, part, size) == (at % (size / 2) >= front));
+            part[at] = 0xff;
+        }
+    expect("wrong size", dfu_core_is_blank(&other, part, size - 2) == (unit == 1 && sector == 0 ? 1 : DFU_WRONG_SIZE)
+        && dfu_core_is_blank(&other, part, size - 1) == DFU_WRONG_SIZE && dfu_core_is_blank(&other, part, 2 * front) == DFU_WRONG_SIZE
+        && dfu_core_is_blank(&other, part, 0) == DFU_WRONG_SIZE);
+}
+
 static void rest(void) {
     static const uint8_t descriptor[9] = {9, 0x21, 7, 255, 0, 8, 0, 0x10, 1}, setup[8] = {0x21, 1, 0, 0, 0, 0, 9, 0};
     struct dfu_config bad = config;
@@ -145,7 +165,8 @@ static void rest(void) {
     expect("no functional", dfu_device_functional(&bad, bytes) == DFU_NO_CONFIG && bytes[0] == 7 && bytes[8] == 7);
     device.config = &bad;
     expect("no config", dfu_device_would_stall(&device, setup) == DFU_NO_CONFIG && dfu_device_due(&device) == DFU_NO_CONFIG
-        && dfu_device_too_long(&device, setup) == DFU_NO_CONFIG && dfu_device_begin(&device) == DFU_NO_CONFIG);
+        && dfu_device_too_long(&device, setup) == DFU_NO_CONFIG && dfu_device_begin(&device) == DFU_NO_CONFIG
+        && dfu_device_closes(&device, setup) == DFU_NO_CONFIG && dfu_device_is_blank(&device) == DFU_NO_CONFIG);
     bad = config;
     bad.version = DFU_VERSION + 1;
     expect("another version", dfu_device_functional(&bad, bytes) == DFU_NO_CONFIG
@@ -153,14 +174,16 @@ static void rest(void) {
     device.config = &config;
     device.record.mode = 13;
     expect("no mode", dfu_device_would_stall(&device, setup) == DFU_NO_DEVICE
-        && dfu_device_due(&device) == DFU_NO_DEVICE && dfu_device_too_long(&device, setup) == DFU_NO_DEVICE);
+        && dfu_device_due(&device) == DFU_NO_DEVICE && dfu_device_too_long(&device, setup) == DFU_NO_DEVICE
+        && dfu_device_closes(&device, setup) == DFU_NO_DEVICE);
     expect("begin", dfu_device_format(&device, setup, 0) == 0
         && dfu_device_begin(&device) == 0 && dfu_device_state(&device) == 2);
     expect("no application", dfu_device_image(&device, &place) == 0 && place.length == 0);
+    expect("not blank", dfu_device_is_blank(&device) == 0);
     ask(0x21, 1, 0, 8), ask(0xa1, 3, 0, 6), pass(5), ask(0xa1, 3, 0, 6), ask(0x21, 1, 1, 0), ask(0xa1, 3, 0, 6), pass(10);
     expect("application", dfu_device_image(&device, &place) == 0 && place.length == 8);
     memset(medium, 0xff, sizeof medium);
-    expect("no medium", dfu_device_begin(&device) == DFU_NO_MEDIUM);
+    expect("no medium", dfu_device_begin(&device) == DFU_NO_MEDIUM && dfu_device_is_blank(&device) == 1);
     expect("version", dfu_core_version() == DFU_VERSION);
 }
 
@@ -172,6 +195,7 @@ int main(void) {
     }
     config.attributes = 7, config.interface_number = 0;
     rest();
-    printf("asked before the body: %d stalls, %d others; version " DFU_VERSION_TEXT "\n", stalls, others);
-    return wrong || stalls == 0 || others == 0;
+    blank(1, 0), blank(16, 0), blank(256, 0), blank(16, 256), blank(256, 512);
+    printf("asked before the body: %d stalls, %d others, %d close a download; version " DFU_VERSION_TEXT "\n", stalls, others, closed);
+    return wrong || stalls == 0 || others == 0 || closed == 0;
 }

@@ -44,10 +44,11 @@ static void *run(void *word) {
     case 12: dfu_device_image(&device, &place); break;
     case 13: dfu_device_work(&device); break;
     case 14: dfu_device_reset(&device); break;
-    case 15: dfu_device_format_start(&other, block, sizeof block); break;
-    case 16: dfu_device_format_next(&other, block, sizeof block, &due); break;
-    case 17: dfu_device_format_took(&other, block, sizeof block, dfu_device_carry_out(&driver, &due)); break;
-    case 18: dfu_device_format(&other, block, sizeof block); break;
+    case 15: dfu_device_is_blank(&device), dfu_device_closes(&device, block); break;
+    case 16: dfu_device_format_start(&other, block, sizeof block); break;
+    case 17: dfu_device_format_next(&other, block, sizeof block, &due); break;
+    case 18: dfu_device_format_took(&other, block, sizeof block, dfu_device_carry_out(&driver, &due)); break;
+    case 19: dfu_device_format(&other, block, sizeof block); break;
     default: break;
     }
     return word;
@@ -55,7 +56,7 @@ static void *run(void *word) {
 
 static const char *const names[] = {"nothing", "power on", "DETACH", "bus reset", "DNLOAD of 4,000", "GETSTATUS, a block is due", "next",
     "took", "GETSTATUS, to manifest", "pass, an image is due", "its operations", "UPLOAD of 4,096", "image", "work",
-    "the work, and a reset",
+    "the work, and a reset", "is blank, and closes",
     "format: start", "format: next", "format: took", "format: all of it"};
 
 int main(int count, char **words) {

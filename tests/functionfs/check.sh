@@ -57,6 +57,20 @@ setup a103000000000600 => a103 090000000a00
 END
 is 'no check of an image that is too short' test ! -e given
 
+# What closes no download is not checked: a DNLOAD of no bytes in dfuIDLE, a block, and what follows the close.
+fresh
+rm -f given
+row 'no check of what closes no download' '--dfu-mode --busy 20 --manifest 20 --check ./checks' << END
+setup a105000000000100 => upgrade joins / a105 02
+setup 2101000000000000 => 2101 stall
+setup 2104000000000000 => 2104 ok
+setup 2101000000001a00 $(hex new) => 2101 ok
+setup a103000000000600 => a103 001400000400
+setup a103000000000600 => a103 000000000500
+setup 2106000000000000 => 2106 ok
+END
+is 'no check of what closes no download' test ! -e given
+
 # What isn't known to be good is refused: a program that isn't there, that is killed, or that hangs.
 for program_of_check in ./nowhere ./killed ./hangs; do
     printf '#!/bin/sh\nkill -KILL $$\n' > killed

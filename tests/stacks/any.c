@@ -1,9 +1,10 @@
-/* A USB stack that hands in whatever stands in its memory. */
+/* A USB stack that hands in whatever stands in its memory, and a board's jumper. */
 #include <stdint.h>
 
 int usb_dfu_has_body(const uint8_t setup[8]);
 int32_t usb_dfu_request(const uint8_t setup[8]);
 void usb_dfu_answered(void), usb_dfu_reset(void), usb_start(void), usb_stop(void), usb_poll(void);
+int board_asks_for_format(void);
 extern uint8_t usb_dfu_interface[18], *const usb_dfu_data;
 volatile uint8_t port[8];
 
@@ -12,6 +13,10 @@ void usb_start(void) {
 }
 
 void usb_stop(void) {}
+
+int board_asks_for_format(void) {
+    return port[2];
+}
 
 void usb_poll(void) {
     uint8_t setup[8];

@@ -8,9 +8,12 @@ pub mod Handed
 pub mod Moved
 pub mod Asked
 pub mod Refusals
+pub mod ClosePlans
+pub mod Closing
 pub mod DueTimes
 pub mod Powered
 pub mod ImagePlaces
+pub mod Blanks
 pub mod Same
 pub mod Parts
 pub mod Each

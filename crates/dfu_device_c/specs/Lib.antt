@@ -7,12 +7,14 @@ pub mod Calls
 pub mod Writes
 pub mod Power
 pub mod Image
+pub mod Blank
 pub mod Candidate
 pub mod Formatting
 pub mod Formats
 pub mod Verdict
 pub mod AfterLong
 pub mod Stalls
+pub mod Closes
 pub mod Refuse
 pub mod Long
 pub mod Due

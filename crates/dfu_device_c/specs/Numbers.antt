@@ -32,6 +32,10 @@ NO_DEVICE = negsuc 3
 abbrev pub NO_ROOM : ℤ
 NO_ROOM = negsuc 4
 
+-- DFU_WRONG_SIZE.
+abbrev pub WRONG_SIZE : ℤ
+WRONG_SIZE = negsuc 5
+
 -- DFU_NOT_LONG.
 abbrev pub NOT_LONG : ℤ
 NOT_LONG = negsuc 8
@@ -88,6 +92,6 @@ passed_number (reply.Answered x count) = pos 0
 
 -- The number of a fault of a format: DFU_WRONG_SIZE, DFU_TOO_LARGE or DFU_NOT_WRITTEN.
 abbrev pub format_number : FormatFault → ℤ
-format_number fault.WrongSize = negsuc 5
+format_number fault.WrongSize = WRONG_SIZE
 format_number fault.TooLarge = negsuc 6
 format_number fault.Failed = negsuc 7

@@ -1,6 +1,7 @@
 //! Laws over all that may happen to a board whose program makes the calls of dfu_device_c. Each is the contract of a function that
 //! calls only other laws, which is proved and not to be called for what it does.
 
+ghost use Rattle.dfu_device_c.specs.Closes.{ClosesIfRefused};
 ghost use Rattle.dfu_device_c.specs.Runs.{CoreRefines, CoreKeeps, CoreStays, CoreInstalls, CoreStarts};
 ghost use Rattle.dfu_device_c.specs.FormatCalls.{FormatsEnd, FormatsBeginAnew};
 ghost use Rattle.dfu_device_c.specs.Plays.{CorePlaysInstall, CorePlaysKnow, CorePlaysKnowWithin, CorePlaysGive, CorePlaysRun, CorePlaysGoOn};
@@ -50,4 +51,10 @@ pub fn core_boards_install()
 pub fn core_formats_make_an_image()
     ensures formatted { FormatsEnd }
     ensures anew { FormatsBeginAnew }
+{}
+
+/// What dfu_core_closes says of a setup is what dfu_core_refuse_close does with it: at 1 it returns DFU_STALL, and at 0 DFU_NO_CLOSE. So a
+/// program that checks the image where dfu_core_closes says 1 can refuse each image that would be put in place.
+pub fn core_closes_if_refused()
+    ensures { ClosesIfRefused }
 {}

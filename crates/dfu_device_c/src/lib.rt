@@ -23,7 +23,9 @@ macro_rules! hand_out {
     };
 }
 
+mod blank;
 mod calls;
+mod closes;
 mod config;
 mod format;
 mod image;

@@ -20,15 +20,6 @@ static int read_file(const char *path, uint8_t *to, size_t room, size_t *length)
     return is_wrong ? -1 : 0;
 }
 
-/* The first image counts as confirmed, so that the next one is on trial. */
-static int32_t confirm(void) {
-    const struct dfu_driver driver = DFU_MEMORY_DRIVER(flash + MEDIUM);
-    const struct dfu_trial trial = {.flash = flash + MEDIUM, .size = MEDIUM_SIZE, .driver = &driver, .tries = {16, PAGE, TRIES}};
-    struct dfu_standing standing;
-    const int32_t refusal = dfu_trial_look(&trial, &standing);
-    return refusal != 0 ? refusal : dfu_trial_accept(&trial, standing.active.at);
-}
-
 int main(int count, char **words) {
     size_t length;
     if (count != 4) {
@@ -42,11 +33,11 @@ int main(int count, char **words) {
     }
     const struct dfu_driver driver = DFU_MEMORY_DRIVER(flash + RUN);
     struct dfu_install install = {.run = flash + RUN, .size = CAPACITY, .area = {PAGE, DFU_NOWHERE}, .driver = &driver};
-    int32_t refusal = dfu_memory_format(&board_config, flash + MEDIUM, MEDIUM_SIZE, image, length);
+    /* With trials the first image is confirmed here, so that the next one is on trial. */
+    int32_t refusal = TRIES > 0 ? dfu_trial_format_memory(&board_config, TRIES, flash + MEDIUM, MEDIUM_SIZE, image, length)
+                                : dfu_memory_format(&board_config, flash + MEDIUM, MEDIUM_SIZE, image, length);
     if (refusal == 0)
         refusal = dfu_install_settle(&install, image, length);
-    if (refusal == 0 && TRIES > 0)
-        refusal = confirm();
     if (refusal != 0) {
         fprintf(stderr, "factory: refused %d\n", (int)refusal);
         return 1;

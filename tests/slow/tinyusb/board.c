@@ -82,7 +82,8 @@ int main(int count, char **words)
         return format(words[3]);
     if (count == 3 && strcmp(words[2], "image") == 0)
         return print_image();
-    if (power_on() == DFU_NO_MEDIUM)
+    /* A board with anything on it stays as it is. */
+    if (power_on() == DFU_NO_MEDIUM && dfu_device_is_blank(&device) == 1)
         dfu_device_format(&device, flash, 0);
     if (power_on() != 0 || dfu_tinyusb_start(&device) != 0)
         return fail("no device");

@@ -1,0 +1,32 @@
+//! Whether a setup closes a download, said before it is handed in: the program's own check of the image comes then.
+ghost use Rattle.std.specs.Prelude.{◌≡◌, ◌⊎◌, pos};
+ghost use Rattle.dfu_device_c.specs.Addressed.{addressed};
+ghost use Rattle.dfu_device_c.specs.Closes.{ToldClose};
+ghost use Rattle.dfu_device_c.specs.Idle.{IsIdleRecord, RefusesSetup};
+
+use crate::config::{DfuConfig, addressed};
+use crate::mode::idle_mode;
+use crate::record::DfuRecord;
+use dfu_device::is_close;
+
+/// Whether this setup closes a download: 1 or 0. With 1 `dfu_core_handle` would acknowledge it, and all bytes taken would wait to be put in
+/// place; with 0 it would do nothing of the kind.
+///
+/// Refused as `dfu_core_would_stall`.
+#[unsafe(no_mangle)]
+pub extern "C" fn dfu_core_closes(config: &DfuConfig, device: &DfuRecord, setup: &[u8; 8]) -> i32
+    ensures outcome { (((result ≡ pos 0) ⊎ (result ≡ pos 1)) × IsIdleRecord config.now device.now
+        × ToldClose config.now device.now (addressed config.now.interface setup.now) result)
+        ⊎ RefusesSetup config.now device.now result }
+{
+    let mode = match idle_mode(config, device) {
+        Ok(mode) => mode,
+        Err(refusal) => return refusal.number(),
+    };
+    let own = addressed(config.interface, setup);
+    if mode.may_close(config.least) && is_close(&own) {
+        1
+    } else {
+        0
+    }
+}
