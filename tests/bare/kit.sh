@@ -137,7 +137,8 @@ run_short() {
     is "$target: sessions" run sessions
     program garbled "$top/tests/c/garbled.c" "$device"
     program garbled_sessions "$top/tests/c/garbled_sessions.c" "$host"
-    for name in garbled garbled_sessions; do
+    program dfuse "$top/tests/c/dfuse.c" "$host"
+    for name in garbled garbled_sessions dfuse; do
         is "$target: $name" run "$name" 5000
     done
     for name in bootloader nor_bootloader early_stack application; do

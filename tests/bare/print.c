@@ -28,7 +28,7 @@ static void put(const char *text, size_t length) {
     }
 }
 
-static size_t length_of(const char *text) {
+size_t strlen(const char *text) {
     size_t length = 0;
     while (text[length])
         length++;
@@ -36,7 +36,7 @@ static size_t length_of(const char *text) {
 }
 
 int puts(const char *text) {
-    put(text, length_of(text));
+    put(text, strlen(text));
     return putchar('\n');
 }
 
@@ -136,7 +136,7 @@ int strcmp(const char *one, const char *other) {
 
 FILE *fopen(const char *name, const char *mode) {
     static FILE file;
-    const uintptr_t words[3] = {(uintptr_t)name, 1, length_of(name)};
+    const uintptr_t words[3] = {(uintptr_t)name, 1, strlen(name)};
     (void)mode;
     file.handle = semihost(1, words);
     return file.handle == UINTPTR_MAX ? NULL : &file;

@@ -16,6 +16,15 @@ static void is(int holds, const char *what)
         printf("wrong: %s\n", what);
 }
 
+/* The same numbers on each machine and each run. */
+static uint64_t seed = 1;
+
+static uint32_t chance(void)
+{
+    seed ^= seed << 13, seed ^= seed >> 7, seed ^= seed << 17;
+    return (uint32_t)(seed >> 16);
+}
+
 static const char f4[] = "@Internal Flash  /0x08000000/04*016Kg,01*064Kg,07*128Kg";
 
 #define EIGHT "1*1g,1*1g,1*1g,1*1g,1*1g,1*1g,1*1g,1*1g,"
@@ -70,7 +79,8 @@ static void try_maps(void)
 }
 
 static const uint8_t one[] = {1, 2, 3, 4}, two[] = {5, 6};
-static const struct dfuse_element image[] = {{0x08000000, one, 4}, {0x08004000, two, 2}};
+static const struct dfuse_element image[] = {{.address = 0x08000000, .bytes = one, .length = 4},
+                                             {.address = 0x08004000, .bytes = two, .length = 2}};
 static const struct dfuse_plan plan = {0x08000000, 1000, 2, 2048, 32, 1};
 
 /* Each request in turn, its setup and its body; W is a wait of 5 ms. What a device answers is in `answer_to`. */
@@ -89,17 +99,29 @@ static const char *const dialogue[] = {
     "2101020000000000", "a103000000000600",
 };
 
+/* Writes two digits for each byte, and the end of the text; where that is. */
+static char *spell_bytes(char *out, const uint8_t *bytes, uint64_t count)
+{
+    static const char digits[] = "0123456789abcdef";
+    for (uint64_t at = 0; at < count; at++) {
+        *out++ = digits[bytes[at] >> 4];
+        *out++ = digits[bytes[at] & 15];
+    }
+    *out = '\0';
+    return out;
+}
+
 static void spell(const struct dfuse_action *action, const uint8_t *body, char out[64])
 {
-    out[0] = '\0';
     if (action->what == DFU_WAIT) {
-        strcpy(out, action->value == 5 ? "W" : "another wait");
+        memcpy(out, action->value == 5 ? "W" : "?", 2);
         return;
     }
-    for (int at = 0; at < 8; at++)
-        sprintf(out + strlen(out), "%02x", action->setup[at]);
-    for (uint64_t at = 0; at < action->length && at < 8; at++)
-        sprintf(out + strlen(out), "%s%02x", at == 0 ? " " : "", body[at]);
+    out = spell_bytes(out, action->setup, 8);
+    if (action->length > 0) {
+        *out++ = ' ';
+        spell_bytes(out, body, action->length < 8 ? action->length : 8);
+    }
 }
 
 /* A device that needs 5 ms for each command. */
@@ -159,11 +181,14 @@ static int32_t begins(const struct dfuse_element *elements, size_t count, uint16
 
 static void try_refusals(void)
 {
-    static const struct dfuse_element twice[] = {{0x08000000, one, 4}, {0x08000003, two, 2}};
-    static const struct dfuse_element down[] = {{0x08004000, one, 4}, {0x08000000, two, 2}};
-    static const struct dfuse_element beyond[] = {{0x080fffff, two, 2}}, options[] = {{0x1fffc000, two, 2}};
-    static const struct dfuse_element empty[] = {{0x08000000, one, 0}};
-    static const struct dfuse_element system[] = {{0x08000000, one, 4}};
+    static const struct dfuse_element twice[] = {{.address = 0x08000000, .bytes = one, .length = 4},
+                                                 {.address = 0x08000003, .bytes = two, .length = 2}};
+    static const struct dfuse_element down[] = {{.address = 0x08004000, .bytes = one, .length = 4},
+                                                {.address = 0x08000000, .bytes = two, .length = 2}};
+    static const struct dfuse_element beyond[] = {{.address = 0x080fffff, .bytes = two, .length = 2}};
+    static const struct dfuse_element options[] = {{.address = 0x1fffc000, .bytes = two, .length = 2}};
+    static const struct dfuse_element empty[] = {{.address = 0x08000000, .bytes = one, .length = 0}};
+    static const struct dfuse_element system[] = {{.address = 0x08000000, .bytes = one, .length = 4}};
     struct dfuse_session session;
     struct dfuse_action action;
     uint8_t body[4];
@@ -199,15 +224,15 @@ static void try_garbled(long count)
     for (long at = 0; at < count; at++) {
         uint8_t *raw = (uint8_t *)&session;
         for (size_t i = 0; i < sizeof session; i++)
-            raw[i] = (uint8_t)(rand() & (rand() & 1 ? 0xff : 0x07));
+            raw[i] = (uint8_t)(chance() & (chance() & 1 ? 0xff : 0x07));
         session.version = DFU_VERSION;
         session.work &= at & 1 ? 7 : 0xffffffff;
         session.step &= 15;
         session.place &= 3;
         session.at = at & 2 ? session.at : 0x08000000 + (session.at & 0x7fff);
-        answered += dfuse_next(&session, (const uint8_t *)f4, strlen(f4), image, 2, body, (size_t)rand() % sizeof body, &action) == 0;
-        answered += dfuse_take(&session, (const uint8_t *)f4, strlen(f4), image, 2, (uint32_t)rand() % 9, bytes,
-                               (size_t)rand() % sizeof bytes) == 0;
+        answered += dfuse_next(&session, (const uint8_t *)f4, strlen(f4), image, 2, body, chance() % sizeof body, &action) == 0;
+        answered += dfuse_take(&session, (const uint8_t *)f4, strlen(f4), image, 2, chance() % 9, bytes,
+                               chance() % sizeof bytes) == 0;
     }
     is(answered > 0, "some records are a session's");
 }
@@ -220,10 +245,10 @@ static void try_strings(long count)
     long read = 0;
     for (long at = 0; at < count; at++) {
         uint8_t text[128];
-        size_t length = at & 1 ? strlen(f4) : (size_t)rand() % sizeof text;
+        size_t length = at & 1 ? strlen(f4) : chance() % sizeof text;
         for (size_t i = 0; i < length; i++)
-            text[i] = at & 1 ? (uint8_t)f4[i] : (uint8_t)rand();
-        text[(size_t)rand() % (length + 1)] = (uint8_t)rand();
+            text[i] = at & 1 ? (uint8_t)f4[i] : (uint8_t)chance();
+        text[chance() % (length + 1)] = (uint8_t)chance();
         if (dfuse_read_map(text, length, &map) == 0) {
             read++;
             is(map.ranges >= 1 && map.ranges <= 32 && map.name < length, "a map that was read");
@@ -237,7 +262,6 @@ static void try_strings(long count)
 int main(int count, char **words)
 {
     long runs = count > 1 ? atol(words[1]) : 100000;
-    srand(1);
     try_maps();
     try_session();
     try_refusals();

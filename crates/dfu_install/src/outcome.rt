@@ -11,7 +11,7 @@ fn is_erased(run: &[u8], sector: u32, at: u32) -> bool
     requires { length run.now < 2 ^ 32 }
     ensures { IsTrue result ↔ IsErasedSector run.now sector at }
 {
-    at as usize + sector as usize <= run.len() && are_blank(run, at, at + sector)
+    at as u64 + sector as u64 <= run.len() as u64 && are_blank(run, at, at + sector)
 }
 
 // Whether the piece that begins there reads as the image, as far as the image goes.
@@ -19,11 +19,11 @@ fn is_programmed(image: &[u8], run: &[u8], at: u32) -> bool
     requires { length run.now < 2 ^ 32 }
     ensures { IsTrue result ↔ IsProgrammed image.now run.now at }
 {
-    if at as usize + PIECE as usize > run.len() {
+    let end = at as u64 + PIECE as u64;
+    if end > run.len() as u64 {
         return false;
     }
-    let end = (at as usize + PIECE as usize).min(image.len());
-    first_difference(image, run, at, end as u32).is_none()
+    first_difference(image, run, at, end.min(image.len() as u64) as u32).is_none()
 }
 
 /// Where the last operation went, if it worked; what `next` takes as `last`.
