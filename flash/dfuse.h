@@ -74,8 +74,8 @@ struct answer dfuse_wait(struct session *session, uint32_t ms);
 /* Whether the device that is open is the one that the session was begun with. */
 bool dfuse_is_same(const struct session *session);
 
-/* What it came to, if there is a report. */
-void dfuse_verdict(const struct session *session, struct verdict *verdict);
+/* What it came to, if there is a report. False if the report, or how the device left, has a number that is none. */
+bool dfuse_verdict(const struct session *session, struct verdict *verdict);
 
 /* Prints the ranges of a setting's memory map, a line each, or why there is none. */
 void dfuse_print_map(const struct found *found);

@@ -109,15 +109,16 @@ static bool tell(struct session *session, const struct answer *answer)
     return true;
 }
 
+/* A number that dfuse_watch.h doesn't have is a mistake. */
 bool dfuse_end(struct session *session, uint32_t course)
 {
-    static const enum end ends[] = {
-        [DFU_ENDS_GONE] = END_GONE,
-        [DFU_ENDS_MANY] = END_MANY,
-        [DFU_ENDS_SILENT] = END_SILENT,
-        [DFU_ENDS_OTHER] = END_OTHER,
-    };
-    return end(session, ends[course]);
+    switch (course) {
+    case DFU_ENDS_GONE: return end(session, END_GONE);
+    case DFU_ENDS_MANY: return end(session, END_MANY);
+    case DFU_ENDS_SILENT: return end(session, END_SILENT);
+    case DFU_ENDS_OTHER: return end(session, END_OTHER);
+    default: return end(session, END_BROKEN);
+    }
 }
 
 /* One action. */

@@ -32,16 +32,21 @@ static const char *const leavings[] = {
     [DFUSE_UNKNOWN] = "; whether it starts its application isn't known",
 };
 
-void dfuse_verdict(const struct session *session, struct verdict *verdict)
+#define COUNT(table) (sizeof(table) / sizeof *(table))
+
+bool dfuse_verdict(const struct session *session, struct verdict *verdict)
 {
     const struct dfuse_action *done = &session->dfuse.done;
     size_t at = 0, length;
-    while (at < sizeof reports / sizeof *reports - 1 && reports[at].report != done->value)
+    while (at < COUNT(reports) && reports[at].report != done->value)
         at++;
+    if (at == COUNT(reports) || (done->value == DFUSE_VERIFIED && done->more >= COUNT(leavings)))
+        return false;
     snprintf(verdict->name, sizeof verdict->name, "%s", reports[at].name);
     verdict_words(verdict, session, &reports[at].meaning);
     verdict->code = done->value == DFUSE_REFUSED ? (uint8_t)done->more : 0;
     length = strlen(verdict->words);
-    if (done->value == DFUSE_VERIFIED && done->more < sizeof leavings / sizeof *leavings)
+    if (done->value == DFUSE_VERIFIED)
         snprintf(verdict->words + length, sizeof verdict->words - length, "%s", leavings[done->more]);
+    return true;
 }

@@ -36,6 +36,7 @@ static const char options[] =
     "  --interface <N>      Take the interface of this number\n"
     "  --alt <N>            Take the alternate setting of this number or name\n"
     "  --no-verify          Don't upload the image after the download to compare it\n"
+    "  --raw                Send the bytes of FILE as they are, whatever they look like\n"
     "  --upload <OUT>       Fetch the active image into a new file\n"
     "  --force              Let an upload replace a file that is there\n"
     "  --detach             Bring the device to DFU mode, and stop there\n"

@@ -1,13 +1,13 @@
 /* SPDX-License-Identifier: MIT OR Apache-2.0 */
 /* Reads the file of a download. A DfuSe file is known by its front, or by its suffix. The suffix that a raw image gets here (USB DFU 1.1,
-   appendix B) is read by the host like any other, so a mistake in it is a refusal and no other image. */
+   appendix B) is read by the host like any other, so a mistake in it is a refusal and no other image. What is raw, looks.c has. */
 #include "image.h"
 #include "files.h"
+#include "looks.h"
 #include "say.h"
 #include "session.h"
 #include "standard.h"
 
-#include <ctype.h>
 #include <dfu_host.h>
 #include <stdio.h>
 #include <string.h>
@@ -57,81 +57,27 @@ static void add_suffix(struct image *image, uint16_t vendor, uint16_t product)
         image->bytes[image->length++] = (uint8_t)(crc >> 8 * at & 0xff);
 }
 
-/* Whether so many bytes are hexadecimal digits. */
-static bool are_digits(const uint8_t *bytes, size_t count)
+/* Whether the words say for which device a raw image is, since nothing else does. */
+static bool has_target(const struct words *words)
 {
-    while (count > 0 && isxdigit(bytes[count - 1]))
-        count--;
-    return count == 0;
-}
-
-/* How --format of `dfu add` names the format of text that the file looks to be of, by its front; or NULL. */
-static const char *text_format_of(const struct image *image)
-{
-    const uint8_t *bytes = image->bytes;
-    if (image->length < 11)
-        return NULL;
-    if (bytes[0] == ':' && are_digits(bytes + 1, 10))
-        return "ihex";
-    return bytes[0] == 'S' && isdigit(bytes[1]) && are_digits(bytes + 2, 6) ? "srec" : NULL;
-}
-
-/* The same of each format. */
-static const char *format_of(const struct image *image)
-{
-    const uint8_t *bytes = image->bytes;
-    const char *text = text_format_of(image);
-    if (image->length < 11 || text != NULL)
-        return text;
-    if (memcmp(bytes, "UF2\n", 4) == 0)
-        return "uf2";
-    return memcmp(bytes,
-                  "\x7f"
-                  "ELF",
-                  4)
-                   == 0
-               ? "elf"
-               : NULL;
-}
-
-/* Whether it may be sent as it is: --device has to say for which device it is, since nothing else does; and what builds produce in a
-   format of its own isn't sent, since the device would get its text. */
-static bool is_raw(const struct image *image, const struct words *words, int32_t refusal)
-{
-    const char *format = format_of(image);
-    if (refusal != DFU_FILE_NO_SIGNATURE && refusal != DFU_FILE_TOO_SHORT)
-        return false;
-    if (format != NULL) {
-        fprintf(stderr, "dfu-flash: it looks like %s: `dfu add --format %s` takes the image out of it; --format raw takes it as it is\n",
-                format, format);
-        return false;
-    }
     if (words->has_address || (words->has_ids && words->vendor != ANY_ID && words->product != ANY_ID))
         return true;
     fputs("dfu-flash: an image without a suffix is taken with --device VID:PID, both not ffff\n", stderr);
     return false;
 }
 
-/* The refusal of a file that may not be sent. One in a build's format has its own: `dfu add` by itself would take it as it is. */
-static int32_t refuse(const struct image *image, int32_t refusal)
-{
-    if (refusal != DFU_FILE_NO_SIGNATURE || format_of(image) == NULL)
-        return refusal;
-    fputs("dfu-flash: for a DfuSe device give --address too, with the address that `dfu add --format auto` prints\n", stderr);
-    return IMAGE_FORMAT;
-}
-
 /* A file with a suffix is sent, since it says for which device. But `dfu add` without --format takes a build's text for the image. */
 static void warn(const struct image *image)
 {
-    const char *format = text_format_of(image);
+    const char *format = looks_text_format(image->bytes, image->payload);
     if (format != NULL)
         fprintf(stderr,
                 "dfu-flash: the image in the file looks like text of %s: `dfu add --format %s` takes out the image that it describes\n",
                 format, format);
 }
 
-static int32_t look(struct image *image)
+/* What the suffix says. */
+static int32_t take_suffix(struct image *image)
 {
     struct dfu_file file;
     int32_t refusal = dfu_host_file(image->bytes, image->length, &file);
@@ -143,15 +89,19 @@ static int32_t look(struct image *image)
     return 0;
 }
 
-static bool begins_as_dfuse(const struct image *image)
+/* Whether --raw goes with what the file is: it is for bytes that nobody has said anything of. */
+static bool may_be_raw(bool has_suffix, bool is_dfuse)
 {
-    static const char letters[] = "DfuSe";
-    return image->length >= sizeof letters - 1 && memcmp(image->bytes, letters, sizeof letters - 1) == 0;
+    if (is_dfuse)
+        return words_refuse("the file is a DfuSe file, so it says itself where its images belong: leave --raw out", "");
+    return !has_suffix || words_refuse("the file has a suffix, so it says itself where its image ends: leave --raw out", "");
 }
 
 /* Whether the words go with what the file is. What goes to addresses is read back, in blocks that the device counts in. */
-static bool is_fit(const struct words *words, bool is_dfuse)
+static bool is_fit(const struct words *words, bool has_suffix, bool is_dfuse)
 {
+    if (words->raw && !may_be_raw(has_suffix, is_dfuse))
+        return false;
     if (is_dfuse && !words->verify)
         return words_refuse("--no-verify doesn't go with a DfuSe file: what is written of it is read back", "");
     if (is_dfuse && words->transfer != 0)
@@ -173,24 +123,13 @@ static int32_t read_dfuse(struct image *image, const struct words *words)
     return image->says.setting == DFUSE_SEVERAL && words->alternate < 0 && words->setting == NULL ? REFUSED_MIXED : 0;
 }
 
-/* What begins as a DfuSe file is none without addresses, whatever is wrong with it; but a sound file of DFU 1.1 may have any image. */
-int32_t image_read(struct image *image, const struct words *words)
+/* A file without a suffix: all of it is the image, if it looks like nothing else or the words say so. It gets a suffix. */
+static int32_t read_raw(struct image *image, const struct words *words, const struct dfu_look *look, int32_t refusal)
 {
-    int32_t refusal;
-    if (!file_read(words->file, &image->bytes, &image->length))
-        return IMAGE_UNREAD;
-    refusal = look(image);
-    image->is_dfuse = refusal == DFU_FILE_DFUSE || (begins_as_dfuse(image) && (refusal != 0 || words->has_address));
-    if (!is_fit(words, image->is_dfuse))
-        return IMAGE_WORDS;
-    if (image->is_dfuse)
-        return read_dfuse(image, words);
-    if (refusal == 0) {
-        warn(image);
-        return 0;
-    }
-    if (!is_raw(image, words, refusal))
-        return refuse(image, refusal);
+    if (look->looks != DFU_LOOKS_RAW && !words->raw)
+        return looks_refuse(look, image->bytes, image->length, words->file);
+    if (!has_target(words))
+        return refusal;
     if (!words->quiet && words->has_address)
         fprintf(stderr, "dfu-flash: there is no suffix: all %zu bytes are written, from %08lx on\n", image->length,
                 (unsigned long)words->address);
@@ -198,5 +137,24 @@ int32_t image_read(struct image *image, const struct words *words)
         fprintf(stderr, "dfu-flash: there is no suffix: all %zu bytes are sent, to %04x:%04x\n", image->length, words->vendor,
                 words->product);
     add_suffix(image, words->has_ids ? words->vendor : ANY_ID, words->has_ids ? words->product : ANY_ID);
-    return look(image);
+    return take_suffix(image);
+}
+
+/* What begins as a DfuSe file is none without addresses, whatever is wrong with it; but a sound file of DFU 1.1 may have any image. */
+int32_t image_read(struct image *image, const struct words *words)
+{
+    struct dfu_look look;
+    int32_t refusal;
+    if (!file_read(words->file, &image->bytes, &image->length))
+        return IMAGE_UNREAD;
+    look = looks_of(image->bytes, image->length, words->file);
+    refusal = take_suffix(image);
+    image->is_dfuse = refusal == DFU_FILE_DFUSE || (look.looks == DFU_LOOKS_DFUSE && (refusal != 0 || words->has_address));
+    if (!is_fit(words, refusal == 0, image->is_dfuse))
+        return IMAGE_WORDS;
+    if (image->is_dfuse)
+        return read_dfuse(image, words);
+    if (refusal == 0)
+        warn(image);
+    return refusal == DFU_FILE_NO_SIGNATURE || refusal == DFU_FILE_TOO_SHORT ? read_raw(image, words, &look, refusal) : refusal;
 }

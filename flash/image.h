@@ -19,12 +19,18 @@ struct image {
 };
 
 /* Reads FILE of the words. A raw image, which has no suffix, gets one for the device that --device names. 0; a refusal of the host
-   (dfu_host.h), of dfuse_file.h or of session.h; IMAGE_FORMAT, the refusal of a file in a build's format; IMAGE_UNREAD if the file
-   can't be read; or IMAGE_WORDS if the words don't go with it. The last two, and what else is to know, are said on standard error. */
+   (dfu_host.h), of dfuse_file.h or of session.h; one of those from IMAGE_FORMAT on, which are of files that are no image; IMAGE_UNREAD if
+   the file can't be read; or IMAGE_WORDS if the words don't go with it. The last two, and what else is to know, are said on standard
+   error. */
 int32_t image_read(struct image *image, const struct words *words);
 
 #define IMAGE_UNREAD (-100)
 #define IMAGE_WORDS (-101)
-#define IMAGE_FORMAT (-109)
+#define IMAGE_FORMAT (-109)  /* it is HEX, S-records, UF2 or ELF */
+#define IMAGE_DAMAGED (-110) /* it is HEX or S-records, with a byte that no record has there */
+#define IMAGE_ARCHIVE (-111) /* it is packed, by zip or gzip */
+#define IMAGE_TEXT (-112)    /* it is text */
+#define IMAGE_NAMED (-113)   /* it has the name of a format that it isn't of */
+#define IMAGE_CUT (-114)     /* it has the name of a DFU file, and no suffix */
 
 #endif

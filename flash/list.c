@@ -56,7 +56,7 @@ int list_devices(libusb_context *usb, const struct wanted *wanted, bool is_json)
     int count = find_all(usb, wanted, list, FOUND_ROOM);
     if (count < 0) {
         fprintf(stderr, "dfu-flash: the list of devices can't be had: %s\n", libusb_error_name(count));
-        return record_none(STATUS_NO_DEVICE, is_json) ? STATUS_NO_DEVICE : STATUS_FILE;
+        return record_none(STATUS_NO_DEVICE, is_json);
     }
     for (int at = 0; at < count; at++)
         if (is_json)

@@ -31,7 +31,7 @@ static int say_refused(const struct words *words, int32_t refusal)
 /* There is no session, for a reason that was said. */
 static int say_none(const struct words *words, int status)
 {
-    return record_none(status, words->json) ? status : STATUS_FILE;
+    return record_none(status, words->json);
 }
 
 /* A signal came before there was a session. */

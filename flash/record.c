@@ -140,7 +140,7 @@ bool record_refused(int32_t refusal, bool is_json)
     return record_short(STATUS_REFUSED, refusal_name(refusal), refusal_words(refusal), is_json);
 }
 
-/* Why there is no session, by the status; any other one means that there is no device. */
+/* Why there is no session, by the status. */
 static const struct {
     int status;
     const char *name, *words;
@@ -151,12 +151,14 @@ static const struct {
     {STATUS_NO_DEVICE, "none", "there is no such device"},
 };
 
-bool record_none(int status, bool is_json)
+int record_none(int status, bool is_json)
 {
-    size_t at = 0;
-    while (at < sizeof nones / sizeof *nones - 1 && nones[at].status != status)
-        at++;
-    return (!is_json && each.path == NULL) || record_short(status, nones[at].name, nones[at].words, is_json);
+    const struct verdict broken = verdict_broken();
+    bool is_silent = !is_json && each.path == NULL;
+    for (size_t at = 0; at < sizeof nones / sizeof *nones; at++)
+        if (nones[at].status == status)
+            return (is_silent || record_short(status, nones[at].name, nones[at].words, is_json)) ? status : STATUS_FILE;
+    return record_short(broken.status, broken.name, broken.words, is_json) ? broken.status : STATUS_FILE;
 }
 
 bool record_out(void)

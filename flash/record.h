@@ -27,9 +27,9 @@ bool record_short(int status, const char *report, const char *words, bool is_jso
 /* The same of a session that the host refused. */
 bool record_refused(int32_t refusal, bool is_json);
 
-/* With `is_json`, the same if there was no session: a file failed, there is no device, or no access to it. Why is on
-   standard error. */
-bool record_none(int status, bool is_json);
+/* With `is_json`, the same if there was no session: a file failed, there is no device, or no access to it. Why is on standard error. The
+   status with which the program ends: that one; STATUS_FILE if standard output failed; or, if it is none of these, that of `broken`. */
+int record_none(int status, bool is_json);
 
 /* Whether all that was printed came to standard output. If it didn't, that is said on standard error. */
 bool record_out(void);

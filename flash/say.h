@@ -47,4 +47,7 @@ void verdict_words(struct verdict *verdict, const struct session *session, const
 
 struct verdict verdict_of(const struct session *session);
 
+/* That of a mistake of this program. */
+struct verdict verdict_broken(void);
+
 #endif

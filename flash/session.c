@@ -132,16 +132,26 @@ static bool begin_anew(struct session *session)
     return session->refusal == 0 || end(session, END_REFUSED);
 }
 
+/* How a course ends a session; a number that dfu_watch.h doesn't have is a mistake. */
+static enum end end_of(uint32_t course)
+{
+    switch (course) {
+    case DFU_ENDS_GONE: return END_GONE;
+    case DFU_ENDS_MANY: return END_MANY;
+    case DFU_ENDS_SILENT: return END_SILENT;
+    case DFU_ENDS_OTHER: return END_OTHER;
+    case DFU_ENDS_STALLED: return END_STALLED;
+    case DFU_ENDS_REFUSED: return END_REFUSED;
+    default: return END_BROKEN;
+    }
+}
+
 /* Whether the session goes on, as dfu_watch.h says. */
 static bool follow(struct session *session, uint32_t course, const struct answer *answer)
 {
-    static const enum end ends[] = {
-        [DFU_ENDS_GONE] = END_GONE,   [DFU_ENDS_MANY] = END_MANY,       [DFU_ENDS_SILENT] = END_SILENT,
-        [DFU_ENDS_OTHER] = END_OTHER, [DFU_ENDS_STALLED] = END_STALLED, [DFU_ENDS_REFUSED] = END_REFUSED,
-    };
     if (course == DFU_GOES_ON)
         return tell(session, answer);
-    return course == DFU_BEGINS_ANEW ? begin_anew(session) : end(session, ends[course]);
+    return course == DFU_BEGINS_ANEW ? begin_anew(session) : end(session, end_of(course));
 }
 
 /* One action. */

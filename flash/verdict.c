@@ -70,9 +70,16 @@ void verdict_words(struct verdict *verdict, const struct session *session, const
         snprintf(verdict->words, sizeof verdict->words, "%s; no block was sent", meaning->words);
 }
 
+/* A number that is no end, or an end that has no verdict, is a mistake of this program. */
+static enum end known(enum end end)
+{
+    size_t at = (size_t)end;
+    return at < sizeof ends / sizeof *ends && ends[at].name != NULL ? end : END_BROKEN;
+}
+
 static void take_end(struct verdict *verdict, const struct session *session)
 {
-    enum end end = session->end == END_REPORT ? END_BROKEN : session->end;
+    enum end end = known(session->end);
     bool is_uncompared = session->goal == GOAL_VERIFIED && session->is_whole && (end == END_GONE || end == END_STALLED);
     bool is_fetched = session->goal == GOAL_UPLOAD && session->is_fetched && end == END_UNRESET;
     is_uncompared = is_uncompared || (session->goal != GOAL_UPLOAD && session->is_whole && end == END_UNRESET);
@@ -80,23 +87,34 @@ static void take_end(struct verdict *verdict, const struct session *session)
     verdict_words(verdict, session, is_fetched ? &fetched : is_uncompared ? &uncompared[end] : &ends[end].meaning);
 }
 
+/* The report of a session with DFU 1.1. False if its number is none. */
+static bool take_report(struct verdict *verdict, const struct session *session)
+{
+    uint32_t report = session->done.value;
+    int32_t length;
+    if (report >= sizeof reports / sizeof *reports || reports[report].words == NULL)
+        return false;
+    length = dfu_host_name(report, (uint8_t *)verdict->name, sizeof verdict->name - 1);
+    verdict->name[length > 0 ? length : 0] = '\0';
+    verdict_words(verdict, session, &reports[report]);
+    verdict->code = report == DFU_REFUSED ? (uint8_t)session->done.code : 0;
+    return true;
+}
+
 struct verdict verdict_of(const struct session *session)
 {
     struct verdict verdict;
-    uint32_t report = session->done.value;
-    int32_t length;
     memset(&verdict, 0, sizeof verdict);
-    if (session->dfuse.is && session->end == END_REPORT) {
-        dfuse_verdict(session, &verdict);
+    if (session->end == END_REPORT && (session->dfuse.is ? dfuse_verdict(session, &verdict) : take_report(&verdict, session)))
         return verdict;
-    }
-    if (session->end != END_REPORT || report < DFU_INSTALLED || report > DFU_DIFFERENT) {
-        take_end(&verdict, session);
-        return verdict;
-    }
-    length = dfu_host_name(report, (uint8_t *)verdict.name, sizeof verdict.name - 1);
-    verdict.name[length > 0 ? length : 0] = '\0';
-    verdict_words(&verdict, session, &reports[report]);
-    verdict.code = report == DFU_REFUSED ? (uint8_t)session->done.code : 0;
+    take_end(&verdict, session);
+    return verdict;
+}
+
+struct verdict verdict_broken(void)
+{
+    struct verdict verdict = {.status = ends[END_BROKEN].meaning.status};
+    snprintf(verdict.name, sizeof verdict.name, "%s", ends[END_BROKEN].name);
+    snprintf(verdict.words, sizeof verdict.words, "%s", ends[END_BROKEN].meaning.words);
     return verdict;
 }

@@ -11,7 +11,7 @@
 
 /* clang-format off */
 enum option_code {
-    DEVICE = 256, PATH, SERIAL, INTERFACE, ALTERNATE, NO_VERIFY, UPLOAD, FORCE, DETACH, WAIT, TIMEOUT, LIMITS, TRANSFER_SIZE, DRY_RUN,
+    DEVICE = 256, PATH, SERIAL, INTERFACE, ALTERNATE, NO_VERIFY, RAW, UPLOAD, FORCE, DETACH, WAIT, TIMEOUT, LIMITS, TRANSFER_SIZE, DRY_RUN,
     QUIET, VERBOSE, JSON, LIST, ALL, LOG, ADDRESS, LENGTH, NO_LEAVE, HELP, VERSION
 };
 
@@ -19,6 +19,7 @@ static const struct option options[] = {
     {"device", required_argument, NULL, DEVICE},   {"path", required_argument, NULL, PATH},
     {"serial", required_argument, NULL, SERIAL},   {"interface", required_argument, NULL, INTERFACE},
     {"alt", required_argument, NULL, ALTERNATE},   {"no-verify", no_argument, NULL, NO_VERIFY},
+    {"raw", no_argument, NULL, RAW},
     {"upload", required_argument, NULL, UPLOAD},   {"force", no_argument, NULL, FORCE},
     {"detach", no_argument, NULL, DETACH},         {"wait", optional_argument, NULL, WAIT},
     {"timeout", required_argument, NULL, TIMEOUT}, {"limits", required_argument, NULL, LIMITS},
@@ -89,6 +90,7 @@ static bool take_option(struct words *words, int code, int count, char **texts)
     case 'a':
     case ALTERNATE: return value_setting(optarg, words);
     case NO_VERIFY: words->verify = false; return true;
+    case RAW: words->raw = true; return true;
     case 'D': return is_download(words, optarg);
     case 'U':
     case UPLOAD: return is_upload(words, optarg);
@@ -161,6 +163,8 @@ static bool is_fit(const struct words *words)
         return words_refuse("--force goes with --upload alone", "");
     if (!words->verify && words->job != JOB_DOWNLOAD)
         return words_refuse("--no-verify goes with a download alone", "");
+    if (words->raw && words->job != JOB_DOWNLOAD)
+        return words_refuse("--raw goes with a FILE that is downloaded", "");
     if (words->job == JOB_LIST && (has_session || words->quiet || has_trace || words->wait || words->timeout != 0))
         return words_refuse("--list goes with what chooses devices, and with --json, alone", "");
     if (words->job == JOB_DETACH && has_session)

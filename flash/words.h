@@ -32,6 +32,7 @@ struct words {
     bool has_address;         /* --address was given: DfuSe */
     uint32_t address, length; /* and --length, 0 if it wasn't */
     bool stays;               /* --no-leave was given */
+    bool raw;                 /* --raw was given */
     bool all;                 /* --all was given, */
     const char *folder;       /* and --log; or NULL */
     const struct bay *bay;    /* of one of several devices: where it is; else NULL */

@@ -21,6 +21,7 @@
 #define DFUSE_WATCH_H
 
 #include "dfu_host.h"
+#include "dfu_image.h"
 #include "dfu_watch.h"
 #include "dfuse_file.h"
 #include "dfuse_host.h"

@@ -4,9 +4,11 @@
 import { DfuseHost, FILE } from './dfuse_host.js'
 import { elementText } from './dfuse_map.js'
 import { by, download, plain, say, showFields } from './elements.js'
-import { mayBeRaw, readFile } from './files.js'
+import { lacksSuffix, mayBeRaw, readFile } from './files.js'
+import { REFUSAL } from './host.js'
+import { isCut, otherThanRaw } from './looks.js'
 import { digits } from './names.js'
-import { RawImage, otherThanRaw } from './raw.js'
+import { RawImage } from './raw.js'
 import { refusalOf } from './refusals.js'
 
 const MOST_FILE = 16777216
@@ -19,7 +21,7 @@ const target = ({ vendor, product, device }) => `${orAny(vendor)}:${orAny(produc
 export class ChosenFile {
   // onChange is called when there is another file; ids gives the identifiers of the connected device, or null if there is none.
   constructor(module, onChange, ids) {
-    Object.assign(this, { module, onChange, bytes: null, said: null, isDfuse: false, isAdded: false, name: '' })
+    Object.assign(this, { module, onChange, bytes: null, said: null, look: null, isDfuse: false, isAdded: false, name: '' })
     Object.assign(this, { choices: 0, isLocked: false, isForDfuse: false, setting: null })
     this.raw = new RawImage(bytes => this.take(bytes, this.name, true), ids)
     // The same file may be chosen again, as one that was built anew.
@@ -46,7 +48,13 @@ export class ChosenFile {
 
   // Whether all of its bytes are an image, for an address.
   isRaw() {
-    return this.isForDfuse && mayBeRaw(this, this.bytes) && otherThanRaw(this.bytes) === null
+    return this.isForDfuse && mayBeRaw(this, this.bytes)
+  }
+
+  // What a session takes of it.
+  forSession() {
+    const { bytes, isDfuse, said, look } = this
+    return { bytes, isDfuse, isRaw: this.isRaw(), said, look }
   }
 
   // No other file while a session goes on.
@@ -59,7 +67,7 @@ export class ChosenFile {
   fit(isForDfuse, setting) {
     if (isForDfuse === this.isForDfuse && setting === this.setting) return
     Object.assign(this, { isForDfuse, setting })
-    if (this.bytes !== null && (this.isDfuse || mayBeRaw(this, this.bytes))) this.render()
+    if (this.bytes !== null && (this.isDfuse || lacksSuffix(this, this.bytes))) this.render()
   }
 
   // One byte more than a file may have shows the host that it is too large. Of two files that are read at once the last chosen counts.
@@ -72,7 +80,7 @@ export class ChosenFile {
 
   // isAdded: it had no suffix, and the page added one.
   take(bytes, name, isAdded = false) {
-    Object.assign(this, { bytes, name, isAdded, ...readFile(this.module, bytes) })
+    Object.assign(this, { bytes, name, isAdded, ...readFile(this.module, bytes, name) })
     this.render()
     if (isAdded && this.isGood()) by('save').focus()
     this.onChange()
@@ -107,11 +115,13 @@ export class ChosenFile {
       ...(lines.length > 0 ? [['Elements', lines.join('\n')]] : [])]
   }
 
-  // Without a suffix it may be a raw image, if it isn't a file of another format.
+  // Without a suffix it may be a raw image. A DFU file that was cut is none, whatever a person says of it.
   refuse() {
-    const { name, words, advice } = refusalOf(this.said.refusal)
-    const other = mayBeRaw(this, this.bytes) ? otherThanRaw(this.bytes) : null
-    say('file-refused', `${name}: ${words}. ${other ?? advice}`)
-    if (mayBeRaw(this, this.bytes) && other === null) this.raw.ask(this.bytes)
+    const isSuffixed = !lacksSuffix(this, this.bytes)
+    const isOther = !isSuffixed && !mayBeRaw(this, this.bytes)
+    const { name, words, advice } = refusalOf(isOther ? REFUSAL.FILE_NO_SIGNATURE : this.said.refusal)
+    const said = isOther ? otherThanRaw(this.look, this.bytes) : { words, advice }
+    say('file-refused', `${name}: ${said.words}. ${said.advice}`)
+    if (!isSuffixed && !isCut(this.look)) this.raw.ask(this.bytes, isOther)
   }
 }

@@ -4,8 +4,7 @@
 import { canUpload } from './begin.js'
 import { FILE } from './dfuse_host.js'
 import { pagesOf } from './dfuse_map.js'
-import { beginsAsDfuse } from './files.js'
-import { Host, REFUSAL } from './host.js'
+import { Host, LOOKS, REFUSAL } from './host.js'
 import { ATTRIBUTE, FUNCTIONAL, hasAttribute, transferOf } from './names.js'
 import { fileOf } from './suffix.js'
 
@@ -27,7 +26,7 @@ export const totalOf = elements => elements.reduce((sum, { length }) => sum + le
 
 // What doesn't fit together in what a person asks for, or null. A setting was chosen, or it is the one that the file names.
 export function wordsRefusal({ file, address, isChosen }) {
-  if (!file.isDfuse) return address !== null && beginsAsDfuse(file.bytes) ? 'OwnAddress' : null
+  if (!file.isDfuse) return address !== null && file.look.looks === LOOKS.DFUSE ? 'OwnAddress' : null
   return file.said.setting === FILE.SEVERAL && !isChosen ? 'Mixed' : null
 }
 

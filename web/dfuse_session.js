@@ -15,8 +15,8 @@ const NONE = new Uint8Array(0)
 const ABORT = new Uint8Array([KIND.OUT, REQUESTS.indexOf('ABORT'), 0, 0, 0, 0, 0, 0])
 
 export class DfuseSession {
-  // file: { bytes, isDfuse, isRaw, said }. words: for which device it has to be, the address of its first byte, or null, whether a person
-  // chose the setting, and whether the device is to leave; limits and onStep are as of Session.
+  // file: { bytes, isDfuse, isRaw, said, look }. words: for which device it has to be, the address of its first byte, or null, whether a
+  // person chose the setting, and whether the device is to leave; limits and onStep are as of Session.
   constructor(host, module, wire, file, { ids, address = null, isChosen = false, leaves = true, limits = null, onStep = () => {} }) {
     Object.assign(this, { host, module, wire, board: wire.board, clock: wire.clock, trace: wire.trace, file })
     Object.assign(this, { ids, address, isChosen, leaves, limits, onStep, goal: 'verified', total: 0, elements: [] })

@@ -158,7 +158,7 @@ export class FlashView {
       vendor: named(file.said.vendor, board.is.vendor) }
     const trace = new Trace()
     const wire = new Wire(board, clock, this.asking, trace)
-    const made = prepare(this.modules.host, wire, { bytes: file.bytes, isDfuse: file.isDfuse, isRaw: file.isRaw(), said: file.said },
+    const made = prepare(this.modules.host, wire, file.forSession(),
       { ids, wantsVerified: by('verify').checked, address: words.address(), leaves: words.leaves(), isChosen: this.memories.isChosen })
     if (made.refusal === 0) {
       const progress = made.progressOf(() => clock.now(), how => this.show(how))

@@ -10,6 +10,10 @@ export const REPORT = { INSTALLED: 1, UNCONFIRMED: 2, ABORTED: 3, REFUSED: 5, UP
 export const REFUSAL = { FILE_TOO_SHORT: -1, FILE_NO_SIGNATURE: -2, FILE_DFUSE: -4, WRONG_TARGET: -22, CANNOT_DOWNLOAD: -23,
   CANNOT_UPLOAD: -24, BAD_DESCRIPTOR: -25, SHORT: -31, LONG: -32, WRONG_LENGTH: -33, WRONG_TYPE: -34 }
 
+// The numbers of dfu_image.h.
+export const LOOKS = { RAW: 0, IHEX: 1, SREC: 2, UF2: 3, ELF: 4, DFUSE: 5, ZIP: 6, GZIP: 7, TEXT: 8, NAMED: 9 }
+export const NAMED = { NONE: 0, IHEX: 1, SREC: 2, UF2: 3, ELF: 4, DFU: 5 }
+
 const MOST_ANSWER = 65536
 const NAME_ROOM = 16
 
@@ -35,6 +39,15 @@ export class Host extends Library {
     const said = this.read('dfu_file', at)
     this.payload = said.payload
     return said
+  }
+
+  // What the file looks to be under a name: one of LOOKS, what the name says, and where the first byte is that no record has there.
+  look(name) {
+    const bytes = new TextEncoder().encode(name)
+    const at = this.record('dfu_look')
+    const words = [this.file, this.fileLength, this.put(bytes), bytes.length, at]
+    this.calls.dfu_image_look(...words.map(BigInt))
+    return this.read('dfu_look', at)
   }
 
   // goal: 'download', 'verified' or 'upload'. 0, or a refusal. The file is read anew with it.

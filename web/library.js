@@ -1,8 +1,10 @@
 // SPDX-License-Identifier: MIT OR Apache-2.0
 // A proved library in WebAssembly, with its memory. Of both sizes a pointer and a size_t are BigInt (wasm64). The libraries take no
 // memory of their own: what follows __heap_base is this file's. It is handed out from the front, and given back as a whole,
-// with the instance. Each instance is its own: two sessions in two instances share nothing.
+// with the instance. Each instance is its own: two sessions in two instances share nothing. records.js is of one version of include/, which
+// web/build puts into version.js: a library of another one may have other records, and is refused.
 import { LAYOUT, readRecord, writeRecord } from './records.js'
+import { VERSION } from './version.js'
 
 const PAGE = 65536
 
@@ -10,6 +12,8 @@ export class Library {
   constructor(module) {
     this.calls = new WebAssembly.Instance(module).exports
     this.end = Number(this.calls.__heap_base.value)
+    if (this.version() !== VERSION)
+      throw new Error(`its library has version ${this.version()}, and the page version ${VERSION}: load the page anew, or build it anew`)
   }
 
   // So many bytes, all 0; where they begin. Memory that grows loses the views on it, so none is kept.
@@ -40,10 +44,10 @@ export class Library {
     return new DataView(this.calls.memory.buffer)
   }
 
-  // A record with these fields, and 0 in the others; where it begins. If it has a version it gets that of the library.
+  // A record with these fields, and 0 in the others; where it begins. If it has a version it gets that of the page.
   record(name, values = {}) {
     const at = this.reserve(LAYOUT[name].size)
-    writeRecord(this.view(), name, at, { version: this.version(), ...values })
+    writeRecord(this.view(), name, at, { version: VERSION, ...values })
     return at
   }
 
@@ -51,9 +55,10 @@ export class Library {
     return readRecord(this.view(), name, at)
   }
 
+  // The version that the library says of itself, or null.
   version() {
     const { dfu_core_version: ofDevice, dfu_host_version: ofHost } = this.calls
-    return (ofDevice ?? ofHost ?? (() => 0))()
+    return (ofDevice ?? ofHost ?? (() => null))()
   }
 }
 
@@ -62,9 +67,11 @@ export function runsWasm64() {
   return WebAssembly.validate(new Uint8Array([0, 0x61, 0x73, 0x6d, 1, 0, 0, 0, 5, 3, 1, 4, 0]))
 }
 
-// A static host may serve the module under any type, so it isn't compiled as it comes.
+// A module of the page's version. A static host may serve it under any type, so it isn't compiled as it comes.
 export async function load(name) {
   const answer = await fetch(new URL(`${name}.wasm`, import.meta.url))
   if (!answer.ok) throw new Error(`${name}.wasm can't be had: ${answer.status}; make page makes it`)
-  return WebAssembly.compile(await answer.arrayBuffer())
+  const module = await WebAssembly.compile(await answer.arrayBuffer())
+  new Library(module)
+  return module
 }

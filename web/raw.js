@@ -1,43 +1,31 @@
 // SPDX-License-Identifier: MIT OR Apache-2.0
-// A file without a suffix may be a raw image: a person says which device it is for, and the page adds the suffix. Files of other formats
-// are known by their first bytes, since of them the device would get the text and not the image.
+// A file without a suffix may be a raw image: a person says which device it is for, and the page adds the suffix. Of one that looks like
+// something else the person says first, in a box of the form, that its bytes are to be sent as they are.
 import { by, say } from './elements.js'
 import { digits } from './names.js'
 import { fileOf } from './suffix.js'
 
-const OTHERS = [
-  [/^:[0-9a-f]{10}/i, 'Intel HEX', '`objcopy -I ihex -O binary IN OUT` makes a raw image of it.'],
-  [/^S[0-9][0-9a-f]{6}/i, 'Motorola S-records', '`objcopy -I srec -O binary IN OUT` makes a raw image of it.'],
-  [/^\x7fELF/, 'an ELF file', '`objcopy -O binary IN OUT` makes a raw image of it.'],
-  [/^UF2\n/, 'UF2', 'It is for a bootloader that shows itself as a disk.'],
-  [/^PK\x03\x04/, 'a zip archive', 'Unpack it first.'],
-  [/^\x1f\x8b/, 'a gzip archive', 'Unpack it first.'],
-]
-const FRONT = 16
 const FIELDS = ['vendor', 'product', 'device']
 const IS_FOUR = /^[0-9a-f]{4}$/i
-
-// What a file without a suffix is if it is no raw image, in words; null if it may be one.
-export function otherThanRaw(bytes) {
-  const front = String.fromCharCode(...bytes.subarray(0, FRONT))
-  const found = OTHERS.find(([start]) => start.test(front))
-  return found === undefined ? null : `It looks like ${found[1]}. ${found[2]}`
-}
 
 export class RawImage {
   // onFile gets the DFU file; ids gives the identifiers of the connected device, or null if there is none.
   constructor(onFile, ids) {
-    Object.assign(this, { onFile, ids, bytes: null })
+    Object.assign(this, { onFile, ids, bytes: null, isOther: false, isGoing: false })
     by('raw-add').onclick = () => this.add()
+    by('raw-anyway').onchange = () => this.refresh(this.isGoing)
     by('raw-same').onclick = () => this.fill(this.ids())
     for (const field of FIELDS) by(`raw-${field}`).onkeydown = event => { if (event.key === 'Enter') this.add() }
   }
 
-  // Asks which device these bytes are for.
-  ask(bytes) {
-    this.bytes = bytes
+  // Asks which device these bytes are for. isOther: they look like something else than a raw image.
+  ask(bytes, isOther) {
+    Object.assign(this, { bytes, isOther })
     say('raw-wrong', '')
+    by('raw-anyway').checked = false
+    by('raw-anyway-row').hidden = !isOther
     by('raw').hidden = false
+    this.refresh(this.isGoing)
   }
 
   hide() {
@@ -46,8 +34,11 @@ export class RawImage {
   }
 
   refresh(isGoing) {
-    for (const one of by('raw').querySelectorAll('input, button')) one.disabled = isGoing
-    by('raw-same').disabled = isGoing || this.ids() === null
+    const isShut = isGoing || (this.isOther && !by('raw-anyway').checked)
+    this.isGoing = isGoing
+    for (const one of by('raw').querySelectorAll('input, button')) one.disabled = isShut
+    by('raw-anyway').disabled = isGoing
+    by('raw-same').disabled = isShut || this.ids() === null
   }
 
   // The version stays as it is: the next image is for this device too, whichever its own is.

@@ -129,7 +129,7 @@ static int say_none(void)
         say_missing(usb, &all.wanted);
         libusb_exit(usb);
     }
-    return record_none(STATUS_NO_DEVICE, all.words->json) ? STATUS_NO_DEVICE : STATUS_FILE;
+    return record_none(STATUS_NO_DEVICE, all.words->json);
 }
 
 int all_run(const struct words *words)
@@ -142,7 +142,7 @@ int all_run(const struct words *words)
     stop_catch(0);
     crew_make(&all.crew, words);
     if (look() != 0)
-        return record_none(STATUS_NO_DEVICE, words->json) ? STATUS_NO_DEVICE : STATUS_FILE;
+        return record_none(STATUS_NO_DEVICE, words->json);
     if (words->wait && !words->quiet)
         fputs("dfu-flash: each device that comes is flashed; Ctrl-C ends it\n", stderr);
     loop();

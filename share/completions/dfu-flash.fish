@@ -14,6 +14,7 @@ complete -c dfu-flash -x -s S -l serial -d 'Take the device with this serial num
 complete -c dfu-flash -x -s i -l interface -d 'Take the interface of this number'
 complete -c dfu-flash -x -s a -l alt -d 'Take the alternate setting of this number or name'
 complete -c dfu-flash -l no-verify -d 'Don\'t upload the image after the download to compare it'
+complete -c dfu-flash -l raw -d 'Send the bytes of FILE as they are, whatever they look like'
 complete -c dfu-flash -r -F -s U -l upload -d 'Fetch the active image into a new file'
 complete -c dfu-flash -l force -d 'Let an upload replace a file that is there'
 complete -c dfu-flash -s e -l detach -d 'Bring the device to DFU mode, and stop there'

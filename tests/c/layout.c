@@ -4,6 +4,7 @@
 #include "dfu_host.h"
 #include "dfuse_watch.h"
 #include "dfuse_file.h"
+#include "dfu_image.h"
 #include "dfu_install.h"
 #include "dfu_trial.h"
 #include "dfu_runtime.h"
@@ -193,6 +194,12 @@ AT(dfuse_element, length, 16);
 AT(dfuse_element, bytes_high, 12);
 AT(dfuse_element, length_high, 20);
 #endif
+
+SIZE(dfu_look, 24);
+AT(dfu_look, looks, 0);
+AT(dfu_look, named, 4);
+AT(dfu_look, line, 8);
+AT(dfu_look, column, 16);
 
 SIZE(dfuse_file, 16);
 AT(dfuse_file, targets, 0);

@@ -1,7 +1,7 @@
 """DFU files, as text of Latin 1."""
 import zlib
 
-OLD, NEW = b'the old image', b'a new image of 26 bytes ..'
+OLD, NEW = b'the old image', b'a new image of 26 bytes .\1'
 
 
 def suffixed(payload, vendor=0x1209, product=1, version=0x0100, device=0xffff):

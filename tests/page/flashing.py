@@ -103,7 +103,7 @@ def by_drop(browser, address):
 def bad_files(browser, address, work):
     good = suffixed(NEW)
     open_page(browser, address, {})
-    for name, payload, wanted in (('short', b'short', 'TooShort'), ('raw', NEW, 'NoSignature'), ('cut', good[1:], 'BadCrc'),
+    for name, payload, wanted in (('short', b'short\1', 'NoSignature'), ('raw', NEW, 'NoSignature'), ('cut', good[1:], 'BadCrc'),
                                   ('long', bytes(16777217), 'TooLarge'), ('none', b'', 'TooShort')):
         give_file(browser, work, payload, f'{name}.dfu')
         browser.wait(f'document.getElementById("file-refused").textContent.startsWith("{wanted}")')

@@ -1,4 +1,5 @@
-"""The file that is chosen. Of a raw image the page asks which device it is for, and adds the suffix; files of other formats are none."""
+"""The file that is chosen. Of a raw image the page asks which device it is for, and adds the suffix; files of other formats are none,
+unless a person says that their bytes are to be sent as they are."""
 import os
 import pathlib
 import subprocess
@@ -9,12 +10,23 @@ from files import NEW, suffixed
 from flashing import give_file, image, is_ready, report
 from layout import fits, tab_order
 from scripts import TOP
-from views import ENTER, is_labelled, is_readable, open_page, shown, tab_to
+from views import ENTER, SPACE, is_labelled, is_readable, open_page, shown, tab_to
 
 PROGRAM = pathlib.Path(os.environ.get('BUILD') or TOP / 'build').absolute() / 'dfu'
-OTHERS = {'Intel HEX': b':100000000C9434000C943E000C943E000C943E0082\n', 'Motorola S-records': b'S00600004844521B\nS1130000285F245F\n',
+HEX = b':100000000C9434000C943E000C943E000C943E0082\n:00000001FF\n'
+OTHERS = {'Intel HEX': HEX, 'Motorola S-records': b'S00600004844521B\nS1130000285F245F\n',
           'an ELF file': b'\x7fELF\x01\x01\x01' + bytes(45), 'UF2': b'UF2\n\x57\x51\x5d\x9e' + bytes(504),
-          'a zip archive': b'PK\x03\x04' + bytes(26), 'a gzip archive': b'\x1f\x8b\x08' + bytes(20)}
+          'a zip archive': b'PK\x03\x04' + bytes(26), 'a gzip archive': b'\x1f\x8b\x08' + bytes(20), 'text': b'Sensible text\n'}
+# By their names: the bytes, how the refusal begins, and what it ends in.
+DAMAGED, OF_NAME = 'the file is HEX or S-records with a mistake', "the file isn't of the format that its name says"
+ODD = {'mark.bin': (b'\xef\xbb\xbf' + HEX, 'the file is HEX, S-records, UF2 or ELF; `dfu add --format auto`', 'makes a raw image of it.'),
+       'line.hex': (b'\r\n' + HEX, 'the file is HEX, S-records, UF2 or ELF; `dfu add --format auto`', 'makes a raw image of it.'),
+       'letter.hex': (b':1O0000000C9434000C943E000C943E000C943E0082\n', DAMAGED, "line 1, column 3 is 'O'."),
+       'byte.mot': (b'S1130000285F245F\r\nS9\x01\n', DAMAGED, 'line 2, column 3 is the byte 01.'),
+       'marked.hex': (b'\xef\xbb\xbf' + HEX[:-2] + b'~\n', DAMAGED, "line 2, column 11 is '~'."),
+       'page.dfu': (b'<!DOCTYPE html>\n<title>404</title>\n', 'the file is text and no image', 'in place of the file.'),
+       'it.s19': (NEW, OF_NAME, 'one of HEX, S-records, UF2 and ELF.'), 'it.UF2': (NEW, OF_NAME, 'one of HEX, S-records, UF2 and ELF.')}
+CUT = "NoSignature: the file's name ends in .dfu, and it has no DFU suffix: it was cut short or changed; get it anew. "
 
 
 def is_asked(browser):
@@ -86,18 +98,63 @@ def by_device(browser, address, work):
     check('a raw image', (report(browser), image(browser)), ('Verified', NEW))
 
 
+def is_shut(browser, name):
+    """The form waits for its box, which nobody has ticked and no advice names."""
+    box = browser.run('const it = document.getElementById("raw-anyway"); return [it.checked, it.disabled]')
+    check(f'{name}: its box', box, [False, False])
+    shut = browser.run('return Array.from(document.querySelectorAll("#raw input, #raw button"), it => it.disabled || it.id)')
+    check(f'{name}: the form is shut', [it for it in shut if it is not True], ['raw-anyway'])
+    check_that(f'{name}: no advice leads there', 'as they are' not in shown(browser, '#file-refused'), shown(browser, '#file-refused'))
+    check(f'{name}: no file', shown(browser, '#fields'), '')
+
+
+def anyway(browser, address, work):
+    """What looks like something else is sent as it is by a person who ticks the box, and only then; of the next file it is off again."""
+    open_page(browser, address, {})
+    browser.click('#connect')
+    browser.wait('document.getElementById("device").textContent.includes("1209")')
+    give_file(browser, work, OTHERS['text'], 'text')
+    is_asked(browser)
+    is_labelled(browser, 'text as it is')
+    fits(browser, 'text as it is')
+    tab_order(browser, 'text as it is')
+    browser.click('#raw-anyway')
+    give_file(browser, work, OTHERS['Intel HEX'], 'it.hex')
+    browser.wait('document.getElementById("file-refused").textContent.includes("Intel HEX")')
+    is_shut(browser, 'the next file')
+    give_file(browser, work, OTHERS['text'], 'text')
+    browser.wait('document.getElementById("file-refused").textContent.includes("text. ")')
+    for name in ('raw-anyway', 'raw-same', 'raw-add'):
+        check('Tab leads there', tab_to(browser, name), name)
+        browser.key(SPACE)
+    is_ready(browser)
+    browser.click('#begin')
+    check('text as it is', (report(browser), image(browser)), ('Verified', OTHERS['text']))
+
+
 def others(browser, address, work):
     open_page(browser, address, {})
     for name, payload in OTHERS.items():
         give_file(browser, work, payload, name)
         browser.wait(f'document.getElementById("file-refused").textContent.includes("It looks like {name}. ")')
-        check(f'{name} is no raw image', shown(browser, '#raw'), '')
-    for name, payload in (('one byte', b'x'), ('what only begins so', b':1000'), ('the text of a suffix', b'UFD' + bytes(30))):
+        is_shut(browser, name)
+    for name, (payload, words, end) in ODD.items():
+        give_file(browser, work, payload, name)
+        browser.wait(f'document.getElementById("file-refused").textContent.startsWith("NoSignature: {words}")')
+        check_that(f'{name}: what to do', shown(browser, '#file-refused').endswith(end), shown(browser, '#file-refused'))
+        is_shut(browser, name)
+    for name, payload in (('one byte', b'\1'), ('what only begins so', b':1\1'), ('the text of a suffix', b'UFD' + bytes(30)),
+                          ('cut', suffixed(NEW)[:-5])):
         give_file(browser, work, payload, name)
         is_asked(browser)
+        check(f'{name}: there is no box', shown(browser, '#raw-anyway-row'), '')
         say_ids(browser, vendor='ffff', product='ffff')
         browser.click('#raw-add')
         check_that(f'{name}, for any device', f'{len(payload)} bytes' in shown(browser, '#fields'), shown(browser, '#fields'))
+    for name in ('cut.dfu', 'cut.DFU'):
+        give_file(browser, work, suffixed(NEW)[:-5], name)
+        browser.wait(f'document.getElementById("file-refused").textContent.startsWith("{CUT}")')
+        check(f'{name} is no raw image', shown(browser, '#raw') + shown(browser, '#fields'), '')
     give_file(browser, work, b'', 'empty.bin')
     browser.wait('document.getElementById("file-refused").textContent.startsWith("TooShort")')
     check('of no bytes', shown(browser, '#raw'), '')
@@ -133,3 +190,4 @@ def run(browser, address, work):
     by_words(browser, address, work)
     by_device(browser, address, work)
     others(browser, address, work)
+    anyway(browser, address, work)

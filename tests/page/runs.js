@@ -8,6 +8,7 @@ import { dfuseVerdictOf } from '/dfuse_reports.js'
 import { mayBeRaw, readFile } from '/files.js'
 import { Host } from '/host.js'
 import { load, runsWasm64 } from '/library.js'
+import { WORDS } from '/looks.js'
 import { prepare } from '/prepared.js'
 import { RECORDS } from '/records.js'
 import { refusalOf } from '/refusals.js'
@@ -23,7 +24,7 @@ const modules = { host: await load('dfu_host_c'), device: await load('dfu_device
 const bytesOf = text => Uint8Array.from(text, one => one.charCodeAt(0))
 const textOf = bytes => Array.from(bytes, byte => String.fromCharCode(byte)).join('')
 
-export { RECORDS, refusalOf, runsWasm64 }
+export { RECORDS, refusalOf, runsWasm64, WORDS }
 export const wordsOf = name => {
   const ended = { end: 'report', name, code: 0 }
   const { status, words } = verdictOf(ended, { hasSent: true, isWhole: false, goal: 'download' })

@@ -4,11 +4,11 @@
 # shellcheck shell=sh disable=SC2154
 pages='@Internal Flash  /0x08000000/16*001Kg'
 
-# write_here ADDRESS-WITHIN BYTES: `image`, and in `expected` the memory with it, where its pages are erased.
+# write_here ADDRESS-WITHIN BYTES: `image`, and in `expected` the memory with it, where its pages are erased. No text begins so.
 write_here() {
     at=$1 bytes=$2
     from=$((at / 1024 * 1024)) to=$(((at + bytes + 1023) / 1024 * 1024))
-    head -c "$bytes" /dev/urandom > image
+    { printf '\1'; head -c $((bytes - 1)) /dev/urandom; } > image
     {
         head -c "$from" old
         head -c $((at - from)) /dev/zero | tr '\0' '\377'

@@ -42,7 +42,7 @@ row 0 new 'verified: ' '' -d 1209:0001 --quiet -D new
 expect 'quiet' test ! -s err
 row 0 new 'verified: ' 'USB_START=app USB_AWAY=4 USB_DFU_IDS=1209:00ff:0100' --device 1209:0001,1209:00ff new
 row 0 new 'verified: ' USB_DFU_IDS=1209:00ff:0100 --device 1209:0001,1209:00ff new
-printf short > short
+printf 'shor\1' > short
 row 0 short 'verified: ' '' --device 1209:0001 short
 for words in new '--device ffff:0001 new' '--device 1209:ffff new' '--path 1-1 new'; do
     # shellcheck disable=SC2086
@@ -59,54 +59,9 @@ row 1 old 'WrongTarget: ' '' --device 1209:0001 other.dfu
 head -c 16777201 /dev/zero > large
 row 1 old 'TooLarge: ' '' --device 1209:0001 large
 row 0 old 'dry-run: ' '' --device 1209:0001 --dry-run new
-# Nor is what builds produce: the device would get the text of it. What has a suffix is sent whatever it begins with.
-printf ':0400000041414141F8\n:00000001FF\n' > it.ihex
-printf 'S1070000414141414F4\nS9030000FC\n' > it.srec
-{ printf 'UF2\n'; head -c 508 /dev/zero; } > it.uf2
-{ printf '\177ELF'; head -c 100 /dev/zero; } > it.elf
-# The refusal names the words that keep it from the device. If text was given a suffix there is a warning.
-no_suffix="NoSignature: the file has no DFU suffix; \`dfu add\` gives it one"
-of_format="NoSignature: the file is HEX, S-records, UF2 or ELF; \`dfu add --format auto\` makes a DFU file of the image in it"
-for format in ihex srec uf2 elf; do
-    case $format in ihex | srec) warnings=1 ;; *) warnings=0 ;; esac
-    for words in '--device 1209:0001' '--address 0x08000000' ''; do
-        # shellcheck disable=SC2086
-        row 1 old "$of_format" '' $words "it.$format"
-        expect "$format: the whole line" test "$(cat out)" = "$of_format"
-        found=$(grep -c 'for a DfuSe device give --address too, .*--format auto' err) || :
-        expect "$format: what a DfuSe device needs" test "$found" -eq 1
-        says "it looks like $format: \`dfu add --format $format\`"
-        expect "$format: nothing is sent" is_silent
-    done
-    "$dfu" add "it.$format" it.dfu > /dev/null
-    row 0 "it.$format" 'verified: ' USB_CAPACITY=1000 it.dfu
-    found=$(grep -c "the image in the file looks like text of $format: " err) || :
-    expect "$format: a warning" test "$found" -eq "$warnings"
-done
-for text in ':04000000x1414141' 'S10700x041414141' ':sensible text' 'Sensible text' 'UF2 is no format' ':04000000'; do
-    printf '%s' "$text" > likely
-    row 0 likely 'verified: ' USB_CAPACITY=1000 --device 1209:0001 likely
-done
-row 1 old "{\"status\":1,\"report\":\"NoSignature\",\"words\":\"${of_format#*: }\"}" '' --json it.srec
-for text in 'S10700x041414141...' ':04000000x1414141' 'a raw image of text'; do
-    printf '%s' "$text" > likely
-    row 1 old "$no_suffix" '' likely
-    expect 'no text of an image' test "$(cat out)-$(grep -c -e --format -e DfuSe err)" = "$no_suffix-0"
-done
-# Who follows it sends the image, and not its text.
-printf AAAA > inside
-printf 'S107000041414141F4\nS9030000FC\n' > whole.srec
-cp it.ihex whole.ihex
-for format in ihex srec; do
-    "$dfu" add --format auto "whole.$format" it.dfu > added
-    expect "$format: the address is printed" grep -q 'address 00000000' added
-    row 0 inside 'verified: ' '' it.dfu
-    row 0 - 'verified: ' 'USB_DEVICE=dfuse USB_IDS=1209:0001:0100' --address 0x08000000 it.dfu
-    expect "$format: the image at the address" test "$(head -c 4 saved)" = AAAA
-done
 # The suffix that it gets is that of `dfu add`, for many sizes: the host refuses one with another check sum.
 for size in 1 15 16 17 255 1000 65537; do
-    random "$size" > sized
+    { printf '\1'; head -c $((size - 1)) /dev/urandom; } > sized
     row 0 old "dry-run: download and compare $size bytes" '' --device 1209:0001 --dry-run sized
 done
 

@@ -23,7 +23,7 @@ cp "$build/dfu-flash" "$work"
 "$top/tests/usb/build" "$work"
 cd "$work" || exit
 printf 'the old image' > old
-printf 'a new image of 26 bytes ..' > new
+printf 'a new image of 26 bytes .\1' > new
 "$dfu" add new new.dfu --vid 1209 --pid 0001 > /dev/null
 "$dfu" add new any.dfu > /dev/null
 "$dfu" add new other.dfu --vid 1209 --pid 0002 > /dev/null

@@ -5,7 +5,8 @@
 #include <stdbool.h>
 #include <stdint.h>
 
-#define FILE_NAME "firmware.dfu"
+/* (A file of this name may be a raw image; one in .dfu is none.) */
+#define FILE_NAME "firmware.bin"
 #define OUT_NAME "out"
 #define MOST_FIRMWARE 6000
 

@@ -1,0 +1,161 @@
+/* SPDX-License-Identifier: MIT OR Apache-2.0 */
+/* Files that are no image: a device would be sent their text, and report it as verified. The library says what a file looks to be; here is
+   the sentence that says what was seen and what to type. */
+#include "looks.h"
+#include "image.h"
+#include "say.h"
+#include "text.h"
+
+#include <ctype.h>
+#include <inttypes.h>
+#include <string.h>
+
+/* The four formats of which `dfu add` takes the image, with the words for --format. */
+static const struct {
+    const char *name, *format;
+} formats[] = {
+    [DFU_LOOKS_IHEX] = {"Intel HEX", "ihex"},
+    [DFU_LOOKS_SREC] = {"Motorola S-records", "srec"},
+    [DFU_LOOKS_UF2] = {"UF2", "uf2"},
+    [DFU_LOOKS_ELF] = {"an ELF file", "elf"},
+};
+
+/* What a file should be by the end of its name. */
+static const char *const nameds[] = {
+    [DFU_NAMED_IHEX] = "Intel HEX",
+    [DFU_NAMED_SREC] = "S-records",
+    [DFU_NAMED_UF2] = "UF2",
+    [DFU_NAMED_ELF] = "ELF file",
+};
+
+struct dfu_look looks_of(const uint8_t *bytes, size_t length, const char *file)
+{
+    struct dfu_look look = {.looks = DFU_LOOKS_TEXT};
+    const char *name = strcmp(file, "-") == 0 ? "" : file;
+    dfu_image_look(bytes, length, (const uint8_t *)name, strlen(name), &look);
+    return look;
+}
+
+const char *looks_text_format(const uint8_t *bytes, size_t length)
+{
+    uint32_t looks = looks_of(bytes, length, "-").looks;
+    return looks == DFU_LOOKS_IHEX || looks == DFU_LOOKS_SREC ? formats[looks].format : NULL;
+}
+
+/* Whether a person can type the name: no byte of it would have to be escaped. */
+static bool can_be_typed(const char *name)
+{
+    while (*name != '\0') {
+        uint32_t character = 0;
+        size_t length = text_character(name, &character);
+        if (length == 0 || text_is_control(character))
+            return false;
+        name += length;
+    }
+    return true;
+}
+
+/* The name as one word of a shell's line, behind which a blank follows. One that can't be typed is FILE. */
+static void say_file(const char *name)
+{
+    static const char safe[] = "ABCDEFGHIJKLMNOPQRSTUVWXYZabcdefghijklmnopqrstuvwxyz0123456789_./+,:=@%-";
+    bool is_safe = name[strspn(name, safe)] == '\0';
+    if (strcmp(name, "-") == 0 || !can_be_typed(name)) {
+        fputs("FILE ", stderr);
+        return;
+    }
+    fputs(is_safe ? "" : "'", stderr);
+    fputs(*name == '-' ? "./" : "", stderr);
+    for (; *name != '\0'; name++)
+        if (*name == '\'')
+            fputs("'\\''", stderr);
+        else
+            fputc(*name, stderr);
+    fputs(is_safe ? " " : "' ", stderr);
+}
+
+/* Where a line begins, from 1 on; `length` if it isn't in the file. A byte order mark is before the first. */
+static size_t line_at(const uint8_t *bytes, size_t length, uint64_t line)
+{
+    static const uint8_t mark[] = {0xef, 0xbb, 0xbf};
+    size_t at = length >= sizeof mark && memcmp(bytes, mark, sizeof mark) == 0 ? sizeof mark : 0;
+    for (; line > 1 && at < length; at++)
+        line -= bytes[at] == '\n';
+    return at;
+}
+
+/* Why a byte is none of a record: what stands before it in its line may be blanks alone. */
+static void say_why(const struct dfu_look *look, const uint8_t *line, size_t before)
+{
+    uint8_t byte = line[before];
+    size_t at = 0;
+    while (at < before && (line[at] == ' ' || line[at] == '\t' || line[at] == '\r'))
+        at++;
+    if (at == before)
+        fprintf(stderr, ", and a record begins with %s", look->looks == DFU_LOOKS_IHEX ? "a colon" : "S and a digit");
+    else
+        fputs(isxdigit(byte) ? ", behind the end of a record" : ", which is no hexadecimal digit", stderr);
+}
+
+/* What stands where no record of Intel HEX or S-records has it. */
+static void say_odd(const struct dfu_look *look, const uint8_t *bytes, size_t length)
+{
+    size_t line = line_at(bytes, length, look->line);
+    fprintf(stderr, "dfu-flash: it is %s, and line %" PRIu64 ", column %" PRIu64 " is ", formats[look->looks].name, look->line,
+            look->column);
+    if (look->column == 0 || look->column - 1 >= length - line)
+        fputs("behind its end", stderr);
+    else {
+        size_t before = (size_t)look->column - 1;
+        uint8_t byte = bytes[line + before];
+        fprintf(stderr, byte > ' ' && byte < 0x7f ? "'%c'" : "the byte %02x", byte);
+        say_why(look, bytes + line, before);
+    }
+    fputs(": build it anew\n", stderr);
+}
+
+static int32_t say_format(const struct dfu_look *look, const char *file)
+{
+    fprintf(stderr, "dfu-flash: it is %s: `dfu add --format %s ", formats[look->looks].name, formats[look->looks].format);
+    say_file(file);
+    fputs("OUT.dfu` takes the image out of it\n", stderr);
+    fputs("dfu-flash: for a DfuSe device give --address too, with the address that `dfu add --format auto` prints\n", stderr);
+    return IMAGE_FORMAT;
+}
+
+/* Bytes under the name of a format that they don't have. */
+static int32_t say_named(const struct dfu_look *look, size_t length, const char *file)
+{
+    const char *end = strrchr(file, '.');
+    say_text(stderr, "dfu-flash: its name ends in ", end != NULL ? end : file, ", but it ");
+    if (look->named == DFU_NAMED_DFU) {
+        fprintf(stderr, "has no DFU suffix (%s): it was cut short or changed; get it anew\n",
+                length < 16 ? "it has under 16 bytes" : "the last 16 bytes are none");
+        return IMAGE_CUT;
+    }
+    if (look->named < sizeof nameds / sizeof *nameds && nameds[look->named] != NULL)
+        fprintf(stderr, "is no %s: ", nameds[look->named]);
+    else
+        fputs("is of another format: ", stderr);
+    fputs("it was cut short or changed; build it anew\n", stderr);
+    return IMAGE_NAMED;
+}
+
+int32_t looks_refuse(const struct dfu_look *look, const uint8_t *bytes, size_t length, const char *file)
+{
+    switch (look->looks) {
+    case DFU_LOOKS_IHEX:
+    case DFU_LOOKS_SREC:
+        if (look->line != 0) {
+            say_odd(look, bytes, length);
+            return IMAGE_DAMAGED;
+        }
+        return say_format(look, file);
+    case DFU_LOOKS_UF2:
+    case DFU_LOOKS_ELF: return say_format(look, file);
+    case DFU_LOOKS_ZIP: fputs("dfu-flash: it is a zip archive: unpack it first\n", stderr); return IMAGE_ARCHIVE;
+    case DFU_LOOKS_GZIP: fputs("dfu-flash: it is a gzip archive: unpack it first\n", stderr); return IMAGE_ARCHIVE;
+    case DFU_LOOKS_NAMED: return say_named(look, length, file);
+    default: fputs("dfu-flash: it is text and no image: give the file that the build made\n", stderr); return IMAGE_TEXT;
+    }
+}

@@ -1,0 +1,20 @@
+/* SPDX-License-Identifier: MIT OR Apache-2.0 */
+/* Files without a suffix that are no image. */
+#ifndef DFU_FLASH_LOOKS_H
+#define DFU_FLASH_LOOKS_H
+
+#include <dfu_image.h>
+#include <stddef.h>
+#include <stdint.h>
+
+/* What the bytes look to be, by the proved dfu_image_look. `file` is their name, or `-` for standard input, which has none. */
+struct dfu_look looks_of(const uint8_t *bytes, size_t length, const char *file);
+
+/* How the format of records of text is named by --format of `dfu add`, if the bytes look to be of one; else NULL. */
+const char *looks_text_format(const uint8_t *bytes, size_t length);
+
+/* Says of a file that isn't raw what it is, and what to do with it: a line on standard error, which for a file that `dfu add` takes is
+   followed by what a DfuSe device needs. The refusal: one of image.h. */
+int32_t looks_refuse(const struct dfu_look *look, const uint8_t *bytes, size_t length, const char *file);
+
+#endif

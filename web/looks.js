@@ -1,0 +1,48 @@
+// SPDX-License-Identifier: MIT OR Apache-2.0
+// Files without a suffix that are no image: a device would be sent their text. The library says what a file looks to be; here is what was
+// seen and what to do, in words. As flash/looks.c; the words are those of flash/refusals.c.
+import { LOOKS, NAMED } from './host.js'
+import { digits } from './names.js'
+
+export const WORDS = {
+  FORMAT: 'the file is HEX, S-records, UF2 or ELF; `dfu add --format auto` makes a DFU file of the image in it',
+  DAMAGED: 'the file is HEX or S-records with a mistake in a line; build it anew',
+  ARCHIVE: 'the file is a zip or gzip archive; unpack it first',
+  TEXT: 'the file is text and no image; give the file that the build made',
+  NAMED: "the file isn't of the format that its name says: it was cut short or changed; build it anew",
+  CUT: "the file's name ends in .dfu, and it has no DFU suffix: it was cut short or changed; get it anew",
+}
+
+const OTHERS = {
+  [LOOKS.IHEX]: ['FORMAT', 'Intel HEX', '`objcopy -I ihex -O binary IN OUT` makes a raw image of it.'],
+  [LOOKS.SREC]: ['FORMAT', 'Motorola S-records', '`objcopy -I srec -O binary IN OUT` makes a raw image of it.'],
+  [LOOKS.ELF]: ['FORMAT', 'an ELF file', '`objcopy -O binary IN OUT` makes a raw image of it.'],
+  [LOOKS.UF2]: ['FORMAT', 'UF2', 'It is for a bootloader that shows itself as a disk.'],
+  [LOOKS.ZIP]: ['ARCHIVE', 'a zip archive', 'Unpack it first.'],
+  [LOOKS.GZIP]: ['ARCHIVE', 'a gzip archive', 'Unpack it first.'],
+  [LOOKS.TEXT]: ['TEXT', 'text', 'A page of a server may have come in place of the file.'],
+}
+const MARK = [0xef, 0xbb, 0xbf]
+const LINE_FEED = 10
+
+// The byte in a line and a column, from 1, as a person reads it. A byte order mark is before the first line.
+function byteAt(bytes, line, column) {
+  let at = MARK.every((byte, place) => bytes[place] === byte) ? MARK.length : 0
+  for (let number = 1; number < line; number++) at = bytes.indexOf(LINE_FEED, at) + 1
+  const byte = bytes[at + column - 1]
+  return byte > 0x20 && byte < 0x7f ? `'${String.fromCharCode(byte)}'` : `the byte ${digits(byte, 2)}`
+}
+
+// Whether a DFU file was cut, or changed at its end: it has the name of one.
+export const isCut = ({ looks, named }) => looks === LOOKS.NAMED && named === NAMED.DFU
+
+// { words, advice } of a file that isn't raw.
+export function otherThanRaw(look, bytes) {
+  const { looks, line, column } = look
+  if (isCut(look)) return { words: WORDS.CUT, advice: 'Download the file again.' }
+  if (OTHERS[looks] === undefined) return { words: WORDS.NAMED, advice: 'Its name says one of HEX, S-records, UF2 and ELF.' }
+  const [words, name, advice] = OTHERS[looks]
+  const seen = `It looks like ${name}`
+  if (line === 0) return { words: WORDS[words], advice: `${seen}. ${advice}` }
+  return { words: WORDS.DAMAGED, advice: `${seen}, but line ${line}, column ${column} is ${byteAt(bytes, line, column)}.` }
+}
