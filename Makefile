@@ -1,18 +1,23 @@
 # Builds Fustrelan from the generated code in dist/, with GNU make and a C compiler. Nothing is proved here: ./test does that.
 #
 #   make              the programs and the libraries, in build/; what is left out is named, with the reason
-#   make check        the tests that need gcc, make and a shell; make check-all: each test whose commands are there
+#   make check        the tests that need gcc, make and a shell, as make test; make check-all: each test whose commands are there
+#   make dfu          one program, as make dfu-flash and make dfu-gadget
 #   make install      to PREFIX (/usr/local), or below DESTDIR; with UDEVDIR=/etc/udev/rules.d the rule for devices with DFU too
 #   make uninstall    takes away what make install puts there, and nothing else
-#   make libraries    the libraries alone: make libraries CC=arm-none-eabi-gcc CFLAGS='-mcpu=cortex-m4 -mthumb' BUILD=build-m4
+#   make libraries    the libraries, as make lib: make libraries CC=arm-none-eabi-gcc CFLAGS='-mcpu=cortex-m4 -mthumb' BUILD=build-m4
 #   make page         the page for browsers, in build/page
 #   make dfu-flash.exe CROSS=x86_64-w64-mingw32- CPPFLAGS=-I.. LDFLAGS=-L..
 #                     dfu-flash for Windows by mingw-w64, with libusb-1.0 for Windows in these folders; in build-x86_64-w64-mingw32/
 #   make archive      the sources as build/fustrelan-VERSION.tar.gz
 #   make clean        takes away what make built
+#   make help         prints these lines
 #
+# A line is printed for each file, and with V=1 the whole commands. The name of a folder builds what is in it, as `make flash`, or is
+# refused with what to type.
 # CPPFLAGS, CFLAGS and LDFLAGS come after what is chosen here, so that they win. With other words `make` builds anew; `make check` and
 # `make install` take what is there.
+
 # The compiler of another system, by the front of its name, and a folder for what it builds.
 ifneq ($(CROSS),)
 BUILD ?= build-$(CROSS:%-=%)
@@ -28,6 +33,7 @@ DATADIR ?= $(PREFIX)/share
 MANDIR ?= $(DATADIR)/man
 DOCDIR ?= $(DATADIR)/doc/fustrelan
 PKGCONFIGDIR ?= $(LIBDIR)/pkgconfig
+CMAKEDIR ?= $(LIBDIR)/cmake/fustrelan
 UDEVDIR ?=
 DESTDIR ?=
 BUILD ?= build
@@ -43,19 +49,78 @@ ifneq ($(words $(BUILD)),1)
 $(error BUILD names one folder, with no blank in its path: '$(BUILD)')
 endif
 
+.DEFAULT_GOAL := all
 .SECONDEXPANSION:
 .DELETE_ON_ERROR:
 .SUFFIXES:
-.PHONY: all libraries dfu-flash.exe page check check-all install uninstall archive clean FORCE
+.PHONY: all build everything libraries page check check-all install uninstall archive clean help FORCE
 
 libraries = $(BUILD)/libdfu_device.a $(BUILD)/libdfu_host.a $(BUILD)/libdfu_install.a $(BUILD)/libdfu_trial.a
 programs = $(if $(has_code),$(BUILD)/dfu) $(if $(has_libusb),$(BUILD)/dfu-flash$(exe)) $(if $(has_functionfs),$(BUILD)/dfu-gadget)
+objects = $(BUILD)/objects
 
-all: libraries $$(programs)
-	@$(if $(has_code),,echo 'dfu is left out: there is code of it for Linux on x86-64 and AArch64 alone')
-	@$(if $(has_libusb),,echo 'dfu-flash is left out: $(CC) finds no libusb-1.0 with its headers (Debian: libusb-1.0-0-dev)')
-	@$(if $(has_functionfs),,echo 'dfu-gadget is left out: $(CC) finds no linux/usb/functionfs.h (Debian: linux-libc-dev)')
+# What is left out, and why.
+no_dfu = dfu is left out: there is code of it for Linux on x86-64 and AArch64 alone
+no_dfu-flash = dfu-flash is left out: $(CC) finds no libusb-1.0 with its headers (Debian: libusb-1.0-0-dev)
+no_dfu-gadget = dfu-gadget is left out: $(CC) finds no linux/usb/functionfs.h (Debian: linux-libc-dev)
+everything: $$(programs) $(libraries) $(objects)/built
+	@$(if $(has_code),,echo '$(no_dfu)')
+	@$(if $(has_libusb),,echo '$(no_dfu-flash)')
+	@$(if $(has_functionfs),,echo '$(no_dfu-gadget)')
+
+# The last line of make: what it built, or that there was nothing to do; and what to type next, if what was built runs here. (`built` has
+# the number of the process that built.)
+list = $(if $(strip $(programs)),$(subst $(blank),$(comma) ,$(strip $(notdir $(programs)))) and )$(words $(libraries)) libraries
+blank := $(subst ,, )
+to_check = make check$(if $(filter-out build,$(BUILD)), BUILD=$(BUILD))
+runs = $(1) --version > /dev/null 2>&1
+all build: everything
+	@if [ "$$(cat $(objects)/built)" = $$PPID ]; then news='built $(list) in $(BUILD)/'; else news='$(BUILD)/ is up to date: $(list)'; fi; \
+	if $(call runs,$(BUILD)/dfu-flash); then news="$$news; next: $(BUILD)/dfu-flash --list, or $(to_check)"; \
+	elif $(call runs,$(BUILD)/dfu); then news="$$news; next: $(to_check)"; fi; \
+	$(if $(is_silent),,echo "$$news";) : > $(objects)/built
+$(objects)/built: $$(programs) $(libraries)
+	@echo $$PPID > $@
+
+# A word for a part.
 libraries: $(libraries)
+	$(call have,4 libraries)
+lib libs library: libraries
+page:
+	web/build $(BUILD)/page
+web: page
+flash: dfu-flash
+gadget: dfu-gadget
+test tests: check
+.PHONY: lib libs library web flash gadget test tests
+have = @$(if $(is_silent),:,echo '$(BUILD)/ has $(1)')
+# (In the folder of the sources itself these words are the programs' own names.)
+ifneq ($(abspath $(BUILD)),$(CURDIR))
+.PHONY: dfu dfu-flash dfu-gadget dfu-flash.exe
+dfu dfu-flash dfu-gadget: $$(filter $(BUILD)/$$@ $(BUILD)/$$@.exe,$$(programs))
+	$(if $^,$(call have,$@),@echo 'make: $(no_$@)' >&2; exit 1)
+dfu-flash.exe: $(BUILD)/dfu-flash.exe
+	$(call have,$@)
+endif
+
+# A word that is a folder here, and nothing that make builds: it says what to type.
+refuses = +@echo 'make: $(1)' >&2; exit 1
+of_crates = crates/ is proved and tried by ./test, with a Rattle kit: see CONTRIBUTING.md
+of_dist = dist/ is made by dist/generate, with a Rattle kit: see dist/README.md (make archive packs the sources)
+of_bench = bench/ has measurements, each with a command of its own: see bench/README.md
+of_debian = the packages are made by dpkg-buildpackage -b -us -uc
+of_docs = docs/ is read as it is: begin at docs/README.md, or with man share/man/dfu-flash.1
+of_doc = $(of_docs)
+of_examples = examples/ has scripts and sources: build/dfu run examples/lost-answer.script plays one; see examples/README.md
+of_include = include/ is read as it is, by gcc -I include: see include/README.md
+of_ports = ports/ is compiled in your own project: see ports/tinyusb/README.md
+of_share = share/ is put into its places by make install
+others = crates dist bench debian docs doc examples include ports share
+.PHONY: $(others)
+$(others):
+	$(call refuses,$(of_$@))
+help:
+	@sed -n '/^#/!q; s/^# \{0,1\}//p' Makefile
 
 # What the compiler has; each is looked for once, and only if it matters.
 once = $(eval $(1) := $(2))$($(1))
@@ -96,17 +161,20 @@ used_usb = $(if $(is_windows),-Wl$(comma)-Bdynamic $(usb_library) -Wl$(comma)-Bs
 portable = -std=c11 -Wall -Wextra -Iinclude $(if $(is_linux),-O2 -fPIC,-Os) -ffunction-sections -fdata-sections $(CPPFLAGS) $(CFLAGS)
 
 # Each file is made beside its place and renamed: none is half written, and two builds in one folder do each other no harm.
-objects = $(BUILD)/objects
 anew = $(objects)/words Makefile
+# run WHAT,COMMAND: a line that names the file, and what the compiler says; a command that fails is printed, and with V=1 each is.
+run = $(if $(filter-out 0,$(V)),$(2),@$(if $(is_silent),,echo '  $(1) $(@:$(objects)/%=%)';) $(2) || $(call fails,$(2)))
+fails = { printf '%s\n' '$(subst ','\'',$(1))' >&2; exit 1; }
+is_silent = $(findstring s,$(firstword -$(MAKEFLAGS)))
 define compile
 	@mkdir -p $(@D)
-	$(CC) $(1) -MMD -MP -MT $@ -MF $(@:.o=.d).$$$$ -c -o $@.$$$$ $< && mv -f $(@:.o=.d).$$$$ $(@:.o=.d) && mv -f $@.$$$$ $@
+	$(call run,CC,$(CC) $(1) -MMD -MP -MT $@ -MF $(@:.o=.d).$$$$ -c -o $@.$$$$ $< && mv -f $(@:.o=.d).$$$$ $(@:.o=.d) && mv -f $@.$$$$ $@)
 endef
 define program
-	$(CC) $(CFLAGS) $(links) -o $@.$$$$ $(filter %.o %.a,$^) $(1) && mv -f $@.$$$$ $@
+	$(call run,LD,$(CC) $(CFLAGS) $(links) -o $@.$$$$ $(filter %.o %.a,$^) $(1) && mv -f $@.$$$$ $@)
 endef
 define archive
-	rm -f $@.$$$$ && $(AR) rcsD $@.$$$$ $(filter %.o,$^) && mv -f $@.$$$$ $@
+	$(call run,AR,rm -f $@.$$$$ && $(AR) rcsD $@.$$$$ $(filter %.o,$^) && mv -f $@.$$$$ $@)
 endef
 
 of_dfu = $(objects)/dist/dfu.o $(objects)/dist/os.o
@@ -141,21 +209,17 @@ $(objects)/words: export WORDS = $(CC) $(AR) $(CPPFLAGS) $(CFLAGS) $(LDFLAGS) $(
 $(objects)/words:
 	@mkdir -p $(@D)
 	@printf '%s\n' "$$WORDS" | cmp -s - $@ || { printf '%s\n' "$$WORDS" > $@.$$$$ && mv -f $@.$$$$ $@; }
-ifeq ($(filter check check-all install,$(MAKECMDGOALS)),)
+ifeq ($(filter check check-all test tests install,$(MAKECMDGOALS)),)
 $(objects)/words: FORCE
 endif
 
-dfu-flash.exe: $(BUILD)/dfu-flash.exe
-
-page:
-	web/build $(BUILD)/page
-check check-all: all
+check check-all: everything
 	@BUILD=$(BUILD) tests/run $@
 
 # The script reads these from its environment, so that a path may have any sign.
-places = PREFIX BINDIR LIBDIR INCLUDEDIR DATADIR MANDIR DOCDIR PKGCONFIGDIR UDEVDIR DESTDIR BUILD
+places = PREFIX BINDIR LIBDIR INCLUDEDIR DATADIR MANDIR DOCDIR PKGCONFIGDIR CMAKEDIR UDEVDIR DESTDIR BUILD
 version = $(shell sed -n 's/^$(hash)define DFU_VERSION_TEXT "\(.*\)"/\1/p' include/dfu_core.h)
-install: all
+install: everything
 export $(places)
 install uninstall:
 	@VERSION=$(version) share/install $@
