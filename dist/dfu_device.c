@@ -86,6 +86,7 @@ _Static_assert(sizeof(struct dfu_place) == 8, "another layout");
 _Static_assert(_Alignof(struct dfu_place) == 4, "another layout");
 
 struct i64_i8 { uint64_t a; uint8_t b; };
+struct i8_i32 { uint8_t a; uint32_t b; };
 struct i8_i64 { uint8_t a; uint64_t b; };
 
 static inline uint16_t load16(const unsigned char *p) { uint16_t x = 0; memcpy(&x, ALIGNED(p, 2), 2); return x; }
@@ -159,6 +160,7 @@ static uint8_t dfu_device_c_mode_has_mode(unsigned char *a0);
 static void dfu_device_c_mode_mode_of(unsigned char *a0, unsigned char *a1);
 static void dfu_device_c_config_settings_of(unsigned char *a0, unsigned char *a1);
 static uint8_t dfu_device_c_config_unit_of(unsigned char *a0);
+static struct i8_i32 dfu_asks_sector_Sector_new(uint32_t a0);
 static void dfu_device_c_config_functional_of(unsigned char *a0, unsigned char *a1);
 static void dfu_device_c_format_formatting_of(unsigned char *a0, unsigned char *a1, unsigned char *a2);
 static uint8_t dfu_asks_formatting_Formatting_due(unsigned char *a0, uint64_t a2, unsigned char *a3);
@@ -184,12 +186,14 @@ static void dfu_slots_read_read_data(unsigned char *a0, uint32_t a1, uint32_t a2
 static uint8_t dfu_slots_places_is_newest(unsigned char *a0, uint32_t a1, uint32_t a2, uint8_t a3, uint8_t a4);
 static uint8_t dfu_slots_read_generation(unsigned char *a0, uint32_t a1);
 static void dfu_slots_read_header_of(unsigned char *a0, unsigned char *a1, uint32_t a2);
+static uint8_t dfu_device_c_blank_is_erased(unsigned char *a0, uint64_t a2, uint64_t a3);
 static uint8_t dfu_device_c_config_is_allowed(unsigned char *a0);
 static void dfu_wire_bytes_two_bytes(unsigned char *a0, uint16_t a1);
 static void dfu_device_c_mode_mode_in(unsigned char *a0, unsigned char *a1, unsigned char *a2);
 static void dfu_device_c_mode_idle_mode(unsigned char *a0, unsigned char *a1, unsigned char *a2);
-static void dfu_device_c_mode_set_mode(unsigned char *a0, unsigned char *a1);
+static uint8_t dfu_device_table_is_close(unsigned char *a0);
 static void dfu_wire_setups_Setup_request(unsigned char *a0, unsigned char *a1);
+static void dfu_device_c_mode_set_mode(unsigned char *a0, unsigned char *a1);
 static uint32_t dfu_device_c_power_start(unsigned char *a0, unsigned char *a1, unsigned char *a2, uint64_t a3, uint32_t a4);
 static void dfu_device_table_decide(unsigned char *a0, unsigned char *a1, unsigned char *a2, unsigned char *a3);
 static void dfu_device_plans_block(unsigned char *a0, unsigned char *a1, uint32_t a2, uint16_t a3, uint16_t a4, uint16_t a5);
@@ -387,7 +391,7 @@ join_18:
 static void dfu_device_c_config_settings_of(unsigned char *a0, unsigned char *a1) {
     _Alignas(4) unsigned char r6[10];
     uint8_t r24, r2_0_0_copyload, r2_3_0_copyload, r2_4_0_copyload, r2_6_0_copyload, r22_4_0_3_0, r22_4_0_4_0, r22_4_0_5_0, r22_4_0_6_0, r22_4_3_0;
-    uint32_t r49, r82, r84, r86, r22_4_0_10_0, r22_4_0_11_0, r22_4_0_12_0, r22_4_5_0, r22_0_0_0;
+    uint32_t r53, r82, r84, r86, r22_4_0_10_0, r22_4_0_11_0, r22_4_0_12_0, r22_4_5_0, r22_0_0_0;
     uint64_t r5_0_0, r22_4_0_0_0;
     uint16_t r2_7_0_copyload, r2_8_0_copyload, r22_4_0_7_0, r22_4_0_8_0, r22_4_0_9_0;
     r24 = dfu_device_c_config_unit_of(a1);
@@ -400,9 +404,11 @@ static void dfu_device_c_config_settings_of(unsigned char *a0, unsigned char *a1
 join_5:
     memset(a0, 0, 40);
     return;
-after_1:
-    r49 = load32(a1 + 32);
-    if (!((r49 < 0x20001U) & ((r49 & 255) == 0))) goto arm_12;
+after_1:;
+    uint32_t r49 = load32(a1 + 32);
+    struct i8_i32 r51 = dfu_asks_sector_Sector_new(r49);
+    r53 = r51.b;
+    if (!(r51.a & 1)) goto arm_12;
     uint16_t r71 = load16(a1 + 4);
     uint32_t r73 = load32a2(a1 + 6);
     dfu_device_c_config_functional_of(r6, a1);
@@ -465,7 +471,7 @@ arm_15:
     r22_4_0_11_0 = r84;
     r22_4_0_12_0 = r86;
     r22_4_3_0 = r24;
-    r22_4_5_0 = r49;
+    r22_4_5_0 = r53;
     r22_0_0_0 = 1;
 join_17:
     store32(a0, r22_0_0_0);
@@ -507,6 +513,16 @@ join_6:
     r3_0_0 = 2;
 join_3:
     return r3_0_0;
+}
+
+/* dfu_asks::sector::Sector::new */
+static struct i8_i32 dfu_asks_sector_Sector_new(uint32_t a0) {
+    uint8_t or_cond = (a0 < 0x20001U) & ((a0 & 255) == 0);
+    struct i8_i32 r24_half = (struct i8_i32){ 0, 0 };
+    r24_half.a = or_cond;
+    struct i8_i32 r24 = r24_half;
+    r24.b = (uint32_t)(or_cond ? a0 : 0);
+    return r24;
 }
 
 /* dfu_device_c::config::functional_of */
@@ -1413,6 +1429,26 @@ static void dfu_slots_read_header_of(unsigned char *a0, unsigned char *a1, uint3
     return;
 }
 
+/* dfu_device_c::blank::is_erased */
+static uint8_t dfu_device_c_blank_is_erased(unsigned char *a0, uint64_t a2, uint64_t a3) {
+    unsigned char *r9_0_0_in;
+    uint64_t r23;
+    uint8_t r7;
+    r9_0_0_in = a0 + (size_t)a2;
+    r23 = a3;
+loop_2:
+    r7 = r23 == 0;
+    if (r7) goto core_iter_base_Iterator_all_exit;
+    uint8_t r2 = *r9_0_0_in;
+    if (r2 == 255) {
+        r9_0_0_in = r9_0_0_in + 1;
+        r23 = r23 + 0xffffffffffffffffULL;
+        goto loop_2;
+    }
+core_iter_base_Iterator_all_exit:
+    return r7;
+}
+
 /* dfu_device_c::config::is_allowed */
 static uint8_t dfu_device_c_config_is_allowed(unsigned char *a0) {
     _Alignas(4) unsigned char r1[40];
@@ -1539,6 +1575,111 @@ join_7:
     return;
 }
 
+/* dfu_device::table::is_close */
+static uint8_t dfu_device_table_is_close(unsigned char *a0) {
+    _Alignas(8) unsigned char r3[8];
+    _Alignas(4) unsigned char r1[6];
+    uint8_t r28 = *a0;
+    uint8_t r32 = a0[1];
+    uint8_t r11 = a0[2];
+    uint8_t r15 = a0[3];
+    uint8_t r11_2 = a0[4];
+    uint8_t r15_2 = a0[5];
+    uint8_t r11_3 = a0[6];
+    uint8_t r15_3 = a0[7];
+    store64(r3, ((((((((uint64_t)r32 << 8) | (uint64_t)r28) | ((uint64_t)r11 << 16)) | ((uint64_t)r15 << 24)) | ((uint64_t)r11_2 << 32)) | ((uint64_t)r15_2 << 40)) | ((uint64_t)r11_3 << 48)) | ((uint64_t)r15_3 << 56));
+    dfu_wire_setups_Setup_request(r1, r3);
+    uint8_t r2 = *r1;
+    uint16_t r1_4_4_copyload = load16(r1 + 4);
+    return (r2 == 1) ? (r1_4_4_copyload == 0) : 0;
+}
+
+/* dfu_wire::setups::Setup::request */
+static void dfu_wire_setups_Setup_request(unsigned char *a0, unsigned char *a1) {
+    uint8_t r15, r52, r11_0_0_0;
+    uint16_t r47, r49, r11_10_0, r11_16_0;
+    r15 = *a1;
+    if ((r15 & 127) != 33) goto join_8;
+    uint16_t r31 = load16(a1 + 4);
+    if (r31 == 0) goto after_1;
+    goto join_8;
+join_8:
+    store16(a0, 8);
+    store16(a0 + 2, 0);
+    store16(a0 + 4, 0);
+    return;
+after_1:
+    r47 = load16(a1 + 2);
+    r49 = load16(a1 + 6);
+    r52 = a1[1];
+    switch (r15) {
+    case 33: goto arm_16;
+    case 161: goto arm_17;
+    default: goto after_15;
+    }
+arm_16:
+    switch (r52) {
+    case 0: goto arm_20;
+    case 1:
+        r11_0_0_0 = r52;
+        r11_10_0 = r47;
+        r11_16_0 = r49;
+        goto after_14;
+    case 4: goto arm_22;
+    case 6: goto arm_23;
+    default: goto after_15;
+    }
+arm_20:
+    if (r49 == 0) {
+        r11_0_0_0 = 0;
+        r11_10_0 = r47;
+        r11_16_0 = 0;
+        goto after_14;
+    }
+    goto after_15;
+arm_22:
+    if (r49 == 0) {
+        r11_0_0_0 = 4;
+        r11_10_0 = 0;
+        r11_16_0 = 0;
+        goto after_14;
+    }
+    goto after_15;
+arm_23:
+    if (r49 == 0) {
+        r11_0_0_0 = 6;
+        r11_10_0 = 0;
+        r11_16_0 = 0;
+        goto after_14;
+    }
+    goto after_15;
+arm_17:
+    switch (r52) {
+    case 2:
+        r11_0_0_0 = r52;
+        r11_10_0 = r47;
+        r11_16_0 = r49;
+        goto after_14;
+    case 3: goto arm_36;
+    case 5: goto arm_36;
+    default: goto after_15;
+    }
+arm_36:
+    r11_0_0_0 = r52;
+    r11_10_0 = r49;
+    r11_16_0 = 0;
+    goto after_14;
+after_15:
+    r11_0_0_0 = 7;
+    r11_10_0 = 0;
+    r11_16_0 = 0;
+after_14:
+    store16(a0, r11_0_0_0);
+    store16(a0 + 2, r11_10_0);
+    store16(a0 + 4, r11_16_0);
+    return;
+}
+
 /* dfu_device_c::mode::set_mode */
 static void dfu_device_c_mode_set_mode(unsigned char *a0, unsigned char *a1) {
     uint32_t v1, v2, r27_0_0, r27_15_0, r27_28_0;
@@ -1648,92 +1789,6 @@ dfu_device_c_mode_numbers_of_exit:
     store32(a0 + 8, r27_15_0);
     store32(a0 + 12, r27_28_0);
     store16(a0 + 24, r27_41_0);
-    return;
-}
-
-/* dfu_wire::setups::Setup::request */
-static void dfu_wire_setups_Setup_request(unsigned char *a0, unsigned char *a1) {
-    uint8_t r15, r52, r11_0_0_0;
-    uint16_t r47, r49, r11_10_0, r11_16_0;
-    r15 = *a1;
-    if ((r15 & 127) != 33) goto join_8;
-    uint16_t r31 = load16(a1 + 4);
-    if (r31 == 0) goto after_1;
-    goto join_8;
-join_8:
-    store16(a0, 8);
-    store16(a0 + 2, 0);
-    store16(a0 + 4, 0);
-    return;
-after_1:
-    r47 = load16(a1 + 2);
-    r49 = load16(a1 + 6);
-    r52 = a1[1];
-    switch (r15) {
-    case 33: goto arm_16;
-    case 161: goto arm_17;
-    default: goto after_15;
-    }
-arm_16:
-    switch (r52) {
-    case 0: goto arm_20;
-    case 1:
-        r11_0_0_0 = r52;
-        r11_10_0 = r47;
-        r11_16_0 = r49;
-        goto after_14;
-    case 4: goto arm_22;
-    case 6: goto arm_23;
-    default: goto after_15;
-    }
-arm_20:
-    if (r49 == 0) {
-        r11_0_0_0 = 0;
-        r11_10_0 = r47;
-        r11_16_0 = 0;
-        goto after_14;
-    }
-    goto after_15;
-arm_22:
-    if (r49 == 0) {
-        r11_0_0_0 = 4;
-        r11_10_0 = 0;
-        r11_16_0 = 0;
-        goto after_14;
-    }
-    goto after_15;
-arm_23:
-    if (r49 == 0) {
-        r11_0_0_0 = 6;
-        r11_10_0 = 0;
-        r11_16_0 = 0;
-        goto after_14;
-    }
-    goto after_15;
-arm_17:
-    switch (r52) {
-    case 2:
-        r11_0_0_0 = r52;
-        r11_10_0 = r47;
-        r11_16_0 = r49;
-        goto after_14;
-    case 3: goto arm_36;
-    case 5: goto arm_36;
-    default: goto after_15;
-    }
-arm_36:
-    r11_0_0_0 = r52;
-    r11_10_0 = r49;
-    r11_16_0 = 0;
-    goto after_14;
-after_15:
-    r11_0_0_0 = 7;
-    r11_10_0 = 0;
-    r11_16_0 = 0;
-after_14:
-    store16(a0, r11_0_0_0);
-    store16(a0 + 2, r11_10_0);
-    store16(a0 + 4, r11_16_0);
     return;
 }
 
@@ -4092,6 +4147,71 @@ dfu_device_c_image_dfu_core_image_exit:
     return signed32(common_ret_op);
 }
 
+/* dfu_core_is_blank */
+int32_t dfu_core_is_blank(const struct dfu_config *config, const uint8_t *flash, size_t size) {
+    unsigned char *a0 = (unsigned char *)(uintptr_t)config;
+    unsigned char *a1 = (unsigned char *)(uintptr_t)flash;
+    uint64_t a2 = size;
+    _Alignas(4) unsigned char r7[40];
+    unsigned char *r4;
+    uint8_t r3_2_0_copyload;
+    uint32_t r3_44_0_copyload, r17, switch_load, a0_a1, r5, r69, common_ret_op;
+    uint64_t v2, r54;
+    r4 = (unsigned char *)((uintptr_t)a1 + (uintptr_t)(uint64_t)((a1 == NULL) ? 4096 : 0));
+    store64a4(r7 + 32, 0);
+    dfu_device_c_config_settings_of(r7, a0);
+    uint8_t r22 = *r7;
+    if (r22 != 1) {
+        common_ret_op = 0xfffffffeU;
+        goto dfu_device_c_blank_dfu_core_is_blank_exit;
+    }
+    r3_2_0_copyload = r7[32];
+    r3_44_0_copyload = load32(r7 + 36);
+    struct i8_i32 r15 = dfu_asks_sector_Sector_new(r3_44_0_copyload);
+    r17 = r15.b;
+    if (!((a2 < 0x100000000ULL) & (r15.a & 1))) {
+        common_ret_op = 0xfffffffdU;
+        goto dfu_device_c_blank_dfu_core_is_blank_exit;
+    }
+    if (!((r17 < 0x20001U) & ((r17 & 255) == 0))) {
+        common_ret_op = 0xfffffffaU;
+        goto dfu_device_c_blank_dfu_core_is_blank_exit;
+    }
+    v2 = (uint64_t)r3_2_0_copyload;
+    switch_load = load32(PLACE(switch_table_dfu_core_would_stall) + 4 * (size_t)v2);
+    a0_a1 = umax32(r17, switch_load);
+    r5 = (uint32_t)a2;
+    uint32_t pre = a0_a1 << 2;
+    if (!((((r5 & 1) == 0) ? (pre < r5) : !(a2 & 1)) ? ((pre | 0x2000000U) >= r5) : 0)) {
+        common_ret_op = 0xfffffffaU;
+        goto dfu_device_c_blank_dfu_core_is_blank_exit;
+    }
+    r69 = (r5 >> 1) - (a0_a1 << 1);
+    uint32_t switch_load_2 = load32(PLACE(switch_table_dfu_asks_asking_Asking_is_fit) + 4 * (size_t)v2);
+    if ((switch_load_2 & r69) != 0) {
+        common_ret_op = 0xfffffffaU;
+        goto dfu_device_c_blank_dfu_core_is_blank_exit;
+    }
+    if (r17 == 0) goto switch_lookup1;
+    if ((r69 % r17) != 0) {
+        common_ret_op = 0xfffffffaU;
+        goto dfu_device_c_blank_dfu_core_is_blank_exit;
+    }
+switch_lookup1:
+    r54 = (uint64_t)umax32(r3_44_0_copyload, switch_load) << 1;
+    uint8_t r59 = dfu_device_c_blank_is_erased(r4, 0, r54);
+    if (!r59) goto join_14;
+    uint8_t r72 = dfu_device_c_blank_is_erased(r4, a2 >> 1, r54);
+    if (r72) {
+        common_ret_op = 1;
+        goto dfu_device_c_blank_dfu_core_is_blank_exit;
+    }
+join_14:
+    common_ret_op = 0;
+dfu_device_c_blank_dfu_core_is_blank_exit:
+    return signed32(common_ret_op);
+}
+
 /* dfu_core_functional */
 int32_t dfu_core_functional(const struct dfu_config *config, uint8_t out[9]) {
     unsigned char *a0 = (unsigned char *)(uintptr_t)config;
@@ -4211,6 +4331,43 @@ arm_2:;
     r4_0 = switch_load;
 dfu_device_c_tells_dfu_core_due_exit:
     return signed32(r4_0);
+}
+
+/* dfu_core_closes */
+int32_t dfu_core_closes(const struct dfu_config *config, const struct dfu_record *record, const uint8_t setup[8]) {
+    unsigned char *a0 = (unsigned char *)(uintptr_t)config;
+    unsigned char *a1 = (unsigned char *)(uintptr_t)record;
+    unsigned char *a2 = (unsigned char *)(uintptr_t)setup;
+    _Alignas(4) unsigned char r5[20];
+    _Alignas(8) unsigned char r4[8];
+    uint32_t common_ret_op;
+    memset(r5, 0, 20);
+    dfu_device_c_mode_idle_mode(r5, a0, a1);
+    uint8_t r14 = *r5;
+    if (r14 != 0) goto arm_2;
+    uint8_t v1 = r5[4];
+    uint32_t v2 = load32(r5 + 8);
+    uint8_t r45 = a0[15];
+    uint64_t r2_0_0_copyload = load64u(a2);
+    store64(r4, (uint64_t)((r45 == (uint8_t)(r2_0_0_copyload >> 32)) ? 0 : 0x100000000ULL) | (r2_0_0_copyload & 0xffffff00ffffffffULL));
+    uint32_t r48 = load32(a0 + 24);
+    if ((v1 == 6) ? (r48 <= v2) : 0) goto then_6;
+    goto join_8;
+arm_2:;
+    uint8_t r3_0_0_copyload = r5[1];
+    uint32_t switch_load = load32(PLACE(switch_table_dfu_device_c_numbers_Refusal_number) + 4 * (size_t)r3_0_0_copyload);
+    common_ret_op = switch_load;
+    goto dfu_device_c_closes_dfu_core_closes_exit;
+then_6:;
+    uint8_t r55 = dfu_device_table_is_close(r4);
+    if (r55) {
+        common_ret_op = 1;
+        goto dfu_device_c_closes_dfu_core_closes_exit;
+    }
+join_8:
+    common_ret_op = 0;
+dfu_device_c_closes_dfu_core_closes_exit:
+    return signed32(common_ret_op);
 }
 
 /* dfu_core_refuse */
@@ -4359,8 +4516,7 @@ int32_t dfu_core_refuse_close(const struct dfu_config *config, struct dfu_record
     uint32_t a3 = status;
     _Alignas(4) unsigned char r6[20];
     _Alignas(4) unsigned char r19[16];
-    _Alignas(8) unsigned char r3[8];
-    _Alignas(4) unsigned char r1[6];
+    _Alignas(8) unsigned char r5[8];
     uint8_t v1, r1_5_0;
     uint32_t v2, common_ret_op;
     memset(r6, 0, 20);
@@ -4388,18 +4544,16 @@ arm_2:;
     common_ret_op = switch_load;
     goto dfu_device_c_refuse_dfu_core_refuse_close_exit;
 arm_5:;
+    uint8_t r59 = a0[15];
+    uint64_t r2_0_0_copyload = load64u(a2);
+    store64(r5, (uint64_t)((r59 == (uint8_t)(r2_0_0_copyload >> 32)) ? 0 : 0x100000000ULL) | (r2_0_0_copyload & 0xffffff00ffffffffULL));
     uint32_t r62 = load32(a0 + 24);
     if (!((v1 == 6) ? (r62 <= v2) : 0)) {
         common_ret_op = 0xfffffff3U;
         goto dfu_device_c_refuse_dfu_core_refuse_close_exit;
     }
-    uint64_t r2_0_0_copyload = load64u(a2);
-    uint8_t r59 = a0[15];
-    store64(r3, (uint64_t)((r59 == (uint8_t)(r2_0_0_copyload >> 32)) ? 0 : 0x100000000ULL) | (r2_0_0_copyload & 0xffffff00ffffffffULL));
-    dfu_wire_setups_Setup_request(r1, r3);
-    uint8_t r2 = *r1;
-    uint16_t r1_4_4_copyload = load16(r1 + 4);
-    if (!((r2 == 1) ? (r1_4_4_copyload == 0) : 0)) {
+    uint8_t r73 = dfu_device_table_is_close(r5);
+    if (!r73) {
         common_ret_op = 0xfffffff3U;
         goto dfu_device_c_refuse_dfu_core_refuse_close_exit;
     }
@@ -4851,7 +5005,7 @@ int32_t dfu_core_handle(const struct dfu_config *config, struct dfu_record *reco
     _Alignas(4) unsigned char r10[6];
     _Alignas(4) unsigned char r15[6];
     unsigned char *r4, *r13, *r22, *r31, *r68, *r19, *r1_2, *r5, *v7;
-    uint16_t r4_2, v12, r9_0;
+    uint16_t r4_2, v11, r9_0;
     uint64_t r2_0_0_copyload, r1, r21, r0_97_8_copyload8_pre, r2_0_0;
     uint8_t r15_not_not;
     uint32_t r12_3_0_copyload, common_ret_op;
@@ -4902,10 +5056,10 @@ join_6:
     r38 = *r15;
     if (r38 == 8) goto arm_12_thread;
     store16(r10, r38);
-    v12 = load16(r15 + 2);
-    store16(r10 + 2, v12);
-    uint16_t v13 = load16(r15 + 4);
-    store16(r10 + 4, v13);
+    v11 = load16(r15 + 2);
+    store16(r10 + 2, v11);
+    uint16_t v12 = load16(r15 + 4);
+    store16(r10 + 4, v12);
     if (a8 != (uint64_t)(((r2_0_0_copyload & 255) == 33) ? (r2_0_0_copyload >> 48) : 0)) goto arm_12_thread;
     uint32_t r2_2 = load32(r9 + 24);
     uint32_t r2_3 = load32(r9 + 28);
@@ -4916,16 +5070,16 @@ join_6:
     store32(r11 + 16, r2_3);
     store32(r11 + 20, r2_4);
     store64(r11 + 24, (uint64_t)r12_3_0_copyload);
-    uint8_t v15 = r9[44];
-    *r28 = v15;
-    uint8_t v16 = r9[45];
-    r28[1] = v16;
-    uint32_t v17 = load32(r9 + 48);
-    store32(r28 + 4, v17);
-    uint32_t v18 = load32(r9 + 52);
-    store32(r28 + 8, v18);
-    uint32_t v19 = load32(r9 + 56);
-    store32(r28 + 12, v19);
+    uint8_t v14 = r9[44];
+    *r28 = v14;
+    uint8_t v15 = r9[45];
+    r28[1] = v15;
+    uint32_t v16 = load32(r9 + 48);
+    store32(r28 + 4, v16);
+    uint32_t v17 = load32(r9 + 52);
+    store32(r28 + 8, v17);
+    uint32_t v18 = load32(r9 + 56);
+    store32(r28 + 12, v18);
     dfu_device_table_decide(r12, r11, r28, r10);
     switch (r38) {
     case 3: goto after_2;
@@ -4951,7 +5105,7 @@ join_6:
     default: never();
     }
 after_2:
-    r9_0 = v12;
+    r9_0 = v11;
     goto arm_8;
 arm_5:;
     uint8_t r27_0_0_copyload = r9[1];

@@ -1,7 +1,7 @@
 /* SPDX-License-Identifier: MIT OR Apache-2.0
  *
- * The body of dfuse_watch.h: the hosts of USB DFU 1.1 (dfu_host.h) and of DfuSe (dfuse_host.h), DfuSe files (dfuse_file.h), and
- * when a device is given up (dfu_watch.h and this one).
+ * The body of dfuse_watch.h: the hosts of USB DFU 1.1 (dfu_host.h) and of DfuSe (dfuse_host.h), DfuSe files (dfuse_file.h),
+ * what a file is (dfu_image.h), and when a device is given up (dfu_watch.h and this one).
  *
  * Made by dist/make/library of the proved crate. Nobody edits it: change the crate, and make it anew by dist/generate. Compile it as C11
  * beside its header. Memory is arrays of bytes here, laid out as on a 64-bit processor with the low byte first: a size is a uint64_t,
@@ -77,6 +77,12 @@ _Static_assert(offsetof(struct dfu_action, code) == 24, "another layout");
 _Static_assert(offsetof(struct dfu_action, setup) == 28, "another layout");
 _Static_assert(sizeof(struct dfu_action) == 40, "another layout");
 _Static_assert(_Alignof(struct dfu_action) == 8, "another layout");
+_Static_assert(offsetof(struct dfu_look, looks) == 0, "another layout");
+_Static_assert(offsetof(struct dfu_look, named) == 4, "another layout");
+_Static_assert(offsetof(struct dfu_look, line) == 8, "another layout");
+_Static_assert(offsetof(struct dfu_look, column) == 16, "another layout");
+_Static_assert(sizeof(struct dfu_look) == 24, "another layout");
+_Static_assert(_Alignof(struct dfu_look) == 8, "another layout");
 _Static_assert(offsetof(struct dfu_watch, silent) == 0, "another layout");
 _Static_assert(offsetof(struct dfu_watch, resets) == 4, "another layout");
 _Static_assert(offsetof(struct dfu_watch, stalled) == 8, "another layout");
@@ -188,10 +194,64 @@ static _Alignas(4) const uint8_t static_0[64] = {
     0xe8, 0xa3, 0xd6, 0xd6, 0x8c, 0xb3, 0x61, 0xcb, 0xb0, 0xc2, 0x64, 0x9b, 0xd4, 0xd2, 0xd3, 0x86, 0x78, 0xe2, 0xa, 0xa0,
     0x1c, 0xf2, 0xbd, 0xbd
 };
-static _Alignas(1) const uint8_t static_2[1] = {
+static _Alignas(1) const uint8_t static_2[4] = {
+    0x2e, 0x64, 0x66, 0x75
+};
+static _Alignas(1) const uint8_t static_3[4] = {
+    0x2e, 0x68, 0x65, 0x78
+};
+static _Alignas(1) const uint8_t static_4[5] = {
+    0x2e, 0x69, 0x68, 0x65, 0x78
+};
+static _Alignas(1) const uint8_t static_5[4] = {
+    0x2e, 0x69, 0x68, 0x78
+};
+static _Alignas(1) const uint8_t static_6[4] = {
+    0x2e, 0x6d, 0x63, 0x73
+};
+static _Alignas(1) const uint8_t static_7[4] = {
+    0x2e, 0x73, 0x31, 0x39
+};
+static _Alignas(1) const uint8_t static_8[4] = {
+    0x2e, 0x73, 0x32, 0x38
+};
+static _Alignas(1) const uint8_t static_9[4] = {
+    0x2e, 0x73, 0x33, 0x37
+};
+static _Alignas(1) const uint8_t static_10[5] = {
+    0x2e, 0x73, 0x72, 0x65, 0x63
+};
+static _Alignas(1) const uint8_t static_11[4] = {
+    0x2e, 0x6d, 0x6f, 0x74
+};
+static _Alignas(1) const uint8_t static_12[4] = {
+    0x2e, 0x75, 0x66, 0x32
+};
+static _Alignas(1) const uint8_t static_13[4] = {
+    0x2e, 0x65, 0x6c, 0x66
+};
+static _Alignas(1) const uint8_t static_14[4] = {
+    0x2e, 0x61, 0x78, 0x66
+};
+static _Alignas(1) const uint8_t static_15[5] = {
+    0x44, 0x66, 0x75, 0x53, 0x65
+};
+static _Alignas(1) const uint8_t static_16[4] = {
+    0x55, 0x46, 0x32, 0xa
+};
+static _Alignas(1) const uint8_t static_17[4] = {
+    0x7f, 0x45, 0x4c, 0x46
+};
+static _Alignas(1) const uint8_t static_18[4] = {
+    0x50, 0x4b, 3, 4
+};
+static _Alignas(1) const uint8_t static_19[2] = {
+    0x1f, 0x8b
+};
+static _Alignas(1) const uint8_t static_20[1] = {
     0
 };
-static _Alignas(1) const uint8_t static_3[114] = {
+static _Alignas(1) const uint8_t static_21[114] = {
     0x69, 0x6e, 0x73, 0x74, 0x61, 0x6c, 0x6c, 0x65, 0x64, 0x20, 0x75, 0x6e, 0x63, 0x6f, 0x6e, 0x66, 0x69, 0x72, 0x6d, 0x65,
     0x64, 0x20, 0x61, 0x62, 0x6f, 0x72, 0x74, 0x65, 0x64, 0x20, 0x67, 0x61, 0x76, 0x65, 0x2d, 0x75, 0x70, 0x20, 0x72, 0x65,
     0x66, 0x75, 0x73, 0x65, 0x64, 0x20, 0x72, 0x65, 0x73, 0x74, 0x61, 0x72, 0x74, 0x73, 0x2d, 0x73, 0x70, 0x65, 0x6e, 0x74,
@@ -222,6 +282,15 @@ static void dfuse_memory_place_take_address(unsigned char *a0, unsigned char *a1
 static void dfuse_memory_digits_take_number(unsigned char *a0, uint64_t a1, uint64_t a2, unsigned char *a3, uint64_t a4);
 static uint64_t dfuse_memory_digits_digit_value(uint8_t a0);
 static void dfu_host_c_file_file_in(unsigned char *a0, unsigned char *a1, uint64_t a2);
+static uint8_t dfu_images_endings_ends_in(unsigned char *a0, uint64_t a1, unsigned char *a2, uint64_t a3);
+static uint8_t dfu_images_looks_has_digits(unsigned char *a0, uint64_t a1);
+static uint8_t dfu_images_digits_hex_digit(uint8_t a0);
+static uint8_t core_slice_reads_slice_T_starts_with_i8_core_cmp_numbers_U8PartialEq(unsigned char *a0, uint64_t a1, unsigned char *a2, uint64_t a3);
+static uint8_t core_slice_scan_any_in_ends(unsigned char *a0, uint64_t a1, uint64_t a2);
+static uint64_t core_slice_scan_skip_groups(unsigned char *a0, uint64_t a1, uint64_t a2, uint64_t a3);
+static uint8_t core_slice_scan_any_in_run(unsigned char *a0, uint64_t a1, uint64_t a2);
+static uint8_t dfu_images_text_is_text(unsigned char *a0, uint64_t a1);
+static void dfu_images_places_bad_from(unsigned char *a0, uint8_t a1, unsigned char *a2, uint64_t a3);
 static void dfu_host_c_reports_report_at(unsigned char *a0, uint64_t a1, uint32_t a2);
 static void dfu_host_c_holding_session_of(unsigned char *a0, unsigned char *a1, unsigned char *a2, uint64_t a3);
 static void dfu_host_c_holding_record_of(unsigned char *a0, unsigned char *a1, uint64_t a2);
@@ -238,10 +307,7 @@ static uint32_t dfu_host_c_beginning_install(unsigned char *a0, unsigned char *a
 static void dfu_host_refusing_goal_to_install(unsigned char *a0, unsigned char *a1, unsigned char *a2, unsigned char *a3, uint8_t a4);
 static void dfu_host_session_Session_on_result(unsigned char *a0, unsigned char *a1, uint8_t a2);
 static void dfu_wire_statuses_Status_decode(unsigned char *a0, unsigned char *a1, uint64_t a2);
-static uint8_t core_slice_scan_any_in_ends(unsigned char *a0, uint64_t a1, uint64_t a2);
-static uint64_t core_slice_scan_skip_groups(unsigned char *a0, uint64_t a1, uint64_t a2, uint64_t a3);
 static uint8_t core_slice_scan_any_by_one(unsigned char *a0, uint64_t a1);
-static uint8_t core_slice_scan_any_in_run(unsigned char *a0, uint64_t a1, uint64_t a2);
 static uint8_t core_cmp_slices_groups_equal_i8_core_cmp_numbers_U8PartialEq(unsigned char *a0, uint64_t a1, unsigned char *a2, uint64_t a3);
 static void dfu_host_progress_Progress_restarted(unsigned char *a0, unsigned char *a1);
 static void dfu_host_progress_Progress_spent(unsigned char *a0, unsigned char *a1, unsigned char *a2, uint16_t a3);
@@ -335,7 +401,7 @@ static void dfuse_file_file_read(unsigned char *a0, unsigned char *a1, uint64_t 
     _Alignas(8) unsigned char r8[48];
     unsigned char *const r5_2 = r8;
     unsigned char *v1, *r5_2_0_r25_sroa_idx, *r5_32_0_r25_sroa_idx, *r5_4_0_r25_sroa_idx, *r5_5_0_r25_sroa_idx, *r5_5_3_0_r5_5_0_r25_sroa_idx_sroa_idx, *r4_2_0_r19_sroa_idx, *r4_3_0_r19_sroa_idx, *r21;
-    uint64_t r2_0, wide_1293, r19, r3_0_0, r3_5_0, r5_5_0_0_copyload, r5_5_3_0_copyload, r3_0_0_2, r3_5_0_2, r6_26_0, r6_27_0;
+    uint64_t r2_0, wide_1311, r19, r3_0_0, r3_5_0, r5_5_0_0_copyload, r5_5_3_0_copyload, r3_0_0_2, r3_5_0_2, r6_26_0, r6_27_0;
     uint16_t r7_0_0, r7_0_0_2, r7_0_0_3, r6_17_1_0, r6_17_8_0, r6_17_9_0;
     uint8_t r98, r7_0, r4_0_0_copyload_pn, r5_4_0, r6_0_0, r6_9_0, r6_24_0;
     uint32_t r5_2_0_copyload, r6_0;
@@ -502,7 +568,7 @@ arm_1:;
         r6_27_0 = 0;
         goto dfuse_file_file_read_file_exit;
     }
-    wide_1293 = (uint64_t)(uintptr_t)(a1 + 11);
+    wide_1311 = (uint64_t)(uintptr_t)(a1 + 11);
     r19 = r2_0 + 0xfffffffffffffff5ULL;
     r5_2_0_r25_sroa_idx = r9 + 32;
     r5_32_0_r25_sroa_idx = r9 + 40;
@@ -512,7 +578,7 @@ arm_1:;
     r4_2_0_r19_sroa_idx = r8 + 32;
     r4_3_0_r19_sroa_idx = r8 + 40;
     r21 = r8 + 1;
-    r3_0_0 = wide_1293;
+    r3_0_0 = wide_1311;
     r3_5_0 = r19;
     r7_0 = 0;
 loop_2_2:
@@ -583,7 +649,7 @@ dfuse_file_targets_check_targets_exit:
     r6_0_0 = 0;
     r6_9_0 = 0;
     r6_24_0 = r98;
-    r6_26_0 = wide_1293;
+    r6_26_0 = wide_1311;
     r6_27_0 = r19;
     goto dfuse_file_file_read_file_exit;
 arm_2:
@@ -852,7 +918,7 @@ join_9:;
 static void dfuse_file_elements_take_element(unsigned char *a0, unsigned char *a1, uint64_t a2) {
     uint32_t r26, r26_2;
     unsigned char *r16;
-    uint64_t wide_1293, r19, r49;
+    uint64_t wide_1311, r19, r49;
     if (a2 < 8) goto then_1;
     goto join_3;
 then_1:
@@ -864,7 +930,7 @@ join_3:
     r26 = load32u(a1);
     r26_2 = load32u(a1 + 4);
     r16 = a1 + 8;
-    wide_1293 = (uint64_t)(uintptr_t)r16;
+    wide_1311 = (uint64_t)(uintptr_t)r16;
     r19 = a2 + 0xfffffffffffffff8ULL;
     r49 = (uint64_t)r26_2;
     if (r19 >= r49) goto join_6;
@@ -889,7 +955,7 @@ join_12:
     a0[1] = 0;
     store32(a0 + 8, r26);
     store32(a0 + 12, 0);
-    store64(a0 + 16, wide_1293);
+    store64(a0 + 16, wide_1311);
     store64(a0 + 24, r49);
     store64(a0 + 32, (uint64_t)(uintptr_t)(r16 + (size_t)r49));
     store64(a0 + 40, r19 - r49);
@@ -908,7 +974,7 @@ static void dfuse_memory_map_Map_read(unsigned char *a0, unsigned char *a1, uint
     unsigned char *const r4 = r1;
     unsigned char *const r5 = r1;
     _Alignas(8) unsigned char r16_2[32];
-    uint64_t r19, wide_1293, r23, r3_0, r3_0_2, r4_0, r8_6_3_6_copyload, r8_6_5_6_copyload, r8_6_6_6_copyload, r2_0, r3_2, r5_0_0;
+    uint64_t r19, wide_1311, r23, r3_0, r3_0_2, r4_0, r8_6_3_6_copyload, r8_6_5_6_copyload, r8_6_6_6_copyload, r2_0, r3_2, r5_0_0;
     uint64_t r5_4_0, r4_0_2, r21, r3_4_0_copyload, r17, r3_4_0_copyload_2, r1_0, r5_6_4_0_ph221, r5_6_1_0_ph219, r17_2, r21_2, r19_4;
     uint64_t r8_17_0_0, r8_17_5_0, r8_13_0, r4_2, indvars_iv_in, r4_0_3, indvars_iv, r51, r19_5, r3_0_3, r9_2, r11_2;
     uint64_t r3_0_lcssa, r0_131_0, r0_19_0;
@@ -921,7 +987,7 @@ static void dfuse_memory_map_Map_read(unsigned char *a0, unsigned char *a1, uint
     if (r25 != 64) goto arm_2;
     r19 = a2 + 0xffffffffffffffffULL;
     r16 = a1 + 1;
-    wide_1293 = (uint64_t)(uintptr_t)r16;
+    wide_1311 = (uint64_t)(uintptr_t)r16;
     r4_0_0_in = r16;
     r23 = r19;
     r3_0 = 0;
@@ -1180,7 +1246,7 @@ join_13:
     memcpy(r0_20, r20_11_8_r60_sroa_idx, 776);
     r0_0_0 = 0;
     r0_7_0 = 0;
-    r0_131_0 = wide_1293;
+    r0_131_0 = wide_1311;
     r0_19_0 = r3_0_2;
 dfuse_memory_map_read_map_exit:
     *a0 = r0_0_0;
@@ -1349,6 +1415,341 @@ static void dfu_host_c_file_file_in(unsigned char *a0, unsigned char *a1, uint64
     return;
 }
 
+/* dfu_images::endings::ends_in */
+static uint8_t dfu_images_endings_ends_in(unsigned char *a0, uint64_t a1, unsigned char *a2, uint64_t a3) {
+    uint8_t common_ret_op, exitcond_not;
+    unsigned char *r16;
+    uint64_t r5_0;
+    if (a3 >= a1) goto join_3;
+    common_ret_op = 0;
+common_ret:
+    return common_ret_op;
+join_3:
+    r16 = a2 + (size_t)(a3 - a1);
+    r5_0 = 0;
+loop_5:
+    exitcond_not = r5_0 == a1;
+    if (exitcond_not) {
+        common_ret_op = exitcond_not;
+        goto common_ret;
+    }
+    uint8_t r46 = r16[(size_t)r5_0];
+    uint8_t r52 = a0[(size_t)r5_0];
+    if ((uint8_t)(((uint8_t)(r46 + 191) < 26) ? (uint8_t)(r46 + 32) : r46) == (uint8_t)(((uint8_t)(r52 + 191) < 26) ? (uint8_t)(r52 + 32) : r52)) {
+        r5_0 = r5_0 + 1;
+        goto loop_5;
+    }
+    common_ret_op = exitcond_not;
+    goto common_ret;
+}
+
+/* dfu_images::looks::has_digits */
+static uint8_t dfu_images_looks_has_digits(unsigned char *a0, uint64_t a1) {
+    uint8_t r5_0_off0;
+    if (a1 < 2) {
+        r5_0_off0 = 0;
+        goto after_1;
+    }
+    uint8_t r28 = *a0;
+    uint8_t r30 = dfu_images_digits_hex_digit(r28);
+    if (r30 >= 16) {
+        r5_0_off0 = 0;
+        goto after_1;
+    }
+    uint8_t r37 = a0[1];
+    uint8_t r39 = dfu_images_digits_hex_digit(r37);
+    r5_0_off0 = r39 < 16;
+after_1:
+    return r5_0_off0;
+}
+
+/* dfu_images::digits::hex_digit */
+static uint8_t dfu_images_digits_hex_digit(uint8_t a0) {
+    uint8_t r1_0;
+    if (a0 < 48) {
+        r1_0 = 16;
+        goto after_1;
+    }
+    if (a0 >= 58) goto join_8;
+    r1_0 = (uint8_t)(a0 + 208);
+    goto after_1;
+join_8:
+    if (a0 < 65) {
+        r1_0 = 16;
+        goto after_1;
+    }
+    if (a0 >= 71) goto join_14;
+    r1_0 = (uint8_t)(a0 + 201);
+    goto after_1;
+join_14:
+    r1_0 = (uint8_t)(((uint8_t)(a0 + 159) < 6) ? (uint8_t)(a0 + 169) : 16);
+after_1:
+    return r1_0;
+}
+
+/* core::slice::reads::slice+T::starts_with::<i8,31'core::cmp::numbers::U8PartialEq{}> */
+static uint8_t core_slice_reads_slice_T_starts_with_i8_core_cmp_numbers_U8PartialEq(unsigned char *a0, uint64_t a1, unsigned char *a2, uint64_t a3) {
+    _Alignas(8) unsigned char r9[32];
+    uint8_t common_ret_op, common_ret_op_2;
+    if (a1 >= a3) goto join_3;
+    common_ret_op = 0;
+common_ret:
+    return common_ret_op;
+join_3:
+    store64(r9, (uint64_t)(uintptr_t)a2);
+    store64(r9 + 8, a3);
+    store64(r9 + 16, (uint64_t)(uintptr_t)a0);
+    store64(r9 + 24, a3);
+    if (a3 >= 4) goto join_6;
+    uint8_t r7 = core_slice_scan_any_in_run(r9, 0, 1);
+    uint8_t r11 = core_slice_scan_any_in_run(r9, 1, 1);
+    uint8_t r21 = core_slice_scan_any_in_run(r9, a3 + 0xffffffffffffffffULL, 1);
+    common_ret_op_2 = (r7 | r11) | r21;
+    goto core_cmp_slices_parts_equal_i8_core_cmp_numbers_U8PartialEq_exit;
+join_6:;
+    uint8_t r41 = core_slice_scan_any_in_ends(r9, a3, 4);
+    common_ret_op_2 = r41;
+core_cmp_slices_parts_equal_i8_core_cmp_numbers_U8PartialEq_exit:
+    common_ret_op = !common_ret_op_2;
+    goto common_ret;
+}
+
+/* core::slice::scan::any_in_ends::<#953750c03e87c3e2> */
+static uint8_t core_slice_scan_any_in_ends(unsigned char *a0, uint64_t a1, uint64_t a2) {
+    uint8_t r4 = core_slice_scan_any_in_run(a0, 0, a2);
+    uint8_t r8 = core_slice_scan_any_in_run(a0, a1 - a2, a2);
+    return r4 | r8;
+}
+
+/* core::slice::scan::skip_groups::<#953750c03e87c3e2> */
+static uint64_t core_slice_scan_skip_groups(unsigned char *a0, uint64_t a1, uint64_t a2, uint64_t a3) {
+    uint64_t v0, r1_0;
+    v0 = a3 + 0xffffffffffffffffULL;
+    r1_0 = a1;
+loop_2:
+    if (v0 >= (a2 - r1_0)) goto after_1;
+    uint8_t r22 = core_slice_scan_any_in_run(a0, r1_0, a3);
+    if (r22) goto after_1;
+    r1_0 = r1_0 + a3;
+    goto loop_2;
+after_1:
+    return r1_0;
+}
+
+/* core::slice::scan::any_in_run::<#953750c03e87c3e2> */
+static uint8_t core_slice_scan_any_in_run(unsigned char *a0, uint64_t a1, uint64_t a2) {
+    unsigned char *r14, *r19;
+    uint64_t r2_0;
+    uint8_t r1_0_off0;
+    uint64_t r3_0_0_copyload = load64(a0);
+    uint64_t r4_0_0_copyload = load64(a0 + 16);
+    r14 = (unsigned char *)(uintptr_t)r3_0_0_copyload;
+    r19 = (unsigned char *)(uintptr_t)r4_0_0_copyload;
+    r2_0 = 0;
+    r1_0_off0 = 0;
+loop_2:
+    if (r2_0 == a2) goto after_1;
+    uint64_t r12 = r2_0 + a1;
+    uint8_t r3 = r14[(size_t)r12];
+    uint8_t r4 = r19[(size_t)r12];
+    r2_0 = r2_0 + 1;
+    r1_0_off0 = r1_0_off0 | (r3 != r4);
+    goto loop_2;
+after_1:
+    return r1_0_off0;
+}
+
+/* dfu_images::text::is_text */
+static uint8_t dfu_images_text_is_text(unsigned char *a0, uint64_t a1) {
+    uint8_t r3_0_0, r3_5_0, r3_8_0, r27, r10_5_011, r10_8_010, r10_10_09;
+    uint64_t r4_0;
+    uint8_t r3_0_in;
+    if (a1 == 0) {
+        r3_0_in = 0;
+        goto join_3;
+    }
+    r3_0_0 = 0;
+    r3_5_0 = 128;
+    r3_8_0 = 191;
+    r4_0 = 0;
+loop_3:
+    if (r4_0 == a1) goto after_1;
+    r27 = a0[(size_t)r4_0];
+    if (r3_0_0 != 0) goto join_3_2;
+    switch (r27) {
+    case 224:
+        r10_5_011 = 2;
+        r10_8_010 = 160;
+        r10_10_09 = 191;
+        goto arm_8;
+    case 237: goto arm_2;
+    case 240: goto arm_3;
+    case 244: goto arm_4;
+    default: goto default_5;
+    }
+arm_2:
+    r10_5_011 = 2;
+    r10_8_010 = 128;
+    r10_10_09 = 159;
+    goto arm_8;
+arm_3:
+    r10_5_011 = 3;
+    r10_8_010 = 144;
+    r10_10_09 = 191;
+    goto arm_8;
+arm_4:
+    r10_5_011 = 3;
+    r10_8_010 = 128;
+    r10_10_09 = 143;
+    goto arm_8;
+default_5:
+    if ((uint8_t)(r27 ^ 128) <= 127) goto join_11;
+    if (r27 < 9) {
+        r3_0_in = 0;
+        goto join_3;
+    }
+    if (r27 < 11) {
+        r10_5_011 = 0;
+        r10_8_010 = 128;
+        r10_10_09 = 191;
+        goto arm_8;
+    }
+    if ((r27 != 11) & (r27 < 14)) {
+        r10_5_011 = 0;
+        r10_8_010 = 128;
+        r10_10_09 = 191;
+        goto arm_8;
+    }
+    goto dfu_images_text_awaited_behind_exit;
+join_11:
+    if (r27 < 194) {
+        r3_0_in = 0;
+        goto join_3;
+    }
+    if (r27 < 224) {
+        r10_5_011 = 1;
+        r10_8_010 = 128;
+        r10_10_09 = 191;
+        goto arm_8;
+    }
+    if (r27 < 240) {
+        r10_5_011 = 2;
+        r10_8_010 = 128;
+        r10_10_09 = 191;
+        goto arm_8;
+    }
+    if (r27 < 244) {
+        r10_5_011 = 3;
+        r10_8_010 = 128;
+        r10_10_09 = 191;
+        goto arm_8;
+    }
+    r3_0_in = 0;
+    goto join_3;
+join_3_2:
+    if ((r3_5_0 > r27) | (r27 > r3_8_0)) {
+        r3_0_in = 0;
+        goto join_3;
+    }
+    r10_5_011 = (uint8_t)(r3_0_0 + 255);
+    r10_8_010 = 128;
+    r10_10_09 = 191;
+    goto arm_8;
+dfu_images_text_awaited_behind_exit:
+    if (!((r27 > 31) & (r27 != 127))) {
+        r3_0_in = 0;
+        goto join_3;
+    }
+    r10_5_011 = 0;
+    r10_8_010 = 128;
+    r10_10_09 = 191;
+arm_8:
+    r3_0_0 = r10_5_011;
+    r3_5_0 = r10_8_010;
+    r3_8_0 = r10_10_09;
+    r4_0 = r4_0 + 1;
+    goto loop_3;
+after_1:
+    r3_0_in = r3_0_0 == 0;
+join_3:
+    return r3_0_in;
+}
+
+/* dfu_images::places::bad_from */
+static void dfu_images_places_bad_from(unsigned char *a0, uint8_t a1, unsigned char *a2, uint64_t a3) {
+    uint64_t r4_0, r6_0, r5_0, r6_0_2;
+    uint8_t r3_0_0, r29, r2_7_0;
+    r4_0 = 1;
+    r6_0 = 0;
+loop_3_outer:
+    r3_0_0 = 0;
+    r5_0 = 1;
+    r6_0_2 = r6_0;
+loop_3:
+    if (r6_0_2 >= a3) goto after_1;
+    r29 = a2[(size_t)r6_0_2];
+    if (r29 != 10) goto join_10;
+    r4_0 = r4_0 + 1;
+    r6_0 = r6_0_2 + 1;
+    goto loop_3_outer;
+join_10:
+    switch (r3_0_0) {
+    case 0: goto arm_4;
+    case 1: goto arm_5;
+    case 2: goto after_3;
+    default: never();
+    }
+arm_4:
+    if (r29 == a1) {
+        r2_7_0 = 1;
+        goto arm_11;
+    }
+    switch (r29) {
+    case 32:
+        r2_7_0 = 0;
+        goto arm_11;
+    case 13:
+        r2_7_0 = 0;
+        goto arm_11;
+    case 9:
+        r2_7_0 = 0;
+        goto arm_11;
+    default: goto arm_12;
+    }
+arm_5:;
+    uint8_t r36 = dfu_images_digits_hex_digit(r29);
+    if (r36 < 16) {
+        r2_7_0 = 1;
+        goto arm_11;
+    }
+after_3:
+    switch (r29) {
+    case 32:
+        r2_7_0 = 2;
+        goto arm_11;
+    case 13:
+        r2_7_0 = 2;
+        goto arm_11;
+    case 9:
+        r2_7_0 = 2;
+        goto arm_11;
+    default: goto arm_12;
+    }
+arm_11:
+    r3_0_0 = r2_7_0;
+    r5_0 = r5_0 + 1;
+    r6_0_2 = r6_0_2 + 1;
+    goto loop_3;
+arm_12:
+    store64(a0, 1);
+    store64(a0 + 8, r4_0);
+    store64(a0 + 16, r5_0);
+    return;
+after_1:
+    memset(a0, 0, 24);
+    return;
+}
+
 /* dfu_host_c::reports::report_at */
 static void dfu_host_c_reports_report_at(unsigned char *a0, uint64_t a1, uint32_t a2) {
     uint8_t r2_26_0, r2_14_0, r2_0_0;
@@ -1436,7 +1837,7 @@ join_13:
 static void dfu_host_c_holding_session_of(unsigned char *a0, unsigned char *a1, unsigned char *a2, uint64_t a3) {
     _Alignas(4) unsigned char r31[3];
     _Alignas(4) unsigned char r36_2[3];
-    uint64_t wide_12818, r3_12_0_0, r3_12_6_0, r3_7_0_0, r38, r6_132_0, r6_132_0_2;
+    uint64_t wide_17342, r3_12_0_0, r3_12_6_0, r3_7_0_0, r38, r6_132_0, r6_132_0_2;
     uint8_t v0;
     uint32_t r40, r6_158_0, r6_106_0, r6_106_0_2, r6_158_0_2, r79;
     uint8_t r6_28_0, r6_54_0, r6_28_0_2, r6_0_0_0, r6_28_0_3, r6_54_0_2, r70, r75;
@@ -1449,10 +1850,10 @@ then_1:
     return;
 join_3:;
     uint32_t r20 = load32(a1 + 4);
-    wide_12818 = (uint64_t)(uintptr_t)a2;
+    wide_17342 = (uint64_t)(uintptr_t)a2;
     switch (r20) {
     case 1:
-        r3_12_0_0 = wide_12818;
+        r3_12_0_0 = wide_17342;
         r3_12_6_0 = a3;
         v0 = 0;
         r3_7_0_0 = 0;
@@ -1469,13 +1870,13 @@ arm_2:
     r3_7_0_0 = 1;
     goto arm_1;
 arm_3:
-    r3_12_0_0 = wide_12818;
+    r3_12_0_0 = wide_17342;
     r3_12_6_0 = a3;
     v0 = 0;
     r3_7_0_0 = 2;
     goto arm_1;
 arm_4:
-    r3_12_0_0 = wide_12818;
+    r3_12_0_0 = wide_17342;
     r3_12_6_0 = a3;
     v0 = 0;
     r3_7_0_0 = 3;
@@ -2056,7 +2457,7 @@ static struct ptr_i64 dfu_host_task_Task_block(unsigned char *a0, uint64_t a1) {
     uint8_t r7 = *a0;
     if (r7 == 1) {
         r2_4_0 = 0;
-        r2_0_0 = PLACE(static_2);
+        r2_0_0 = PLACE(static_20);
         goto dfu_host_task_Task_payload_exit;
     }
     uint64_t r16 = load64(a0 + 16);
@@ -3481,27 +3882,6 @@ arm_12:
     return;
 }
 
-/* core::slice::scan::any_in_ends::<#953750c03e87c3e2> */
-static uint8_t core_slice_scan_any_in_ends(unsigned char *a0, uint64_t a1, uint64_t a2) {
-    uint8_t r4 = core_slice_scan_any_in_run(a0, 0, a2);
-    uint8_t r8 = core_slice_scan_any_in_run(a0, a1 - a2, a2);
-    return r4 | r8;
-}
-
-/* core::slice::scan::skip_groups::<#953750c03e87c3e2> */
-static uint64_t core_slice_scan_skip_groups(unsigned char *a0, uint64_t a1, uint64_t a2, uint64_t a3) {
-    uint64_t r1_0;
-    r1_0 = a1;
-loop_2:
-    if (a3 > (a2 - r1_0)) goto after_1;
-    uint8_t r22 = core_slice_scan_any_in_run(a0, r1_0, a3);
-    if (r22) goto after_1;
-    r1_0 = r1_0 + a3;
-    goto loop_2;
-after_1:
-    return r1_0;
-}
-
 /* core::slice::scan::any_by_one::<#953750c03e87c3e2> */
 static uint8_t core_slice_scan_any_by_one(unsigned char *a0, uint64_t a1) {
     unsigned char *r12;
@@ -3525,29 +3905,6 @@ loop_2:
     goto loop_2;
 core_slice_scan_first_by_one_exit:
     return common_ret_op < a1;
-}
-
-/* core::slice::scan::any_in_run::<#953750c03e87c3e2> */
-static uint8_t core_slice_scan_any_in_run(unsigned char *a0, uint64_t a1, uint64_t a2) {
-    unsigned char *r14, *r19;
-    uint64_t r2_0;
-    uint8_t r1_0_off0;
-    uint64_t r3_0_0_copyload = load64(a0);
-    uint64_t r4_0_0_copyload = load64(a0 + 16);
-    r14 = (unsigned char *)(uintptr_t)r3_0_0_copyload;
-    r19 = (unsigned char *)(uintptr_t)r4_0_0_copyload;
-    r2_0 = 0;
-    r1_0_off0 = 0;
-loop_2:
-    if (r2_0 == a2) goto after_1;
-    uint64_t r12 = r2_0 + a1;
-    uint8_t r3 = r14[(size_t)r12];
-    uint8_t r4 = r19[(size_t)r12];
-    r2_0 = r2_0 + 1;
-    r1_0_off0 = r1_0_off0 | (r3 != r4);
-    goto loop_2;
-after_1:
-    return r1_0_off0;
 }
 
 /* core::cmp::slices::groups_equal::<i8,31'core::cmp::numbers::U8PartialEq{}> */
@@ -4564,7 +4921,7 @@ static void dfuse_host_asking_ask(unsigned char *a0, unsigned char *a1) {
     *a0 = 0;
     store64u(a0 + 1, r0_3_1_copyload);
     memset(a0 + 9, 0, 5);
-    store64(a0 + 16, (uint64_t)(uintptr_t)static_2);
+    store64(a0 + 16, (uint64_t)(uintptr_t)static_20);
     store64(a0 + 24, 0);
     return;
 }
@@ -4870,7 +5227,7 @@ static struct ptr_i64 dfuse_host_plan_Plan_bytes_in(unsigned char *a0, uint64_t 
     uint8_t r21 = *r4;
     if (r21 != 1) {
         r0_4_0 = 0;
-        r0_0_0 = PLACE(static_2);
+        r0_0_0 = PLACE(static_20);
         goto return_5;
     }
     uint32_t r1_0_0_copyload = load32(r4 + 8);
@@ -6330,6 +6687,333 @@ dfu_host_c_file_dfu_host_file_exit:
     return signed32(r6_0);
 }
 
+/* dfu_image_look */
+uint32_t dfu_image_look(const uint8_t *file, size_t length, const uint8_t *name, size_t name_length, struct dfu_look *look) {
+    unsigned char *a0 = (unsigned char *)(uintptr_t)file;
+    uint64_t a1 = length;
+    unsigned char *a2 = (unsigned char *)(uintptr_t)name;
+    uint64_t a3 = name_length;
+    unsigned char *a4 = (unsigned char *)(uintptr_t)look;
+    _Alignas(8) unsigned char r4_2[24];
+    unsigned char *r4, *r13, *r4_0_0_in, *scevgep, *r3_0_0_in, *r3_0_0_in_lcssa;
+    uint64_t r7_7_0, r7_4_0, r4_4_0, r3_7_0, r14_4_0_ph36, r14_4_0_3, r14_4_0, r9_4_0_0, r9_4_5_0, r14_4_0_2, r0_0_5_mask_3, r0_0_6_3;
+    uint64_t r1_0_1_extract_shift_2, r1_0_1_extract_shift, r0_0_6_2, r0_0_5_mask_2, r9_4_5_017, r9_4_0_015, r0_0_6_4, r0_0_5_mask_4, r9_4_5_018, r9_4_0_016, v13, v14;
+    uint8_t r7_0_0, r23;
+    uint8_t r18, r9_0_0_0, r9_0_0_0_2, r9_0_0_0_3, cond_fr62;
+    uint32_t r9_0_2, r1_0_6_extract_trunc, r7_0_2, r7_0_3, r9_0, r7_0;
+    r4 = (unsigned char *)((uintptr_t)a0 + (uintptr_t)(uint64_t)((a0 == NULL) ? 4096 : 0));
+    r13 = (unsigned char *)((uintptr_t)a2 + (uintptr_t)(uint64_t)((a2 == NULL) ? 4096 : 0));
+    uint8_t r78 = dfu_images_endings_ends_in(PLACE(static_2), 4, r13, a3);
+    if (r78) {
+        r7_7_0 = 0;
+        r7_4_0 = 1;
+        r7_0_0 = 1;
+        goto dfu_images_endings_ending_of_exit;
+    }
+    uint8_t r94 = dfu_images_endings_ends_in(PLACE(static_3), 4, r13, a3);
+    if (r94) {
+        r7_7_0 = 0;
+        r7_4_0 = 0;
+        r7_0_0 = 1;
+        goto dfu_images_endings_ending_of_exit;
+    }
+    uint8_t r107 = dfu_images_endings_ends_in(PLACE(static_4), 5, r13, a3);
+    if (r107) {
+        r7_7_0 = 0;
+        r7_4_0 = 0;
+        r7_0_0 = 1;
+        goto dfu_images_endings_ending_of_exit;
+    }
+    uint8_t r123 = dfu_images_endings_ends_in(PLACE(static_5), 4, r13, a3);
+    if (r123) {
+        r7_7_0 = 0;
+        r7_4_0 = 0;
+        r7_0_0 = 1;
+        goto dfu_images_endings_ending_of_exit;
+    }
+    uint8_t r139 = dfu_images_endings_ends_in(PLACE(static_6), 4, r13, a3);
+    if (r139) {
+        r7_7_0 = 0;
+        r7_4_0 = 0;
+        r7_0_0 = 1;
+        goto dfu_images_endings_ending_of_exit;
+    }
+    uint8_t r159 = dfu_images_endings_ends_in(PLACE(static_7), 4, r13, a3);
+    if (r159) {
+        r7_7_0 = 1;
+        r7_4_0 = 0;
+        r7_0_0 = 1;
+        goto dfu_images_endings_ending_of_exit;
+    }
+    uint8_t r172 = dfu_images_endings_ends_in(PLACE(static_8), 4, r13, a3);
+    if (r172) {
+        r7_7_0 = 1;
+        r7_4_0 = 0;
+        r7_0_0 = 1;
+        goto dfu_images_endings_ending_of_exit;
+    }
+    uint8_t r188 = dfu_images_endings_ends_in(PLACE(static_9), 4, r13, a3);
+    if (r188) {
+        r7_7_0 = 1;
+        r7_4_0 = 0;
+        r7_0_0 = 1;
+        goto dfu_images_endings_ending_of_exit;
+    }
+    uint8_t r204 = dfu_images_endings_ends_in(PLACE(static_10), 5, r13, a3);
+    if (r204) {
+        r7_7_0 = 1;
+        r7_4_0 = 0;
+        r7_0_0 = 1;
+        goto dfu_images_endings_ending_of_exit;
+    }
+    uint8_t r220 = dfu_images_endings_ends_in(PLACE(static_11), 4, r13, a3);
+    if (r220) {
+        r7_7_0 = 1;
+        r7_4_0 = 0;
+        r7_0_0 = 1;
+        goto dfu_images_endings_ending_of_exit;
+    }
+    uint8_t r240 = dfu_images_endings_ends_in(PLACE(static_12), 4, r13, a3);
+    if (r240) {
+        r7_7_0 = 2;
+        r7_4_0 = 0;
+        r7_0_0 = 1;
+        goto dfu_images_endings_ending_of_exit;
+    }
+    uint8_t r257 = dfu_images_endings_ends_in(PLACE(static_13), 4, r13, a3);
+    if (r257) {
+        r7_7_0 = 3;
+        r7_4_0 = 0;
+        r7_0_0 = 1;
+        goto dfu_images_endings_ending_of_exit;
+    }
+    uint8_t r270 = dfu_images_endings_ends_in(PLACE(static_14), 4, r13, a3);
+    r7_7_0 = (uint64_t)(r270 ? 3 : 0);
+    r7_4_0 = 0;
+    r7_0_0 = r270;
+dfu_images_endings_ending_of_exit:
+    if (a1 < 3) {
+        r4_4_0 = a1;
+        r4_0_0_in = r4;
+        goto dfu_images_text_unmarked_exit;
+    }
+    uint8_t r24 = *r4;
+    if (r24 != 239) {
+        r4_4_0 = a1;
+        r4_0_0_in = r4;
+        goto dfu_images_text_unmarked_exit;
+    }
+    uint8_t r29 = r4[1];
+    if (r29 != 187) {
+        r4_4_0 = a1;
+        r4_0_0_in = r4;
+        goto dfu_images_text_unmarked_exit;
+    }
+    uint8_t r34 = r4[2];
+    if (r34 != 191) {
+        r4_4_0 = a1;
+        r4_0_0_in = r4;
+        goto dfu_images_text_unmarked_exit;
+    }
+    r4_4_0 = a1 + 0xfffffffffffffffdULL;
+    r4_0_0_in = r4 + 3;
+dfu_images_text_unmarked_exit:
+    scevgep = r4_0_0_in + (size_t)r4_4_0;
+    r3_7_0 = r4_4_0;
+    r3_0_0_in = r4_0_0_in;
+loop_2:
+    r18 = r3_7_0 == 0;
+    if (r18) {
+        r3_0_0_in_lcssa = scevgep;
+        goto dfu_images_text_unblanked_exit;
+    }
+    uint8_t r35 = *r3_0_0_in;
+    switch (r35) {
+    case 32: goto loop_2_backedge;
+    case 13: goto loop_2_backedge;
+    case 9: goto loop_2_backedge;
+    case 10: goto loop_2_backedge;
+    default:
+        r3_0_0_in_lcssa = r3_0_0_in;
+        goto dfu_images_text_unblanked_exit;
+    }
+loop_2_backedge:
+    r3_7_0 = r3_7_0 + 0xffffffffffffffffULL;
+    r3_0_0_in = r3_0_0_in + 1;
+    goto loop_2;
+dfu_images_text_unblanked_exit:;
+    uint8_t r72 = core_slice_reads_slice_T_starts_with_i8_core_cmp_numbers_U8PartialEq(r4, a1, PLACE(static_15), 5);
+    if (r72) {
+        r14_4_0 = 2;
+        goto dfu_images_looks_look_at_exit_thread;
+    }
+    if (r18) goto else_8;
+    r23 = *r3_0_0_in_lcssa;
+    if (r23 != 58) goto else_5;
+    uint8_t r37 = dfu_images_looks_has_digits(r3_0_0_in_lcssa + 1, r3_7_0 + 0xffffffffffffffffULL);
+    if (r37) goto arm_1;
+    uint8_t r44 = dfu_images_text_is_text(r4, a1);
+    if (r44) goto arm_1;
+    goto else_8;
+else_5:
+    if (!((r3_7_0 != 1) & (r23 == 83))) goto else_8;
+    uint8_t r28 = r3_0_0_in_lcssa[1];
+    if ((uint8_t)(r28 + 208) >= 10) goto else_8;
+    uint8_t r55 = dfu_images_looks_has_digits(r3_0_0_in_lcssa + 2, r3_7_0 + 0xfffffffffffffffeULL);
+    if (r55) goto arm_2;
+else_8:;
+    uint8_t r109 = core_slice_reads_slice_T_starts_with_i8_core_cmp_numbers_U8PartialEq(r4, a1, PLACE(static_16), 4);
+    if (r109) {
+        r14_4_0_ph36 = 513;
+        goto arm_1_thread37;
+    }
+    uint8_t r123_2 = core_slice_reads_slice_T_starts_with_i8_core_cmp_numbers_U8PartialEq(r4, a1, PLACE(static_17), 4);
+    if (r123_2) {
+        r14_4_0_ph36 = 769;
+        goto arm_1_thread37;
+    }
+    uint8_t r137 = core_slice_reads_slice_T_starts_with_i8_core_cmp_numbers_U8PartialEq(r4, a1, PLACE(static_18), 4);
+    if (r137) {
+        r14_4_0 = 258;
+        goto dfu_images_looks_look_at_exit_thread;
+    }
+    uint8_t r155 = core_slice_reads_slice_T_starts_with_i8_core_cmp_numbers_U8PartialEq(r4, a1, PLACE(static_19), 2);
+    if (r155) {
+        r14_4_0 = 514;
+        goto dfu_images_looks_look_at_exit_thread;
+    }
+    uint8_t r167 = dfu_images_text_is_text(r4, a1);
+    if (r167) {
+        r14_4_0 = 770;
+        goto dfu_images_looks_look_at_exit_thread;
+    }
+    if (r7_0_0 == 0) {
+        v13 = 0;
+        r9_0 = 0;
+        r7_0 = 0;
+        v14 = 0;
+        goto dfu_host_c_looks_dfu_image_look_exit;
+    }
+    r9_4_0_0 = 0;
+    r9_4_5_0 = 0;
+    r14_4_0_2 = ((r7_4_0 << 16) | (r7_7_0 << 24)) | 1026;
+    r9_0_0_0 = 0;
+    goto dfu_images_looks_look_at_exit;
+arm_1_thread37:
+    memset(r4_2, 0, 24);
+    r14_4_0_3 = r14_4_0_ph36;
+    goto dfu_images_places_bad_place_exit;
+arm_1:
+    memset(r4_2, 0, 24);
+    dfu_images_places_bad_from(r4_2, 58, r4_0_0_in, r4_4_0);
+    r14_4_0_3 = 1;
+    goto dfu_images_places_bad_place_exit;
+arm_2:
+    memset(r4_2, 0, 24);
+    dfu_images_places_bad_from(r4_2, 83, r4_0_0_in, r4_4_0);
+    r14_4_0_3 = 257;
+dfu_images_places_bad_place_exit:;
+    uint8_t r28_2 = *r4_2;
+    uint64_t r9_4_0_0_copyload = load64(r4_2 + 8);
+    uint64_t r9_4_5_0_copyload = load64(r4_2 + 16);
+    r9_4_0_0 = r9_4_0_0_copyload;
+    r9_4_5_0 = r9_4_5_0_copyload;
+    r14_4_0_2 = r14_4_0_3;
+    r9_0_0_0 = r28_2 == 1;
+    goto dfu_images_looks_look_at_exit;
+dfu_images_looks_look_at_exit_thread:;
+    uint64_t r0_0_5_mask = r14_4_0 | ((uint64_t)r7_0_0 << 32);
+    uint64_t r0_0_6 = r0_0_5_mask | ((r7_4_0 << 40) | (r7_7_0 << 48));
+    r1_0_1_extract_shift = r0_0_6 >> 8;
+    r0_0_6_2 = r0_0_6;
+    r0_0_5_mask_2 = r0_0_5_mask;
+    r9_0_0_0_2 = 0;
+    r9_4_5_017 = 0;
+    r9_4_0_015 = 0;
+    goto switch_lookup;
+dfu_images_looks_look_at_exit:
+    r0_0_5_mask_3 = r14_4_0_2 + ((uint64_t)r7_0_0 << 32);
+    r0_0_6_3 = r0_0_5_mask_3 | ((r7_4_0 << 40) | (r7_7_0 << 48));
+    r1_0_1_extract_shift_2 = r0_0_6_3 >> 8;
+    switch ((uint8_t)r14_4_0_2) {
+    case 0:
+        r0_0_6_4 = r0_0_6_3;
+        r0_0_5_mask_4 = r0_0_5_mask_3;
+        r9_0_0_0_3 = r9_0_0_0;
+        r9_4_5_018 = r9_4_5_0;
+        r9_4_0_016 = r9_4_0_0;
+        r9_0_2 = 0;
+        goto dfu_host_c_looks_looks_number_exit;
+    case 1: goto arm_2_2;
+    case 2:
+        r1_0_1_extract_shift = r1_0_1_extract_shift_2;
+        r0_0_6_2 = r0_0_6_3;
+        r0_0_5_mask_2 = r0_0_5_mask_3;
+        r9_0_0_0_2 = r9_0_0_0;
+        r9_4_5_017 = r9_4_5_0;
+        r9_4_0_015 = r9_4_0_0;
+        goto switch_lookup;
+    default: never();
+    }
+arm_2_2:
+    r0_0_6_4 = r0_0_6_3;
+    r0_0_5_mask_4 = r0_0_5_mask_3;
+    r9_0_0_0_3 = r9_0_0_0;
+    r9_4_5_018 = r9_4_5_0;
+    r9_4_0_016 = r9_4_0_0;
+    r9_0_2 = ((uint32_t)r1_0_1_extract_shift_2 & 255) + 1;
+    goto dfu_host_c_looks_looks_number_exit;
+switch_lookup:
+    r0_0_6_4 = r0_0_6_2;
+    r0_0_5_mask_4 = r0_0_5_mask_2;
+    r9_0_0_0_3 = r9_0_0_0_2;
+    r9_4_5_018 = r9_4_5_017;
+    r9_4_0_016 = r9_4_0_015;
+    r9_0_2 = ((uint32_t)r1_0_1_extract_shift & 255) + 5;
+    goto dfu_host_c_looks_looks_number_exit;
+dfu_host_c_looks_looks_number_exit:
+    cond_fr62 = r9_0_0_0_3;
+    r1_0_6_extract_trunc = (uint32_t)(r0_0_6_4 >> 48);
+    if ((r0_0_5_mask_4 & 0xff00000000ULL) == 0) {
+        r7_0_2 = 0;
+        goto dfu_host_c_looks_record_of_look_exit;
+    }
+    if ((r0_0_6_4 & 0xff0000000000ULL) != 0) {
+        r7_0_2 = 5;
+        goto dfu_host_c_looks_record_of_look_exit;
+    }
+    uint32_t switch_offset = r1_0_6_extract_trunc + 1;
+    if (cond_fr62) {
+        r7_0_3 = switch_offset;
+        goto v12;
+    }
+    v13 = 0;
+    r9_0 = r9_0_2;
+    r7_0 = switch_offset;
+    v14 = 0;
+    goto dfu_host_c_looks_dfu_image_look_exit;
+dfu_host_c_looks_record_of_look_exit:
+    if (!cond_fr62) {
+        v13 = 0;
+        r9_0 = r9_0_2;
+        r7_0 = r7_0_2;
+        v14 = 0;
+        goto dfu_host_c_looks_dfu_image_look_exit;
+    }
+    r7_0_3 = r7_0_2;
+v12:
+    v13 = r9_4_5_018;
+    r9_0 = r9_0_2;
+    r7_0 = r7_0_3;
+    v14 = r9_4_0_016;
+dfu_host_c_looks_dfu_image_look_exit:
+    store32(a4, r9_0);
+    store32(a4 + 4, r7_0);
+    store64(a4 + 8, v14);
+    store64(a4 + 16, v13);
+    return r9_0;
+}
+
 /* dfu_host_name */
 int32_t dfu_host_name(uint32_t report, uint8_t *out, size_t room) {
     uint32_t a0 = report;
@@ -6344,7 +7028,7 @@ int32_t dfu_host_name(uint32_t report, uint8_t *out, size_t room) {
     uint8_t r9 = *r2;
     if (r9 == 1) goto arm_1;
     r4_4_0 = 0;
-    r4_0_0 = PLACE(static_2);
+    r4_0_0 = PLACE(static_20);
     goto join_3;
 arm_1:;
     uint8_t r1_0_0_copyload = r2[1];
@@ -6357,7 +7041,7 @@ arm_1:;
         goto dfu_host_c_names_dfu_host_name_exit;
     }
     r4_4_0 = r33;
-    r4_0_0 = PLACE(static_3) + (size_t)switch_load;
+    r4_0_0 = PLACE(static_21) + (size_t)switch_load;
 join_3:
     core_slice_edits_slice_T_copy_from_slice_i8_core_clone_U8Clone(r4, r4_0_0, r4_4_0);
     common_ret_op = (uint32_t)r4_4_0;
@@ -6483,18 +7167,18 @@ int32_t dfu_host_next(const struct dfu_session *session, const uint8_t *payload,
 arm_4:
     store16(r19, 3);
     store16(r19 + 2, 6);
-    dfu_host_task_send(r18, r19, PLACE(static_2), 0);
+    dfu_host_task_send(r18, r19, PLACE(static_20), 0);
     goto dfu_host_session_Session_next_exitthread_pre_split;
 arm_5:
     store16(r23, 5);
     store16(r23 + 2, 1);
-    dfu_host_task_send(r18, r23, PLACE(static_2), 0);
+    dfu_host_task_send(r18, r23, PLACE(static_20), 0);
     goto dfu_host_session_Session_next_exitthread_pre_split;
 arm_6:;
     uint16_t r65 = load16(r3 + 28);
     store16(r27, 0);
     store16(r27 + 2, r65);
-    dfu_host_task_send(r18, r27, PLACE(static_2), 0);
+    dfu_host_task_send(r18, r27, PLACE(static_20), 0);
     goto dfu_host_session_Session_next_exitthread_pre_split;
 arm_7:;
     uint8_t r7 = r3[27];
@@ -6506,11 +7190,11 @@ arm_7:;
     goto dfu_host_session_Session_next_exitthread_pre_split;
 arm_8:
     store16(r31, 4);
-    dfu_host_task_send(r18, r31, PLACE(static_2), 0);
+    dfu_host_task_send(r18, r31, PLACE(static_20), 0);
     goto dfu_host_session_Session_next_exitthread_pre_split;
 arm_9:
     store16(r35, 6);
-    dfu_host_task_send(r18, r35, PLACE(static_2), 0);
+    dfu_host_task_send(r18, r35, PLACE(static_20), 0);
     goto dfu_host_session_Session_next_exitthread_pre_split;
 arm_10:;
     struct ptr_i64 r89 = dfu_host_task_Task_block(r3, v5);
@@ -6523,7 +7207,7 @@ arm_11:
 dfu_host_task_Task_count_exit:;
     uint8_t r7_2 = *r3;
     uint64_t r16_2 = load64(r3 + 16);
-    dfu_host_task_download(r18, ((uint64_t)((r7_2 == 1) ? 0xffffffffffffffffULL : (r16_2 + 0xffffffffffffffffULL)) / (uint64_t)r16) + 1, PLACE(static_2), 0);
+    dfu_host_task_download(r18, ((uint64_t)((r7_2 == 1) ? 0xffffffffffffffffULL : (r16_2 + 0xffffffffffffffffULL)) / (uint64_t)r16) + 1, PLACE(static_20), 0);
     goto dfu_host_session_Session_next_exitthread_pre_split;
 arm_13:
     r14_0 = v6;
@@ -6540,7 +7224,7 @@ after_3:;
     store16(r45, 2);
     store16(r45 + 2, v3);
     store16(r45 + 4, r127);
-    dfu_host_task_send(r18, r45, PLACE(static_2), 0);
+    dfu_host_task_send(r18, r45, PLACE(static_20), 0);
     goto dfu_host_session_Session_next_exitthread_pre_split;
 after_2:
     store32(r18 + 4, r14_0);
@@ -7383,7 +8067,7 @@ arm_10:
     memcpy(r15 + 16, r0 + 16, 16);
     goto dfuse_host_session_Session_next_exit;
 arm_11:
-    dfuse_host_asking_download(r15, PLACE(static_2), 0);
+    dfuse_host_asking_download(r15, PLACE(static_20), 0);
     goto dfuse_host_session_Session_next_exit;
 dfuse_host_session_Session_next_exit_thread:
     store32(r15 + 4, r8_135_0_copyload);
