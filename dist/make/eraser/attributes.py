@@ -21,12 +21,20 @@ def without_tactics(path, tokens, kept=frozenset()):
             if new:
                 made.append(Token("attribute", new, tokens[at].line))
             elif made and made[-1].kind == "space":
-                made.pop()
+                end += drop_one_space(made, tokens, end + 1)
             at = end
         else:
             made.append(tokens[at])
         at += 1
     return made
+
+
+def drop_one_space(made, tokens, after):
+    """Of the spaces before and behind an attribute that goes, the one with more lines stays: whether that behind it goes."""
+    if tokens[after].kind == "space" and tokens[after].text.count("\n") < made[-1].text.count("\n"):
+        return True
+    made.pop()
+    return False
 
 
 def end_of_attribute(path, tokens, at):

@@ -2,7 +2,7 @@
 import re
 
 from refusal import Refusal
-from tokens import code_before, tokens_of
+from tokens import code_before, end_of_group, next_code, tokens_of
 
 # Traits from elsewhere that are imported for their methods, with those methods.
 METHODS = {
@@ -51,6 +51,7 @@ def parsed(path, words, line):
         names.append(words.pop(0))
         if words[:1] == ["as"]:
             alias, words[:2] = words[1], []
+            names += [] if alias.isidentifier() else [alias]
         if words[:1] != ["::"]:
             break
         words.pop(0)
@@ -82,14 +83,16 @@ def uses(tokens):
                 yield at, end
 
 
-def without_unused(path, tokens, methods):
-    """The tokens without the names that are imported and that no code names. A trait is used by its methods too: `methods` has those of
-    the crates."""
+def without_unused(path, tokens, known):
+    """The tokens without the names that are imported and that no code names. A trait is used by its methods too, and what a macro names
+    by each call of it: `known` has those of the crates."""
     places = list(uses(tokens))
     inside = {at for begin, end in places for at in range(begin, end + 1)}
     code = [it for at, it in enumerate(tokens) if at not in inside and it.kind in ("word", "attribute")]
     named = {word for it in code for word in re.findall(r"\w+", it.text)}
-    methods = {name: words for name, words in {**METHODS, **methods}.items() if name not in FOR_CONTRACTS.get(path, ())}
+    for macro in named & known.macros.keys():
+        named |= known.macros[macro]
+    methods = {name: words for name, words in {**METHODS, **known.methods}.items() if name not in FOR_CONTRACTS.get(path, ())}
 
     def is_used(name):
         return name in named or bool(methods.get(name, set()) & named)
@@ -124,18 +127,21 @@ def statement(tree):
     return "\n".join([f"use {'::'.join(tree.words)}::{{", *lines, line, "};"])
 
 
-def methods_of_traits(tokens):
-    """The traits that a source declares, with the names of their methods."""
-    found = {}
-    for at, token in enumerate(tokens):
-        if token.kind == "word" and token.text == "trait":
-            words, depth, place = [], 0, at + 1
-            while depth or tokens[place].text != "{" and not words:
-                place += 1
-                depth += (tokens[place].text == "{") - (tokens[place].text == "}")
-                if tokens[place].text == "fn":
-                    words.append(tokens[place + 2].text)
-                if words and not depth:
-                    break
-            found[tokens[at + 2].text] = set(words)
-    return found
+class Known:
+    """What the sources declare that makes an import used: the methods of each trait, and the words of each macro."""
+
+    def __init__(self):
+        self.methods, self.macros = {}, {}
+
+    def add(self, path, tokens):
+        for at, token in enumerate(tokens):
+            if token.kind == "word" and token.text in ("trait", "macro_rules"):
+                name = next_code(tokens, at + (1 if token.text == "trait" else 2))
+                opening = name
+                while tokens[opening].text not in ("{", "("):
+                    opening += 1
+                body = tokens[opening:end_of_group(path, tokens, opening)]
+                if token.text == "trait":
+                    self.methods[tokens[name].text] = {body[k + 2].text for k, it in enumerate(body) if it.text == "fn"}
+                else:
+                    self.macros[tokens[name].text] = {it.text for it in body if it.kind == "word"}

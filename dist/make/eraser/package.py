@@ -1,10 +1,11 @@
 """Which crates become which modules of the crate `fustrelan`, and its files."""
+import functools
 import os
 import re
 
 from attributes import without_tactics
 from ghosts import without_proofs
-from imports import methods_of_traits, without_unused
+from imports import Known, without_unused
 from items import with_items
 from laws import FILE, laws_in, without_laws
 from layout import laid_out
@@ -25,6 +26,17 @@ FRAME = os.path.join(os.path.dirname(__file__), "frame")
 MEMORY = "fustrelan_memory"
 
 
+def ends_early(step):
+    """A step that looks for a sign behind the last one of a source refuses it."""
+    @functools.wraps(step)
+    def checked(source, *words):
+        try:
+            return step(source, *words)
+        except IndexError:
+            raise Refusal(source.path, source.lines, "the source ends too early") from None
+    return checked
+
+
 class Source:
     """A file of a crate, as tokens of plain Rust."""
 
@@ -32,12 +44,14 @@ class Source:
         self.crate, self.name = crate, name
         self.path = f"crates/{crate}/src/{name}"
         self.tokens = tokens_of(self.path, text)
+        self.lines = text.count("\n")
         self.takes_memory = False
 
     def macros(self):
         """The names of the macros that it defines."""
         return set(re.findall(r"macro_rules!\s*(\w+)", text_of(self.tokens)))
 
+    @ends_early
     def erase(self, macros, memory, kept=frozenset(), allowed=frozenset()):
         tokens = without_laws(self.path, with_shared_macros(self.path, self.tokens))
         tokens = without_proofs(self.path, tokens)
@@ -46,8 +60,9 @@ class Source:
         self.tokens = with_items(self.path, words.run())
         self.takes_memory = words.takes_memory
 
-    def text(self, modules, methods):
-        tokens = without_unused(self.path, with_underscores(self.path, self.tokens), methods)
+    @ends_early
+    def text(self, modules, known):
+        tokens = without_unused(self.path, with_underscores(self.path, self.tokens), known)
         for token in tokens:
             if token.text == "Model" and token.kind == "word":
                 raise Refusal(self.path, token.line, "Model is left")
@@ -75,14 +90,14 @@ def sources_of(top, crate):
 
 
 def erased(top, crates, memory, kept=frozenset(), allowed=frozenset()):
-    """The sources of the crates in plain Rust, and the methods of their traits."""
+    """The sources of the crates in plain Rust, and what they declare."""
     sources = [it for crate in crates for it in sources_of(top, crate)]
     macros = set().union(*(it.macros() for it in sources))
-    methods = {}
+    known = Known()
     for source in sources:
         source.erase(macros, memory, kept, allowed)
-        methods |= methods_of_traits(source.tokens)
-    return sources, methods
+        known.add(source.path, source.tokens)
+    return sources, known
 
 
 def with_features(source, gates):
@@ -117,7 +132,7 @@ def with_memory(tokens):
 
 def files_of(top):
     """The files of src/ by their names."""
-    sources, methods = erased(top, MODULES, MEMORY)
+    sources, known = erased(top, MODULES, MEMORY)
     modules = {crate: f"crate::{module}" for crate, module in {**MODULES, MEMORY: "memory"}.items()}
     gates = {crate: {} for crate in MODULES}
     for source in sources:
@@ -131,7 +146,7 @@ def files_of(top):
             source.tokens = with_memory(source.tokens)
         place = MODULES[source.crate].replace("::", "/")
         name = f"{place}.rs" if source.name == "lib.rt" else f"{place}/{source.name[:-3]}.rs"
-        found[name] = f"// Of {source.path}, whose contracts are taken away.\n\n{source.text(modules, methods)}"
+        found[name] = f"// Of {source.path}, whose contracts are taken away.\n\n{source.text(modules, known)}"
     return found
 
 

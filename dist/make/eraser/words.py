@@ -29,6 +29,8 @@ class Words:
         while at < len(self.tokens):
             token = self.tokens[at]
             if token.kind != "word":
+                if token.text == "..":
+                    self.range(at)
                 self.made.append(token)
             elif token.text == "std":
                 at = self.std(at)
@@ -36,6 +38,8 @@ class Words:
                 at = self.bound(at)
             elif self.is_macro(at):
                 self.macro(at)
+            elif token.text == "clone" and self.made[-1].text == ".":
+                self.refuse(at, "a clone, which in Rattle may be refused, and gives another type")
             elif token.text in self.refused:
                 self.refuse(at, f"a word that the eraser does not know: {token.text}")
             else:
@@ -55,6 +59,12 @@ class Words:
         if name not in self.macros and name not in PROVED:
             self.refuse(at, f"a macro that the eraser does not know: {name}!")
         self.put(at, PROVED.get(name, name))
+
+    def range(self, at):
+        """A range without an end, outside of brackets: at the top of its type it ends in Rattle, and overflows in Rust."""
+        before, after = code_before(self.tokens, at), next_code(self.tokens, at + 1)
+        if self.tokens[after].text in (")", "{", ";") and self.tokens[before].text not in ("(", ",", "{"):
+            self.refuse(at, "a range without an end, outside of brackets")
 
     def std(self, at):
         """`std::x`: where the last word of it is."""
