@@ -1,5 +1,5 @@
-"""The words and signs of a source in Rattle. Ghost items and contracts are one token each, since what they hold is written in the language of
-the proofs and is no Rust."""
+"""The words and signs of a source in Rattle. Ghost items and contracts are one token each, since what they hold is written in the language
+of the proofs and is no Rust."""
 import re
 
 from refusal import Refusal

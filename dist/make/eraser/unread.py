@@ -1,4 +1,6 @@
 """Names that only contracts read: an argument or the counter of a loop that no code names gets the underscore by which Rust knows it."""
+import re
+
 from tokens import Token, end_of_group, next_code
 
 
@@ -34,9 +36,10 @@ def arguments(path, tokens, at):
 
 
 def body_after(path, tokens, at):
-    """The words of the block that follows, or None if a semicolon comes first."""
+    """The words of the block that follows, also in texts, which may be formats; or None if a semicolon comes first."""
     while tokens[at].text not in ("{", ";"):
         at = end_of_group(path, tokens, at) + 1 if tokens[at].text in ("(", "[") else at + 1
     if tokens[at].text == ";":
         return None
-    return {it.text for it in tokens[at:end_of_group(path, tokens, at)] if it.kind == "word"} | {"self"}
+    code = [it.text for it in tokens[at:end_of_group(path, tokens, at)] if it.kind in ("word", "text")]
+    return {word for it in code for word in re.findall(r"\w+", it)} | {"self"}

@@ -8,7 +8,7 @@
 //! |---|---|---|
 //! | [`wire`] | requests, states and descriptors as bytes | |
 //! | [`suffix`] | the suffix of a DFU file, and its CRC | |
-#![cfg_attr(feature = "device", doc = "| [`asks`] | a device that asks for each write of its flash: begin with [`asks::Asking`] | `device` |")]
+#![cfg_attr(feature = "device", doc = "| [`asks`] | a device that asks for each write of its flash: [`asks::Asking`] | `device` |")]
 #![cfg_attr(feature = "device", doc = "| [`device`] | a device over a medium that it writes itself: [`device::Device`] | `device` |")]
 #![cfg_attr(feature = "device", doc = "| [`slots`] | a store of two slots, which keeps one whole image active | `device` |")]
 #![cfg_attr(feature = "device", doc = "| [`boot`] | a new image on trial, and its copy to where it runs | `device` |")]
