@@ -4,6 +4,8 @@
 //! end, if its caller keeps to what its docstring says under "What the caller must keep to". A build with debug assertions tests what
 //! can be tested of that.
 //!
+//! `examples/bootloader.rs` is a whole bootloader, in a hundred lines.
+//!
 //! | Module | Has | Feature |
 //! |---|---|---|
 //! | [`wire`] | requests, states and descriptors as bytes | |
