@@ -9,7 +9,7 @@ def with_modules(tokens, crate, modules):
     made = []
     for at, token in enumerate(tokens):
         if token.kind == "comment":
-            token = Token("comment", in_comment(token.text, modules), token.line)
+            token = Token("comment", in_comment(token.text, crate, modules), token.line)
         name = modules.get(crate if token.text == "crate" else token.text) if token.kind == "word" else None
         if name and is_first(tokens, at):
             macro = code_before(tokens, at)
@@ -21,9 +21,10 @@ def with_modules(tokens, crate, modules):
     return made
 
 
-def in_comment(text, modules):
-    """A comment that names a crate names the module."""
-    return re.sub(r"\b[a-z]\w*\b", lambda it: modules.get(it[0], it[0]).partition("::")[2] or it[0], text)
+def in_comment(text, crate, modules):
+    """A comment that names a crate names the module, and one that names a file of the proofs says of which crate."""
+    text = re.sub(r"\b[a-z]\w*\b", lambda it: modules.get(it[0], it[0]).partition("::")[2] or it[0], text)
+    return re.sub(r"(?<![\w/])(?=(specs|proofs)/\w+\.antt)", f"crates/{crate}/", text)
 
 
 def is_first(tokens, at):

@@ -1,7 +1,7 @@
 // Of crates/dfu_device/src/table.rt, whose contracts are taken away.
 
 //! The device table as a value: what a request comes to, by the mode of a device and its fixed settings only (USB DFU 1.1,
-//! appendix A). Nothing is carried out here. `specs/Table.antt` has the same rows in the same words. Before them come the rules by
+//! appendix A). Nothing is carried out here. `crates/dfu_device/specs/Table.antt` has the same rows in the same words. Before them come the rules by
 //! which a setup goes by the table.
 
 use crate::device::config::Profile;

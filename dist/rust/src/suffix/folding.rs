@@ -3,7 +3,7 @@
 //! The register of many bytes: they are folded onto the last 1,968 of them, so that only these go through the tables.
 //!
 //! Seven shifts of a number below 2^32, by 0, 720, 848, 1184, 1280, 1920 and 1968 bytes, combine to 0
-//! (proofs/Spread.antt). So a byte may be taken away if the bytes that come 48, 688, 784, 1120, 1248 and 1968 places
+//! (crates/dfu_suffix/proofs/Spread.antt). So a byte may be taken away if the bytes that come 48, 688, 784, 1120, 1248 and 1968 places
 //! later are each combined with it: the register stays the same. These places are multiples of sixteen, so that
 //! sixteen bytes go at once.
 

@@ -3,7 +3,7 @@
 //! The register of USB DFU 1.1, appendix B, four bits at a time: for a program that has no room for the tables.
 
 /// What 4 further bits 0 make of each number below 16. The check computes it by the definition over
-/// single bits (proofs/SmallTable.antt).
+/// single bits (crates/dfu_suffix/proofs/SmallTable.antt).
 static AFTER_4: [u32; 16] = [
     0x0000_0000,
     0x1db7_1064,

@@ -17,7 +17,7 @@ macro_rules! tables {
 /// The table for each place of eight bytes: from the start of the first byte 64 bits are to come, from
 /// the start of the last one 8. They follow one another in memory, so that one address serves for all. The check
 /// computes all entries of the last table by the definition over single bits, and those of each other one from the one
-/// after it (proofs/Tables.antt).
+/// after it (crates/dfu_suffix/proofs/Tables.antt).
 #[rustfmt::skip]
 pub(crate) static TABLES: [[u32; 256]; 8] = tables!(
     [0x0000_0000 0xccaa_009e 0x4225_077d 0x8e8f_07e3 0x844a_0efa 0x48e0_0e64 0xc66f_0987 0x0ac5_0919]
