@@ -1,10 +1,10 @@
 # What tests/sums and tests/dist share: what in dist/ is generated, and faults planted in a copy of it.
 # shellcheck shell=sh disable=SC2154
 
-# generated FOLDER: the names of its files that nobody wrote by hand, one on a line.
+# generated FOLDER: the names of its files that nobody wrote by hand, and that no cargo made in rust/, one on a line.
 generated() {
-    (cd -- "$1" && find . ! -type d ! -path './make/*' ! -name README.md ! -name NOTICES.md ! -name generate ! -name os.c ! -name dfu.S |
-        sed 's|^\./||' | LC_ALL=C sort)
+    (cd -- "$1" && find . ! -type d ! -path './make/*' ! -name README.md ! -name NOTICES.md ! -name generate ! -name os.c ! -name dfu.S \
+        ! -path './rust/target/*' ! -path ./rust/Cargo.lock | sed 's|^\./||' | LC_ALL=C sort)
 }
 
 # planted WHAT COMMAND..: after the command, in a copy of dist/, `holds COPY` has to fail; what it says is not shown.
@@ -36,13 +36,18 @@ without_a_line() {
     mv -- SUMS.new SUMS
 }
 
-# plant_faults: each fault is noticed, in each kind of generated file.
+# plant_faults: each fault is noticed, in each kind of generated file. Of the modules in Rust those at the top stand for all.
 plant_faults() {
     for file in $(generated "$top/dist"); do
-        [ "$file" = SUMS ] || planted "a changed byte of $file" another_byte "$file"
+        case $file in
+        SUMS | rust/src/*/*) ;;
+        *) planted "a changed byte of $file" another_byte "$file" ;;
+        esac
     done
     planted 'a file too many' touch aarch64-linux/other.s
     planted 'a file too many at the top' touch dfu_other.c
+    planted 'a module too many' touch rust/src/wire/other.rs
+    planted 'a module that is missing' rm rust/src/wire/setups.rs
     planted 'a link' ln -s dfu_device.c dfu_other.c
     planted 'a missing file' rm dfu_device.c
     planted 'SUMS without a file' without_a_line

@@ -1,0 +1,44 @@
+"""Single items, named here by hand: those that only contracts name go, and those that need a feature get it."""
+from ghosts import drop_space
+from refusal import Refusal
+from tokens import Token, code_before, tokens_of
+
+# By file: the words that an item begins with, behind `pub`, and the feature that it needs, or None if only contracts name it.
+ITEMS = {
+    "crates/dfu_slots/src/layout.rt": {"const CLOSED_GATE": None},
+    "crates/dfuse_file/src/lib.rt": {"use listing :: list": "formats"},
+    "crates/dfuse_file/src/listing.rt": {"use dfu_images": "formats", "fn list": "formats"},
+}
+
+
+def with_items(path, tokens):
+    """The tokens of a source with its items as the table says. Each is there once."""
+    for words, feature in ITEMS.get(path, {}).items():
+        wanted = words.split()
+        places = [at for at in range(len(tokens)) if begins(tokens, at, wanted)]
+        if len(places) != 1:
+            raise Refusal(path, 1, f"`{words}` is there {len(places)} times, and not once")
+        first = places[0]
+        while code_before(tokens, first) >= 0 and tokens[code_before(tokens, first)].text in ("pub", "(", "crate", ")"):
+            first = code_before(tokens, first)
+        if feature:
+            tokens = [*tokens[:first], *tokens_of(path, f'#[cfg(feature = "{feature}")]\n'), *tokens[first:]]
+        else:
+            tokens = without(tokens, first)
+    return tokens
+
+
+def begins(tokens, at, wanted):
+    """Whether these words begin at a place, and nothing but an item's own words do."""
+    found = [it.text for it in tokens[at:at + 2 * len(wanted)] if it.is_code()][:len(wanted)]
+    return found == wanted and tokens[at].is_code()
+
+
+def without(tokens, first):
+    """The tokens without the item that begins at a place and ends with a semicolon, and without its docstring."""
+    end = first
+    while tokens[end].text != ";":
+        end += 1
+    made = tokens[:first]
+    drop_space(made, with_comments=True)
+    return made + tokens[end + 1:]

@@ -1,0 +1,51 @@
+"""The crates as modules of one crate: their names in paths and in comments become its modules."""
+import re
+
+from tokens import Token, code_before, end_of_group, next_code
+
+
+def with_modules(tokens, crate, modules):
+    """The tokens of a source of `crate`, whose `crate::` and whose names of other crates are paths of `modules`."""
+    made = []
+    for at, token in enumerate(tokens):
+        if token.kind == "comment":
+            token = Token("comment", in_comment(token.text, crate, modules), token.line)
+        name = modules.get(crate if token.text == "crate" else token.text) if token.kind == "word" else None
+        if name and is_first(tokens, at):
+            macro = code_before(tokens, at)
+            if macro >= 0 and tokens[macro].text == "$" and not name.startswith("crate"):
+                name = name.partition("::")[2]
+            made.append(Token("word", name, token.line))
+        else:
+            made.append(token)
+    return made
+
+
+def in_comment(text, crate, modules):
+    """A comment that names a crate names the module, and one that names a file of the proofs says of which crate."""
+    text = re.sub(r"\b[a-z]\w*\b", lambda it: modules.get(it[0], it[0]).partition("::")[2] or it[0], text)
+    return re.sub(r"(?<![\w/])(?=(specs|proofs)/\w+\.antt)", f"crates/{crate}/", text)
+
+
+def is_first(tokens, at):
+    """Whether a word is the first of a path, or of `use .. as ..`."""
+    before, after = code_before(tokens, at), next_code(tokens, at + 1)
+    if before >= 0 and tokens[before].text in ("::", "."):
+        return False
+    return after < len(tokens) and tokens[after].text in ("::", "as")
+
+
+def with_shared_macros(path, tokens):
+    """The tokens in which a macro that is exported is one of the crate: the attribute goes, and a use behind the macro takes its place."""
+    made, at, is_shared = [], 0, False
+    while at < len(tokens):
+        if [it.text for it in tokens[at:at + 4]] == ["#", "[", "macro_export", "]"]:
+            at, is_shared = at + 5, True
+        if is_shared and tokens[at].text == "macro_rules":
+            name = tokens[next_code(tokens, at + 2)].text
+            end = end_of_group(path, tokens, next_code(tokens, next_code(tokens, at + 2) + 1))
+            made += [*tokens[at:end + 1], Token("word", f"\n\npub(crate) use {name};", tokens[end].line)]
+            at, is_shared = end + 1, False
+        made.append(tokens[at])
+        at += 1
+    return made

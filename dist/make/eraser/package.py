@@ -1,0 +1,166 @@
+"""Which crates become which modules of the crate `fustrelan`, and its files."""
+import functools
+import os
+import re
+
+from attributes import without_tactics
+from ghosts import without_proofs
+from imports import Known, without_unused
+from items import with_items
+from laws import FILE, laws_in, without_laws
+from layout import laid_out
+from modules import with_modules, with_shared_macros
+from refusal import Refusal
+from tokens import Token, code_before, text_of, tokens_of
+from unread import with_underscores
+from words import Words
+
+MODULES = {
+    "dfu_wire": "wire", "dfu_suffix": "suffix", "dfu_slots": "slots", "dfu_device": "device", "dfu_host": "host", "dfu_asks": "asks",
+    "dfu_trial": "boot::trial", "dfu_install": "boot::install", "dfu_install_slots": "boot::install_slots", "dfuse_memory": "dfuse::memory",
+    "dfuse_host": "dfuse::session", "dfuse_file": "dfuse::file", "dfu_images": "formats", "dfu_conformance": "conformance",
+}
+# What is written by hand: the head of the crate, and the modules that only have modules.
+FRAME = os.path.join(os.path.dirname(__file__), "frame")
+# The module of memory, until the names of the crates become modules.
+MEMORY = "fustrelan_memory"
+
+
+def ends_early(step):
+    """A step that looks for a sign behind the last one of a source refuses it."""
+    @functools.wraps(step)
+    def checked(source, *words):
+        try:
+            return step(source, *words)
+        except IndexError:
+            raise Refusal(source.path, source.lines, "the source ends too early") from None
+    return checked
+
+
+class Source:
+    """A file of a crate, as tokens of plain Rust."""
+
+    def __init__(self, crate, name, text):
+        self.crate, self.name = crate, name
+        self.path = f"crates/{crate}/src/{name}"
+        self.tokens = tokens_of(self.path, text)
+        self.lines = text.count("\n")
+        self.takes_memory = False
+
+    def macros(self):
+        """The names of the macros that it defines."""
+        return set(re.findall(r"macro_rules!\s*(\w+)", text_of(self.tokens)))
+
+    @ends_early
+    def erase(self, macros, memory, kept=frozenset(), allowed=frozenset()):
+        tokens = without_laws(self.path, with_shared_macros(self.path, self.tokens))
+        tokens = without_proofs(self.path, tokens)
+        tokens = without_tactics(self.path, tokens, kept)
+        words = Words(self.path, tokens, macros, memory, allowed)
+        self.tokens = with_items(self.path, words.run())
+        self.takes_memory = words.takes_memory
+
+    @ends_early
+    def text(self, modules, known):
+        tokens = without_unused(self.path, with_underscores(self.path, self.tokens), known)
+        for token in tokens:
+            if token.text == "Model" and token.kind == "word":
+                raise Refusal(self.path, token.line, "Model is left")
+        return text_of(laid_out(with_modules(tokens, self.crate, modules)))
+
+
+def sources_of(top, crate):
+    """The sources of a crate by their names, without its laws."""
+    folder, found = os.path.join(top, "crates", crate, "src"), []
+    if not os.path.exists(os.path.join(folder, "lib.rt")):
+        raise Refusal(f"crates/{crate}/src/lib.rt", 1, "there is no such crate")
+    for place, folders, names in os.walk(folder):
+        folders.sort()
+        for name in sorted(names):
+            path = os.path.join(place, name)
+            if not name.endswith(".rt"):
+                raise Refusal(path, 1, "a source that is no .rt")
+            with open(path, encoding="utf-8") as file:
+                source = Source(crate, os.path.relpath(path, folder), file.read())
+            if source.name == FILE:
+                laws_in(source.path, source.tokens)
+            else:
+                found.append(source)
+    return found
+
+
+def erased(top, crates, memory, kept=frozenset(), allowed=frozenset()):
+    """The sources of the crates in plain Rust, and what they declare."""
+    sources = [it for crate in crates for it in sources_of(top, crate)]
+    macros = set().union(*(it.macros() for it in sources))
+    known = Known()
+    for source in sources:
+        source.erase(macros, memory, kept, allowed)
+        known.add(source.path, source.tokens)
+    return sources, known
+
+
+def with_features(source, gates):
+    """The tokens of a lib.rt, with a feature before each module that `gates` names and before what is used of it."""
+    made = []
+    for at, token in enumerate(source.tokens):
+        if token.kind == "word" and token.text in ("mod", "use"):
+            name = source.tokens[at + 2].text
+            if name in gates:
+                place = len(made)
+                while code_before(made, place) >= 0 and made[code_before(made, place)].text in ("pub", "(", "crate", ")"):
+                    place = code_before(made, place)
+                made.insert(place, Token("attribute", f'#[cfg(feature = "{gates[name]}")]\n', token.line))
+        made.append(token)
+    return made
+
+
+def with_memory(tokens):
+    """The tokens of a source that takes memory, in which `Vec` is that of the module of memory."""
+    if not any(it.kind == "word" and it.text == "Vec" for it in tokens):
+        return tokens
+    for at, token in enumerate(tokens):
+        if token.text == MEMORY:
+            end = at
+            while tokens[end].text != ";":
+                end += 1
+            names = sorted({"Vec", *(it.text for it in tokens[at + 1:end] if it.kind == "word")})
+            return [*tokens[:at], *tokens_of("", f"{MEMORY}::{{{', '.join(names)}}}"), *tokens[end:]]
+    first = next(at for at, token in enumerate(tokens) if token.text == "use")
+    return [*tokens[:first], *tokens_of("", f"use {MEMORY}::Vec;\n"), *tokens[first:]]
+
+
+def files_of(top):
+    """The files of src/ by their names."""
+    sources, known = erased(top, MODULES, MEMORY)
+    modules = {crate: f"crate::{module}" for crate, module in {**MODULES, MEMORY: "memory"}.items()}
+    gates = {crate: {} for crate in MODULES}
+    for source in sources:
+        if source.takes_memory and source.name != "lib.rt" and MODULES[source.crate] != "formats":
+            gates[source.crate][source.name[:-3]] = "std"
+    found = {}
+    for source in sources:
+        if source.name == "lib.rt":
+            source.tokens = with_features(source, gates[source.crate])
+        elif source.takes_memory:
+            source.tokens = with_memory(source.tokens)
+        place = MODULES[source.crate].replace("::", "/")
+        name = f"{place}.rs" if source.name == "lib.rt" else f"{place}/{source.name[:-3]}.rs"
+        found[name] = f"// Of {source.path}, whose contracts are taken away.\n\n{source.text(modules, known)}"
+    return found
+
+
+def write(top, out):
+    """Writes the package into a folder that is not there: how many files."""
+    files = {f"src/{name}": text for name, text in files_of(top).items()}
+    for folder, _, names in os.walk(FRAME):
+        for name in names:
+            path = os.path.join(folder, name)
+            with open(path, encoding="utf-8") as file:
+                files[os.path.relpath(path, FRAME)] = file.read()
+    for name, text in files.items():
+        path = os.path.join(out, name)
+        os.makedirs(os.path.dirname(path), exist_ok=True)
+        with open(path, "x", encoding="utf-8") as file:
+            file.write(text)
+    return len(files)

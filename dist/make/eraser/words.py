@@ -1,0 +1,99 @@
+"""Words that mean something else in Rust, or that Rust lacks: macros, paths of std, `Drop` as a bound; and words that are refused."""
+from refusal import Refusal
+from tokens import Token, code_before, next_code
+
+# Macros that Rust has in the same form. Those of the crates are known by their macro_rules.
+MACROS = {"macro_rules", "debug_assert", "matches", "unreachable", "stringify", "concat", "write", "writeln"}
+PROVED = {"prove": "debug_assert", "prove_eq": "debug_assert_eq", "prove_ne": "debug_assert_ne"}
+# Modules of Rattle's std that are of Rust's core, in the same form.
+CORE = {"array", "ascii", "cell", "cmp", "convert", "fmt", "iter", "marker", "mem", "num", "ops", "option", "result", "slice", "str"}
+# What takes memory, or reads and writes: a small module of the crate has the first, as calls that may refuse; Rust's std the second.
+MEMORY, STREAMS = "alloc", "io"
+REFUSED = {"async", "await", "dyn", "extern", "final", "union", "unsafe", "forever", "HostRuntime", "ToVec", "String", "Box", "Rc"}
+
+
+class Words:
+    """Goes through the words of one source."""
+
+    def __init__(self, path, tokens, macros, memory, allowed=frozenset()):
+        self.path, self.tokens, self.macros, self.memory = path, tokens, MACROS | macros, memory
+        self.refused = REFUSED - allowed
+        self.made = []
+        self.takes_memory = False
+
+    def refuse(self, at, why):
+        raise Refusal(self.path, self.tokens[at].line, why)
+
+    def run(self):
+        at = 0
+        while at < len(self.tokens):
+            token = self.tokens[at]
+            if token.kind != "word":
+                if token.text == "..":
+                    self.range(at)
+                self.made.append(token)
+            elif token.text == "std":
+                at = self.std(at)
+            elif token.text == "Drop":
+                at = self.bound(at)
+            elif self.is_macro(at):
+                self.macro(at)
+            elif token.text == "clone" and self.made[-1].text == ".":
+                self.refuse(at, "a clone, which in Rattle may be refused, and gives another type")
+            elif token.text in self.refused:
+                self.refuse(at, f"a word that the eraser does not know: {token.text}")
+            else:
+                self.takes_memory |= token.text == "Vec"
+                self.made.append(token)
+            at += 1
+        return self.made
+
+    def put(self, at, text):
+        self.made.append(Token("word", text, self.tokens[at].line))
+
+    def is_macro(self, at):
+        return self.tokens[at + 1:at + 2] and self.tokens[at + 1].text == "!" and self.tokens[at].text not in ("if", "return", "in")
+
+    def macro(self, at):
+        name = self.tokens[at].text
+        if name not in self.macros and name not in PROVED:
+            self.refuse(at, f"a macro that the eraser does not know: {name}!")
+        self.put(at, PROVED.get(name, name))
+
+    def range(self, at):
+        """A range without an end, outside of brackets: at the top of its type it ends in Rattle, and overflows in Rust."""
+        before, after = code_before(self.tokens, at), next_code(self.tokens, at + 1)
+        if self.tokens[after].text in (")", "{", ";") and self.tokens[before].text not in ("(", ",", "{"):
+            self.refuse(at, "a range without an end, outside of brackets")
+
+    def std(self, at):
+        """`std::x`: where the last word of it is."""
+        last = next_code(self.tokens, next_code(self.tokens, at + 1) + 1)
+        if last >= len(self.tokens) or self.tokens[next_code(self.tokens, at + 1)].text != "::":
+            self.refuse(at, "std without a path")
+        name = self.tokens[last].text
+        if name in CORE:
+            self.put(at, f"core::{name}")
+        elif name == MEMORY:
+            self.takes_memory = True
+            self.put(at, self.memory)
+        elif name == STREAMS:
+            self.takes_memory = True
+            self.put(at, "std::io")
+        else:
+            self.refuse(at, f"a path of std that the eraser does not know: std::{name}")
+        return last
+
+    def bound(self, at):
+        """`Drop` as a bound goes, with the plus or the colon that joins it."""
+        last = code_before(self.made)
+        after = next_code(self.tokens, at + 1)
+        joins = self.made[last].text if last >= 0 else ""
+        if joins == ":" and self.tokens[after].text == "+":
+            return after + (self.tokens[after + 1].kind == "space")
+        if joins not in ("+", ":"):
+            self.refuse(at, "Drop stands where it is no bound")
+        while self.made[last - 1].kind == "space":
+            last -= 1
+        del self.made[last:]
+        return at

@@ -1,0 +1,153 @@
+// Of crates/dfu_asks/src/calls.rt, whose contracts are taken away.
+
+//! The calls for a device that asks.
+
+use crate::asks::noted::{View, look};
+use crate::asks::{Asking, Mapped, Noted, Refusal, Reply, Sector};
+use crate::device::{Answer, Config, DeviceState, asked_length, decide, decide_time, goes_with};
+use crate::slots::Unit;
+use crate::wire::{Code, Request, Setup, State};
+
+impl Asking {
+    /// A device that is powered on: in appIDLE, with no block, on flash that it reads. The flash is written in this unit, and erased in
+    /// sectors before, or if there are none written over in place. It reads the images, to see which is active.
+    ///
+    /// None exactly if the flash has no active image, or 2^32 bytes or more.
+    pub fn power_on(config: Config, unit: Unit, sector: Sector, flash: &[u8]) -> Option<Asking> {
+        let noted = Noted::find(flash, unit, sector)?;
+        Some(Asking {
+            config,
+            unit,
+            sector,
+            mode: DeviceState::AppIdle,
+            block_len: 0,
+            held_len: 0,
+            put_end: 0,
+            noted,
+            work: None,
+        })
+    }
+
+    /// The state of the standard (USB DFU 1.1, section 6.1.2, bState).
+    pub fn state(&self) -> State {
+        self.mode.state()
+    }
+
+    /// The status code (USB DFU 1.1, section 6.1.2, bStatus).
+    pub fn code(&self) -> Code {
+        self.mode.code()
+    }
+
+    // The view of the flash, if what is kept goes with it.
+    fn see<'f>(&self, room: usize, flash: &'f [u8]) -> Result<(Mapped<'f>, View), Refusal> {
+        let Some(medium) = Mapped::with_sector(flash, self.unit, self.sector) else {
+            return Err(Refusal::NoMedium);
+        };
+        let Some(view) = look(&medium, &self.noted) else {
+            return Err(Refusal::NoMedium);
+        };
+        if !self.is_fit(room, &medium, &view) {
+            return Err(Refusal::NoDevice);
+        }
+        Ok((medium, view))
+    }
+
+    // What a setup with its body comes to: the rules before the table, then the table.
+    fn respond(
+        &mut self,
+        block: &mut [u8],
+        held: &mut [u8],
+        medium: &Mapped<'_>,
+        view: &View,
+        setup: &[u8; 8],
+        body: &[u8],
+        out: &mut [u8],
+    ) -> Reply {
+        let setup = Setup::decode(setup);
+        match setup.request() {
+            Request::NotDfu => Reply::Answered(Answer::Stall, 0),
+            request => {
+                if !goes_with(&setup, body) {
+                    return Reply::Answered(Answer::Stall, 0);
+                }
+                let profile = self.config.profile(u64::from(view.room));
+                let decision = decide(&profile, self.mode, request);
+                let asked = Some(asked_length(request));
+                self.carry_out(decision, asked, body, block, held, medium, view, out)
+            }
+        }
+    }
+
+    /// Answers a setup with its body, as `Device::handle_into`; or the row writes, and its writes are asked for now.
+    ///
+    /// # Errors
+    ///
+    /// `Asked` if writes are due; `NoRoom` if the buffer has less room than an answer may need, which is 6 bytes or the transfer
+    /// size, whichever is more; `NoMedium` if the noted header is not in an open slot of the flash; `NoDevice` if what is kept
+    /// is not a device on it, or the block's memory has less room than the transfer size. They are checked in this order, and
+    /// nothing changes then.
+    pub fn handle(
+        &mut self,
+        block: &mut [u8],
+        held: &mut [u8],
+        flash: &[u8],
+        setup: &[u8; 8],
+        body: &[u8],
+        out: &mut [u8],
+    ) -> Result<Reply, Refusal> {
+        if self.work.is_some() {
+            return Err(Refusal::Asked);
+        }
+        if out.len() < usize::from(self.config.functional().transfer).max(6) {
+            return Err(Refusal::NoRoom);
+        }
+        let (medium, view) = self.see(block.len(), flash)?;
+        Ok(self.respond(block, held, &medium, &view, setup, body, out))
+    }
+
+    /// This many milliseconds pass, as `Device::elapse`; or the row writes, and its writes are asked for now.
+    ///
+    /// # Errors
+    ///
+    /// As `handle`, but for `NoRoom`.
+    ///
+    /// # What the caller must keep to
+    ///
+    /// - `held` has room for the bytes of a unit.
+    pub fn elapse(
+        &mut self,
+        block: &mut [u8],
+        held: &mut [u8],
+        flash: &[u8],
+        ms: u32,
+    ) -> Result<Reply, Refusal> {
+        debug_assert!(self.unit.size() as usize <= held.len());
+        if self.work.is_some() {
+            return Err(Refusal::Asked);
+        }
+        let (medium, view) = self.see(block.len(), flash)?;
+        let profile = self.config.profile(u64::from(view.room));
+        let decision = decide_time(&profile, self.mode, ms);
+        let mut out = [0; 6];
+        Ok(self.carry_out(decision, None, &[], block, held, &medium, &view, &mut out))
+    }
+
+    /// The bus is reset, as `Device::usb_reset`.
+    ///
+    /// # Errors
+    ///
+    /// As `elapse`.
+    ///
+    /// # What the caller must keep to
+    ///
+    /// - `held` has room for the bytes of a unit.
+    pub fn usb_reset(&mut self, block: &[u8], held: &[u8], flash: &[u8]) -> Result<(), Refusal> {
+        debug_assert!(self.unit.size() as usize <= held.len());
+        if self.work.is_some() {
+            return Err(Refusal::Asked);
+        }
+        let _ = self.see(block.len(), flash)?;
+        self.mode = self.mode.after_reset();
+        Ok(())
+    }
+}

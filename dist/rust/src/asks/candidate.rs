@@ -1,0 +1,38 @@
+// Of crates/dfu_asks/src/candidate.rt, whose contracts are taken away.
+
+//! Where a received image that is not in place yet is in the flash of a device that asks.
+
+use crate::asks::noted::look;
+use crate::asks::{Asking, Mapped, Refusal};
+use crate::device::Candidate;
+use crate::slots::data_at;
+
+impl Asking {
+    /// Where the received image is, as `Device::candidate`. The bytes after those in the flash are the `held_len` ones that are held
+    /// back.
+    ///
+    /// # Errors
+    ///
+    /// As `elapse`, except that the memory of the block is not checked.
+    pub fn candidate(&self, flash: &[u8]) -> Result<Option<Candidate>, Refusal> {
+        if self.work.is_some() {
+            return Err(Refusal::Asked);
+        }
+        let Some(medium) = Mapped::with_sector(flash, self.unit, self.sector) else {
+            return Err(Refusal::NoMedium);
+        };
+        let Some(view) = look(&medium, &self.noted) else {
+            return Err(Refusal::NoMedium);
+        };
+        let Some(len) = self.mode.candidate_len() else {
+            return Ok(None);
+        };
+        if len > view.room {
+            return Err(Refusal::NoDevice);
+        }
+        Ok(Some(Candidate {
+            at: data_at(&medium, view.spare),
+            stored: len - len % self.unit.size(),
+        }))
+    }
+}

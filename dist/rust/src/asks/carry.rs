@@ -1,0 +1,105 @@
+// Of crates/dfu_asks/src/carry.rt, whose contracts are taken away.
+
+//! What is decided is carried out, or is begun.
+
+use crate::asks::noted::View;
+use crate::asks::{Asking, Mapped, Reply};
+use crate::device::{Answer, Decision, DeviceState, status_in};
+use crate::slots::read_data;
+
+// How many bytes of a status are asked for.
+fn wanted(asked: Option<u16>) -> u16 {
+    match asked {
+        Some(len) => len,
+        None => 0,
+    }
+}
+
+// Puts the first of some bytes at the front of a buffer, at most `asked`, and returns their number.
+fn put_front(bytes: &[u8], asked: u16, out: &mut [u8]) -> usize {
+    let count = usize::from(asked).min(bytes.len());
+    out[..count].copy_from_slice(&bytes[..count]);
+    count
+}
+
+// Puts the bytes of the active image at the front of a buffer, from `place` on, at most `size`, and returns their number.
+fn put_image(medium: &Mapped<'_>, view: &View, place: u32, size: u16, out: &mut [u8]) -> usize {
+    let rest = view.len.saturating_sub(place);
+    let count = (rest as usize).min(usize::from(size)).min(out.len());
+    if count > 0 {
+        read_data(medium, view.active, place, &mut out[..count]);
+    }
+    count
+}
+
+impl Asking {
+    /// Puts a reply at the front of a buffer, if so many bytes of a status or of a state are asked for.
+    pub(crate) fn give(
+        &self,
+        reply: crate::device::Reply,
+        asked: u16,
+        out: &mut [u8],
+    ) -> (Answer, usize) {
+        match reply {
+            crate::device::Reply::Ack => (Answer::Ack, 0),
+            crate::device::Reply::Stall => (Answer::Stall, 0),
+            crate::device::Reply::Status => {
+                let bytes = status_in(&self.config, self.mode);
+                (Answer::Bytes, put_front(&bytes, asked, out))
+            }
+            crate::device::Reply::State => {
+                let bytes = [self.mode.state().byte()];
+                (Answer::Bytes, put_front(&bytes, asked, out))
+            }
+        }
+    }
+
+    /// Carries out what is decided on a request with this body, which asks for so many bytes of a status or of a state, or on a time;
+    /// or if that writes, asks for its first write.
+    pub(crate) fn carry_out(
+        &mut self,
+        decision: Decision,
+        asked: Option<u16>,
+        body: &[u8],
+        block: &mut [u8],
+        held: &mut [u8],
+        medium: &Mapped<'_>,
+        view: &View,
+        out: &mut [u8],
+    ) -> Reply {
+        match decision {
+            Decision::Sure { reply, mode } => {
+                self.mode = mode;
+                let (answer, count) = self.give(reply, wanted(asked), out);
+                Reply::Answered(answer, count)
+            }
+            Decision::Holds { mode } => {
+                // There is room for the body of a block.
+                let len = body.len().min(block.len()).min(4096);
+                block[..len].copy_from_slice(&body[..len]);
+                self.block_len = len;
+                self.mode = mode;
+                Reply::Answered(Answer::Ack, 0)
+            }
+            Decision::Sends {
+                place,
+                size,
+                number,
+            } => {
+                let count = put_image(medium, view, place, size, out);
+                self.mode = if count < usize::from(size) {
+                    DeviceState::DfuIdle
+                } else {
+                    DeviceState::UploadIdle {
+                        place: place + u32::from(size),
+                        number,
+                    }
+                };
+                Reply::Answered(Answer::Bytes, count)
+            }
+            Decision::Writes { .. } | Decision::Commits { .. } => {
+                self.start(asked, block, held, medium, view, out)
+            }
+        }
+    }
+}

@@ -1,0 +1,121 @@
+// Of crates/dfu_asks/src/finish.rt, whose contracts are taken away.
+
+//! What becomes of a device at the end of a row.
+
+use crate::asks::{Asking, Noted, Sector};
+use crate::device::{Answer, Config, DeviceState, Reply};
+use crate::slots::{Unit, WriteFault};
+use crate::wire::Code;
+
+// Whether a block is written in a mode.
+fn is_block(mode: DeviceState) -> bool {
+    match mode {
+        DeviceState::DownloadSync { .. } | DeviceState::DownloadBusy { .. } => true,
+        _ => false,
+    }
+}
+
+// The next mode of a device once all is written, with a block of so many bytes.
+fn done_mode(config: Config, mode: DeviceState, len: u32) -> DeviceState {
+    match mode {
+        DeviceState::DownloadSync { written, number } => DeviceState::DownloadIdle {
+            written: written.saturating_add(len),
+            number,
+        },
+        DeviceState::DownloadBusy {
+            written,
+            number,
+            ..
+        } => DeviceState::DownloadSyncWritten {
+            written: written.saturating_add(len),
+            number,
+        },
+        DeviceState::ManifestSync { .. } => DeviceState::DfuIdle,
+        DeviceState::Manifest { .. } => {
+            if config.functional().tolerant {
+                DeviceState::ManifestSyncComplete
+            } else {
+                DeviceState::ManifestWaitReset
+            }
+        }
+        mode => mode,
+    }
+}
+
+// The next mode of a device after a write had this fault.
+fn failed_mode(mode: DeviceState, fault: WriteFault) -> DeviceState {
+    let block = is_block(mode);
+    let code = match fault {
+        WriteFault::NotVerified => Code::Verify,
+        WriteFault::Failed => { if block { Code::Write } else { Code::Prog } }
+    };
+    DeviceState::Error { code }
+}
+
+// Keeps those of the bytes held and a block after them that make no whole unit, and returns their number.
+fn keep_rest(unit: Unit, held: &mut [u8], held_len: usize, block: &[u8]) -> usize {
+    let size = unit.size() as usize;
+    let all = held_len + block.len();
+    let rest = all % size;
+    let from = all - rest;
+    for i in 0..rest {
+        let at = from + i;
+        held[i] = if at < held_len {
+            held[at]
+        } else {
+            block[at - held_len]
+        };
+    }
+    rest
+}
+
+// Notes the active image after a row in this mode: after a commit the images are read, and after a block it stays the one that was noted.
+fn note(noted: &mut Noted, mode: DeviceState, flash: &[u8], unit: Unit, sector: Sector) {
+    if is_block(mode) {
+        return;
+    }
+    if let Some(found) = Noted::find(flash, unit, sector) {
+        *noted = found;
+    }
+}
+
+impl Asking {
+    // How many bytes are held back after a row whose writes worked, and where the puts end. These bytes are kept in their memory.
+    fn rest_after(&self, block: &[u8], held: &mut [u8]) -> (usize, u32) {
+        if !is_block(self.mode) {
+            return (0, 0);
+        }
+        let len = self.block_len.min(block.len());
+        let held_len = self.held_len.min(held.len());
+        let rest = keep_rest(self.unit, held, held_len, &block[..len]);
+        (rest, self.put_end.saturating_add(len as u32))
+    }
+
+    /// All is written.
+    pub(crate) fn finish(&mut self, block: &[u8], held: &mut [u8], flash: &[u8]) {
+        note(&mut self.noted, self.mode, flash, self.unit, self.sector);
+        let (held_len, put_end) = self.rest_after(block, held);
+        self.held_len = held_len;
+        self.put_end = put_end;
+        let len = self.block_len.min(block.len());
+        self.mode = done_mode(self.config, self.mode, len as u32);
+        self.work = None;
+    }
+
+    /// A write had this fault.
+    pub(crate) fn break_off(&mut self, fault: WriteFault, flash: &[u8]) {
+        note(&mut self.noted, self.mode, flash, self.unit, self.sector);
+        self.held_len = 0;
+        self.put_end = 0;
+        self.mode = failed_mode(self.mode, fault);
+        self.work = None;
+    }
+
+    /// Answers the GETSTATUS that asked for so many bytes, if one did, with its bytes at the front of a buffer.
+    pub(crate) fn answer(&self, asked: Option<u16>, out: &mut [u8]) -> (Answer, usize) {
+        match asked {
+            None => self.give(Reply::Ack, 0, out),
+            Some(len) => self.give(Reply::Status, len, out),
+        }
+    }
+}

@@ -1,0 +1,57 @@
+// Of crates/dfu_asks/src/format_piece.rt, whose contracts are taken away.
+
+//! The next piece of a format.
+
+use crate::asks::cut::Cut;
+use crate::asks::next_piece::{numbered_piece, sequence_piece};
+use crate::asks::pending_writes::WriteInputs;
+use crate::asks::{FormatStep, Formatting};
+use crate::slots::{Sequence, Unit, VERSION, make_header};
+
+/// How many bytes an image of so many has, filled up to whole units.
+pub(crate) fn filled_len(unit: Unit, len: usize) -> usize {
+    let size = unit.size() as usize;
+    len + (size - len % size) % size
+}
+
+/// What the writes of a format are made of: the image takes the place of the block.
+pub(crate) fn stock_for<'a>(formatting: &Formatting, image: &'a [u8]) -> WriteInputs<'a> {
+    WriteInputs {
+        unit: formatting.unit,
+        sector: formatting.sector,
+        put_end: 0,
+        held: &[],
+        block: image,
+    }
+}
+
+// Whether the next piece is one of the header, or of the gate that is opened after it.
+fn open_piece(index: usize, register: u32, cut: &mut Cut<'_>) -> bool {
+    cut.front = make_header(VERSION, 0, cut.stock.block.len() as u32, register);
+    let sequence = Sequence::Commit {
+        slot: 0,
+        end: 0,
+        held: 0,
+    };
+    numbered_piece(sequence, index, cut)
+}
+
+/// Whether a piece is left of the part of a format that is being carried out. Then the next one is found. The flash has so many bytes.
+pub(crate) fn part_piece(formatting: &Formatting, size: usize, cut: &mut Cut<'_>) -> bool {
+    match formatting.phase {
+        FormatStep::CloseSecond => sequence_piece(
+            Sequence::Close {
+                slot: (size / 2) as u32,
+            },
+            cut,
+        ),
+        FormatStep::CloseFirst => sequence_piece(Sequence::Close { slot: 0 }, cut),
+        FormatStep::Image { from } => {
+            let image = cut.stock.block.len() as u32;
+            sequence_piece(Sequence::Image { from, image }, cut)
+        }
+        FormatStep::Header => open_piece(1, formatting.register, cut),
+        FormatStep::Gate => open_piece(2, formatting.register, cut),
+        FormatStep::Ended => false,
+    }
+}

@@ -1,0 +1,53 @@
+// Of crates/dfu_asks/src/formatting.rt, whose contracts are taken away.
+
+//! A format that asks for its writes.
+
+use crate::asks::Sector;
+use crate::slots::{Unit, WriteFault};
+
+/// A format that asks for its writes, as it is kept between two calls. Its flash is mapped, and passed in at each call with
+/// the image.
+#[derive(Clone, Copy, Debug, PartialEq, Eq)]
+pub struct Formatting {
+    /// The unit in which the flash is written.
+    pub unit: Unit,
+    /// The sectors in which it is erased before, if any.
+    pub sector: Sector,
+    /// The register over the image.
+    pub register: u32,
+    /// How far it has come.
+    pub phase: FormatStep,
+    /// How many bytes of that part's writes are carried out.
+    pub done: u32,
+}
+
+/// How far a format has come: which of its parts is being carried out.
+#[derive(Clone, Copy, Debug, PartialEq, Eq)]
+pub enum FormatStep {
+    /// The gate of the second slot is closed.
+    CloseSecond,
+    /// The gate of the first slot is closed.
+    CloseFirst,
+    /// The image is written into the first slot, up to 4096 bytes of it from `from` on.
+    Image {
+        /// So many bytes of the image precede them.
+        from: u32,
+    },
+    /// The header of the first slot is written.
+    Header,
+    /// The gate of the first slot is opened.
+    Gate,
+    /// Nothing is left.
+    Ended,
+}
+
+/// What comes of a piece of a format that was carried out, or was not.
+#[derive(Clone, Copy, Debug, PartialEq, Eq)]
+pub enum FormatProgress {
+    /// More writes are due: `next`, carry it out, `took`, until `took` answers otherwise.
+    Asks,
+    /// All is written: the image is the active one.
+    Formatted,
+    /// A write failed, or other bytes were read back: the format has ended, and begins again with `start`.
+    Broken(WriteFault),
+}

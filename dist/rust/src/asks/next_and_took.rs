@@ -1,0 +1,134 @@
+// Of crates/dfu_asks/src/next_and_took.rt, whose contracts are taken away.
+
+//! The writes that are asked for: the next one, and how it went.
+
+use crate::asks::cut::{cut_at, fill};
+use crate::asks::next_piece::next_piece;
+use crate::asks::sector::behind_edge;
+use crate::asks::{Asking, FlashOp, Mapped, PendingWrites, Refusal, Reply, Sector};
+use crate::slots::{OPEN_GATE, Unit, WriteFault, check};
+
+// Where the slot begins that a place lies in, of two slots of this size.
+fn slot_start(at: u64, size: u64) -> u64 {
+    if at < size { 0 } else { size }
+}
+
+// Whether a range lies within the spare slot of this flash.
+fn is_spare(flash: &[u8], unit: Unit, sector: Sector, at: u64, len: u64) -> bool {
+    let half = flash.len() as u64 / 2;
+    let slot = slot_start(at, half);
+    if at + len > slot + half {
+        return false;
+    }
+    if flash[slot as usize] != OPEN_GATE {
+        return true;
+    }
+    let Some(medium) = Mapped::with_sector(flash, unit, sector) else {
+        return false;
+    };
+    match check(&medium) {
+        Ok(places) => u64::from(places.spare) == slot,
+        Err(_) => {
+            false
+        }
+    }
+}
+
+/// Whether a piece programs, or erases one whole sector.
+pub(crate) fn is_sound(sector: Sector, piece: FlashOp) -> bool {
+    if !piece.erases {
+        return true;
+    }
+    let size = sector.size();
+    size > 0 && piece.len == size as usize && behind_edge(size, piece.at) == 0
+}
+
+// Whether a piece did not fail, and is on the flash.
+fn went_well(failed: bool, stands: bool) -> bool {
+    !failed && stands
+}
+
+// The fault of a piece that failed, or that is not on the flash.
+fn fault_of(failed: bool) -> WriteFault {
+    if failed {
+        WriteFault::Failed
+    } else {
+        WriteFault::NotVerified
+    }
+}
+
+impl Asking {
+    /// The next piece that is asked for: at most 256 bytes to be programmed, or one sector to be erased. It lies within the spare
+    /// slot of the flash as it is now, if that has an active image, also if what is kept was damaged. The bytes of a program are at
+    /// the front of `out` then.
+    ///
+    /// None if no write is due, if its range is not within that slot, if the slot's gate is open and no image is active, or if
+    /// what is kept would erase less than a sector. Then `out` is unchanged.
+    /// It is Some if a call answered `Asks` and the pieces before this one are on the flash.
+    pub fn next(
+        &self,
+        block: &[u8],
+        held: &[u8],
+        flash: &[u8],
+        out: &mut [u8; 256],
+    ) -> Option<FlashOp> {
+        let work = self.work?;
+        let mut cut = cut_at(self.stock(block, held), work.done);
+        if !next_piece(work.job, &mut cut) {
+            return None;
+        }
+        let piece = cut.piece;
+        if !is_sound(self.sector, piece) {
+            return None;
+        }
+        if is_spare(flash, self.unit, self.sector, piece.at, piece.len as u64) {
+            fill(&cut, out);
+            Some(piece)
+        } else {
+            None
+        }
+    }
+
+    /// The piece that `next` gave was carried out, or it failed. It is read back on the flash; after an erase the whole sector is FFh.
+    ///
+    /// It asks for the next piece, or returns the answer of the row, which has ended.
+    ///
+    /// # Errors
+    ///
+    /// `NoRoom` if the buffer has less than 6 bytes; else `NoDevice` if no write is due. Nothing changes then.
+    ///
+    /// # What the caller must keep to
+    ///
+    /// - `held` has room for the bytes of a unit.
+    pub fn took(
+        &mut self,
+        block: &[u8],
+        held: &mut [u8],
+        flash: &[u8],
+        failed: bool,
+        out: &mut [u8],
+    ) -> Result<Reply, Refusal> {
+        debug_assert!(self.unit.size() as usize <= held.len());
+        if out.len() < 6 {
+            return Err(Refusal::NoRoom);
+        }
+        let Some(work) = self.work else {
+            return Err(Refusal::NoDevice);
+        };
+        let (len, stands) = self.look_at(&work, block, held, flash);
+        if len == 0 {
+            return Err(Refusal::NoDevice);
+        }
+        if !went_well(failed, stands) {
+            let (answer, count) = self.fail(fault_of(failed), work.asked, flash, out);
+            return Ok(Reply::Answered(answer, count));
+        }
+        let further = PendingWrites {
+            job: work.job,
+            asked: work.asked,
+            done: work.done + len as u32,
+        };
+        self.work = Some(further);
+        Ok(self.advance(block, held, flash, out))
+    }
+}

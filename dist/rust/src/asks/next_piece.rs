@@ -1,0 +1,128 @@
+// Of crates/dfu_asks/src/next_piece.rt, whose contracts are taken away.
+
+//! The next piece of the writes of a job: the operations of slots, each cut into its erases and pieces of at most 256 bytes.
+
+use crate::asks::cut::Cut;
+use crate::asks::sector::{Position, locate};
+use crate::asks::{FlashOp, SlotWrite};
+use crate::slots::{Op, Sequence, Source, VERSION, make_header};
+
+// How many bytes are programmed at a time at most.
+const MOST: usize = 256;
+
+// No sequence has more operations.
+const OPERATIONS: usize = 3;
+
+// An erase of so many bytes there is found.
+fn find_erase(at: u64, len: usize, cut: &mut Cut<'_>) {
+    cut.piece = FlashOp {
+        erases: true,
+        at,
+        len,
+    };
+}
+
+// Whether the next piece is one of the erase of the sector that begins there. Then it is found; else the search goes on after it.
+fn erase_piece(at: u64, cut: &mut Cut<'_>) -> bool {
+    let sector = cut.stock.sector.size() as usize;
+    if cut.rest < sector {
+        find_erase(at + cut.rest as u64, sector - cut.rest, cut);
+        return true;
+    }
+    cut.rest -= sector;
+    false
+}
+
+// Whether the next piece is one of a write of `len` bytes there, or of its erases: of the bytes of this source, without the first
+// `skip`. Then it is found; else the search goes on after the write.
+fn write_piece(at: u64, source: Source, skip: usize, len: usize, cut: &mut Cut<'_>) -> bool {
+    match locate(cut.stock.sector, at, len, cut.rest) {
+        Position::Erase { place, len } => {
+            find_erase(place, len, cut);
+            true
+        }
+        Position::Program { from } => {
+            cut.piece = FlashOp {
+                erases: false,
+                at: at + from as u64,
+                len: (len - from).min(MOST),
+            };
+            cut.source = source;
+            cut.from = skip + from;
+            true
+        }
+        Position::Behind { rest } => {
+            cut.rest = rest;
+            false
+        }
+    }
+}
+
+/// Whether the next piece is one of the operation of this number. Then it is found; else the search goes on after that, if there is one.
+pub(crate) fn numbered_piece(sequence: Sequence, index: usize, cut: &mut Cut<'_>) -> bool {
+    match sequence.operation(cut.stock.unit, cut.stock.sector.size(), index) {
+        None => false,
+        Some(Op::Erase { at }) => erase_piece(at, cut),
+        Some(
+            Op::Program {
+                at,
+                source,
+                skip,
+                len,
+            },
+        ) => write_piece(at, source, skip as usize, len as usize, cut),
+    }
+}
+
+/// Whether the next piece is one of the operations of a sequence. Then it is found; else the search goes on after them.
+pub(crate) fn sequence_piece(sequence: Sequence, cut: &mut Cut<'_>) -> bool {
+    for index in 0..OPERATIONS {
+        if numbered_piece(sequence, index, cut) {
+            return true;
+        }
+    }
+    false
+}
+
+// Whether the next piece is one of what closes the gate of the slot that begins there, if that is to be closed.
+fn shut_piece(spare: u32, close: bool, cut: &mut Cut<'_>) -> bool {
+    close && sequence_piece(Sequence::Close { slot: spare }, cut)
+}
+
+// Whether the next piece is one of what a block writes.
+fn block_piece(spare: u32, close: bool, cut: &mut Cut<'_>) -> bool {
+    if shut_piece(spare, close, cut) {
+        return true;
+    }
+    let sequence = Sequence::Put {
+        slot: spare,
+        end: cut.stock.put_end,
+        held: cut.stock.held.len() as u16,
+        block: cut.stock.block.len() as u16,
+    };
+    sequence_piece(sequence, cut)
+}
+
+// Whether the next piece is one of what a commit writes.
+fn commit_piece(spare: u32, generation: u8, register: u32, cut: &mut Cut<'_>) -> bool {
+    let end = cut.stock.put_end;
+    cut.front = make_header(VERSION, generation, end, register);
+    let sequence = Sequence::Commit {
+        slot: spare,
+        end,
+        held: cut.stock.held.len() as u16,
+    };
+    sequence_piece(sequence, cut)
+}
+
+/// Whether a piece of the writes of a job is left. Then the next one is found.
+pub(crate) fn next_piece(job: SlotWrite, cut: &mut Cut<'_>) -> bool {
+    match job {
+        SlotWrite::Block { spare, close } => block_piece(spare, close, cut),
+        SlotWrite::Commit {
+            spare,
+            generation,
+            register,
+        } => commit_piece(spare, generation, register, cut),
+    }
+}

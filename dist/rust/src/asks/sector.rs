@@ -1,0 +1,107 @@
+// Of crates/dfu_asks/src/sector.rt, whose contracts are taken away.
+
+//! The sectors of a flash, and how far a write has come with the erases before it.
+
+/// How many bytes of flash are erased at a time: 0 if it is written over in place, else a multiple of 256 up to 131,072.
+#[derive(Clone, Copy, Debug, PartialEq, Eq)]
+pub struct Sector {
+    size: u32,
+}
+
+impl Sector {
+    /// The flash is written over in place, and never erased.
+    pub fn none() -> Sector {
+        Sector { size: 0 }
+    }
+
+    /// Sectors of so many bytes; None if that is not a multiple of 256, or more than 131,072.
+    pub fn new(size: u32) -> Option<Sector> {
+        if size % 256 == 0 && size <= 131_072 {
+            Some(Sector { size })
+        } else {
+            None
+        }
+    }
+
+    /// How many bytes it has.
+    pub fn size(self) -> u32 {
+        self.size
+    }
+}
+
+/// The position after so many bytes of a write and of the erases before it.
+#[derive(Clone, Copy)]
+pub(crate) enum Position {
+    /// So many bytes of a sector are to be erased there.
+    Erase {
+        /// Where the first of them is.
+        place: u64,
+        /// How many they are.
+        len: usize,
+    },
+    /// In the write, so many bytes after its first one.
+    Program {
+        /// So many bytes of it are written.
+        from: usize,
+    },
+    /// All is written, and so many bytes of what comes after it.
+    Behind {
+        /// So many bytes of that.
+        rest: usize,
+    },
+}
+
+/// How many bytes a place is after the first one of its sector. It takes two divisions of 32 bits for one of 64, which a small processor
+/// does by a call.
+pub(crate) fn behind_edge(sector: u32, at: u64) -> u32 {
+    let high = (at / 32_768) as u32 % sector;
+    (high * 32_768 + (at % 32_768) as u32) % sector
+}
+
+// The position after so many bytes of the erases that begin in a range.
+fn locate_erase(sector: u32, at: u64, len: usize, done: usize) -> Position {
+    let size = u64::from(sector);
+    let end = at + len as u64;
+    let behind = u64::from(behind_edge(sector, at));
+    let mut place = if behind == 0 {
+        at
+    } else {
+        at + (size - behind)
+    };
+    let mut rest = done as u64;
+    while place < end {
+        if rest < size {
+            return Position::Erase {
+                place: place + rest,
+                len: (size - rest) as usize,
+            };
+        }
+        rest -= size;
+        place += size;
+    }
+    Position::Behind {
+        rest: rest as usize,
+    }
+}
+
+// The position after so many bytes of a write of `len` bytes, past its erases.
+fn locate_write(len: usize, rest: usize) -> Position {
+    if rest < len {
+        Position::Program { from: rest }
+    } else {
+        Position::Behind { rest: rest - len }
+    }
+}
+
+/// The position after so many bytes of a write of `len` bytes there and of the erases of the sectors that begin in its range.
+#[inline(never)]
+pub(crate) fn locate(sector: Sector, at: u64, len: usize, done: usize) -> Position {
+    let size = sector.size();
+    if size == 0 {
+        return locate_write(len, done);
+    }
+    match locate_erase(size, at, len, done) {
+        Position::Behind { rest } => locate_write(len, rest),
+        found => found,
+    }
+}

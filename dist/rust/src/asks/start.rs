@@ -1,0 +1,82 @@
+// Of crates/dfu_asks/src/start.rt, whose contracts are taken away.
+
+//! What is to be written of a row that begins.
+
+use crate::asks::noted::View;
+use crate::asks::{Asking, Mapped, PendingWrites, Reply, SlotWrite};
+use crate::device::DeviceState;
+use crate::slots::{data_at, is_open};
+use crate::suffix::Crc;
+
+// The register over bytes of flash, and these after them.
+fn register_of(flash: &[u8], from: usize, size: usize, held: &[u8]) -> u32 {
+    let mut crc = Crc::new();
+    crc.update_small(&flash[from..from + size]);
+    crc.update_small(held);
+    crc.value()
+}
+
+impl Asking {
+    // The job of a commit of all that was put.
+    fn commit_job(&self, held: &[u8], medium: &Mapped<'_>, view: &View) -> SlotWrite {
+        let from = data_at(medium, view.spare) as usize;
+        let size = self.put_end as usize - self.held_len;
+        SlotWrite::Commit {
+            spare: view.spare,
+            generation: self.noted.header[0].wrapping_add(1),
+            register: register_of(medium.bytes, from, size, self.held_in(held)),
+        }
+    }
+
+    // The job of a block after so many bytes, how many bytes are held back then, and where the puts end. What was put before a first block
+    // is forgotten.
+    fn block_job(&self, written: u32, medium: &Mapped<'_>, view: &View) -> (SlotWrite, usize, u32) {
+        if written == 0 {
+            let job = SlotWrite::Block {
+                spare: view.spare,
+                close: is_open(medium, view.spare),
+            };
+            return (job, 0, 0);
+        }
+        let job = SlotWrite::Block {
+            spare: view.spare,
+            close: false,
+        };
+        (job, self.held_len, self.put_end)
+    }
+
+    // The job of the row that is due, and what is held back and put then.
+    fn begin_job(&self, held: &[u8], medium: &Mapped<'_>, view: &View) -> (SlotWrite, usize, u32) {
+        match self.mode {
+            DeviceState::DownloadSync { written, .. } => self.block_job(written, medium, view),
+            DeviceState::DownloadBusy { written, .. } => self.block_job(written, medium, view),
+            _ => (
+                self.commit_job(held, medium, view),
+                self.held_len,
+                self.put_end,
+            ),
+        }
+    }
+
+    /// Begins the work of the row that is due.
+    pub(crate) fn start(
+        &mut self,
+        asked: Option<u16>,
+        block: &[u8],
+        held: &mut [u8],
+        medium: &Mapped<'_>,
+        view: &View,
+        out: &mut [u8],
+    ) -> Reply {
+        let (job, held_len, put_end) = self.begin_job(held, medium, view);
+        self.held_len = held_len;
+        self.put_end = put_end;
+        let work = PendingWrites {
+            job,
+            asked,
+            done: 0,
+        };
+        self.work = Some(work);
+        self.advance(block, held, medium.bytes, out)
+    }
+}

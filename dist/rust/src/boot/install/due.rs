@@ -1,0 +1,27 @@
+// Of crates/dfu_install/src/due.rt, whose contracts are taken away.
+
+//! What is due next of a run area.
+
+/// Why no image is started.
+#[derive(Clone, Copy, Debug, PartialEq, Eq)]
+pub enum Refusal {
+    /// The sectors are not of a multiple of 256 bytes up to 131,072, or the run area is not whole in them, or has 2^32 bytes or more.
+    WrongSize,
+    /// The image has no bytes.
+    NoImage,
+    /// The image has more bytes than the run area.
+    TooLarge,
+}
+
+/// What is due next.
+#[derive(Clone, Copy, Debug, PartialEq, Eq)]
+pub enum Due {
+    /// Nothing: no image can be started.
+    Refuse(Refusal),
+    /// An erase of the sector that begins at this offset of the run area.
+    Erase(u32),
+    /// A program of the 256 bytes of `piece` from this offset of the run area on.
+    Program(u32),
+    /// Nothing: the run area holds the whole image, which may be started.
+    Start,
+}

@@ -1,0 +1,15 @@
+// Of crates/dfu_install/src/pieces.rt, whose contracts are taken away.
+
+//! The bytes that are programmed.
+
+// Makes `out` these bytes, and FFh after them.
+fn fill_up(bytes: &[u8], out: &mut [u8; 256]) {
+    *out = [0xff; 256];
+    out[..bytes.len()].copy_from_slice(bytes);
+}
+
+/// Makes `out` the 256 bytes that are programmed from that offset on: those of the image, and FFh after its end.
+pub fn piece(image: &[u8], at: u32, out: &mut [u8; 256]) {
+    let rest = &image[(at as usize).min(image.len())..];
+    fill_up(&rest[..rest.len().min(256)], out);
+}

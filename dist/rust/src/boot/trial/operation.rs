@@ -1,0 +1,34 @@
+// Of crates/dfu_trial/src/operation.rt, whose contracts are taken away.
+
+//! What the calls ask of their caller.
+
+use crate::slots::{Failed, Medium};
+
+/// One operation on the medium, which the caller carries out. Whatever becomes of it, only the bytes of its range may change.
+#[derive(Clone, Copy, Debug, PartialEq, Eq)]
+pub enum Operation {
+    /// So many zeros, at most 256, are programmed from there on: a mark, all of whose bytes are FFh. Place, and length.
+    Mark(u32, u32),
+    /// The sector that begins there is erased: a gate is closed.
+    Close(u32),
+}
+
+impl Operation {
+    /// Carries it out on a medium. Nothing is read back: the next look at the medium shows what became of it.
+    ///
+    /// # Errors
+    ///
+    /// The medium answered that it failed.
+    ///
+    /// # What the caller must keep to
+    ///
+    /// - The medium takes it: the range lies within the length; a mark's place and length are multiples of the unit's
+    ///   size, and its bytes are FFh and not written since the erase; a sector begins where one is erased.
+    /// - A mark has at most 256 bytes.
+    pub fn carry_out<M: Medium>(self, medium: &mut M) -> Result<(), Failed> {
+        match self {
+            Operation::Mark(at, len) => medium.write(at, &[0; 256][..len as usize]),
+            Operation::Close(at) => medium.erase(at),
+        }
+    }
+}

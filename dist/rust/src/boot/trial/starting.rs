@@ -1,0 +1,74 @@
+// Of crates/dfu_trial/src/starting.rt, whose contracts are taken away.
+
+//! What starts.
+
+use crate::boot::trial::marks::{is_marked, mark_at, mark_size};
+use crate::boot::trial::{Operation, Standing};
+use crate::slots::Medium;
+
+/// What starts, and what the caller carries out before.
+#[derive(Clone, Copy, Debug, PartialEq, Eq)]
+pub struct Starting {
+    /// The operation that is carried out first, if any.
+    pub operation: Option<Operation>,
+    /// Where the slot begins that runs then; if the operation is a mark, only if that reads set.
+    pub slot: u32,
+    /// Where the slot begins that runs if the mark does not read set; else the same.
+    pub otherwise: u32,
+}
+
+impl Standing {
+    /// What starts, and what is carried out before. On trial that is the mark of the next start; without a start left the gate is closed of
+    /// the slot on trial. After it `Starting::runs` gives what runs.
+    ///
+    /// # What the caller must keep to
+    ///
+    /// - The medium has sectors, `tries` is at least 2, and a sector has room for `tries` marks and two more.
+    /// - It is what `look` found on this medium with the same `tries`, and nothing was written since.
+    pub fn start<M: Medium>(self, medium: &M, tries: u32) -> Starting {
+        debug_assert!(medium.sector() > 0 && tries >= 2);
+        match self {
+            Standing::Settled(settled) => Starting {
+                operation: None,
+                slot: settled.slot,
+                otherwise: settled.slot,
+            },
+            Standing::OnTrial(trial) => {
+                if trial.starts < tries {
+                    let mark = mark_at(medium, trial.slot, trial.starts + 1);
+                    Starting {
+                        operation: Some(Operation::Mark(mark, mark_size(medium))),
+                        slot: trial.slot,
+                        otherwise: trial.base,
+                    }
+                } else {
+                    Starting {
+                        operation: Some(Operation::Close(trial.slot)),
+                        slot: trial.base,
+                        otherwise: trial.base,
+                    }
+                }
+            }
+        }
+    }
+}
+
+impl Starting {
+    /// Where the slot begins that runs, once the operation was carried out, whatever became of it: a mark is read back.
+    ///
+    /// # What the caller must keep to
+    ///
+    /// - A mark of the operation lies within the medium, and has at most 256 bytes.
+    pub fn runs<M: Medium>(self, medium: &M) -> u32 {
+        match self.operation {
+            Some(Operation::Mark(at, len)) => {
+                if is_marked(medium, at, len) {
+                    self.slot
+                } else {
+                    self.otherwise
+                }
+            }
+            _ => self.slot,
+        }
+    }
+}

@@ -1,0 +1,52 @@
+// Of crates/dfu_conformance/src/lib.rt, whose contracts are taken away.
+
+//! Could a device that keeps USB DFU 1.1 have answered so? A table of all that the standard leaves open, and a judge that follows every
+//! device of it at once.
+
+macro_rules! row {
+    ($from:ident, $asked:ident, $when:expr, $gives:ident, $next:ident, $source:ident) => {
+        $crate::conformance::Row {
+            from: $from,
+            asked: $asked,
+            when: $when,
+            gives: $gives,
+            next: $next,
+            source: $source,
+        }
+    };
+}
+
+macro_rules! drift {
+    ($from:ident, $when:expr, $next:ident, $source:ident) => {
+        $crate::conformance::Drift {
+            from: $from,
+            when: $when,
+            next: $next,
+            source: $source,
+        }
+    };
+}
+
+mod drifts;
+mod event;
+mod habits;
+mod held;
+mod judge;
+mod line;
+mod log;
+mod marks;
+mod row;
+mod standard;
+mod verdict;
+mod whole;
+
+pub use drifts::DRIFTS;
+pub use event::{LogEvent, Response, speaks_of};
+pub use habits::HABITS;
+pub use judge::Judge;
+pub use log::{Line, LineFault, read_line, why_unread};
+pub use marks::MARKS;
+pub use row::{Drift, EventKind, Gives, Reading, Row, Source, StandardState, When};
+pub use standard::STANDARD;
+pub use verdict::{Departure, Verdict};
+pub use whole::verdict_on;

@@ -1,0 +1,52 @@
+// Of crates/dfu_conformance/src/habits.rt, whose contracts are taken away.
+
+//! What devices are known to do that is not in the standard.
+
+use crate::conformance::EventKind::{Detach, GetState, GetStatus, Power, Reset};
+use crate::conformance::Reading::{Bootloader, DetachAtOnce, DetachLeaves, ErrorWithoutCode, RuntimeMute};
+use crate::conformance::Row;
+use crate::conformance::StandardState::{
+    AppDetach, AppIdle, DfuIdle, DownloadBusy, DownloadIdle, DownloadSync, Error, Fresh, Manifest,
+    ManifestSync, ManifestWaitReset, UploadIdle,
+};
+use crate::conformance::row::Gives::{Ack, NoCode, Silent, Stall};
+use crate::conformance::row::Source::Habit;
+use crate::conformance::row::When::By;
+
+/// The rows of each reading.
+#[rustfmt::skip]
+pub static HABITS: [Row; 28] = [
+    // Bootloader: a reset and power lead to dfuIDLE.
+    row!(AppIdle, Reset, By(Bootloader), Silent, Fresh, Habit),
+    row!(DfuIdle, Reset, By(Bootloader), Silent, Fresh, Habit),
+    row!(DownloadSync, Reset, By(Bootloader), Silent, Fresh, Habit),
+    row!(DownloadBusy, Reset, By(Bootloader), Silent, Fresh, Habit),
+    row!(DownloadIdle, Reset, By(Bootloader), Silent, Fresh, Habit),
+    row!(ManifestSync, Reset, By(Bootloader), Silent, Fresh, Habit),
+    row!(Manifest, Reset, By(Bootloader), Silent, Fresh, Habit),
+    row!(ManifestWaitReset, Reset, By(Bootloader), Silent, Fresh, Habit),
+    row!(UploadIdle, Reset, By(Bootloader), Silent, Fresh, Habit),
+    row!(Error, Reset, By(Bootloader), Silent, Fresh, Habit),
+    row!(AppIdle, Power, By(Bootloader), Silent, Fresh, Habit),
+    row!(AppDetach, Power, By(Bootloader), Silent, Fresh, Habit),
+    row!(DfuIdle, Power, By(Bootloader), Silent, Fresh, Habit),
+    row!(DownloadSync, Power, By(Bootloader), Silent, Fresh, Habit),
+    row!(DownloadBusy, Power, By(Bootloader), Silent, Fresh, Habit),
+    row!(DownloadIdle, Power, By(Bootloader), Silent, Fresh, Habit),
+    row!(ManifestSync, Power, By(Bootloader), Silent, Fresh, Habit),
+    row!(Manifest, Power, By(Bootloader), Silent, Fresh, Habit),
+    row!(ManifestWaitReset, Power, By(Bootloader), Silent, Fresh, Habit),
+    row!(UploadIdle, Power, By(Bootloader), Silent, Fresh, Habit),
+    row!(Error, Power, By(Bootloader), Silent, Fresh, Habit),
+    // RuntimeMute: the application stalls what it is asked.
+    row!(AppIdle, GetStatus, By(RuntimeMute), Stall, AppIdle, Habit),
+    row!(AppIdle, GetState, By(RuntimeMute), Stall, AppIdle, Habit),
+    row!(AppDetach, GetStatus, By(RuntimeMute), Stall, AppDetach, Habit),
+    row!(AppDetach, GetState, By(RuntimeMute), Stall, AppDetach, Habit),
+    // DetachAtOnce: DETACH leads to dfuIDLE, with no reset.
+    row!(AppIdle, Detach, By(DetachAtOnce), Ack, DfuIdle, Habit),
+    // DetachLeaves: DETACH leads from dfuIDLE to the application.
+    row!(DfuIdle, Detach, By(DetachLeaves), Ack, AppIdle, Habit),
+    // ErrorWithoutCode: in dfuERROR the status has the code OK.
+    row!(Error, GetStatus, By(ErrorWithoutCode), NoCode, Error, Habit),
+];

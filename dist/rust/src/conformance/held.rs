@@ -1,0 +1,178 @@
+// Of crates/dfu_conformance/src/held.rt, whose contracts are taken away.
+
+//! Which devices are held at each place.
+
+use crate::conformance::drifts::DRIFTS;
+use crate::conformance::event::{may_stay, speaks_of};
+use crate::conformance::habits::HABITS;
+use crate::conformance::marks::MARKS;
+use crate::conformance::standard::STANDARD;
+use crate::conformance::{Drift, LogEvent, Reading, Row, StandardState, When};
+
+/// For each bmAttributes the sets of readings: bit r of word a is the device of bmAttributes a and of the readings that are the bits of r.
+pub(crate) type Devices = [u64; 16];
+
+/// The sets of readings for which a row is, at these bmAttributes, 0 to 15.
+fn word(when: When, attributes: usize) -> u64 {
+    match when {
+        When::Always => all_if(true),
+        When::CanDownload => all_if(attributes % 2 == 1),
+        When::CanUpload => all_if(attributes / 2 % 2 == 1),
+        When::Tolerant => all_if(attributes / 4 % 2 == 1),
+        When::NotTolerant => all_if(attributes / 4 % 2 == 0),
+        When::WillDetach => all_if(attributes / 8 % 2 == 1),
+        When::By(reading) => readings_with(reading),
+    }
+}
+
+/// All sets of readings, or none.
+fn all_if(yes: bool) -> u64 {
+    if yes { u64::MAX } else { 0 }
+}
+
+/// For each reading, by its number, the sets of readings in which it is.
+const SETS_WITH: [u64; 6] = [
+    0xaaaa_aaaa_aaaa_aaaa,
+    0xcccc_cccc_cccc_cccc,
+    0xf0f0_f0f0_f0f0_f0f0,
+    0xff00_ff00_ff00_ff00,
+    0xffff_0000_ffff_0000,
+    0xffff_ffff_0000_0000,
+];
+
+/// The place of a reading in the list of all six.
+fn number_of(reading: Reading) -> usize {
+    reading as usize
+}
+
+/// The sets of readings in which this one is.
+fn readings_with(reading: Reading) -> u64 {
+    SETS_WITH[number_of(reading)]
+}
+
+/// These devices, and those of the others for which a row is.
+fn join(to: &Devices, from: &Devices, when: When) -> Devices {
+    let mut after = *to;
+    for a in 0..16 {
+        after[a] |= from[a] & word(when, a);
+    }
+    after
+}
+
+/// Whether there is no device.
+fn is_empty(devices: &Devices) -> bool {
+    for a in 0..16 {
+        if devices[a] != 0 {
+            return false;
+        }
+    }
+    true
+}
+
+/// For each place the devices that may be there.
+pub(crate) type Places = [Devices; 12];
+
+/// The devices for which a row is are led from one place to another.
+fn lead(before: &Places, from: StandardState, when: When, after: &mut Places, to: StandardState) {
+    if is_empty(&before[from.number()]) {
+        return;
+    }
+    let to = to.number();
+    after[to] = join(&after[to], &before[from.number()], when);
+}
+
+/// Adds the devices that go by one of these rows.
+fn pass(rows: &[Row], before: &Places, event: &LogEvent, after: &mut Places) {
+    for row in rows {
+        if speaks_of(row, event) {
+            lead(before, row.from, row.when, after, row.next);
+        }
+    }
+}
+
+/// Adds the devices that go by a row of a reset or of power: no such row is about a request.
+fn pass_marks(before: &Places, event: &LogEvent, after: &mut Places) {
+    if event.asked.number() > 8 {
+        pass(&MARKS, before, event, after);
+    }
+}
+
+/// Adds the devices that make one of these moves by themselves.
+fn drift(moves: &[Drift], before: &Places) -> Places {
+    let mut after = *before;
+    for one in moves {
+        lead(before, one.from, one.when, &mut after, one.next);
+    }
+    after
+}
+
+/// The devices that may stay where they were, by an event.
+fn rest(before: &Places, event: &LogEvent) -> Places {
+    if may_stay(event) {
+        *before
+    } else {
+        [[0; 16]; 12]
+    }
+}
+
+/// The devices that may be at each place after an event, if these might be there before it.
+pub(crate) fn step(before: &Places, event: &LogEvent) -> Places {
+    let mut after = rest(before, event);
+    pass(&STANDARD, before, event, &mut after);
+    pass_marks(before, event, &mut after);
+    pass(&HABITS, before, event, &mut after);
+    drift(&DRIFTS, &after)
+}
+
+/// Whether this bit is 1.
+fn has_bit(word: u64, bit: u8) -> bool {
+    word >> bit & 1 == 1
+}
+
+/// Whether a device with this set of readings is held, with any bmAttributes.
+fn is_held(devices: &Devices, readings: u8) -> bool {
+    let mut is_some = false;
+    for a in 0..16 {
+        is_some = is_some || has_bit(devices[a], readings);
+    }
+    is_some
+}
+
+/// By place, whether a device with this set of readings may be there.
+pub(crate) fn places_of(places: &Places, readings: u8) -> [bool; 12] {
+    let mut at = [false; 12];
+    for n in 0..12 {
+        at[n] = is_held(&places[n], readings);
+    }
+    at
+}
+
+/// Whether a device with this set of readings may be anywhere.
+pub(crate) fn is_any_held(places: &Places, readings: u8) -> bool {
+    let mut is_some = false;
+    for n in 0..12 {
+        is_some = is_some || is_held(&places[n], readings);
+    }
+    is_some
+}
+
+/// The least set of readings below a number with which a device may be somewhere: one with the fewest readings, and of these the
+/// first by its number.
+pub(crate) fn least_held(places: &Places, sets: u8) -> Option<u8> {
+    let mut least = None;
+    for readings in 0..sets {
+        least = better(is_any_held(places, readings), readings, least);
+    }
+    least
+}
+
+/// The better of a set of readings, if it is held, and another set, if there is one.
+fn better(held: bool, readings: u8, least: Option<u8>) -> Option<u8> {
+    if !held {
+        return least;
+    }
+    match least {
+        Some(than) if than.count_ones() <= readings.count_ones() => least,
+        _ => Some(readings),
+    }
+}

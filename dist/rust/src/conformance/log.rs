@@ -1,0 +1,130 @@
+// Of crates/dfu_conformance/src/log.rt, whose contracts are taken away.
+
+//! The lines of a log.
+
+use crate::conformance::line::{answer_of, body_of, field_end, setup_of};
+use crate::conformance::{EventKind, LogEvent, Response};
+use crate::wire::Setup;
+
+/// What a line of a log says.
+#[derive(Clone, Copy, Debug, PartialEq, Eq)]
+pub enum Line {
+    /// Nothing: it is empty, or begins with `#`.
+    Blank,
+    /// A request that is no request of the class, or one for another interface.
+    Elsewhere,
+    /// What came to the device.
+    Came(LogEvent),
+}
+
+/// What is wrong with a line that is not a line of a log.
+#[derive(Clone, Copy, Debug, PartialEq, Eq)]
+pub enum LineFault {
+    /// It has over 262,158 bytes: only a comment may be longer.
+    Long,
+    /// Its first field is no setup.
+    Setup,
+    /// Its second field is no body.
+    Body,
+    /// What follows its second field is no answer.
+    Answer,
+}
+
+/// Nothing is answered to a reset, nor to power.
+const SILENT: Response = Response::Bytes {
+    count: 0,
+    first: 0,
+    fifth: 0,
+};
+
+/// The first field of a line, and what follows its space.
+fn parts(line: &[u8]) -> (&[u8], &[u8]) {
+    let end = field_end(line);
+    let rest = if end < line.len() {
+        &line[end + 1..]
+    } else {
+        &[]
+    };
+    (&line[..end], rest)
+}
+
+/// What a line says of a device whose DFU interface has this number, wIndex of its requests:
+///
+/// - `SETUP BODY ANSWER`, with one space between them: the sixteen hexadecimal digits of a setup; the bytes of its body in such digits, or
+///   `-`; and `ack`, `stall`, `nothing`, or the bytes that were answered;
+/// - `reset` and `power`;
+/// - an empty line, or one that begins with `#`.
+///
+/// `None` for any other line. Bytes are at most 65,535.
+pub fn read_line(interface: u8, line: &[u8]) -> Option<Line> {
+    if begins_blank(line) {
+        return Some(Line::Blank);
+    }
+    if line == b"reset".as_slice() {
+        return Some(Line::Came(mark(EventKind::Reset)));
+    }
+    if line == b"power".as_slice() {
+        return Some(Line::Came(mark(EventKind::Power)));
+    }
+    let (setup, rest) = parts(line);
+    let (body, answer) = parts(rest);
+    request_of(interface, setup_of(setup), body_of(body), answer_of(answer))
+}
+
+/// The first wrong field of a line that `read_line` can't read.
+pub fn why_unread(line: &[u8]) -> LineFault {
+    let (setup, rest) = parts(line);
+    let (body, _) = parts(rest);
+    if setup_of(setup).is_none() {
+        return LineFault::Setup;
+    }
+    if body_of(body).is_none() {
+        return LineFault::Body;
+    }
+    LineFault::Answer
+}
+
+/// Whether a line says nothing.
+fn begins_blank(line: &[u8]) -> bool {
+    match line {
+        [] => true,
+        [first, ..] => *first == b'#',
+    }
+}
+
+/// A reset or power.
+fn mark(asked: EventKind) -> LogEvent {
+    LogEvent {
+        asked,
+        is_plain: true,
+        length: 0,
+        answer: SILENT,
+    }
+}
+
+/// A request by its fields.
+fn request_of(
+    interface: u8,
+    setup: Option<Setup>,
+    body: Option<usize>,
+    answer: Option<Response>,
+) -> Option<Line> {
+    match (setup, body, answer) {
+        (Some(setup), Some(body), Some(answer)) => {
+            if setup.index != interface as u16 {
+                return Some(Line::Elsewhere);
+            }
+            let for_us = Setup { index: 0, ..setup };
+            Some(line_of(&for_us, body, answer))
+        }
+        _ => None,
+    }
+}
+
+/// A request for interface 0.
+fn line_of(setup: &Setup, body: usize, answer: Response) -> Line {
+    match LogEvent::exchange(setup, body, answer) {
+        Some(event) => Line::Came(event),
+        None => Line::Elsewhere,
+    }
+}

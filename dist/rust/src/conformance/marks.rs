@@ -1,0 +1,50 @@
+// Of crates/dfu_conformance/src/marks.rt, whose contracts are taken away.
+
+//! What a reset of the bus and power lead to (USB DFU 1.1, appendix A).
+
+use crate::conformance::EventKind::{Power, Reset};
+use crate::conformance::Row;
+use crate::conformance::StandardState::{
+    AppDetach, AppIdle, DfuIdle, DownloadBusy, DownloadIdle, DownloadSync, Error, Fresh, Manifest,
+    ManifestSync, ManifestWaitReset, UploadIdle,
+};
+use crate::conformance::row::Gives::Silent;
+use crate::conformance::row::Source::{A, Open};
+use crate::conformance::row::When::Always;
+
+// The rows of a device at a place, at a reset of the bus or power: one for each place that it may come up in.
+macro_rules! marks {
+    ($($from:ident, $asked:ident => $($next:ident)|+, $source:ident;)+) => {
+        [$($(row!($from, $asked, Always, Silent, $next, $source),)+)+]
+    };
+}
+
+/// What a reset of the bus and power lead to.
+#[rustfmt::skip]
+pub static MARKS: [Row; 43] = marks!(
+    // A reset of the bus: a device that detaches comes up in dfuIDLE, any other in its application, or in dfuERROR if that is broken.
+    AppIdle, Reset => AppIdle, A;
+    AppDetach, Reset => Fresh, A;
+    Fresh, Reset => Fresh, Open;
+    DfuIdle, Reset => AppIdle | Error, A;
+    DownloadSync, Reset => AppIdle | Error, A;
+    DownloadBusy, Reset => AppIdle | Error, A;
+    DownloadIdle, Reset => AppIdle | Error, A;
+    ManifestSync, Reset => AppIdle | Error, A;
+    Manifest, Reset => AppIdle | Error, A;
+    ManifestWaitReset, Reset => AppIdle | Error, A;
+    UploadIdle, Reset => AppIdle | Error, A;
+    Error, Reset => AppIdle | Error, A;
+    // Power that comes back: the application, or dfuERROR if that is broken.
+    AppIdle, Power => AppIdle | Error, A;
+    AppDetach, Power => AppIdle | Error, A;
+    DfuIdle, Power => AppIdle | Error, A;
+    DownloadSync, Power => AppIdle | Error, A;
+    DownloadBusy, Power => AppIdle | Error, A;
+    DownloadIdle, Power => AppIdle | Error, A;
+    ManifestSync, Power => AppIdle | Error, A;
+    Manifest, Power => AppIdle | Error, A;
+    ManifestWaitReset, Power => AppIdle | Error, A;
+    UploadIdle, Power => AppIdle | Error, A;
+    Error, Power => AppIdle | Error, A;
+);

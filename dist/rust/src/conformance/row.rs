@@ -1,0 +1,172 @@
+// Of crates/dfu_conformance/src/row.rt, whose contracts are taken away.
+
+//! A row of the table, and the words that it is written in.
+
+/// Where a device may be: a state of the standard (USB DFU 1.1, section 6.1.2), or dfuIDLE that a reset of the bus just entered.
+#[derive(Clone, Copy, Debug, PartialEq, Eq)]
+pub enum StandardState {
+    /// 0.
+    AppIdle,
+    /// 1.
+    AppDetach,
+    /// 2.
+    DfuIdle,
+    /// 3.
+    DownloadSync,
+    /// 4.
+    DownloadBusy,
+    /// 5.
+    DownloadIdle,
+    /// 6.
+    ManifestSync,
+    /// 7.
+    Manifest,
+    /// 8.
+    ManifestWaitReset,
+    /// 9.
+    UploadIdle,
+    /// 10.
+    Error,
+    /// dfuIDLE too, entered by a reset: a second reset may belong to the same enumeration.
+    Fresh,
+}
+
+impl StandardState {
+    /// Its place in a list of all twelve, 0 to 11.
+    pub fn number(self) -> usize {
+        self as usize
+    }
+}
+
+/// What came to a device: one of the requests of the class (USB DFU 1.1, section 3), or what happened to its bus or its power.
+#[derive(Clone, Copy, Debug, PartialEq, Eq)]
+pub enum EventKind {
+    /// DETACH.
+    Detach,
+    /// DNLOAD with wLength over 0: a block.
+    Block,
+    /// DNLOAD with wLength 0: the end of the image.
+    Close,
+    /// UPLOAD.
+    Upload,
+    /// GETSTATUS.
+    GetStatus,
+    /// CLRSTATUS.
+    ClrStatus,
+    /// GETSTATE.
+    GetState,
+    /// ABORT.
+    Abort,
+    /// Any other request of the class.
+    Other,
+    /// A reset of the bus.
+    Reset,
+    /// Power that went and came back.
+    Power,
+}
+
+impl EventKind {
+    /// Its place in a list of all eleven, 0 to 10.
+    pub(crate) fn number(self) -> usize {
+        self as usize
+    }
+}
+
+/// A habit of some devices that is not in the standard. A judge gives the least set of habits with which a device is kept.
+#[derive(Clone, Copy, Debug, PartialEq, Eq)]
+pub enum Reading {
+    /// 0: after a reset or power the device is in dfuIDLE, as a bootloader with no application is.
+    Bootloader,
+    /// 1: in appIDLE and appDETACH it stalls GETSTATUS and GETSTATE.
+    RuntimeMute,
+    /// 2: it leaves dfuMANIFEST and dfuMANIFEST-WAIT-RESET for appIDLE by itself.
+    SelfReset,
+    /// 3: DETACH leads from appIDLE to dfuIDLE at once.
+    DetachAtOnce,
+    /// 4: DETACH is acknowledged in dfuIDLE, and leads to appIDLE.
+    DetachLeaves,
+    /// 5: in dfuERROR GETSTATUS answers the code OK.
+    ErrorWithoutCode,
+}
+
+/// For which devices a row is: the bits are those of bmAttributes (USB DFU 1.1, section 4.1.3).
+#[derive(Clone, Copy, Debug, PartialEq, Eq)]
+pub enum When {
+    /// Every device.
+    Always,
+    /// bitCanDnload is 1.
+    CanDownload,
+    /// bitCanUpload is 1.
+    CanUpload,
+    /// bitManifestationTolerant is 1.
+    Tolerant,
+    /// bitManifestationTolerant is 0.
+    NotTolerant,
+    /// bitWillDetach is 1.
+    WillDetach,
+    /// Those with this habit: the standard has no such row.
+    By(Reading),
+}
+
+/// What a device answers by a row.
+#[derive(Clone, Copy, Debug, PartialEq, Eq)]
+pub enum Gives {
+    /// It acknowledges, or sends no bytes.
+    Ack,
+    /// It stalls.
+    Stall,
+    /// Six bytes, or as many of them as were asked for (section 6.1.2): the code is OK outside dfuERROR, and another one in it; the
+    /// state is the one that is entered.
+    Status,
+    /// As `Status`, but with the code OK in dfuERROR.
+    NoCode,
+    /// One byte, or none if none was asked for: the state as it is.
+    State,
+    /// As many bytes of an image as were asked for.
+    Full,
+    /// Fewer bytes of an image.
+    Short,
+    /// A reset and power are answered by nothing.
+    Silent,
+}
+
+/// Where the standard has a row.
+#[derive(Clone, Copy, Debug, PartialEq, Eq)]
+pub enum Source {
+    /// Appendix A, in the table of the state where the row begins; section 6.1.2 has the bytes of an answer.
+    A,
+    /// Appendix A can be read so, and otherwise too: both readings have rows.
+    Open,
+    /// Nowhere.
+    Habit,
+}
+
+/// A row of the table: what a device may answer at a place, and where it is then.
+#[derive(Clone, Copy, Debug, PartialEq, Eq)]
+pub struct Row {
+    /// Where the device is.
+    pub from: StandardState,
+    /// What comes to it.
+    pub asked: EventKind,
+    /// For which devices the row is.
+    pub when: When,
+    /// What it answers.
+    pub gives: Gives,
+    /// Where it is then.
+    pub next: StandardState,
+    /// Where the standard has the row.
+    pub source: Source,
+}
+
+/// A move that a device makes by itself, between two events.
+#[derive(Clone, Copy, Debug, PartialEq, Eq)]
+pub struct Drift {
+    /// Where the device is.
+    pub from: StandardState,
+    /// Which devices make the move.
+    pub when: When,
+    /// Where it is then.
+    pub next: StandardState,
+    /// Where the standard has the move.
+    pub source: Source,
+}

@@ -1,0 +1,36 @@
+// Of crates/dfu_conformance/src/verdict.rt, whose contracts are taken away.
+
+//! What a judge says.
+
+use crate::conformance::event::is_asked;
+use crate::conformance::{LogEvent, Row};
+
+/// What a judge says of all that came.
+#[derive(Clone, Copy, Debug, PartialEq, Eq)]
+pub enum Verdict {
+    /// A device that keeps the standard may have answered so.
+    Kept,
+    /// No such device may, but one with these habits: bit n is reading n of `Reading`. No set with fewer readings would do.
+    KeptBy {
+        /// The set of readings, 1 to 63.
+        readings: u8,
+    },
+    /// No device may have, with any habits.
+    NotKept,
+}
+
+/// An event after which no device of the standard is left.
+#[derive(Clone, Copy, Debug, PartialEq, Eq)]
+pub struct Departure {
+    /// Where the device might be before it: by place, in the order of `StandardState`.
+    pub before: [bool; 12],
+    /// What came.
+    pub event: LogEvent,
+}
+
+impl Departure {
+    /// Whether a row says what was allowed: it begins where the device might be, and is about what was asked.
+    pub fn allows(&self, row: &Row) -> bool {
+        self.before[row.from.number()] && is_asked(row.asked, &self.event)
+    }
+}

@@ -1,0 +1,14 @@
+// Of crates/dfu_conformance/src/whole.rt, whose contracts are taken away.
+
+//! The verdict on a whole list of events.
+
+use crate::conformance::{Judge, LogEvent, Verdict};
+
+/// The verdict on these events, for a device about which nothing is known.
+pub fn verdict_on(events: &[LogEvent]) -> Verdict {
+    let mut judge = Judge::new();
+    for event in events {
+        let _ = judge.take(event);
+    }
+    judge.verdict()
+}

@@ -1,0 +1,35 @@
+// Of crates/dfu_device/src/lib.rt, whose contracts are taken away.
+
+//! The device's side of USB device firmware upgrade (USB DFU 1.1): a machine that answers every
+//! setup with every body, takes no memory, and never fails. Each of its steps is a row of the
+//! device table, `crates/dfu_device/specs/Table.antt`.
+
+mod answer;
+mod block;
+mod borrowed_device;
+mod candidate;
+mod config;
+mod decision;
+mod device;
+mod device_core;
+mod device_state;
+mod effects;
+mod filled;
+mod from_parts;
+mod objection;
+mod plans;
+mod table;
+mod time_table;
+
+pub use answer::Answer;
+pub use block::{Block, BorrowedBlock};
+pub use borrowed_device::BorrowedDevice;
+pub use candidate::Candidate;
+pub use config::{Config, ConfigFault, Profile};
+pub use decision::{Decision, Reply};
+pub use device::Device;
+pub use device_state::{DeviceState, status_in};
+pub use filled::{PutSoFar, is_filled};
+pub use objection::Objection;
+pub use table::{asked_length, decide, goes_with, is_close};
+pub use time_table::decide_time;

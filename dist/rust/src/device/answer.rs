@@ -1,0 +1,156 @@
+// Of crates/dfu_device/src/answer.rt, whose contracts are taken away.
+
+//! How a device answers a setup: what is answered, and its bytes in the buffer of the caller.
+
+use crate::device::block::Block;
+use crate::device::decision::Reply;
+use crate::device::device_core::DeviceCore;
+use arrayvec::ArrayVec;
+use crate::slots::{Medium, Slots};
+
+/// How a device answers a setup. The bytes of an answer are in the buffer that the caller gave.
+#[derive(Clone, Copy, Debug, PartialEq, Eq)]
+pub enum Answer {
+    /// The request is acknowledged; there are no bytes.
+    Ack,
+    /// The request is answered with the bytes in the buffer, which may be none.
+    Bytes,
+    /// The request is stalled; there are no bytes.
+    Stall,
+}
+
+/// An answer before its bytes are in a buffer, with no byte made or copied. A status and a state are
+/// those of the core after the row.
+///
+/// `asked` is wLength, the most bytes that are sent.
+#[derive(Clone, Copy)]
+pub(crate) enum PendingAnswer {
+    /// The request is acknowledged.
+    Ack,
+    /// The status.
+    Status { asked: u16 },
+    /// The state.
+    State { asked: u16 },
+    /// The bytes of the active image from `place` on.
+    Piece { place: u32, asked: u16 },
+    /// The request is stalled.
+    Stall,
+}
+
+/// The pending answer of a reply to a request for so many bytes.
+pub(crate) fn pending_answer_of(reply: Reply, asked: u16) -> PendingAnswer {
+    match reply {
+        Reply::Ack => PendingAnswer::Ack,
+        Reply::Status => PendingAnswer::Status { asked },
+        Reply::State => PendingAnswer::State { asked },
+        Reply::Stall => PendingAnswer::Stall,
+    }
+}
+
+impl<M: Medium, B: Block> DeviceCore<M, B> {
+    /// Answers a setup with its body.
+    pub(crate) fn handle(
+        &mut self,
+        setup: &[u8; 8],
+        body: &[u8],
+        out: &mut ArrayVec<u8, 4096>,
+    ) -> Answer {
+        // (The proof needs this call, and nothing else does.)
+        let _ = self.config.transfer();
+        let pending_answer = self.pending_answer(setup, body);
+        out.clear();
+        self.give(pending_answer, out)
+    }
+
+    /// Answers a setup with its body into a buffer, if that has room for any answer.
+    pub(crate) fn handle_into(
+        &mut self,
+        setup: &[u8; 8],
+        body: &[u8],
+        out: &mut [u8],
+    ) -> Option<(Answer, usize)> {
+        if out.len() < usize::from(self.config.transfer()).max(6) {
+            return None;
+        }
+        let pending_answer = self.pending_answer(setup, body);
+        Some(self.give_into(pending_answer, out))
+    }
+
+    /// Puts the bytes of an answer into an empty buffer.
+    fn give(&self, pending_answer: PendingAnswer, out: &mut ArrayVec<u8, 4096>) -> Answer {
+        match pending_answer {
+            PendingAnswer::Ack => Answer::Ack,
+            PendingAnswer::Status { asked } => {
+                let bytes = self.status();
+                let _ = out.try_extend_from_slice(&bytes[..usize::from(asked).min(6)]);
+                Answer::Bytes
+            }
+            PendingAnswer::State { asked } => {
+                if asked > 0 {
+                    out.push(self.state().byte());
+                }
+                Answer::Bytes
+            }
+            PendingAnswer::Piece { place, asked } => {
+                let count = self.piece_len(place, asked);
+                if count > 0 {
+                    copy_image(&self.slots, place, count, out);
+                }
+                Answer::Bytes
+            }
+            PendingAnswer::Stall => Answer::Stall,
+        }
+    }
+
+    /// Puts the bytes of an answer at the front of a buffer, and returns their number.
+    fn give_into(&self, pending_answer: PendingAnswer, out: &mut [u8]) -> (Answer, usize) {
+        match pending_answer {
+            PendingAnswer::Ack => (Answer::Ack, 0),
+            PendingAnswer::Status { asked } => {
+                let bytes = self.status();
+                (Answer::Bytes, put_front(&bytes, asked, out))
+            }
+            PendingAnswer::State { asked } => {
+                let bytes = [self.state().byte()];
+                (Answer::Bytes, put_front(&bytes, asked, out))
+            }
+            PendingAnswer::Piece { place, asked } => (
+                Answer::Bytes,
+                self.put_piece(place, asked, out),
+            ),
+            PendingAnswer::Stall => (Answer::Stall, 0),
+        }
+    }
+
+    /// How many bytes the image has from `place` on, at most `len`.
+    #[inline(never)]
+    pub(crate) fn piece_len(&self, place: u32, len: u16) -> u16 {
+        let rest = self.slots.active_len().saturating_sub(place);
+        rest.min(len as u32) as u16
+    }
+
+    /// Puts bytes of the image at the front of a buffer, from `place` on, at most `asked`, and returns their number.
+    fn put_piece(&self, place: u32, asked: u16, out: &mut [u8]) -> usize {
+        let count = self.piece_len(place, asked);
+        if count > 0 {
+            self.slots
+                .read_active(place, &mut out[..usize::from(count)]);
+        }
+        usize::from(count)
+    }
+}
+
+/// Puts the first of some bytes at the front of a buffer, at most `asked`, and returns their number.
+fn put_front(bytes: &[u8], asked: u16, out: &mut [u8]) -> usize {
+    let count = usize::from(asked).min(bytes.len());
+    out[..count].copy_from_slice(&bytes[..count]);
+    count
+}
+
+/// Copies so many bytes of the active image, from `place` on.
+fn copy_image<M: Medium>(slots: &Slots<M>, place: u32, count: u16, out: &mut ArrayVec<u8, 4096>) {
+    let mut buffer = [0; 4096];
+    let piece = &mut buffer[..count as usize];
+    slots.read_active(place, piece);
+    let _ = out.try_extend_from_slice(piece);
+}

@@ -1,0 +1,46 @@
+// Of crates/dfu_device/src/candidate.rt, whose contracts are taken away.
+
+//! Where an image is that was received and is not in place yet.
+
+use crate::device::Device;
+use crate::device::block::Block;
+use crate::device::device_core::DeviceCore;
+use crate::slots::{Medium, data_at};
+
+/// Where an image is that was received and is not in place yet. Its first bytes are on the medium, in the spare slot. The others, fewer
+/// than a unit of the medium, are held back in memory (`Slots::held`).
+#[derive(Clone, Copy, Debug, PartialEq, Eq)]
+pub struct Candidate {
+    /// Where its first byte is on the medium.
+    pub at: u32,
+    /// How many of its bytes are there.
+    pub stored: u32,
+}
+
+impl<M: Medium> Device<M> {
+    /// Where the received image is, for a program that checks it before it calls `refuse_close` or `refuse`, or neither. It is Some in
+    /// dfuDNLOAD-IDLE, in dfuMANIFEST-SYNC before it is complete, and in dfuMANIFEST, else None. It reads and writes no byte of the
+    /// medium.
+    pub fn candidate(&self) -> Option<Candidate> {
+        self.core.candidate()
+    }
+}
+
+impl<M: Medium, B: Block> DeviceCore<M, B> {
+    // Where the received image is.
+    fn candidate(&self) -> Option<Candidate> {
+        let len = self.mode.candidate_len()?;
+        // (The proof needs this call, and nothing else does.)
+        let _ = self.slots.held();
+        let medium = self.slots.medium();
+        let spare = if self.slots.is_first() {
+            medium.len() / 2
+        } else {
+            0
+        };
+        Some(Candidate {
+            at: data_at(medium, spare),
+            stored: len - len % medium.unit().size(),
+        })
+    }
+}

@@ -1,0 +1,131 @@
+// Of crates/dfu_device/src/config.rt, whose contracts are taken away.
+
+//! What a device is set up with.
+
+use crate::wire::{Functional, Ids};
+use thiserror::Error;
+
+/// What a device is set up with: who it is, its functional descriptor, the fewest bytes of an image
+/// (1 to 16,777,216), and how long it takes to write a block and to put an image in place (0 to
+/// 16,777,215 ms; at least 1 ms for an image if the device is not tolerant of manifestation).
+///
+/// On a medium with sectors both times are to have room for erases: a block takes at most one, and one more for each sector
+/// that begins in the transfer size and a unit; an image takes two or three.
+#[derive(Clone, Copy, Debug)]
+pub struct Config {
+    ids: Ids,
+    functional: Functional,
+    least: u32,
+    busy_ms: u32,
+    manifest_ms: u32,
+}
+
+/// Why a device cannot be set up, in the order in which the faults are checked.
+#[derive(Clone, Copy, Debug, PartialEq, Eq, Error)]
+pub enum ConfigFault {
+    /// The transfer size of the functional descriptor is 0 or over 4,096 bytes.
+    #[error("the transfer size is not 1 to 4096 bytes")]
+    BadTransfer,
+    /// A poll time is over 16,777,215 ms, or the manifestation time is 0 although the device is not
+    /// tolerant of manifestation.
+    #[error("a poll time does not fit in 24 bits, or the manifestation time is 0 without tolerance")]
+    BadPoll,
+    /// The fewest bytes of an image are 0 or over 16,777,216.
+    #[error("the fewest bytes of an image are not 1 to 16777216")]
+    BadLeast,
+}
+
+/// What the table reads of a device beside its mode: its fixed settings.
+#[derive(Clone, Copy, Debug, PartialEq, Eq)]
+pub struct Profile {
+    /// The functional descriptor.
+    pub functional: Functional,
+    /// The fewest bytes of an image.
+    pub least: u32,
+    /// How long a block takes to be written, in milliseconds.
+    pub busy_ms: u32,
+    /// How long an image takes to be put in place, in milliseconds.
+    pub manifest_ms: u32,
+    /// The most bytes of an image.
+    pub capacity: u64,
+}
+
+impl Config {
+    /// A configuration of these values; the version of the descriptor becomes 0110h. The faults, in
+    /// the order in which they are checked:
+    ///
+    /// 1. `BadTransfer`: the transfer size is 0 or over 4,096.
+    /// 2. `BadPoll`: a time is over 16,777,215, or `manifest_ms` is 0 and the device is not tolerant.
+    /// 3. `BadLeast`: `least` is 0 or over 16,777,216.
+    pub fn new(
+        ids: Ids,
+        functional: Functional,
+        least: u32,
+        busy_ms: u32,
+        manifest_ms: u32,
+    ) -> Result<Config, ConfigFault> {
+        if functional.transfer == 0 || functional.transfer > 4096 {
+            return Err(ConfigFault::BadTransfer);
+        }
+        if busy_ms > 0xff_ffff
+            || manifest_ms > 0xff_ffff
+            || !functional.tolerant && manifest_ms == 0
+        {
+            return Err(ConfigFault::BadPoll);
+        }
+        if least == 0 || least > 0x100_0000 {
+            return Err(ConfigFault::BadLeast);
+        }
+        Ok(Config {
+            ids,
+            functional: Functional {
+                version: 0x0110,
+                ..functional
+            },
+            least,
+            busy_ms,
+            manifest_ms,
+        })
+    }
+
+    /// Who the device is.
+    pub(crate) fn ids(&self) -> Ids {
+        self.ids
+    }
+
+    /// The functional descriptor.
+    pub fn functional(&self) -> Functional {
+        self.functional
+    }
+
+    /// The most bytes of a block.
+    pub(crate) fn transfer(&self) -> u16 {
+        self.functional.transfer
+    }
+
+    /// The fewest bytes of an image.
+    pub fn least(&self) -> u32 {
+        self.least
+    }
+
+    /// How long it takes to write a block, in milliseconds.
+    pub fn busy_ms(&self) -> u32 {
+        self.busy_ms
+    }
+
+    /// How long it takes to put an image in place, in milliseconds.
+    pub fn manifest_ms(&self) -> u32 {
+        self.manifest_ms
+    }
+
+    /// What the table reads of a device that is set up like this, with room for images of so many bytes.
+    pub fn profile(&self, capacity: u64) -> Profile {
+        Profile {
+            functional: self.functional(),
+            least: self.least(),
+            busy_ms: self.busy_ms(),
+            manifest_ms: self.manifest_ms(),
+            capacity,
+        }
+    }
+}

@@ -1,0 +1,160 @@
+// Of crates/dfu_device/src/device_core.rt, whose contracts are taken away.
+
+//! The core of a device.
+
+use crate::device::answer::{PendingAnswer, pending_answer_of};
+use crate::device::block::Block;
+use crate::device::config::Profile;
+use crate::device::decision::Decision;
+use crate::device::device_state::{DeviceState, status_in};
+use crate::device::table::{asked_length, decide, goes_with, is_close};
+use crate::device::time_table::decide_time;
+use crate::device::{Config, Objection};
+use crate::slots::{Medium, Slots};
+use crate::wire::{Code, Request, Setup, State};
+
+/// The core of a device: what is fixed, the slot store, the state, and the block that is not
+/// written yet.
+pub struct DeviceCore<M: Medium, B: Block> {
+    pub config: Config,
+    pub slots: Slots<M>,
+    pub mode: DeviceState,
+    pub block: B,
+}
+
+impl<M: Medium, B: Block> DeviceCore<M, B> {
+    /// A core in appIDLE.
+    pub(crate) fn start(config: Config, slots: Slots<M>, block: B) -> DeviceCore<M, B> {
+        // (The proof needs this call, and nothing else does.)
+        let _ = slots.capacity();
+        DeviceCore {
+            config,
+            slots,
+            mode: DeviceState::AppIdle,
+            block,
+        }
+    }
+
+    /// The core starts anew in appIDLE, on its medium as it is.
+    pub(crate) fn restart(&mut self) {
+        self.slots.reopen();
+        self.mode = DeviceState::AppIdle;
+    }
+
+    /// The state of the standard.
+    pub(crate) fn state(&self) -> State {
+        self.mode.state()
+    }
+
+    /// The status code: that of dfuERROR, and OK in every other state.
+    pub(crate) fn code(&self) -> Code {
+        self.mode.code()
+    }
+
+    /// The six bytes of the status.
+    pub(crate) fn status(&self) -> [u8; 6] {
+        status_in(&self.config, self.mode)
+    }
+
+    /// What the table reads of it.
+    fn profile(&self) -> Profile {
+        self.config.profile(u64::from(self.slots.capacity()))
+    }
+
+    /// What a setup with its body comes to: the three rules before the table, then the table.
+    pub(crate) fn pending_answer(&mut self, setup: &[u8; 8], body: &[u8]) -> PendingAnswer {
+        let setup = Setup::decode(setup);
+        let request = setup.request();
+        match request {
+            Request::NotDfu => PendingAnswer::Stall,
+            request => {
+                if !goes_with(&setup, body) {
+                    return PendingAnswer::Stall;
+                }
+                self.serve(request, body)
+            }
+        }
+    }
+
+    /// A request of the class whose body fits: its row of the table.
+    fn serve(&mut self, request: Request, body: &[u8]) -> PendingAnswer {
+        let decision = decide(&self.profile(), self.mode, request);
+        self.carry_out(decision, asked_length(request), body)
+    }
+
+    /// Carries a decision out, with the body of its request, which asks for so many bytes of a status or of a state.
+    pub(crate) fn carry_out(&mut self, decision: Decision, asked: u16, body: &[u8]) -> PendingAnswer {
+        match decision {
+            Decision::Sure { reply, mode } => {
+                self.mode = mode;
+                pending_answer_of(reply, asked)
+            }
+            Decision::Holds { mode } => {
+                self.block.hold(body);
+                self.mode = mode;
+                PendingAnswer::Ack
+            }
+            Decision::Sends {
+                place,
+                size,
+                number,
+            } => {
+                self.mode = self.after_piece(place, size, number);
+                PendingAnswer::Piece { place, asked: size }
+            }
+            Decision::Writes {
+                reply,
+                written,
+                number,
+                late,
+            } => {
+                let _ = self.write_block(written, number, late);
+                pending_answer_of(reply, asked)
+            }
+            Decision::Commits {
+                reply,
+                written,
+                mode,
+            } => {
+                let _ = self.commit_taken(written, mode);
+                pending_answer_of(reply, asked)
+            }
+        }
+    }
+
+    /// The mode after these bytes of the image are sent: fewer than `size` are the last ones.
+    fn after_piece(&self, place: u32, size: u16, number: u16) -> DeviceState {
+        if self.piece_len(place, size) < size {
+            return DeviceState::DfuIdle;
+        }
+        DeviceState::UploadIdle {
+            place: place + u32::from(size),
+            number,
+        }
+    }
+
+    /// This many milliseconds pass.
+    pub(crate) fn elapse(&mut self, ms: u32) {
+        let decision = decide_time(&self.profile(), self.mode, ms);
+        let _ = self.carry_out(decision, 0, &[]);
+    }
+
+    /// The bus is reset.
+    pub(crate) fn usb_reset(&mut self) {
+        self.mode = self.mode.after_reset();
+    }
+
+    /// The program refuses the image that this setup closes, if it closes one.
+    pub(crate) fn refuse_close(&mut self, setup: &[u8; 8], objection: Objection) -> bool {
+        if !self.mode.may_close(self.config.least()) || !is_close(setup) {
+            return false;
+        }
+        self.mode = DeviceState::after_refused_close(objection);
+        true
+    }
+
+    /// The program refuses the image that was closed.
+    pub(crate) fn refuse(&mut self, objection: Objection) {
+        self.mode = self.mode.after_refusal(objection);
+    }
+}

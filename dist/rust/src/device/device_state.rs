@@ -1,0 +1,178 @@
+// Of crates/dfu_device/src/device_state.rt, whose contracts are taken away.
+
+//! The mode of a device: its state with what it keeps there, and the status that it reports (USB DFU 1.1, section 6.1.2).
+
+use crate::device::objection::Objection;
+use crate::device::Config;
+use crate::wire::{Code, State, Status};
+
+/// The mode of a device: a state of the standard (USB DFU 1.1, section 6.1.2), with what the device keeps there beside its
+/// slot store and the block that is not written. What a variant does not name is forgotten when it is entered.
+///
+/// `written` is how many bytes of a download were put in the spare slot of the store; `number` is that of the next
+/// block; `passed` is how many milliseconds passed in this state.
+#[derive(Clone, Copy, Debug, PartialEq, Eq)]
+pub enum DeviceState {
+    /// appIDLE: the application runs.
+    AppIdle,
+    /// appDETACH: the device got DETACH, and goes back to appIDLE once `timer` milliseconds have passed, at least 1, if it
+    /// does not detach by itself.
+    AppDetach {
+        /// wTimeout of the DETACH or wDetachTimeOut, whichever is less, in milliseconds.
+        timer: u32,
+        /// Milliseconds in this state.
+        passed: u32,
+    },
+    /// dfuIDLE: nothing is taken.
+    DfuIdle,
+    /// dfuDNLOAD-SYNC: the block is kept beside the mode, and is not written yet.
+    DownloadSync {
+        /// Bytes before the block.
+        written: u32,
+        /// The next block's number.
+        number: u16,
+    },
+    /// dfuDNLOAD-SYNC: the block is written.
+    DownloadSyncWritten {
+        /// All bytes taken, 1 or more.
+        written: u32,
+        /// The next block's number.
+        number: u16,
+    },
+    /// dfuDNBUSY: the block is being written; it is kept beside the mode until the busy time has passed.
+    DownloadBusy {
+        /// Bytes before the block.
+        written: u32,
+        /// The next block's number.
+        number: u16,
+        /// Milliseconds in this state.
+        passed: u32,
+    },
+    /// dfuDNLOAD-IDLE: the next block may come.
+    DownloadIdle {
+        /// All bytes taken, 1 or more.
+        written: u32,
+        /// The next block's number.
+        number: u16,
+    },
+    /// dfuMANIFEST-SYNC, not complete: the download is closed, and its bytes are not in place yet.
+    ManifestSync {
+        /// All bytes taken, 1 or more.
+        written: u32,
+    },
+    /// dfuMANIFEST-SYNC, complete: the bytes taken are the active image.
+    ManifestSyncComplete,
+    /// dfuMANIFEST: the bytes taken are being put in place, until the manifestation time has passed.
+    Manifest {
+        /// All bytes taken, 1 or more.
+        written: u32,
+        /// Milliseconds in this state.
+        passed: u32,
+    },
+    /// dfuMANIFEST-WAIT-RESET: the bytes taken are the active image, and the device waits for a reset.
+    ManifestWaitReset,
+    /// dfuUPLOAD-IDLE: a part of the image was sent.
+    UploadIdle {
+        /// How many bytes of the image were sent.
+        place: u32,
+        /// The next part's number.
+        number: u16,
+    },
+    /// dfuERROR.
+    Error {
+        /// The status code.
+        code: Code,
+    },
+}
+
+impl DeviceState {
+    /// The state of the standard (USB DFU 1.1, section 6.1.2, bState).
+    pub fn state(self) -> State {
+        match self {
+            DeviceState::AppIdle => State::AppIdle,
+            DeviceState::AppDetach { .. } => State::AppDetach,
+            DeviceState::DfuIdle => State::DfuIdle,
+            DeviceState::DownloadSync { .. } | DeviceState::DownloadSyncWritten { .. } =>
+                State::DownloadSync,
+            DeviceState::DownloadBusy { .. } => State::DownloadBusy,
+            DeviceState::DownloadIdle { .. } => State::DownloadIdle,
+            DeviceState::ManifestSync { .. } | DeviceState::ManifestSyncComplete =>
+                State::ManifestSync,
+            DeviceState::Manifest { .. } => State::Manifest,
+            DeviceState::ManifestWaitReset => State::ManifestWaitReset,
+            DeviceState::UploadIdle { .. } => State::UploadIdle,
+            DeviceState::Error { .. } => State::Error,
+        }
+    }
+
+    /// The status code: that of dfuERROR, and OK in every other state (USB DFU 1.1, section 6.1.2, bStatus).
+    pub fn code(self) -> Code {
+        match self {
+            DeviceState::Error { code } => code,
+            _ => Code::Ok,
+        }
+    }
+
+    /// The mode after a reset of the bus.
+    pub fn after_reset(self) -> DeviceState {
+        match self {
+            DeviceState::AppDetach { .. } => DeviceState::DfuIdle,
+            _ => DeviceState::AppIdle,
+        }
+    }
+
+    /// How many bytes an image has that was taken and may be refused: in dfuDNLOAD-IDLE, in dfuMANIFEST-SYNC before it is complete, and in
+    /// dfuMANIFEST.
+    pub fn candidate_len(self) -> Option<u32> {
+        match self {
+            DeviceState::DownloadIdle { written, .. }
+            | DeviceState::ManifestSync { written }
+            | DeviceState::Manifest { written, .. } => Some(written),
+            _ => None,
+        }
+    }
+
+    /// Whether a DNLOAD of no bytes closes a download in this mode, if an image has so many bytes at least: in dfuDNLOAD-IDLE, once as
+    /// many were taken.
+    pub fn may_close(self, least: u32) -> bool {
+        match self {
+            DeviceState::DownloadIdle { written, .. } => least <= written,
+            _ => false,
+        }
+    }
+
+    /// The mode after the program refuses the image that such a request closes: dfuERROR with the code of its objection.
+    pub fn after_refused_close(objection: Objection) -> DeviceState {
+        DeviceState::Error {
+            code: objection.code(),
+        }
+    }
+
+    /// The mode after the program refuses the image that was closed: dfuERROR with the code of its objection from dfuMANIFEST-SYNC, not
+    /// complete, and from dfuMANIFEST. Every other mode stays.
+    pub fn after_refusal(self, objection: Objection) -> DeviceState {
+        match self {
+            DeviceState::ManifestSync { .. } | DeviceState::Manifest { .. } => {
+                DeviceState::after_refused_close(objection)
+            }
+            mode => mode,
+        }
+    }
+}
+
+// How long the host is to wait in a mode, in milliseconds (bwPollTimeout).
+fn poll_ms(config: &Config, mode: DeviceState) -> u32 {
+    match mode {
+        DeviceState::DownloadBusy { .. } => config.busy_ms(),
+        DeviceState::Manifest { .. } => config.manifest_ms(),
+        _ => 0,
+    }
+}
+
+/// The six bytes of the status of a device that is set up like this, in a mode.
+pub fn status_in(config: &Config, mode: DeviceState) -> [u8; 6] {
+    let Ok(status) = Status::new(mode.code(), poll_ms(config, mode), mode.state()) else {
+        unreachable!()
+    };
+    status.encode()
+}

@@ -1,0 +1,92 @@
+// Of crates/dfu_device/src/effects.rt, whose contracts are taken away.
+
+//! What a device does to its slot store: it writes a block, or makes the bytes taken the active image.
+
+use crate::device::block::Block;
+use crate::device::device_core::DeviceCore;
+use crate::device::device_state::DeviceState;
+use crate::slots::{Medium, PutFault, Slots, WriteFault};
+use crate::wire::Code;
+
+impl<M: Medium, B: Block> DeviceCore<M, B> {
+    /// Writes the block, and returns the fault if a write had one. `late` is true if time passed, so that the
+    /// host has to ask for the status once more.
+    pub(crate) fn write_block(
+        &mut self,
+        written: u32,
+        number: u16,
+        late: bool,
+    ) -> Result<(), WriteFault> {
+        match put_block(&mut self.slots, written, self.block.bytes()) {
+            Ok(()) => {
+                let written = written + self.block.bytes().len() as u32;
+                self.mode = if late {
+                    DeviceState::DownloadSyncWritten { written, number }
+                } else {
+                    DeviceState::DownloadIdle { written, number }
+                };
+                Ok(())
+            }
+            Err(fault) => {
+                let fault = write_fault(fault);
+                self.mode = DeviceState::Error {
+                    code: write_code(fault),
+                };
+                Err(fault)
+            }
+        }
+    }
+
+    /// Makes the bytes taken the active image, and goes on to the next state. It returns the fault if a
+    /// write had one.
+    pub(crate) fn commit_taken(&mut self, written: u32, next: DeviceState) -> Result<(), WriteFault> {
+        match self.slots.commit(written) {
+            Ok(()) => {
+                self.mode = next;
+                Ok(())
+            }
+            Err(fault) => {
+                let fault = write_fault(fault);
+                self.mode = DeviceState::Error {
+                    code: commit_code(fault),
+                };
+                Err(fault)
+            }
+        }
+    }
+}
+
+/// The fault of the write that broke off a call of the slot store.
+fn write_fault(fault: PutFault) -> WriteFault {
+    match fault {
+        PutFault::NotVerified => WriteFault::NotVerified,
+        PutFault::TooLarge | PutFault::Failed | PutFault::NotBegun => WriteFault::Failed,
+    }
+}
+
+/// The status code of a block whose write had this fault.
+fn write_code(fault: WriteFault) -> Code {
+    match fault {
+        WriteFault::Failed => Code::Write,
+        WriteFault::NotVerified => Code::Verify,
+    }
+}
+
+/// The status code of a commit in which a write had this fault.
+fn commit_code(fault: WriteFault) -> Code {
+    match fault {
+        WriteFault::Failed => Code::Prog,
+        WriteFault::NotVerified => Code::Verify,
+    }
+}
+
+/// Writes a block after the bytes written, the first one after a `begin`.
+fn put_block<M: Medium>(slots: &mut Slots<M>, written: u32, block: &[u8]) -> Result<(), PutFault> {
+    if written > 0 {
+        return slots.put(written, block);
+    }
+    match slots.begin() {
+        Err(fault) => Err(fault),
+        Ok(()) => slots.put(0, block),
+    }
+}

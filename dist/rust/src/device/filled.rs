@@ -1,0 +1,52 @@
+// Of crates/dfu_device/src/filled.rt, whose contracts are taken away.
+
+//! Whether a mode goes with what was put in a slot store.
+
+use crate::device::device_state::DeviceState;
+
+/// What decides whether a mode goes with a slot store.
+#[derive(Clone, Copy, Debug, PartialEq, Eq)]
+pub struct PutSoFar {
+    /// The most bytes of an image.
+    pub room: u32,
+    /// Whether the gate of the spare slot is closed.
+    pub begun: bool,
+    /// Where the puts end.
+    pub end: u32,
+}
+
+// Whether so many bytes were put in the closed spare, and no more.
+fn is_put(seen: PutSoFar, written: u32) -> bool {
+    seen.begun && seen.end == written
+}
+
+// Whether all is written, and some of it.
+fn is_written(seen: PutSoFar, written: u32) -> bool {
+    0 < written && written <= seen.room && is_put(seen, written)
+}
+
+// Whether there is room for a block of so many bytes after what is written.
+fn is_next(seen: PutSoFar, written: u32, block: usize) -> bool {
+    0 < block
+        && u64::from(written) + block as u64 <= u64::from(seen.room)
+        && (written == 0 || is_put(seen, written))
+}
+
+/// Whether a mode, with a block of so many bytes that is not written, goes with what was put in each slot store that looks like this.
+///
+/// # What the caller must keep to
+///
+/// - `block` is below 2^32.
+pub fn is_filled(seen: PutSoFar, mode: DeviceState, block: usize) -> bool {
+    debug_assert!(block as u64 <= u64::from(u32::MAX));
+    match mode {
+        DeviceState::DownloadSync { written, .. } | DeviceState::DownloadBusy { written, .. } => {
+            is_next(seen, written, block)
+        }
+        DeviceState::DownloadSyncWritten { written, .. }
+        | DeviceState::DownloadIdle { written, .. }
+        | DeviceState::ManifestSync { written }
+        | DeviceState::Manifest { written, .. } => is_written(seen, written),
+        _ => true,
+    }
+}

@@ -1,0 +1,44 @@
+// Of crates/dfu_device/src/objection.rt, whose contracts are taken away.
+
+//! The program of a device refuses an image.
+
+use crate::device::Device;
+use crate::slots::Medium;
+use crate::wire::Code;
+
+/// Why the program of a device refuses an image (USB DFU 1.1, section 6.1.2, bStatus).
+#[derive(Clone, Copy, Debug, PartialEq, Eq)]
+pub enum Objection {
+    /// The image is not for this device: errTARGET.
+    Target,
+    /// The image is for this device and fails a test of its vendor, such as that of a signature: errFILE.
+    File,
+}
+
+impl Objection {
+    /// The status code that reports it to a host.
+    pub fn code(self) -> Code {
+        match self {
+            Objection::Target => Code::Target,
+            Objection::File => Code::File,
+        }
+    }
+}
+
+impl<M: Medium> Device<M> {
+    /// The program refuses the image that this setup closes: a DNLOAD of no bytes in dfuDNLOAD-IDLE, with as many bytes taken as an image
+    /// has at least. The device enters dfuERROR with errTARGET or errFILE, nothing is written, and the caller stalls the request.
+    ///
+    /// False, with nothing changed, if it is no such setup; then the caller hands it in by `handle`, as one that the program does not
+    /// refuse.
+    pub fn refuse_close(&mut self, setup: &[u8; 8], objection: Objection) -> bool {
+        self.core.refuse_close(setup, objection)
+    }
+
+    /// The program refuses the image that was closed, for a check that takes longer than a transfer may. In dfuMANIFEST-SYNC, before it is
+    /// complete, and in dfuMANIFEST the device enters dfuERROR with errTARGET or errFILE, and nothing is put in place. In every other state
+    /// nothing changes.
+    pub fn refuse(&mut self, objection: Objection) {
+        self.core.refuse(objection);
+    }
+}

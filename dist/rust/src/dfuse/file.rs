@@ -1,0 +1,28 @@
+// Of crates/dfuse_file/src/lib.rt, whose contracts are taken away.
+
+//! DfuSe files (ST's UM0391): what goes where in a device's memory, as elements of an address and bytes.
+//!
+//! `read` takes a whole file apart. `File::image` lists the elements of one alternate setting by their addresses, as `dfuse::session` wants
+//! them; `read_raw` makes one of a file without addresses, and `list` takes those that `formats` reads. The crate takes no memory and
+//! opens no file.
+
+mod elements;
+mod fault;
+mod file;
+mod headings;
+mod image;
+mod listing;
+mod marks;
+mod numbers;
+mod raw;
+mod suffix;
+mod targets;
+
+pub use elements::Elements;
+pub use fault::FileFault;
+pub use file::{File, read};
+pub use image::ImageFault;
+#[cfg(feature = "formats")]
+pub use listing::list;
+pub use raw::{RawFault, read_raw};
+pub use targets::{Target, Targets};

@@ -1,0 +1,90 @@
+// Of crates/dfuse_file/src/elements.rt, whose contracts are taken away.
+
+//! Elements, one after the other.
+
+use crate::dfuse::file::fault::FileFault;
+use crate::dfuse::file::numbers::number_at;
+use crate::dfuse::session::Element;
+
+/// An element, and the bytes after it.
+struct Split<'f> {
+    element: Element<'f>,
+    rest: &'f [u8],
+}
+
+/// Takes an element off the front.
+fn take_element(bytes: &[u8]) -> Result<Split<'_>, FileFault> {
+    if bytes.len() < 8 {
+        return Err(FileFault::ElementPastTheTarget);
+    }
+    let address = number_at(0, bytes);
+    let size = number_at(4, bytes);
+    let (_, behind) = bytes.split_at(8);
+    if behind.len() < size as usize {
+        return Err(FileFault::ElementPastTheTarget);
+    }
+    if size == 0 {
+        return Err(FileFault::EmptyElement);
+    }
+    if address as u64 + size as u64 > 0x1_0000_0000 {
+        return Err(FileFault::AddressPastTheEnd);
+    }
+    let (content, rest) = behind.split_at(size as usize);
+    Ok(Split {
+        element: Element {
+            address,
+            bytes: content,
+        },
+        rest,
+    })
+}
+
+/// Checks that no bytes are left; this fault if some are.
+pub(crate) fn check_end(rest: &[u8], fault: FileFault) -> Result<(), FileFault> {
+    if rest.is_empty() { Ok(()) } else { Err(fault) }
+}
+
+/// Checks that the bytes are so many elements, and nothing else.
+pub(crate) fn check_elements(count: u32, bytes: &[u8]) -> Result<(), FileFault> {
+    let mut rest = bytes;
+    for _ in 0..count {
+        match take_element(rest) {
+            Ok(split) => rest = split.rest,
+            Err(fault) => return Err(fault),
+        }
+    }
+    check_end(rest, FileFault::BadTargetSize)
+}
+
+/// The elements of a target, in the order of the file.
+pub struct Elements<'f> {
+    left: u32,
+    rest: &'f [u8],
+}
+
+impl<'f> Elements<'f> {
+    /// The elements that were checked.
+    pub(crate) fn new(left: u32, rest: &'f [u8]) -> Elements<'f> {
+        Elements { left, rest }
+    }
+
+    /// How many there are.
+    pub fn len(&self) -> u32 {
+        self.left
+    }
+
+    /// Takes the first element off. Without one it changes nothing.
+    pub fn next_element(&mut self) -> Option<Element<'f>> {
+        if self.left == 0 {
+            return None;
+        }
+        match take_element(self.rest) {
+            Ok(split) => {
+                self.left -= 1;
+                self.rest = split.rest;
+                Some(split.element)
+            }
+            Err(_) => None,
+        }
+    }
+}

@@ -1,0 +1,92 @@
+// Of crates/dfuse_file/src/file.rt, whose contracts are taken away.
+
+//! A DfuSe file.
+
+use crate::dfuse::file::fault::FileFault;
+use crate::dfuse::file::marks::is_prefixed;
+use crate::dfuse::file::numbers::number_at;
+use crate::dfuse::file::suffix::read_suffix;
+use crate::dfuse::file::targets::{Targets, check_targets};
+use crate::wire::Ids;
+
+/// A DfuSe file: the device that it is for, and one to 255 targets, as slices of the bytes that were read. Only `read` makes one.
+pub struct File<'f> {
+    ids: Ids,
+    count: u8,
+    targets: &'f [u8],
+}
+
+/// The file with this body, and these identifiers in its suffix.
+fn read_body(ids: Ids, whole: usize, bytes: &[u8]) -> Result<File<'_>, FileFault> {
+    if bytes.len() < 11 {
+        return Err(FileFault::NoPrefix);
+    }
+    if !is_prefixed(bytes) {
+        return Err(FileFault::NoPrefix);
+    }
+    if bytes[5] != 1 {
+        return Err(FileFault::BadVersion);
+    }
+    let size = number_at(6, bytes) as usize;
+    if size != bytes.len() && size != whole {
+        return Err(FileFault::BadImageSize);
+    }
+    let count = bytes[10];
+    if count == 0 {
+        return Err(FileFault::NoTargets);
+    }
+    let (_, targets) = bytes.split_at(11);
+    match check_targets(count, targets) {
+        Ok(()) => Ok(File {
+            ids,
+            count,
+            targets,
+        }),
+        Err(fault) => Err(fault),
+    }
+}
+
+/// What the bytes say, or their first fault.
+fn read_file(bytes: &[u8]) -> Result<File<'_>, FileFault> {
+    match read_suffix(bytes) {
+        Ok(suffixed) => read_body(suffixed.ids, bytes.len(), suffixed.payload),
+        Err(fault) => Err(fault),
+    }
+}
+
+/// Reads a DfuSe file. The size in its prefix may count the suffix, as dfu-util's tools have it, or not, as ST's. A file with a wrong
+/// dwCRC is refused for that, whatever else is in it.
+///
+/// # Errors
+///
+/// The first fault, in the order of [`FileFault`].
+pub fn read(bytes: &[u8]) -> Result<File<'_>, FileFault> {
+    read_file(bytes)
+}
+
+impl<'f> File<'f> {
+    /// The device that the file is for.
+    pub fn ids(&self) -> Ids {
+        self.ids
+    }
+
+    /// The targets, in the order of the file.
+    pub fn targets(&self) -> Targets<'f> {
+        Targets::new(self.count, self.targets)
+    }
+
+    /// The alternate setting that all targets are for, if it is the same.
+    pub fn setting(&self) -> Option<u8> {
+        let mut targets = self.targets();
+        let first = match targets.next_target() {
+            Some(target) => target.setting,
+            None => return None,
+        };
+        while let Some(target) = targets.next_target() {
+            if target.setting != first {
+                return None;
+            }
+        }
+        Some(first)
+    }
+}

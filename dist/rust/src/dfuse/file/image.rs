@@ -1,0 +1,70 @@
+// Of crates/dfuse_file/src/image.rt, whose contracts are taken away.
+
+//! The elements of a file for an alternate setting.
+
+use crate::dfuse::file::file::File;
+use crate::dfuse::file::listing::put;
+use crate::dfuse::session::Element;
+use thiserror::Error;
+
+/// Why a file has no image for a setting: the first of these that holds.
+#[derive(Clone, Copy, Debug, PartialEq, Eq, Error)]
+pub enum ImageFault {
+    /// No target is for this alternate setting.
+    #[error("the file has nothing for this alternate setting")]
+    NoSuchSetting,
+    /// There are more elements than there is room for.
+    #[error("the file has too many elements")]
+    TooManyElements,
+}
+
+/// Sorts elements by their addresses.
+fn sort_all(elements: &mut [Element<'_>]) {
+    elements.sort_unstable_by_key(|element| element.address);
+}
+
+/// Sorts the first `count` elements by their addresses.
+fn sort(count: usize, room: &mut [Element<'_>]) {
+    sort_all(&mut room[..count]);
+}
+
+impl<'f> File<'f> {
+    /// Puts the elements of all targets of an alternate setting into the front of `room`, in the order of the file. It answers how many
+    /// there are. A session wants them by their addresses.
+    ///
+    /// # Errors
+    ///
+    /// NoSuchSetting, or TooManyElements if `room` has fewer places.
+    pub fn listed(&self, setting: u8, room: &mut [Element<'f>]) -> Result<usize, ImageFault> {
+        let mut count: usize = 0;
+        let mut has_target = false;
+        let mut targets = self.targets();
+        while let Some(target) = targets.next_target() {
+            if target.setting == setting {
+                has_target = true;
+                match put(target.elements, count, room) {
+                    Some(n) => count = n,
+                    None => return Err(ImageFault::TooManyElements),
+                }
+            }
+        }
+        if !has_target {
+            return Err(ImageFault::NoSuchSetting);
+        }
+        Ok(count)
+    }
+
+    /// The same, by their addresses. It does not look whether they overlap: a session refuses that.
+    ///
+    /// # Errors
+    ///
+    /// NoSuchSetting, or TooManyElements if `room` has fewer places.
+    pub fn image(&self, setting: u8, room: &mut [Element<'f>]) -> Result<usize, ImageFault> {
+        let count = match self.listed(setting, room) {
+            Ok(count) => count,
+            Err(fault) => return Err(fault),
+        };
+        sort(count, room);
+        Ok(count)
+    }
+}

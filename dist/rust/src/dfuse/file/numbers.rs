@@ -1,0 +1,10 @@
+// Of crates/dfuse_file/src/numbers.rt, whose contracts are taken away.
+
+//! Numbers in bytes.
+
+/// The number in the four bytes from a place on, the low one first.
+pub(crate) fn number_at(place: usize, bytes: &[u8]) -> u32 {
+    let (_, behind) = bytes.split_at(place);
+    let (field, _) = behind.split_at(4);
+    u32::from_le_bytes([field[0], field[1], field[2], field[3]])
+}

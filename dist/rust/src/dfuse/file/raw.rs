@@ -1,0 +1,85 @@
+// Of crates/dfuse_file/src/raw.rt, whose contracts are taken away.
+
+//! A file without addresses, as one element.
+
+use crate::dfuse::file::marks::is_prefixed;
+use crate::suffix::SuffixFault;
+use crate::dfuse::session::Element;
+use thiserror::Error;
+
+/// Why a file can't be written to an address: the first of these that holds.
+#[derive(Clone, Copy, Debug, PartialEq, Eq, Error)]
+pub enum RawFault {
+    /// The file has over 16,777,216 bytes.
+    #[error("the file has over 16777216 bytes")]
+    TooLarge,
+    /// It has a signature, and bLength is under 16 or over the file's length.
+    #[error("the suffix's length is under 16 or over the file's")]
+    BadLength,
+    /// It has a signature and isn't a DfuSe file, and dwCRC isn't the register over the bytes before it.
+    #[error("the file's CRC differs from the one in its suffix")]
+    BadCrc,
+    /// bcdDFU is 011Ah, or the file begins with the letters DfuSe.
+    #[error("the file is a DfuSe file, which has addresses of its own")]
+    HasAddresses,
+    /// There are no bytes before the suffix, if there is one.
+    #[error("the file is empty")]
+    Empty,
+    /// The last byte would have an address past FFFFFFFFh.
+    #[error("the file ends behind the last address")]
+    AddressPastTheEnd,
+}
+
+/// Why a file with this fault isn't taken, if it isn't.
+fn refusal(fault: SuffixFault) -> Option<RawFault> {
+    match fault {
+        SuffixFault::TooLarge => Some(RawFault::TooLarge),
+        SuffixFault::BadLength => Some(RawFault::BadLength),
+        SuffixFault::BadCrc => Some(RawFault::BadCrc),
+        SuffixFault::DfuSe => Some(RawFault::HasAddresses),
+        _ => None,
+    }
+}
+
+/// What precedes a suffix; a file without one has nothing else.
+fn payload_of(bytes: &[u8]) -> Result<&[u8], RawFault> {
+    match crate::suffix::read(bytes) {
+        Ok(file) => Ok(file.payload()),
+        Err(fault) => match refusal(fault) {
+            Some(refused) => Err(refused),
+            None => Ok(bytes),
+        },
+    }
+}
+
+/// Whether a file begins with the letters DfuSe.
+fn has_prefix(bytes: &[u8]) -> bool {
+    bytes.len() >= 5 && is_prefixed(bytes)
+}
+
+/// An element of bytes at an address.
+fn placed_at(address: u32, bytes: &[u8]) -> Result<Element<'_>, RawFault> {
+    if has_prefix(bytes) {
+        return Err(RawFault::HasAddresses);
+    }
+    if bytes.len() == 0 {
+        return Err(RawFault::Empty);
+    }
+    if address as u64 + bytes.len() as u64 > 0x1_0000_0000 {
+        return Err(RawFault::AddressPastTheEnd);
+    }
+    Ok(Element { address, bytes })
+}
+
+/// Reads a file without addresses, which goes to this one. Its suffix (USB DFU 1.1, appendix B), if it has one, is left out. A file
+/// with a damaged suffix, or that begins as a DfuSe file, is refused: it would be written whole.
+///
+/// # Errors
+///
+/// The first fault, in the order of [`RawFault`].
+pub fn read_raw(bytes: &[u8], address: u32) -> Result<Element<'_>, RawFault> {
+    match payload_of(bytes) {
+        Ok(payload) => placed_at(address, payload),
+        Err(fault) => Err(fault),
+    }
+}

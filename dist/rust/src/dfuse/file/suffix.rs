@@ -1,0 +1,90 @@
+// Of crates/dfuse_file/src/suffix.rt, whose contracts are taken away.
+
+//! The suffix of a file, with bcdDFU 011Ah.
+
+use crate::dfuse::file::fault::FileFault;
+use byteorder::{ByteOrder, LittleEndian};
+use crate::suffix::{Crc, SuffixFault};
+use crate::wire::Ids;
+
+/// The bytes before the suffix, and the identifiers in it.
+pub(crate) struct Suffixed<'f> {
+    pub payload: &'f [u8],
+    pub ids: Ids,
+}
+
+/// The last 16 bytes.
+fn tail(bytes: &[u8]) -> &[u8] {
+    let (_, tail) = bytes.split_at(bytes.len() - 16);
+    tail
+}
+
+/// The number in two of the last 16 bytes.
+fn field(place: usize, tail: &[u8]) -> u16 {
+    let (_, field) = tail.split_at(place);
+    LittleEndian::read_u16(field)
+}
+
+/// Whether dwCRC isn't the register over the bytes before it.
+fn has_bad_crc(bytes: &[u8]) -> bool {
+    let (before, _) = bytes.split_at(bytes.len() - 4);
+    let (_, crc) = tail(bytes).split_at(12);
+    let mut over = Crc::new();
+    over.update_small(before);
+    LittleEndian::read_u32(crc) != over.value()
+}
+
+/// What the last 16 bytes say.
+fn suffixed_by(bytes: &[u8]) -> Suffixed<'_> {
+    let tail = tail(bytes);
+    let (payload, _) = bytes.split_at(bytes.len().saturating_sub(tail[11] as usize));
+    Suffixed {
+        payload,
+        ids: Ids {
+            device: field(0, tail),
+            product: field(2, tail),
+            vendor: field(4, tail),
+        },
+    }
+}
+
+/// Whether this is the fault that a DfuSe file has.
+fn is_dfuse(fault: SuffixFault) -> bool {
+    match fault {
+        SuffixFault::DfuSe => true,
+        _ => false,
+    }
+}
+
+/// Why a file with another fault is not a DfuSe file.
+fn refusal(fault: SuffixFault) -> FileFault {
+    match fault {
+        SuffixFault::TooLarge => FileFault::TooLarge,
+        SuffixFault::TooShort => FileFault::TooShort,
+        SuffixFault::NoSignature => FileFault::NoSignature,
+        SuffixFault::BadLength => FileFault::BadLength,
+        _ => FileFault::NotDfuSe,
+    }
+}
+
+/// What precedes a suffix with bcdDFU 011Ah.
+fn read_signed(bytes: &[u8]) -> Result<Suffixed<'_>, FileFault> {
+    if has_bad_crc(bytes) {
+        Err(FileFault::BadCrc)
+    } else {
+        Ok(suffixed_by(bytes))
+    }
+}
+
+/// Reads the suffix, by the small table: a file is read once, and a library for C has no large ones.
+pub(crate) fn read_suffix(bytes: &[u8]) -> Result<Suffixed<'_>, FileFault> {
+    let fault = match crate::suffix::read_small(bytes) {
+        Ok(_) => return Err(FileFault::NotDfuSe),
+        Err(fault) => fault,
+    };
+    if is_dfuse(fault) {
+        read_signed(bytes)
+    } else {
+        Err(refusal(fault))
+    }
+}

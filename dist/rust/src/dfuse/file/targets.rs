@@ -1,0 +1,73 @@
+// Of crates/dfuse_file/src/targets.rt, whose contracts are taken away.
+
+//! Targets, one after the other.
+
+use crate::dfuse::file::elements::{Elements, check_elements, check_end};
+use crate::dfuse::file::fault::FileFault;
+use crate::dfuse::file::headings::take_heading;
+
+/// What goes into the memory of an alternate setting.
+pub struct Target<'f> {
+    /// The alternate setting.
+    pub setting: u8,
+    /// Whether the target has a name: 0 if it has none.
+    pub named: u32,
+    /// The 255 bytes for its name, which ends at the first 0.
+    pub name: &'f [u8],
+    /// Its elements.
+    pub elements: Elements<'f>,
+}
+
+/// Checks that the bytes are so many targets, each with as many elements as it says, and nothing else.
+pub(crate) fn check_targets(count: u8, bytes: &[u8]) -> Result<(), FileFault> {
+    let mut rest = bytes;
+    for _ in 0..count {
+        match take_heading(rest) {
+            Err(fault) => return Err(fault),
+            Ok(heading) => match check_elements(heading.count, heading.content) {
+                Err(fault) => return Err(fault),
+                Ok(()) => rest = heading.rest,
+            },
+        }
+    }
+    check_end(rest, FileFault::Trailing)
+}
+
+/// The targets of a file, in its order.
+pub struct Targets<'f> {
+    left: u8,
+    rest: &'f [u8],
+}
+
+impl<'f> Targets<'f> {
+    /// The targets that were checked.
+    pub(crate) fn new(left: u8, rest: &'f [u8]) -> Targets<'f> {
+        Targets { left, rest }
+    }
+
+    /// How many there are.
+    pub fn len(&self) -> u8 {
+        self.left
+    }
+
+    /// Takes the first target off. Without one it changes nothing.
+    #[inline(always)]
+    pub fn next_target(&mut self) -> Option<Target<'f>> {
+        if self.left == 0 {
+            return None;
+        }
+        match take_heading(self.rest) {
+            Err(_) => None,
+            Ok(heading) => {
+                self.left -= 1;
+                self.rest = heading.rest;
+                Some(Target {
+                    setting: heading.setting,
+                    named: heading.named,
+                    name: heading.name,
+                    elements: Elements::new(heading.count, heading.content),
+                })
+            }
+        }
+    }
+}

@@ -1,0 +1,49 @@
+// Of crates/dfuse_memory/src/digits.rt, whose contracts are taken away.
+
+//! Numbers in digits.
+
+use crate::dfuse::memory::text::Number;
+
+/// The value of a digit, or 16.
+fn digit_value(byte: u8) -> u64 {
+    match byte {
+        b'0'..=b'9' => (byte - b'0') as u64,
+        b'a'..=b'f' => (byte - b'a') as u64 + 10,
+        b'A'..=b'F' => (byte - b'A') as u64 + 10,
+        _ => 16,
+    }
+}
+
+/// How many digits in this base are at the front.
+fn digits_in(base: u64, text: &[u8]) -> usize {
+    let mut count: usize = 0;
+    for byte in text {
+        if digit_value(*byte) >= base {
+            return count;
+        }
+        count += 1;
+    }
+    count
+}
+
+/// The number that up to eight digits in this base say.
+fn said(base: u64, digits: &[u8]) -> u64 {
+    let mut value: u64 = 0;
+    for byte in digits {
+        value = base * value + digit_value(*byte);
+    }
+    value
+}
+
+/// The number at the front, in this base and in at most so many digits. All digits there belong to it.
+pub(crate) fn take_number(base: u64, most: usize, text: &[u8]) -> Option<Number<'_>> {
+    let count = digits_in(base, text);
+    if count == 0 || count > most {
+        return None;
+    }
+    let (digits, rest) = text.split_at(count);
+    Some(Number {
+        value: said(base, digits),
+        rest,
+    })
+}

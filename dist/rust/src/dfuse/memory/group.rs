@@ -1,0 +1,104 @@
+// Of crates/dfuse_memory/src/group.rt, whose contracts are taken away.
+
+//! A range, as the string has it: a count, a size with its unit, and a letter.
+
+use crate::dfuse::memory::digits::take_number;
+use crate::dfuse::memory::fault::MapFault;
+use crate::dfuse::memory::limits::ADDRESSES;
+use crate::dfuse::memory::pages::{Access, Pages};
+use crate::dfuse::memory::text::{Number, behind, front};
+
+/// What may be done with pages, and the text after the letter that says it.
+struct Allowed<'t> {
+    access: Access,
+    rest: &'t [u8],
+}
+
+/// A range, and the text after it.
+pub(crate) struct Group<'t> {
+    pub pages: Pages,
+    pub rest: &'t [u8],
+}
+
+/// How many bytes a unit has, or 0.
+fn unit_of(byte: u8) -> u64 {
+    match byte {
+        b'K' => 1024,
+        b'M' => 1_048_576,
+        b'B' | b' ' => 1,
+        _ => 0,
+    }
+}
+
+/// A size in the unit at the front; in bytes, if there is no unit.
+fn take_unit(value: u64, text: &[u8]) -> Number<'_> {
+    match front(text) {
+        Some((byte, rest)) if unit_of(byte) != 0 => Number {
+            value: unit_of(byte) * value,
+            rest,
+        },
+        _ => Number { value, rest: text },
+    }
+}
+
+/// Takes a count of pages, and `*`.
+fn take_count(text: &[u8]) -> Result<Number<'_>, MapFault> {
+    match take_number(10, 5, text) {
+        Some(number) if number.value != 0 => match behind(b'*', number.rest) {
+            Some(rest) => Ok(Number {
+                value: number.value,
+                rest,
+            }),
+            None => Err(MapFault::BadCount),
+        },
+        _ => Err(MapFault::BadCount),
+    }
+}
+
+/// Takes the size of a page, with its unit.
+fn take_size(text: &[u8]) -> Result<Number<'_>, MapFault> {
+    match take_number(10, 5, text) {
+        Some(number) if number.value != 0 => Ok(take_unit(number.value, number.rest)),
+        _ => Err(MapFault::BadSize),
+    }
+}
+
+/// What the bits of a letter say, from `a`, which has only the lowest bit.
+fn access_of(letter: u8) -> Access {
+    let bits = letter - b'a' + 1;
+    Access {
+        is_readable: bits % 2 == 1,
+        is_erasable: bits / 2 % 2 == 1,
+        is_writable: bits / 4 == 1,
+    }
+}
+
+/// Takes the letter that says what may be done with the pages.
+fn take_access(text: &[u8]) -> Result<Allowed<'_>, MapFault> {
+    match front(text) {
+        Some((letter, rest)) if letter >= b'a' && letter <= b'g' => Ok(Allowed {
+            access: access_of(letter),
+            rest,
+        }),
+        _ => Err(MapFault::BadType),
+    }
+}
+
+/// Takes a range that begins at this address.
+pub(crate) fn take_group(start: u64, text: &[u8]) -> Result<Group<'_>, MapFault> {
+    let count = take_count(text)?;
+    let size = take_size(count.rest)?;
+    let allowed = take_access(size.rest)?;
+    if start + count.value * size.value > ADDRESSES {
+        return Err(MapFault::PastTheEnd);
+    }
+    Ok(Group {
+        pages: Pages {
+            start: start as u32,
+            size: size.value,
+            count: count.value as u32,
+            access: allowed.access,
+        },
+        rest: allowed.rest,
+    })
+}

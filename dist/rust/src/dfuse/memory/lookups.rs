@@ -1,0 +1,52 @@
+// Of crates/dfuse_memory/src/lookups.rt, whose contracts are taken away.
+
+//! What ranges say of an address.
+
+use crate::dfuse::memory::pages::{Access, Page, Pages};
+use crate::dfuse::memory::ranges::end_of;
+
+/// Whether a range has this address.
+fn has(address: u64, pages: &Pages) -> bool {
+    pages.start as u64 <= address && address < end_of(pages)
+}
+
+/// The range that has this address.
+pub(crate) fn range_at(address: u64, ranges: &[Pages]) -> Option<Pages> {
+    for pages in ranges {
+        if has(address, pages) {
+            return Some(*pages);
+        }
+    }
+    None
+}
+
+/// The page of a range that has this address.
+fn page_in(address: u64, pages: &Pages) -> Page {
+    let start = pages.start as u64;
+    let number = (address - start) / pages.size;
+    Page {
+        start: (start + number * pages.size) as u32,
+        size: pages.size,
+        access: pages.access,
+    }
+}
+
+/// The page that has this address.
+pub(crate) fn page_at(address: u64, ranges: &[Pages]) -> Option<Page> {
+    match range_at(address, ranges) {
+        Some(pages) => Some(page_in(address, &pages)),
+        None => None,
+    }
+}
+
+/// Whether each address from the first up to before the second is in a range that grants what is wanted.
+pub(crate) fn all_granted(wanted: Access, start: u64, end: u64, ranges: &[Pages]) -> bool {
+    let mut at = start;
+    while at < end {
+        match range_at(at, ranges) {
+            Some(pages) if pages.access.grants(wanted) => at = end_of(&pages),
+            _ => return false,
+        }
+    }
+    true
+}

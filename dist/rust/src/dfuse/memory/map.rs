@@ -1,0 +1,69 @@
+// Of crates/dfuse_memory/src/map.rt, whose contracts are taken away.
+
+//! A memory map.
+
+use crate::dfuse::memory::apart::are_apart;
+use crate::dfuse::memory::fault::MapFault;
+use crate::dfuse::memory::limits::MOST_RANGES;
+use crate::dfuse::memory::lookups;
+use crate::dfuse::memory::name::take_name;
+use crate::dfuse::memory::pages::{Access, Page, Pages};
+use crate::dfuse::memory::place::take_address;
+use crate::dfuse::memory::ranges::take_ranges;
+use arrayvec::ArrayVec;
+
+/// A memory map: the name of a memory, and its ranges of pages, no two of which share an address.
+pub struct Map<'t> {
+    name: &'t [u8],
+    ranges: ArrayVec<Pages, MOST_RANGES>,
+}
+
+/// What a string says, or its first fault.
+fn read_map(text: &[u8]) -> Result<Map<'_>, MapFault> {
+    let named = take_name(text)?;
+    let place = take_address(named.rest)?;
+    let ranges = take_ranges(place.value, place.rest)?;
+    if !are_apart(&ranges) {
+        return Err(MapFault::Overlaps);
+    }
+    Ok(Map {
+        name: named.name,
+        ranges,
+    })
+}
+
+impl<'t> Map<'t> {
+    /// Reads the string of an alternate setting.
+    ///
+    /// # Errors
+    ///
+    /// The fault of the first place at which the string is not a map, or Overlaps.
+    pub fn read(text: &'t [u8]) -> Result<Map<'t>, MapFault> {
+        read_map(text)
+    }
+
+    /// The name of the memory.
+    pub fn name(&self) -> &'t [u8] {
+        self.name
+    }
+
+    /// The ranges, in the order of the string.
+    pub fn ranges(&self) -> &[Pages] {
+        &self.ranges
+    }
+
+    /// The range that has this address.
+    pub fn range_at(&self, address: u32) -> Option<Pages> {
+        lookups::range_at(address as u64, &self.ranges)
+    }
+
+    /// The page that has this address.
+    pub fn page_at(&self, address: u32) -> Option<Page> {
+        lookups::page_at(address as u64, &self.ranges)
+    }
+
+    /// Whether each address from the first up to before the second lies in a range that grants what is wanted.
+    pub fn grants(&self, wanted: Access, start: u64, end: u64) -> bool {
+        lookups::all_granted(wanted, start, end, &self.ranges)
+    }
+}

@@ -1,0 +1,47 @@
+// Of crates/dfuse_memory/src/name.rt, whose contracts are taken away.
+
+//! The name of a memory.
+
+use crate::dfuse::memory::fault::MapFault;
+use crate::dfuse::memory::text::behind;
+
+/// A name, and the text after it.
+pub(crate) struct Named<'t> {
+    pub name: &'t [u8],
+    pub rest: &'t [u8],
+}
+
+/// Bytes without the spaces at their end.
+fn trimmed(bytes: &[u8]) -> &[u8] {
+    let mut end = 0;
+    let mut count = 0;
+    for byte in bytes {
+        count += 1;
+        if *byte != b' ' {
+            end = count;
+        }
+    }
+    let (kept, _) = bytes.split_at(end);
+    kept
+}
+
+/// Where the first `/` is.
+fn stroke_in(text: &[u8]) -> Option<usize> {
+    text.iter().position(|byte| *byte == b'/')
+}
+
+/// Takes a name that `@` begins and `/` ends.
+pub(crate) fn take_name(text: &[u8]) -> Result<Named<'_>, MapFault> {
+    let Some(name) = behind(b'@', text) else {
+        return Err(MapFault::NoMap);
+    };
+    let Some(end) = stroke_in(name) else {
+        return Err(MapFault::NoMap);
+    };
+    let (front, _) = name.split_at(end);
+    let (_, rest) = name.split_at(end + 1);
+    Ok(Named {
+        name: trimmed(front),
+        rest,
+    })
+}

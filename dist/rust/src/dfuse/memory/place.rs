@@ -1,0 +1,45 @@
+// Of crates/dfuse_memory/src/place.rt, whose contracts are taken away.
+
+//! Where ranges begin: at an address of their own, or where the one before ends.
+
+use crate::dfuse::memory::digits::take_number;
+use crate::dfuse::memory::fault::MapFault;
+use crate::dfuse::memory::text::{Number, behind, front};
+
+/// The text after `0x` or `0X`, which may be missing.
+fn behind_prefix(text: &[u8]) -> &[u8] {
+    match front(text) {
+        Some((b'0', digits)) => match front(digits) {
+            Some((b'x' | b'X', rest)) => rest,
+            _ => text,
+        },
+        _ => text,
+    }
+}
+
+/// Takes an address, and `/`.
+pub(crate) fn take_address(text: &[u8]) -> Result<Number<'_>, MapFault> {
+    match take_number(16, 8, behind_prefix(text)) {
+        Some(number) => match behind(b'/', number.rest) {
+            Some(rest) => Ok(Number {
+                value: number.value,
+                rest,
+            }),
+            None => Err(MapFault::BadAddress),
+        },
+        None => Err(MapFault::BadAddress),
+    }
+}
+
+/// Takes what leads to the next range, after one that ends at this address.
+pub(crate) fn take_next(end: u64, text: &[u8]) -> Result<Option<Number<'_>>, MapFault> {
+    match front(text) {
+        None => Ok(None),
+        Some((b',', rest)) => Ok(Some(Number { value: end, rest })),
+        Some((b'/', rest)) => match take_address(rest) {
+            Ok(place) => Ok(Some(place)),
+            Err(fault) => Err(fault),
+        },
+        Some(_) => Err(MapFault::Trailing),
+    }
+}

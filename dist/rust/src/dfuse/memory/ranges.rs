@@ -1,0 +1,40 @@
+// Of crates/dfuse_memory/src/ranges.rt, whose contracts are taken away.
+
+//! Ranges, one after the other.
+
+use crate::dfuse::memory::fault::MapFault;
+use crate::dfuse::memory::group::take_group;
+use crate::dfuse::memory::limits::MOST_RANGES;
+use crate::dfuse::memory::pages::Pages;
+use crate::dfuse::memory::place::take_next;
+use arrayvec::ArrayVec;
+
+/// The address after the last byte of a range.
+pub(crate) fn end_of(pages: &Pages) -> u64 {
+    pages.start as u64 + pages.count as u64 * pages.size
+}
+
+/// Takes ranges up to the end of the text, the first of which begins at this address.
+pub(crate) fn take_ranges(start: u64, text: &[u8]) -> Result<ArrayVec<Pages, MOST_RANGES>, MapFault> {
+    let mut ranges = ArrayVec::new();
+    let mut at = start;
+    let mut rest = text;
+    loop {
+        let group = match take_group(at, rest) {
+            Ok(group) => group,
+            Err(fault) => return Err(fault),
+        };
+        if ranges.is_full() {
+            return Err(MapFault::TooManyRanges);
+        }
+        ranges.push(group.pages);
+        match take_next(end_of(&group.pages), group.rest) {
+            Ok(None) => return Ok(ranges),
+            Ok(Some(next)) => {
+                at = next.value;
+                rest = next.rest;
+            }
+            Err(fault) => return Err(fault),
+        }
+    }
+}

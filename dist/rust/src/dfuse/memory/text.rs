@@ -1,0 +1,27 @@
+// Of crates/dfuse_memory/src/text.rt, whose contracts are taken away.
+
+//! Pieces taken off the front of a text.
+
+/// A number, and the text after it.
+pub(crate) struct Number<'t> {
+    pub value: u64,
+    pub rest: &'t [u8],
+}
+
+/// The first byte, and what follows it.
+pub(crate) fn front(text: &[u8]) -> Option<(u8, &[u8])> {
+    if text.len() == 0 {
+        return None;
+    }
+    let byte = text[0];
+    let (_, rest) = text.split_at(1);
+    Some((byte, rest))
+}
+
+/// What follows this byte, if the text begins with it.
+pub(crate) fn behind(byte: u8, text: &[u8]) -> Option<&[u8]> {
+    match front(text) {
+        Some((first, rest)) if first == byte => Some(rest),
+        _ => None,
+    }
+}

@@ -1,0 +1,43 @@
+// Of crates/dfuse_host/src/lib.rt, whose contracts are taken away.
+
+//! The host of DfuSe: a machine that says which request or wait comes next until the bytes of an image are stored in a device's memory
+//! and were read back.
+//!
+//! It sends nothing itself, and takes no memory.
+
+mod action;
+mod asking;
+mod clearing;
+mod closing;
+mod command;
+mod element;
+mod fault;
+mod heard;
+mod image;
+mod limits;
+mod phase;
+mod place;
+mod plan;
+mod reading;
+mod refusing;
+mod report;
+mod rows;
+mod seen;
+mod sending;
+mod session;
+mod settling;
+mod step;
+mod work;
+
+pub use action::Action;
+pub use element::Element;
+pub use fault::PlanFault;
+pub use limits::Limits;
+pub use phase::{Phase, Standing};
+pub use place::Place;
+pub use plan::Plan;
+pub use report::{Leaving, Report};
+pub use seen::Seen;
+pub use session::Session;
+pub use step::Step;
+pub use work::Work;

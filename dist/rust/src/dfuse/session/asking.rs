@@ -1,0 +1,139 @@
+// Of crates/dfuse_host/src/asking.rt, whose contracts are taken away.
+
+//! The action of each step, as the caller gets it.
+
+use crate::dfuse::session::action::Action;
+use crate::dfuse::session::command::Command;
+use crate::dfuse::session::image::element_at;
+use crate::dfuse::session::phase::Phase;
+use crate::dfuse::session::place::Place;
+use crate::dfuse::session::plan::Plan;
+use crate::dfuse::session::step::Step;
+use crate::dfuse::session::work::Work;
+use crate::wire::Request;
+
+/// One of the seven requests, as its setup's bytes.
+fn setup_of(request: Request) -> [u8; 8] {
+    match request.setup() {
+        Some(setup) => setup.encode(),
+        None => unreachable!(),
+    }
+}
+
+/// One of the seven requests, with no body.
+fn ask<'f>(request: Request) -> Action<'f> {
+    Action::Send {
+        setup: setup_of(request),
+        body: &[],
+    }
+}
+
+/// A command with an address.
+fn address_command<'f>(number: u8, at: u64) -> Action<'f> {
+    let [a, b, c, d] = ((at % 0x1_0000_0000) as u32).to_le_bytes();
+    Action::Command {
+        setup: setup_of(Request::Dnload {
+            block: 0,
+            length: 5,
+        }),
+        body: [number, a, b, c, d],
+    }
+}
+
+/// A DNLOAD of bytes, for the address to which the pointer was set.
+fn download(body: &[u8]) -> Action<'_> {
+    let length = body.len() as u16;
+    Action::Send {
+        setup: setup_of(Request::Dnload { block: 2, length }),
+        body,
+    }
+}
+
+/// The address that a work has reached.
+pub(crate) fn stands_at(work: Work) -> u64 {
+    match work {
+        Work::EraseAgain { page, .. } => page,
+        Work::Erase { at }
+        | Work::Write { at, .. }
+        | Work::Compare { at }
+        | Work::WriteFront { at }
+        | Work::CompareFront { at } => at,
+        Work::Leave => 0,
+    }
+}
+
+/// The address to which the pointer was set for what is read.
+fn base_of(place: Place, at: u64) -> u64 {
+    match place {
+        Place::Reading(pointer) => pointer,
+        _ => at,
+    }
+}
+
+impl<'f> Plan<'f> {
+    /// The bytes of an element from one address to before another.
+    fn bytes_in(&self, at: u64, end: u64) -> &'f [u8] {
+        let Some(element) = element_at(at, self.image) else {
+            return &[];
+        };
+        let (_, from) = element
+            .bytes
+            .split_at((at - element.address as u64) as usize);
+        let (bytes, _) = from.split_at((from.len()).min(end.saturating_sub(at) as usize));
+        bytes
+    }
+
+    /// The bytes of the image that are to be read back.
+    pub(crate) fn read_bytes(&self, work: Work) -> &'f [u8] {
+        let at = stands_at(work);
+        self.bytes_in(at, self.read_end(at, self.end_of_work(work)))
+    }
+
+    /// The number of the block that has an address.
+    fn upload_block(&self, place: Place, at: u64) -> u16 {
+        (at.saturating_sub(base_of(place, at)) / self.block_size() % 65534 + 2) as u16
+    }
+
+    /// A command, as the caller sends it.
+    fn sends(&self, work: Work, command: Command) -> Action<'f> {
+        match command {
+            Command::SetAddress(at) => address_command(0x21, at),
+            Command::ErasePage(at) => address_command(0x41, at),
+            Command::Write(at) => download(self.bytes_in(
+                at,
+                self.write_end(at, self.end_of_work(work)),
+            )),
+        }
+    }
+
+    /// UPLOAD of the bytes that are to be read back.
+    fn upload(&self, work: Work, place: Place) -> Action<'f> {
+        let block = self.upload_block(place, stands_at(work));
+        let length = self.read_bytes(work).len() as u16;
+        ask(Request::Upload { block, length })
+    }
+
+    /// The action of a step.
+    fn action_of(&self, work: Work, place: Place, step: Step) -> Action<'f> {
+        match step {
+            Step::Abort | Step::BeginReading | Step::EndReading => ask(Request::Abort),
+            Step::AskState | Step::Probe | Step::CloseProbe => ask(Request::GetState { length: 1 }),
+            Step::AskStatus | Step::Poll(_) | Step::ClosePoll => {
+                ask(Request::GetStatus { length: 6 })
+            }
+            Step::ClearWait(ms) | Step::PollWait(ms) => Action::Wait(ms),
+            Step::ClearStatus => ask(Request::ClrStatus),
+            Step::Send => self.sends(work, self.command_of(work, place)),
+            Step::Read => self.upload(work, place),
+            Step::Close => download(&[]),
+        }
+    }
+
+    /// The action of a phase.
+    pub(crate) fn action(&self, phase: Phase) -> Action<'f> {
+        match phase {
+            Phase::On(at) => self.action_of(at.work, at.place, at.step),
+            Phase::Over(report) => Action::Done(report),
+        }
+    }
+}

@@ -1,0 +1,100 @@
+// Of crates/dfuse_host/src/clearing.rt, whose contracts are taken away.
+
+//! Clearing: what an earlier session left is dropped, and waited for, but never started.
+
+use crate::dfuse::session::command::cleared;
+use crate::dfuse::session::heard::Heard;
+use crate::dfuse::session::phase::Phase;
+use crate::dfuse::session::place::Place;
+use crate::dfuse::session::plan::Plan;
+use crate::dfuse::session::report::Report;
+use crate::dfuse::session::settling::stand;
+use crate::dfuse::session::step::Step;
+use crate::dfuse::session::work::Work;
+use crate::wire::{Code, State, Status};
+
+/// How long is waited for a status that was asked for too early, in milliseconds.
+pub(crate) const TOO_EARLY_MS: u32 = 100;
+
+/// A step of clearing.
+fn clearing(work: Work, step: Step) -> Phase {
+    stand(work, Place::Lost, step)
+}
+
+/// The device is in dfuERROR while bytes are read back.
+fn ends_comparing(work: Work, code: Code) -> Phase {
+    match code {
+        Code::StalledPkt => clearing(work, Step::ClearStatus),
+        _ => Phase::Over(Report::Refused(code)),
+    }
+}
+
+/// The device is in dfuERROR.
+fn fault_found(work: Work, code: Code) -> Phase {
+    match (work, code) {
+        (Work::Erase { .. }, _) => clearing(work, Step::ClearStatus),
+        (_, Code::Vendor) => Phase::Over(Report::ReadProtected),
+        (Work::Compare { .. } | Work::CompareFront { .. }, _) => ends_comparing(work, code),
+        _ => clearing(work, Step::ClearStatus),
+    }
+}
+
+/// The status while the device is cleared.
+fn status_found(work: Work, status: &Status) -> Phase {
+    match status.state() {
+        State::AppIdle | State::AppDetach => Phase::Over(Report::NotDfu),
+        State::DfuIdle => clearing(work, Step::AskState),
+        State::DownloadIdle | State::UploadIdle => cleared(work),
+        State::Error => fault_found(work, status.code()),
+        _ => clearing(work, Step::ClearWait(status.poll_ms())),
+    }
+}
+
+/// ABORT.
+pub(crate) fn on_abort(work: Work, heard: &Heard) -> Phase {
+    match heard {
+        Heard::Acked | Heard::Stalled => clearing(work, Step::AskState),
+        _ => cleared(work),
+    }
+}
+
+/// GETSTATUS, while the device is cleared.
+pub(crate) fn on_ask_status(work: Work, heard: &Heard) -> Phase {
+    match heard {
+        Heard::Told(status) => status_found(work, status),
+        Heard::Stalled => clearing(work, Step::ClearWait(TOO_EARLY_MS)),
+        _ => clearing(work, Step::AskStatus),
+    }
+}
+
+/// A wait, while the device is cleared.
+pub(crate) fn on_clear_wait(work: Work, ms: u32, heard: &Heard) -> Phase {
+    match heard {
+        Heard::Waited => clearing(work, Step::AskState),
+        _ => clearing(work, Step::ClearWait(ms)),
+    }
+}
+
+impl Plan<'_> {
+    /// The state once ABORT was sent.
+    fn state_found(&self, work: Work, state: State) -> Phase {
+        match state {
+            State::AppIdle | State::AppDetach => Phase::Over(Report::NotDfu),
+            State::DfuIdle => self.settle(work, Place::Lost),
+            State::DownloadSync | State::DownloadIdle | State::ManifestSync | State::UploadIdle =>
+                cleared(work),
+            State::DownloadBusy | State::Manifest | State::ManifestWaitReset | State::Error => {
+                clearing(work, Step::AskStatus)
+            }
+        }
+    }
+
+    /// GETSTATE, while the device is cleared.
+    pub(crate) fn on_ask_state(&self, work: Work, heard: &Heard) -> Phase {
+        match heard {
+            Heard::StateIs(state) => self.state_found(work, *state),
+            Heard::Stalled => clearing(work, Step::AskStatus),
+            _ => clearing(work, Step::AskState),
+        }
+    }
+}

@@ -1,0 +1,59 @@
+// Of crates/dfuse_host/src/closing.rt, whose contracts are taken away.
+
+//! Leaving.
+
+use crate::dfuse::session::command::cleared;
+use crate::dfuse::session::heard::Heard;
+use crate::dfuse::session::phase::Phase;
+use crate::dfuse::session::place::Place;
+use crate::dfuse::session::report::{Leaving, Report};
+use crate::dfuse::session::settling::stand;
+use crate::dfuse::session::step::Step;
+use crate::dfuse::session::work::Work;
+use crate::wire::{Code, State};
+
+/// DNLOAD of no bytes, by which the device is asked to leave.
+pub(crate) fn on_close(work: Work, place: Place, heard: &Heard) -> Phase {
+    match heard {
+        Heard::Acked => stand(work, place, Step::ClosePoll),
+        _ => stand(work, place, Step::CloseProbe),
+    }
+}
+
+/// The state of a device whose answer to that was lost.
+fn close_probed(work: Work, place: Place, state: State) -> Phase {
+    match state {
+        State::DfuIdle | State::DownloadIdle => stand(work, place, Step::Close),
+        State::Error => cleared(work),
+        _ => stand(work, place, Step::ClosePoll),
+    }
+}
+
+/// GETSTATE, to learn whether it came.
+pub(crate) fn on_close_probe(work: Work, place: Place, heard: &Heard) -> Phase {
+    match heard {
+        Heard::StateIs(state) => close_probed(work, place, *state),
+        Heard::Stalled => stand(work, place, Step::ClosePoll),
+        _ => stand(work, place, Step::CloseProbe),
+    }
+}
+
+/// The status of a device that was asked to leave.
+fn close_polled(work: Work, place: Place, code: Code, state: State) -> Phase {
+    match (code, state) {
+        (_, State::DfuIdle | State::DownloadIdle) => stand(work, place, Step::Close),
+        (_, State::Error) => cleared(work),
+        (Code::Ok, State::Manifest | State::ManifestWaitReset) => {
+            Phase::Over(Report::Verified(Leaving::Left))
+        }
+        _ => stand(work, place, Step::ClosePoll),
+    }
+}
+
+/// GETSTATUS, to learn whether the device leaves.
+pub(crate) fn on_close_poll(work: Work, place: Place, heard: &Heard) -> Phase {
+    match heard {
+        Heard::Told(status) => close_polled(work, place, status.code(), status.state()),
+        _ => stand(work, place, Step::ClosePoll),
+    }
+}

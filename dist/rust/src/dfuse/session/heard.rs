@@ -1,0 +1,75 @@
+// Of crates/dfuse_host/src/heard.rt, whose contracts are taken away.
+
+//! What is understood of what is seen.
+
+use crate::dfuse::session::plan::Plan;
+use crate::dfuse::session::seen::Seen;
+use crate::dfuse::session::step::Step;
+use crate::dfuse::session::work::Work;
+use crate::wire::{State, Status};
+
+/// What is understood of what is seen of an action.
+#[derive(Clone, Copy)]
+pub(crate) enum Heard {
+    Acked,
+    Told(Status),
+    StateIs(State),
+    /// Bytes were read back, as many as were asked for, and whether they are the image's.
+    Compared(bool),
+    Stalled,
+    Nothing,
+    Waited,
+    Restarted,
+}
+
+/// The answer to GETSTATUS.
+fn status_in(bytes: &[u8]) -> Heard {
+    match Status::decode(bytes) {
+        Ok(status) => Heard::Told(status),
+        Err(_) => Heard::Nothing,
+    }
+}
+
+/// The answer to GETSTATE, one byte.
+fn state_in(bytes: &[u8]) -> Heard {
+    match bytes {
+        [byte] => match State::from_byte(*byte) {
+            Ok(state) => Heard::StateIs(state),
+            Err(_) => Heard::Nothing,
+        },
+        _ => Heard::Nothing,
+    }
+}
+
+/// Bytes that were read back.
+fn compared(wanted: &[u8], bytes: &[u8]) -> Heard {
+    if bytes.len() == wanted.len() {
+        Heard::Compared(bytes == wanted)
+    } else {
+        Heard::Nothing
+    }
+}
+
+impl Plan<'_> {
+    /// What bytes say that come at a step.
+    fn answered(&self, work: Work, step: Step, bytes: &[u8]) -> Heard {
+        match step {
+            Step::AskState | Step::Probe | Step::CloseProbe => state_in(bytes),
+            Step::AskStatus | Step::Poll(_) | Step::ClosePoll => status_in(bytes),
+            Step::Read => compared(self.read_bytes(work), bytes),
+            _ => Heard::Nothing,
+        }
+    }
+
+    /// What is understood of what is seen at a step.
+    pub(crate) fn hear(&self, work: Work, step: Step, seen: Seen<'_>) -> Heard {
+        match seen {
+            Seen::Ack => Heard::Acked,
+            Seen::Bytes(bytes) => self.answered(work, step, bytes),
+            Seen::Stall => Heard::Stalled,
+            Seen::Nothing => Heard::Nothing,
+            Seen::Waited => Heard::Waited,
+            Seen::Restarted => Heard::Restarted,
+        }
+    }
+}

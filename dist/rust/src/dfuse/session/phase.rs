@@ -1,0 +1,25 @@
+// Of crates/dfuse_host/src/phase.rt, whose contracts are taken away.
+
+//! The phases of a session.
+
+use crate::dfuse::session::place::Place;
+use crate::dfuse::session::report::Report;
+use crate::dfuse::session::step::Step;
+use crate::dfuse::session::work::Work;
+
+/// What a session works at, what it knows of the device, and what it does next.
+#[derive(Clone, Copy)]
+pub struct Standing {
+    pub work: Work,
+    pub place: Place,
+    pub step: Step,
+}
+
+/// A phase of a session.
+#[derive(Clone, Copy)]
+pub enum Phase {
+    /// It goes on.
+    On(Standing),
+    /// It is over.
+    Over(Report),
+}

@@ -1,0 +1,14 @@
+// Of crates/dfuse_host/src/place.rt, whose contracts are taken away.
+
+//! What is known of the device's address pointer.
+
+/// What is known of the device's address pointer, once the device is ready for a command.
+#[derive(Clone, Copy)]
+pub enum Place {
+    /// Nothing.
+    Lost,
+    /// It was set to this address.
+    At(u64),
+    /// It was set to this address, and the device is ready for UPLOAD, or in the middle of it.
+    Reading(u64),
+}

@@ -1,0 +1,97 @@
+// Of crates/dfuse_host/src/refusing.rt, whose contracts are taken away.
+
+//! When a plan is refused.
+
+use crate::dfuse::session::element::Element;
+use crate::dfuse::session::fault::PlanFault;
+use crate::dfuse::session::image::end_of;
+use crate::dfuse::session::plan::Plan;
+use crate::dfuse::memory::Access;
+
+/// Whether there is no element, or one without bytes.
+fn is_empty(image: &[Element<'_>]) -> bool {
+    image.len() == 0 || has_empty(image)
+}
+
+/// Whether an element has no bytes.
+fn has_empty(image: &[Element<'_>]) -> bool {
+    for element in image {
+        if element.bytes.len() == 0 {
+            return true;
+        }
+    }
+    false
+}
+
+/// Whether no element begins before the one before it does.
+fn ascends(image: &[Element<'_>]) -> bool {
+    let mut start = 0;
+    for element in image {
+        if element.address < start {
+            return false;
+        }
+        start = element.address;
+    }
+    true
+}
+
+/// Whether no element begins before the one before it ends.
+fn are_apart(image: &[Element<'_>]) -> bool {
+    let mut end = 0;
+    for element in image {
+        if (element.address as u64) < end {
+            return false;
+        }
+        end = end_of(element);
+    }
+    true
+}
+
+impl Plan<'_> {
+    /// Whether the pages of the image grant what is wanted.
+    fn grants(&self, wanted: Access) -> bool {
+        for element in self.image {
+            if !self
+                .map
+                .grants(wanted, element.address as u64, end_of(element))
+            {
+                return false;
+            }
+        }
+        true
+    }
+
+    /// Checks the plan.
+    pub(crate) fn check(&self) -> Result<(), PlanFault> {
+        let wants = |is_readable: bool, is_erasable: bool, is_writable: bool| Access {
+            is_readable,
+            is_erasable,
+            is_writable,
+        };
+        if self.transfer == 0 {
+            return Err(PlanFault::NoTransferSize);
+        }
+        if is_empty(self.image) {
+            return Err(PlanFault::EmptyImage);
+        }
+        if !ascends(self.image) {
+            return Err(PlanFault::NotInOrder);
+        }
+        if !are_apart(self.image) {
+            return Err(PlanFault::Overlapping);
+        }
+        if !self.grants(wants(false, false, false)) {
+            return Err(PlanFault::OutsideTheMap);
+        }
+        if !self.grants(wants(false, false, true)) {
+            return Err(PlanFault::NotWritable);
+        }
+        if !self.grants(wants(false, true, false)) {
+            return Err(PlanFault::NotErasable);
+        }
+        if !self.grants(wants(true, false, false)) {
+            return Err(PlanFault::NotReadable);
+        }
+        Ok(())
+    }
+}

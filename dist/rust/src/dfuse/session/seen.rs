@@ -1,0 +1,20 @@
+// Of crates/dfuse_host/src/seen.rt, whose contracts are taken away.
+
+//! What a session is given.
+
+/// What came of an action. What doesn't fit the action is taken as [`Seen::Nothing`].
+#[derive(Clone, Copy, Debug, PartialEq, Eq)]
+pub enum Seen<'s> {
+    /// A request that has no answer of bytes was acknowledged.
+    Ack,
+    /// A request was answered with these bytes, of any length.
+    Bytes(&'s [u8]),
+    /// A request was stalled.
+    Stall,
+    /// A request, or its answer, was lost.
+    Nothing,
+    /// The wait is over.
+    Waited,
+    /// The device was restarted. The session is given this before any later answer.
+    Restarted,
+}

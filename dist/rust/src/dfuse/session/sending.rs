@@ -1,0 +1,92 @@
+// Of crates/dfuse_host/src/sending.rt, whose contracts are taken away.
+
+//! A command: DNLOAD brings it, and the GETSTATUS after it starts it.
+
+use crate::dfuse::session::clearing::TOO_EARLY_MS;
+use crate::dfuse::session::command::cleared;
+use crate::dfuse::session::heard::Heard;
+use crate::dfuse::session::phase::Phase;
+use crate::dfuse::session::place::Place;
+use crate::dfuse::session::plan::Plan;
+use crate::dfuse::session::report::Report;
+use crate::dfuse::session::settling::stand;
+use crate::dfuse::session::step::Step;
+use crate::dfuse::session::work::Work;
+use crate::wire::{Code, State, Status};
+
+/// DNLOAD of a command.
+pub(crate) fn on_send(work: Work, place: Place, heard: &Heard) -> Phase {
+    match heard {
+        Heard::Acked => stand(work, place, Step::Poll(0)),
+        _ => stand(work, place, Step::Probe),
+    }
+}
+
+/// A wait until a command should be done.
+pub(crate) fn on_poll_wait(work: Work, place: Place, ms: u32, heard: &Heard) -> Phase {
+    match heard {
+        Heard::Waited => stand(work, place, Step::Poll(ms)),
+        _ => stand(work, place, Step::PollWait(ms)),
+    }
+}
+
+/// How long is waited for a status that is stalled.
+fn stalled_ms(last: u32) -> u32 {
+    if last == 0 { TOO_EARLY_MS } else { last }
+}
+
+impl Plan<'_> {
+    /// The command of a work may have been started, and its end isn't known.
+    fn unsure_of(&self, work: Work, place: Place) -> Phase {
+        self.unsure(work, self.command_of(work, place))
+    }
+
+    /// The state in which a device is whose answer to a command was lost.
+    fn probed(&self, work: Work, place: Place, state: State) -> Phase {
+        match state {
+            State::DownloadSync => stand(work, place, Step::Poll(0)),
+            State::DfuIdle | State::DownloadIdle => stand(work, place, Step::Send),
+            State::Error => cleared(work),
+            _ => self.unsure_of(work, place),
+        }
+    }
+
+    /// GETSTATE, to learn whether a command came.
+    pub(crate) fn on_probe(&self, work: Work, place: Place, heard: &Heard) -> Phase {
+        match heard {
+            Heard::StateIs(state) => self.probed(work, place, *state),
+            Heard::Stalled => self.unsure_of(work, place),
+            _ => stand(work, place, Step::Probe),
+        }
+    }
+
+    /// A command ended in dfuERROR.
+    fn refused(&self, work: Work, place: Place, code: Code) -> Phase {
+        match code {
+            Code::StalledPkt => self.unsure_of(work, place),
+            Code::Vendor => Phase::Over(Report::ReadProtected),
+            _ => Phase::Over(Report::Refused(code)),
+        }
+    }
+
+    /// The status after a command.
+    fn polled(&self, work: Work, place: Place, status: &Status) -> Phase {
+        match status.state() {
+            State::DownloadSync | State::DownloadBusy => {
+                stand(work, place, Step::PollWait(status.poll_ms()))
+            }
+            State::DownloadIdle => self.done(work, self.command_of(work, place)),
+            State::Error => self.refused(work, place, status.code()),
+            _ => self.unsure_of(work, place),
+        }
+    }
+
+    /// GETSTATUS, to start a command, or to learn whether it is done.
+    pub(crate) fn on_poll(&self, work: Work, place: Place, last: u32, heard: &Heard) -> Phase {
+        match heard {
+            Heard::Told(status) => self.polled(work, place, status),
+            Heard::Stalled => stand(work, place, Step::PollWait(stalled_ms(last))),
+            _ => stand(work, place, Step::Poll(last)),
+        }
+    }
+}

@@ -1,0 +1,22 @@
+// Of crates/dfuse_host/src/work.rt, whose contracts are taken away.
+
+//! What a session works at.
+
+/// What a session works at, in this order, but for `EraseAgain`. The front is the first bytes of the image, which are written last.
+#[derive(Clone, Copy)]
+pub enum Work {
+    /// Erase each page that has a byte of the image from this address on.
+    Erase { at: u64 },
+    /// Erase this page, in which a write may have stopped halfway, and write what it has of the image, up to an address.
+    EraseAgain { page: u64, end: u64 },
+    /// Write the image from one address to before another.
+    Write { at: u64, end: u64 },
+    /// Compare all but the front, from this address on.
+    Compare { at: u64 },
+    /// Write the front, from this address on.
+    WriteFront { at: u64 },
+    /// Compare the front, from this address on.
+    CompareFront { at: u64 },
+    /// Leave for the application. All was compared.
+    Leave,
+}

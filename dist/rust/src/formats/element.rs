@@ -1,0 +1,36 @@
+// Of crates/dfu_images/src/element.rt, whose contracts are taken away.
+
+//! A part of an image.
+
+use crate::memory::Vec;
+
+/// Bytes that follow one another, and the address of the first. There is at least one byte, and the last has an address of 32 bits.
+pub struct Element {
+    address: u32,
+    bytes: Vec<u8>,
+}
+
+impl Element {
+    /// An element of these bytes.
+    pub(crate) fn new(address: u64, bytes: Vec<u8>) -> Element {
+        Element {
+            address: address as u32,
+            bytes,
+        }
+    }
+
+    /// The address of the first byte.
+    pub fn address(&self) -> u32 {
+        self.address
+    }
+
+    /// The bytes.
+    pub fn bytes(&self) -> &[u8] {
+        &self.bytes
+    }
+
+    /// The address after the last byte, up to 2^32.
+    pub fn end(&self) -> u64 {
+        self.address as u64 + self.bytes.len() as u64
+    }
+}

@@ -1,0 +1,16 @@
+// Of crates/dfu_images/src/format.rt, whose contracts are taken away.
+
+//! Formats of files.
+
+/// A format of files that builds produce.
+#[derive(Clone, Copy, Debug, PartialEq, Eq)]
+pub enum Format {
+    /// Intel HEX.
+    IntelHex,
+    /// S-records.
+    SRecord,
+    /// UF2.
+    Uf2,
+    /// ELF of 32 bits, little endian.
+    Elf,
+}

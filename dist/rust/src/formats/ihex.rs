@@ -1,0 +1,109 @@
+// Of crates/dfu_images/src/ihex.rt, whose contracts are taken away.
+
+//! Intel HEX, records 00 to 05.
+//!
+//! A line ends with a line feed, or a carriage return and a line feed, and the last one needs neither. A byte order mark and blank lines
+//! are passed over. Digits have either case. There is one end record, and only blank lines follow it. The data of a record may go on past
+//! the 65,536 bytes of a linear base (type 04, or none), but not past those of a segment (type 02). The address at which a program begins
+//! says nothing of the image.
+
+use crate::formats::digits::{bytes_at, sum_of};
+use crate::formats::element::Element;
+use crate::formats::fault::ImageFault;
+use crate::formats::limits::MAX_RECORD;
+use crate::formats::lines::{State, TextFormat, elements_by_line};
+use arrayvec::ArrayVec;
+use crate::memory::{Global, Vec};
+
+/// The bytes of a record, from the text of its line.
+fn spelled(at: usize, line: &[u8]) -> Result<ArrayVec<u8, MAX_RECORD>, ImageFault> {
+    match line {
+        [b':', digits @ ..] => bytes_at(at, digits),
+        _ => Err(ImageFault::NoMark(at)),
+    }
+}
+
+/// A record: where its data goes, counted from the base, its type, and its data.
+struct Record<'t> {
+    offset: u32,
+    kind: u8,
+    content: &'t [u8],
+}
+
+/// A record, from its bytes.
+fn framed(at: usize, bytes: &[u8]) -> Result<Record<'_>, ImageFault> {
+    if bytes.len() == 0 {
+        return Err(ImageFault::BadLength(at));
+    }
+    let count = bytes[0] as usize;
+    if bytes.len() != count + 5 {
+        return Err(ImageFault::BadLength(at));
+    }
+    if sum_of(bytes) % 256 != 0 {
+        return Err(ImageFault::BadChecksum(at));
+    }
+    let (_, behind) = bytes.split_at(4);
+    let (content, _) = behind.split_at(count);
+    Ok(Record {
+        offset: 256 * bytes[1] as u32 + bytes[2] as u32,
+        kind: bytes[3],
+        content,
+    })
+}
+
+/// Whether the data of a record goes past the end of its segment, if it has one.
+fn leaves_segment(state: &State, said: &Record<'_>) -> bool {
+    state.is_segment && said.offset as usize + said.content.len() > 65_536
+}
+
+/// Data at an offset from the base.
+fn data_at(alloc: Global, at: usize, state: State, said: &Record<'_>) -> Result<State, ImageFault> {
+    let address = state.base + said.offset as u64;
+    if leaves_segment(&state, said) || address + said.content.len() as u64 > 0x1_0000_0000 {
+        return Err(ImageFault::PastSegment(at));
+    }
+    match state.gathering.add(alloc, at, address, said.content) {
+        Ok(gathering) => Ok(State { gathering, ..state }),
+        Err(fault) => Err(fault),
+    }
+}
+
+/// A new base, in units of so many addresses.
+fn based(at: usize, unit: u64, state: State, said: &Record<'_>) -> Result<State, ImageFault> {
+    match said.content {
+        [high, low] => Ok(State {
+            base: unit * (256 * *high as u64 + *low as u64),
+            is_segment: unit == 16,
+            ..state
+        }),
+        _ => Err(ImageFault::BadLength(at)),
+    }
+}
+
+/// The format.
+struct IntelHex;
+
+impl TextFormat for IntelHex {
+    fn step(alloc: Global, at: usize, state: State, line: &[u8]) -> Result<State, ImageFault> {
+        let bytes = spelled(at, line)?;
+        let said = framed(at, &bytes)?;
+        match said.kind {
+            0 => data_at(alloc, at, state, &said),
+            1 if said.content.len() == 0 => Ok(State {
+                is_whole: true,
+                is_ended: true,
+                ..state
+            }),
+            2 => based(at, 16, state, &said),
+            4 => based(at, 65_536, state, &said),
+            3 | 5 if said.content.len() == 4 => Ok(state),
+            1 | 3 | 5 => Err(ImageFault::BadLength(at)),
+            _ => Err(ImageFault::BadType(at)),
+        }
+    }
+}
+
+/// The elements of a file.
+pub fn read(alloc: Global, text: &[u8]) -> Result<Vec<Element>, ImageFault> {
+    elements_by_line::<IntelHex>(alloc, text)
+}

@@ -1,0 +1,76 @@
+// Of crates/dfu_images/src/laying.rt, whose contracts are taken away.
+
+//! An image as one piece, from the lowest address of its elements on.
+
+use crate::formats::element::Element;
+use crate::formats::limits::MAX_IMAGE;
+use crate::memory::{Global, Vec};
+use thiserror::Error;
+
+/// Why elements do not make an image.
+#[derive(Clone, Copy, Debug, PartialEq, Eq, Error)]
+pub enum LayFault {
+    /// An allocation was refused.
+    #[error("an allocation was refused")]
+    NoMemory,
+    /// Nothing has these addresses, from the first up to before the second, and there is nothing to fill them with.
+    #[error("nothing is at {0:08x} to before {1:08x}, and no filling is given")]
+    Gap(u64, u32),
+    /// With the filling of the gaps there are over 16,777,216 bytes.
+    #[error("from the lowest to the highest address there are over 16,777,216 bytes")]
+    TooLarge,
+}
+
+/// Puts an element after bytes that end at this address.
+fn with_part(
+    mut bytes: Vec<u8>,
+    fill: Option<u8>,
+    end: u64,
+    element: &Element,
+) -> Result<Vec<u8>, LayFault> {
+    let gap = (element.address() as u64 - end) as usize;
+    if fill.is_none() && gap != 0 {
+        return Err(LayFault::Gap(end, element.address()));
+    }
+    let count = bytes.len();
+    if gap > MAX_IMAGE - count || element.bytes().len() > MAX_IMAGE - count - gap {
+        return Err(LayFault::TooLarge);
+    }
+    let Ok(()) = bytes.resize(count + gap, fill.unwrap_or(0)) else {
+        return Err(LayFault::NoMemory);
+    };
+    match bytes.extend_from_slice(element.bytes()) {
+        Ok(()) => Ok(bytes),
+        Err(_) => Err(LayFault::NoMemory),
+    }
+}
+
+/// The lowest address of elements, or 0 if there are none.
+pub fn lowest(elements: &[Element]) -> u32 {
+    match elements.first() {
+        Some(element) => element.address(),
+        None => 0,
+    }
+}
+
+/// The bytes of elements from the lowest address on, with gaps filled by a byte, if one is given.
+///
+/// # Errors
+///
+/// The first from the front: Gap if nothing is to fill it, or TooLarge. NoMemory if an allocation was refused.
+///
+/// # What the caller must keep to
+///
+/// - The elements come by their addresses, and none begins before the one before it ends.
+pub fn lay(alloc: Global, elements: &[Element], fill: Option<u8>) -> Result<Vec<u8>, LayFault> {
+    let mut bytes = Vec::new(alloc);
+    let mut end = lowest(elements) as u64;
+    for element in elements {
+        bytes = match with_part(bytes, fill, end, element) {
+            Ok(next) => next,
+            Err(fault) => return Err(fault),
+        };
+        end = element.end();
+    }
+    Ok(bytes)
+}

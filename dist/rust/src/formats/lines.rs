@@ -1,0 +1,114 @@
+// Of crates/dfu_images/src/lines.rt, whose contracts are taken away.
+
+//! The lines of a text, and formats that are read line by line.
+
+use crate::formats::element::Element;
+use crate::formats::fault::ImageFault;
+use crate::formats::gathering::Gathering;
+use crate::formats::text::{is_blank_byte, unmarked};
+use crate::memory::{Global, Vec};
+
+/// Where the first line feed is.
+fn feed_in(text: &[u8]) -> Option<usize> {
+    text.iter().position(|byte| *byte == b'\n')
+}
+
+/// The first line, and what follows its line feed, if it has one.
+fn take_line(text: &[u8]) -> (&[u8], Option<&[u8]>) {
+    match feed_in(text) {
+        Some(end) => {
+            let (line, _) = text.split_at(end);
+            let (_, rest) = text.split_at(end + 1);
+            (line, Some(rest))
+        }
+        None => (text, None),
+    }
+}
+
+/// A line without the carriage return at its end, if there is one.
+fn bare(line: &[u8]) -> &[u8] {
+    if line.len() == 0 {
+        return line;
+    }
+    let last = line.len() - 1;
+    if line[last] == b'\r' {
+        let (kept, _) = line.split_at(last);
+        return kept;
+    }
+    line
+}
+
+/// What was read of a text up to a line: the elements, what Intel HEX counts offsets from, whether that is a segment of 65,536 bytes,
+/// how many S-records of data there were, whether the text may end here, and whether only blank lines may follow.
+pub(crate) struct State {
+    pub gathering: Gathering,
+    pub base: u64,
+    pub is_segment: bool,
+    pub count: usize,
+    pub is_whole: bool,
+    pub is_ended: bool,
+}
+
+/// A format that is read line by line.
+pub(crate) trait TextFormat {
+    fn step(alloc: Global, at: usize, state: State, line: &[u8]) -> Result<State, ImageFault>;
+}
+
+/// Whether a line has nothing but blanks.
+fn is_blank_line(line: &[u8]) -> bool {
+    line.iter().all(|byte| is_blank_byte(*byte))
+}
+
+/// A line: a record, or blanks alone, or nothing.
+fn line_read<F: TextFormat>(
+    alloc: Global,
+    at: usize,
+    state: State,
+    line: &[u8],
+) -> Result<State, ImageFault> {
+    if is_blank_line(line) {
+        return Ok(state);
+    }
+    if state.is_ended {
+        return Err(ImageFault::Trailing(at));
+    }
+    F::step(alloc, at, state, line)
+}
+
+/// All lines.
+fn lines_read<F: TextFormat>(alloc: Global, text: &[u8]) -> Result<State, ImageFault> {
+    let mut state = State {
+        gathering: Gathering::new(alloc),
+        base: 0,
+        is_segment: false,
+        count: 0,
+        is_whole: false,
+        is_ended: false,
+    };
+    let mut at: usize = 1;
+    let mut rest = text;
+    loop {
+        let (line, more) = take_line(rest);
+        state = match line_read::<F>(alloc, at, state, bare(line)) {
+            Ok(next) => next,
+            Err(fault) => return Err(fault),
+        };
+        match more {
+            Some(after) => rest = after,
+            None if state.is_whole => return Ok(state),
+            None => return Err(ImageFault::NoEnd),
+        }
+        at += 1;
+    }
+}
+
+/// The elements of a text, behind its byte order mark.
+pub(crate) fn elements_by_line<F: TextFormat>(
+    alloc: Global,
+    text: &[u8],
+) -> Result<Vec<Element>, ImageFault> {
+    match lines_read::<F>(alloc, unmarked(text)) {
+        Ok(state) => state.gathering.finish(),
+        Err(fault) => Err(fault),
+    }
+}

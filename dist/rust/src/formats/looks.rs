@@ -1,0 +1,113 @@
+// Of crates/dfu_images/src/looks.rt, whose contracts are taken away.
+
+//! What a file without a DFU suffix is.
+
+use crate::formats::digits::hex_digit;
+use crate::formats::endings::{Ending, name_ending};
+use crate::formats::format::Format;
+use crate::formats::places::{Place, bad_place};
+use crate::formats::text::{is_text, unblanked, unmarked};
+
+/// A file of which no image is taken.
+#[derive(Clone, Copy, Debug, PartialEq, Eq)]
+pub enum NotImage {
+    /// It begins as a DfuSe file.
+    DfuSe,
+    /// It begins as a zip archive.
+    Zip,
+    /// It begins as a gzip archive.
+    Gzip,
+    /// It is text alone, of no format.
+    Text,
+    /// Its bytes may be anything, but its name says this.
+    Named(Ending),
+}
+
+/// What a file is.
+#[derive(Clone, Copy, Debug, PartialEq, Eq)]
+pub enum Looks {
+    /// Nothing is known against a raw image.
+    Raw,
+    /// A file of a format that builds produce.
+    Of(Format),
+    /// Something else.
+    Other(NotImage),
+}
+
+/// A look at a file.
+#[derive(Clone, Copy, Debug, PartialEq, Eq)]
+pub struct Look {
+    /// What it is.
+    pub looks: Looks,
+    /// What the ending of its name says, whatever its bytes are.
+    pub ending: Option<Ending>,
+    /// The first byte that no record has there, of a file that looks like Intel HEX or S-records.
+    pub bad: Option<Place>,
+}
+
+/// Whether the first two bytes are hexadecimal digits.
+fn has_digits(text: &[u8]) -> bool {
+    match text {
+        [high, low, ..] => hex_digit(*high) < 16 && hex_digit(*low) < 16,
+        _ => false,
+    }
+}
+
+/// Whether the text of a file begins as Intel HEX.
+fn begins_ihex(file: &[u8], text: &[u8]) -> bool {
+    match text {
+        [b':', rest @ ..] => has_digits(rest) || is_text(file),
+        _ => false,
+    }
+}
+
+/// Whether a text begins as an S-record.
+fn begins_srec(text: &[u8]) -> bool {
+    match text {
+        [b'S', b'0'..=b'9', rest @ ..] => has_digits(rest),
+        _ => false,
+    }
+}
+
+/// What a file is if its bytes say nothing.
+fn looks_by_name(ending: Option<Ending>) -> Looks {
+    match ending {
+        Some(ending) => Looks::Other(NotImage::Named(ending)),
+        None => Looks::Raw,
+    }
+}
+
+/// What a file is, by its bytes and what its name says.
+fn looks_of(file: &[u8], ending: Option<Ending>) -> Looks {
+    let text = unblanked(unmarked(file));
+    if file.starts_with(b"DfuSe") {
+        Looks::Other(NotImage::DfuSe)
+    } else if begins_ihex(file, text) {
+        Looks::Of(Format::IntelHex)
+    } else if begins_srec(text) {
+        Looks::Of(Format::SRecord)
+    } else if file.starts_with(b"UF2\n") {
+        Looks::Of(Format::Uf2)
+    } else if file.starts_with(b"\x7fELF") {
+        Looks::Of(Format::Elf)
+    } else if file.starts_with(b"PK\x03\x04") {
+        Looks::Other(NotImage::Zip)
+    } else if file.starts_with(b"\x1f\x8b") {
+        Looks::Other(NotImage::Gzip)
+    } else if is_text(file) {
+        Looks::Other(NotImage::Text)
+    } else {
+        looks_by_name(ending)
+    }
+}
+
+/// Looks at a file with a name, which may be that of its path or of its last part.
+pub fn look_at(file: &[u8], name: &[u8]) -> Look {
+    let ending = name_ending(name);
+    let looks = looks_of(file, ending);
+    let bad = match looks {
+        Looks::Of(format) => bad_place(format, file),
+        _ => None,
+    };
+    Look { looks, ending, bad }
+}

@@ -1,0 +1,69 @@
+// Of crates/dfu_images/src/making.rt, whose contracts are taken away.
+
+//! One piece of a file of any format.
+
+use crate::formats::element::Element;
+use crate::formats::fault::ImageFault;
+use crate::formats::format::Format;
+use crate::formats::laying::{LayFault, lay, lowest};
+use crate::formats::{elf, ihex, srec, uf2};
+use crate::memory::{Global, Vec};
+use thiserror::Error;
+
+/// The bytes from the lowest address of a file to its highest one.
+#[derive(Debug)]
+pub struct Image {
+    /// The address of the first byte.
+    pub address: u32,
+    /// The bytes, of which there are 1 to 16,777,216.
+    pub bytes: Vec<u8>,
+}
+
+/// Why there is no image of a file.
+#[derive(Clone, Copy, Debug, PartialEq, Eq, Error)]
+pub enum ImageFileFault {
+    /// It can't be read.
+    #[error("{0}")]
+    Unread(ImageFault),
+    /// It has no byte for any address.
+    #[error("it has no bytes for an image")]
+    NoData,
+    /// Its elements don't make one piece.
+    #[error("{0}")]
+    Unlaid(LayFault),
+}
+
+/// The elements of a file of a format.
+fn elements_in(alloc: Global, format: Format, file: &[u8]) -> Result<Vec<Element>, ImageFault> {
+    match format {
+        Format::IntelHex => ihex::read(alloc, file),
+        Format::SRecord => srec::read(alloc, file),
+        Format::Uf2 => uf2::read(alloc, file),
+        Format::Elf => elf::read(alloc, file),
+    }
+}
+
+/// The image that a file of a format has, with gaps filled by a byte, if one is given.
+///
+/// # Errors
+///
+/// Unread with the first fault of the file; NoData if it has no bytes; Unlaid, with the reason, if its elements don't make one piece.
+pub fn image_of(
+    alloc: Global,
+    format: Format,
+    fill: Option<u8>,
+    file: &[u8],
+) -> Result<Image, ImageFileFault> {
+    let elements = match elements_in(alloc, format, file) {
+        Ok(elements) => elements,
+        Err(fault) => return Err(ImageFileFault::Unread(fault)),
+    };
+    if elements.is_empty() {
+        return Err(ImageFileFault::NoData);
+    }
+    let address = lowest(&elements);
+    match lay(alloc, &elements, fill) {
+        Ok(bytes) => Ok(Image { address, bytes }),
+        Err(fault) => Err(ImageFileFault::Unlaid(fault)),
+    }
+}

@@ -1,0 +1,13 @@
+// Of crates/dfu_images/src/numbers.rt, whose contracts are taken away.
+
+//! Numbers in bytes, the lowest first.
+
+/// The number in two bytes.
+pub(crate) fn le16(bytes: &[u8], at: usize) -> u32 {
+    bytes[at] as u32 + 256 * bytes[at + 1] as u32
+}
+
+/// The number in four bytes.
+pub(crate) fn le32(bytes: &[u8], at: usize) -> u32 {
+    le16(bytes, at) + 65_536 * le16(bytes, at + 2)
+}

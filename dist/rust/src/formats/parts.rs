@@ -1,0 +1,56 @@
+// Of crates/dfu_images/src/parts.rt, whose contracts are taken away.
+
+//! Formats that are read part by part, each part of one size.
+
+use crate::formats::element::Element;
+use crate::formats::fault::ImageFault;
+use crate::formats::gathering::Gathering;
+use crate::memory::{Global, Vec};
+
+/// What is known of a file before its parts are read, in a format that is read part by part.
+pub(crate) trait ByPart {
+    fn part_read(
+        &self,
+        alloc: Global,
+        index: usize,
+        gathering: Gathering,
+        part: &[u8],
+    ) -> Result<Gathering, ImageFault>;
+}
+
+/// What so many parts give.
+fn parts_read<F: ByPart>(
+    alloc: Global,
+    file: &F,
+    size: usize,
+    total: usize,
+    parts: &[u8],
+) -> Result<Gathering, ImageFault> {
+    let mut gathering = Gathering::new(alloc);
+    let mut rest = parts;
+    let mut index: usize = 0;
+    while index < total {
+        let (part, behind) = rest.split_at(size);
+        gathering = match file.part_read(alloc, index, gathering, part) {
+            Ok(next) => next,
+            Err(fault) => return Err(fault),
+        };
+        rest = behind;
+        index += 1;
+    }
+    Ok(gathering)
+}
+
+/// The elements of so many parts.
+pub(crate) fn elements_by_part<F: ByPart>(
+    alloc: Global,
+    file: &F,
+    size: usize,
+    total: usize,
+    parts: &[u8],
+) -> Result<Vec<Element>, ImageFault> {
+    match parts_read(alloc, file, size, total, parts) {
+        Ok(gathering) => gathering.finish(),
+        Err(fault) => Err(fault),
+    }
+}

@@ -1,0 +1,67 @@
+// Of crates/dfu_images/src/places.rt, whose contracts are taken away.
+
+//! The first byte of a text of records that no record has there.
+
+use crate::formats::digits::hex_digit;
+use crate::formats::format::Format;
+use crate::formats::text::{is_blank_byte, unmarked};
+
+/// A place in a text. Both numbers count from 1, and columns count bytes.
+#[derive(Clone, Copy, Debug, PartialEq, Eq)]
+pub struct Place {
+    /// The line.
+    pub line: u64,
+    /// The byte within the line.
+    pub column: u64,
+}
+
+/// A part of a line: before the mark of a record, behind the mark, and behind the digits.
+#[derive(Clone, Copy)]
+enum Part {
+    Front,
+    Digits,
+    Back,
+}
+
+/// The part of a line that a byte leads to, if a record has such a byte there.
+fn led_to(mark: u8, part: Part, byte: u8) -> Option<Part> {
+    match part {
+        Part::Front if byte == mark && !is_blank_byte(byte) => Some(Part::Digits),
+        Part::Digits if hex_digit(byte) < 16 => Some(Part::Digits),
+        Part::Front if is_blank_byte(byte) => Some(Part::Front),
+        Part::Digits | Part::Back if is_blank_byte(byte) => Some(Part::Back),
+        _ => None,
+    }
+}
+
+/// The first byte that no record with this mark has there, in a text without its byte order mark.
+fn bad_from(mark: u8, text: &[u8]) -> Option<Place> {
+    let mut part = Part::Front;
+    let mut line: u64 = 1;
+    let mut column: u64 = 1;
+    for byte in text {
+        if *byte == b'\n' {
+            part = Part::Front;
+            line += 1;
+            column = 1;
+            continue;
+        }
+        match led_to(mark, part, *byte) {
+            Some(next) => part = next,
+            None => return Some(Place { line, column }),
+        }
+        column += 1;
+    }
+    None
+}
+
+/// The first byte that no record has there, of a file in a format of text; None if there is none, or for a format of bytes.
+///
+/// A line is blanks, the mark of a record, hexadecimal digits, and blanks. Lines are counted behind a byte order mark.
+pub fn bad_place(format: Format, file: &[u8]) -> Option<Place> {
+    match format {
+        Format::IntelHex => bad_from(b':', unmarked(file)),
+        Format::SRecord => bad_from(b'S', unmarked(file)),
+        Format::Uf2 | Format::Elf => None,
+    }
+}

@@ -1,0 +1,102 @@
+// Of crates/dfu_images/src/text.rt, whose contracts are taken away.
+
+//! The text of a file: its byte order mark, its blanks, and whether it is text alone.
+
+/// A text without the byte order mark of UTF-8 at its front, if it has one.
+pub(crate) fn unmarked(text: &[u8]) -> &[u8] {
+    match text {
+        [0xef, 0xbb, 0xbf, rest @ ..] => rest,
+        _ => text,
+    }
+}
+
+/// Whether a byte is a space, a tab or a carriage return.
+pub(crate) fn is_blank_byte(byte: u8) -> bool {
+    byte == b' ' || byte == b'\t' || byte == b'\r'
+}
+
+/// A text without the blanks and line feeds at its front.
+pub(crate) fn unblanked(text: &[u8]) -> &[u8] {
+    let mut rest = text;
+    while let [first, more @ ..] = rest {
+        if !(is_blank_byte(*first) || *first == b'\n') {
+            return rest;
+        }
+        rest = more;
+    }
+    rest
+}
+
+/// Whether a byte is no control character but a tab, line feed, form feed or carriage return.
+fn is_text_byte(byte: u8) -> bool {
+    match byte {
+        b'\t' | b'\n' | 0x0c | b'\r' => true,
+        _ => byte >= b' ' && byte != 0x7f,
+    }
+}
+
+/// What is awaited of a character of UTF-8: how many bytes, and the bounds of the next one.
+#[derive(Clone, Copy)]
+struct Awaited {
+    left: u8,
+    low: u8,
+    high: u8,
+}
+
+/// No byte of a character.
+const NOTHING: Awaited = Awaited {
+    left: 0,
+    low: 0x80,
+    high: 0xbf,
+};
+
+/// What is awaited behind the first byte of a character.
+fn awaited_behind_first(byte: u8) -> Option<Awaited> {
+    let (left, low, high) = match byte {
+        0..=0x7f => return if is_text_byte(byte) {
+            Some(NOTHING)
+        } else {
+            None
+        },
+        0xc2..=0xdf => (1, 0x80, 0xbf),
+        0xe0 => (2, 0xa0, 0xbf),
+        0xed => (2, 0x80, 0x9f),
+        0xe1..=0xef => (2, 0x80, 0xbf),
+        0xf0 => (3, 0x90, 0xbf),
+        0xf1..=0xf3 => (3, 0x80, 0xbf),
+        0xf4 => (3, 0x80, 0x8f),
+        _ => return None,
+    };
+    Some(Awaited { left, low, high })
+}
+
+/// What is awaited behind a byte.
+fn awaited_behind(awaited: Awaited, byte: u8) -> Option<Awaited> {
+    if awaited.left == 0 {
+        return awaited_behind_first(byte);
+    }
+    if awaited.low <= byte && byte <= awaited.high {
+        return Some(Awaited {
+            left: awaited.left - 1,
+            ..NOTHING
+        });
+    }
+    None
+}
+
+/// Whether bytes are characters of UTF-8, none of them another control character.
+fn are_characters(bytes: &[u8]) -> bool {
+    let mut awaited = NOTHING;
+    for byte in bytes {
+        match awaited_behind(awaited, *byte) {
+            Some(next) => awaited = next,
+            None => return false,
+        }
+    }
+    awaited.left == 0
+}
+
+/// Whether a file is text alone: UTF-8, without other control characters.
+pub(crate) fn is_text(file: &[u8]) -> bool {
+    file.len() != 0 && are_characters(file)
+}

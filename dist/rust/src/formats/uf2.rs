@@ -1,0 +1,98 @@
+// Of crates/dfu_images/src/uf2.rt, whose contracts are taken away.
+
+//! UF2.
+
+use crate::formats::element::Element;
+use crate::formats::fault::ImageFault;
+use crate::formats::gathering::Gathering;
+use crate::formats::numbers::le32;
+use crate::formats::parts::{ByPart, elements_by_part};
+use crate::memory::{Global, Vec};
+
+/// Whether a block has its three marks.
+fn is_block(block: &[u8]) -> bool {
+    le32(block, 0) == 0x0a32_4655
+        && le32(block, 4) == 0x9e5d_5157
+        && le32(block, 508) == 0x0ab1_6f30
+}
+
+/// Whether a block has a flag.
+fn has_flag(block: &[u8], flag: u32) -> bool {
+    le32(block, 8) / flag % 2 == 1
+}
+
+/// The family of boards that a block is for, or 0.
+fn family_of(block: &[u8]) -> u32 {
+    if has_flag(block, 0x2000) {
+        le32(block, 28)
+    } else {
+        0
+    }
+}
+
+/// The data of a block.
+fn flashed(
+    alloc: Global,
+    index: usize,
+    family: u32,
+    gathering: Gathering,
+    block: &[u8],
+) -> Result<Gathering, ImageFault> {
+    if has_flag(block, 1) {
+        return Ok(gathering);
+    }
+    if has_flag(block, 0x1000) {
+        return Err(ImageFault::FileContainer(index));
+    }
+    if family_of(block) != family {
+        return Err(ImageFault::OtherFamily(index));
+    }
+    let address = le32(block, 12) as u64;
+    let count = le32(block, 16) as usize;
+    if address + count as u64 > 0x1_0000_0000 {
+        return Err(ImageFault::PastTheEnd(index));
+    }
+    let (_, behind) = block.split_at(32);
+    let (content, _) = behind.split_at(count);
+    gathering.add(alloc, index, address, content)
+}
+
+/// What blocks have to name: how many they are, and the family of the first.
+struct Blocks {
+    total: usize,
+    family: u32,
+}
+
+impl ByPart for Blocks {
+    fn part_read(
+        &self,
+        alloc: Global,
+        index: usize,
+        gathering: Gathering,
+        block: &[u8],
+    ) -> Result<Gathering, ImageFault> {
+        if !is_block(block) {
+            return Err(ImageFault::BadMagic(index));
+        }
+        if le32(block, 16) > 476 {
+            return Err(ImageFault::BadBlock(index));
+        }
+        if le32(block, 20) as usize != index || le32(block, 24) as usize != self.total {
+            return Err(ImageFault::BadNumber(index));
+        }
+        flashed(alloc, index, self.family, gathering, block)
+    }
+}
+
+/// The elements of a file.
+pub fn read(alloc: Global, file: &[u8]) -> Result<Vec<Element>, ImageFault> {
+    if file.len() == 0 || file.len() % 512 != 0 {
+        return Err(ImageFault::BadSize);
+    }
+    let (first, _) = file.split_at(512);
+    let blocks = Blocks {
+        total: file.len() / 512,
+        family: family_of(first),
+    };
+    elements_by_part(alloc, &blocks, 512, blocks.total, file)
+}

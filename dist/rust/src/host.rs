@@ -1,0 +1,42 @@
+// Of crates/dfu_host/src/lib.rt, whose contracts are taken away.
+
+//! The host of USB device firmware upgrade (USB DFU 1.1): a machine that says which request, wait
+//! or reset comes next, and what a session's end was.
+//!
+//! It sends nothing itself. Only the calls that begin a session can refuse, and only `take` of an
+//! upload takes memory.
+
+mod action;
+mod comparing;
+mod ending;
+mod fault;
+mod fetching;
+mod goal;
+mod heard;
+#[cfg(feature = "std")]
+mod host;
+mod limits;
+mod part;
+mod parts;
+mod phase;
+mod progress;
+mod refusing;
+mod report;
+mod room;
+mod row;
+mod seen;
+mod session;
+mod target;
+mod task;
+
+pub use action::Action;
+pub use fault::HostFault;
+pub use goal::Goal;
+#[cfg(feature = "std")]
+pub use host::Host;
+pub use limits::Limits;
+pub use parts::Parts;
+pub use phase::Phase;
+pub use report::Report;
+pub use seen::Seen;
+pub use session::Session;

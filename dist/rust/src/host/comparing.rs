@@ -1,0 +1,43 @@
+// Of crates/dfu_host/src/comparing.rt, whose contracts are taken away.
+
+//! The row of the phase that compares the image with the payload.
+
+use crate::host::fetching::MOST_PARTS;
+use crate::host::heard::Heard;
+use crate::host::phase::Phase;
+use crate::host::report::Report;
+use crate::host::task::Task;
+
+impl Task<'_> {
+    /// Compares a part of the image with the block of its number.
+    pub(crate) fn compare(&self, number: u16, part: &[u8]) -> Heard {
+        Heard::Compared {
+            same: part == self.block(number as usize),
+            len: part.len(),
+        }
+    }
+
+    /// UPLOAD of a part, which is compared by now.
+    pub(crate) fn after_compare(&self, number: u16, heard: Heard) -> Phase {
+        match heard {
+            Heard::Compared { same, len } => self.compared(number, same, len),
+            _ => Phase::Find,
+        }
+    }
+
+    /// What follows a part of this many bytes, by whether it is the payload's.
+    fn compared(&self, number: u16, same: bool, len: usize) -> Phase {
+        let transfer = self.transfer as usize;
+        if len > transfer {
+            Phase::Find
+        } else if !same {
+            Phase::Last(Report::Different)
+        } else if len < transfer {
+            Phase::Last(Report::Verified)
+        } else if number + 1 == MOST_PARTS {
+            Phase::Over(Report::TooManyBlocks)
+        } else {
+            Phase::Compare(number + 1)
+        }
+    }
+}

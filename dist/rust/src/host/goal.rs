@@ -1,0 +1,42 @@
+// Of crates/dfu_host/src/goal.rt, whose contracts are taken away.
+
+//! What a session is for.
+
+/// What a session is for. It takes no memory: the caller keeps what an upload fetches.
+#[derive(Clone, Copy)]
+pub enum Goal<'f> {
+    /// To install a payload, which has at least one byte.
+    Load(&'f [u8]),
+    /// To fetch the active image.
+    Fetch,
+    /// To install a payload, which has at least one byte, and to compare it after the last reset.
+    Verify(&'f [u8]),
+    /// To compare the active image with the payload, which has at least one byte.
+    Compare(&'f [u8]),
+}
+
+impl<'f> Goal<'f> {
+    /// The payload that is sent or compared; empty for an upload.
+    pub(crate) fn payload(&self) -> &'f [u8] {
+        match self {
+            Goal::Load(payload) | Goal::Verify(payload) | Goal::Compare(payload) => payload,
+            Goal::Fetch => &[],
+        }
+    }
+
+    /// Whether a payload is still to be installed.
+    pub(crate) fn installs(&self) -> bool {
+        match self {
+            Goal::Load(_) | Goal::Verify(_) => true,
+            Goal::Fetch | Goal::Compare(_) => false,
+        }
+    }
+
+    /// Whether the image is fetched.
+    pub(crate) fn is_fetch(&self) -> bool {
+        match self {
+            Goal::Fetch => true,
+            Goal::Load(_) | Goal::Verify(_) | Goal::Compare(_) => false,
+        }
+    }
+}

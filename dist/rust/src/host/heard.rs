@@ -1,0 +1,78 @@
+// Of crates/dfu_host/src/heard.rt, whose contracts are taken away.
+
+//! How a host understands what it sees.
+
+use crate::host::phase::Phase;
+use crate::host::seen::Seen;
+use crate::host::task::Task;
+use crate::wire::{State, Status};
+
+/// What a host understands of what came of its action.
+#[derive(Clone, Copy)]
+pub(crate) enum Heard {
+    Acked,
+    Told(Status),
+    StateIs(State),
+    /// A part of an upload, of this many bytes. It is kept by now.
+    Part(usize),
+    /// A part of an image that is compared: whether it is the payload's, and how many bytes it has.
+    Compared { same: bool, len: usize },
+    /// A part of an upload for which there was no memory.
+    NoRoom,
+    Stalled,
+    Nothing,
+    Waited,
+    WasReset,
+    Restarted,
+    Left,
+}
+
+impl Task<'_> {
+    /// What a host understands of what it sees in a phase. Bytes are read as the answer to the
+    /// phase's request; if they are not an answer, it is as if nothing came. A part of an upload is
+    /// kept or refused by now; one of a comparison is compared.
+    pub(crate) fn hear(&self, phase: Phase, seen: Seen<'_>, refused: bool) -> Heard {
+        match seen {
+            Seen::Ack => Heard::Acked,
+            Seen::Bytes(bytes) => self.answered(phase, bytes, refused),
+            Seen::Stall => Heard::Stalled,
+            Seen::Nothing => Heard::Nothing,
+            Seen::Waited => Heard::Waited,
+            Seen::WasReset => Heard::WasReset,
+            Seen::Restarted => Heard::Restarted,
+            Seen::Left => Heard::Left,
+        }
+    }
+
+    /// What bytes say that come in a phase.
+    fn answered(&self, phase: Phase, bytes: &[u8], refused: bool) -> Heard {
+        match phase {
+            Phase::Find | Phase::FindAgain | Phase::Poll(_) | Phase::Manifest | Phase::Trouble => {
+                status_in(bytes)
+            }
+            Phase::Ask(_) | Phase::AskLast => state_in(bytes),
+            Phase::Fetch(number) => self.received(number, bytes, refused),
+            Phase::Compare(number) => self.compare(number, bytes),
+            _ => Heard::Nothing,
+        }
+    }
+}
+
+/// The answer to GETSTATUS.
+fn status_in(bytes: &[u8]) -> Heard {
+    match Status::decode(bytes) {
+        Ok(status) => Heard::Told(status),
+        Err(_) => Heard::Nothing,
+    }
+}
+
+/// The answer to GETSTATE, one byte.
+fn state_in(bytes: &[u8]) -> Heard {
+    match bytes {
+        [byte] => match State::from_byte(*byte) {
+            Ok(state) => Heard::StateIs(state),
+            Err(_) => Heard::Nothing,
+        },
+        _ => Heard::Nothing,
+    }
+}

@@ -1,0 +1,172 @@
+// Of crates/dfu_host/src/host.rt, whose contracts are taken away.
+
+//! The host machine, and its memory.
+
+use crate::host::action::Action;
+use crate::host::fault::HostFault;
+use crate::host::goal::Goal;
+use crate::host::limits::Limits;
+use crate::host::part::UploadPart;
+use crate::host::phase::Phase;
+use crate::host::refusing::{gives_uploads, goal_to_install};
+use crate::host::seen::Seen;
+use crate::host::session::Session;
+use crate::suffix::File;
+use crate::wire::{Functional, Ids};
+use crate::memory::{Global, Vec};
+
+/// A host in a session (USB DFU 1.1, appendix A, seen from the host's side).
+///
+/// It does nothing itself: its caller does what `next` asks for and gives `take` what came of it,
+/// until `next` returns `Done`. It takes memory only for the parts of an upload. Contracts see it
+/// as a `HostState`: the task, the phase with what an upload keeps, and the actions and restarts
+/// that are left.
+pub struct Host<'f> {
+    session: Session<'f>,
+    memory: Memory,
+}
+
+impl<'f> Host<'f> {
+    /// A host that is to install a file on the device with this descriptor and these
+    /// identifiers. It borrows the file's payload, and takes a transfer size of 1 to 65,535.
+    ///
+    /// The faults, in the order in which they are looked for:
+    ///
+    /// 1. `EmptyPayload`: the payload has no bytes.
+    /// 2. `WrongTarget`: the file's vendor or product is neither FFFFh nor the device's.
+    /// 3. `CannotDownload`: the descriptor has bitCanDnload 0.
+    /// 4. `BadDescriptor`: the descriptor's transfer size is 0.
+    pub fn download(
+        file: &File<'f>,
+        functional: &Functional,
+        device: Ids,
+        limits: Limits,
+    ) -> Result<Host<'f>, HostFault> {
+        let goal = goal_to_install(file, functional, device, false)?;
+        let session = Session::begin(goal, functional, limits);
+        let memory = Memory::Nothing;
+        Ok(Host { session, memory })
+    }
+
+    /// A host that is to install a file on the device with this descriptor and these identifiers,
+    /// as `download` has it, and then, after its last reset, to ask for the active image and compare
+    /// it with the payload, so that its report is neither Installed nor Unconfirmed, but Verified
+    /// or Different. It borrows the file's payload, takes no memory, and takes a transfer size of
+    /// 1 to 65,535. A payload of more than 65,534 full blocks ends as TooManyBlocks.
+    ///
+    /// The faults, in the order in which they are looked for:
+    ///
+    /// 1. `EmptyPayload`: the payload has no bytes.
+    /// 2. `WrongTarget`: the file's vendor or product is neither FFFFh nor the device's.
+    /// 3. `CannotDownload`: the descriptor has bitCanDnload 0.
+    /// 4. `CannotUpload`: the descriptor has bitCanUpload 0.
+    /// 5. `BadDescriptor`: the descriptor's transfer size is 0.
+    pub fn download_verified(
+        file: &File<'f>,
+        functional: &Functional,
+        device: Ids,
+        limits: Limits,
+    ) -> Result<Host<'f>, HostFault> {
+        let goal = goal_to_install(file, functional, device, true)?;
+        let session = Session::begin(goal, functional, limits);
+        let memory = Memory::Nothing;
+        Ok(Host { session, memory })
+    }
+
+    /// A host that is to fetch the active image of the device with this descriptor. It keeps the
+    /// allocator for the parts to come; the transfer size is 1 to 65,535.
+    ///
+    /// The faults, in the order in which they are looked for:
+    ///
+    /// 1. `CannotUpload`: the descriptor has bitCanUpload 0.
+    /// 2. `BadDescriptor`: the descriptor's transfer size is 0.
+    pub fn upload(
+        alloc: Global,
+        functional: &Functional,
+        limits: Limits,
+    ) -> Result<Host<'f>, HostFault> {
+        gives_uploads(functional)?;
+        let session = Session::begin(Goal::Fetch, functional, limits);
+        let memory = Memory::Bytes(Vec::new(alloc));
+        Ok(Host { session, memory })
+    }
+
+    /// What the host wants done next. It changes nothing, so it may be asked again.
+    pub fn next(&self) -> Action<'f> {
+        self.session.next()
+    }
+
+    /// The phase of the session.
+    pub fn phase(&self) -> Phase {
+        self.session.parts().phase
+    }
+
+    /// Gives the host what came of its action. Whatever came, the host is done after at most
+    /// `actions` calls, or after one if the limits have 0. Then nothing changes any more.
+    ///
+    /// A part of an upload, 1 byte or more, takes memory if what is kept has to grow. If that is
+    /// refused, the session ends with the report NoMemory.
+    pub fn take(&mut self, seen: Seen<'_>) {
+        let refused = self.memory.refuses(&self.session, seen);
+        self.session.on_result(seen, refused);
+    }
+
+    /// Gives the session up: the host asks for ABORT next, and whatever comes of it, the report is
+    /// Aborted. Only the phase changes, and nothing if the host is done. If a download is given up
+    /// in its last steps, the new image may be in place all the same.
+    pub fn abort(&mut self) {
+        self.session.abort();
+    }
+
+    /// What an upload keeps: all that was fetched, once the host is done with `Uploaded`. Before
+    /// that, the parts that came since the fetching last began; and nothing in a download, or after
+    /// the session went back to find the device, was given up or ended in another way.
+    pub fn uploaded(&self) -> &[u8] {
+        match self.session.parts().phase {
+            Phase::Fetch(0) => &[],
+            Phase::Fetch(_) | Phase::LastUploaded | Phase::OverUploaded => self.memory.as_slice(),
+            _ => &[],
+        }
+    }
+}
+
+/// The memory of a host: a vector for the parts of an upload, which grows, or nothing.
+pub(crate) enum Memory {
+    Nothing,
+    Bytes(Vec<u8>),
+}
+
+impl Memory {
+    /// Keeps the part in what a session sees, and returns whether it was refused.
+    pub(crate) fn refuses(&mut self, session: &Session<'_>, seen: Seen<'_>) -> bool {
+        match session.part(seen) {
+            Some(part) => self.refuses_part(&part),
+            None => false,
+        }
+    }
+
+    /// Stores a part, and returns whether it was refused: only if there is no vector, or if the
+    /// vector had no room for it and could not grow.
+    fn refuses_part(&mut self, part: &UploadPart<'_>) -> bool {
+        match self {
+            Memory::Nothing => !part.bytes.is_empty(),
+            Memory::Bytes(kept) => is_full(kept, part),
+        }
+    }
+
+    /// The bytes.
+    pub(crate) fn as_slice(&self) -> &[u8] {
+        match self {
+            Memory::Nothing => &[],
+            Memory::Bytes(kept) => kept.as_slice(),
+        }
+    }
+}
+
+/// Stores a part in a vector, and returns whether the vector was full.
+fn is_full(kept: &mut Vec<u8>, part: &UploadPart<'_>) -> bool {
+    if part.number == 0 {
+        kept.clear();
+    }
+    kept.extend_from_slice(part.bytes).is_err()
+}

@@ -1,0 +1,12 @@
+// Of crates/dfu_host/src/limits.rt, whose contracts are taken away.
+
+//! How long a session may last.
+
+/// How long a session may last.
+#[derive(Clone, Copy, Debug, PartialEq, Eq)]
+pub struct Limits {
+    /// How often `take` may be called until the host gives up; 0 counts as 1.
+    pub actions: u32,
+    /// How many restarts of the device the host takes; one more ends the session.
+    pub restarts: u16,
+}

@@ -1,0 +1,65 @@
+// Of crates/dfu_host/src/parts.rt, whose contracts are taken away.
+
+//! A session taken apart.
+
+use crate::host::fetching::MOST_PARTS;
+use crate::host::goal::Goal;
+use crate::host::phase::Phase;
+
+/// A session taken apart: plain values, which a caller may keep between two calls.
+#[derive(Clone, Copy)]
+pub struct Parts<'f> {
+    /// What the session is for.
+    pub goal: Goal<'f>,
+    /// The most bytes of a block, 1 to 65,535.
+    pub transfer: u16,
+    /// The descriptor's bitManifestationTolerant.
+    pub tolerant: bool,
+    /// The descriptor's bitWillDetach.
+    pub will_detach: bool,
+    /// The descriptor's wDetachTimeOut, in milliseconds.
+    pub detach_ms: u16,
+    /// Its phase.
+    pub phase: Phase,
+    /// The actions that are left.
+    pub actions: u32,
+    /// How many more restarts of the device are taken.
+    pub restarts: u16,
+}
+
+impl Parts<'_> {
+    /// Whether these are the parts of a session.
+    pub(crate) fn is_session(&self) -> bool {
+        self.transfer > 0 && self.has_some() && self.is_within()
+    }
+
+    /// Whether there is something to do.
+    fn has_some(&self) -> bool {
+        match &self.goal {
+            Goal::Load(payload) | Goal::Verify(payload) | Goal::Compare(payload) => {
+                !payload.is_empty()
+            }
+            Goal::Fetch => true,
+        }
+    }
+
+    /// Whether the phase has what it needs.
+    fn is_within(&self) -> bool {
+        match self.phase {
+            Phase::Block(number) => self.has_block(number),
+            Phase::Ask(number) => self.has_block(number),
+            Phase::Poll(number) => self.has_block(number),
+            Phase::WaitPoll(number, _) => self.has_block(number),
+            Phase::Close => self.has_block(0),
+            Phase::AskLast => self.has_block(0),
+            Phase::Fetch(number) => self.goal.is_fetch() && number < MOST_PARTS,
+            Phase::Compare(number) => number < MOST_PARTS,
+            _ => true,
+        }
+    }
+
+    /// Whether the payload has a block with this number.
+    fn has_block(&self, number: usize) -> bool {
+        number.saturating_mul(self.transfer as usize) < self.goal.payload().len()
+    }
+}

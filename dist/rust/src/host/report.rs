@@ -1,0 +1,53 @@
+// Of crates/dfu_host/src/report.rt, whose contracts are taken away.
+
+//! How a session ends.
+
+use crate::wire::Code;
+
+/// How a session ended.
+///
+/// Only [`Report::Installed`] and [`Report::Verified`] say that the payload of this session is in
+/// place. [`Report::Different`] says that the device gave other bytes than those, and
+/// [`Report::Uploaded`] that it gave an image. All others leave open which image the device has.
+#[derive(Clone, Copy, Debug, PartialEq, Eq)]
+pub enum Report {
+    /// A tolerant device took the whole payload, reported dfuIDLE with OK after it, and was
+    /// reset.
+    Installed,
+    /// A device that isn't tolerant took the whole payload and was reset. It can't report whether
+    /// the image is in place. Or a device took the payload and left of itself.
+    Unconfirmed,
+    /// The caller gave the session up.
+    Aborted,
+    /// The budget of actions is spent.
+    GaveUp,
+    /// After a stall, or during the download, the device was in dfuERROR with this code, which is
+    /// neither OK nor errSTALLEDPKT.
+    Refused(Code),
+    /// The device was restarted more often than the limits allow.
+    RestartsSpent,
+    /// The parts came up to one that is shorter than the transfer size, which is the last. Only
+    /// for uploads.
+    Uploaded,
+    /// 65,535 full parts came, which is more than an upload or a comparison takes.
+    TooManyBlocks,
+    /// There was no memory for a part of the image. Only for uploads.
+    NoMemory,
+    /// After the last reset the device gave the whole payload back, and was reset once more. Only
+    /// for downloads that are verified.
+    Verified,
+    /// After the last reset the device gave other bytes than the payload's. Only for downloads
+    /// that are verified.
+    Different,
+}
+
+impl Report {
+    /// The name of the report, as `installed` and `restarts-spent`; that of Refused is `refused`, without its code.
+    pub fn name(self) -> &'static str {
+        crate::wire::variant_name!(self, Report:
+            Installed "installed", Unconfirmed "unconfirmed", Aborted "aborted", GaveUp "gave-up",
+            Refused(_) "refused", RestartsSpent "restarts-spent", Uploaded "uploaded",
+            TooManyBlocks "too-many-blocks", NoMemory "no-memory", Verified "verified", Different "different"
+        )
+    }
+}

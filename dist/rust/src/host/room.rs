@@ -1,0 +1,54 @@
+// Of crates/dfu_host/src/room.rt, whose contracts are taken away.
+
+//! What an upload keeps, in a caller's room.
+
+use crate::host::part::UploadPart;
+use crate::host::seen::Seen;
+use crate::host::session::Session;
+
+impl Session<'_> {
+    /// Gives the session what came of its action, as `Host::take`, and returns how many
+    /// bytes of the caller's room are kept then. Its first `kept` bytes are those that are kept by
+    /// now. A download keeps no bytes and needs no room.
+    ///
+    /// A part of an upload is stored in the room after those. If it doesn't fit, nothing is stored,
+    /// and the session ends with the report NoMemory.
+    ///
+    /// # What the caller must keep to
+    ///
+    /// - `kept` is at most the length of `room`.
+    pub fn take(&mut self, room: &mut [u8], kept: usize, seen: Seen<'_>) -> usize {
+        debug_assert!(kept <= room.len());
+        match keep(self, room, kept, seen) {
+            Some(kept) => {
+                self.on_result(seen, false);
+                kept
+            }
+            None => {
+                self.on_result(seen, true);
+                kept
+            }
+        }
+    }
+}
+
+/// Stores the part in what a session sees, and returns how many bytes are kept then. If it doesn't
+/// fit, nothing changes.
+fn keep(session: &Session<'_>, room: &mut [u8], kept: usize, seen: Seen<'_>) -> Option<usize> {
+    match session.part(seen) {
+        Some(part) => store(room, kept, &part),
+        None => Some(kept),
+    }
+}
+
+/// Stores a part after the first `kept` bytes, which are kept, and returns how many are kept then.
+/// If it doesn't fit, nothing changes.
+fn store(room: &mut [u8], kept: usize, part: &UploadPart<'_>) -> Option<usize> {
+    let from = if part.number == 0 { 0 } else { kept };
+    if room.len() - from < part.bytes.len() {
+        return None;
+    }
+    let to = from + part.bytes.len();
+    room[from..to].copy_from_slice(part.bytes);
+    Some(to)
+}

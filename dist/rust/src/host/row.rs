@@ -1,0 +1,146 @@
+// Of crates/dfu_host/src/row.rt, whose contracts are taken away.
+
+//! The host's table, and its rows for the phases that bring a device to dfuIDLE, send the blocks and close the transfer (states:
+//! USB DFU 1.1, appendix A). The other rows are in `fetching` and `ending`.
+
+use crate::host::goal::Goal;
+use crate::host::heard::Heard;
+use crate::host::phase::Phase;
+use crate::host::report::Report;
+use crate::host::task::Task;
+use crate::wire::{State, Status};
+
+/// What follows a request without an answer of bytes: by its acknowledgement, by a stall, or by anything else.
+fn on_ack(heard: Heard, acked: Phase, stalled: Phase, nothing: Phase) -> Phase {
+    match heard {
+        Heard::Acked => acked,
+        Heard::Stalled => stalled,
+        _ => nothing,
+    }
+}
+
+/// What follows a wait: if anything else is heard, the session waits again.
+fn on_waited(heard: Heard, waited: Phase, again: Phase) -> Phase {
+    match heard {
+        Heard::Waited => waited,
+        _ => again,
+    }
+}
+
+impl Task<'_> {
+    /// The phase that follows, by the phase and what was heard in it.
+    pub(crate) fn row(&self, phase: Phase, heard: Heard) -> Phase {
+        match phase {
+            Phase::Find | Phase::Trouble => self.on_status(phase, heard, Phase::FindAgain),
+            Phase::FindAgain => self.on_status(phase, heard, Phase::ResetFind),
+            Phase::Poll(_) | Phase::Manifest => self.on_status(phase, heard, Phase::Trouble),
+            Phase::Detach => on_ack(heard, Phase::Enter, Phase::Find, Phase::Find),
+            Phase::Enter => self.after_enter(heard),
+            Phase::Clear | Phase::Quit => Phase::Find,
+            Phase::WaitFind(_) => on_waited(heard, Phase::Find, phase),
+            Phase::ResetFind => match heard {
+                Heard::WasReset => Phase::Find,
+                _ => phase,
+            },
+            Phase::Block(n) => on_ack(heard, Phase::Poll(n), Phase::Trouble, Phase::Ask(n)),
+            Phase::Ask(number) => self.after_ask(number, heard),
+            Phase::WaitPoll(number, _) => on_waited(heard, Phase::Poll(number), phase),
+            Phase::Close => on_ack(heard, Phase::Manifest, Phase::Trouble, Phase::AskLast),
+            Phase::AskLast => self.after_ask_last(heard),
+            Phase::WaitManifest(_) => on_waited(heard, Phase::Manifest, phase),
+            Phase::WaitLast(_) => on_waited(heard, Phase::Last(Report::Unconfirmed), phase),
+            Phase::Fetch(number) => self.after_fetch(number, heard),
+            Phase::Compare(number) => self.after_compare(number, heard),
+            Phase::Last(report) => self.after_last(report, heard),
+            Phase::LastUploaded => self.after_last_uploaded(heard),
+            Phase::GiveUp => Phase::Over(Report::Aborted),
+            Phase::Over(_) | Phase::OverUploaded => phase,
+        }
+    }
+
+    /// What follows GETSTATUS in a phase: by the status, by a stall, or by anything else that is heard.
+    fn on_status(&self, phase: Phase, heard: Heard, stalled: Phase) -> Phase {
+        match heard {
+            Heard::Told(status) => self.told(phase, status),
+            Heard::Stalled => stalled,
+            _ => phase,
+        }
+    }
+
+    /// What follows a status in a phase that asks for it.
+    fn told(&self, phase: Phase, status: Status) -> Phase {
+        match phase {
+            Phase::Poll(number) => self.polled(number, status),
+            Phase::Manifest => self.manifested(status),
+            Phase::Trouble => self.troubled(status),
+            _ => self.listed(status),
+        }
+    }
+
+    /// The phase in which the work begins once the device is in dfuIDLE. A payload has a first
+    /// block; no part of an image is kept or compared yet.
+    fn start(&self) -> Phase {
+        match &self.goal {
+            Goal::Load(_) => Phase::Block(0),
+            Goal::Fetch => Phase::Fetch(0),
+            Goal::Verify(_) => Phase::Block(0),
+            Goal::Compare(_) => Phase::Compare(0),
+        }
+    }
+
+    /// The list: what follows a status, by its state.
+    pub(crate) fn listed(&self, status: Status) -> Phase {
+        match status.state() {
+            State::AppIdle => Phase::Detach,
+            State::AppDetach => Phase::Enter,
+            State::DfuIdle => self.start(),
+            State::DownloadSync | State::DownloadBusy | State::ManifestSync | State::Manifest =>
+                Phase::WaitFind(status.poll_ms()),
+            State::DownloadIdle | State::UploadIdle => Phase::Quit,
+            State::ManifestWaitReset => Phase::ResetFind,
+            State::Error => Phase::Clear,
+        }
+    }
+
+    /// A wait if the device detaches by itself, else a reset.
+    pub(crate) fn after_enter(&self, heard: Heard) -> Phase {
+        match heard {
+            Heard::Waited if self.will_detach => Phase::Find,
+            Heard::WasReset if !self.will_detach => Phase::Find,
+            _ => Phase::Enter,
+        }
+    }
+
+    /// GETSTATE, to learn whether a block came whose answer was lost.
+    pub(crate) fn after_ask(&self, number: usize, heard: Heard) -> Phase {
+        match heard {
+            Heard::StateIs(State::DownloadSync) => Phase::Poll(number),
+            Heard::StateIs(State::DfuIdle) if number == 0 => Phase::Block(number),
+            Heard::StateIs(State::DownloadIdle) if number > 0 => Phase::Block(number),
+            Heard::StateIs(_) | Heard::Stalled => Phase::Trouble,
+            _ => Phase::Ask(number),
+        }
+    }
+
+    /// What follows the status that was asked for after a block.
+    pub(crate) fn polled(&self, number: usize, status: Status) -> Phase {
+        match status.state() {
+            State::DownloadSync | State::DownloadBusy => {
+                Phase::WaitPoll(number, status.poll_ms())
+            }
+            State::DownloadIdle if self.is_last(number) => Phase::Close,
+            State::DownloadIdle => Phase::Block(number + 1),
+            _ => self.troubled(status),
+        }
+    }
+
+    /// GETSTATE, to learn whether the close came whose answer was lost.
+    pub(crate) fn after_ask_last(&self, heard: Heard) -> Phase {
+        match heard {
+            Heard::StateIs(State::ManifestSync) => Phase::Manifest,
+            Heard::StateIs(State::DownloadIdle) => Phase::Close,
+            Heard::StateIs(_) | Heard::Stalled => Phase::Trouble,
+            _ => Phase::AskLast,
+        }
+    }
+}

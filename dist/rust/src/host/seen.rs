@@ -1,0 +1,27 @@
+// Of crates/dfu_host/src/seen.rt, whose contracts are taken away.
+
+//! What a host sees.
+
+/// What came of an action. What doesn't fit the action is taken as [`Seen::Nothing`].
+#[derive(Clone, Copy, Debug, PartialEq, Eq)]
+pub enum Seen<'s> {
+    /// A request that has no answer of bytes was acknowledged.
+    Ack,
+    /// A request was answered with these bytes, of any length.
+    Bytes(&'s [u8]),
+    /// A request was stalled.
+    Stall,
+    /// A request, or its answer, was lost.
+    Nothing,
+    /// The wait is over.
+    Waited,
+    /// The bus was reset.
+    WasReset,
+    /// The device was restarted, or somebody else reset it. The host gets this before any later
+    /// answer.
+    Restarted,
+    /// The device left the bus of itself, or came back reset, after the close: it acknowledged the
+    /// DNLOAD that closes the download, a GETSTATUS after that said dfuMANIFEST-SYNC or dfuMANIFEST,
+    /// and nobody reset it or asked it to leave. The host gets this once, before any later answer.
+    Left,
+}

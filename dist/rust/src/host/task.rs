@@ -1,0 +1,120 @@
+// Of crates/dfu_host/src/task.rt, whose contracts are taken away.
+
+//! What a session is to do, and the action of each phase, as the caller gets it.
+
+use crate::host::action::Action;
+use crate::host::goal::Goal;
+use crate::host::phase::Phase;
+use crate::host::report::Report;
+use crate::wire::Request;
+
+/// What a session is to do, and what its device's descriptor says.
+pub(crate) struct Task<'f> {
+    pub(crate) goal: Goal<'f>,
+    /// The most bytes of a block, at least 1.
+    pub(crate) transfer: u16,
+    pub(crate) tolerant: bool,
+    pub(crate) will_detach: bool,
+    /// In milliseconds.
+    pub(crate) detach_ms: u16,
+}
+
+impl<'f> Task<'f> {
+    /// The payload that is sent or compared; empty for an upload.
+    fn payload(&self) -> &'f [u8] {
+        self.goal.payload()
+    }
+
+    /// Block `number`, as a slice of the payload; empty if there is no such block.
+    pub(crate) fn block(&self, number: usize) -> &'f [u8] {
+        let transfer = self.transfer as usize;
+        let payload = self.payload();
+        let rest = &payload[number.saturating_mul(transfer).min(payload.len())..];
+        &rest[..transfer.min(rest.len())]
+    }
+
+    /// The place in the payload at which a block begins.
+    pub(crate) fn begins(&self, number: usize) -> usize {
+        let all = self.payload().len();
+        number.saturating_mul(self.transfer as usize).min(all)
+    }
+
+    /// Whether a block is the last one.
+    pub(crate) fn is_last(&self, number: usize) -> bool {
+        let transfer = self.transfer as usize;
+        self.payload().len() - number * transfer <= transfer
+    }
+
+    /// The task goes on: once the last reset is done, what was to be verified is compared.
+    pub(crate) fn go_on(&mut self, done: bool) {
+        if !done {
+            return;
+        }
+        if let Goal::Verify(payload) = &self.goal {
+            let payload = *payload;
+            self.goal = Goal::Compare(payload);
+        }
+    }
+
+    /// How many blocks there are.
+    pub(crate) fn count(&self) -> usize {
+        (self.payload().len() - 1) / self.transfer as usize + 1
+    }
+
+    /// The action of a phase.
+    pub(crate) fn action(&self, phase: Phase) -> Action<'f> {
+        match phase {
+            Phase::Find | Phase::FindAgain | Phase::Poll(_) | Phase::Manifest | Phase::Trouble => {
+                send(Request::GetStatus { length: 6 }, &[])
+            }
+            Phase::Ask(_) | Phase::AskLast => send(Request::GetState { length: 1 }, &[]),
+            Phase::Detach => {
+                let timeout = self.detach_ms;
+                send(Request::Detach { timeout }, &[])
+            }
+            Phase::Enter => self.entering(),
+            Phase::Clear => send(Request::ClrStatus, &[]),
+            Phase::Quit | Phase::GiveUp => send(Request::Abort, &[]),
+            Phase::Block(number) => download(number, self.block(number)),
+            Phase::Close => download(self.count(), &[]),
+            Phase::WaitFind(poll_ms)
+            | Phase::WaitPoll(_, poll_ms)
+            | Phase::WaitManifest(poll_ms)
+            | Phase::WaitLast(poll_ms) => Action::Wait(poll_ms),
+            Phase::Fetch(block) | Phase::Compare(block) => {
+                let length = self.transfer;
+                send(Request::Upload { block, length }, &[])
+            }
+            Phase::ResetFind | Phase::Last(_) | Phase::LastUploaded => Action::Reset,
+            Phase::Over(report) => Action::Done(report),
+            Phase::OverUploaded => Action::Done(Report::Uploaded),
+        }
+    }
+
+    /// If the device detaches by itself, a wait of 1 ms at least; else a reset.
+    fn entering(&self) -> Action<'f> {
+        if self.will_detach {
+            Action::Wait(self.detach_ms.max(1) as u32)
+        } else {
+            Action::Reset
+        }
+    }
+}
+
+/// DNLOAD of a block; its number wraps at 65,536.
+fn download(number: usize, body: &[u8]) -> Action<'_> {
+    let block = (number % 65_536) as u16;
+    let length = body.len() as u16;
+    send(Request::Dnload { block, length }, body)
+}
+
+/// One of the seven requests, with its body.
+fn send(request: Request, body: &[u8]) -> Action<'_> {
+    match request.setup() {
+        Some(setup) => Action::Send {
+            setup: setup.encode(),
+            body,
+        },
+        None => unreachable!(),
+    }
+}

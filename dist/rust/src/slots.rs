@@ -1,0 +1,44 @@
+// Of crates/dfu_slots/src/lib.rt, whose contracts are taken away.
+
+//! A store that keeps one whole firmware image active on a medium whose writes may fail or be torn,
+//! while the next image is written beside it.
+
+mod carry;
+mod changes;
+mod erasing;
+mod fault;
+mod format;
+mod from_parts;
+mod gates;
+mod known;
+mod layout;
+mod medium;
+mod noted;
+mod operation;
+mod places;
+mod puts;
+mod read;
+mod register;
+mod sequence;
+#[cfg(feature = "std")]
+mod sim;
+mod slots;
+mod steps;
+mod writes;
+
+// For a caller that reads a medium by itself, and knows which slot is active.
+pub use carry::byte_of;
+pub use fault::{FormatFault, OpenFault, PutFault, WriteFault};
+pub use from_parts::has_puts;
+pub use layout::{
+    OPEN_GATE, Unit, VERSION, capacity_of, gate_of, is_sized, length_in, make_header,
+};
+pub use medium::{Failed, Faulty, Medium};
+pub use noted::{LastWrites, WriteEnd, WriteNote};
+pub use operation::{Op, Source};
+pub use places::{Places, check};
+pub use read::{data_at, generation, header_of, is_open, read_data};
+pub use sequence::Sequence;
+#[cfg(feature = "std")]
+pub use sim::{NoMemory, SimMedium};
+pub use slots::Slots;

@@ -1,0 +1,125 @@
+// Of crates/dfu_slots/src/carry.rt, whose contracts are taken away.
+
+//! Carrying out the operations of a change on a medium.
+
+use crate::slots::erasing::erase;
+use crate::slots::layout::OPEN_GATE;
+use crate::slots::operation::{Op, Source};
+use crate::slots::sequence::Sequence;
+use crate::slots::writes::write_some;
+use crate::slots::{Medium, WriteFault};
+
+// No sequence has more operations.
+const MOST: usize = 3;
+
+/// The bytes that the operations of a change take theirs from.
+#[derive(Clone, Copy)]
+pub(crate) struct Sources<'b> {
+    /// The bytes held back.
+    pub held: &'b [u8],
+    /// The block.
+    pub block: &'b [u8],
+    /// The header.
+    pub header: &'b [u8; 16],
+}
+
+// The byte at this place of two slices, one after the other, with zeros after both.
+fn byte_in(front: &[u8], back: &[u8], at: usize) -> u8 {
+    if at < front.len() {
+        return front[at];
+    }
+    let behind = at - front.len();
+    if behind < back.len() { back[behind] } else { 0 }
+}
+
+/// The byte at this place of a source, given the bytes held back, the block and the header.
+pub fn byte_of(source: Source, held: &[u8], block: &[u8], header: &[u8; 16], at: usize) -> u8 {
+    match source {
+        Source::Joined => byte_in(held, block, at),
+        Source::Held => byte_in(held, &[], at),
+        Source::Header => byte_in(header, &[], at),
+        Source::Opened => byte_in(&[OPEN_GATE], &[], at),
+        Source::Closed => byte_in(&[], &[], at),
+    }
+}
+
+impl Sources<'_> {
+    // Puts bytes of a source, without its first ones, at the front of a buffer.
+    fn gather(self, source: Source, skip: usize, len: usize, out: &mut [u8; 256]) {
+        for i in 0..len {
+            out[i] = byte_of(source, self.held, self.block, self.header, skip + i);
+        }
+    }
+
+    // Writes bytes of a source, at most 256, with the erases before.
+    fn write_gathered<M: Medium>(
+        self,
+        medium: &mut M,
+        at: u32,
+        source: Source,
+        skip: usize,
+        len: usize,
+    ) -> Result<(), WriteFault> {
+        let mut unit = [0; 256];
+        self.gather(source, skip, len, &mut unit);
+        write_some(medium, at, &unit[..len])
+    }
+
+    // Writes bytes of what is held back and the block, with the erases before: straight from the block if all of them lie there.
+    fn write_joined<M: Medium>(
+        self,
+        medium: &mut M,
+        at: u32,
+        skip: usize,
+        len: usize,
+    ) -> Result<(), WriteFault> {
+        let held = self.held;
+        if skip < held.len() {
+            return self.write_gathered(medium, at, Source::Joined, skip, len);
+        }
+        let begin = skip - held.len();
+        write_some(medium, at, &self.block[begin..begin + len])
+    }
+
+    // Carries an operation out.
+    fn carry_op<M: Medium>(self, medium: &mut M, op: Op) -> Result<(), WriteFault> {
+        let _end = medium.len();
+        match op {
+            Op::Erase { at } => erase(medium, at as u32),
+            Op::Program {
+                at,
+                source,
+                skip,
+                len,
+            } => {
+                let place = at as u32;
+                let skip = skip as usize;
+                let len = len as usize;
+                match source {
+                    Source::Joined => self.write_joined(medium, place, skip, len),
+                    _ => self.write_gathered(medium, place, source, skip, len),
+                }
+            }
+        }
+    }
+
+    /// Carries out the operations of a sequence, in their order.
+    pub(crate) fn carry_out<M: Medium>(
+        self,
+        medium: &mut M,
+        sequence: Sequence,
+    ) -> Result<(), WriteFault> {
+        let unit = medium.unit();
+        let sector = medium.sector();
+        for index in 0..MOST {
+            match sequence.operation(unit, sector, index) {
+                None => return Ok(()),
+                Some(op) => match self.carry_op(medium, op) {
+                    Err(fault) => return Err(fault),
+                    Ok(()) => {}
+                },
+            }
+        }
+        Ok(())
+    }
+}

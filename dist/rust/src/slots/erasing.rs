@@ -1,0 +1,56 @@
+// Of crates/dfu_slots/src/erasing.rt, whose contracts are taken away.
+
+//! Erasing sectors.
+
+use crate::slots::read::stands_at;
+use crate::slots::{Medium, WriteFault};
+
+/// Whether so many bytes from there on are FFh.
+pub(crate) fn is_blank<M: Medium>(medium: &M, at: u32, len: u32) -> bool {
+    let blank = [0xff; 256];
+    let _end = medium.len();
+    let mut done = 0;
+    while done < len {
+        let size = (len - done).min(256);
+        if stands_at(medium, at + done, &blank[..size as usize]) {
+            done += size;
+        } else {
+            return false;
+        }
+    }
+    true
+}
+
+/// Erases the sector that begins there, and reads it back. All erases of the store go through it.
+pub(crate) fn erase<M: Medium>(medium: &mut M, at: u32) -> Result<(), WriteFault> {
+    let size = medium.sector();
+    match medium.erase(at) {
+        Err(_) => Err(WriteFault::Failed),
+        Ok(()) => {
+            if is_blank(medium, at, size) {
+                return Ok(());
+            }
+            Err(WriteFault::NotVerified)
+        }
+    }
+}
+
+/// Erases the sectors that begin in so many bytes from there on, one after the other.
+pub(crate) fn erase_within<M: Medium>(medium: &mut M, at: u32, len: u32) -> Result<(), WriteFault> {
+    let _end = medium.len();
+    let sector = medium.sector();
+    let end = at + len;
+    let behind = at % sector;
+    let mut place = if behind == 0 {
+        at
+    } else {
+        at + (sector - behind)
+    };
+    while place < end {
+        match erase(medium, place) {
+            Err(fault) => return Err(fault),
+            Ok(()) => place += sector,
+        }
+    }
+    Ok(())
+}

@@ -1,0 +1,39 @@
+// Of crates/dfu_slots/src/gates.rt, whose contracts are taken away.
+
+//! Closing the gate of a slot, and opening it after a new header.
+
+use crate::slots::carry::Sources;
+use crate::slots::sequence::Sequence;
+use crate::slots::{Medium, WriteFault};
+
+/// Closes the gate of the slot that begins there: it writes a gate unit over it, or erases its sector.
+pub(crate) fn close_gate<M: Medium>(medium: &mut M, slot: u32) -> Result<(), WriteFault> {
+    let none = Sources {
+        held: &[],
+        block: &[],
+        header: &[0; 16],
+    };
+    none.carry_out(medium, Sequence::Close { slot })
+}
+
+/// Writes what is held back, at most 256 bytes of puts that end there, into the data of the slot that begins there, then this
+/// header, and then, in a write of its own, opens the gate.
+pub(crate) fn open_slot<M: Medium>(
+    medium: &mut M,
+    slot: u32,
+    end: u32,
+    held: &[u8],
+    head: &[u8; 16],
+) -> Result<(), WriteFault> {
+    let sequence = Sequence::Commit {
+        slot,
+        end,
+        held: held.len() as u16,
+    };
+    let from = Sources {
+        held,
+        block: &[],
+        header: head,
+    };
+    from.carry_out(medium, sequence)
+}

@@ -1,0 +1,150 @@
+// Of crates/dfu_slots/src/layout.rt, whose contracts are taken away.
+
+//! How a medium is laid out: its unit, and of each slot the gate, the header, and the data.
+
+use crate::slots::Medium;
+
+/// How many bytes the header has, and how many the gate unit and the header unit have at least.
+const HEADER_SIZE: u32 = 16;
+
+/// How many bytes a sector may have at most.
+pub const MAX_SECTOR: u32 = 1 << 17;
+
+/// How many bytes of data a slot may have at most.
+pub const MAX_CAPACITY: u32 = 1 << 24;
+
+/// The first byte of an open gate unit; any other byte is a closed gate.
+pub const OPEN_GATE: u8 = 0xa5;
+
+/// How many bytes a medium writes at a time: the place and the length of a write are multiples of it.
+#[derive(Clone, Copy, Debug, PartialEq, Eq)]
+pub enum Unit {
+    /// One byte: any place and any length.
+    Byte,
+    /// 16 bytes.
+    U16,
+    /// 64 bytes.
+    U64,
+    /// 256 bytes.
+    U256,
+}
+
+impl Unit {
+    /// How many bytes it has: 1, 16, 64 or 256.
+    pub fn size(self) -> u32 {
+        match self {
+            Unit::Byte => 1,
+            Unit::U16 => 16,
+            Unit::U64 => 64,
+            Unit::U256 => 256,
+        }
+    }
+}
+
+/// How many bytes the gate unit has, and as many the header unit, from 16 to 256.
+pub(crate) fn gate_size(unit: Unit) -> u32 {
+    HEADER_SIZE.max(unit.size())
+}
+
+/// How many bytes the gate of a slot takes up, and its header as many: 16, a unit or a sector, whichever is most.
+pub(crate) fn gate_room(unit: Unit, sector: u32) -> u32 {
+    gate_size(unit).max(sector)
+}
+
+/// How many zeros fill so many bytes up to the end of a unit, from 0 to 255.
+pub(crate) fn fill_size(unit: Unit, len: u32) -> u32 {
+    let size = unit.size();
+    (size - len % size) % size
+}
+
+/// How many bytes the gate of a slot takes up, and its header as many: 16, a unit or a sector, whichever is most.
+pub fn gate_of<M: Medium>(medium: &M) -> u32 {
+    gate_room(medium.unit(), medium.sector())
+}
+
+/// How many bytes of data each slot has.
+///
+/// # What the caller must keep to
+///
+/// - The medium has a length that two slots can have: `is_sized` says so.
+pub fn capacity_of<M: Medium>(medium: &M) -> u32 {
+    debug_assert!(crate::slots::is_sized(medium));
+    medium.len() / 2 - 2 * gate_of(medium)
+}
+
+// Whether the store takes sectors of so many bytes: 0, or a multiple of 256 up to 131,072.
+fn is_sector(sector: u32) -> bool {
+    sector % 256 == 0 && sector <= MAX_SECTOR
+}
+
+// Whether a length is a multiple of the unit's size, and of the sector's.
+fn is_whole(unit: Unit, sector: u32, len: u32) -> bool {
+    len % unit.size() == 0 && (sector == 0 || len % sector == 0)
+}
+
+/// Whether the medium has a length that two slots can have, with whole units and sectors of data each.
+pub fn is_sized<M: Medium>(medium: &M) -> bool {
+    let sector = medium.sector();
+    if !is_sector(sector) {
+        return false;
+    }
+    let gates = 2 * gate_of(medium);
+    let len = medium.len();
+    len % 2 == 0
+        && len > 2 * gates
+        && len <= 2 * (gates + MAX_CAPACITY)
+        && is_whole(medium.unit(), sector, len / 2 - gates)
+}
+
+/// The version of a header that is written. It has the register over the image.
+pub const VERSION: u8 = 2;
+
+/// The version of a header without a register, which is read and never written.
+pub const OLD_VERSION: u8 = 1;
+
+/// A header: generation, version, two zeros, the length, the register over the image, both in little-endian order,
+/// and four zeros. In version 1 zeros are in the place of the register.
+pub fn make_header(version: u8, generation: u8, len: u32, register: u32) -> [u8; 16] {
+    let [a, b, c, d] = len.to_le_bytes();
+    let [e, f, g, h] = register.to_le_bytes();
+    [
+        generation, version, 0, 0, a, b, c, d, e, f, g, h, 0, 0, 0, 0,
+    ]
+}
+
+/// The length in a header that was read.
+pub fn length_in(header: &[u8; 16]) -> u32 {
+    u32::from_le_bytes([header[4], header[5], header[6], header[7]])
+}
+
+/// The register in a header that was read.
+pub(crate) fn register_in(header: &[u8; 16]) -> u32 {
+    u32::from_le_bytes([header[8], header[9], header[10], header[11]])
+}
+
+// The last four bytes, which are zeros in every header.
+fn rest_in(header: &[u8; 16]) -> u32 {
+    u32::from_le_bytes([header[12], header[13], header[14], header[15]])
+}
+
+/// Whether a header is of this version with this register, and well formed, whatever its generation and its length are.
+pub(crate) fn is_header(found: &[u8; 16], version: u8, register: u32) -> bool {
+    if found[1] != version {
+        return false;
+    }
+    if found[2] != 0 {
+        return false;
+    }
+    if found[3] != 0 {
+        return false;
+    }
+    if register_in(found) != register {
+        return false;
+    }
+    rest_in(found) == 0
+}
+
+/// Whether a header is of this version with this register, and well formed, with a length up to the room.
+pub(crate) fn is_formed(found: &[u8; 16], room: u32, version: u8, register: u32) -> bool {
+    length_in(found) <= room && is_header(found, version, register)
+}

@@ -1,0 +1,71 @@
+// Of crates/dfu_slots/src/noted.rt, whose contracts are taken away.
+
+//! The last writes of a medium in memory, for a trace. No clause speaks of them.
+
+use crate::slots::Failed;
+use arrayvec::ArrayVec;
+
+/// How a write ended.
+#[derive(Clone, Copy, Debug, PartialEq, Eq)]
+pub enum WriteEnd {
+    Worked,
+    Failed,
+    /// The medium was armed to lie in it: it reported success, whatever it left.
+    Lied,
+}
+
+/// A write: whether it erased, where, how many bytes, and how it ended.
+#[derive(Clone, Copy, Debug, PartialEq, Eq)]
+pub struct WriteNote {
+    pub erases: bool,
+    pub at: u32,
+    pub len: u32,
+    pub end: WriteEnd,
+}
+
+impl Default for WriteNote {
+    fn default() -> WriteNote {
+        WriteNote {
+            erases: false,
+            at: 0,
+            len: 0,
+            end: WriteEnd::Worked,
+        }
+    }
+}
+
+/// The last writes of a medium, and how many there were.
+pub struct LastWrites {
+    /// The last 16 of them, in their order.
+    pub notes: ArrayVec<WriteNote, 16>,
+    /// How many there were, at most 2^64 - 1.
+    pub count: u64,
+}
+
+impl LastWrites {
+    /// No write.
+    pub(crate) fn none() -> LastWrites {
+        LastWrites {
+            notes: ArrayVec::new(),
+            count: 0,
+        }
+    }
+
+    /// One write more.
+    pub(crate) fn add(&mut self, note: WriteNote) {
+        if self.notes.is_full() {
+            self.notes.remove(0);
+        }
+        self.notes.push(note);
+        self.count = self.count.saturating_add(1);
+    }
+}
+
+/// How a write with this result ended, by whether it was set to lie.
+pub(crate) fn ended(lies: bool, answer: Result<(), Failed>) -> WriteEnd {
+    match answer {
+        Ok(()) if lies => WriteEnd::Lied,
+        Ok(()) => WriteEnd::Worked,
+        Err(Failed) => WriteEnd::Failed,
+    }
+}

@@ -1,0 +1,80 @@
+// Of crates/dfu_slots/src/puts.rt, whose contracts are taken away.
+
+//! What was put since `begin`: whole units go to the medium as they come, and the rest is held back.
+
+use crate::slots::carry::Sources;
+use crate::slots::sequence::Sequence;
+use crate::slots::{Medium, Unit, WriteFault};
+use arrayvec::ArrayVec;
+
+/// The puts since `begin`. Their whole units are written, and the rest is held back.
+pub struct Puts {
+    /// The bytes held back, fewer than a unit has.
+    pub held: ArrayVec<u8, 256>,
+    /// Where the puts end in the spare's data.
+    pub end: u32,
+}
+
+impl Puts {
+    /// Nothing was put.
+    pub(crate) fn nothing() -> Puts {
+        Puts {
+            held: ArrayVec::new(),
+            end: 0,
+        }
+    }
+
+    /// Forgets what was put.
+    pub(crate) fn clear(&mut self) {
+        self.held.clear();
+        self.end = 0;
+    }
+}
+
+// Holds these bytes back too, after those that are held.
+fn hold(held: &mut ArrayVec<u8, 256>, bytes: &[u8]) {
+    let _ = held.try_extend_from_slice(bytes);
+}
+
+/// Holds back what makes no whole unit of the bytes that are held and these after them.
+pub(crate) fn hold_rest(held: &mut ArrayVec<u8, 256>, unit: Unit, bytes: &[u8]) {
+    let all = held.len() + bytes.len();
+    let rest = all % unit.size() as usize;
+    if rest == all {
+        hold(held, bytes);
+        return;
+    }
+    held.clear();
+    hold(held, &bytes[bytes.len() - rest..]);
+}
+
+/// Puts these bytes after those that are held, in the data of the slot that begins there, at the end of the puts. It writes the unit
+/// that the held bytes begin, if it is full now, and then all further whole units in one write, and holds the rest back.
+pub(crate) fn put_units<M: Medium>(
+    medium: &mut M,
+    held: &mut ArrayVec<u8, 256>,
+    slot: u32,
+    end: u32,
+    bytes: &[u8],
+) -> Result<(), WriteFault> {
+    let unit = medium.unit();
+    let front = held.as_slice();
+    let sequence = Sequence::Put {
+        slot,
+        end,
+        held: front.len() as u16,
+        block: bytes.len() as u16,
+    };
+    let from = Sources {
+        held: front,
+        block: bytes,
+        header: &[0; 16],
+    };
+    match from.carry_out(medium, sequence) {
+        Err(fault) => Err(fault),
+        Ok(()) => {
+            hold_rest(held, unit, bytes);
+            Ok(())
+        }
+    }
+}

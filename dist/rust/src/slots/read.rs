@@ -1,0 +1,135 @@
+// Of crates/dfu_slots/src/read.rt, whose contracts are taken away.
+
+//! What is read of the slots of a medium.
+
+use crate::slots::Medium;
+use crate::slots::layout::{
+    OLD_VERSION, OPEN_GATE, VERSION, capacity_of, gate_of, is_formed, is_header, length_in,
+};
+use crate::slots::register::register_of;
+
+// How many bytes are read back at a time.
+const PIECE: usize = 256;
+
+/// The byte at this place.
+pub(crate) fn byte_at<M: Medium>(medium: &M, at: u32) -> u8 {
+    let mut byte = [0];
+    medium.read(at, &mut byte);
+    byte[0]
+}
+
+// Whether two pieces of one length have the same bytes. It is much less code than `==`.
+fn are_same(read: &[u8], piece: &[u8]) -> bool {
+    let mut at = 0;
+    while at < piece.len() {
+        if read[at] != piece[at] {
+            return false;
+        }
+        at += 1;
+    }
+    true
+}
+
+/// Whether exactly these bytes are there. It reads them in pieces.
+pub(crate) fn stands_at<M: Medium>(medium: &M, at: u32, bytes: &[u8]) -> bool {
+    let mut buffer = [0; PIECE];
+    let mut ahead = medium.len() - at;
+    let mut rest = bytes;
+    while !rest.is_empty() {
+        let size = PIECE.min(rest.len());
+        let read = &mut buffer[..size];
+        medium.read(medium.len() - ahead, read);
+        let (piece, next) = rest.split_at(size);
+        if !are_same(read, piece) {
+            return false;
+        }
+        ahead -= size as u32;
+        rest = next;
+    }
+    true
+}
+
+/// Whether the slot that begins there is open.
+///
+/// # What the caller must keep to
+///
+/// - `at` is below the medium's length.
+pub fn is_open<M: Medium>(medium: &M, at: u32) -> bool {
+    debug_assert!(at < medium.len());
+    byte_at(medium, at) == OPEN_GATE
+}
+
+/// The 16 bytes of the header of the slot that begins there.
+pub fn header_of<M: Medium>(medium: &M, at: u32) -> [u8; 16] {
+    let mut header = [0; 16];
+    medium.read(at + gate_of(medium), &mut header);
+    header
+}
+
+// Whether the slot that begins there has a well-formed header of version 2: its register is that of the image.
+fn is_intact<M: Medium>(medium: &M, at: u32) -> bool {
+    let header = header_of(medium, at);
+    let len = length_in(&header);
+    if len > capacity_of(medium) {
+        return false;
+    }
+    is_header(&header, VERSION, register_of(medium, at, len))
+}
+
+/// Whether the slot that begins there counts.
+pub(crate) fn counts<M: Medium>(medium: &M, at: u32) -> bool {
+    is_open(medium, at) && (header_of(medium, at)[1] != VERSION || is_intact(medium, at))
+}
+
+/// The generation in the header of the slot that begins there.
+///
+/// # What the caller must keep to
+///
+/// - The medium has a length that two slots can have: `is_sized` says so.
+/// - The header of the slot that begins at `at` lies within the medium.
+pub fn generation<M: Medium>(medium: &M, at: u32) -> u8 {
+    debug_assert!(crate::slots::is_sized(medium));
+    debug_assert!(u64::from(at) + u64::from(gate_of(medium)) < u64::from(medium.len()));
+    byte_at(medium, at + gate_of(medium))
+}
+
+/// The length in the header of a slot that counts, if that is a well-formed header of an image that fits. A header of
+/// version 2 is, or the slot would not count.
+pub(crate) fn header_len<M: Medium>(medium: &M, at: u32) -> Option<u32> {
+    let header = header_of(medium, at);
+    let len = length_in(&header);
+    if header[1] == VERSION {
+        return Some(len);
+    }
+    if is_formed(&header, capacity_of(medium), OLD_VERSION, 0) {
+        Some(len)
+    } else {
+        None
+    }
+}
+
+/// Where the data of the slot that begins there begins.
+///
+/// # What the caller must keep to
+///
+/// - The medium has a length that two slots can have: `is_sized` says so.
+/// - The slot that begins at `slot_at` lies within the medium.
+pub fn data_at<M: Medium>(medium: &M, slot_at: u32) -> u32 {
+    debug_assert!(crate::slots::is_sized(medium));
+    debug_assert!(slot_at <= medium.len() / 2);
+    slot_at + 2 * gate_of(medium)
+}
+
+/// Reads bytes of the data of the slot that begins there, from `at` on.
+///
+/// # What the caller must keep to
+///
+/// - The medium has a length that two slots can have: `is_sized` says so.
+/// - The slot that begins at `slot_at` lies within the medium.
+/// - The range lies within the data of the slot.
+pub fn read_data<M: Medium>(medium: &M, slot_at: u32, at: u32, out: &mut [u8]) {
+    debug_assert!(crate::slots::is_sized(medium));
+    debug_assert!(slot_at <= medium.len() / 2);
+    debug_assert!(u64::from(at) + out.len() as u64 <= u64::from(capacity_of(medium)));
+    medium.read(data_at(medium, slot_at) + at, out);
+}

@@ -1,0 +1,61 @@
+// Of crates/dfu_slots/src/register.rt, whose contracts are taken away.
+
+//! The register over an image, read from the medium.
+
+use crate::slots::Medium;
+use crate::slots::read::read_data;
+use crate::suffix::Crc;
+
+// How many bytes are read at a time.
+const PIECE: u32 = 64;
+
+// Takes more bytes of an image, by the tables that the medium has chosen.
+fn take_piece<M: Medium>(medium: &M, crc: &mut Crc, piece: &[u8]) {
+    if medium.has_small_tables() {
+        crc.update_small(piece);
+    } else {
+        crc.update(piece);
+    }
+}
+
+// The register over the first `len` bytes of the data of the slot that begins there, to go on from.
+fn crc_of<M: Medium>(medium: &M, slot_at: u32, len: u32) -> Crc {
+    let mut crc = Crc::new();
+    let mut buffer = [0; PIECE as usize];
+    let mut at = 0;
+    while at < len {
+        let size = PIECE.min(len - at);
+        let piece = &mut buffer[..size as usize];
+        read_data(medium, slot_at, at, piece);
+        take_piece(medium, &mut crc, piece);
+        at += size;
+    }
+    crc
+}
+
+/// The register over the first `len` bytes of the data of the slot that begins there.
+pub(crate) fn register_of<M: Medium>(medium: &M, slot_at: u32, len: u32) -> u32 {
+    crc_of(medium, slot_at, len).value()
+}
+
+/// The register over the first `len` bytes of what was put into the slot that begins there: so many of them are in its data, and
+/// these are held back.
+pub(crate) fn register_of_put<M: Medium>(
+    medium: &M,
+    slot_at: u32,
+    at: u32,
+    held: &[u8],
+    len: u32,
+) -> u32 {
+    let front = at.min(len);
+    let mut crc = crc_of(medium, slot_at, front);
+    take_piece(medium, &mut crc, &held[..(len - front) as usize]);
+    crc.value()
+}
+
+/// The register over an image, by the tables that the medium has chosen.
+pub(crate) fn register_of_image<M: Medium>(medium: &M, image: &[u8]) -> u32 {
+    let mut crc = Crc::new();
+    take_piece(medium, &mut crc, image);
+    crc.value()
+}

@@ -1,0 +1,157 @@
+// Of crates/dfu_slots/src/sequence.rt, whose contracts are taken away.
+
+//! The operations of each change of a medium: carried out in their order, they make its writes.
+
+use crate::slots::Unit;
+use crate::slots::layout::{fill_size, gate_room, gate_size};
+use crate::slots::operation::{Op, Source};
+
+/// How many bytes of an image are written at a time: whole units, whatever the unit is.
+pub(crate) const PIECE: u32 = 4096;
+
+/// A change of a medium, by the numbers that its operations depend on.
+#[derive(Clone, Copy, Debug, PartialEq, Eq)]
+pub enum Sequence {
+    /// The gate of a slot is closed.
+    Close {
+        /// Where the slot begins.
+        slot: u32,
+    },
+    /// A block is put after what is held back: the unit that was begun is written, if it is full now, and then all further whole units.
+    Put {
+        /// Where the slot begins.
+        slot: u32,
+        /// Where the puts end in its data.
+        end: u32,
+        /// How many bytes are held back.
+        held: u16,
+        /// How many the block has.
+        block: u16,
+    },
+    /// What is held back is written, filled up to a unit, then the header, and then the gate is opened.
+    Commit {
+        /// Where the slot begins.
+        slot: u32,
+        /// Where the puts end in its data.
+        end: u32,
+        /// How many bytes are held back.
+        held: u16,
+    },
+    /// Up to 4,096 bytes of an image, filled up to a unit, go into the data of the first slot, as `format` writes them.
+    Image {
+        /// How many bytes of it come before them.
+        from: u32,
+        /// How many the image has.
+        image: u32,
+    },
+}
+
+// Where the bytes held back belong in a slot that begins there.
+fn held_from(unit: Unit, sector: u32, slot: u32, end: u32, held: u16) -> u64 {
+    let at = end.saturating_sub(u32::from(held));
+    u64::from(slot) + 2 * u64::from(gate_room(unit, sector)) + u64::from(at)
+}
+
+// The operation that closes a gate: a gate unit is written over it, or its sector is erased.
+fn close_op(unit: Unit, sector: u32, slot: u32, index: usize) -> Option<Op> {
+    if index > 0 {
+        return None;
+    }
+    let at = u64::from(slot);
+    if sector == 0 {
+        return Some(Op::Program {
+            at,
+            source: Source::Closed,
+            skip: 0,
+            len: gate_size(unit),
+        });
+    }
+    Some(Op::Erase { at })
+}
+
+// The operations of a put whose first byte goes there.
+fn put_op(unit: Unit, at: u64, held: u16, block: u16, index: usize) -> Option<Op> {
+    let size = unit.size();
+    let all = u32::from(held) + u32::from(block);
+    let whole = all - all % size;
+    let head = if held == 0 { 0 } else { size.min(whole) };
+    match index {
+        0 => Some(Op::Program {
+            at,
+            source: Source::Joined,
+            skip: 0,
+            len: head,
+        }),
+        1 => Some(Op::Program {
+            at: at + u64::from(head),
+            source: Source::Joined,
+            skip: head,
+            len: whole - head,
+        }),
+        _ => None,
+    }
+}
+
+// The operations of a commit whose held bytes go there.
+fn commit_op(unit: Unit, sector: u32, slot: u32, at: u64, held: u16, index: usize) -> Option<Op> {
+    match index {
+        0 => Some(Op::Program {
+            at,
+            source: Source::Held,
+            skip: 0,
+            len: u32::from(held) + fill_size(unit, u32::from(held)),
+        }),
+        1 => Some(Op::Program {
+            at: u64::from(slot) + u64::from(gate_room(unit, sector)),
+            source: Source::Header,
+            skip: 0,
+            len: gate_size(unit),
+        }),
+        2 => Some(Op::Program {
+            at: u64::from(slot),
+            source: Source::Opened,
+            skip: 0,
+            len: gate_size(unit),
+        }),
+        _ => None,
+    }
+}
+
+// The operation that writes a piece of an image.
+fn image_op(unit: Unit, sector: u32, from: u32, image: u32, index: usize) -> Option<Op> {
+    if index > 0 {
+        return None;
+    }
+    let size = u64::from(image) + u64::from(fill_size(unit, image));
+    let skip = u64::from(from).min(size);
+    Some(Op::Program {
+        at: 2 * u64::from(gate_room(unit, sector)) + u64::from(from),
+        source: Source::Joined,
+        skip: skip as u32,
+        len: (size - skip).min(u64::from(PIECE)) as u32,
+    })
+}
+
+impl Sequence {
+    /// The operation of this number, from 0 on, on a medium with this unit and with sectors of so many bytes, 0 for none. `None`
+    /// after the last one. A sequence has at most 3.
+    pub fn operation(self, unit: Unit, sector: u32, index: usize) -> Option<Op> {
+        match self {
+            Sequence::Close { slot } => close_op(unit, sector, slot, index),
+            Sequence::Put {
+                slot,
+                end,
+                held,
+                block,
+            } => {
+                let at = held_from(unit, sector, slot, end, held);
+                put_op(unit, at, held, block, index)
+            }
+            Sequence::Commit { slot, end, held } => {
+                let at = held_from(unit, sector, slot, end, held);
+                commit_op(unit, sector, slot, at, held, index)
+            }
+            Sequence::Image { from, image } => image_op(unit, sector, from, image, index),
+        }
+    }
+}

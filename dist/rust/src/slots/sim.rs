@@ -1,0 +1,257 @@
+// Of crates/dfu_slots/src/sim.rt, whose contracts are taken away.
+
+//! A medium in memory.
+
+use crate::slots::noted::{LastWrites, WriteNote, ended};
+use crate::slots::{Failed, Faulty, Medium, Unit};
+use arrayvec::ArrayVec;
+use crate::memory::{AllocError, Global, Vec};
+use thiserror::Error;
+
+/// There was no memory for the medium.
+#[derive(Clone, Copy, Debug, PartialEq, Eq, Error)]
+#[error("out of memory")]
+pub struct NoMemory;
+
+impl From<AllocError> for NoMemory {
+    fn from(_: AllocError) -> NoMemory {
+        NoMemory
+    }
+}
+
+/// What the next writes do.
+#[derive(Clone, Copy)]
+pub enum Mode {
+    /// They all work.
+    Whole,
+    /// So many work as `writes` says, and then one fails.
+    Armed,
+    /// So many work as `writes` says, and then one lies.
+    Lying,
+    /// They all fail.
+    Stopped,
+}
+
+/// What the next writes do, and how often one has failed.
+pub struct SimFuse {
+    failures: u64,
+    mode: Mode,
+    writes: u32,
+    tear: ArrayVec<u8, 4096>,
+    stop: bool,
+}
+
+impl SimFuse {
+    /// Whether the next write lies.
+    fn lies(&self) -> bool {
+        matches!(self.mode, Mode::Lying) && self.writes == 0
+    }
+}
+
+/// A medium in memory that can be set to fail or to lie.
+pub struct SimMedium {
+    bytes: Vec<u8>,
+    fuse: SimFuse,
+    unit: Unit,
+    sector: u32,
+    // What an erase writes: FFh over a sector.
+    blank: Vec<u8>,
+    noted: LastWrites,
+}
+
+impl SimMedium {
+    /// A medium of `len` bytes FFh, which is written over in place, in bytes, and not armed.
+    ///
+    /// # Errors
+    ///
+    /// `NoMemory` if there is no memory for the bytes.
+    pub fn new(alloc: Global, len: u32) -> Result<SimMedium, NoMemory> {
+        SimMedium::with_unit(alloc, len, Unit::Byte)
+    }
+
+    /// A medium of `len` bytes FFh, which is written over in place, in this unit, and not armed. `len` must be whole in it.
+    ///
+    /// # Errors
+    ///
+    /// `NoMemory` if there is no memory for the bytes.
+    ///
+    /// # What the caller must keep to
+    ///
+    /// - `len` is a multiple of the unit's size.
+    pub fn with_unit(alloc: Global, len: u32, unit: Unit) -> Result<SimMedium, NoMemory> {
+        debug_assert!(len % unit.size() == 0);
+        SimMedium::with_sectors(alloc, len, unit, 0)
+    }
+
+    /// A medium of `len` bytes FFh, which is written in this unit, erased in sectors of so many bytes (0: written over in
+    /// place), and not armed. `len` must be whole in the unit. An erase goes by the same fuse as a write.
+    ///
+    /// # Errors
+    ///
+    /// `NoMemory` if there is no memory for the bytes and a sector more.
+    ///
+    /// # What the caller must keep to
+    ///
+    /// - `len` is a multiple of the unit's size.
+    pub fn with_sectors(
+        alloc: Global,
+        len: u32,
+        unit: Unit,
+        sector: u32,
+    ) -> Result<SimMedium, NoMemory> {
+        debug_assert!(len % unit.size() == 0);
+        let mut bytes = Vec::new(alloc);
+        bytes.resize(len as usize, 0xff)?;
+        let mut blank = Vec::new(alloc);
+        blank.resize(sector as usize, 0xff)?;
+        Ok(SimMedium {
+            bytes,
+            fuse: SimFuse {
+                failures: 0,
+                mode: Mode::Whole,
+                writes: 0,
+                tear: ArrayVec::new(),
+                stop: false,
+            },
+            unit,
+            sector,
+            blank,
+            noted: LastWrites::none(),
+        })
+    }
+
+    /// Its last writes, for a trace. No clause speaks of them.
+    pub fn noted(&self) -> &LastWrites {
+        &self.noted
+    }
+}
+
+// Writes these bytes there.
+fn write_over(bytes: &mut Vec<u8>, at: usize, new: &[u8]) {
+    bytes[at..at + new.len()].copy_from_slice(new);
+}
+
+// Writes these bytes there, as one of the writes that the fuse lets work.
+fn write_counted(bytes: &mut Vec<u8>, fuse: &mut SimFuse, at: usize, new: &[u8]) {
+    fuse.writes -= 1;
+    write_over(bytes, at, new);
+}
+
+// Writes as much of `tear` as a write of `len` bytes at `at` has room for.
+fn tear_front(bytes: &mut Vec<u8>, at: usize, tear: &[u8], len: usize) {
+    write_over(bytes, at, &tear[..len.min(tear.len())]);
+}
+
+// What the writes after a failed one do.
+fn after_tear(stop: bool) -> Mode {
+    if stop { Mode::Stopped } else { Mode::Whole }
+}
+
+// The first bytes of a tear, at most 4,096, which are kept.
+fn keep_tear(tear: &[u8]) -> ArrayVec<u8, 4096> {
+    let mut kept = ArrayVec::new();
+    let most: usize = 4096;
+    let _ = kept.try_extend_from_slice(&tear[..most.min(tear.len())]);
+    kept
+}
+
+// Writes these bytes there, as the fuse lets it.
+fn change(bytes: &mut Vec<u8>, fuse: &mut SimFuse, at: usize, new: &[u8]) -> Result<(), Failed> {
+    match fuse.mode {
+        Mode::Whole => {
+            write_over(bytes, at, new);
+            Ok(())
+        }
+        Mode::Armed if fuse.writes > 0 => {
+            write_counted(bytes, fuse, at, new);
+            Ok(())
+        }
+        Mode::Armed => {
+            tear_front(bytes, at, fuse.tear.as_slice(), new.len());
+            fuse.failures = fuse.failures.saturating_add(1);
+            fuse.mode = after_tear(fuse.stop);
+            Err(Failed)
+        }
+        Mode::Lying if fuse.writes > 0 => {
+            write_counted(bytes, fuse, at, new);
+            Ok(())
+        }
+        Mode::Lying => {
+            tear_front(bytes, at, fuse.tear.as_slice(), new.len());
+            fuse.failures = fuse.failures.saturating_add(1);
+            fuse.mode = Mode::Whole;
+            Ok(())
+        }
+        Mode::Stopped => {
+            fuse.failures = fuse.failures.saturating_add(1);
+            Err(Failed)
+        }
+    }
+}
+
+impl Medium for SimMedium {
+    fn len(&self) -> u32 {
+        self.bytes.len() as u32
+    }
+
+    fn unit(&self) -> Unit {
+        self.unit
+    }
+
+    fn sector(&self) -> u32 {
+        self.sector
+    }
+
+    fn read(&self, at: u32, out: &mut [u8]) {
+        let from = at as usize;
+        out.copy_from_slice(&self.bytes[from..from + out.len()]);
+    }
+
+    fn write(&mut self, at: u32, bytes: &[u8]) -> Result<(), Failed> {
+        let lies = self.fuse.lies();
+        let answer = change(&mut self.bytes, &mut self.fuse, at as usize, bytes);
+        self.noted.add(WriteNote {
+            erases: false,
+            at,
+            len: bytes.len() as u32,
+            end: ended(lies, answer),
+        });
+        answer
+    }
+
+    fn erase(&mut self, at: u32) -> Result<(), Failed> {
+        let lies = self.fuse.lies();
+        let answer = change(
+            &mut self.bytes,
+            &mut self.fuse,
+            at as usize,
+            self.blank.as_slice(),
+        );
+        self.noted.add(WriteNote {
+            erases: true,
+            at,
+            len: self.sector,
+            end: ended(lies, answer),
+        });
+        answer
+    }
+}
+
+impl Faulty for SimMedium {
+    fn arm(&mut self, writes: u32, tear: &[u8], stop: bool) {
+        self.fuse.tear = keep_tear(tear);
+        self.fuse.mode = Mode::Armed;
+        self.fuse.writes = writes;
+        self.fuse.stop = stop;
+    }
+
+    fn arm_lie(&mut self, writes: u32, tear: &[u8]) {
+        self.fuse.tear = keep_tear(tear);
+        self.fuse.mode = Mode::Lying;
+        self.fuse.writes = writes;
+    }
+
+    fn disarm(&mut self) {
+        self.fuse.mode = Mode::Whole;
+    }
+}

@@ -1,0 +1,153 @@
+// Of crates/dfu_slots/src/slots.rt, whose contracts are taken away.
+
+//! The slot store.
+
+use crate::slots::layout::{capacity_of, is_sized};
+use crate::slots::places::{Places, check, look};
+use crate::slots::puts::Puts;
+use crate::slots::read::{data_at, header_len, is_open, read_data};
+use crate::slots::{Faulty, FormatFault, Medium, OpenFault, format};
+
+/// Two image slots on a medium. One of them is active and holds the image; the other one is the
+/// spare, which takes the next image piece by piece. Which one is active is found
+/// when the store is made, and again after each `commit`.
+///
+/// The medium is written in whole units; of the bytes put, what makes no whole unit yet is held back.
+pub struct Slots<M: Medium> {
+    pub(crate) medium: M,
+    pub(crate) puts: Puts,
+    // Found when the store was made, and again after each `commit`: to look costs a register over each open slot.
+    pub(crate) places: Places,
+}
+
+impl<M: Medium> Slots<M> {
+    /// Writes an image into the first slot, and makes it the active one, whatever was on the medium.
+    ///
+    /// # Errors
+    ///
+    /// `WrongSize` if the medium's length is not 2 * (2 * G + C) with C from 1 to 16,777,216 and whole in
+    /// the unit and the sector, G being the most of 16, the unit's size and the sector's, or if the sector is not 0, nor a
+    /// multiple of 256 up to 131,072; `TooLarge` if the image has more than C bytes;
+    /// `Failed` if a write failed, or other bytes were read back. They are looked for in this order. The first two hand
+    /// the medium back unchanged.
+    pub fn format(medium: M, image: &[u8]) -> Result<Slots<M>, (FormatFault, M)>
+
+         {
+        if !is_sized(&medium) {
+            return Err((FormatFault::WrongSize, medium));
+        }
+        if image.len() as u64 > u64::from(capacity_of(&medium)) {
+            return Err((FormatFault::TooLarge, medium));
+        }
+        let mut medium = medium;
+        match format::write_image(&mut medium, image) {
+            Ok(()) => {
+                let places = look(&medium);
+                Ok(Slots {
+                    medium,
+                    puts: Puts::nothing(),
+                    places,
+                })
+            }
+            Err(_) => Err((FormatFault::Failed, medium)),
+        }
+    }
+
+    /// Takes a medium that has an active image. It writes nothing.
+    ///
+    /// # Errors
+    ///
+    /// The first fault of the medium, in the order of `OpenFault`, with the unchanged medium.
+    pub fn open(medium: M) -> Result<Slots<M>, (OpenFault, M)>
+
+         {
+        match check(&medium) {
+            Ok(places) => Ok(Slots {
+                medium,
+                puts: Puts::nothing(),
+                places,
+            }),
+            Err(fault) => Err((fault, medium)),
+        }
+    }
+
+    /// How many bytes an image may have: C, from 1 to 16,777,216.
+    pub fn capacity(&self) -> u32 {
+        capacity_of(&self.medium)
+    }
+
+    /// Where the puts since `begin` end: 0 if there are none, at most the capacity. Nothing is held back at 0.
+    pub fn put_end(&self) -> u32 {
+        self.puts.end
+    }
+
+    /// Whether the gate of the spare slot is closed, so that `put` and `commit` are not refused with `NotBegun`.
+    pub fn is_begun(&self) -> bool {
+        !is_open(&self.medium, self.places.spare)
+    }
+
+    /// How many bytes the active image has, from 0 to the capacity.
+    pub fn active_len(&self) -> u32 {
+        match header_len(&self.medium, self.places.active) {
+            Some(len) => len,
+            None => unreachable!(),
+        }
+    }
+
+    /// Where the first byte of the active image is on the medium: a program may run it there. It holds until the next `commit`.
+    pub fn image_at(&self) -> u32 {
+        data_at(&self.medium, self.places.active)
+    }
+
+    /// Reads bytes of the active image, from `at` on. The range must lie within the image.
+    ///
+    /// # What the caller must keep to
+    ///
+    /// - The range lies within the image.
+    pub fn read_active(&self, at: u32, out: &mut [u8]) {
+        debug_assert!(u64::from(at) + out.len() as u64 <= u64::from(self.active_len()));
+        read_data(&self.medium, self.places.active, at, out);
+    }
+
+    /// Opens its own medium anew, as after a loss of power: what was put is forgotten. `open` would not
+    /// refuse it. It writes nothing.
+    pub fn reopen(&mut self) {
+        self.puts.clear();
+        match check(&self.medium) {
+            Ok(places) => self.places = places,
+            Err(_) => unreachable!(),
+        }
+    }
+
+    /// The medium, to be read. Bytes that are held back are not on it.
+    pub fn medium(&self) -> &M {
+        &self.medium
+    }
+
+    /// Hands the medium back. Bytes that are held back are not written to it.
+    pub fn into_medium(self) -> M {
+        let Slots {
+            medium,
+            puts: _,
+            places: _,
+        } = self;
+        medium
+    }
+}
+
+impl<M: Faulty> Slots<M> {
+    /// As the medium's `arm`. It changes no byte.
+    pub fn arm(&mut self, writes: u32, tear: &[u8], stop: bool) {
+        self.medium.arm(writes, tear, stop);
+    }
+
+    /// As the medium's `arm_lie`. It changes no byte.
+    pub fn arm_lie(&mut self, writes: u32, tear: &[u8]) {
+        self.medium.arm_lie(writes, tear);
+    }
+
+    /// As the medium's `disarm`. It changes no byte.
+    pub fn disarm(&mut self) {
+        self.medium.disarm();
+    }
+}

@@ -1,0 +1,43 @@
+// Of crates/dfu_suffix/src/lib.rt, whose contracts are taken away.
+
+//! The DFU file: a payload and its suffix (USB DFU 1.1, appendix B).
+//!
+//! `read` and `read_small` take a whole file apart, `check` does it for all that a reader gives, `add` writes a
+//! file of a payload, and `Crc` is the register that the suffix's dwCRC holds. `gather` and `write_whole`
+//! are the loops over streams that the crates above share. The crate opens no file and prints
+//! nothing.
+
+#[cfg(feature = "std")]
+mod adding;
+#[cfg(feature = "std")]
+mod checking;
+mod crc;
+mod fault;
+mod file;
+mod findings;
+mod folding;
+#[cfg(feature = "std")]
+mod gathering;
+#[cfg(feature = "std")]
+mod making;
+mod parse;
+mod small;
+mod summary;
+mod table;
+#[cfg(feature = "std")]
+mod writing;
+
+#[cfg(feature = "std")]
+pub use adding::add;
+#[cfg(feature = "std")]
+pub use checking::{check, check_with};
+pub use crc::Crc;
+pub use fault::SuffixFault;
+pub use file::File;
+pub use findings::Findings;
+#[cfg(feature = "std")]
+pub use gathering::{GatherFault, gather};
+pub use parse::{read, read_small};
+pub use summary::Summary;
+#[cfg(feature = "std")]
+pub use writing::{OutputError, write_whole};

@@ -1,0 +1,66 @@
+// Of crates/dfu_suffix/src/adding.rt, whose contracts are taken away.
+
+//! Files made of what a reader gives.
+
+use crate::suffix::fault::SuffixFault;
+use crate::suffix::file::MAX_PAYLOAD;
+use crate::suffix::gathering::{GatherFault, gather};
+use crate::suffix::making::{append_suffix, has_suffix};
+use crate::suffix::writing::write_whole;
+use crate::wire::Ids;
+use crate::memory::{Global, Vec};
+use std::io::{Read, Write};
+
+/// The fault of `add` for one of gathering.
+fn fault_of(fault: GatherFault) -> SuffixFault {
+    match fault {
+        GatherFault::TooLarge => SuffixFault::TooLarge,
+        GatherFault::NoMemory => SuffixFault::NoMemory,
+        GatherFault::Read => SuffixFault::Read,
+    }
+}
+
+/// The file of a payload, in memory.
+fn with_suffix(mut payload: Vec<u8>, ids: Ids) -> Result<Vec<u8>, SuffixFault> {
+    if has_suffix(&payload) {
+        return Err(SuffixFault::AlreadySuffixed);
+    }
+    match append_suffix(&mut payload, ids) {
+        Ok(()) => Ok(payload),
+        Err(_) => Err(SuffixFault::NoMemory),
+    }
+}
+
+/// The file of all that a reader gives, in memory.
+fn file_of<R: Read>(alloc: Global, reader: R, ids: Ids) -> Result<Vec<u8>, SuffixFault> {
+    match gather(alloc, reader, MAX_PAYLOAD) {
+        Ok(payload) => with_suffix(payload, ids),
+        Err(fault) => Err(fault_of(fault)),
+    }
+}
+
+/// Writes all that a reader gives and then a suffix of 16 bytes, with these identifiers and
+/// bcdDFU 0100h (USB DFU 1.1, appendix B). It answers the number of bytes written, at most
+/// 16,777,216. It gathers the whole file in memory before it writes the first byte, and it doesn't
+/// flush: the writer stays the caller's.
+///
+/// # Errors
+///
+/// TooLarge once byte 16,777,201 was read, and no read is made after that; Read at the first error
+/// of the reader, with no second try; AlreadySuffixed exactly if `read` would answer Ok or DfuSe
+/// for the bytes; NoMemory if an allocation was refused, while the bytes are gathered or, after
+/// the check for AlreadySuffixed, for the suffix. After these nothing is written. After Write
+/// only the start of the file is written; it comes at the first error of the writer, with no
+/// second try, and if the writer takes nothing of what is left.
+pub fn add<R: Read, W: Write>(
+    alloc: Global,
+    reader: R,
+    ids: Ids,
+    writer: &mut W,
+) -> Result<u32, SuffixFault> {
+    let text = file_of(alloc, reader, ids)?;
+    match write_whole(writer, &text) {
+        Ok(()) => Ok(text.len() as u32),
+        Err(_) => Err(SuffixFault::Write),
+    }
+}

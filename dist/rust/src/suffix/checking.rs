@@ -1,0 +1,71 @@
+// Of crates/dfu_suffix/src/checking.rt, whose contracts are taken away.
+
+//! Checks of a file that a reader gives.
+
+use crate::suffix::crc::Crc;
+use crate::suffix::fault::SuffixFault;
+use crate::suffix::file::{MAX_FILE, MAX_READS, PIECE};
+use crate::suffix::findings::{Findings, findings_of};
+use crate::suffix::summary::{Summary, check_register};
+use std::io::Read;
+
+/// Checks all that a reader gives, as `read` of those bytes. Of these it keeps the register over
+/// them, their count and the last 16, and takes no memory, for any number of bytes. It reads up to
+/// 65,536 bytes at a time, into a buffer on the stack.
+///
+/// # Errors
+///
+/// TooLarge once byte 16,777,217 was read, and no read is made after that; Read at the first error
+/// of the reader, with no second try; else the fault that `read` answers for the bytes.
+pub fn check<R: Read>(reader: R) -> Result<Summary, SuffixFault> {
+    let mut findings = Findings::new();
+    check_with(reader, &mut findings)
+}
+
+/// Does what `check` does, and writes into `findings` what the reason of BadLength or BadCrc is made of. After
+/// TooShort, TooLarge and Read they say nothing of the file.
+///
+/// # Errors
+///
+/// Those of `check`.
+pub fn check_with<R: Read>(
+    mut reader: R,
+    findings: &mut Findings,
+) -> Result<Summary, SuffixFault> {
+    let mut crc = Crc::new();
+    let mut count: u32 = 0;
+    let mut window = [0u8; 16];
+    let mut buffer = [0u8; PIECE];
+    for _turn in 0..MAX_READS {
+        match reader.read(&mut buffer) {
+            Ok(0) => {
+                let register = crc.value();
+                *findings = findings_of(&window, count, register);
+                return check_register(&window, count, register);
+            }
+            Ok(taken) => {
+                if taken > MAX_FILE - count as usize {
+                    return Err(SuffixFault::TooLarge);
+                }
+                let more = &buffer[..taken];
+                count += taken as u32;
+                crc.update_long(more);
+                slide(&mut window, more);
+            }
+            Err(_) => return Err(SuffixFault::Read),
+        }
+    }
+    unreachable!()
+}
+
+// Slides a window of 16 bytes over more: it becomes the last 16 of both.
+fn slide(window: &mut [u8; 16], more: &[u8]) {
+    if more.len() >= 16 {
+        let (_, last) = more.split_at(more.len() - 16);
+        window.copy_from_slice(last);
+    } else {
+        let kept = 16 - more.len();
+        window.copy_within(more.len().., 0);
+        window[kept..].copy_from_slice(more);
+    }
+}

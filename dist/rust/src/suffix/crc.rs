@@ -1,0 +1,134 @@
+// Of crates/dfu_suffix/src/crc.rt, whose contracts are taken away.
+
+//! The register of USB DFU 1.1, appendix B, eight bytes at a time.
+
+use crate::suffix::table::TABLES;
+use crate::suffix::{folding, small};
+use byteorder::{ByteOrder, LittleEndian};
+
+/// The register over the bytes so far: reflected CRC-32 with the polynomial EDB88320h, which begins at
+/// FFFFFFFFh and has no final complement. Its complement is the usual CRC-32.
+#[derive(Clone, Copy, Debug, PartialEq, Eq)]
+pub struct Crc {
+    register: u32,
+}
+
+impl Crc {
+    /// The register over no bytes.
+    pub fn new() -> Self {
+        Crc {
+            register: 0xffff_ffff,
+        }
+    }
+
+    /// Takes more bytes: a register over some bytes becomes the one over those and these. A program that
+    /// calls it links 8,192 bytes of tables; `update_small` does the same without them.
+    pub fn update(&mut self, bytes: &[u8]) {
+        *self = Crc {
+            register: after_bytes(self.register, bytes),
+        };
+    }
+
+    /// Takes more bytes, as `update` does, in about half as many instructions if there are 65,536 of them:
+    /// 4,096 and more are folded first, for which it has 6,064 bytes on the stack. Fewer are handled as `update`
+    /// does.
+    pub fn update_long(&mut self, bytes: &[u8]) {
+        *self = Crc {
+            register: folding::after_bytes(self.register, bytes),
+        };
+    }
+
+    /// Takes more bytes, as `update` does, by a table of 64 bytes, in over four times as many instructions:
+    /// for a device that has no room for the large tables. Only a program that nowhere calls `update`
+    /// or `update_long` links without these.
+    pub fn update_small(&mut self, bytes: &[u8]) {
+        *self = Crc {
+            register: small::after_bytes(self.register, bytes),
+        };
+    }
+
+    /// The register, which is the dwCRC of a file that has these bytes before it.
+    pub fn value(&self) -> u32 {
+        self.register
+    }
+}
+
+// The entry of a table for the lowest byte of a number.
+#[inline(always)]
+fn entry(table: &[u32; 256], number: u32) -> u32 {
+    table[(number & 0xff) as usize]
+}
+
+// The register after one more byte.
+#[inline(always)]
+fn after_byte(register: u32, byte: u8) -> u32 {
+    (register >> 8) ^ entry(&TABLES[7], register ^ u32::from(byte))
+}
+
+// The entry of a table for a byte.
+#[inline(always)]
+fn byte_entry(table: &[u32; 256], byte: u8) -> u32 {
+    table[usize::from(byte)]
+}
+
+// What 32 bits 0 make of the number in four bytes.
+#[inline(always)]
+fn after_32_zeros(bytes: &[u8]) -> u32 {
+    byte_entry(&TABLES[4], bytes[0])
+        ^ byte_entry(&TABLES[5], bytes[1])
+        ^ byte_entry(&TABLES[6], bytes[2])
+        ^ byte_entry(&TABLES[7], bytes[3])
+}
+
+// What 64 bits 0 make of a number.
+#[inline(always)]
+fn after_64_zeros(number: u32) -> u32 {
+    entry(&TABLES[0], number)
+        ^ entry(&TABLES[1], number >> 8)
+        ^ entry(&TABLES[2], number >> 16)
+        ^ entry(&TABLES[3], number >> 24)
+}
+
+// The register after eight more bytes. Only the first four bytes wait for the register, as one number;
+// the others are loaded each by itself, which takes fewer instructions than to cut them out of a word.
+#[inline(always)]
+fn after_eight(register: u32, bytes: &[u8]) -> u32 {
+    let (first, second) = bytes.split_at(4);
+    after_32_zeros(second) ^ after_64_zeros(register ^ LittleEndian::read_u32(first))
+}
+
+// The register after more bytes, each by itself.
+#[inline(always)]
+fn after_each(start: u32, bytes: &[u8]) -> u32 {
+    let mut register = start;
+    for byte in bytes {
+        register = after_byte(register, *byte);
+    }
+    register
+}
+
+// The register after sixteen more bytes.
+#[inline(always)]
+fn after_sixteen(register: u32, bytes: &[u8]) -> u32 {
+    let (first, second) = bytes.split_at(8);
+    after_eight(after_eight(register, first), second)
+}
+
+// The register after a few more bytes: the first eight at once if there are that many.
+fn after_few(register: u32, bytes: &[u8]) -> u32 {
+    match bytes.split_first_chunk::<8>() {
+        Some((eight, more)) => after_each(after_eight(register, eight), more),
+        None => after_each(register, bytes),
+    }
+}
+
+/// The register after more bytes, sixteen at a time, so that two steps share one turn of the loop.
+pub(crate) fn after_bytes(start: u32, bytes: &[u8]) -> u32 {
+    let mut register = start;
+    let mut rest = bytes;
+    while let Some((front, more)) = rest.split_first_chunk::<16>() {
+        register = after_sixteen(register, front);
+        rest = more;
+    }
+    after_few(register, rest)
+}

@@ -1,0 +1,51 @@
+// Of crates/dfu_suffix/src/fault.rt, whose contracts are taken away.
+
+//! Why a file is refused.
+
+use thiserror::Error;
+
+/// Why a file isn't read, checked or written. `read` and `check` answer the first of TooLarge,
+/// TooShort, NoSignature, BadLength, DfuSe, BadCrc whose condition holds, looked for in this
+/// order; `add` looks for TooLarge and then AlreadySuffixed.
+#[derive(Clone, Copy, Debug, PartialEq, Eq, Error)]
+pub enum SuffixFault {
+    /// The file has under 16 bytes.
+    #[error("the file has under 16 bytes, too few for a suffix")]
+    TooShort,
+    /// The bytes 8 to 10 of the file's last 16 aren't 55h 46h 44h ('U', 'F', 'D').
+    #[error("the file has no DFU signature")]
+    NoSignature,
+    /// bLength is under 16 or over the file's length.
+    #[error("the suffix's length is under 16 or over the file's")]
+    BadLength,
+    /// bcdDFU is 011Ah: the payload is in the DfuSe format.
+    #[error("the file is a DfuSe file")]
+    DfuSe,
+    /// dwCRC isn't the register over the bytes before it.
+    #[error("the file's CRC differs from the one in its suffix")]
+    BadCrc,
+    /// The bytes that are to get a suffix have one: `read` would answer Ok or DfuSe for them.
+    #[error("the file has a suffix already")]
+    AlreadySuffixed,
+    /// The file has over 16,777,216 bytes, or would have with the 16 of a suffix.
+    #[error("the file with its suffix has over 16777216 bytes")]
+    TooLarge,
+    /// An allocation was refused, in `add`.
+    #[error("out of memory")]
+    NoMemory,
+    /// The reader failed.
+    #[error("the file can't be read")]
+    Read,
+    /// The writer failed, or took nothing of what was left.
+    #[error("the file can't be written")]
+    Write,
+}
+
+impl SuffixFault {
+    /// The name of the fault, that of its variant, as `TooShort`.
+    pub fn name(self) -> &'static str {
+        crate::wire::variant_name!(self, SuffixFault:
+            TooShort, NoSignature, BadLength, DfuSe, BadCrc, AlreadySuffixed, TooLarge, NoMemory, Read, Write
+        )
+    }
+}

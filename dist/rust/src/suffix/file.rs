@@ -1,0 +1,54 @@
+// Of crates/dfu_suffix/src/file.rt, whose contracts are taken away.
+
+//! The numbers of a file (USB DFU 1.1, appendix B) and its limits, and a file that was read.
+
+use crate::wire::Ids;
+
+/// The most bytes that a file has.
+pub(crate) const MAX_FILE: usize = 16_777_216;
+
+/// The most reads that a file is worth: each but the last gives a byte.
+pub(crate) const MAX_READS: usize = MAX_FILE + 1;
+
+/// The most bytes that are read at a time.
+pub(crate) const PIECE: usize = 65_536;
+
+/// The fewest bytes that a suffix has.
+pub(crate) const MIN_SUFFIX: u32 = 16;
+
+/// The most bytes of a payload: with the shortest suffix they are the most bytes of a file.
+pub(crate) const MAX_PAYLOAD: usize = 16_777_200;
+
+/// The value of bcdDFU in a DfuSe file.
+pub(crate) const DFUSE: u16 = 0x011a;
+
+/// A file of the grammar: its payload, as a slice of the bytes that were read, and the fields of
+/// its suffix. Only `read` makes one.
+pub struct File<'f> {
+    pub(crate) payload: &'f [u8],
+    pub(crate) ids: Ids,
+    pub(crate) dfu: u16,
+    pub(crate) suffix: u8,
+}
+
+impl<'f> File<'f> {
+    /// The bytes before the suffix, which are what a device gets.
+    pub fn payload(&self) -> &'f [u8] {
+        self.payload
+    }
+
+    /// The device that the file is for.
+    pub fn ids(&self) -> Ids {
+        self.ids
+    }
+
+    /// bcdDFU, the version of the format. It isn't 011Ah.
+    pub fn dfu(&self) -> u16 {
+        self.dfu
+    }
+
+    /// bLength: how many bytes the suffix has, from 16 to 255.
+    pub fn suffix(&self) -> u8 {
+        self.suffix
+    }
+}

@@ -1,0 +1,60 @@
+// Of crates/dfu_suffix/src/findings.rt, whose contracts are taken away.
+
+//! What a check finds in a file, accepted or not.
+
+use crate::suffix::summary::u32_at;
+
+/// What `check_with` finds in a file of 16 to 16,777,216 bytes: its length, two fields of its suffix (USB DFU 1.1,
+/// appendix B) as they are written, and the register that dwCRC has to be.
+#[derive(Clone, Copy, Debug, PartialEq, Eq)]
+pub struct Findings {
+    /// How many bytes the file has.
+    pub count: u32,
+    /// bLength, from 0 to 255.
+    pub suffix: u8,
+    /// dwCRC.
+    pub crc: u32,
+    /// The register over all bytes but the last four.
+    pub register: u32,
+}
+
+impl Findings {
+    /// Findings before any check: each is 0.
+    pub fn new() -> Findings {
+        Findings {
+            count: 0,
+            suffix: 0,
+            crc: 0,
+            register: 0,
+        }
+    }
+}
+
+/// What the last 16 of `count` bytes and the register over all of them say.
+pub(crate) fn findings_of(tail: &[u8], count: u32, register: u32) -> Findings {
+    let crc = u32_at(tail, 12);
+    Findings {
+        count,
+        suffix: tail[11],
+        crc,
+        register: before_four(register, crc),
+    }
+}
+
+// The number that one bit 0 shifts to this one. The highest bit says whether the bit that was shifted out was 1.
+fn unshifted(register: u32) -> u32 {
+    if register < 0x8000_0000 {
+        register * 2
+    } else {
+        (register ^ 0xedb8_8320) * 2 + 1
+    }
+}
+
+// The register before four bytes, from the one after them and the number that they make, the low byte first.
+fn before_four(register: u32, last: u32) -> u32 {
+    let mut number = register;
+    for _turn in 0u8..32 {
+        number = unshifted(number);
+    }
+    number ^ last
+}

@@ -1,0 +1,70 @@
+// Of crates/dfu_suffix/src/folding.rt, whose contracts are taken away.
+
+//! The register of many bytes: they are folded onto the last 1,968 of them, so that only these go through the tables.
+//!
+//! Seven shifts of a number below 2^32, by 0, 720, 848, 1184, 1280, 1920 and 1968 bytes, combine to 0
+//! (crates/dfu_suffix/proofs/Spread.antt). So a byte may be taken away if the bytes that come 48, 688, 784, 1120, 1248 and 1968 places
+//! later are each combined with it: the register stays the same. These places are multiples of sixteen, so that
+//! sixteen bytes go at once.
+
+use crate::suffix::crc;
+
+/// How many bytes at least are worth folding; as many are folded at a time.
+const PIECE: usize = 4096;
+
+/// The bytes of a residue, 1,968, and of a piece after it.
+const ROOM: usize = 6064;
+
+// A residue at the front of a room, which represents the register.
+fn residue_for(register: u32) -> [u8; ROOM] {
+    let mut room = [0u8; ROOM];
+    room[..4].copy_from_slice(&register.to_le_bytes());
+    room
+}
+
+// Folds more bytes into the residue: it then represents the register after them.
+fn fold(room: &mut [u8; ROOM], bytes: &[u8]) {
+    for place in 0..bytes.len() {
+        room[place + 1968] = bytes[place]
+            ^ room[place]
+            ^ room[place + 720]
+            ^ room[place + 848]
+            ^ room[place + 1184]
+            ^ room[place + 1280]
+            ^ room[place + 1920];
+    }
+    room.copy_within(bytes.len()..bytes.len() + 1968, 0);
+}
+
+// The register that the residue represents.
+fn register_of(room: &[u8; ROOM]) -> u32 {
+    let first = crc::after_bytes(0, &room[..720]);
+    let second = crc::after_bytes(first, &room[720..848]);
+    let third = crc::after_bytes(second, &room[848..1184]);
+    let fourth = crc::after_bytes(third, &room[1184..1280]);
+    let fifth = crc::after_bytes(fourth, &room[1280..1920]);
+    let whole = crc::after_bytes(fifth, &room[1920..1968]);
+    whole ^ first ^ second ^ third ^ fourth ^ fifth
+}
+
+// The register after so many bytes that they are worth folding.
+fn after_many(start: u32, bytes: &[u8]) -> u32 {
+    let mut room = residue_for(start);
+    let mut rest = bytes;
+    while rest.len() > PIECE {
+        let (front, more) = rest.split_at(PIECE);
+        fold(&mut room, front);
+        rest = more;
+    }
+    fold(&mut room, rest);
+    register_of(&room)
+}
+
+/// The register after more bytes, folded if there are many.
+pub(crate) fn after_bytes(start: u32, bytes: &[u8]) -> u32 {
+    if bytes.len() < PIECE {
+        crc::after_bytes(start, bytes)
+    } else {
+        after_many(start, bytes)
+    }
+}

@@ -1,0 +1,53 @@
+// Of crates/dfu_suffix/src/gathering.rt, whose contracts are taken away.
+
+//! All that a reader gives, up to a limit.
+
+use crate::suffix::file::{MAX_READS, PIECE};
+use crate::memory::{Global, Vec};
+use std::io::Read;
+
+/// Why what a reader gives was not all gathered.
+#[derive(Clone, Copy, Debug, PartialEq, Eq)]
+pub enum GatherFault {
+    /// The reader gives more bytes than the limit.
+    TooLarge,
+    /// An allocation was refused.
+    NoMemory,
+    /// The reader failed.
+    Read,
+}
+
+/// All that the reader gives, which is at most `limit` bytes. It reads up to 65,536 bytes at a time.
+///
+/// # Errors
+///
+/// TooLarge once the byte past the limit was read, and no read is made after that; Read at the
+/// first error of the reader, with no second try; NoMemory if an allocation was refused.
+///
+/// # What the caller must keep to
+///
+/// - `limit` is at most 16,777,216.
+pub fn gather<R: Read>(
+    alloc: Global,
+    mut reader: R,
+    limit: usize,
+) -> Result<Vec<u8>, GatherFault> {
+    debug_assert!(limit <= 16_777_216);
+    let mut bytes = Vec::new(alloc);
+    let mut buffer = [0u8; PIECE];
+    for _turn in 0..MAX_READS {
+        match reader.read(&mut buffer) {
+            Ok(0) => return Ok(bytes),
+            Ok(taken) => {
+                if taken > limit - bytes.len() {
+                    return Err(GatherFault::TooLarge);
+                }
+                let Ok(()) = bytes.extend_from_slice(&buffer[..taken]) else {
+                    return Err(GatherFault::NoMemory);
+                };
+            }
+            Err(_) => return Err(GatherFault::Read),
+        }
+    }
+    unreachable!()
+}

@@ -1,0 +1,63 @@
+// Of crates/dfu_suffix/src/making.rt, whose contracts are taken away.
+
+//! The suffix that a payload gets (USB DFU 1.1, appendix B), and whether bytes have one.
+
+use crate::suffix::crc::Crc;
+use crate::suffix::fault::SuffixFault;
+use crate::suffix::file::MIN_SUFFIX;
+use crate::suffix::parse::read;
+use crate::wire::Ids;
+use crate::memory::{AllocError, Vec};
+
+/// The fields up to dwCRC: bcdDFU is 0100h and bLength 16.
+fn fields_of(ids: Ids) -> [u8; 12] {
+    let device = ids.device.to_le_bytes();
+    let product = ids.product.to_le_bytes();
+    let vendor = ids.vendor.to_le_bytes();
+    [
+        device[0],
+        device[1],
+        product[0],
+        product[1],
+        vendor[0],
+        vendor[1],
+        0x00,
+        0x01,
+        b'U',
+        b'F',
+        b'D',
+        MIN_SUFFIX as u8,
+    ]
+}
+
+/// dwCRC over a payload and the fields after it.
+fn crc_over(payload: &[u8], fields: &[u8]) -> u32 {
+    let mut crc = Crc::new();
+    crc.update_long(payload);
+    crc.update(fields);
+    crc.value()
+}
+
+/// Makes a file of its payload. If an allocation is refused, the text is of no more use.
+pub(crate) fn append_suffix(text: &mut Vec<u8>, ids: Ids) -> Result<(), AllocError> {
+    let fields = fields_of(ids);
+    let crc = crc_over(text, &fields);
+    text.extend_from_slice(&fields)?;
+    text.extend_from_slice(&crc.to_le_bytes())
+}
+
+/// Whether the fault is that of a DfuSe file.
+fn is_dfuse(fault: SuffixFault) -> bool {
+    match fault {
+        SuffixFault::DfuSe => true,
+        _ => false,
+    }
+}
+
+/// Whether the bytes have a suffix, which may be a DfuSe file's.
+pub(crate) fn has_suffix(bytes: &[u8]) -> bool {
+    match read(bytes) {
+        Ok(_) => true,
+        Err(fault) => is_dfuse(fault),
+    }
+}

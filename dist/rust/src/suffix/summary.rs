@@ -1,0 +1,83 @@
+// Of crates/dfu_suffix/src/summary.rt, whose contracts are taken away.
+
+//! What `check` says of a file, by its end (USB DFU 1.1, appendix B).
+
+use crate::suffix::fault::SuffixFault;
+use crate::suffix::file::{DFUSE, MIN_SUFFIX};
+use byteorder::{ByteOrder, LittleEndian};
+use crate::wire::Ids;
+
+/// A file's fields and the length of its payload, as `check` answers them.
+#[derive(Clone, Copy, Debug, PartialEq, Eq)]
+pub struct Summary {
+    /// How many bytes the payload has, at most 16,777,200.
+    pub payload: u32,
+    /// bLength: how many bytes the suffix has, from 16 to 255.
+    pub suffix: u8,
+    /// The device that the file is for.
+    pub ids: Ids,
+    /// bcdDFU, which isn't 011Ah.
+    pub dfu: u16,
+    /// dwCRC.
+    pub crc: u32,
+}
+
+// Whether the last 16 bytes have the signature.
+fn is_signed(tail: &[u8]) -> bool {
+    tail[8] == b'U' && tail[9] == b'F' && tail[10] == b'D'
+}
+
+// The number in the two bytes from `at`, the low one first.
+fn u16_at(bytes: &[u8], at: usize) -> u16 {
+    let (_, field) = bytes.split_at(at);
+    LittleEndian::read_u16(field)
+}
+
+/// The number in the four bytes from `at`, the low one first.
+pub(crate) fn u32_at(bytes: &[u8], at: usize) -> u32 {
+    let (_, field) = bytes.split_at(at);
+    LittleEndian::read_u32(field)
+}
+
+// The identifiers in the last 16 bytes.
+fn ids_of(tail: &[u8]) -> Ids {
+    Ids {
+        device: u16_at(tail, 0),
+        product: u16_at(tail, 2),
+        vendor: u16_at(tail, 4),
+    }
+}
+
+/// What the last 16 of `count` bytes say, or the first fault of the file but TooLarge and BadCrc.
+pub(crate) fn parse_tail(tail: &[u8], count: u32) -> Result<Summary, SuffixFault> {
+    if count < MIN_SUFFIX {
+        return Err(SuffixFault::TooShort);
+    }
+    if !is_signed(tail) {
+        return Err(SuffixFault::NoSignature);
+    }
+    let suffix = u32::from(tail[11]);
+    if suffix < MIN_SUFFIX || count < suffix {
+        return Err(SuffixFault::BadLength);
+    }
+    let dfu = u16_at(tail, 6);
+    if dfu == DFUSE {
+        return Err(SuffixFault::DfuSe);
+    }
+    Ok(Summary {
+        payload: count - suffix,
+        suffix: tail[11],
+        ids: ids_of(tail),
+        dfu,
+        crc: u32_at(tail, 12),
+    })
+}
+
+/// The summary of a file of `count` bytes, or its first fault but TooLarge, by its last 16 bytes and
+/// the register over all of it. That register is 0 exactly if dwCRC is right.
+pub(crate) fn check_register(tail: &[u8], count: u32, register: u32) -> Result<Summary, SuffixFault> {
+    match parse_tail(tail, count) {
+        Ok(_) if register != 0 => Err(SuffixFault::BadCrc),
+        answer => answer,
+    }
+}

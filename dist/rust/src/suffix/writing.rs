@@ -1,0 +1,31 @@
+// Of crates/dfu_suffix/src/writing.rt, whose contracts are taken away.
+
+//! A whole text for a writer, by a call that isn't inlined: the crates above make it often.
+
+use std::io::Write;
+
+/// The writer failed, or took nothing of what was left.
+#[derive(Clone, Copy, Debug, PartialEq, Eq)]
+pub struct OutputError;
+
+/// Writes the whole text. It doesn't flush.
+///
+/// # Errors
+///
+/// OutputError at the first error of the writer, with no second try, and if it takes nothing of
+/// what is left.
+#[inline(never)]
+pub fn write_whole<W: Write>(writer: &mut W, text: &[u8]) -> Result<(), OutputError> {
+    let mut rest = text;
+    while !rest.is_empty() {
+        match writer.write(rest) {
+            Ok(0) => return Err(OutputError),
+            Ok(taken) => {
+                let (_, left) = rest.split_at(taken);
+                rest = left;
+            }
+            Err(_) => return Err(OutputError),
+        }
+    }
+    Ok(())
+}

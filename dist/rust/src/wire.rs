@@ -1,0 +1,57 @@
+// Of crates/dfu_wire/src/lib.rt, whose contracts are taken away.
+
+//! The wire formats of USB device firmware upgrade (USB DFU 1.1): the functional descriptor (read also
+//! in the form of DFU 1.0), the setups of the seven requests, the answer to GETSTATUS, the states and
+//! the status codes, and the identifiers of a device.
+//!
+//! No call takes memory, and only the readers and `Status::new` can refuse.
+
+/// The body of a `name`: `variant_name!(self, Type: Variant, ..)` is the text of the variant that `self` is, as it is
+/// written, and `variant_name!(self, Type: Variant "text", ..)` the text beside it.
+macro_rules! variant_name {
+    ($value:expr, $type:ident: $($variant:ident $(($field:tt))?),+) => {
+        match $value {
+            $($type::$variant $(($field))? => stringify!($variant),)+
+        }
+    };
+    ($value:expr, $type:ident: $($variant:ident $(($field:tt))? $text:literal),+) => {
+        match $value {
+            $($type::$variant $(($field))? => $text,)+
+        }
+    };
+}
+
+pub(crate) use variant_name;
+
+// The body of a `from_byte`: the variant beside the number that the byte is, or else the fault.
+macro_rules! variant_numbered {
+    ($byte:expr, $fault:expr, $type:ident: $($number:literal $variant:ident),+) => {
+        match $byte {
+            $($number => Ok($type::$variant),)+
+            _ => Err($fault),
+        }
+    };
+}
+
+mod bytes;
+mod codes;
+mod fault;
+mod functionals;
+mod identifiers;
+mod ids;
+mod requests;
+mod round_trips;
+mod setups;
+mod states;
+mod statuses;
+
+pub use codes::Code;
+pub use fault::WireFault;
+pub use functionals::Functional;
+pub use identifiers::identifier;
+pub use ids::Ids;
+pub use requests::Request;
+pub use round_trips::{asked_again, reread_functional, reread_setup, reread_status};
+pub use setups::Setup;
+pub use states::State;
+pub use statuses::Status;

@@ -1,0 +1,13 @@
+// Of crates/dfu_wire/src/identifiers.rt, whose contracts are taken away.
+
+//! Identifiers as text.
+
+/// The number that four hexadecimal digits of either case write, the highest first; nothing for any
+/// other text. So scripts and options write idVendor, idProduct and bcdDevice.
+pub fn identifier(digits: &[u8]) -> Option<u16> {
+    let mut bytes = [0u8; 2];
+    match hex::decode_to_slice(digits, &mut bytes) {
+        Ok(()) => Some(u16::from_be_bytes(bytes)),
+        Err(_error) => None,
+    }
+}

@@ -1,0 +1,79 @@
+// Of crates/dfu_wire/src/requests.rt, whose contracts are taken away.
+
+//! What a setup asks for (USB DFU 1.1, section 3).
+
+use crate::wire::Setup;
+use crate::wire::setups::{IN, OUT};
+
+/// What a setup asks for: one of the seven requests, or another.
+///
+/// | Request | Kind | Number | Value | Length |
+/// |---|---|---|---|---|
+/// | DETACH | 21h | 0 | timeout in milliseconds | 0 |
+/// | DNLOAD | 21h | 1 | block | bytes that are sent |
+/// | UPLOAD | A1h | 2 | block | most bytes of the answer |
+/// | GETSTATUS | A1h | 3 | none | most bytes of the answer |
+/// | CLRSTATUS | 21h | 4 | none | 0 |
+/// | GETSTATE | A1h | 5 | none | most bytes of the answer |
+/// | ABORT | 21h | 6 | none | 0 |
+#[derive(Clone, Copy, Debug, PartialEq, Eq)]
+pub enum Request {
+    /// Leave the application for upgrade mode at a reset within `timeout` milliseconds.
+    Detach { timeout: u16 },
+    /// Take block `block` of an image, `length` bytes; no bytes end the image.
+    Dnload { block: u16, length: u16 },
+    /// Send block `block` of the image, at most `length` bytes.
+    Upload { block: u16, length: u16 },
+    /// Send the status in 6 bytes, of which at most `length` are sent.
+    GetStatus { length: u16 },
+    /// Leave the state dfuERROR.
+    ClrStatus,
+    /// Send the state in 1 byte, of which at most `length` are sent.
+    GetState { length: u16 },
+    /// Give up what is under way, and be ready again.
+    Abort,
+    /// A request of the class, for interface 0, that is not in the table.
+    OtherClass,
+    /// No request of the class, or one for another interface.
+    NotDfu,
+}
+
+impl Request {
+    /// The setup that asks for this, with index 0, and value 0 if the table has none. It is
+    /// `None` only for `OtherClass` and `NotDfu`. `Setup::request` of the result is the request
+    /// again.
+    pub fn setup(&self) -> Option<Setup> {
+        let (kind, request, value, length) = match *self {
+            Request::Detach { timeout } => (OUT, 0, timeout, 0),
+            Request::Dnload { block, length } => (OUT, 1, block, length),
+            Request::Upload { block, length } => (IN, 2, block, length),
+            Request::GetStatus { length } => (IN, 3, 0, length),
+            Request::ClrStatus => (OUT, 4, 0, 0),
+            Request::GetState { length } => (IN, 5, 0, length),
+            Request::Abort => (OUT, 6, 0, 0),
+            Request::OtherClass | Request::NotDfu => return None,
+        };
+        Some(Setup {
+            kind,
+            request,
+            value,
+            index: 0,
+            length,
+        })
+    }
+
+    /// The name of the request in the standard, as `DETACH`; `other-class` and `not-dfu` for the two that are not one of the seven.
+    pub fn name(self) -> &'static str {
+        match self {
+            Request::Detach { .. } => "DETACH",
+            Request::Dnload { .. } => "DNLOAD",
+            Request::Upload { .. } => "UPLOAD",
+            Request::GetStatus { .. } => "GETSTATUS",
+            Request::ClrStatus => "CLRSTATUS",
+            Request::GetState { .. } => "GETSTATE",
+            Request::Abort => "ABORT",
+            Request::OtherClass => "other-class",
+            Request::NotDfu => "not-dfu",
+        }
+    }
+}

@@ -1,0 +1,89 @@
+// Of crates/dfu_wire/src/setups.rt, whose contracts are taken away.
+
+//! The eight bytes that begin a request (USB DFU 1.1, section 3).
+
+use crate::wire::Request;
+use crate::wire::bytes::two_bytes;
+use byteorder::{ByteOrder, LittleEndian};
+
+/// bmRequestType of a request of the class that sends to the device.
+pub(crate) const OUT: u8 = 0x21;
+
+/// bmRequestType of a request of the class that reads from the device.
+pub(crate) const IN: u8 = 0xa1;
+
+/// The eight bytes that begin a request. Any eight bytes are a setup; numbers of two bytes have
+/// their low byte first.
+#[derive(Clone, Copy, Debug, PartialEq, Eq)]
+pub struct Setup {
+    /// bmRequestType, byte 0: 21h sends to the device, A1h reads from it, others are not DFU.
+    pub kind: u8,
+    /// bRequest, byte 1: the number of the request.
+    pub request: u8,
+    /// wValue, bytes 2 and 3: a timeout or a block's number.
+    pub value: u16,
+    /// wIndex, bytes 4 and 5: the interface, here 0.
+    pub index: u16,
+    /// wLength, bytes 6 and 7: how many bytes follow, or may be answered.
+    pub length: u16,
+}
+
+impl Setup {
+    /// Reads a setup. It never fails: any eight bytes are one.
+    pub fn decode(bytes: &[u8; 8]) -> Setup {
+        Setup {
+            kind: bytes[0],
+            request: bytes[1],
+            value: LittleEndian::read_u16(&bytes[2..]),
+            index: LittleEndian::read_u16(&bytes[4..]),
+            length: LittleEndian::read_u16(&bytes[6..]),
+        }
+    }
+
+    /// Writes the setup. `decode` of the result is the setup again.
+    pub fn encode(&self) -> [u8; 8] {
+        let [value_low, value_high] = two_bytes(self.value);
+        let [index_low, index_high] = two_bytes(self.index);
+        let [length_low, length_high] = two_bytes(self.length);
+        [
+            self.kind,
+            self.request,
+            value_low,
+            value_high,
+            index_low,
+            index_high,
+            length_low,
+            length_high,
+        ]
+    }
+
+    /// What the setup asks for:
+    ///
+    /// - `NotDfu` if the kind is neither 21h nor A1h, or the index is not 0;
+    /// - else `OtherClass` if the kind and the number of the request are not a pair of the table at
+    ///   [`Request`], or the length of a DETACH, CLRSTATUS or ABORT is not 0;
+    /// - else the request of the table. The value of a GETSTATUS, CLRSTATUS, GETSTATE or ABORT is
+    ///   ignored.
+    pub fn request(&self) -> Request {
+        if self.kind != OUT && self.kind != IN || self.index != 0 {
+            return Request::NotDfu;
+        }
+        let Setup { value, length, .. } = *self;
+        match (self.kind, self.request) {
+            (OUT, 0) if length == 0 => Request::Detach { timeout: value },
+            (OUT, 1) => Request::Dnload {
+                block: value,
+                length,
+            },
+            (IN, 2) => Request::Upload {
+                block: value,
+                length,
+            },
+            (IN, 3) => Request::GetStatus { length },
+            (OUT, 4) if length == 0 => Request::ClrStatus,
+            (IN, 5) => Request::GetState { length },
+            (OUT, 6) if length == 0 => Request::Abort,
+            _ => Request::OtherClass,
+        }
+    }
+}

@@ -1,0 +1,57 @@
+// Of crates/dfu_wire/src/states.rt, whose contracts are taken away.
+
+//! The states of a device (USB DFU 1.1, section 6.1.2).
+
+use crate::wire::WireFault;
+
+/// A state of a device, as bState says it.
+#[derive(Clone, Copy, Debug, PartialEq, Eq)]
+pub enum State {
+    /// 0: the application runs.
+    AppIdle,
+    /// 1: the application runs, got DETACH, and waits for a reset.
+    AppDetach,
+    /// 2: ready for a request of upgrade mode.
+    DfuIdle,
+    /// 3: a block came, and the device waits to be asked for its status.
+    DownloadSync,
+    /// 4: a block is being written.
+    DownloadBusy,
+    /// 5: ready for the next block.
+    DownloadIdle,
+    /// 6: the whole image came, or is in place; the device waits to be asked for its status.
+    ManifestSync,
+    /// 7: the new image is being put in place.
+    Manifest,
+    /// 8: the new image is in place, and the device waits for a reset.
+    ManifestWaitReset,
+    /// 9: ready to send the next block of its image.
+    UploadIdle,
+    /// 10: something went wrong, and the device waits for CLRSTATUS.
+    Error,
+}
+
+impl State {
+    /// The state of this number; `UnknownState` if it is over 10.
+    pub fn from_byte(byte: u8) -> Result<State, WireFault> {
+        variant_numbered!(byte, WireFault::UnknownState, State:
+            0 AppIdle, 1 AppDetach, 2 DfuIdle, 3 DownloadSync, 4 DownloadBusy, 5 DownloadIdle, 6 ManifestSync,
+            7 Manifest, 8 ManifestWaitReset, 9 UploadIdle, 10 Error
+        )
+    }
+
+    /// The number of the state, 0 to 10.
+    pub fn byte(self) -> u8 {
+        self as u8
+    }
+
+    /// The name of the state in the standard, as `dfuIDLE`.
+    pub fn name(self) -> &'static str {
+        variant_name!(self, State:
+            AppIdle "appIDLE", AppDetach "appDETACH", DfuIdle "dfuIDLE", DownloadSync "dfuDNLOAD-SYNC",
+            DownloadBusy "dfuDNBUSY", DownloadIdle "dfuDNLOAD-IDLE", ManifestSync "dfuMANIFEST-SYNC",
+            Manifest "dfuMANIFEST", ManifestWaitReset "dfuMANIFEST-WAIT-RESET", UploadIdle "dfuUPLOAD-IDLE",
+            Error "dfuERROR"
+        )
+    }
+}

@@ -1,0 +1,83 @@
+// Of crates/dfu_wire/src/statuses.rt, whose contracts are taken away.
+
+//! The answer to GETSTATUS (USB DFU 1.1, section 6.1.2).
+
+use crate::wire::{Code, State, WireFault};
+use byteorder::{ByteOrder, LittleEndian};
+
+/// The most milliseconds that the three bytes of bwPollTimeout hold: 16,777,215.
+const LONGEST_POLL: u32 = 0xff_ffff;
+
+/// The answer to GETSTATUS: 6 bytes on the wire.
+///
+/// | Bytes | Field of the standard | Call |
+/// |---|---|---|
+/// | 0 | bStatus | `code` |
+/// | 1 to 3, low byte first | bwPollTimeout, milliseconds | `poll_ms` |
+/// | 4 | bState: the state that the device enters right after this answer | `state` |
+/// | 5 | iString: ignored on reading, and written as 0 | |
+///
+/// Its poll time is always at most 16,777,215.
+#[derive(Clone, Copy, Debug, PartialEq, Eq)]
+pub struct Status {
+    code: Code,
+    poll: u32,
+    state: State,
+}
+
+impl Status {
+    /// A status of these fields; `PollTooLong` if the poll time is over 16,777,215.
+    pub fn new(code: Code, poll_ms: u32, state: State) -> Result<Status, WireFault> {
+        if poll_ms > LONGEST_POLL {
+            return Err(WireFault::PollTooLong);
+        }
+        Ok(Status {
+            code,
+            poll: poll_ms,
+            state,
+        })
+    }
+
+    /// The status code.
+    pub fn code(&self) -> Code {
+        self.code
+    }
+
+    /// How long the host is to wait before it asks again: 0 to 16,777,215 milliseconds.
+    pub fn poll_ms(&self) -> u32 {
+        self.poll
+    }
+
+    /// The state that the device enters right after this answer.
+    pub fn state(&self) -> State {
+        self.state
+    }
+
+    /// Reads a status. The faults, in the order in which they are looked for:
+    ///
+    /// 1. `Short`: there are fewer than 6 bytes.
+    /// 2. `Long`: there are more than 6 bytes.
+    /// 3. `UnknownCode`: byte 0 is over 15.
+    /// 4. `UnknownState`: byte 4 is over 10.
+    pub fn decode(bytes: &[u8]) -> Result<Status, WireFault> {
+        if bytes.len() < 6 {
+            return Err(WireFault::Short);
+        }
+        if bytes.len() > 6 {
+            return Err(WireFault::Long);
+        }
+        let code = Code::from_byte(bytes[0])?;
+        let state = State::from_byte(bytes[4])?;
+        let poll = LittleEndian::read_u24(&bytes[1..]);
+        Ok(Status { code, poll, state })
+    }
+
+    /// Writes the status, with 0 for iString. `decode` of the result is the status again.
+    pub fn encode(&self) -> [u8; 6] {
+        let mut bytes = [0; 6];
+        bytes[0] = self.code.byte();
+        LittleEndian::write_u24(&mut bytes[1..], self.poll);
+        bytes[4] = self.state.byte();
+        bytes
+    }
+}
