@@ -1837,7 +1837,7 @@ join_13:
 static void dfu_host_c_holding_session_of(unsigned char *a0, unsigned char *a1, unsigned char *a2, uint64_t a3) {
     _Alignas(4) unsigned char r31[3];
     _Alignas(4) unsigned char r36_2[3];
-    uint64_t wide_17342, r3_12_0_0, r3_12_6_0, r3_7_0_0, r38, r6_132_0, r6_132_0_2;
+    uint64_t wide_17346, r3_12_0_0, r3_12_6_0, r3_7_0_0, r38, r6_132_0, r6_132_0_2;
     uint8_t v0;
     uint32_t r40, r6_158_0, r6_106_0, r6_106_0_2, r6_158_0_2, r79;
     uint8_t r6_28_0, r6_54_0, r6_28_0_2, r6_0_0_0, r6_28_0_3, r6_54_0_2, r70, r75;
@@ -1850,10 +1850,10 @@ then_1:
     return;
 join_3:;
     uint32_t r20 = load32(a1 + 4);
-    wide_17342 = (uint64_t)(uintptr_t)a2;
+    wide_17346 = (uint64_t)(uintptr_t)a2;
     switch (r20) {
     case 1:
-        r3_12_0_0 = wide_17342;
+        r3_12_0_0 = wide_17346;
         r3_12_6_0 = a3;
         v0 = 0;
         r3_7_0_0 = 0;
@@ -1870,13 +1870,13 @@ arm_2:
     r3_7_0_0 = 1;
     goto arm_1;
 arm_3:
-    r3_12_0_0 = wide_17342;
+    r3_12_0_0 = wide_17346;
     r3_12_6_0 = a3;
     v0 = 0;
     r3_7_0_0 = 2;
     goto arm_1;
 arm_4:
-    r3_12_0_0 = wide_17342;
+    r3_12_0_0 = wide_17346;
     r3_12_6_0 = a3;
     v0 = 0;
     r3_7_0_0 = 3;
@@ -6708,90 +6708,90 @@ uint32_t dfu_image_look(const uint8_t *file, size_t length, const uint8_t *name,
         r7_7_0 = 0;
         r7_4_0 = 1;
         r7_0_0 = 1;
-        goto dfu_images_endings_ending_of_exit;
+        goto dfu_images_endings_name_ending_exit;
     }
     uint8_t r94 = dfu_images_endings_ends_in(PLACE(static_3), 4, r13, a3);
     if (r94) {
         r7_7_0 = 0;
         r7_4_0 = 0;
         r7_0_0 = 1;
-        goto dfu_images_endings_ending_of_exit;
+        goto dfu_images_endings_name_ending_exit;
     }
     uint8_t r107 = dfu_images_endings_ends_in(PLACE(static_4), 5, r13, a3);
     if (r107) {
         r7_7_0 = 0;
         r7_4_0 = 0;
         r7_0_0 = 1;
-        goto dfu_images_endings_ending_of_exit;
+        goto dfu_images_endings_name_ending_exit;
     }
     uint8_t r123 = dfu_images_endings_ends_in(PLACE(static_5), 4, r13, a3);
     if (r123) {
         r7_7_0 = 0;
         r7_4_0 = 0;
         r7_0_0 = 1;
-        goto dfu_images_endings_ending_of_exit;
+        goto dfu_images_endings_name_ending_exit;
     }
     uint8_t r139 = dfu_images_endings_ends_in(PLACE(static_6), 4, r13, a3);
     if (r139) {
         r7_7_0 = 0;
         r7_4_0 = 0;
         r7_0_0 = 1;
-        goto dfu_images_endings_ending_of_exit;
+        goto dfu_images_endings_name_ending_exit;
     }
     uint8_t r159 = dfu_images_endings_ends_in(PLACE(static_7), 4, r13, a3);
     if (r159) {
         r7_7_0 = 1;
         r7_4_0 = 0;
         r7_0_0 = 1;
-        goto dfu_images_endings_ending_of_exit;
+        goto dfu_images_endings_name_ending_exit;
     }
     uint8_t r172 = dfu_images_endings_ends_in(PLACE(static_8), 4, r13, a3);
     if (r172) {
         r7_7_0 = 1;
         r7_4_0 = 0;
         r7_0_0 = 1;
-        goto dfu_images_endings_ending_of_exit;
+        goto dfu_images_endings_name_ending_exit;
     }
     uint8_t r188 = dfu_images_endings_ends_in(PLACE(static_9), 4, r13, a3);
     if (r188) {
         r7_7_0 = 1;
         r7_4_0 = 0;
         r7_0_0 = 1;
-        goto dfu_images_endings_ending_of_exit;
+        goto dfu_images_endings_name_ending_exit;
     }
     uint8_t r204 = dfu_images_endings_ends_in(PLACE(static_10), 5, r13, a3);
     if (r204) {
         r7_7_0 = 1;
         r7_4_0 = 0;
         r7_0_0 = 1;
-        goto dfu_images_endings_ending_of_exit;
+        goto dfu_images_endings_name_ending_exit;
     }
     uint8_t r220 = dfu_images_endings_ends_in(PLACE(static_11), 4, r13, a3);
     if (r220) {
         r7_7_0 = 1;
         r7_4_0 = 0;
         r7_0_0 = 1;
-        goto dfu_images_endings_ending_of_exit;
+        goto dfu_images_endings_name_ending_exit;
     }
     uint8_t r240 = dfu_images_endings_ends_in(PLACE(static_12), 4, r13, a3);
     if (r240) {
         r7_7_0 = 2;
         r7_4_0 = 0;
         r7_0_0 = 1;
-        goto dfu_images_endings_ending_of_exit;
+        goto dfu_images_endings_name_ending_exit;
     }
     uint8_t r257 = dfu_images_endings_ends_in(PLACE(static_13), 4, r13, a3);
     if (r257) {
         r7_7_0 = 3;
         r7_4_0 = 0;
         r7_0_0 = 1;
-        goto dfu_images_endings_ending_of_exit;
+        goto dfu_images_endings_name_ending_exit;
     }
     uint8_t r270 = dfu_images_endings_ends_in(PLACE(static_14), 4, r13, a3);
     r7_7_0 = (uint64_t)(r270 ? 3 : 0);
     r7_4_0 = 0;
     r7_0_0 = r270;
-dfu_images_endings_ending_of_exit:
+dfu_images_endings_name_ending_exit:
     if (a1 < 3) {
         r4_4_0 = a1;
         r4_0_0_in = r4;

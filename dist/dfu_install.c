@@ -197,7 +197,7 @@ int32_t dfu_core_install_took(struct dfu_run_area *area, const uint8_t *image, s
     unsigned char *r4, *r13;
     uint32_t r10, r1_61_0, r0_0_0_0_off0;
     uint8_t r1_0_0;
-    uint64_t r19;
+    uint64_t r18;
     r4 = (unsigned char *)((uintptr_t)a1 + (uintptr_t)(uint64_t)((a1 == NULL) ? 4096 : 0));
     r13 = (unsigned char *)((uintptr_t)a3 + (uintptr_t)(uint64_t)((a3 == NULL) ? 4096 : 0));
     r10 = load32(a0);
@@ -237,17 +237,17 @@ dfu_install_c_numbers_due_of_exit:
     }
 arm_14:
     if (((uint64_t)r1_61_0 + (uint64_t)r10) > a4) goto after_13;
-    uint8_t r27 = dfu_install_area_are_blank(r13, r1_61_0, r1_61_0 + r10);
-    if (r27) {
+    uint8_t r29 = dfu_install_area_are_blank(r13, r1_61_0, r1_61_0 + r10);
+    if (r29) {
         r0_0_0_0_off0 = r1_61_0;
         goto dfu_install_c_calls_dfu_core_install_took_exit;
     }
     goto after_13;
 arm_15:
-    r19 = (uint64_t)r1_61_0 + 256;
-    if (a4 < r19) goto after_13;
-    struct i8_i32 r50 = dfu_install_compare_first_difference(r4, r13, r1_61_0, (uint32_t)umin64(a2, r19));
-    if (r50.a != 1) {
+    r18 = (uint64_t)r1_61_0 + 256;
+    if (a4 < r18) goto after_13;
+    struct i8_i32 r46 = dfu_install_compare_first_difference(r4, r13, r1_61_0, (uint32_t)umin64(a2, r18));
+    if (r46.a != 1) {
         r0_0_0_0_off0 = r1_61_0;
         goto dfu_install_c_calls_dfu_core_install_took_exit;
     }

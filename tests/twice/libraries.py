@@ -21,7 +21,7 @@ edition = "2024"
 crate-type = ["staticlib"]
 
 [dependencies]
-fustrelan = {{ path = "{os.path.abspath(RUST)}", default-features = false, features = ["device", "host", "dfuse"] }}
+fustrelan = {{ path = "{os.path.abspath(RUST)}", default-features = false, features = ["device", "host", "dfuse", "formats"] }}
 arrayvec = {{ version = "0.7", default-features = false }}
 byteorder = {{ version = "1", default-features = false }}
 

@@ -22,6 +22,8 @@ MODULES = {
 }
 # What is written by hand: the head of the crate, and the modules that only have modules.
 FRAME = os.path.join(os.path.dirname(__file__), "frame")
+# The name of Cargo.toml there: cargo looks for a package at every Cargo.toml of a repository, and has to find one alone.
+MANIFEST = "manifest.toml"
 # The module of memory, until the names of the crates become modules.
 MEMORY = "fustrelan_memory"
 
@@ -157,7 +159,7 @@ def write(top, out):
         for name in names:
             path = os.path.join(folder, name)
             with open(path, encoding="utf-8") as file:
-                files[os.path.relpath(path, FRAME)] = file.read()
+                files["Cargo.toml" if name == MANIFEST else os.path.relpath(path, FRAME)] = file.read()
     for name, text in files.items():
         path = os.path.join(out, name)
         os.makedirs(os.path.dirname(path), exist_ok=True)
