@@ -143,8 +143,15 @@ expect 0 'wrote 19
 format ihex address 00000000' "$dfu" add gap.hex out --format auto --fill A5
 "$dfu" extract out it > line
 equal 'a gap that is filled' '01a501' "$(od -An -tx1 it | tr -d ' \n')"
-expect 0 'wrote 25' "$dfu" add digits.bin out $ids --format auto
+# What is no image makes no file; what nothing is known against is taken as it is, and so is text by the word raw.
+expect 1 'refused NotAnImage text' "$dfu" add digits.bin kept $ids --format auto
+same kept digits.dfu
+expect 0 'wrote 25' "$dfu" add digits.bin out $ids --format raw
 same out digits.dfu
+printf '\001\002\003' > bytes.bin
+expect 0 'wrote 19' "$dfu" add bytes.bin out $ids --format auto
+"$dfu" extract out it > line
+same it bytes.bin
 expect 3 'fault Write' "$dfu" add it.hex nowhere/out --format auto
 head -c 16777217 /dev/zero > large
 expect 1 'refused TooLarge' "$dfu" add large kept --format auto
