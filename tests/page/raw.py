@@ -147,6 +147,8 @@ def others(browser, address, work):
                           ('cut', suffixed(NEW)[:-5])):
         give_file(browser, work, payload, name)
         is_asked(browser)
+        # (the page reads the file before it takes the box of the one before away)
+        browser.wait('document.getElementById("raw-anyway-row").offsetParent === null')
         check(f'{name}: there is no box', shown(browser, '#raw-anyway-row'), '')
         say_ids(browser, vendor='ffff', product='ffff')
         browser.click('#raw-add')

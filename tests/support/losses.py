@@ -6,6 +6,7 @@ from typing import NamedTuple
 import usbpcap
 
 USBMON, WINDOWS, STAGED = range(3)
+UPLOAD = b"\xa1\2"
 GETSTATUS, GETSTATE, ABORT = (bytes.fromhex(text) for text in ("a103000000000600", "a105000000000100", "2106000000000000"))
 # Requests of other devices, also of their classes: a descriptor, a report each way, a number of units, and how a line is set.
 OTHERS = [bytes.fromhex(text) for text in
@@ -32,7 +33,8 @@ class Transfer(NamedTuple):
 
 
 class Packet(NamedTuple):
-    """A packet, the transfer that it is of (or none), and what it does: 'S' submits, 'D' has the bytes of the host, 'C' completes."""
+    """A packet, the transfer that it is of (or none), and what it does: 'S' submits, 'D' has the bytes of the host, 'C' completes, with
+    the bytes of the device, and 'E' ends it, without them."""
 
     transfer: Transfer
     does: str
@@ -153,11 +155,12 @@ def written(packets, form):
             continue
         urb = one.ident, one.bus, one.device
         if packet.does == "S":
-            parts = usbpcap.submission(urb, one.setup, one.body, form == STAGED)
+            parts = zip("SD", usbpcap.submission(urb, one.setup, one.body, form == STAGED))
         else:
             status = {0: 0, -32: usbpcap.STALL}.get(one.status, 0xC0010000)
-            parts = usbpcap.completion(urb, one.setup, one.data, status, form == STAGED)
-        for does, data in zip((packet.does, "D" if packet.does == "S" else ""), parts):
+            ended = usbpcap.completion(urb, one.setup, one.data, status, form == STAGED)
+            parts = zip("CE" if len(ended) == 2 or form != STAGED else "E", ended)
+        for does, data in parts:
             yield Packet(one, does, data)
 
 
@@ -177,9 +180,10 @@ def misses(dice, packets, form, rate):
         if packet.does == "S":
             last[key] = one
         elif began and began.number != one.number and began.device == one.device:
-            if (form != USBMON or began.is_in() == one.is_in()) and len(one.data) <= began.wanted():
+            size = len(one.data) if packet.does == "C" else 0
+            if (form != USBMON or began.is_in() == one.is_in()) and size <= began.wanted():
                 continue
-        if packet.does == "C":
+        if packet.does in ("C", "E"):
             last.pop(key, None)
         yield packet
         if dice.random() < 0.1:
@@ -207,8 +211,12 @@ def log(packets, form):
             began[one.number] = b"" if form == STAGED or one.is_in() else one.body
         elif packet.does == "D" and one.number in began:
             began[one.number] = one.body
-        elif packet.does == "C" and one.number in began:
+        elif packet.does in ("C", "E") and one.number in began:
             body = began.pop(one.number)
+            if packet.does == "E" and one.is_in() and not one.status:
+                if one.wanted() and one.setup[:2] != UPLOAD:
+                    continue
+                one = one._replace(data=b"")
             if one.setup[:2] in (b"\0\x05", b"\0\x09"):
                 if one.setup[1] == 5 or form != USBMON:
                     lines[-1] = ((one.bus, one.setup[2] if one.setup[1] == 5 else one.device), "reset\n")

@@ -28,9 +28,8 @@ def submission(urb, setup, body, staged):
 def completion(urb, setup, data, status, staged):
     if not staged:
         return [packet(urb, True, COMPLETE, data, status)]
-    if setup[0] < 128:
-        return [packet(urb, True, STATUS, b"", status)]
-    return [packet(urb, True, DATA, data, status), packet(urb, False, STATUS, b"")]
+    ended = packet(urb, True, STATUS, b"", status)
+    return [packet(urb, True, DATA, data, status), ended] if setup[0] >= 128 and data else [ended]
 
 
 def records(pcap):

@@ -1,4 +1,5 @@
 pub mod LayLaws
+pub mod BareLaws
 pub mod LineLaws
 pub mod PairLaws
 pub mod PlaceLaws

@@ -1,10 +1,10 @@
 -- The lines of a text.
-use Rattle.std.specs.Prelude.{ℕ, ◌+◌, ◌-◌, ◌==◌, if◌then◌else◌, List, [], ◌∷◌, length, take, slice_index, Bool, false, Result, Ok, Err}
+use Rattle.std.specs.Prelude.{ℕ, ◌+◌, ◌-◌, ◌==◌, if◌then◌else◌, List, [], ◌∷◌, length, take, Bool, false, Result, Ok, Err}
 use Rattle.dfu_images.specs.declared.fault.ImageFault.{ImageFault}
 use Rattle.dfu_images.specs.declared.fault.ImageFault.TheVariants.{Trailing, NoEnd}
-use Rattle.std.specs.List.{list_all}
+use Rattle.std.specs.List.{list_all, suffix_len}
 use Rattle.dfu_images.specs.Reading.{◌>>=◌}
-use Rattle.dfu_images.specs.Text.{is_blank_byte, unmarked}
+use Rattle.dfu_images.specs.Text.{is_blank_byte, unblanked, unmarked}
 use Rattle.dfu_images.specs.Elements.{Piece, Gathering, nothing, gathered}
 
 -- A byte before the first line.
@@ -21,9 +21,13 @@ lines (b ∷ bs) = if b == 10 then [] ∷ lines bs else before_lines b (lines bs
 abbrev pub is_feed : ℕ → Bool
 is_feed b = b == 10
 
--- A line without the carriage return at its end, if there is one.
+-- Bytes without the blanks at their end.
+abbrev pub to_last : List ℕ → List ℕ
+to_last bytes = take (length bytes - suffix_len is_blank_byte bytes) bytes
+
+-- A line without the blanks at its ends.
 unfoldable pub bare : List ℕ → List ℕ
-bare line = if slice_index line (length line - 1) == 13 then take (length line - 1) line else line
+bare line = to_last (unblanked line)
 
 -- What was read up to a line: the elements, what Intel HEX counts offsets from, whether that is a segment of 65,536 bytes, how many
 -- S-records of data there were, whether the text may end here, and whether it ended.

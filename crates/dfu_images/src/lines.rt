@@ -11,7 +11,7 @@ ghost use Rattle.dfu_images.specs.Lines.{lines, is_feed, bare, text_start, line_
 use crate::element::Element;
 use crate::fault::ImageFault;
 use crate::gathering::Gathering;
-use crate::text::{is_blank_byte, unmarked};
+use crate::text::{is_blank_byte, unblanked, unmarked};
 use std::alloc::Global;
 use std::marker::Model;
 
@@ -38,20 +38,17 @@ fn take_line(text: &[u8]) -> (&[u8], Option<&[u8]>)
     }
 }
 
-/// A line without the carriage return at its end, if there is one.
-#[tactic(auto, using(std::proofs::lemmas::Bool::Decides::nat_tests), unfolding(crate::specs::Lines::bare))]
+/// A line without the blanks at its ends.
 fn bare(line: &[u8]) -> &[u8]
     ensures { result.now ≡ bare line.now }
 {
-    if line.len() == 0 {
-        return line;
+    let from_first = unblanked(line);
+    let mut end = from_first.len();
+    while end > 0 && is_blank_byte(from_first[end - 1]) {
+        end -= 1;
     }
-    let last = line.len() - 1;
-    if line[last] == b'\r' {
-        let (kept, _) = line.split_at(last);
-        return kept;
-    }
-    line
+    let (kept, _) = from_first.split_at(end);
+    kept
 }
 
 /// What was read of a text up to a line: the elements, what Intel HEX counts offsets from, whether that is a segment of 65,536 bytes,

@@ -1,3 +1,4 @@
 pub mod Joining
+pub mod Pending
 pub mod Packets
 pub mod Usbpcap

@@ -2,7 +2,7 @@
 use Rattle.std.specs.Prelude.{ℕ, ◌+◌, ◌-◌, ◌%◌, ◌==◌, ◌&&◌, nat_le, Bool, false, List, length, drop, Option, Some, None, if◌then◌else◌}
 use Rattle.dfu_pcap.specs.Packets.{byte, two_in, four_in, eight_in}
 use Rattle.dfu_pcap.specs.declared.event.PacketKind.{PacketKind}
-use Rattle.dfu_pcap.specs.declared.event.PacketKind.TheVariants.{Submits, Carries, Completes, Other}
+use Rattle.dfu_pcap.specs.declared.event.PacketKind.TheVariants.{Submits, Carries, Completes, Ends, Other}
 use Rattle.dfu_pcap.specs.declared.event.Ending.{Ending}
 use Rattle.dfu_pcap.specs.declared.event.Ending.TheVariants.{Done, Stalled, Failed}
 
@@ -18,13 +18,13 @@ abbrev pub from_device : List ℕ → Bool
 from_device bytes = byte bytes 16 % 2 == 1
 
 -- Byte 27 is the stage. 0, the setup, submits a transfer. 1, the data, completes it from the device on, and else has the bytes of the
--- host. 2, the status, completes it from the device on. 3 completes it.
+-- host. 2, the status, ends it from the device on. 3 completes it.
 abbrev pub recorded_kind : List ℕ → PacketKind
 recorded_kind bytes =
     let stage = byte bytes 27 in
     if stage == 0 then Submits
     else if stage == 1 then (if from_device bytes then Completes else Carries)
-    else if stage == 2 then (if from_device bytes then Completes else Other)
+    else if stage == 2 then (if from_device bytes then Ends else Other)
     else if stage == 3 then Completes
     else Other
 

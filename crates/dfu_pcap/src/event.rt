@@ -9,8 +9,10 @@ pub enum PacketKind {
     Submits,
     /// It has the bytes of a transfer that was submitted without them.
     Carries,
-    /// It completes the transfer.
+    /// It completes the transfer, and has the bytes of the device, if there are any.
     Completes,
+    /// It completes the transfer, unless a packet with bytes of the device did so before: such bytes are not in this one.
+    Ends,
     /// None of these.
     Other,
 }

@@ -54,10 +54,17 @@ fn seen_of<'c>(setup: &[u8; 8], event: &UsbEvent<'c>) -> Seen<'c> {
     }
 }
 
-/// Whether a completion moved no more bytes than the setup asks for. One that did completes another request, whose submission is missing.
+/// The request of the class that reads the image (DFU 1.1, 6.2). Its answer may have no bytes.
+const UPLOAD: u8 = 2;
+
+/// Whether a completion may be that of this request, as far as its bytes go. One that moved more than the setup asks for completes another
+/// request, whose submission is missing. If the status alone tells of a read that must have bytes, their packet is missing.
 fn fits(setup: &[u8; 8], event: &UsbEvent<'_>) -> bool {
-    let [_, _, _, _, _, _, low, high] = *setup;
+    let [kind, request, _, _, _, _, low, high] = *setup;
     let wanted = u16::from_le_bytes([low, high]);
+    if event.kind == PacketKind::Ends && event.ending == Ending::Done {
+        return kind < 0x80 || request == UPLOAD || wanted == 0;
+    }
     match event.moved {
         Some(moved) => moved <= wanted as u32,
         None => event.data.len() <= wanted as usize,
@@ -130,7 +137,7 @@ impl<'c> Joining<'c> {
         match (event.kind, event.setup) {
             (PacketKind::Submits, Some(setup)) => self.submit(event, setup),
             (PacketKind::Carries, _) => self.carry(event),
-            (PacketKind::Completes, _) => self.complete(event, link),
+            (PacketKind::Completes | PacketKind::Ends, _) => self.complete(event, link),
             _ => Ok(()),
         }
     }

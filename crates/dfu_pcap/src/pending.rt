@@ -1,7 +1,8 @@
 //! Transfers that were submitted and aren't completed, by their ids.
 
-ghost use Rattle.std.specs.Prelude.{◌↔◌, IsTrue, IfSome};
+ghost use Rattle.std.specs.Prelude.{◌≡◌, ◌↔◌, ◌++◌, [], ◌∷◌, IsTrue, IfNone, IfOk, IfSome};
 ghost use Rattle.dfu_pcap.specs.Joining.{IsSameTransfer, HasSameId};
+ghost use Rattle.dfu_pcap.specs.Pending.{LacksId, LacksSame, LeavesWithout};
 
 use crate::event::UsbEvent;
 use crate::fault::CaptureFault;
@@ -42,14 +43,18 @@ pub(crate) struct PendingTransfers<'c> {
 
 impl<'c> PendingTransfers<'c> {
     /// None.
-    pub(crate) fn new(alloc: Global) -> PendingTransfers<'c> {
+    pub(crate) fn new(alloc: Global) -> PendingTransfers<'c>
+        ensures { result.all.items ≡ [] }
+    {
         PendingTransfers {
             all: Vec::new(alloc),
         }
     }
 
     /// Adds a transfer, after the one with its id was taken.
-    pub(crate) fn put(&mut self, new: Pending<'c>) -> Result<(), CaptureFault> {
+    pub(crate) fn put(&mut self, new: Pending<'c>) -> Result<(), CaptureFault>
+        ensures { IfOk result (λ done. self.new.all.items ≡ self.old.all.items ++ (new.entry ∷ [])) }
+    {
         match self.all.push(new) {
             Ok(()) => Ok(()),
             Err(_) => Err(CaptureFault::NoMemory),
@@ -59,7 +64,8 @@ impl<'c> PendingTransfers<'c> {
     /// The transfer that has the id of this event on its bus, whatever its device, which is taken: an id is in use once, so an event of
     /// another transfer shows that it is over.
     pub(crate) fn take(&mut self, event: &UsbEvent<'c>) -> Option<Pending<'c>>
-        ensures { IfSome result (λ p. HasSameId p.submission event.now) }
+        ensures some { IfSome result (λ p. HasSameId p.submission event.now × LeavesWithout p self.old.all.items self.new.all.items) }
+        ensures none { IfNone result (LacksId event.now self.old.all.items × (self.new.all.items ≡ self.old.all.items)) }
     {
         for place in 0..self.all.len() {
             let old = self.all[place];
@@ -74,7 +80,8 @@ impl<'c> PendingTransfers<'c> {
     /// The transfer that this event carries on or completes, which is taken; `None` if that was submitted before the capture, or its
     /// submission is missing.
     pub(crate) fn take_same(&mut self, event: &UsbEvent<'c>) -> Option<Pending<'c>>
-        ensures { IfSome result (λ p. IsSameTransfer p.submission event.now) }
+        ensures some { IfSome result (λ p. IsSameTransfer p.submission event.now × LeavesWithout p self.old.all.items self.new.all.items) }
+        ensures none { IfNone result (LacksSame event.now self.old.all.items self.new.all.items) }
     {
         let old = self.take(event)?;
         if is_same_transfer(&old.submission, event) {

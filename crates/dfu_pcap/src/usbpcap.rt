@@ -21,7 +21,7 @@ fn kind_of(bytes: &[u8]) -> PacketKind
         0 => PacketKind::Submits,
         1 if answers => PacketKind::Completes,
         1 => PacketKind::Carries,
-        2 if answers => PacketKind::Completes,
+        2 if answers => PacketKind::Ends,
         3 => PacketKind::Completes,
         _ => PacketKind::Other,
     }

@@ -1,5 +1,9 @@
-use Rattle.std.specs.Prelude.{◌≡◌}
+use Rattle.std.specs.Prelude.{◌≡◌, ◌<◌, ℕ, slice_get, Some}
+use Rattle.dfu_pcap.specs.Joining.{HasSameId}
+use Rattle.dfu_pcap.specs.declared.pending.Pending.{Pending}
 use Rattle.dfu_pcap.proofs.pending.PendingTransfers.take.Given as goal
 
 abbrev pub invariant-loop-place : goal.invariant-loop-place
-invariant-loop-place l = (l.self ≡ l.initial.self) × (l.place-end ≡ l.initial.place-end)
+invariant-loop-place l =
+    (l.self ≡ l.initial.self) × ((l.place-end ≡ l.initial.place-end)
+    × ((i : ℕ) (p : Pending) → i < l.place → slice_get l.self.all.items i ≡ Some p → HasSameId p.submission l.event → ⊥))

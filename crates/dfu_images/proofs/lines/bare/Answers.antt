@@ -1,0 +1,33 @@
+use Rattle.std.proofs.Common.{◌≡◌, take, sym, ap, ◌∙◌, arith}
+use Rattle.dfu_images.specs.Lines.{to_last, bare}
+use Rattle.dfu_images.proofs.BareLaws.{all_left, one_less, nothing_left, other_last}
+use Rattle.dfu_images.proofs.lines.bare.Goals as goal
+use Rattle.dfu_images.proofs.lines.bare.Goals.{then-loop-end-test+else-is_blank_byte, else-loop-end-test}
+
+pub loop-end-init : goal.loop-end-init
+loop-end-init c = record { within = omega (arith); blank = all_left c.unblanked-from_first.result.now }
+
+pub bounds-from_first-end : goal.bounds-from_first-end
+bounds-from_first-end c = omega (arith, c.loop-end-test.true, c.loop-end.invariant.within)
+
+pub loop-end-preserved : goal.loop-end-preserved
+loop-end-preserved c = record {
+  within = omega (arith, c.loop-end.invariant.within);
+  blank = one_less c.unblanked-from_first.result.now c.loop-end.end c.loop-end-test.true c.loop-end.invariant.within
+      c.loop-end.invariant.blank (sym c.is_blank_byte.ensures ∙ c.if-is_blank_byte.true);
+}
+
+pub split_at-requires : goal.split_at-requires
+split_at-requires c = c.loop-end.invariant.within
+
+pub returns : goal.returns
+unfolding bare
+returns c =
+    let kept : take c.loop-end.end c.unblanked-from_first.result.now ≡ to_last c.unblanked-from_first.result.now =
+    elim c.loop-end-test.branch [
+      | then-loop-end-test+else-is_blank_byte w ↦ other_last c.unblanked-from_first.result.now c.loop-end.end w.loop-end-test.true
+          c.loop-end.invariant.within c.loop-end.invariant.blank (sym w.is_blank_byte.ensures ∙ w.if-is_blank_byte.false)
+      | else-loop-end-test w ↦ nothing_left c.unblanked-from_first.result.now c.loop-end.end w.loop-end-test.false
+          c.loop-end.invariant.blank
+    ] in
+    c.split_at.ensures.front ∙ kept ∙ ap to_last c.unblanked-from_first.ensures

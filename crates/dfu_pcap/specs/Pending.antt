@@ -1,0 +1,19 @@
+-- Which transfers are pending.
+use Rattle.std.specs.Prelude.{◌≡◌, ◌⊎◌, ℕ, List, slice_get, Some}
+use Rattle.std.specs.List.{swap_remove}
+use Rattle.dfu_pcap.specs.Joining.{HasSameId, IsSameTransfer}
+use Rattle.dfu_pcap.specs.declared.event.UsbEvent.{UsbEvent}
+use Rattle.dfu_pcap.specs.declared.pending.Pending.{Pending}
+
+-- No transfer has the id of this event on its bus.
+abbrev pub LacksId : UsbEvent → List Pending → Type 0
+LacksId event all = (i : ℕ) (p : Pending) → slice_get all i ≡ Some p → HasSameId p.submission event → ⊥
+
+-- A transfer is taken: it was one of these, the last of which has its place now.
+abbrev pub LeavesWithout : Pending → (before after : List Pending) → Type 0
+LeavesWithout p before after = (i : ℕ) × (slice_get before i ≡ Some p) × (after ≡ swap_remove before i p)
+
+-- No transfer has the id of this event, and nothing is taken; or one that has it is taken, of which the event is none.
+abbrev pub LacksSame : UsbEvent → (before after : List Pending) → Type 0
+LacksSame event before after =
+    (LacksId event before × (after ≡ before)) ⊎ ((p : Pending) × LeavesWithout p before after × ¬ IsSameTransfer p.submission event)
