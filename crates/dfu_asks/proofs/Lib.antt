@@ -19,7 +19,7 @@ mod Ended
 pub mod Inside
 mod Sound
 mod Calling
-mod Refuses
+pub mod Refuses
 mod Spared
 mod Partly
 mod Shut
@@ -27,3 +27,12 @@ mod FormatParts
 mod FormatInside
 mod FormatGoing
 mod FormatPieces
+pub mod StallPlans
+pub mod LongPlans
+pub mod LongSetups
+pub mod Verdicts
+pub mod ClosePlans
+pub mod Closing
+pub mod DueTimes
+mod ImagePlaces
+mod Blanks

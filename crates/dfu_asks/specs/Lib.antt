@@ -14,3 +14,11 @@ pub mod Refused
 pub mod Calls
 pub mod Phases
 pub mod Formats
+pub mod Addressed
+pub mod InMode
+pub mod Verdict
+pub mod AfterLong
+pub mod Close
+pub mod Times
+pub mod Blank
+pub mod ActiveImage

@@ -1,11 +1,9 @@
 //! The calls for a device that asks.
 ghost use Rattle.std.specs.Prelude.{◌≡◌, ◌≢◌, ◌≤◌, ℕ, List, [], length, replicate, IfOk, IfErr, OnOk, OnErr, IsErrOf, IfSome, IfNone, IsSome, Some, None};
-ghost use Rattle.dfu_slots.specs.Image.{HasImage};
 ghost use Rattle.dfu_device.specs.Rows.{Handles, Elapses};
 ghost use Rattle.dfu_device.specs.Table.{reset_stage};
 ghost use Rattle.dfu_device.specs.Parts.{stage_of};
 ghost use Rattle.dfu_device.specs.Stage.{state_of, code_of};
-ghost use Rattle.dfu_device.specs.DeviceView.{powered_on};
 ghost use Rattle.dfu_device.specs.Borrowed.{answer_room};
 ghost use Rattle.dfu_asks.specs.declared.pending_writes.PendingWrites.{PendingWrites};
 ghost use Rattle.dfu_asks.specs.Mapped.{grain_of, mapped};
@@ -16,38 +14,11 @@ ghost use Rattle.dfu_asks.specs.Calls.{DeviceCalled, HasAtMost};
 ghost use Rattle.dfu_asks.specs.Refused.{IsKeptOn, IsThere, Fits, IsRefusedCall, IsServed};
 
 use crate::noted::{View, look};
-use crate::{Asking, Mapped, Noted, Refusal, Reply, Sector};
-use dfu_device::{Answer, Config, DeviceState, asked_length, decide, decide_time, goes_with};
-use dfu_slots::Unit;
+use crate::{Asking, Mapped, Refusal, Reply};
+use dfu_device::{Answer, asked_length, decide, decide_time, goes_with};
 use dfu_wire::{Code, Request, Setup, State};
 
 impl Asking {
-    /// A device that is powered on: in appIDLE, with no block, on flash that it reads. The flash is written in this unit, and erased in
-    /// sectors before, or if there are none written over in place. It reads the images, to see which is active.
-    ///
-    /// None exactly if the flash has no active image, or 2^32 bytes or more.
-    pub fn power_on(config: Config, unit: Unit, sector: Sector, flash: &[u8]) -> Option<Asking>
-        ensures device { let m = mapped (grain_of unit sector) flash.now in (block held : List ℕ) →
-            IfSome result (λ a. device_in (lent a block held) flash.now ≡ powered_on config m) }
-        ensures is { (block held : List ℕ) → IfSome result (λ a. IsDevice (lent a block held) flash.now) }
-        ensures work { IfSome result (λ a. (a.work ≡ None) × (a.block_len ≡ 0) × (a.config ≡ config) × (a.unit ≡ unit)) }
-        ensures sector { IfSome result (λ a. a.sector ≡ sector) }
-        ensures none { IfNone result (¬ HasImage (mapped (grain_of unit sector) flash.now)) }
-    {
-        let noted = Noted::find(flash, unit, sector)?;
-        Some(Asking {
-            config,
-            unit,
-            sector,
-            mode: DeviceState::AppIdle,
-            block_len: 0,
-            held_len: 0,
-            put_end: 0,
-            noted,
-            work: None,
-        })
-    }
-
     /// The state of the standard (USB DFU 1.1, section 6.1.2, bState).
     pub fn state(&self) -> State
         ensures { (spare block : List ℕ) → result ≡ state_of (stage_of self.now.mode spare block) }

@@ -7,8 +7,9 @@ ghost use Rattle.dfu_asks.specs.Lent.{lent, IsSetUpAs};
 ghost use Rattle.dfu_asks.specs.Asks.{device_in, IsDevice};
 ghost use Rattle.dfu_asks.specs.Refused.{Fits};
 
+use crate::closes::mode_closes;
 use crate::{Asking, Refusal};
-use dfu_device::{DeviceState, Objection, is_close};
+use dfu_device::{DeviceState, Objection};
 
 impl Asking {
     /// The program refuses the image that this setup closes, as `Device::refuse_close`: true if it closes one, and then the caller stalls
@@ -34,7 +35,7 @@ impl Asking {
         if self.work.is_some() {
             return Err(Refusal::Asked);
         }
-        if !self.mode.may_close(self.config.least()) || !is_close(setup) {
+        if !mode_closes(&self.config, self.mode, setup) {
             return Ok(false);
         }
         self.mode = DeviceState::after_refused_close(objection);

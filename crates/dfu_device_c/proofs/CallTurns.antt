@@ -12,13 +12,13 @@ use Rattle.dfu_board.specs.Board.{Answers}
 use Rattle.dfu_board.specs.Happens.{reply_said}
 use Rattle.dfu_c.specs.declared.records.DfuAsk.{DfuAsk}
 use Rattle.dfu_device_c.specs.Config.{transfer_of}
-use Rattle.dfu_device_c.specs.Addressed.{addressed}
+use Rattle.dfu_asks.specs.Addressed.{addressed}
 use Rattle.dfu_device_c.specs.Kept.{with_memory}
 use Rattle.dfu_device_c.specs.Calls.{IsIntact}
 use Rattle.dfu_device_c.specs.Writes.{ask_step, HandsOut, RefusesPiece, refuses_unfound, refuses_piece}
 use Rattle.dfu_device_c.specs.declared.numbers.Refusal.TheVariants as refusal
 use Rattle.dfu_device_c.specs.Idle.{RefusesSetup}
-use Rattle.dfu_device_c.specs.Verdict.{IsBodyOf}
+use Rattle.dfu_asks.specs.Verdict.{IsBodyOf}
 use Rattle.dfu_asks.specs.declared.reply.Reply.TheVariants as reply
 use Rattle.dfu_asks.specs.Calls.{DeviceCalled, called_ended}
 use Rattle.dfu_device.specs.Rows.{Handles}

@@ -11,7 +11,7 @@ use Rattle.dfu_board.specs.Board.{Nothing, Answers}
 use Rattle.dfu_board.specs.Happens.{start_stage, BoardStarts, IsObjected, Happens}
 use Rattle.dfu_device_c.specs.declared.config.DfuConfig.{DfuConfig}
 use Rattle.dfu_device_c.specs.declared.record.DfuRecord.{DfuRecord}
-use Rattle.dfu_device_c.specs.Addressed.{addressed}
+use Rattle.dfu_asks.specs.Addressed.{addressed}
 use Rattle.dfu_device_c.specs.Kept.{IsKept, block_in, held_back_in, with_memory}
 use Rattle.dfu_device_c.specs.Writes.{ask_step}
 use Rattle.dfu_device_c.specs.Power.{Powers}

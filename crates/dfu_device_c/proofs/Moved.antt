@@ -1,10 +1,8 @@
 -- A record of which only the mode changed is that device in the other mode.
-use Rattle.std.proofs.Common.{◌≡◌, ◌&&◌, Bool, true, IsTrue, Option, Some, None, ℕ, List, [], length, refl, sym, ap, ◌∙◌, subst, arith}
-use Rattle.std.proofs.lemmas.Grind.{common_steps}
-use Rattle.dfu_slots.specs.Seen.{SlotsState, is_shaped}
+use Rattle.std.proofs.Common.{◌≡◌, IsTrue, Option, Some, None, ℕ, List, [], length, refl, sym, ap, ◌∙◌, subst, arith}
 use Rattle.dfu_device.specs.declared.answer.Answer.{Answer}
 use Rattle.dfu_device.specs.declared.device_state.DeviceState.{DeviceState}
-use Rattle.dfu_device.specs.Parts.{is_sound, is_filled}
+use Rattle.dfu_device.specs.Parts.{is_filled}
 use Rattle.dfu_device.specs.Rows.{Cause, Row}
 use Rattle.dfu_asks.specs.declared.asking.Asking.{Asking}
 use Rattle.dfu_asks.specs.declared.pending_writes.PendingWrites.{PendingWrites}
@@ -12,6 +10,7 @@ use Rattle.dfu_asks.specs.declared.pending_writes.SlotWrite.{SlotWrite}
 use Rattle.dfu_asks.specs.declared.pending_writes.SlotWrite.TheVariants as slot_write
 use Rattle.dfu_asks.specs.Lent.{LentAsking}
 use Rattle.dfu_asks.specs.Asks.{store_in, device_in, IsDevice}
+use Rattle.dfu_asks.proofs.Refuses.{enters}
 use Rattle.dfu_device_c.specs.declared.config.DfuConfig.{DfuConfig}
 use Rattle.dfu_device_c.specs.declared.record.DfuRecord.{DfuRecord}
 use Rattle.dfu_device_c.specs.Config.{setting_of}
@@ -27,23 +26,6 @@ none_kept r (Some w) is has = absurd (some_job r w.job is has.0)
     some_job : (r : DfuRecord) (j : SlotWrite) → r.work ≡ 0 → HasJob r j → ⊥
     some_job r (slot_write.Block spare close) is has = omega (arith, is, has.0)
     some_job r (slot_write.Commit spare generation register) is has = omega (arith, is, has.0)
-
--- What a device has in its store goes with a mode in which nothing is put.
-moved_sound : (s : SlotsState) (m m' : DeviceState) (n : ℕ) → IsTrue (is_sound m n s) → is_filled m' n s ≡ true → IsTrue (is_sound m' n s)
-moved_sound s m m' n sound free = both (is_shaped s) (is_filled m n s) (is_filled m' n s) sound free
-  where
-    both : (x y z : Bool) → IsTrue (x && y) → z ≡ true → IsTrue (x && z)
-    both x y z t e = grind (arith, common_steps, t, e)
-
--- So a device of which only the mode changed is a device.
-pub moved_device : (l : LentAsking) (m' : DeviceState) (flash : List ℕ) → IsDevice l flash
-    → is_filled m' (length l.block) (store_in l flash) ≡ true
-    → IsDevice (record l { mode = m' }) flash
-moved_device l m' flash device free = record {
-  store = device.store;
-  sound = moved_sound (store_in l flash) l.mode m' (length l.block) device.sound free;
-  noted = device.noted;
-}
 
 module _ (c : DfuConfig) (r r' : DfuRecord) (m m' : DeviceState) (the_mode : (x : DeviceState) → HasMode r x → m ≡ x) (idle : r.work ≡ 0)
     (moved : HasMode r' m') (rest : r' ≡ record r {
@@ -88,7 +70,7 @@ module _ (c : DfuConfig) (r r' : DfuRecord) (m m' : DeviceState) (the_mode : (x 
     λ block flash device.
         let l : LentAsking = with_memory block a in
         let led = leads l flash kept.set_up.config_is (the_mode a.mode kept.mode) device in (
-          moved_device l m' flash device led.0,
+          enters l m' flash device led.0,
           led.1,
         ),
   )

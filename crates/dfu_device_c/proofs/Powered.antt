@@ -70,7 +70,8 @@ powers c flash config unit sector noted r' allowed set_up is_noted image notes r
         slots = store_on (mapped (record { unit = set_up.unit_is i; sector = set_up.sector_is i }) flash);
         stage = stage_of device_state.AppIdle [] [];
       };
-      rest = rest ∙ ap (λ (n : ℕ). record blank { mode = n; slot = r'.slot; header = r'.header }) (sym (ap (λ (x : DfuRecord). x.mode) rest));
+      rest = rest ∙ ap (λ (n : ℕ). record blank { mode = n; slot = r'.slot; header = r'.header })
+          (sym (ap (λ (x : DfuRecord). x.mode) rest));
     }
 
 -- With the number of dfuIDLE it is that device in dfuIDLE.

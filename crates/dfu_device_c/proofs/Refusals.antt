@@ -1,15 +1,14 @@
 -- What a refusal of the program makes of the device that a record is.
-use Rattle.std.proofs.Common.{◌≡◌, ℕ, Bool, true, IsTrue, List, [], length, refl, sym, ap, ◌∙◌, subst}
+use Rattle.std.proofs.Common.{◌≡◌, ℕ, true, IsTrue, List, [], length, refl, sym, ap, ◌∙◌, subst}
 use Rattle.dfu_slots.specs.Seen.{SlotsState, spare_of}
 use Rattle.dfu_device.specs.declared.answer.Answer.TheVariants as answer
 use Rattle.dfu_device.specs.declared.device_state.DeviceState.{DeviceState}
 use Rattle.dfu_device.specs.declared.objection.Objection.{Objection}
-use Rattle.dfu_device.specs.Decision.{HoldsWritten}
 use Rattle.dfu_device.specs.Parts.{stage_of, is_filled, is_sound}
-use Rattle.dfu_device.specs.Rows.{IsCloseSetup, RefusingClose, Refusing, Row}
+use Rattle.dfu_device.specs.Rows.{ClosesDownload, RefusingClose, Refusing, Row}
 use Rattle.dfu_device.specs.Stage.{InError}
-use Rattle.dfu_device.specs.Table.{objection_code, may_close, refuse_stage}
-use Rattle.dfu_device.proofs.Carried.{filled, holds_written}
+use Rattle.dfu_device.specs.Table.{objection_code, refuse_stage}
+use Rattle.dfu_device.proofs.Carried.{filled}
 use Rattle.dfu_asks.specs.Lent.{LentAsking}
 use Rattle.dfu_asks.specs.Asks.{store_in, device_in, IsDevice}
 use Rattle.dfu_device_c.specs.declared.config.DfuConfig.{DfuConfig}
@@ -22,12 +21,6 @@ module _ (c : DfuConfig) (m m' : DeviceState) (why : Objection) (l : LentAsking)
 
   sound : IsTrue (is_sound m (length l.block) s)
   sound = subst (λ (x : DeviceState). IsTrue (is_sound x (length l.block) s)) (sym mode) device.sound
-
-  -- Its mode decides whether the download may be closed.
-  pub may_is : (b : Bool) → ((spare block : List ℕ) → HoldsWritten m spare → b ≡ may_close c.least (stage_of m spare block))
-      → b ≡ may_close l.config.least (device_in l flash).stage
-  may_is b may = may (spare_of s) l.block (holds_written m (length l.block) s sound)
-      ∙ (λ i. may_close (sym config i).least (stage_of (mode i) (spare_of s) l.block))
 
   -- An image that was closed.
   pub refuse_leads : ((spare block : List ℕ) → stage_of m' spare block ≡ refuse_stage why (stage_of m spare block))
@@ -45,18 +38,12 @@ module _ (c : DfuConfig) (m m' : DeviceState) (why : Objection) (l : LentAsking)
   )
 
   -- One that this setup closes.
-  pub close_leads : (setup : List ℕ) (b : Bool) → IsCloseSetup setup
-      → ((spare block : List ℕ) → HoldsWritten m spare → b ≡ may_close c.least (stage_of m spare block)) → b ≡ true
+  pub close_leads : (setup : List ℕ) → ClosesDownload setup (device_in l flash)
       → ((spare block : List ℕ) → stage_of m' spare block ≡ InError (objection_code why))
       → ((n : ℕ) (x : SlotsState) → is_filled m' n x ≡ true)
       → IsTrue (is_filled m' (length l.block) s)
       × Row (device_in l flash) (RefusingClose setup why) answer.Stall [] (device_in (record l { mode = m' }) flash)
-  close_leads setup b close may on stage fills = (
+  close_leads setup closes stage fills = (
     fills (length l.block) s,
-    (
-      refl,
-      refl,
-      (close, sym (may_is b may) ∙ on),
-      ap (λ st. record (device_in l flash) { stage = st }) (stage (spare_of s) l.block),
-    ),
+    (refl, refl, closes, ap (λ st. record (device_in l flash) { stage = st }) (stage (spare_of s) l.block)),
   )

@@ -1,38 +1,22 @@
--- When the time that passes changes the state of a device.
-use Rattle.std.specs.Prelude.{◌≡◌, ◌≢◌, ◌-◌, ◌^◌, ◌<◌, ◌≤◌, max, ℕ, ℤ, pos, if◌then◌else◌, List}
-use Rattle.dfu_device.specs.declared.device_state.DeviceState.{DeviceState}
-use Rattle.dfu_device.specs.declared.device_state.DeviceState.TheVariants as device_state
-use Rattle.dfu_device.specs.Stage.{state_of}
+-- When the time that passes changes the state of a device, for a program in C.
+use Rattle.std.specs.Prelude.{◌≡◌, ◌-◌, ◌^◌, min, ℕ, ℤ, pos, List}
 use Rattle.dfu_device.specs.Rows.{Elapses}
-use Rattle.dfu_device.specs.Setting.{Setting}
 use Rattle.dfu_device.specs.DeviceView.{DeviceView}
 use Rattle.dfu_asks.specs.declared.asking.Asking.{Asking}
 use Rattle.dfu_asks.specs.Asks.{device_in, IsDevice}
+use Rattle.dfu_asks.specs.Times.{ChangesOnceDue}
 use Rattle.dfu_device_c.specs.declared.config.DfuConfig.{DfuConfig}
 use Rattle.dfu_device_c.specs.declared.record.DfuRecord.{DfuRecord}
 use Rattle.dfu_device_c.specs.Kept.{IsKept, with_memory}
-
--- In how many milliseconds the state of this mode changes; 0 if no time changes it.
-abbrev pub due_of : Setting → DeviceState → ℕ
-due_of s (device_state.AppDetach timer passed) = if s.functional.will_detach then 1 else max 1 (timer - passed)
-due_of s (device_state.DownloadBusy written number passed) = max 1 (s.busy_ms - passed)
-due_of s (device_state.Manifest written passed) = max 1 (s.manifest_ms - passed)
-due_of s m = 0
 
 -- The largest number of milliseconds that is said: it says as many or more.
 abbrev pub LATEST : ℕ
 LATEST = 2 ^ 31 - 1
 
--- So many milliseconds leave the state as it is before a change is due, and change it from then on; if none is due they change nothing.
-pub record ChangesOnceDue (due ms : ℕ) (d d' : DeviceView) : Type 0 where
-  pub none : due ≡ 0 → d' ≡ d
-  pub before : ms < due → state_of d'.stage ≡ state_of d.stage
-  pub from : 0 < due → due < LATEST → due ≤ ms → state_of d'.stage ≢ state_of d.stage
-
 -- The result says when a change of the state is due, of each device that the record is.
 pub record ToldDue (c : DfuConfig) (r : DfuRecord) (result : ℤ) : Type 0 where
   pub due : ℕ
-  pub number_is : result ≡ pos due
+  pub number_is : result ≡ pos (min LATEST due)
   pub told : (block flash : List ℕ) (a : Asking) → IsKept c r a → IsDevice (with_memory block a) flash → (ms : ℕ) (d' : DeviceView)
       → Elapses ms (device_in (with_memory block a) flash) d'
       → ChangesOnceDue due ms (device_in (with_memory block a) flash) d'

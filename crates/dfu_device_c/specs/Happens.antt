@@ -10,15 +10,15 @@ use Rattle.dfu_device.specs.Borrowed.{answer_room}
 use Rattle.dfu_asks.specs.Asks.{device_in}
 use Rattle.dfu_c.specs.declared.records.DfuAsk.{DfuAsk}
 use Rattle.dfu_device_c.specs.Config.{setting_of, transfer_of}
-use Rattle.dfu_device_c.specs.Addressed.{addressed}
+use Rattle.dfu_asks.specs.Addressed.{addressed}
 use Rattle.dfu_device_c.specs.Kept.{with_memory}
 use Rattle.dfu_device_c.specs.Numbers.{reply_number, STALL, NOT_LONG}
 use Rattle.dfu_device_c.specs.Calls.{Goes, Replied, TimePassed, Went, CoreRefuses, HasNoRoom, IsIntact}
 use Rattle.dfu_device_c.specs.Writes.{ask_step, HandsOut, RefusesPiece, AsksOnSomeFlash}
 use Rattle.dfu_device_c.specs.Power.{Powers}
 use Rattle.dfu_device_c.specs.Idle.{IsIdleRecord, RefusesSetup}
-use Rattle.dfu_device_c.specs.Verdict.{IsBodyOf}
-use Rattle.dfu_device_c.specs.AfterLong.{IsLong}
+use Rattle.dfu_asks.specs.Verdict.{IsBodyOf}
+use Rattle.dfu_asks.specs.AfterLong.{IsLong}
 use Rattle.dfu_device_c.specs.Long.{TakesLong}
 use Rattle.dfu_device_c.specs.Refuse.{CloseRefused, WasRefused}
 use Rattle.dfu_device_c.specs.Board.{CoreBoard, CoreEvent, CoreHandle, CoreElapse, CoreReset, CoreTooLong, CoreRefuseClose, CoreRefuse, CoreWrite, CoreTook, CoreRestart, CoreStep}
@@ -59,8 +59,9 @@ Reset b n b' =
 abbrev pub TooLongCalled : CoreBoard → (setup : List ℕ) → ℤ → CoreBoard → Type 0
 TooLongCalled b setup n b' =
     let own = addressed b.config.interface setup in
-    ((n ≡ STALL) × IsIdleRecord b.config b.kept × IsLong b.config own × TakesLong b.config b.kept own b'.kept)
-    ⊎ ((b'.kept ≡ b.kept) × (((n ≡ NOT_LONG) × IsIdleRecord b.config b.kept × ¬ IsLong b.config own) ⊎ RefusesSetup b.config b.kept n))
+    ((n ≡ STALL) × IsIdleRecord b.config b.kept × IsLong (setting_of b.config) own × TakesLong b.config b.kept own b'.kept)
+    ⊎ ((b'.kept ≡ b.kept) × (((n ≡ NOT_LONG) × IsIdleRecord b.config b.kept × ¬ IsLong (setting_of b.config) own)
+    ⊎ RefusesSetup b.config b.kept n))
 
 -- What the clause of dfu_core_took says, with this number for a failure and this buffer.
 abbrev pub Told : CoreBoard → (failed : ℕ) (out : List ℕ) → ℤ → List ℕ → CoreBoard → Type 0

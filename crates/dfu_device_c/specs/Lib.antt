@@ -1,5 +1,4 @@
 pub mod Config
-pub mod Addressed
 pub mod Mode
 pub mod Kept
 pub mod Numbers
@@ -11,8 +10,6 @@ pub mod Blank
 pub mod Candidate
 pub mod Formatting
 pub mod Formats
-pub mod Verdict
-pub mod AfterLong
 pub mod Stalls
 pub mod Closes
 pub mod Refuse

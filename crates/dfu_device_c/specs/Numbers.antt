@@ -1,5 +1,5 @@
 -- The numbers that a program in C gets.
-use Rattle.std.specs.Prelude.{ℕ, ℤ, pos, negsuc}
+use Rattle.std.specs.Prelude.{ℕ, ℤ, pos, negsuc, Bool, true, false}
 use Rattle.dfu_slots.specs.declared.fault.FormatFault.{FormatFault}
 use Rattle.dfu_slots.specs.declared.fault.FormatFault.TheVariants as fault
 use Rattle.dfu_device.specs.declared.answer.Answer.{Answer}
@@ -89,6 +89,11 @@ reply_number (reply.Answered x count) = answer_number x count
 abbrev pub passed_number : Reply → ℤ
 passed_number reply.Asks = ASKS
 passed_number (reply.Answered x count) = pos 0
+
+-- The number of a yes or a no.
+abbrev pub told_number : Bool → ℤ
+told_number true = pos 1
+told_number false = pos 0
 
 -- The number of a fault of a format: DFU_WRONG_SIZE, DFU_TOO_LARGE or DFU_NOT_WRITTEN.
 abbrev pub format_number : FormatFault → ℤ

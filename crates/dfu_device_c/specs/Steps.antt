@@ -4,7 +4,7 @@ use Rattle.dfu_asks.specs.declared.asking.Asking.{Asking}
 use Rattle.dfu_board.specs.Board.{Board, Event, Handle, Elapse, UsbReset, RefuseClose, Refuse, Write, Took, Restart, Says, Nothing, WritesDue, Answers, BoardStep}
 use Rattle.dfu_device_c.specs.declared.config.DfuConfig.{DfuConfig}
 use Rattle.dfu_device_c.specs.declared.numbers.Refusal.{Refusal}
-use Rattle.dfu_device_c.specs.Addressed.{addressed}
+use Rattle.dfu_asks.specs.Addressed.{addressed}
 use Rattle.dfu_device_c.specs.Kept.{IsKept, block_in, held_back_in}
 use Rattle.dfu_c.specs.Numbers.{ASKS}
 use Rattle.dfu_device_c.specs.Numbers.{refusal_number, answer_number, NO_ROOM, NOT_LONG, NO_CLOSE, NO_STATUS}

@@ -1,19 +1,10 @@
 //! Whether the flash reads as if it was never written, so that a program can tell a new board from a damaged one.
-ghost use Rattle.std.specs.Prelude.{◌≡◌, ◌⊎◌, ◌+◌, ◌≤◌, length, slice_range};
-ghost use Rattle.std.specs.List.{list_all};
-ghost use Rattle.dfu_device_c.specs.Blank.{reads_erased, ToldBlank, RefusesBlank};
+ghost use Rattle.std.specs.Prelude.{◌⊎◌};
+ghost use Rattle.dfu_device_c.specs.Blank.{ToldBlank, RefusesBlank};
 
-use crate::config::{DfuConfig, gate_of, settings_of};
+use crate::config::{DfuConfig, settings_of};
+use crate::numbers::told_number;
 use dfu_asks::Mapped;
-use dfu_slots::is_sized;
-
-// Whether so many bytes from there on are FFh.
-fn is_erased(flash: &[u8], at: usize, len: usize) -> bool
-    requires { at + len ≤ length flash.now }
-    ensures { result ≡ list_all reads_erased (slice_range flash.now at (at + len)) }
-{
-    flash[at..at + len].iter().all(|byte| *byte == 0xff)
-}
 
 /// Whether the flash reads as if it was never written: 1 if every byte that the gates and the headers of both slots take up is FFh, and
 /// then there is no active image; 0 if one is not.
@@ -31,13 +22,8 @@ pub extern "C" fn dfu_core_is_blank(config: &DfuConfig, flash: &[u8]) -> i32
     let Some(medium) = Mapped::with_sectors(flash, settings.unit, sector) else {
         return -3;
     };
-    if !is_sized(&medium) {
-        return -6;
-    }
-    let front = 2 * gate_of(settings.unit, sector) as usize;
-    if is_erased(flash, 0, front) && is_erased(flash, flash.len() / 2, front) {
-        1
-    } else {
-        0
+    match medium.is_blank() {
+        Some(said) => told_number(said),
+        None => -6,
     }
 }

@@ -8,18 +8,18 @@ ghost use Rattle.dfu_device.specs.Rows.{Handles, Elapses};
 ghost use Rattle.dfu_device.specs.Table.{reset_stage};
 ghost use Rattle.dfu_device.specs.Borrowed.{answer_room};
 ghost use Rattle.dfu_asks.specs.Asks.{device_in};
-ghost use Rattle.dfu_device_c.specs.Addressed.{addressed};
+ghost use Rattle.dfu_asks.specs.Addressed.{addressed};
 ghost use Rattle.dfu_device_c.specs.Calls.{Goes, Went, Replied, TimePassed, CoreRefuses, HasNoRoom, IsIntact};
 ghost use Rattle.dfu_device_c.specs.Config.{setting_of, transfer_of};
 ghost use Rattle.dfu_device_c.specs.Kept.{with_memory};
 ghost use Rattle.dfu_device_c.specs.Numbers.{reply_number, NO_ROOM};
 ghost use Rattle.dfu_device_c.specs.Writes.{HandsOut, RefusesPiece, HandsNothing, AsksOnSomeFlash};
 
-use crate::config::{DfuConfig, addressed};
+use crate::config::DfuConfig;
 use crate::keeping::{found, keep};
 use crate::numbers::{NO_ROOM, Refusal, kind_of, number_of, refused, room_for};
 use crate::record::DfuRecord;
-use dfu_asks::Reply;
+use dfu_asks::{Reply, addressed};
 use dfu_c::{ASKS, DfuAsk};
 use dfu_device::Answer;
 

@@ -1,13 +1,14 @@
 //! Whether a setup closes a download, said before it is handed in: the program's own check of the image comes then.
 ghost use Rattle.std.specs.Prelude.{◌≡◌, ◌⊎◌, pos};
-ghost use Rattle.dfu_device_c.specs.Addressed.{addressed};
+ghost use Rattle.dfu_asks.specs.Addressed.{addressed};
 ghost use Rattle.dfu_device_c.specs.Closes.{ToldClose};
 ghost use Rattle.dfu_device_c.specs.Idle.{IsIdleRecord, RefusesSetup};
 
-use crate::config::{DfuConfig, addressed};
+use crate::config::DfuConfig;
 use crate::mode::idle_mode;
+use crate::numbers::told_number;
 use crate::record::DfuRecord;
-use dfu_device::is_close;
+use dfu_asks::{addressed, mode_closes};
 
 /// Whether this setup closes a download: 1 or 0. With 1 `dfu_core_handle` would acknowledge it, and all bytes taken would wait to be put in
 /// place; with 0 it would do nothing of the kind.
@@ -19,14 +20,10 @@ pub extern "C" fn dfu_core_closes(config: &DfuConfig, device: &DfuRecord, setup:
         × ToldClose config.now device.now (addressed config.now.interface setup.now) result)
         ⊎ RefusesSetup config.now device.now result }
 {
-    let mode = match idle_mode(config, device) {
-        Ok(mode) => mode,
+    let (settings, mode) = match idle_mode(config, device) {
+        Ok(found) => found,
         Err(refusal) => return refusal.number(),
     };
     let own = addressed(config.interface, setup);
-    if mode.may_close(config.least) && is_close(&own) {
-        1
-    } else {
-        0
-    }
+    told_number(mode_closes(&settings.config, mode, &own))
 }

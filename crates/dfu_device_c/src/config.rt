@@ -1,8 +1,6 @@
 //! What a program in C sets a device up with.
-ghost use Rattle.std.specs.Prelude.{◌≡◌, ◌⊎◌, ◌≤◌, ◌^◌, IfSome, IfNone, OnSome, IsTrue, not, pos};
+ghost use Rattle.std.specs.Prelude.{◌≡◌, ◌⊎◌, IfSome, IfNone, OnSome, IsTrue, not, pos};
 ghost use Rattle.dfu_wire.specs.Functional.{IsFunctional};
-ghost use Rattle.dfu_slots.specs.Units.{gate_room};
-ghost use Rattle.dfu_device_c.specs.Addressed.{addressed};
 ghost use Rattle.dfu_device_c.specs.Config.{version, setting_of, unit_of, IsConfig};
 ghost use Rattle.dfu_device_c.specs.Numbers.{NO_CONFIG};
 
@@ -134,25 +132,6 @@ pub(crate) fn settings_of(config: &DfuConfig) -> Option<Settings>
         }),
         Err(_) => None,
     }
-}
-
-/// How many bytes the gate of a slot has for itself, and its header as many, in flash that is written in this unit and these sectors: the
-/// largest of 16, the unit and the sector.
-pub(crate) fn gate_of(unit: Unit, sector: u32) -> u32
-    requires { sector ≤ 2 ^ 17 }
-    ensures value { result ≡ gate_room (record { unit = unit; sector = sector }) }
-    ensures most { result ≤ 2 ^ 17 }
-{
-    unit.size().max(16).max(sector)
-}
-
-/// The setup with wIndex 0 if that is the number of this interface, and with another one if it isn't.
-pub(crate) fn addressed(interface: u8, setup: &[u8; 8]) -> [u8; 8]
-    ensures { result ≡ addressed interface setup.now }
-{
-    let mut own = *setup;
-    own[4] = u8::from(setup[4] != interface);
-    own
 }
 
 /// The functional descriptor, 9 bytes, at the front of `out`: 9. Refused with -2 if the configuration is not allowed.

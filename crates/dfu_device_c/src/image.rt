@@ -1,40 +1,15 @@
 //! Where an image is: the active one, which a program is to run, and one that was taken and is not in place yet.
-ghost use Rattle.std.specs.Prelude.{◌≡◌, ◌⊎◌, ◌/◌, ◌≤◌, IfSome, IfNone, if◌then◌else◌};
+ghost use Rattle.std.specs.Prelude.{◌≡◌, ◌⊎◌};
 ghost use Rattle.dfu_device_c.specs.Candidate.{HasCandidate, HasNone, RefusesCandidate};
-ghost use Rattle.dfu_device_c.specs.Power.{IsNoMedium, RefusesPower};
-ghost use Rattle.dfu_device_c.specs.Image.{ImageIsAt, ImageIsFound};
+ghost use Rattle.dfu_device_c.specs.Power.{RefusesPower};
+ghost use Rattle.dfu_device_c.specs.Image.{ImageIsFound};
 
-use crate::config::{DfuConfig, gate_of, settings_of};
+use crate::config::{DfuConfig, settings_of};
 use crate::keeping::found;
 use crate::numbers::{Refusal, refused};
 use crate::record::DfuRecord;
-use dfu_asks::{Noted, Sector};
+use dfu_asks::ImagePlace;
 use dfu_c::DfuPlace;
-use dfu_slots::{Unit, length_in};
-
-// Where a slot begins in flash of so many bytes.
-fn slot_at(second: bool, size: usize) -> usize
-    ensures value { result ≡ (if second then size / 2 else 0) }
-    ensures most { result ≤ size / 2 }
-{
-    if second { size / 2 } else { 0 }
-}
-
-// Where the active image is in this flash, if there is one.
-fn find(unit: Unit, sector: Sector, flash: &[u8]) -> Option<DfuPlace>
-    ensures some { IfSome result (λ place. ImageIsAt (record { unit = unit; sector = sector.size }) flash.now place) }
-    ensures none { IfNone result (IsNoMedium (record { unit = unit; sector = sector.size }) flash.now) }
-{
-    if flash.len() > 0xffff_ffff {
-        return None;
-    }
-    let noted = Noted::find(flash, unit, sector)?;
-    let slot = slot_at(noted.second, flash.len());
-    Some(DfuPlace {
-        at: slot as u32 + 2 * gate_of(unit, sector.size()),
-        length: length_in(&noted.header),
-    })
-}
 
 /// Where the active image is in its flash: 0, and `place` has it.
 ///
@@ -47,9 +22,10 @@ pub extern "C" fn dfu_core_image(config: &DfuConfig, flash: &[u8], place: &mut D
     let Some(settings) = settings_of(config) else {
         return -2;
     };
-    match find(settings.unit, settings.sector, flash) {
+    match ImagePlace::find(flash, settings.unit, settings.sector) {
         Some(found) => {
-            *place = found;
+            place.at = found.at;
+            place.length = found.len;
             0
         }
         None => -3,

@@ -3,11 +3,12 @@ ghost use Rattle.std.specs.Prelude.{◌≡◌, IfSome, IfOk, IfErr, OnOk, IsTrue
 ghost use Rattle.dfu_wire.specs.Code.{code_byte};
 ghost use Rattle.dfu_device.specs.declared.device_state.DeviceState.{DeviceState as KeptMode};
 ghost use Rattle.dfu_device_c.specs.Config.{IsConfig};
+ghost use Rattle.dfu_device_c.specs.Kept.{IsSetUp};
 ghost use Rattle.dfu_device_c.specs.Mode.{HasMode, HasNumbers, ChangesOnlyMode};
 ghost use Rattle.dfu_device_c.specs.Numbers.{refusal_number};
 ghost use Rattle.dfu_device_c.specs.Idle.{IsIdleRecord, RefusesRecord, RefusesSetup};
 
-use crate::config::{DfuConfig, VERSION, is_allowed};
+use crate::config::{DfuConfig, Settings, VERSION, settings_of};
 use crate::numbers::Refusal;
 use crate::record::DfuRecord;
 use dfu_device::DeviceState;
@@ -81,33 +82,41 @@ pub(crate) fn has_mode(kept: &DfuRecord) -> bool
     }
 }
 
-/// The mode of a record, if the configuration is allowed and the record has one.
-pub(crate) fn mode_in(config: &DfuConfig, kept: &DfuRecord) -> Result<DeviceState, Refusal>
-    ensures only { IfOk result (λ m. (x : KeptMode) → HasMode kept.now x → m ≡ x) }
-    ensures mode { IfOk result (λ m. HasMode kept.now m) }
+/// What the configuration sets up and the mode of a record, if the configuration is allowed and the record has a mode.
+pub(crate) fn mode_in(
+    config: &DfuConfig,
+    kept: &DfuRecord,
+) -> Result<(Settings, DeviceState), Refusal>
+    ensures set_up { IfOk result (λ r. IsSetUp config.now r.0.config r.0.unit r.0.sector) }
+    ensures only { IfOk result (λ r. (x : KeptMode) → HasMode kept.now x → r.1 ≡ x) }
+    ensures mode { IfOk result (λ r. HasMode kept.now r.1) }
     ensures config { OnOk result (IsConfig config.now) }
     ensures err { IfErr result (λ e. RefusesRecord config.now kept.now (refusal_number e)) }
 {
-    if !is_allowed(config) {
+    let Some(settings) = settings_of(config) else {
         return Err(Refusal::NoConfig);
-    }
+    };
     match mode_of(kept) {
-        Some(mode) => Ok(mode),
+        Some(mode) => Ok((settings, mode)),
         None => Err(Refusal::NoDevice),
     }
 }
 
 /// The same, if no writes are due either.
-pub(crate) fn idle_mode(config: &DfuConfig, kept: &DfuRecord) -> Result<DeviceState, Refusal>
-    ensures only { IfOk result (λ m. (x : KeptMode) → HasMode kept.now x → m ≡ x) }
+pub(crate) fn idle_mode(
+    config: &DfuConfig,
+    kept: &DfuRecord,
+) -> Result<(Settings, DeviceState), Refusal>
     ensures idle { OnOk result (IsIdleRecord config.now kept.now) }
     ensures err { IfErr result (λ e. RefusesSetup config.now kept.now (refusal_number e)) }
+    ensures only { IfOk result (λ r. (x : KeptMode) → HasMode kept.now x → r.1 ≡ x) }
+    ensures set_up { IfOk result (λ r. IsSetUp config.now r.0.config r.0.unit r.0.sector) }
 {
-    let mode = mode_in(config, kept)?;
+    let (settings, mode) = mode_in(config, kept)?;
     if kept.work != 0 {
         return Err(Refusal::Asked);
     }
-    Ok(mode)
+    Ok((settings, mode))
 }
 
 // The numbers of a mode: its own, `first`, `second` and `number`.

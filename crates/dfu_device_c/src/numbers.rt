@@ -2,7 +2,7 @@
 ghost use Rattle.std.specs.Prelude.{◌≡◌, ◌≤◌, if◌then◌else◌};
 ghost use Rattle.dfu_device.specs.Borrowed.{answer_room};
 ghost use Rattle.dfu_device_c.specs.Config.{setting_of};
-ghost use Rattle.dfu_device_c.specs.Numbers.{answer_number, refusal_number, refusal_of};
+ghost use Rattle.dfu_device_c.specs.Numbers.{answer_number, refusal_number, refusal_of, told_number};
 
 use crate::config::DfuConfig;
 use dfu_c::{ERASE, PROGRAM};
@@ -63,6 +63,13 @@ pub(crate) fn number_of(answer: Answer, count: usize) -> i32
         Answer::Bytes => count as i32,
         Answer::Stall => -1,
     }
+}
+
+/// The number of a yes or a no.
+pub(crate) fn told_number(said: bool) -> i32
+    ensures { result ≡ told_number said }
+{
+    if said { 1 } else { 0 }
 }
 
 /// How many bytes of room an answer needs.

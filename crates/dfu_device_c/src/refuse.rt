@@ -1,12 +1,13 @@
 //! The program refuses an image: only the record is needed.
 ghost use Rattle.std.specs.Prelude.{◌≡◌, IfSome, IfNone};
-ghost use Rattle.dfu_device_c.specs.Addressed.{addressed};
+ghost use Rattle.dfu_asks.specs.Addressed.{addressed};
 ghost use Rattle.dfu_device_c.specs.Refuse.{objection_in, IsObjection, WasRefused, CloseRefused};
 
-use crate::config::{DfuConfig, addressed};
+use crate::config::DfuConfig;
 use crate::mode::{idle_mode, set_mode};
 use crate::record::DfuRecord;
-use dfu_device::{DeviceState, Objection, is_close};
+use dfu_asks::{addressed, mode_closes};
+use dfu_device::{DeviceState, Objection};
 
 // The objection of a status, which is errTARGET or errFILE.
 fn objection_of(status: u32) -> Option<Objection>
@@ -27,8 +28,8 @@ fn objection_of(status: u32) -> Option<Objection>
 pub extern "C" fn dfu_core_refuse(config: &DfuConfig, device: &mut DfuRecord, status: u32) -> i32
     ensures outcome { WasRefused config.now device.old status result device.new }
 {
-    let mode = match idle_mode(config, device) {
-        Ok(mode) => mode,
+    let (_, mode) = match idle_mode(config, device) {
+        Ok(found) => found,
         Err(refusal) => return refusal.number(),
     };
     let Some(objection) = objection_of(status) else {
@@ -50,15 +51,15 @@ pub extern "C" fn dfu_core_refuse_close(
 ) -> i32
     ensures outcome { CloseRefused config.now device.old (addressed config.now.interface setup.now) status result device.new }
 {
-    let mode = match idle_mode(config, device) {
-        Ok(mode) => mode,
+    let (settings, mode) = match idle_mode(config, device) {
+        Ok(found) => found,
         Err(refusal) => return refusal.number(),
     };
     let Some(objection) = objection_of(status) else {
         return -14;
     };
     let own = addressed(config.interface, setup);
-    if !mode.may_close(config.least) || !is_close(&own) {
+    if !mode_closes(&settings.config, mode, &own) {
         return -13;
     }
     set_mode(device, DeviceState::after_refused_close(objection));

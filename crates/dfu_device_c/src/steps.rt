@@ -6,8 +6,8 @@ ghost use Rattle.dfu_device_c.specs.Happens.{CoreHappens, IsCoreOn};
 ghost use Rattle.dfu_slots.specs.Medium.{Torn};
 ghost use Rattle.dfu_device_c.specs.Writes.{ask_step};
 ghost use Rattle.dfu_device_c.specs.Config.{transfer_of};
-ghost use Rattle.dfu_device_c.specs.Addressed.{addressed};
-ghost use Rattle.dfu_device_c.specs.Verdict.{IsBodyOf};
+ghost use Rattle.dfu_asks.specs.Addressed.{addressed};
+ghost use Rattle.dfu_asks.specs.Verdict.{IsBodyOf};
 ghost use Rattle.dfu_device.specs.declared.device_state.DeviceState.TheVariants.{AppIdle, DfuIdle};
 ghost use Rattle.dfu_device_c.specs.Power.{Powers, RefusesPower};
 

@@ -1,19 +1,20 @@
 //! What a record by itself shows: the state, the code, and when time changes them.
-ghost use Rattle.std.specs.Prelude.{◌≡◌, ◌⊎◌, ◌-◌, max, min, pos, List, ℕ};
+ghost use Rattle.std.specs.Prelude.{◌≡◌, ◌⊎◌, min, pos, List, ℕ, IfSome, IfNone};
 ghost use Rattle.dfu_wire.specs.Code.{code_byte};
 ghost use Rattle.dfu_wire.specs.State.{state_byte};
+ghost use Rattle.dfu_device.specs.declared.device_state.DeviceState.{DeviceState};
 ghost use Rattle.dfu_device.specs.Parts.{stage_of};
 ghost use Rattle.dfu_device.specs.Stage.{state_of, code_of};
-ghost use Rattle.dfu_device_c.specs.Config.{setting_of, IsConfig};
-ghost use Rattle.dfu_device_c.specs.Due.{LATEST, due_of, ToldDue};
+ghost use Rattle.dfu_device_c.specs.Config.{IsConfig};
+ghost use Rattle.dfu_device_c.specs.Due.{LATEST, ToldDue};
 ghost use Rattle.dfu_device_c.specs.Idle.{RefusesRecord};
 ghost use Rattle.dfu_device_c.specs.Mode.{HasMode};
 ghost use Rattle.dfu_device_c.specs.Numbers.{NO_DEVICE};
 
-use crate::config::{DfuConfig, functional_of};
+use crate::config::DfuConfig;
 use crate::mode::{has_mode, mode_in};
 use crate::record::DfuRecord;
-use dfu_device::DeviceState;
+use dfu_asks::mode_due;
 
 /// The state of the device, bState: 0 to 10; -4 if the record has no mode.
 #[unsafe(no_mangle)]
@@ -60,27 +61,14 @@ pub extern "C" fn dfu_core_code(device: &DfuRecord) -> i32
     }
 }
 
-// How many milliseconds are left, at least 1; at the largest number as many or more.
-fn left(limit: u32, passed: u32) -> i32
-    ensures { result ≡ pos (min LATEST (max 1 (limit - passed))) }
+// The number of what is due: at the largest number in as many milliseconds or more; 0 if nothing is due.
+fn due_number(due: Option<u32>) -> i32
+    ensures some { IfSome due (λ ms. result ≡ pos (min LATEST ms)) }
+    ensures none { IfNone due (result ≡ pos 0) }
 {
-    limit.saturating_sub(passed).max(1).min(0x7fff_ffff) as i32
-}
-
-// In how many milliseconds the state of this mode changes; 0 if no time changes it.
-fn due_in(config: &DfuConfig, mode: DeviceState) -> i32
-    ensures { result ≡ pos (min LATEST (due_of (setting_of config.now) mode)) }
-{
-    match mode {
-        DeviceState::AppDetach { timer, passed } => {
-            if functional_of(config).will_detach {
-                return 1;
-            }
-            left(timer, passed)
-        }
-        DeviceState::DownloadBusy { passed, .. } => left(config.busy_ms, passed),
-        DeviceState::Manifest { passed, .. } => left(config.manifest_ms, passed),
-        _ => 0,
+    match due {
+        Some(ms) => ms.min(0x7fff_ffff) as i32,
+        None => 0,
     }
 }
 
@@ -92,8 +80,9 @@ fn due_in(config: &DfuConfig, mode: DeviceState) -> i32
 pub extern "C" fn dfu_core_due(config: &DfuConfig, device: &DfuRecord) -> i32
     ensures outcome { (IsConfig config.now × ToldDue config.now device.now result) ⊎ RefusesRecord config.now device.now result }
 {
-    match mode_in(config, device) {
-        Ok(mode) => due_in(config, mode),
-        Err(refusal) => refusal.number(),
-    }
+    let (settings, mode) = match mode_in(config, device) {
+        Ok(found) => found,
+        Err(refusal) => return refusal.number(),
+    };
+    due_number(mode_due(&settings.config, mode))
 }

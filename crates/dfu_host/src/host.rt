@@ -22,9 +22,7 @@ use std::marker::Model;
 /// A host in a session (USB DFU 1.1, appendix A, seen from the host's side).
 ///
 /// It does nothing itself: its caller does what `next` asks for and gives `take` what came of it,
-/// until `next` returns `Done`. It takes memory only for the parts of an upload. Contracts see it
-/// as a `HostState`: the task, the phase with what an upload keeps, and the actions and restarts
-/// that are left.
+/// until `next` returns `Done`. It takes memory only for the parts of an upload.
 #[derive(Drop)]
 pub struct Host<'f> {
     session: Session<'f>,
@@ -36,6 +34,7 @@ impl<'f> Model for Host<'f> {
     ghost use Rattle.dfu_host.specs.InParts.{host_of};
     ghost use Rattle.dfu_host.specs.inside.Memories.{bytes_of};
 
+    // The task, the phase with what an upload keeps, and the actions and restarts that are left.
     ghost Value = { HostState };
 
     ghost view = { λ h. host_of (bytes_of h.memory) h.session };

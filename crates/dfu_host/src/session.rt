@@ -19,9 +19,6 @@ use dfu_wire::{Functional, Ids};
 use std::marker::Model;
 
 /// A session of a host, for a caller that keeps what an upload fetches itself. It takes no memory.
-///
-/// Contracts see it as its parts. With the bytes that its caller keeps they are a `HostState`, as
-/// [`crate::Host`] is one.
 #[derive(Drop)]
 pub struct Session<'f> {
     task: Task<'f>,
@@ -33,6 +30,7 @@ impl<'f> Model for Session<'f> {
     ghost use Rattle.dfu_host.specs.InParts.{IsWithin};
     ghost use Rattle.dfu_host.specs.inside.View.{session_parts};
 
+    // Its parts. With the bytes that its caller keeps they are a `HostState`, as `Host` is one.
     ghost Value = { Parts };
 
     ghost view = { λ s. session_parts s.task s.progress };

@@ -1,4 +1,4 @@
-//! The last writes of a medium in memory, for a trace. No clause speaks of them.
+//! The last writes of a medium in memory, for a trace.
 
 use crate::Failed;
 use arrayvec::ArrayVec;

@@ -1,4 +1,4 @@
-use Rattle.std.proofs.Common.{◌≡◌, ℕ, length, slice_index, sym, ◌∙◌, ap, subst, arith}
+use Rattle.std.proofs.Common.{◌≡◌, ℕ, slice_index, sym, ◌∙◌, ap, subst, arith}
 use Rattle.dfu_slots.specs.Medium.{MediumState}
 use Rattle.dfu_slots.specs.Image.{gate_of, spare_at, HasImage}
 use Rattle.dfu_asks.specs.Mapped.{mapped}

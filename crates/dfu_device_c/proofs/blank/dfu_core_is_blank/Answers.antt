@@ -1,25 +1,32 @@
-use Rattle.std.proofs.Common.{◌≡◌, ◌+◌, ◌*◌, ◌/◌, ℕ, IsTrue, length, slice_range, inl, refl, sym, ◌∙◌, ap}
-use Rattle.std.specs.List.{list_all}
-use Rattle.dfu_slots.specs.Units.{gate_room}
+use Rattle.std.proofs.Common.{◌≡◌, ◌↔◌, Bool, true, false, IsTrue, ℕ, ℤ, List, inl, refl, ◌∙◌, subst, w32, arith}
+use Rattle.std.proofs.lemmas.Bool.{false≢true}
+use Rattle.std.proofs.lemmas.Int.{to_z-of_z}
+use Rattle.dfu_slots.specs.Image.{HasImage}
+use Rattle.dfu_slots.specs.Medium.{MediumState}
+use Rattle.dfu_asks.specs.Blank.{IsUnwritten}
+use Rattle.dfu_asks.specs.Mapped.{mapped}
+use Rattle.dfu_device_c.specs.declared.config.DfuConfig.{DfuConfig}
+use Rattle.dfu_device_c.specs.Blank.{ToldBlank, told_blank, told_written}
 use Rattle.dfu_device_c.specs.Config.{config_grain}
-use Rattle.dfu_device_c.specs.Blank.{reads_erased, IsUnwritten, told_blank}
-use Rattle.dfu_device_c.proofs.Blanks.{blank_has_none}
+use Rattle.dfu_device_c.specs.Numbers.{told_number}
 use Rattle.dfu_device_c.proofs.blank.dfu_core_is_blank.Goals as goal
 
-pub returns-then-is_erased-2 : goal.returns-then-is_erased-2
-returns-then-is_erased-2 c =
-    let grain = config_grain c.args.config.now in
-    let flash = c.args.flash.now in
-    let front : 2 * c.gate_of.result ≡ 2 * gate_room grain = λ i. 2 * (c.gate_of.ensures.value
-    ∙ (λ j. gate_room (record {
-      unit = c.in-Some.ensures.unit j;
-      sector = (c.size-sector.ensures.value ∙ c.in-Some.ensures.sector) j;
-    }))) i in
-    let erased : (at : ℕ) → IsTrue (list_all reads_erased (slice_range flash at (at + 2 * c.gate_of.result)))
-    → IsTrue (list_all reads_erased (slice_range flash at (at + 2 * gate_room grain))) =
-    λ at is. ap (λ (n : ℕ). list_all reads_erased (slice_range flash at (at + n))) (sym front) ∙ is in
-    let blank : IsUnwritten grain flash = record {
-      first = erased 0 (sym c.is_erased.ensures ∙ c.if-is_erased.true);
-      second = erased (length flash / 2) (sym c.is_erased-then-is_erased.ensures ∙ c.if-is_erased-2.true);
-    } in
-    record { outcome = inl (told_blank refl blank (blank_has_none grain flash blank)) }
+-- The number of what is said of the medium of this flash.
+told : (c : DfuConfig) (flash : List ℕ) (m : MediumState) (said : Bool) (n : ℤ) → m ≡ mapped (config_grain c) flash → n ≡ told_number said
+    → (IsTrue said ↔ IsUnwritten m.grain m.bytes) → (IsTrue said → ¬ HasImage m) → ToldBlank c flash n
+told c flash m true n medium is blank none = told_blank is
+    (subst (λ (x : MediumState). IsUnwritten x.grain x.bytes) medium (blank.0 refl))
+    (subst (λ (x : MediumState). ¬ HasImage x) medium (none refl))
+told c flash m false n medium is blank none = told_written is
+    (subst (λ (x : MediumState). ¬ IsUnwritten x.grain x.bytes) medium (λ w. false≢true (blank.1 w)))
+
+pub returns-in-Some-is_blank : goal.returns-in-Some-is_blank
+returns-in-Some-is_blank c =
+    let set = c.in-Some.ensures in
+    let blank = c.in-Some-is_blank.ensures in
+    let medium = c.in-Some-with_sectors.ensures.some
+    ∙ (λ i. mapped (record { unit = set.unit i; sector = (c.size-sector.ensures.value ∙ set.sector) i }) c.args.flash.now) in
+    record {
+      outcome = inl (told c.args.config.now c.args.flash.now _ c.in-Some-is_blank.said _ medium
+          (to_z-of_z w32 c.told_number.result (omega (arith, c.told_number.type_inv)) ∙ c.told_number.ensures) blank.blank blank.no_image);
+    }

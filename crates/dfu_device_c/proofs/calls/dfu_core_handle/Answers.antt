@@ -7,7 +7,7 @@ use Rattle.dfu_asks.specs.declared.reply.Reply.{Reply}
 use Rattle.dfu_asks.specs.Asks.{device_in}
 use Rattle.dfu_asks.specs.Calls.{DeviceCalled}
 use Rattle.dfu_device_c.specs.declared.record.DfuRecord.{DfuRecord}
-use Rattle.dfu_device_c.specs.Addressed.{addressed}
+use Rattle.dfu_asks.specs.Addressed.{addressed}
 use Rattle.dfu_device_c.specs.Kept.{IsSetUp, IsKept, with_memory}
 use Rattle.dfu_device_c.specs.Numbers.{reply_number}
 use Rattle.dfu_device_c.specs.Calls.{Goes, Replied, IsIntact}

@@ -1,39 +1,33 @@
-use Rattle.std.proofs.Common.{ℕ, pos, List, inl, inr, refl, sym, subst, ◌∙◌}
-use Rattle.std.proofs.lemmas.Bool.{true≢false}
+use Rattle.std.proofs.Common.{◌≡◌, ◌⊎◌, ℕ, ℤ, pos, List, inl, inr, refl, subst, sym, ◌∙◌, w32, arith}
+use Rattle.std.proofs.lemmas.Int.{to_z-of_z}
 use Rattle.dfu_device_c.specs.Closes.{ToldClose}
-use Rattle.dfu_device_c.proofs.Closing.{told_yes, told_no}
-use Rattle.dfu_device_c.proofs.closes.dfu_core_closes.Goals.{else-may_close-via-then-may_close+else-is_close, else-may_close-via-else-may_close}
+use Rattle.dfu_asks.specs.Addressed.{addressed}
+use Rattle.dfu_device_c.specs.Idle.{IsIdleRecord, RefusesSetup}
+use Rattle.dfu_device_c.specs.Numbers.{told_number}
+use Rattle.dfu_device_c.proofs.Told.{two, kept_in}
 use Rattle.dfu_device_c.proofs.closes.dfu_core_closes.Goals as goal
 
-pub returns-then-is_close : goal.returns-then-is_close
-returns-then-is_close c =
+pub returns : goal.returns
+returns c =
     let k = c.args.config.now in
     let r = c.args.device.now in
+    let said = c.mode_closes.result in
+    let own = addressed k.interface c.args.setup.now in
+    let number = to_z-of_z w32 c.told_number.result (omega (arith, c.told_number.type_inv)) ∙ c.told_number.ensures in
+    let told : ToldClose k r own (told_number said) =
+    subst (λ (x : List ℕ). ToldClose k r x (told_number said)) c.addressed-own.ensures (λ block flash a kept device. (
+      said,
+      refl,
+      c.mode_closes.ensures _ flash
+          (kept_in k r c.in-Ok.found.1 c.in-Ok.ensures.set_up c.in-Ok.ensures.only block flash a kept device),
+    )) in
     record {
-      outcome = inl (
-        inr refl,
-        c.in-Ok.ensures.idle,
-        subst (λ (x : List ℕ). ToldClose k r x (pos 1)) c.addressed-own.ensures (told_yes k r c.addressed-own.result c.in-Ok.mode
-            c.in-Ok.ensures.only c.may_close.result c.may_close.ensures c.if-may_close.true (c.is_close.ensures.0 c.if-is_close.true)),
-      );
+      outcome = inl (subst (λ (n : ℤ). ((n ≡ pos 0) ⊎ (n ≡ pos 1)) × IsIdleRecord k r × ToldClose k r own n) (sym number)
+          (two said _ refl, c.in-Ok.ensures.idle, told));
     }
 
-pub returns-else-may_close : goal.returns-else-may_close
-returns-else-may_close c =
-    let k = c.args.config.now in
-    let r = c.args.device.now in
-    let no : ToldClose k r c.addressed-own.result (pos 0) = elim c.else-may_close.branch [
-      | else-may_close-via-then-may_close+else-is_close w ↦
-          told_no k r c.addressed-own.result c.in-Ok.mode c.in-Ok.ensures.only c.may_close.result c.may_close.ensures
-          (inr (λ close. true≢false (sym (w.is_close.ensures.1 close) ∙ w.if-is_close.false)))
-      | else-may_close-via-else-may_close w ↦
-          told_no k r c.addressed-own.result c.in-Ok.mode c.in-Ok.ensures.only c.may_close.result c.may_close.ensures
-          (inl w.if-may_close.false)
-    ] in
-    record {
-      outcome = inl (
-        inl refl,
-        c.in-Ok.ensures.idle,
-        subst (λ (x : List ℕ). ToldClose k r x (pos 0)) c.addressed-own.ensures no,
-      );
-    }
+pub returns-in-Err : goal.returns-in-Err
+returns-in-Err c = record {
+  outcome = inr (subst (λ (n : ℤ). RefusesSetup c.args.config.now c.args.device.now n)
+      (sym (to_z-of_z w32 _ (omega (arith, c.number.type_inv)) ∙ c.number.ensures)) c.in-Err.ensures.err);
+}

@@ -11,16 +11,15 @@ returns-in-Some-find c =
     let flash = c.args.flash.now in
     let set = c.in-Some.ensures in
     let s = c.in-Some.settings in
-    let got = powers k flash s.config s.unit s.sector c.in-Some-find.noted
-    (record c.blank.result { mode = 0; slot = c.slot_of-device.result; header = c.in-Some-find.noted.header }) set.allowed
+    let noted = c.in-Some-find.noted in
+    let with_mode : ℕ → DfuRecord → DfuRecord =
+    λ n b. record b { mode = n; slot = c.slot_of-device.result; header = noted.header } in
+    let got = powers k flash s.config s.unit s.sector noted (with_mode 0 c.blank.result) set.allowed
     (record { config_is = set.config; unit_is = set.unit; sector_is = set.sector })
     c.in-Some-find.ensures.some c.in-Some-find.ensures.image
-    (record { second = c.slot_of-device.ensures; header = refl })
-    (ap (λ (b : DfuRecord). record b { mode = 0; slot = c.slot_of-device.result; header = c.in-Some-find.noted.header }) c.blank.ensures) in
+    (record { second = c.slot_of-device.ensures; header = refl }) (ap (with_mode 0) c.blank.ensures) in
     record {
-      app = λ e. inl (subst (λ (n : ℕ). Powers k device_state.AppIdle flash (pos 0)
-          (record c.blank.result { mode = n; slot = c.slot_of-device.result; header = c.in-Some-find.noted.header })) (sym e) got);
-      dfu = λ e. inl (subst (λ (n : ℕ). Powers k device_state.DfuIdle flash (pos 0)
-          (record c.blank.result { mode = n; slot = c.slot_of-device.result; header = c.in-Some-find.noted.header })) (sym e)
+      app = λ e. inl (subst (λ (n : ℕ). Powers k device_state.AppIdle flash (pos 0) (with_mode n c.blank.result)) (sym e) got);
+      dfu = λ e. inl (subst (λ (n : ℕ). Powers k device_state.DfuIdle flash (pos 0) (with_mode n c.blank.result)) (sym e)
           (begins k flash _ got));
     }

@@ -20,9 +20,9 @@ returns c =
         c.in-Ok.ensures.idle,
         c.in-Some.ensures.some.1,
         subst (λ (w : Objection). TakesCause k r (Refusing w) answer.Ack r') c.in-Some.ensures.some.0
-            (takes_cause k r r' c.in-Ok.mode m' c.in-Ok.ensures.only c.in-Ok.ensures.idle.idle c.set_mode.ensures.mode
+            (takes_cause k r r' c.in-Ok.found.1 m' c.in-Ok.ensures.only c.in-Ok.ensures.idle.idle c.set_mode.ensures.mode
             c.set_mode.ensures.others (Refusing why) answer.Ack
-            (λ l flash config mode device. refuse_leads k c.in-Ok.mode m' why l flash config mode device c.after_refusal.ensures.stage
+            (λ l flash config mode device. refuse_leads k c.in-Ok.found.1 m' why l flash config mode device c.after_refusal.ensures.stage
             c.after_refusal.ensures.filled)),
       );
     }

@@ -1,15 +1,24 @@
-use Rattle.std.proofs.Common.{ℤ, sym, ◌∙◌, subst, inl, inr, w32, arith}
+use Rattle.std.proofs.Common.{◌≡◌, min, ℕ, ℤ, pos, Option, Some, None, IfSome, IfNone, sym, ap, ◌∙◌, subst, inl, inr, w32, arith}
 use Rattle.std.proofs.lemmas.Int.{to_z-of_z}
+use Rattle.dfu_device_c.specs.Due.{LATEST}
 use Rattle.dfu_device_c.specs.Idle.{RefusesRecord}
-use Rattle.dfu_device_c.proofs.DueTimes.{told_due}
+use Rattle.dfu_device_c.proofs.Told.{told_due}
 use Rattle.dfu_device_c.proofs.tells.dfu_core_due.Goals as goal
 
-pub returns-in-Ok : goal.returns-in-Ok
-returns-in-Ok c = record {
+-- The number says what is due.
+says : (o : Option ℕ) (n : ℤ) (due : ℕ) → IfSome o (λ ms. n ≡ pos (min LATEST ms)) → IfNone o (n ≡ pos 0) → IfSome o (λ ms. ms ≡ due)
+    → IfNone o (due ≡ 0) → n ≡ pos (min LATEST due)
+says (Some ms) n due some none is nothing = some ∙ ap (λ (k : ℕ). pos (min LATEST k)) is
+says None n due some none is nothing = none ∙ ap (λ (k : ℕ). pos (min LATEST k)) (sym nothing)
+
+pub returns : goal.returns
+returns c = record {
   outcome = inl (
     c.in-Ok.ensures.config,
-    told_due c.args.config.now c.args.device.now c.in-Ok.mode _ c.in-Ok.ensures.only
-        (to_z-of_z w32 c.due_in.result (omega (arith, c.due_in.type_inv)) ∙ c.due_in.ensures),
+    told_due c.args.config.now c.args.device.now c.in-Ok.found.1 _ c.in-Ok.ensures.set_up c.in-Ok.ensures.only
+        (to_z-of_z w32 c.due_number.result (omega (arith, c.due_number.type_inv))
+        ∙ says c.mode_due.result c.due_number.result _ c.due_number.ensures.some c.due_number.ensures.none c.mode_due.ensures.some
+        c.mode_due.ensures.none),
   );
 }
 

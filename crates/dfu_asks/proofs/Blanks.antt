@@ -1,0 +1,38 @@
+-- A flash that is blank has no image: both of its gates read FFh.
+use Rattle.std.proofs.Common.{◌≡◌, ⊎_elim, ℕ, ◌+◌, ◌-◌, ◌*◌, ◌<◌, ◌≤◌, false, List, length, get_or, take, drop, slice_index, sym, ◌∙◌, ap, arith, length-drop}
+use Rattle.std.specs.List.{list_all}
+use Rattle.std.proofs.lemmas.Bool.{true≢false}
+use Rattle.std.proofs.lemmas.List.{get_or-take, get_or-drop, length-take-le}
+use Rattle.std.proofs.lemmas.List.Folds.{list_all_at}
+use Rattle.dfu_slots.specs.Units.{Grain, gate_room}
+use Rattle.dfu_slots.specs.Layout.{slot_size, OPEN}
+use Rattle.dfu_slots.specs.Image.{HasImage}
+use Rattle.dfu_asks.specs.Mapped.{mapped}
+use Rattle.dfu_asks.specs.Blank.{reads_erased, front_of, IsUnwritten}
+
+module _ (grain : Grain) (flash : List ℕ) where
+  -- An open gate is not erased.
+  open_front : (at : ℕ) → at + 2 * gate_room grain ≤ length flash → 0 < gate_room grain → slice_index flash at ≡ OPEN
+      → list_all reads_erased (front_of grain flash at) ≡ false
+  open_front at fits some gate =
+      let n : ℕ = at + 2 * gate_room grain - at in
+      let first : get_or (take n (drop at flash)) 0 0 ≡ slice_index flash at = get_or-take n (drop at flash) 0 0 (omega (arith, some))
+      ∙ get_or-drop at flash 0 0 ∙ ap (λ (k : ℕ). get_or flash k 0) (omega arith) in
+      list_all_at reads_erased (take n (drop at flash)) 0 0
+      (omega (arith, some, fits, length-drop at flash, length-take-le n (drop at flash) (omega (arith, fits, length-drop at flash))))
+      (ap reads_erased (first ∙ gate))
+
+  some_gate : 0 < gate_room grain
+  some_gate = omega arith
+
+  -- So a blank flash has no image.
+  pub blank_has_none : IsUnwritten grain flash → ¬ HasImage (mapped grain flash)
+  blank_has_none blank has =
+      let a = has.active in
+      let is_open = a.newest.counts.is_open in
+      ⊎_elim
+      (λ p. true≢false (sym blank.first ∙ open_front 0 (omega (arith, a.sized.room, a.sized.even)) some_gate
+      (ap (λ (k : ℕ). slice_index flash k) (sym p.0) ∙ is_open)))
+      (λ p. true≢false (sym blank.second ∙ open_front (slot_size flash) (omega (arith, a.sized.room, a.sized.even)) some_gate
+      (ap (λ (k : ℕ). slice_index flash k) (sym p.0) ∙ is_open)))
+      a.places

@@ -1,0 +1,15 @@
+use Rattle.std.proofs.Common.{ap, refl}
+use Rattle.dfu_device.specs.DeviceView.{DeviceView}
+use Rattle.dfu_device.specs.Stage.{InDfuIdle}
+use Rattle.dfu_device.specs.declared.device_state.DeviceState.TheVariants as device_state
+use Rattle.dfu_asks.specs.Lent.{lent}
+use Rattle.dfu_asks.proofs.Refuses.{enters}
+use Rattle.dfu_asks.proofs.asking.Asking.begin.Goals as goal
+
+pub returns-clause-device : goal.returns-clause-device
+returns-clause-device c block held =
+    ap (λ (d : DeviceView). record d { stage = InDfuIdle }) (c.in_ok-device.ensures.device block held)
+
+pub returns-clause-is : goal.returns-clause-is
+returns-clause-is c block held =
+    enters (lent c.in_ok-device.device block held) device_state.DfuIdle c.args.flash.now (c.in_ok-device.ensures.is block held) refl

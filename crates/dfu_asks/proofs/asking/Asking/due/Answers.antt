@@ -1,0 +1,40 @@
+use Rattle.std.proofs.Common.{◌≡◌, ℕ, List, Option, Some, None, IfSome, IfNone, refl, sym, subst}
+use Rattle.dfu_slots.specs.Seen.{spare_of}
+use Rattle.dfu_device.specs.DeviceView.{DeviceView}
+use Rattle.dfu_device.specs.Rows.{Elapses}
+use Rattle.dfu_asks.specs.declared.asking.Asking.{Asking}
+use Rattle.dfu_asks.specs.Lent.{lent}
+use Rattle.dfu_asks.specs.Asks.{device_in, store_in}
+use Rattle.dfu_asks.specs.Times.{due_of, ChangesOnceDue}
+use Rattle.dfu_asks.proofs.DueTimes.{time_due}
+use Rattle.dfu_asks.proofs.asking.Asking.due.Goals as goal
+
+-- What follows of a value follows of the one that there is, or of none.
+each_some : {X : Type 0} (P Q : X → Type 0) (o : Option X) → ((x : X) → P x → Q x) → IfSome o P → IfSome o Q
+each_some P Q (Some x) follows is = follows x is
+each_some P Q None follows is = tt
+
+each_none : {X A B : Type 0} (o : Option X) → (A → B) → IfNone o A → IfNone o B
+each_none (Some x) follows is = tt
+each_none None follows is = follows is
+
+-- A change is due as the mode says.
+due_in : (a : Asking) (block held flash : List ℕ) (ms : ℕ) (d' : DeviceView) → Elapses ms (device_in (lent a block held) flash) d'
+    → ChangesOnceDue (due_of a.config a.mode) ms (device_in (lent a block held) flash) d'
+due_in a block held flash ms d' went =
+    let l = lent a block held in
+    time_due ms (device_in l flash) d' a.mode (spare_of (store_in l flash)) l.block refl went
+
+pub returns-clause-some : goal.returns-clause-some
+returns-clause-some c =
+    let a = c.args.self.now in
+    each_some (λ (n : ℕ). n ≡ due_of a.config a.mode) _ c.mode_due.result
+    (λ n is block held flash ms d' went. subst (λ (k : ℕ). ChangesOnceDue k ms (device_in (lent a block held) flash) d') (sym is)
+    (due_in a block held flash ms d' went))
+    c.mode_due.ensures.some
+
+pub returns-clause-none : goal.returns-clause-none
+returns-clause-none c =
+    let a = c.args.self.now in
+    each_none c.mode_due.result (λ none block held flash ms d' went. (due_in a block held flash ms d' went).none none)
+    c.mode_due.ensures.none

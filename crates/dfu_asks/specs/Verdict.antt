@@ -1,0 +1,37 @@
+-- Whether a device will stall a setup, before the body of the setup is there.
+use Rattle.std.specs.Prelude.{◌≡◌, ◌↔◌, ℕ, Bool, true, false, IsTrue, Option, Some, None, List, length}
+use Rattle.dfu_wire.specs.declared.setups.Setup.{Setup}
+use Rattle.dfu_wire.specs.Setup.{IsSetup}
+use Rattle.dfu_device.specs.declared.answer.Answer.{Answer}
+use Rattle.dfu_device.specs.declared.answer.Answer.TheVariants as answer
+use Rattle.dfu_device.specs.DeviceView.{DeviceView}
+use Rattle.dfu_device.specs.Stage.{Reply, Stall}
+use Rattle.dfu_device.specs.Table.{Plan, Sure, Writes, Commits}
+use Rattle.dfu_device.specs.Rows.{Handles, body_length}
+use Rattle.dfu_slots.specs.declared.fault.WriteFault.TheVariants.{Failed, NotVerified}
+
+-- The reply is a stall.
+abbrev pub is_stall : Reply → Bool
+is_stall Stall = true
+is_stall reply = false
+
+-- What three answers agree on.
+abbrev pub agreed : Bool → Bool → Bool → Option Bool
+agreed true true true = Some true
+agreed false false false = Some false
+agreed x y z = None
+
+-- Whether the plan gives a stall, if that is so or not so whatever its writes come to.
+abbrev pub verdict : Plan → Option Bool
+verdict (Sure reply stage) = Some (is_stall reply)
+verdict (Writes before block reply stage bad) = agreed (is_stall reply) (is_stall (bad Failed)) (is_stall (bad NotVerified))
+verdict (Commits taken reply stage bad) = agreed (is_stall reply) (is_stall (bad Failed)) (is_stall (bad NotVerified))
+
+-- A body goes with a setup: it has wLength bytes if the host sends, and none if it reads.
+abbrev pub IsBodyOf : List ℕ → List ℕ → Type 0
+IsBodyOf setup body = (p : Setup) → IsSetup p setup → length body ≡ body_length p
+
+-- It is said of this setup whether this device answers it with a stall, whatever its body. If it asks for writes it will not stall.
+abbrev pub TellsStall : Bool → List ℕ → DeviceView → Type 0
+TellsStall said setup d = (body : List ℕ) → IsBodyOf setup body → (x : Answer) (sent : List ℕ) (d' : DeviceView)
+    → Handles setup body d x sent d' → IsTrue said ↔ (x ≡ answer.Stall)

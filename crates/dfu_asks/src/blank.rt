@@ -1,0 +1,41 @@
+//! Whether the flash reads as if it was never written, so that a program can tell a new board from a damaged one.
+ghost use Rattle.std.specs.Prelude.{◌≡◌, ◌↔◌, ◌+◌, ◌≤◌, IsTrue, length, slice_range, IfSome, IfNone, OnSome};
+ghost use Rattle.std.specs.List.{list_all};
+ghost use Rattle.dfu_slots.specs.Image.{IsSized, HasImage};
+ghost use Rattle.dfu_asks.specs.Blank.{reads_erased, IsUnwritten};
+ghost use Rattle.dfu_asks.specs.Mapped.{grain_of, mapped};
+
+use crate::Mapped;
+use crate::gates::gate_room;
+use dfu_slots::is_sized;
+
+// Whether so many bytes from there on are FFh.
+fn is_erased(flash: &[u8], at: usize, len: usize) -> bool
+    requires { at + len ≤ length flash.now }
+    ensures { result ≡ list_all reads_erased (slice_range flash.now at (at + len)) }
+{
+    flash[at..at + len].iter().all(|byte| *byte == 0xff)
+}
+
+impl<'m> Mapped<'m> {
+    /// Whether the flash reads as if it was never written: true if every byte that the gates and the headers of both slots take up is FFh,
+    /// and then there is no active image; false if one is not. What the data of the slots holds does not matter.
+    ///
+    /// None exactly if the flash has not as many bytes as two slots can have.
+    pub fn is_blank(&self) -> Option<bool>
+        ensures blank { IfSome result (λ b. IsTrue b ↔ IsUnwritten (grain_of self.now.unit self.now.sector) self.now.bytes.now) }
+        ensures no_image { IfSome result (λ b. IsTrue b →
+            ¬ HasImage (mapped (grain_of self.now.unit self.now.sector) self.now.bytes.now)) }
+        ensures some { OnSome result (IsSized (mapped (grain_of self.now.unit self.now.sector) self.now.bytes.now)) }
+        ensures none { IfNone result (¬ IsSized (mapped (grain_of self.now.unit self.now.sector) self.now.bytes.now)) }
+    {
+        if !is_sized(self) {
+            return None;
+        }
+        let front = 2 * gate_room(self.unit, self.sector) as usize;
+        if !is_erased(self.bytes, 0, front) {
+            return Some(false);
+        }
+        Some(is_erased(self.bytes, self.bytes.len() / 2, front))
+    }
+}

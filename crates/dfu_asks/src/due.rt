@@ -1,0 +1,55 @@
+//! When time changes the state of a device.
+ghost use Rattle.std.specs.Prelude.{◌≡◌, ◌-◌, ◌<◌, max, ℕ, List, IfSome, IfNone};
+ghost use Rattle.dfu_device.specs.DeviceView.{DeviceView};
+ghost use Rattle.dfu_device.specs.Rows.{Elapses};
+ghost use Rattle.dfu_asks.specs.Asks.{device_in};
+ghost use Rattle.dfu_asks.specs.Lent.{lent};
+ghost use Rattle.dfu_asks.specs.Times.{due_of, ChangesOnceDue};
+
+use crate::Asking;
+use dfu_device::{Config, DeviceState};
+
+// How many milliseconds are left, at least 1.
+fn left(limit: u32, passed: u32) -> u32
+    ensures { result ≡ max 1 (limit - passed) }
+{
+    limit.saturating_sub(passed).max(1)
+}
+
+/// In how many milliseconds the state of a device of this configuration in this mode changes, at least 1; None if no time changes it.
+pub fn mode_due(config: &Config, mode: DeviceState) -> Option<u32>
+    ensures some { IfSome result (λ ms. ms ≡ due_of config.now mode) }
+    ensures least { IfSome result (λ ms. 0 < ms) }
+    ensures none { IfNone result (due_of config.now mode ≡ 0) }
+{
+    match mode {
+        DeviceState::AppDetach { timer, passed } => {
+            if config.functional().will_detach {
+                return Some(1);
+            }
+            Some(left(timer, passed))
+        }
+        DeviceState::DownloadBusy { passed, .. } => Some(left(config.busy_ms(), passed)),
+        DeviceState::Manifest { passed, .. } => Some(left(config.manifest_ms(), passed)),
+        _ => None,
+    }
+}
+
+impl Asking {
+    /// In how many milliseconds `elapse` changes the state, at least 1: fewer leave it as it is, and that many or more change it. In
+    /// appDETACH it is the rest of wDetachTimeOut or of the host's time, whichever is less, or 1 with bitWillDetach (USB DFU 1.1, section
+    /// 5.1); in dfuDNBUSY and dfuMANIFEST the rest of the time that the host was asked to wait (section 6.1.2, bwPollTimeout).
+    ///
+    /// None if no time changes the device: in every other state.
+    pub fn due(&self) -> Option<u32>
+        ensures some { IfSome result (λ due. (block held flash : List ℕ) (ms : ℕ) (d' : DeviceView)
+            → Elapses ms (device_in (lent self.now block held) flash) d'
+            → ChangesOnceDue due ms (device_in (lent self.now block held) flash) d') }
+        ensures least { IfSome result (λ due. 0 < due) }
+        ensures none { IfNone result ((block held flash : List ℕ) (ms : ℕ) (d' : DeviceView)
+            → Elapses ms (device_in (lent self.now block held) flash) d' → d' ≡ device_in (lent self.now block held) flash) }
+        ensures time { IfSome result (λ due. due ≡ due_of self.now.config self.now.mode) }
+    {
+        mode_due(&self.config, self.mode)
+    }
+}

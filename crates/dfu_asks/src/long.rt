@@ -1,0 +1,90 @@
+//! A body that is longer than a block may be.
+ghost use Rattle.std.specs.Prelude.{◌≡◌, ◌↔◌, ℕ, List, [], nat_lt, not, IsTrue, IfOk, IfErr, OnOk, OnErr, IfSome, IfNone, OnSome, IsSome, None};
+ghost use Rattle.dfu_device.specs.Rows.{Handles, body_length};
+ghost use Rattle.dfu_device.specs.declared.answer.Answer.TheVariants.{Stall};
+ghost use Rattle.dfu_asks.specs.AfterLong.{after_long, IsLong};
+ghost use Rattle.dfu_asks.specs.Asks.{device_in, IsDevice};
+ghost use Rattle.dfu_asks.specs.InMode.{IsDeviceIn};
+ghost use Rattle.dfu_asks.specs.Lent.{LentAsking, lent, IsSetUpAs};
+ghost use Rattle.dfu_asks.specs.Refused.{Fits};
+ghost use Rattle.dfu_asks.specs.Verdict.{IsBodyOf};
+
+use crate::{Asking, Refusal};
+use dfu_device::{Config, DeviceState};
+use dfu_wire::{Code, Setup};
+
+// Where a device goes from this mode by a body that is longer than a block may be.
+fn after_long(mode: DeviceState) -> DeviceState
+    ensures { result ≡ after_long mode }
+{
+    match mode {
+        DeviceState::AppIdle | DeviceState::AppDetach { .. } => DeviceState::AppIdle,
+        DeviceState::ManifestWaitReset => DeviceState::ManifestWaitReset,
+        DeviceState::Error { code } => DeviceState::Error { code },
+        _ => DeviceState::Error {
+            code: Code::StalledPkt,
+        },
+    }
+}
+
+// Whether the host sends more bytes with this setup than a block has.
+fn is_long(setup: &Setup, transfer: u16) -> bool
+    ensures { result ≡ nat_lt transfer (body_length setup.now) }
+{
+    setup.kind == 0x21 && setup.length > transfer
+}
+
+/// The mode to which this setup leads a device of this configuration in this mode, if the host sends more bytes with it than a block has,
+/// as `Asking::too_long`; None exactly if it does not.
+pub fn mode_after_long(config: &Config, mode: DeviceState, setup: &[u8; 8]) -> Option<DeviceState>
+    ensures row { IfSome result (λ after. (a : LentAsking) (flash : List ℕ) → IsDeviceIn config.now mode a flash →
+        IsDevice (record a { mode = after }) flash × ((body : List ℕ) → IsBodyOf setup.now body →
+        Handles setup.now body (device_in a flash) Stall [] (device_in (record a { mode = after }) flash))) }
+    ensures long { OnSome result (IsLong config.now setup.now) }
+    ensures none { IfNone result (¬ IsLong config.now setup.now) }
+{
+    let setup = Setup::decode(setup);
+    if !is_long(&setup, config.functional().transfer) {
+        return None;
+    }
+    if setup.index == 0 {
+        Some(after_long(mode))
+    } else {
+        Some(mode)
+    }
+}
+
+impl Asking {
+    /// As `handle` with a body of wLength bytes, which are more than the transfer size, so that no memory has to take them: true if the
+    /// host sends so many with this setup, and then the caller stalls the request (USB DFU 1.1, section 6.1.1). False if it does not;
+    /// nothing changes then. It needs neither the flash nor the memory of the block.
+    ///
+    /// # Errors
+    ///
+    /// `Asked` if writes are due; nothing changes then.
+    pub fn too_long(&mut self, setup: &[u8; 8]) -> Result<bool, Refusal>
+        ensures long { IfOk result (λ b. IsTrue b ↔ IsLong self.old.config setup.now) }
+        ensures row { (block held flash : List ℕ) → IsDevice (lent self.old block held) flash →
+            IfOk result (λ b. IsTrue b → (body : List ℕ) → IsBodyOf setup.now body →
+            Handles setup.now body (device_in (lent self.old block held) flash) Stall [] (device_in (lent self.new block held) flash)) }
+        ensures is { (block held flash : List ℕ) → OnOk result
+            (IsDevice (lent self.old block held) flash → IsDevice (lent self.new block held) flash) }
+        ensures unchanged { OnErr result (self.new ≡ self.old) }
+        ensures asked { IfErr result (λ e. (e ≡ Refusal.Asked) × IsSome self.old.work) }
+        ensures other { IfOk result (λ b. IsTrue (not b) → self.new ≡ self.old) }
+        ensures work { OnOk result ((self.old.work ≡ None) × (self.new.work ≡ None)) }
+        ensures fits { (room : ℕ) → OnOk result (Fits self.old room → Fits self.new room) }
+        ensures same { IsSetUpAs self.old self.new }
+    {
+        if self.work.is_some() {
+            return Err(Refusal::Asked);
+        }
+        match mode_after_long(&self.config, self.mode, setup) {
+            Some(after) => {
+                self.mode = after;
+                Ok(true)
+            }
+            None => Ok(false),
+        }
+    }
+}

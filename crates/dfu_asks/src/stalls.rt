@@ -1,0 +1,83 @@
+//! Whether a device will stall a setup, said before its body is there.
+ghost use Rattle.std.specs.Prelude.{◌≡◌, ◌-◌, ◌*◌, ◌/◌, ℕ, List, length, Some, IfOk, IfErr, OnOk, IsSome, None};
+ghost use Rattle.dfu_device.specs.Stage.{Profile as TableProfile};
+ghost use Rattle.dfu_device.specs.Table.{plan};
+ghost use Rattle.dfu_device.specs.Rows.{meant};
+ghost use Rattle.dfu_device.specs.Parts.{stage_of};
+ghost use Rattle.dfu_device.specs.Decision.{profile_in, plan_of, HoldsWritten, HasLength};
+ghost use Rattle.dfu_slots.specs.Units.{gate_room};
+ghost use Rattle.dfu_asks.specs.Asks.{grain_in, device_in, IsDevice};
+ghost use Rattle.dfu_asks.specs.InMode.{IsDeviceIn};
+ghost use Rattle.dfu_asks.specs.Lent.{LentAsking, lent};
+ghost use Rattle.dfu_asks.specs.Mapped.{grain_of};
+ghost use Rattle.dfu_asks.specs.Verdict.{verdict, TellsStall};
+
+use crate::gates::gate_room;
+use crate::{Asking, Refusal, Sector};
+use dfu_device::{Config, Decision, DeviceState, Profile, Reply, decide};
+use dfu_slots::Unit;
+use dfu_wire::{Request, Setup};
+
+// Whether a decision answers with a stall.
+fn stalls(decision: Decision) -> bool
+    ensures { (c : TableProfile) (image spare block body : List ℕ) → Some result ≡ verdict (plan_of c image spare block body decision) }
+{
+    match decision {
+        Decision::Sure { reply, .. }
+        | Decision::Writes { reply, .. }
+        | Decision::Commits { reply, .. } => matches!(reply, Reply::Stall),
+        Decision::Holds { .. } | Decision::Sends { .. } => false,
+    }
+}
+
+// Whether a device of this profile stalls this request of the class in this mode, whatever body of the right length comes with it.
+fn will_stall(profile: &Profile, mode: DeviceState, request: Request) -> bool
+    ensures { (image spare unwritten body : List ℕ) → HoldsWritten mode spare → HasLength request body
+        → Some result ≡ verdict (plan (profile_in profile.now) image (stage_of mode spare unwritten) (meant request body)) }
+{
+    stalls(decide(profile, mode, request))
+}
+
+// How many bytes of data a slot has in flash of this size.
+fn room_in(unit: Unit, sector: Sector, size: usize) -> u64
+    ensures { result ≡ size / 2 - 2 * gate_room (grain_of unit sector) }
+{
+    (size as u64 / 2).saturating_sub(2 * u64::from(gate_room(unit, sector)))
+}
+
+/// Whether a device of this configuration in this mode, on flash of so many bytes that is written in this unit and erased in these sectors,
+/// stalls this setup, as `Asking::would_stall`.
+pub fn mode_stalls(
+    config: &Config,
+    unit: Unit,
+    sector: Sector,
+    mode: DeviceState,
+    size: usize,
+    setup: &[u8; 8],
+) -> bool
+    ensures { (a : LentAsking) (flash : List ℕ) → IsDeviceIn config.now mode a flash → grain_in a ≡ grain_of unit sector →
+        length flash ≡ size → TellsStall result setup.now (device_in a flash) }
+{
+    let profile = config.profile(room_in(unit, sector, size));
+    will_stall(&profile, mode, Setup::decode(setup).request())
+}
+
+impl Asking {
+    /// Whether `handle` will stall this setup, whatever body of wLength bytes comes with it: true exactly if so (USB DFU 1.1, appendix A).
+    /// `size` is how many bytes the flash has. A stack that stalls a request before its data stage asks this first.
+    ///
+    /// # Errors
+    ///
+    /// `Asked` if writes are due.
+    pub fn would_stall(&self, size: usize, setup: &[u8; 8]) -> Result<bool, Refusal>
+        ensures told { (block held flash : List ℕ) → IsDevice (lent self.now block held) flash → length flash ≡ size →
+            IfOk result (λ b. TellsStall b setup.now (device_in (lent self.now block held) flash)) }
+        ensures idle { OnOk result (self.now.work ≡ None) }
+        ensures asked { IfErr result (λ e. (e ≡ Refusal.Asked) × IsSome self.now.work) }
+    {
+        if self.work.is_some() {
+            return Err(Refusal::Asked);
+        }
+        Ok(mode_stalls(&self.config, self.unit, self.sector, self.mode, size, setup))
+    }
+}

@@ -1,0 +1,59 @@
+-- What is said of the devices of a setting in a mode is said of each device that a record is.
+use Rattle.std.proofs.Common.{◌≡◌, ◌⊎◌, inl, inr, min, Bool, true, false, ℕ, ℤ, pos, List, sym, ◌∙◌, refl, subst}
+use Rattle.dfu_slots.specs.declared.layout.Unit.{Unit as WriteUnit}
+use Rattle.dfu_slots.specs.Seen.{spare_of}
+use Rattle.dfu_device.specs.declared.device_state.DeviceState.{DeviceState}
+use Rattle.dfu_device.specs.DeviceView.{DeviceView}
+use Rattle.dfu_device.specs.Setting.{Setting}
+use Rattle.dfu_asks.specs.declared.asking.Asking.{Asking}
+use Rattle.dfu_asks.specs.declared.sector.Sector.{Sector}
+use Rattle.dfu_asks.specs.Asks.{grain_in, store_in, device_in, IsDevice}
+use Rattle.dfu_asks.specs.InMode.{IsDeviceIn}
+use Rattle.dfu_asks.specs.Lent.{LentAsking}
+use Rattle.dfu_asks.specs.Mapped.{grain_of}
+use Rattle.dfu_asks.specs.Times.{due_of, ChangesOnceDue}
+use Rattle.dfu_asks.proofs.DueTimes.{time_due}
+use Rattle.dfu_device_c.specs.declared.config.DfuConfig.{DfuConfig}
+use Rattle.dfu_device_c.specs.declared.record.DfuRecord.{DfuRecord}
+use Rattle.dfu_device_c.specs.Due.{LATEST, ToldDue}
+use Rattle.dfu_device_c.specs.Kept.{IsKept, IsSetUp, with_memory}
+use Rattle.dfu_device_c.specs.Mode.{HasMode}
+use Rattle.dfu_device_c.specs.Numbers.{told_number}
+
+-- A yes or a no has one of two numbers.
+pub two : (said : Bool) (n : ℤ) → n ≡ told_number said → (n ≡ pos 0) ⊎ (n ≡ pos 1)
+two true n is = inr is
+two false n is = inl is
+
+module _ (c : DfuConfig) (r : DfuRecord) {config : Setting} {unit : WriteUnit} {sector : Sector} (m : DeviceState)
+    (set_up : IsSetUp c config unit sector) (the_mode : (x : DeviceState) → HasMode r x → m ≡ x) (block flash : List ℕ) (a : Asking)
+    (kept : IsKept c r a) where
+  -- The record is a device of this setting in this mode.
+  pub kept_in : IsDevice (with_memory block a) flash → IsDeviceIn config m (with_memory block a) flash
+  kept_in device = record {
+    config_is = kept.set_up.config_is ∙ sym set_up.config_is;
+    mode_is = sym (the_mode a.mode kept.mode);
+    device = device;
+  }
+
+  -- Its flash is written like this.
+  pub grain_is : grain_in (with_memory block a) ≡ grain_of unit sector
+  grain_is = λ i. record {
+    unit = (kept.set_up.unit_is ∙ sym set_up.unit_is) i;
+    sector = (kept.set_up.sector_is ∙ sym set_up.sector_is) i;
+  }
+
+-- A change of its state is due when it is said to be.
+pub told_due : (c : DfuConfig) (r : DfuRecord) {config : Setting} {unit : WriteUnit} {sector : Sector} (m : DeviceState) (result : ℤ)
+    → IsSetUp c config unit sector → ((x : DeviceState) → HasMode r x → m ≡ x) → result ≡ pos (min LATEST (due_of config m))
+    → ToldDue c r result
+told_due c r {config = config} m result set_up the_mode says = record {
+  due = due_of config m;
+  number_is = says;
+  told = λ block flash a kept device ms d' went.
+      let l : LentAsking = with_memory block a in
+      let d : DeviceView = device_in l flash in
+      let in_mode : IsDeviceIn config m l flash = kept_in c r m set_up the_mode block flash a kept device in
+      subst (λ (k : ℕ). ChangesOnceDue k ms d d') (λ i. due_of (in_mode.config_is i) (in_mode.mode_is i))
+      (time_due ms d d' l.mode (spare_of (store_in l flash)) l.block refl went);
+}
