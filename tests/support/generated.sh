@@ -3,7 +3,7 @@
 
 # generated FOLDER: the names of its files that nobody wrote by hand, and that no cargo made in rust/, one on a line.
 generated() {
-    (cd -- "$1" && find . ! -type d ! -path './make/*' ! -name README.md ! -name NOTICES.md ! -name generate ! -name os.c ! -name dfu.S \
+    (cd -- "$1" && find . ! -type d ! -path './make/*' ! -path ./README.md ! -name NOTICES.md ! -name generate ! -name os.c ! -name dfu.S \
         ! -path './rust/target/*' ! -path ./rust/Cargo.lock | sed 's|^\./||' | LC_ALL=C sort)
 }
 

@@ -12,7 +12,8 @@ HEADERS = ("dfu_core.h", "dfu_host.h", "dfu_image.h", "dfu_trial_core.h", "dfu_i
 CALL = re.compile(r"(?<![\w{])(u?int32_t) (dfu(?:se)?_\w+)\(([^(){};]*)\);")
 PARAMETER = re.compile(r"(.*?[ *])(\w+)(\[\d+\])?")
 # What is handed with a length behind it, in so many elements.
-COUNTED = ("uint8_t", "struct dfuse_element")
+ELEMENT = "struct dfuse_element"
+COUNTED = ("uint8_t", ELEMENT)
 HEAD = """#include <stdio.h>
 #include <stdlib.h>
 #include <string.h>
@@ -37,6 +38,24 @@ static void *copy(const void *from, size_t count) {
     if (count)
         memcpy(made, from, count);
     return made;
+}
+/* An element in Rust has a pointer and a length of the processor's size; in C each takes 8 bytes. They are the same but on 32 bits. */
+struct element_in_rust {
+    uint32_t address;
+    const uint8_t *bytes;
+    size_t length;
+};
+static struct element_in_rust *to_rust(const struct dfuse_element *from, size_t count) {
+    struct element_in_rust *made = malloc(count * sizeof *made + 1);
+    if (!made)
+        abort();
+    for (size_t i = 0; i < count; i++)
+        made[i] = (struct element_in_rust){from[i].address, from[i].bytes, from[i].length};
+    return made;
+}
+static void of_rust(struct dfuse_element *to, const struct element_in_rust *from, size_t count) {
+    for (size_t i = 0; i < count; i++)
+        to[i].address = from[i].address, to[i].bytes = from[i].bytes, to[i].length = from[i].length;
 }
 """
 
@@ -75,6 +94,12 @@ def changed(kind, word, count, call):
     return before, after
 
 
+def elements(word, given, count, is_changed):
+    """The lines for a list of elements, which Rust is given in its own form: before the call in Rust, and after it."""
+    back = [f"of_rust({given}, e_{word}, {count});"] if is_changed else []
+    return [f"struct element_in_rust *e_{word} = to_rust({given}, {count});"], [*back, f"free(e_{word});"]
+
+
 def twice(name, result, parameters):
     """The function that makes a call twice."""
     before, after, of_rust, of_c = [], [], [], []
@@ -90,10 +115,16 @@ def twice(name, result, parameters):
             of_rust.append(f"r_{word}")
         else:
             of_rust.append(word)
+        if ELEMENT in kind:
+            lines = elements(word, of_rust.pop(), parameters[at + 1].split()[-1], not kind.startswith("const"))
+            before += lines[0]
+            after = lines[1] + after
+            of_rust.append(f"e_{word}")
     types = ", ".join(parameters) or "void"
+    in_rust = types.replace(ELEMENT, "struct element_in_rust")
     body = ["calls++;", *before, f"{result} r = r_{name}({', '.join(of_rust)});", f"{result} c = c_{name}({', '.join(of_c)});",
             "if (r != c)", f'    differs("{name}", "result", &r, &c, sizeof r);', *after, "return c;"]
-    return (f"{result} r_{name}({types});\n{result} c_{name}({types});\n{result} {name}({types}) {{\n"
+    return (f"{result} r_{name}({in_rust});\n{result} c_{name}({types});\n{result} {name}({types}) {{\n"
             + "".join(f"    {it}\n" for it in body) + "}\n")
 
 
