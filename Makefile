@@ -7,6 +7,7 @@
 #   make uninstall    takes away what make install puts there, and nothing else
 #   make libraries    the libraries, as make lib: make libraries CC=arm-none-eabi-gcc CFLAGS='-mcpu=cortex-m4 -mthumb' BUILD=build-m4
 #   make page         the page for browsers, in build/page
+#   make dfu-rust     the program dfu in plain Rust, by cargo: build/dfu-rust/target/release/dfu
 #   make dfu-flash.exe CROSS=x86_64-w64-mingw32- CPPFLAGS=-I.. LDFLAGS=-L..
 #                     dfu-flash for Windows by mingw-w64, with libusb-1.0 for Windows in these folders; in build-x86_64-w64-mingw32/
 #   make archive      the sources as build/fustrelan-VERSION.tar.gz
@@ -53,7 +54,7 @@ endif
 .SECONDEXPANSION:
 .DELETE_ON_ERROR:
 .SUFFIXES:
-.PHONY: all build everything libraries page check check-all install uninstall archive clean help FORCE
+.PHONY: all build everything libraries page dfu-rust check check-all install uninstall archive clean help FORCE
 
 libraries = $(BUILD)/libdfu_device.a $(BUILD)/libdfu_host.a $(BUILD)/libdfu_install.a $(BUILD)/libdfu_trial.a
 programs = $(if $(has_code),$(BUILD)/dfu) $(if $(has_libusb),$(BUILD)/dfu-flash$(exe)) $(if $(has_functionfs),$(BUILD)/dfu-gadget)
@@ -88,6 +89,8 @@ libraries: $(libraries)
 lib libs library: libraries
 page:
 	web/build $(BUILD)/page
+dfu-rust:
+	@dist/make/rust-built $(BUILD)/dfu-rust
 web: page
 flash: dfu-flash
 gadget: dfu-gadget
@@ -229,7 +232,7 @@ archive:
 # Only a folder that this file built in has the words of a build.
 clean:
 	@if [ -f $(objects)/words ]; then \
-	    rm -rf $(objects) $(BUILD)/page && \
+	    rm -rf $(objects) $(BUILD)/page $(BUILD)/dfu-rust && \
 	    rm -f $(libraries) $(BUILD)/dfu $(BUILD)/dfu-flash $(BUILD)/dfu-flash.exe $(BUILD)/dfu-gadget $(BUILD)/fustrelan-*.tar.gz && \
 	    rmdir $(BUILD) 2> /dev/null || [ ! -d $(objects) ]; \
 	fi

@@ -110,14 +110,14 @@ static inline uint64_t umin64(uint64_t x, uint64_t y) { return x < y ? x : y; }
 static inline uint32_t usub_sat32(uint32_t x, uint32_t y) { return x < y ? 0 : (uint32_t)(x - y); }
 static inline uint64_t usub_sat64(uint64_t x, uint64_t y) { return x < y ? 0 : (uint64_t)(x - y); }
 
-static _Alignas(1) const uint8_t static_0[1] = {
-    0
-};
-static _Alignas(4) const uint8_t static_2[64] = {
+static _Alignas(4) const uint8_t static_0[64] = {
     0, 0, 0, 0, 0x64, 0x10, 0xb7, 0x1d, 0xc8, 0x20, 0x6e, 0x3b, 0xac, 0x30, 0xd9, 0x26, 0x90, 0x41, 0xdc, 0x76,
     0xf4, 0x51, 0x6b, 0x6b, 0x58, 0x61, 0xb2, 0x4d, 0x3c, 0x71, 5, 0x50, 0x20, 0x83, 0xb8, 0xed, 0x44, 0x93, 0xf, 0xf0,
     0xe8, 0xa3, 0xd6, 0xd6, 0x8c, 0xb3, 0x61, 0xcb, 0xb0, 0xc2, 0x64, 0x9b, 0xd4, 0xd2, 0xd3, 0x86, 0x78, 0xe2, 0xa, 0xa0,
     0x1c, 0xf2, 0xbd, 0xbd
+};
+static _Alignas(1) const uint8_t static_2[1] = {
+    0
 };
 static _Alignas(4) const uint32_t switch_table_dfu_slots_layout_fill_size[4] = {
     1, 0x10, 0x40, 0x100
@@ -159,9 +159,22 @@ static _Alignas(4) const uint8_t switch_table_dfu_core_took[13] = {
 static uint8_t dfu_device_c_mode_has_mode(unsigned char *a0);
 static void dfu_device_c_mode_mode_of(unsigned char *a0, unsigned char *a1);
 static void dfu_device_c_config_settings_of(unsigned char *a0, unsigned char *a1);
-static uint8_t dfu_device_c_config_unit_of(unsigned char *a0);
 static struct i8_i32 dfu_asks_sector_Sector_new(uint32_t a0);
 static void dfu_device_c_config_functional_of(unsigned char *a0, unsigned char *a1);
+static void dfu_asks_asking_Asking_power_on(unsigned char *a0, unsigned char *a1, uint8_t a2, uint32_t a3, unsigned char *a4, uint64_t a5);
+static void dfu_asks_noted_Noted_find(unsigned char *a0, unsigned char *a1, uint64_t a2, uint8_t a3, uint32_t a4);
+static void dfu_slots_places_check(unsigned char *a0, unsigned char *a1);
+static uint8_t dfu_slots_layout_is_sized(unsigned char *a0);
+static uint8_t dfu_slots_read_counts(unsigned char *a0, uint32_t a1);
+static uint8_t dfu_slots_read_is_open(unsigned char *a0, uint32_t a1);
+static uint8_t dfu_slots_read_byte_at(unsigned char *a0, uint32_t a1);
+static void core_slice_edits_slice_T_copy_from_slice_i8_core_clone_U8Clone(unsigned char *a0, unsigned char *a2, uint64_t a3);
+static uint32_t dfu_slots_layout_capacity_of(unsigned char *a0);
+static void dfu_slots_read_read_data(unsigned char *a0, uint32_t a1, uint32_t a2, unsigned char *a3, uint64_t a4);
+static void dfu_suffix_crc_Crc_update_small(unsigned char *a0, unsigned char *a1, uint64_t a2);
+static uint8_t dfu_slots_places_is_newest(unsigned char *a0, uint32_t a1, uint32_t a2, uint8_t a3, uint8_t a4);
+static uint8_t dfu_slots_read_generation(unsigned char *a0, uint32_t a1);
+static void dfu_slots_read_header_of(unsigned char *a0, unsigned char *a1, uint32_t a2);
 static void dfu_device_c_format_formatting_of(unsigned char *a0, unsigned char *a1, unsigned char *a2);
 static uint8_t dfu_asks_formatting_Formatting_due(unsigned char *a0, uint64_t a2, unsigned char *a3);
 static uint8_t dfu_asks_format_piece_part_piece(unsigned char *a0, uint64_t a1, unsigned char *a2);
@@ -172,29 +185,14 @@ static uint8_t dfu_asks_format_piece_open_piece(uint64_t a0, uint32_t a1, unsign
 static uint8_t dfu_asks_next_and_took_is_sound(uint32_t a0, unsigned char *a1);
 static void dfu_asks_cut_fill(unsigned char *a0, unsigned char *a1);
 static uint8_t dfu_asks_cut_byte_of(unsigned char *a0, uint64_t a1);
-static uint8_t dfu_slots_layout_is_sized(unsigned char *a0);
-static uint32_t dfu_slots_layout_capacity_of(unsigned char *a0);
-static void dfu_suffix_crc_Crc_update_small(unsigned char *a0, unsigned char *a1, uint64_t a2);
 static uint8_t dfu_asks_cut_stands(unsigned char *a0, uint64_t a1, unsigned char *a2);
-static void dfu_asks_noted_Noted_find(unsigned char *a0, unsigned char *a1, uint64_t a2, uint8_t a3, uint32_t a4);
-static void dfu_slots_places_check(unsigned char *a0, unsigned char *a1);
-static uint8_t dfu_slots_read_counts(unsigned char *a0, uint32_t a1);
-static uint8_t dfu_slots_read_is_open(unsigned char *a0, uint32_t a1);
-static uint8_t dfu_slots_read_byte_at(unsigned char *a0, uint32_t a1);
-static void core_slice_edits_slice_T_copy_from_slice_i8_core_clone_U8Clone(unsigned char *a0, unsigned char *a2, uint64_t a3);
-static void dfu_slots_read_read_data(unsigned char *a0, uint32_t a1, uint32_t a2, unsigned char *a3, uint64_t a4);
-static uint8_t dfu_slots_places_is_newest(unsigned char *a0, uint32_t a1, uint32_t a2, uint8_t a3, uint8_t a4);
-static uint8_t dfu_slots_read_generation(unsigned char *a0, uint32_t a1);
-static void dfu_slots_read_header_of(unsigned char *a0, unsigned char *a1, uint32_t a2);
-static uint8_t dfu_device_c_blank_is_erased(unsigned char *a0, uint64_t a2, uint64_t a3);
-static uint8_t dfu_device_c_config_is_allowed(unsigned char *a0);
+static uint8_t dfu_asks_blank_is_erased(unsigned char *a0, uint64_t a2, uint64_t a3);
 static void dfu_wire_bytes_two_bytes(unsigned char *a0, uint16_t a1);
 static void dfu_device_c_mode_mode_in(unsigned char *a0, unsigned char *a1, unsigned char *a2);
 static void dfu_device_c_mode_idle_mode(unsigned char *a0, unsigned char *a1, unsigned char *a2);
-static uint8_t dfu_device_table_is_close(unsigned char *a0);
+static uint8_t dfu_asks_closes_mode_closes(unsigned char *a0, unsigned char *a1, unsigned char *a2);
 static void dfu_wire_setups_Setup_request(unsigned char *a0, unsigned char *a1);
 static void dfu_device_c_mode_set_mode(unsigned char *a0, unsigned char *a1);
-static uint32_t dfu_device_c_power_start(unsigned char *a0, unsigned char *a1, unsigned char *a2, uint64_t a3, uint32_t a4);
 static void dfu_device_table_decide(unsigned char *a0, unsigned char *a1, unsigned char *a2, unsigned char *a3);
 static void dfu_device_plans_block(unsigned char *a0, unsigned char *a1, uint32_t a2, uint16_t a3, uint16_t a4, uint16_t a5);
 static void dfu_device_plans_upload(unsigned char *a0, unsigned char *a1, uint32_t a2, uint16_t a3, uint16_t a4, uint16_t a5);
@@ -390,16 +388,32 @@ join_18:
 /* dfu_device_c::config::settings_of */
 static void dfu_device_c_config_settings_of(unsigned char *a0, unsigned char *a1) {
     _Alignas(4) unsigned char r6[10];
-    uint8_t r24, r2_0_0_copyload, r2_3_0_copyload, r2_4_0_copyload, r2_6_0_copyload, r22_4_0_3_0, r22_4_0_4_0, r22_4_0_5_0, r22_4_0_6_0, r22_4_3_0;
-    uint32_t r53, r82, r84, r86, r22_4_0_10_0, r22_4_0_11_0, r22_4_0_12_0, r22_4_5_0, r22_0_0_0;
+    uint32_t r11, r53, r82, r84, r86, r22_4_0_10_0, r22_4_0_11_0, r22_4_0_12_0, r22_4_5_0, r22_0_0_0;
+    uint8_t r3_0_0, r2_0_0_copyload, r2_3_0_copyload, r2_4_0_copyload, r2_6_0_copyload, r22_4_0_3_0, r22_4_0_4_0, r22_4_0_5_0, r22_4_0_6_0, r22_4_3_0;
     uint64_t r5_0_0, r22_4_0_0_0;
     uint16_t r2_7_0_copyload, r2_8_0_copyload, r22_4_0_7_0, r22_4_0_8_0, r22_4_0_9_0;
-    r24 = dfu_device_c_config_unit_of(a1);
+    r11 = load32(a1 + 28);
+    switch (r11) {
+    case 16:
+        r3_0_0 = 1;
+        goto dfu_device_c_config_unit_of_exit;
+    case 64: goto join_6;
+    case 256: goto join_9;
+    default: goto else_8;
+    }
+else_8:
+    r3_0_0 = 0;
+    goto dfu_device_c_config_unit_of_exit;
+join_9:
+    r3_0_0 = 3;
+    goto dfu_device_c_config_unit_of_exit;
+join_6:
+    r3_0_0 = 2;
+dfu_device_c_config_unit_of_exit:;
     uint32_t r25 = load32(a1);
     if (r25 != 300) goto join_5;
-    uint32_t switch_load = load32(PLACE(switch_table_dfu_slots_layout_fill_size) + 4 * (size_t)r24);
-    uint32_t r34 = load32(a1 + 28);
-    if (switch_load == r34) goto after_1;
+    uint32_t switch_load = load32(PLACE(switch_table_dfu_slots_layout_fill_size) + 4 * (size_t)r3_0_0);
+    if (switch_load == r11) goto after_1;
     goto join_5;
 join_5:
     memset(a0, 0, 40);
@@ -470,7 +484,7 @@ arm_15:
     r22_4_0_10_0 = r82;
     r22_4_0_11_0 = r84;
     r22_4_0_12_0 = r86;
-    r22_4_3_0 = r24;
+    r22_4_3_0 = r3_0_0;
     r22_4_5_0 = r53;
     r22_0_0_0 = 1;
 join_17:
@@ -489,30 +503,6 @@ join_17:
     a0[32] = r22_4_3_0;
     store32(a0 + 36, r22_4_5_0);
     return;
-}
-
-/* dfu_device_c::config::unit_of */
-static uint8_t dfu_device_c_config_unit_of(unsigned char *a0) {
-    uint8_t r3_0_0;
-    uint32_t r11 = load32(a0 + 28);
-    switch (r11) {
-    case 16:
-        r3_0_0 = 1;
-        goto join_3;
-    case 64: goto join_6;
-    case 256: goto join_9;
-    default: goto else_8;
-    }
-else_8:
-    r3_0_0 = 0;
-    goto join_3;
-join_9:
-    r3_0_0 = 3;
-    goto join_3;
-join_6:
-    r3_0_0 = 2;
-join_3:
-    return r3_0_0;
 }
 
 /* dfu_asks::sector::Sector::new */
@@ -537,6 +527,352 @@ static void dfu_device_c_config_functional_of(unsigned char *a0, unsigned char *
     store16(a0 + 4, r7);
     store16(a0 + 6, r9);
     store16(a0 + 8, 272);
+    return;
+}
+
+/* dfu_asks::asking::Asking::power_on */
+static void dfu_asks_asking_Asking_power_on(unsigned char *a0, unsigned char *a1, uint8_t a2, uint32_t a3, unsigned char *a4, uint64_t a5) {
+    _Alignas(4) unsigned char r1[28];
+    _Alignas(4) unsigned char r10[18];
+    memcpy(r1, a1, 28);
+    dfu_asks_noted_Noted_find(r10, a4, a5, a2, a3);
+    uint8_t r1_0_0_copyload = *r10;
+    if (r1_0_0_copyload != 1) goto arm_2;
+    store64(a0, 1);
+    memcpy(a0 + 8, r1, 28);
+    a0[36] = a2;
+    memset(a0 + 37, 0, 3);
+    store32(a0 + 40, a3);
+    memset(a0 + 44, 0, 20);
+    memcpy(a0 + 84, r10 + 1, 17);
+    memset(a0 + 101, 0, 3);
+    memset(a0 + 108, 0, 24);
+common_ret:
+    store32(a0 + 104, 0);
+    store32(a0 + 132, 0);
+    memset(a0 + 64, 0, 20);
+    return;
+arm_2:
+    memset(a0 + 108, 0, 24);
+    memset(a0, 0, 64);
+    memset(a0 + 84, 0, 20);
+    goto common_ret;
+}
+
+/* dfu_asks::noted::Noted::find */
+static void dfu_asks_noted_Noted_find(unsigned char *a0, unsigned char *a1, uint64_t a2, uint8_t a3, uint32_t a4) {
+    _Alignas(8) unsigned char r5[24];
+    _Alignas(4) unsigned char r14_6[16];
+    _Alignas(4) unsigned char r12[12];
+    uint8_t r14_0_0, r14_4_0;
+    memset(r14_6, 0, 16);
+    if (a2 >= 0x100000000ULL) goto arm_2;
+    store64(r5, (uint64_t)(uintptr_t)a1);
+    store64(r5 + 8, a2);
+    r5[16] = a3;
+    store32(r5 + 20, a4);
+    dfu_slots_places_check(r12, r5);
+    uint8_t r30 = *r12;
+    if (r30 == 0) goto arm_5;
+    r14_0_0 = 0;
+    r14_4_0 = 0;
+    goto join_7;
+arm_2:
+    memset(a0, 0, 18);
+    return;
+arm_5:;
+    uint32_t r8_0_0_copyload = load32(r12 + 4);
+    dfu_slots_read_header_of(r14_6, r5, r8_0_0_copyload);
+    r14_0_0 = 1;
+    r14_4_0 = r8_0_0_copyload != 0;
+join_7:
+    *a0 = r14_0_0;
+    a0[1] = r14_4_0;
+    memcpy(a0 + 2, r14_6, 16);
+    return;
+}
+
+/* dfu_slots::places::check::<#c4c4734aca759fff> */
+static void dfu_slots_places_check(unsigned char *a0, unsigned char *a1) {
+    _Alignas(1) unsigned char r3_4[16];
+    uint8_t r5, r11;
+    unsigned char *r2;
+    uint32_t r72_2, r72_3, r1_9_0_copyload, v3, v4;
+    uint8_t r1_2_0_copyload, v50, v5;
+    uint8_t r12 = dfu_slots_layout_is_sized(a1);
+    if (r12) goto join_3;
+    goto then_1;
+then_1:
+    *a0 = 1;
+    a0[1] = 0;
+    store32(a0 + 4, 0);
+    store32(a0 + 8, 0);
+    return;
+join_3:
+    r5 = dfu_slots_read_counts(a1, 0);
+    r2 = a1 + 8;
+    uint64_t r3 = load64(r2);
+    r11 = dfu_slots_read_counts(a1, (uint32_t)r3 >> 1);
+    if (r5 | r11) goto join_6;
+    *a0 = 1;
+    a0[1] = 1;
+    store32(a0 + 4, 0);
+    store32(a0 + 8, 0);
+    return;
+join_6:;
+    uint64_t r3_2 = load64(r2);
+    uint8_t r15 = dfu_slots_places_is_newest(a1, 0, (uint32_t)r3_2 >> 1, r5, r11);
+    uint64_t r3_3 = load64(r2);
+    uint32_t r72 = (uint32_t)r3_3 >> 1;
+    r72_2 = (uint32_t)(r15 ? 0 : r72);
+    r72_3 = (uint32_t)(r15 ? r72 : 0);
+    if (r72_2 != 0) goto dfu_slots_places_has_newest_exit;
+    uint8_t r24 = dfu_slots_places_is_newest(a1, 0, r72_3, r5, r11);
+    if (r24) goto join_9;
+    goto then_7;
+dfu_slots_places_has_newest_exit:;
+    uint8_t r33 = dfu_slots_places_is_newest(a1, r72_2, r72_3, r11, r5);
+    if (r33) goto join_9;
+then_7:
+    *a0 = 1;
+    a0[1] = 2;
+    store32(a0 + 4, 0);
+    store32(a0 + 8, 0);
+    return;
+join_9:
+    dfu_slots_read_header_of(r3_4, a1, r72_2);
+    r1_2_0_copyload = r3_4[1];
+    r1_9_0_copyload = load32u(r3_4 + 12);
+    if (r1_2_0_copyload != 2) goto join_3_2;
+    v50 = 0;
+    v3 = r72_3;
+    v4 = r72_2;
+    v5 = 0;
+    goto v2;
+join_3_2:;
+    uint32_t r1_6_0_copyload = load32u(r3_4 + 4);
+    uint32_t r1_8_0_copyload = load32u(r3_4 + 8);
+    uint8_t r1_5_0_copyload = r3_4[3];
+    uint8_t r1_4_0_copyload = r3_4[2];
+    uint32_t r26 = dfu_slots_layout_capacity_of(a1);
+    if (((((r1_2_0_copyload == 1) & (r1_6_0_copyload <= r26)) ? (r1_4_0_copyload == 0) : 0) ? (r1_5_0_copyload == 0) : 0) ? (r1_8_0_copyload == 0) : 0) goto dfu_slots_read_header_len_exit;
+    goto v1;
+dfu_slots_read_header_len_exit:
+    if (r1_9_0_copyload == 0) {
+        v50 = 0;
+        v3 = r72_3;
+        v4 = r72_2;
+        v5 = 0;
+        goto v2;
+    }
+v1:
+    v50 = 1;
+    v3 = 0;
+    v4 = 0;
+    v5 = 3;
+v2:
+    *a0 = v50;
+    a0[1] = v5;
+    store32(a0 + 4, v4);
+    store32(a0 + 8, v3);
+    return;
+}
+
+/* dfu_slots::layout::is_sized::<#c4c4734aca759fff> */
+static uint8_t dfu_slots_layout_is_sized(unsigned char *a0) {
+    uint32_t r1_0_0_copyload, a0_a1, r5, r69;
+    uint8_t common_ret_op;
+    uint64_t v0;
+    r1_0_0_copyload = load32(a0 + 20);
+    if ((r1_0_0_copyload < 0x20001U) & ((r1_0_0_copyload & 255) == 0)) goto join_3;
+    common_ret_op = 0;
+common_ret:
+    return common_ret_op;
+join_3:;
+    uint8_t r0_0_0_copyload = a0[16];
+    v0 = (uint64_t)r0_0_0_copyload;
+    uint32_t switch_load = load32(PLACE(switch_table_dfu_core_would_stall) + 4 * (size_t)v0);
+    a0_a1 = umax32(r1_0_0_copyload, switch_load);
+    uint64_t r3 = load64(a0 + 8);
+    r5 = (uint32_t)r3;
+    uint32_t pre = a0_a1 << 2;
+    if (!(((pre + 0x2000000U) >= r5) & (((r5 & 1) == 0) ? (pre < r5) : !(r3 & 1)))) {
+        common_ret_op = 0;
+        goto common_ret;
+    }
+    r69 = (r5 >> 1) - (a0_a1 << 1);
+    uint32_t switch_load_2 = load32(PLACE(switch_table_dfu_asks_asking_Asking_is_fit) + 4 * (size_t)v0);
+    if ((switch_load_2 & r69) != 0) {
+        common_ret_op = 0;
+        goto common_ret;
+    }
+    if (r1_0_0_copyload == 0) {
+        common_ret_op = 1;
+        goto common_ret;
+    }
+    common_ret_op = (r69 % r1_0_0_copyload) == 0;
+    goto common_ret;
+}
+
+/* dfu_slots::read::counts::<#c4c4734aca759fff> */
+static uint8_t dfu_slots_read_counts(unsigned char *a0, uint32_t a1) {
+    _Alignas(1) unsigned char r2[64];
+    _Alignas(1) unsigned char r3_2[16];
+    _Alignas(1) unsigned char r3[16];
+    _Alignas(4) unsigned char r1[4];
+    uint8_t r1_2_0_copyload, r1_3_0_copyload, r1_4_0_copyload;
+    uint32_t r1_5_0_copyload, r1_6_0_copyload, r1_7_0_copyload, r3_0;
+    uint8_t common_ret_op, r1_0_in;
+    uint8_t r8 = dfu_slots_read_is_open(a0, a1);
+    if (!r8) {
+        r1_0_in = 0;
+        goto join_3;
+    }
+    dfu_slots_read_header_of(r3, a0, a1);
+    uint8_t r4_2_0_copyload = r3[1];
+    if (r4_2_0_copyload != 2) {
+        r1_0_in = 1;
+        goto join_3;
+    }
+    dfu_slots_read_header_of(r3_2, a0, a1);
+    r1_2_0_copyload = r3_2[1];
+    r1_3_0_copyload = r3_2[2];
+    r1_4_0_copyload = r3_2[3];
+    r1_5_0_copyload = load32u(r3_2 + 4);
+    r1_6_0_copyload = load32u(r3_2 + 8);
+    r1_7_0_copyload = load32u(r3_2 + 12);
+    uint32_t r10 = dfu_slots_layout_capacity_of(a0);
+    if (r10 < r1_5_0_copyload) {
+        common_ret_op = 0;
+        goto dfu_slots_read_is_intact_exit;
+    }
+    store32(r1, 0xffffffffU);
+    memset(r2, 0, 64);
+    r3_0 = 0;
+loop_2:
+    if (r3_0 >= r1_5_0_copyload) goto dfu_slots_register_register_of_exit;
+    uint32_t a1_a0 = umin32(r1_5_0_copyload - r3_0, 64);
+    uint64_t r28 = (uint64_t)a1_a0;
+    dfu_slots_read_read_data(a0, a1, r3_0, r2, r28);
+    dfu_suffix_crc_Crc_update_small(r1, r2, r28);
+    r3_0 = a1_a0 + r3_0;
+    goto loop_2;
+dfu_slots_register_register_of_exit:;
+    uint32_t r0_0_0_copyload = load32(r1);
+    common_ret_op = ((((r1_2_0_copyload == 2) ? (r1_3_0_copyload == 0) : 0) ? (r1_4_0_copyload == 0) : 0) ? (r1_6_0_copyload == r0_0_0_copyload) : 0) ? (r1_7_0_copyload == 0) : 0;
+dfu_slots_read_is_intact_exit:
+    r1_0_in = common_ret_op;
+join_3:
+    return r1_0_in;
+}
+
+/* dfu_slots::read::is_open::<#c4c4734aca759fff> */
+static uint8_t dfu_slots_read_is_open(unsigned char *a0, uint32_t a1) {
+    uint8_t r2 = dfu_slots_read_byte_at(a0, a1);
+    return r2 == 165;
+}
+
+/* dfu_slots::read::byte_at::<#c4c4734aca759fff> */
+static uint8_t dfu_slots_read_byte_at(unsigned char *a0, uint32_t a1) {
+    _Alignas(4) unsigned char r1[1];
+    *r1 = 0;
+    uint64_t r5_0_0_copyload = load64(a0);
+    core_slice_edits_slice_T_copy_from_slice_i8_core_clone_U8Clone(r1, (unsigned char *)(uintptr_t)r5_0_0_copyload + (size_t)a1, 1);
+    uint8_t r15 = *r1;
+    return r15;
+}
+
+/* core::slice::edits::slice+T::copy_from_slice::<i8,20'core::clone::U8Clone{}> */
+static void core_slice_edits_slice_T_copy_from_slice_i8_core_clone_U8Clone(unsigned char *a0, unsigned char *a2, uint64_t a3) {
+    uint64_t r0_0;
+    if (((uint64_t)(uintptr_t)a0 - (uint64_t)(uintptr_t)a2) < a3) {
+        r0_0 = 0;
+        goto loop_4;
+    }
+    memmove(a0, a2, (size_t)a3);
+    return;
+loop_4:
+    if (r0_0 == a3) return;
+    uint8_t r26 = a2[(size_t)r0_0];
+    a0[(size_t)r0_0] = r26;
+    r0_0 = r0_0 + 1;
+    goto loop_4;
+}
+
+/* dfu_slots::layout::capacity_of::<#c4c4734aca759fff> */
+static uint32_t dfu_slots_layout_capacity_of(unsigned char *a0) {
+    uint64_t r3 = load64(a0 + 8);
+    uint8_t r0_0_0_copyload = a0[16];
+    uint32_t r1_0_0_copyload = load32(a0 + 20);
+    uint32_t switch_load = load32(PLACE(switch_table_dfu_core_would_stall) + 4 * (size_t)r0_0_0_copyload);
+    return ((uint32_t)r3 >> 1) - (umax32(r1_0_0_copyload, switch_load) << 1);
+}
+
+/* dfu_slots::read::read_data::<#c4c4734aca759fff> */
+static void dfu_slots_read_read_data(unsigned char *a0, uint32_t a1, uint32_t a2, unsigned char *a3, uint64_t a4) {
+    uint8_t r0_0_0_copyload = a0[16];
+    uint32_t r1_0_0_copyload = load32(a0 + 20);
+    uint32_t switch_load = load32(PLACE(switch_table_dfu_core_would_stall) + 4 * (size_t)r0_0_0_copyload);
+    uint64_t r5_0_0_copyload = load64(a0);
+    core_slice_edits_slice_T_copy_from_slice_i8_core_clone_U8Clone(a3, (unsigned char *)(uintptr_t)r5_0_0_copyload + (size_t)((a2 + a1) + (umax32(r1_0_0_copyload, switch_load) << 1)), a4);
+    return;
+}
+
+/* dfu_suffix::crc::Crc::update_small */
+static void dfu_suffix_crc_Crc_update_small(unsigned char *a0, unsigned char *a1, uint64_t a2) {
+    uint64_t r4_0;
+    uint32_t r3_0;
+    uint32_t r5 = load32(a0);
+    r4_0 = 0;
+    r3_0 = r5;
+loop_3:
+    if (r4_0 == a2) goto dfu_suffix_small_after_bytes_exit;
+    uint8_t r23 = a1[(size_t)r4_0];
+    uint32_t r6 = r3_0 ^ (uint32_t)r23;
+    uint32_t r20 = load32(PLACE(static_0) + (size_t)((r6 << 2) & 60));
+    uint32_t r23_2 = (r6 >> 4) ^ r20;
+    uint32_t r20_2 = load32(PLACE(static_0) + (size_t)((r23_2 << 2) & 60));
+    r4_0 = r4_0 + 1;
+    r3_0 = (r23_2 >> 4) ^ r20_2;
+    goto loop_3;
+dfu_suffix_small_after_bytes_exit:
+    store32(a0, r3_0);
+    return;
+}
+
+/* dfu_slots::places::is_newest::<#c4c4734aca759fff> */
+static uint8_t dfu_slots_places_is_newest(unsigned char *a0, uint32_t a1, uint32_t a2, uint8_t a3, uint8_t a4) {
+    uint8_t r1_0_in;
+    if (!(a3 & a4)) {
+        r1_0_in = a3;
+        goto join_3;
+    }
+    uint8_t r13 = dfu_slots_read_generation(a0, a1);
+    uint8_t r14 = dfu_slots_read_generation(a0, a2);
+    r1_0_in = r13 == (uint8_t)(r14 + 1);
+join_3:
+    return r1_0_in;
+}
+
+/* dfu_slots::read::generation::<#c4c4734aca759fff> */
+static uint8_t dfu_slots_read_generation(unsigned char *a0, uint32_t a1) {
+    uint8_t r0_0_0_copyload = a0[16];
+    uint32_t r1_0_0_copyload = load32(a0 + 20);
+    uint32_t switch_load = load32(PLACE(switch_table_dfu_core_would_stall) + 4 * (size_t)r0_0_0_copyload);
+    uint8_t r7 = dfu_slots_read_byte_at(a0, umax32(r1_0_0_copyload, switch_load) + a1);
+    return r7;
+}
+
+/* dfu_slots::read::header_of::<#c4c4734aca759fff> */
+static void dfu_slots_read_header_of(unsigned char *a0, unsigned char *a1, uint32_t a2) {
+    _Alignas(1) unsigned char r1[16];
+    memset(r1, 0, 16);
+    uint8_t r0_0_0_copyload = a1[16];
+    uint32_t r1_0_0_copyload = load32(a1 + 20);
+    uint32_t switch_load = load32(PLACE(switch_table_dfu_core_would_stall) + 4 * (size_t)r0_0_0_copyload);
+    uint64_t r5_0_0_copyload = load64(a1);
+    core_slice_edits_slice_T_copy_from_slice_i8_core_clone_U8Clone(r1, (unsigned char *)(uintptr_t)r5_0_0_copyload + (size_t)(umax32(r1_0_0_copyload, switch_load) + a2), 16);
+    memcpy(a0, r1, 16);
     return;
 }
 
@@ -1081,73 +1417,6 @@ arm_4:
     goto common_ret;
 }
 
-/* dfu_slots::layout::is_sized::<#c4c4734aca759fff> */
-static uint8_t dfu_slots_layout_is_sized(unsigned char *a0) {
-    uint32_t r1_0_0_copyload, a0_a1, r5, r69;
-    uint8_t common_ret_op;
-    uint64_t v0;
-    r1_0_0_copyload = load32(a0 + 20);
-    if ((r1_0_0_copyload < 0x20001U) & ((r1_0_0_copyload & 255) == 0)) goto join_3;
-    common_ret_op = 0;
-common_ret:
-    return common_ret_op;
-join_3:;
-    uint8_t r0_0_0_copyload = a0[16];
-    v0 = (uint64_t)r0_0_0_copyload;
-    uint32_t switch_load = load32(PLACE(switch_table_dfu_core_would_stall) + 4 * (size_t)v0);
-    a0_a1 = umax32(r1_0_0_copyload, switch_load);
-    uint64_t r3 = load64(a0 + 8);
-    r5 = (uint32_t)r3;
-    uint32_t pre = a0_a1 << 2;
-    if (!(((pre + 0x2000000U) >= r5) & (((r5 & 1) == 0) ? (pre < r5) : !(r3 & 1)))) {
-        common_ret_op = 0;
-        goto common_ret;
-    }
-    r69 = (r5 >> 1) - (a0_a1 << 1);
-    uint32_t switch_load_2 = load32(PLACE(switch_table_dfu_asks_asking_Asking_is_fit) + 4 * (size_t)v0);
-    if ((switch_load_2 & r69) != 0) {
-        common_ret_op = 0;
-        goto common_ret;
-    }
-    if (r1_0_0_copyload == 0) {
-        common_ret_op = 1;
-        goto common_ret;
-    }
-    common_ret_op = (r69 % r1_0_0_copyload) == 0;
-    goto common_ret;
-}
-
-/* dfu_slots::layout::capacity_of::<#c4c4734aca759fff> */
-static uint32_t dfu_slots_layout_capacity_of(unsigned char *a0) {
-    uint64_t r3 = load64(a0 + 8);
-    uint8_t r0_0_0_copyload = a0[16];
-    uint32_t r1_0_0_copyload = load32(a0 + 20);
-    uint32_t switch_load = load32(PLACE(switch_table_dfu_core_would_stall) + 4 * (size_t)r0_0_0_copyload);
-    return ((uint32_t)r3 >> 1) - (umax32(r1_0_0_copyload, switch_load) << 1);
-}
-
-/* dfu_suffix::crc::Crc::update_small */
-static void dfu_suffix_crc_Crc_update_small(unsigned char *a0, unsigned char *a1, uint64_t a2) {
-    uint64_t r4_0;
-    uint32_t r3_0;
-    uint32_t r5 = load32(a0);
-    r4_0 = 0;
-    r3_0 = r5;
-loop_3:
-    if (r4_0 == a2) goto dfu_suffix_small_after_bytes_exit;
-    uint8_t r23 = a1[(size_t)r4_0];
-    uint32_t r6 = r3_0 ^ (uint32_t)r23;
-    uint32_t r20 = load32(PLACE(static_2) + (size_t)((r6 << 2) & 60));
-    uint32_t r23_2 = (r6 >> 4) ^ r20;
-    uint32_t r20_2 = load32(PLACE(static_2) + (size_t)((r23_2 << 2) & 60));
-    r4_0 = r4_0 + 1;
-    r3_0 = (r23_2 >> 4) ^ r20_2;
-    goto loop_3;
-dfu_suffix_small_after_bytes_exit:
-    store32(a0, r3_0);
-    return;
-}
-
 /* dfu_asks::cut::stands */
 static uint8_t dfu_asks_cut_stands(unsigned char *a0, uint64_t a1, unsigned char *a2) {
     uint64_t r3_2_0_copyload, r3_4_0_copyload, r3_0, r3_0_lcssa;
@@ -1179,258 +1448,8 @@ dfu_asks_cut_are_those_exit:
     goto common_ret;
 }
 
-/* dfu_asks::noted::Noted::find */
-static void dfu_asks_noted_Noted_find(unsigned char *a0, unsigned char *a1, uint64_t a2, uint8_t a3, uint32_t a4) {
-    _Alignas(8) unsigned char r5[24];
-    _Alignas(4) unsigned char r14_6[16];
-    _Alignas(4) unsigned char r12[12];
-    uint8_t r14_0_0, r14_4_0;
-    memset(r14_6, 0, 16);
-    if (a2 >= 0x100000000ULL) goto arm_2;
-    store64(r5, (uint64_t)(uintptr_t)a1);
-    store64(r5 + 8, a2);
-    r5[16] = a3;
-    store32(r5 + 20, a4);
-    dfu_slots_places_check(r12, r5);
-    uint8_t r30 = *r12;
-    if (r30 == 0) goto arm_5;
-    r14_0_0 = 0;
-    r14_4_0 = 0;
-    goto join_7;
-arm_2:
-    memset(a0, 0, 18);
-    return;
-arm_5:;
-    uint32_t r8_0_0_copyload = load32(r12 + 4);
-    dfu_slots_read_header_of(r14_6, r5, r8_0_0_copyload);
-    r14_0_0 = 1;
-    r14_4_0 = r8_0_0_copyload != 0;
-join_7:
-    *a0 = r14_0_0;
-    a0[1] = r14_4_0;
-    memcpy(a0 + 2, r14_6, 16);
-    return;
-}
-
-/* dfu_slots::places::check::<#c4c4734aca759fff> */
-static void dfu_slots_places_check(unsigned char *a0, unsigned char *a1) {
-    _Alignas(1) unsigned char r3_4[16];
-    uint8_t r5, r11;
-    unsigned char *r2;
-    uint32_t r72_2, r72_3, r1_9_0_copyload, v3, v4;
-    uint8_t r1_2_0_copyload, v50, v5;
-    uint8_t r12 = dfu_slots_layout_is_sized(a1);
-    if (r12) goto join_3;
-    goto then_1;
-then_1:
-    *a0 = 1;
-    a0[1] = 0;
-    store32(a0 + 4, 0);
-    store32(a0 + 8, 0);
-    return;
-join_3:
-    r5 = dfu_slots_read_counts(a1, 0);
-    r2 = a1 + 8;
-    uint64_t r3 = load64(r2);
-    r11 = dfu_slots_read_counts(a1, (uint32_t)r3 >> 1);
-    if (r5 | r11) goto join_6;
-    *a0 = 1;
-    a0[1] = 1;
-    store32(a0 + 4, 0);
-    store32(a0 + 8, 0);
-    return;
-join_6:;
-    uint64_t r3_2 = load64(r2);
-    uint8_t r15 = dfu_slots_places_is_newest(a1, 0, (uint32_t)r3_2 >> 1, r5, r11);
-    uint64_t r3_3 = load64(r2);
-    uint32_t r72 = (uint32_t)r3_3 >> 1;
-    r72_2 = (uint32_t)(r15 ? 0 : r72);
-    r72_3 = (uint32_t)(r15 ? r72 : 0);
-    if (r72_2 != 0) goto dfu_slots_places_has_newest_exit;
-    uint8_t r24 = dfu_slots_places_is_newest(a1, 0, r72_3, r5, r11);
-    if (r24) goto join_9;
-    goto then_7;
-dfu_slots_places_has_newest_exit:;
-    uint8_t r33 = dfu_slots_places_is_newest(a1, r72_2, r72_3, r11, r5);
-    if (r33) goto join_9;
-then_7:
-    *a0 = 1;
-    a0[1] = 2;
-    store32(a0 + 4, 0);
-    store32(a0 + 8, 0);
-    return;
-join_9:
-    dfu_slots_read_header_of(r3_4, a1, r72_2);
-    r1_2_0_copyload = r3_4[1];
-    r1_9_0_copyload = load32u(r3_4 + 12);
-    if (r1_2_0_copyload != 2) goto join_3_2;
-    v50 = 0;
-    v3 = r72_3;
-    v4 = r72_2;
-    v5 = 0;
-    goto v2;
-join_3_2:;
-    uint32_t r1_6_0_copyload = load32u(r3_4 + 4);
-    uint32_t r1_8_0_copyload = load32u(r3_4 + 8);
-    uint8_t r1_5_0_copyload = r3_4[3];
-    uint8_t r1_4_0_copyload = r3_4[2];
-    uint32_t r26 = dfu_slots_layout_capacity_of(a1);
-    if (((((r1_2_0_copyload == 1) & (r1_6_0_copyload <= r26)) ? (r1_4_0_copyload == 0) : 0) ? (r1_5_0_copyload == 0) : 0) ? (r1_8_0_copyload == 0) : 0) goto dfu_slots_read_header_len_exit;
-    goto v1;
-dfu_slots_read_header_len_exit:
-    if (r1_9_0_copyload == 0) {
-        v50 = 0;
-        v3 = r72_3;
-        v4 = r72_2;
-        v5 = 0;
-        goto v2;
-    }
-v1:
-    v50 = 1;
-    v3 = 0;
-    v4 = 0;
-    v5 = 3;
-v2:
-    *a0 = v50;
-    a0[1] = v5;
-    store32(a0 + 4, v4);
-    store32(a0 + 8, v3);
-    return;
-}
-
-/* dfu_slots::read::counts::<#c4c4734aca759fff> */
-static uint8_t dfu_slots_read_counts(unsigned char *a0, uint32_t a1) {
-    _Alignas(1) unsigned char r2[64];
-    _Alignas(1) unsigned char r3_2[16];
-    _Alignas(1) unsigned char r3[16];
-    _Alignas(4) unsigned char r1[4];
-    uint8_t r1_2_0_copyload, r1_3_0_copyload, r1_4_0_copyload;
-    uint32_t r1_5_0_copyload, r1_6_0_copyload, r1_7_0_copyload, r3_0;
-    uint8_t common_ret_op, r1_0_in;
-    uint8_t r8 = dfu_slots_read_is_open(a0, a1);
-    if (!r8) {
-        r1_0_in = 0;
-        goto join_3;
-    }
-    dfu_slots_read_header_of(r3, a0, a1);
-    uint8_t r4_2_0_copyload = r3[1];
-    if (r4_2_0_copyload != 2) {
-        r1_0_in = 1;
-        goto join_3;
-    }
-    dfu_slots_read_header_of(r3_2, a0, a1);
-    r1_2_0_copyload = r3_2[1];
-    r1_3_0_copyload = r3_2[2];
-    r1_4_0_copyload = r3_2[3];
-    r1_5_0_copyload = load32u(r3_2 + 4);
-    r1_6_0_copyload = load32u(r3_2 + 8);
-    r1_7_0_copyload = load32u(r3_2 + 12);
-    uint32_t r10 = dfu_slots_layout_capacity_of(a0);
-    if (r10 < r1_5_0_copyload) {
-        common_ret_op = 0;
-        goto dfu_slots_read_is_intact_exit;
-    }
-    store32(r1, 0xffffffffU);
-    memset(r2, 0, 64);
-    r3_0 = 0;
-loop_2:
-    if (r3_0 >= r1_5_0_copyload) goto dfu_slots_register_register_of_exit;
-    uint32_t a1_a0 = umin32(r1_5_0_copyload - r3_0, 64);
-    uint64_t r28 = (uint64_t)a1_a0;
-    dfu_slots_read_read_data(a0, a1, r3_0, r2, r28);
-    dfu_suffix_crc_Crc_update_small(r1, r2, r28);
-    r3_0 = a1_a0 + r3_0;
-    goto loop_2;
-dfu_slots_register_register_of_exit:;
-    uint32_t r0_0_0_copyload = load32(r1);
-    common_ret_op = ((((r1_2_0_copyload == 2) ? (r1_3_0_copyload == 0) : 0) ? (r1_4_0_copyload == 0) : 0) ? (r1_6_0_copyload == r0_0_0_copyload) : 0) ? (r1_7_0_copyload == 0) : 0;
-dfu_slots_read_is_intact_exit:
-    r1_0_in = common_ret_op;
-join_3:
-    return r1_0_in;
-}
-
-/* dfu_slots::read::is_open::<#c4c4734aca759fff> */
-static uint8_t dfu_slots_read_is_open(unsigned char *a0, uint32_t a1) {
-    uint8_t r2 = dfu_slots_read_byte_at(a0, a1);
-    return r2 == 165;
-}
-
-/* dfu_slots::read::byte_at::<#c4c4734aca759fff> */
-static uint8_t dfu_slots_read_byte_at(unsigned char *a0, uint32_t a1) {
-    _Alignas(4) unsigned char r1[1];
-    *r1 = 0;
-    uint64_t r5_0_0_copyload = load64(a0);
-    core_slice_edits_slice_T_copy_from_slice_i8_core_clone_U8Clone(r1, (unsigned char *)(uintptr_t)r5_0_0_copyload + (size_t)a1, 1);
-    uint8_t r15 = *r1;
-    return r15;
-}
-
-/* core::slice::edits::slice+T::copy_from_slice::<i8,20'core::clone::U8Clone{}> */
-static void core_slice_edits_slice_T_copy_from_slice_i8_core_clone_U8Clone(unsigned char *a0, unsigned char *a2, uint64_t a3) {
-    uint64_t r0_0;
-    if (((uint64_t)(uintptr_t)a0 - (uint64_t)(uintptr_t)a2) < a3) {
-        r0_0 = 0;
-        goto loop_4;
-    }
-    memmove(a0, a2, (size_t)a3);
-    return;
-loop_4:
-    if (r0_0 == a3) return;
-    uint8_t r26 = a2[(size_t)r0_0];
-    a0[(size_t)r0_0] = r26;
-    r0_0 = r0_0 + 1;
-    goto loop_4;
-}
-
-/* dfu_slots::read::read_data::<#c4c4734aca759fff> */
-static void dfu_slots_read_read_data(unsigned char *a0, uint32_t a1, uint32_t a2, unsigned char *a3, uint64_t a4) {
-    uint8_t r0_0_0_copyload = a0[16];
-    uint32_t r1_0_0_copyload = load32(a0 + 20);
-    uint32_t switch_load = load32(PLACE(switch_table_dfu_core_would_stall) + 4 * (size_t)r0_0_0_copyload);
-    uint64_t r5_0_0_copyload = load64(a0);
-    core_slice_edits_slice_T_copy_from_slice_i8_core_clone_U8Clone(a3, (unsigned char *)(uintptr_t)r5_0_0_copyload + (size_t)((a2 + a1) + (umax32(r1_0_0_copyload, switch_load) << 1)), a4);
-    return;
-}
-
-/* dfu_slots::places::is_newest::<#c4c4734aca759fff> */
-static uint8_t dfu_slots_places_is_newest(unsigned char *a0, uint32_t a1, uint32_t a2, uint8_t a3, uint8_t a4) {
-    uint8_t r1_0_in;
-    if (!(a3 & a4)) {
-        r1_0_in = a3;
-        goto join_3;
-    }
-    uint8_t r13 = dfu_slots_read_generation(a0, a1);
-    uint8_t r14 = dfu_slots_read_generation(a0, a2);
-    r1_0_in = r13 == (uint8_t)(r14 + 1);
-join_3:
-    return r1_0_in;
-}
-
-/* dfu_slots::read::generation::<#c4c4734aca759fff> */
-static uint8_t dfu_slots_read_generation(unsigned char *a0, uint32_t a1) {
-    uint8_t r0_0_0_copyload = a0[16];
-    uint32_t r1_0_0_copyload = load32(a0 + 20);
-    uint32_t switch_load = load32(PLACE(switch_table_dfu_core_would_stall) + 4 * (size_t)r0_0_0_copyload);
-    uint8_t r7 = dfu_slots_read_byte_at(a0, umax32(r1_0_0_copyload, switch_load) + a1);
-    return r7;
-}
-
-/* dfu_slots::read::header_of::<#c4c4734aca759fff> */
-static void dfu_slots_read_header_of(unsigned char *a0, unsigned char *a1, uint32_t a2) {
-    _Alignas(1) unsigned char r1[16];
-    memset(r1, 0, 16);
-    uint8_t r0_0_0_copyload = a1[16];
-    uint32_t r1_0_0_copyload = load32(a1 + 20);
-    uint32_t switch_load = load32(PLACE(switch_table_dfu_core_would_stall) + 4 * (size_t)r0_0_0_copyload);
-    uint64_t r5_0_0_copyload = load64(a1);
-    core_slice_edits_slice_T_copy_from_slice_i8_core_clone_U8Clone(r1, (unsigned char *)(uintptr_t)r5_0_0_copyload + (size_t)(umax32(r1_0_0_copyload, switch_load) + a2), 16);
-    memcpy(a0, r1, 16);
-    return;
-}
-
-/* dfu_device_c::blank::is_erased */
-static uint8_t dfu_device_c_blank_is_erased(unsigned char *a0, uint64_t a2, uint64_t a3) {
+/* dfu_asks::blank::is_erased */
+static uint8_t dfu_asks_blank_is_erased(unsigned char *a0, uint64_t a2, uint64_t a3) {
     unsigned char *r9_0_0_in;
     uint64_t r23;
     uint8_t r7;
@@ -1449,14 +1468,6 @@ core_iter_base_Iterator_all_exit:
     return r7;
 }
 
-/* dfu_device_c::config::is_allowed */
-static uint8_t dfu_device_c_config_is_allowed(unsigned char *a0) {
-    _Alignas(4) unsigned char r1[40];
-    dfu_device_c_config_settings_of(r1, a0);
-    uint8_t r3 = *r1;
-    return r3 == 1;
-}
-
 /* dfu_wire::bytes::two_bytes */
 static void dfu_wire_bytes_two_bytes(unsigned char *a0, uint16_t a1) {
     _Alignas(4) unsigned char r5[2];
@@ -1471,127 +1482,130 @@ static void dfu_wire_bytes_two_bytes(unsigned char *a0, uint16_t a1) {
 
 /* dfu_device_c::mode::mode_in */
 static void dfu_device_c_mode_mode_in(unsigned char *a0, unsigned char *a1, unsigned char *a2) {
+    _Alignas(4) unsigned char r3[40];
+    _Alignas(2) unsigned char r6_6_0[38];
     _Alignas(4) unsigned char r5[20];
-    uint32_t r6_10_1_0, r6_12_0, r6_14_0;
-    uint8_t r6_6_1_0, r6_0_0, r6_4_0, r6_8_0;
-    uint8_t r8 = dfu_device_c_config_is_allowed(a1);
-    if (r8) goto join_3;
-    goto then_1;
-then_1:
+    uint8_t r6_6_3_0, r6_6_4_0, r6_0_0, r6_4_0;
+    uint32_t r6_6_6_0, r6_6_7_0, r6_6_8_0;
+    memset(r6_6_0, 0, 38);
+    dfu_device_c_config_settings_of(r3, a1);
+    uint8_t r9 = *r3;
+    if (r9 != 1) goto arm_2;
+    dfu_device_c_mode_mode_of(r5, a2);
+    uint8_t r16 = *r5;
+    if (r16 == 1) goto arm_5;
+    r6_6_3_0 = 0;
+    r6_6_4_0 = 0;
+    r6_6_6_0 = 0;
+    r6_6_7_0 = 0;
+    r6_6_8_0 = 0;
+    r6_0_0 = 1;
+    r6_4_0 = 4;
+    goto join_7;
+arm_2:
     *a0 = 1;
     a0[1] = 0;
-    a0[4] = 0;
-    a0[5] = 0;
-    store32(a0 + 8, 0);
-    store32(a0 + 12, 0);
-    store32(a0 + 16, 0);
+    memset(a0 + 4, 0, 52);
     return;
-join_3:
-    dfu_device_c_mode_mode_of(r5, a2);
-    uint8_t r29 = *r5;
-    if (r29 != 1) {
-        r6_10_1_0 = 0;
-        r6_6_1_0 = 0;
-        r6_0_0 = 1;
-        r6_4_0 = 4;
-        r6_8_0 = 0;
-        r6_12_0 = 0;
-        r6_14_0 = 0;
-        goto join_7;
-    }
-    uint8_t r1_0_0_copyload = r5[4];
-    uint8_t r1_3_1_copyload = r5[5];
-    uint32_t v1 = load32(r5 + 8);
-    uint32_t r1_7_8_copyload = load32(r5 + 12);
-    uint32_t r1_9_12_copyload = load32(r5 + 16);
-    r6_10_1_0 = v1;
-    r6_6_1_0 = r1_0_0_copyload;
+arm_5:;
+    uint8_t v2 = r5[4];
+    uint8_t v3 = r5[5];
+    uint32_t v4 = load32(r5 + 8);
+    uint32_t v5 = load32(r5 + 12);
+    uint32_t v6 = load32(r5 + 16);
+    memcpy(r6_6_0 + 2, r3 + 4, 36);
+    r6_6_3_0 = v2;
+    r6_6_4_0 = v3;
+    r6_6_6_0 = v4;
+    r6_6_7_0 = v5;
+    r6_6_8_0 = v6;
     r6_0_0 = 0;
     r6_4_0 = 0;
-    r6_8_0 = r1_3_1_copyload;
-    r6_12_0 = r1_7_8_copyload;
-    r6_14_0 = r1_9_12_copyload;
 join_7:
     *a0 = r6_0_0;
     a0[1] = r6_4_0;
-    a0[4] = r6_6_1_0;
-    a0[5] = r6_8_0;
-    store32(a0 + 8, r6_10_1_0);
-    store32(a0 + 12, r6_12_0);
-    store32(a0 + 16, r6_14_0);
+    memcpy(a0 + 4, r6_6_0 + 2, 36);
+    a0[40] = r6_6_3_0;
+    a0[41] = r6_6_4_0;
+    store16(a0 + 42, 0);
+    store32(a0 + 44, r6_6_6_0);
+    store32(a0 + 48, r6_6_7_0);
+    store32(a0 + 52, r6_6_8_0);
     return;
 }
 
 /* dfu_device_c::mode::idle_mode */
 static void dfu_device_c_mode_idle_mode(unsigned char *a0, unsigned char *a1, unsigned char *a2) {
-    _Alignas(4) unsigned char r5[20];
-    uint8_t r1_56_4_copyload, r1_7_5_copyload;
-    uint32_t v0, r1_11_12_copyload, r1_13_16_copyload;
-    unsigned char *r79, *r81, *r83, *r85, *r87, *r89;
-    dfu_device_c_mode_mode_in(r5, a1, a2);
-    uint8_t r1_0_0_copyload = *r5;
-    r1_56_4_copyload = r5[4];
-    r1_7_5_copyload = r5[5];
-    v0 = load32(r5 + 8);
-    r1_11_12_copyload = load32(r5 + 12);
-    r1_13_16_copyload = load32(r5 + 16);
-    r79 = a0 + 1;
+    _Alignas(4) unsigned char r7[56];
+    unsigned char *r52, *r54;
+    dfu_device_c_mode_mode_in(r7, a1, a2);
+    uint8_t r1_0_0_copyload = *r7;
+    r52 = a0 + 1;
     if (r1_0_0_copyload != 0) goto arm_2;
-    uint32_t r51 = load32(a2 + 44);
-    r81 = a0 + 4;
-    r83 = a0 + 5;
-    r85 = a0 + 8;
-    r87 = a0 + 12;
-    r89 = a0 + 16;
-    if (r51 == 0) goto join_7;
+    uint32_t r31 = load32(a2 + 44);
+    r54 = a0 + 4;
+    if (r31 == 0) goto join_7;
     goto then_5;
 arm_2:;
-    uint8_t r1_3_1_copyload = r5[1];
+    uint8_t r1_3_1_copyload = r7[1];
     *a0 = 1;
-    *r79 = r1_3_1_copyload;
-    a0[4] = 0;
-    a0[5] = 0;
-    store32(a0 + 8, 0);
-    store32(a0 + 12, 0);
-    store32(a0 + 16, 0);
+    *r52 = r1_3_1_copyload;
+    memset(a0 + 4, 0, 52);
     return;
 then_5:
     *a0 = 1;
-    *r79 = 2;
-    *r81 = 0;
-    *r83 = 0;
-    store32(r85, 0);
-    store32(r87, 0);
-    store32(r89, 0);
+    *r52 = 2;
+    memset(r54, 0, 52);
     return;
-join_7:
+join_7:;
+    uint32_t r8_6_10_2_copyload = load32(r7 + 52);
+    uint32_t r8_6_9_2_copyload = load32(r7 + 48);
+    uint32_t r8_6_8_2_copyload = load32(r7 + 44);
+    uint8_t r8_6_6_2_copyload = r7[41];
+    uint8_t r8_6_5_2_copyload = r7[40];
     *a0 = 0;
-    *r79 = 0;
-    *r81 = r1_56_4_copyload;
-    *r83 = r1_7_5_copyload;
-    store32(r85, v0);
-    store32(r87, r1_11_12_copyload);
-    store32(r89, r1_13_16_copyload);
+    *r52 = 0;
+    memcpy(r54, r7 + 4, 36);
+    a0[40] = r8_6_5_2_copyload;
+    a0[41] = r8_6_6_2_copyload;
+    store16(a0 + 42, 0);
+    store32(a0 + 44, r8_6_8_2_copyload);
+    store32(a0 + 48, r8_6_9_2_copyload);
+    store32(a0 + 52, r8_6_10_2_copyload);
     return;
 }
 
-/* dfu_device::table::is_close */
-static uint8_t dfu_device_table_is_close(unsigned char *a0) {
-    _Alignas(8) unsigned char r3[8];
+/* dfu_asks::closes::mode_closes */
+static uint8_t dfu_asks_closes_mode_closes(unsigned char *a0, unsigned char *a1, unsigned char *a2) {
+    _Alignas(4) unsigned char r3[8];
     _Alignas(4) unsigned char r1[6];
-    uint8_t r28 = *a0;
-    uint8_t r32 = a0[1];
-    uint8_t r11 = a0[2];
-    uint8_t r15 = a0[3];
-    uint8_t r11_2 = a0[4];
-    uint8_t r15_2 = a0[5];
-    uint8_t r11_3 = a0[6];
-    uint8_t r15_3 = a0[7];
-    store64(r3, ((((((((uint64_t)r32 << 8) | (uint64_t)r28) | ((uint64_t)r11 << 16)) | ((uint64_t)r15 << 24)) | ((uint64_t)r11_2 << 32)) | ((uint64_t)r15_2 << 40)) | ((uint64_t)r11_3 << 48)) | ((uint64_t)r15_3 << 56));
+    uint8_t common_ret_op;
+    uint8_t v0 = *a1;
+    uint32_t v1 = load32(a1 + 4);
+    uint32_t r2 = load32(a0 + 16);
+    if ((v0 == 6) ? (r2 <= v1) : 0) goto join_3;
+    common_ret_op = 0;
+common_ret:
+    return common_ret_op;
+join_3:;
+    uint8_t r28 = *a2;
+    uint8_t r32 = a2[1];
+    uint8_t r11 = a2[2];
+    uint8_t r15 = a2[3];
+    uint8_t r11_2 = a2[4];
+    uint8_t r15_2 = a2[5];
+    uint8_t r11_3 = a2[6];
+    uint8_t r15_3 = a2[7];
+    *r3 = r28;
+    r3[1] = r32;
+    store16(r3 + 2, (uint16_t)((uint32_t)r15 << 8) | r11);
+    store16(r3 + 4, (uint16_t)((uint32_t)r15_2 << 8) | r11_2);
+    store16(r3 + 6, (uint16_t)((uint32_t)r15_3 << 8) | r11_3);
     dfu_wire_setups_Setup_request(r1, r3);
-    uint8_t r2 = *r1;
+    uint8_t r2_2 = *r1;
     uint16_t r1_4_4_copyload = load16(r1 + 4);
-    return (r2 == 1) ? (r1_4_4_copyload == 0) : 0;
+    common_ret_op = (r2_2 == 1) ? (r1_4_4_copyload == 0) : 0;
+    goto common_ret;
 }
 
 /* dfu_wire::setups::Setup::request */
@@ -1790,36 +1804,6 @@ dfu_device_c_mode_numbers_of_exit:
     store32(a0 + 12, r27_28_0);
     store16(a0 + 24, r27_41_0);
     return;
-}
-
-/* dfu_device_c::power::start */
-static uint32_t dfu_device_c_power_start(unsigned char *a0, unsigned char *a1, unsigned char *a2, uint64_t a3, uint32_t a4) {
-    _Alignas(4) unsigned char r7[40];
-    _Alignas(4) unsigned char r8[18];
-    uint32_t common_ret_op;
-    dfu_device_c_config_settings_of(r7, a0);
-    uint8_t r14 = *r7;
-    if (r14 != 1) {
-        common_ret_op = 0xfffffffeU;
-        goto common_ret;
-    }
-    uint8_t r3_2_0_copyload = r7[32];
-    uint32_t r3_31_0_copyload = load32(r7 + 36);
-    dfu_asks_noted_Noted_find(r8, a2, a3, r3_2_0_copyload, r3_31_0_copyload);
-    uint8_t r24 = *r8;
-    if (r24 == 1) goto arm_5;
-    common_ret_op = 0xfffffffdU;
-common_ret:
-    return common_ret_op;
-arm_5:;
-    uint8_t r4_0_0_copyload = r8[1];
-    store32(a1, 300);
-    memset(a1 + 8, 0, 60);
-    store32(a1 + 4, a4);
-    store32(a1 + 20, (uint32_t)(r4_0_0_copyload & 1));
-    memcpy(a1 + 28, r8 + 2, 16);
-    common_ret_op = 0;
-    goto common_ret;
 }
 
 /* dfu_device::table::decide */
@@ -3385,7 +3369,7 @@ static void dfu_asks_asking_Asking_advance(unsigned char *a0, unsigned char *a1,
     uint8_t r33 = *r32;
     if (r33 != 1) goto arm_2;
     memcpy(r9, a1 + 100, 24);
-    struct i64_i8 r61 = dfu_asks_asking_Asking_look_at(a1, r9, a2, a3, a4, a5, PLACE(static_0), 0);
+    struct i64_i8 r61 = dfu_asks_asking_Asking_look_at(a1, r9, a2, a3, a4, a5, PLACE(static_2), 0);
     if (r61.a == 0) goto join_7;
     goto then_5;
 arm_2:
@@ -3846,6 +3830,45 @@ dfu_device_c_tells_dfu_core_state_exit:
     return signed32(common_ret_op);
 }
 
+/* dfu_core_begin */
+int32_t dfu_core_begin(const struct dfu_config *config, struct dfu_record *record, const uint8_t *flash, size_t size) {
+    unsigned char *a0 = (unsigned char *)(uintptr_t)config;
+    unsigned char *a1 = (unsigned char *)(uintptr_t)record;
+    unsigned char *a2 = (unsigned char *)(uintptr_t)flash;
+    uint64_t a3 = size;
+    _Alignas(8) unsigned char r10[136];
+    _Alignas(4) unsigned char r5[40];
+    _Alignas(4) unsigned char r6_12_5[16];
+    uint32_t common_ret_op;
+    store64a4(r5 + 32, 0);
+    dfu_device_c_config_settings_of(r5, a0);
+    uint8_t r13 = *r5;
+    if (r13 != 1) {
+        common_ret_op = 0xfffffffeU;
+        goto dfu_device_c_power_dfu_core_begin_exit;
+    }
+    uint8_t r3_3_0_copyload = r5[32];
+    uint32_t r3_41_0_copyload = load32(r5 + 36);
+    dfu_asks_asking_Asking_power_on(r10, r5 + 4, r3_3_0_copyload, r3_41_0_copyload, (unsigned char *)((uintptr_t)a2 + (uintptr_t)(uint64_t)((a2 == NULL) ? 4096 : 0)), a3);
+    uint8_t r2 = *r10;
+    if (r2 == 1) goto arm_5;
+    common_ret_op = 0xfffffffdU;
+    goto dfu_device_c_power_dfu_core_begin_exit;
+arm_5:;
+    uint8_t r6_12_4_0_copyload = r10[84];
+    memcpy(r6_12_5, r10 + 85, 16);
+    store32(a1, 300);
+    store32(a1 + 4, 2);
+    memset(a1 + 8, 0, 12);
+    store32(a1 + 20, (uint32_t)(r6_12_4_0_copyload & 1));
+    store32(a1 + 24, 0);
+    memcpy(a1 + 28, r6_12_5, 16);
+    memset(a1 + 44, 0, 24);
+    common_ret_op = 0;
+dfu_device_c_power_dfu_core_begin_exit:
+    return signed32(common_ret_op);
+}
+
 /* dfu_core_format_next */
 int32_t dfu_core_format_next(const struct dfu_config *config, const struct dfu_record *record, const uint8_t *flash, size_t size, const uint8_t *image, size_t length, struct dfu_ask *ask) {
     unsigned char *a0 = (unsigned char *)(uintptr_t)config;
@@ -3885,7 +3908,7 @@ int32_t dfu_core_format_next(const struct dfu_config *config, const struct dfu_r
     store32(r5 + 4, r6_41_0_copyload);
     store32(r5 + 8, 0);
     store32(r5 + 12, 0);
-    store64(r5 + 16, (uint64_t)(uintptr_t)static_0);
+    store64(r5 + 16, (uint64_t)(uintptr_t)static_2);
     store64(r5 + 24, 0);
     store64(r5 + 32, (uint64_t)(uintptr_t)r13);
     store64(r5 + 40, a5);
@@ -3985,7 +4008,7 @@ int32_t dfu_core_format_took(const struct dfu_config *config, struct dfu_record 
     _Alignas(4) unsigned char r8[28];
     _Alignas(4) unsigned char r6[24];
     unsigned char *r4, *r13, *r30;
-    uint64_t wide_2395;
+    uint64_t wide_6726;
     uint8_t r3_0_0_copyload, r7_0_0_0, r6_2;
     uint32_t r4_0_0_copyload, r31, r100, r7_8_0, r26, r3_3_4_copyload, common_ret_op;
     r4 = (unsigned char *)((uintptr_t)a2 + (uintptr_t)(uint64_t)((a2 == NULL) ? 4096 : 0));
@@ -4005,7 +4028,7 @@ int32_t dfu_core_format_took(const struct dfu_config *config, struct dfu_record 
     }
     unsigned char *r24 = r8 + 4;
     memcpy(r6, r24, 24);
-    wide_2395 = (uint64_t)(uintptr_t)r13;
+    wide_6726 = (uint64_t)(uintptr_t)r13;
     r3_0_0_copyload = *r6;
     r4_0_0_copyload = load32(r6 + 4);
     r30 = r6 + 20;
@@ -4015,9 +4038,9 @@ int32_t dfu_core_format_took(const struct dfu_config *config, struct dfu_record 
     store32(r5 + 4, r4_0_0_copyload);
     store32(r5 + 8, 0);
     store32(r5 + 12, 0);
-    store64(r5 + 16, (uint64_t)(uintptr_t)static_0);
+    store64(r5 + 16, (uint64_t)(uintptr_t)static_2);
     store64(r5 + 24, 0);
-    store64(r5 + 32, wide_2395);
+    store64(r5 + 32, wide_6726);
     store64(r5 + 40, a5);
     store64(r5 + 48, (uint64_t)r31);
     memset(r5 + 56, 0, 40);
@@ -4036,9 +4059,9 @@ int32_t dfu_core_format_took(const struct dfu_config *config, struct dfu_record 
     store32(r3 + 4, r4_0_0_copyload);
     store32(r3 + 8, 0);
     store32(r3 + 12, 0);
-    store64(r3 + 16, (uint64_t)(uintptr_t)static_0);
+    store64(r3 + 16, (uint64_t)(uintptr_t)static_2);
     store64(r3 + 24, 0);
-    store64(r3 + 32, wide_2395);
+    store64(r3 + 32, wide_6726);
     store64(r3 + 40, a5);
     store64(r3 + 48, (uint64_t)r100);
     memset(r3 + 56, 0, 40);
@@ -4072,12 +4095,12 @@ arm_2:
     goto arm_9_thread12;
 arm_3:;
     uint32_t r4_3_4_copyload = load32(r6 + 16);
-    uint64_t r29 = (uint64_t)r4_3_4_copyload + 4096;
+    uint64_t r32 = (uint64_t)r4_3_4_copyload + 4096;
     uint64_t switch_load = load64(PLACE(switch_table_dfu_core_format_took) + 8 * (size_t)r3_0_0_copyload);
     uint64_t v4 = switch_load + 0xffffffffffffffffULL;
-    uint8_t r34_fr = r29 < (((switch_load - (v4 & a5)) & v4) + a5);
-    r7_0_0_0 = (uint8_t)(r34_fr ? 2 : 3);
-    r7_8_0 = (uint32_t)(r34_fr ? (uint32_t)r29 : 0);
+    uint8_t r38_fr = r32 < (((switch_load - (v4 & a5)) & v4) + a5);
+    r7_0_0_0 = (uint8_t)(r38_fr ? 2 : 3);
+    r7_8_0 = (uint32_t)(r38_fr ? (uint32_t)r32 : 0);
     goto arm_9_thread12;
 arm_4:
     r7_0_0_0 = 4;
@@ -4117,31 +4140,29 @@ int32_t dfu_core_image(const struct dfu_config *config, const uint8_t *flash, si
     uint64_t a2 = size;
     unsigned char *a3 = (unsigned char *)(uintptr_t)place;
     _Alignas(4) unsigned char r5[40];
-    _Alignas(4) unsigned char r12[18];
-    unsigned char *r4;
+    _Alignas(4) unsigned char r10[18];
     uint8_t r3_2_0_copyload;
-    uint32_t r3_32_0_copyload, common_ret_op;
-    r4 = (unsigned char *)((uintptr_t)a1 + (uintptr_t)(uint64_t)((a1 == NULL) ? 4096 : 0));
+    uint32_t r3_31_0_copyload, common_ret_op;
     store64a4(r5 + 32, 0);
     dfu_device_c_config_settings_of(r5, a0);
-    uint8_t r10 = *r5;
-    if (r10 != 1) {
+    uint8_t r12 = *r5;
+    if (r12 != 1) {
         common_ret_op = 0xfffffffeU;
         goto dfu_device_c_image_dfu_core_image_exit;
     }
     r3_2_0_copyload = r5[32];
-    r3_32_0_copyload = load32(r5 + 36);
-    if (a2 > 0xffffffffU) goto dfu_device_c_image_find_exit_thread;
-    dfu_asks_noted_Noted_find(r12, r4, a2, r3_2_0_copyload, r3_32_0_copyload);
-    uint8_t r1_0_0_copyload = *r12;
-    if (r1_0_0_copyload != 1) goto dfu_device_c_image_find_exit_thread;
-    uint8_t r5_4_0_0_copyload = r12[1];
-    uint32_t r5_4_6_0_copyload = load32a2(r12 + 6);
+    r3_31_0_copyload = load32(r5 + 36);
+    dfu_asks_noted_Noted_find(r10, (unsigned char *)((uintptr_t)a1 + (uintptr_t)(uint64_t)((a1 == NULL) ? 4096 : 0)), a2, r3_2_0_copyload, r3_31_0_copyload);
+    uint8_t r1_0_0_copyload = *r10;
+    if (r1_0_0_copyload != 1) goto dfu_asks_image_ImagePlace_find_exit;
+    uint8_t r5_4_0_0_copyload = r10[1];
+    uint32_t r5_4_6_0_copyload = load32a2(r10 + 6);
     uint32_t switch_load = load32(PLACE(switch_table_dfu_core_would_stall) + 4 * (size_t)r3_2_0_copyload);
-    store64a4(a3, ((uint64_t)r5_4_6_0_copyload << 32) | (uint64_t)((umax32(r3_32_0_copyload, switch_load) << 1) + (uint32_t)((r5_4_0_0_copyload & 1) ? (uint32_t)(a2 >> 1) : 0)));
+    store32(a3, (umax32(r3_31_0_copyload, switch_load) << 1) + (uint32_t)((r5_4_0_0_copyload & 1) ? (uint32_t)(a2 >> 1) : 0));
+    store32(a3 + 4, r5_4_6_0_copyload);
     common_ret_op = 0;
     goto dfu_device_c_image_dfu_core_image_exit;
-dfu_device_c_image_find_exit_thread:
+dfu_asks_image_ImagePlace_find_exit:
     common_ret_op = 0xfffffffdU;
 dfu_device_c_image_dfu_core_image_exit:
     return signed32(common_ret_op);
@@ -4153,62 +4174,83 @@ int32_t dfu_core_is_blank(const struct dfu_config *config, const uint8_t *flash,
     unsigned char *a1 = (unsigned char *)(uintptr_t)flash;
     uint64_t a2 = size;
     _Alignas(4) unsigned char r7[40];
+    _Alignas(8) unsigned char r5[24];
     unsigned char *r4;
     uint8_t r3_2_0_copyload;
-    uint32_t r3_44_0_copyload, r17, switch_load, a0_a1, r5, r69, common_ret_op;
-    uint64_t v2, r54;
+    uint32_t r17, common_ret_op;
+    uint64_t r26;
     r4 = (unsigned char *)((uintptr_t)a1 + (uintptr_t)(uint64_t)((a1 == NULL) ? 4096 : 0));
     store64a4(r7 + 32, 0);
     dfu_device_c_config_settings_of(r7, a0);
-    uint8_t r22 = *r7;
-    if (r22 != 1) {
+    uint8_t r14 = *r7;
+    if (r14 != 1) {
         common_ret_op = 0xfffffffeU;
         goto dfu_device_c_blank_dfu_core_is_blank_exit;
     }
     r3_2_0_copyload = r7[32];
-    r3_44_0_copyload = load32(r7 + 36);
-    struct i8_i32 r15 = dfu_asks_sector_Sector_new(r3_44_0_copyload);
+    uint32_t r3_31_0_copyload = load32(r7 + 36);
+    struct i8_i32 r15 = dfu_asks_sector_Sector_new(r3_31_0_copyload);
     r17 = r15.b;
     if (!((a2 < 0x100000000ULL) & (r15.a & 1))) {
         common_ret_op = 0xfffffffdU;
         goto dfu_device_c_blank_dfu_core_is_blank_exit;
     }
-    if (!((r17 < 0x20001U) & ((r17 & 255) == 0))) {
+    store64(r5, (uint64_t)(uintptr_t)r4);
+    store64(r5 + 8, a2);
+    r5[16] = r3_2_0_copyload;
+    memset(r5 + 17, 0, 3);
+    store32(r5 + 20, r17);
+    uint8_t r10 = dfu_slots_layout_is_sized(r5);
+    if (!r10) {
         common_ret_op = 0xfffffffaU;
         goto dfu_device_c_blank_dfu_core_is_blank_exit;
     }
-    v2 = (uint64_t)r3_2_0_copyload;
-    switch_load = load32(PLACE(switch_table_dfu_core_would_stall) + 4 * (size_t)v2);
-    a0_a1 = umax32(r17, switch_load);
-    r5 = (uint32_t)a2;
-    uint32_t pre = a0_a1 << 2;
-    if (!((((r5 & 1) == 0) ? (pre < r5) : !(a2 & 1)) ? ((pre | 0x2000000U) >= r5) : 0)) {
-        common_ret_op = 0xfffffffaU;
+    uint32_t switch_load = load32(PLACE(switch_table_dfu_core_would_stall) + 4 * (size_t)r3_2_0_copyload);
+    r26 = (uint64_t)umax32(r17, switch_load) << 1;
+    uint8_t r31 = dfu_asks_blank_is_erased(r4, 0, r26);
+    if (!r31) {
+        common_ret_op = 0;
         goto dfu_device_c_blank_dfu_core_is_blank_exit;
     }
-    r69 = (r5 >> 1) - (a0_a1 << 1);
-    uint32_t switch_load_2 = load32(PLACE(switch_table_dfu_asks_asking_Asking_is_fit) + 4 * (size_t)v2);
-    if ((switch_load_2 & r69) != 0) {
-        common_ret_op = 0xfffffffaU;
-        goto dfu_device_c_blank_dfu_core_is_blank_exit;
-    }
-    if (r17 == 0) goto switch_lookup1;
-    if ((r69 % r17) != 0) {
-        common_ret_op = 0xfffffffaU;
-        goto dfu_device_c_blank_dfu_core_is_blank_exit;
-    }
-switch_lookup1:
-    r54 = (uint64_t)umax32(r3_44_0_copyload, switch_load) << 1;
-    uint8_t r59 = dfu_device_c_blank_is_erased(r4, 0, r54);
-    if (!r59) goto join_14;
-    uint8_t r72 = dfu_device_c_blank_is_erased(r4, a2 >> 1, r54);
-    if (r72) {
-        common_ret_op = 1;
-        goto dfu_device_c_blank_dfu_core_is_blank_exit;
-    }
-join_14:
-    common_ret_op = 0;
+    uint8_t r50 = dfu_asks_blank_is_erased(r4, a2 >> 1, r26);
+    common_ret_op = (uint32_t)r50;
 dfu_device_c_blank_dfu_core_is_blank_exit:
+    return signed32(common_ret_op);
+}
+
+/* dfu_core_power_on */
+int32_t dfu_core_power_on(const struct dfu_config *config, struct dfu_record *record, const uint8_t *flash, size_t size) {
+    unsigned char *a0 = (unsigned char *)(uintptr_t)config;
+    unsigned char *a1 = (unsigned char *)(uintptr_t)record;
+    unsigned char *a2 = (unsigned char *)(uintptr_t)flash;
+    uint64_t a3 = size;
+    _Alignas(8) unsigned char r6[136];
+    _Alignas(4) unsigned char r5[40];
+    uint32_t common_ret_op;
+    store64a4(r5 + 32, 0);
+    dfu_device_c_config_settings_of(r5, a0);
+    uint8_t r13 = *r5;
+    if (r13 != 1) {
+        common_ret_op = 0xfffffffeU;
+        goto dfu_device_c_power_dfu_core_power_on_exit;
+    }
+    uint8_t r3_3_0_copyload = r5[32];
+    uint32_t r3_41_0_copyload = load32(r5 + 36);
+    dfu_asks_asking_Asking_power_on(r6, r5 + 4, r3_3_0_copyload, r3_41_0_copyload, (unsigned char *)((uintptr_t)a2 + (uintptr_t)(uint64_t)((a2 == NULL) ? 4096 : 0)), a3);
+    uint8_t r23 = *r6;
+    if (r23 != 1) {
+        common_ret_op = 0xfffffffdU;
+        goto dfu_device_c_power_dfu_core_power_on_exit;
+    }
+    uint8_t r4_2_0_copyload = r6[84];
+    store32(a1, 300);
+    memset(a1 + 4, 0, 16);
+    store32(a1 + 20, (uint32_t)(r4_2_0_copyload & 1));
+    store32(a1 + 24, 0);
+    memcpy(a1 + 28, r6 + 85, 16);
+    memset(a1 + 44, 0, 24);
+    common_ret_op = 0;
+dfu_device_c_power_dfu_core_power_on_exit:
     return signed32(common_ret_op);
 }
 
@@ -4216,13 +4258,15 @@ dfu_device_c_blank_dfu_core_is_blank_exit:
 int32_t dfu_core_functional(const struct dfu_config *config, uint8_t out[9]) {
     unsigned char *a0 = (unsigned char *)(uintptr_t)config;
     unsigned char *a1 = (unsigned char *)(uintptr_t)out;
+    _Alignas(4) unsigned char r1[40];
+    unsigned char *const r15 = r1;
     _Alignas(4) unsigned char r4[10];
-    _Alignas(4) unsigned char r15[2];
     _Alignas(4) unsigned char r21[2];
     _Alignas(4) unsigned char r27[2];
     uint32_t common_ret_op;
-    uint8_t r7 = dfu_device_c_config_is_allowed(a0);
-    if (!r7) {
+    dfu_device_c_config_settings_of(r1, a0);
+    uint8_t r3 = *r1;
+    if (r3 != 1) {
         common_ret_op = 0xfffffffeU;
         goto dfu_device_c_config_dfu_core_functional_exit;
     }
@@ -4235,20 +4279,20 @@ int32_t dfu_core_functional(const struct dfu_config *config, uint8_t out[9]) {
     uint16_t r5_7_0_copyload = load16(r4 + 6);
     uint16_t r5_8_0_copyload = load16(r4 + 8);
     dfu_wire_bytes_two_bytes(r15, r5_6_0_copyload);
-    uint16_t v0 = load16(r15);
+    uint16_t v1 = load16(r15);
     dfu_wire_bytes_two_bytes(r21, r5_7_0_copyload);
-    uint16_t v1 = load16(r21);
+    uint16_t v2 = load16(r21);
     dfu_wire_bytes_two_bytes(r27, r5_8_0_copyload);
-    uint16_t v2 = load16(r27);
+    uint16_t v3 = load16(r27);
     *a1 = 9;
     a1[1] = 33;
     a1[2] = (((uint8_t)((uint32_t)r5_3_0_copyload << 1) | r5_0_0_copyload) | (uint8_t)((uint32_t)r5_4_0_copyload << 2)) | (uint8_t)((uint32_t)r5_5_0_copyload << 3);
-    a1[3] = (uint8_t)v0;
-    a1[4] = (uint8_t)(uint16_t)(v0 >> 8);
-    a1[5] = (uint8_t)v1;
-    a1[6] = (uint8_t)(uint16_t)(v1 >> 8);
-    a1[7] = (uint8_t)v2;
-    a1[8] = (uint8_t)(uint16_t)(v2 >> 8);
+    a1[3] = (uint8_t)v1;
+    a1[4] = (uint8_t)(uint16_t)(v1 >> 8);
+    a1[5] = (uint8_t)v2;
+    a1[6] = (uint8_t)(uint16_t)(v2 >> 8);
+    a1[7] = (uint8_t)v3;
+    a1[8] = (uint8_t)(uint16_t)(v3 >> 8);
     common_ret_op = 9;
 dfu_device_c_config_dfu_core_functional_exit:
     return signed32(common_ret_op);
@@ -4258,79 +4302,77 @@ dfu_device_c_config_dfu_core_functional_exit:
 int32_t dfu_core_due(const struct dfu_config *config, const struct dfu_record *record) {
     unsigned char *a0 = (unsigned char *)(uintptr_t)config;
     unsigned char *a1 = (unsigned char *)(uintptr_t)record;
-    _Alignas(4) unsigned char r3[20];
-    _Alignas(2) unsigned char r15[10];
-    uint32_t v2, v3, v4, common_ret_op, r4_0;
-    memset(r3, 0, 20);
-    dfu_device_c_mode_mode_in(r3, a0, a1);
-    uint8_t r5 = *r3;
-    if (r5 != 0) goto arm_2;
-    uint8_t v1 = r3[4];
-    v2 = load32(r3 + 8);
-    v3 = load32(r3 + 12);
-    v4 = load32(r3 + 16);
-    switch (v1) {
+    _Alignas(4) unsigned char r6[56];
+    uint32_t r3_6_0_copyload, r3_7_0_copyload, r0_4_0, common_ret_op;
+    memset(r6, 0, 56);
+    dfu_device_c_mode_mode_in(r6, a0, a1);
+    uint8_t r10 = *r6;
+    if (r10 != 0) goto arm_2;
+    uint8_t r3_3_0_copyload = r6[40];
+    r3_6_0_copyload = load32(r6 + 44);
+    r3_7_0_copyload = load32(r6 + 48);
+    switch (r3_3_0_copyload) {
     case 1: goto arm_1;
     case 5: goto arm_2_2;
     case 9: goto arm_3;
     case 0:
         common_ret_op = 0;
-        goto dfu_device_c_tells_due_in_exit;
+        goto dfu_device_c_tells_dfu_core_due_exit;
     case 2:
         common_ret_op = 0;
-        goto dfu_device_c_tells_due_in_exit;
+        goto dfu_device_c_tells_dfu_core_due_exit;
     case 3:
         common_ret_op = 0;
-        goto dfu_device_c_tells_due_in_exit;
+        goto dfu_device_c_tells_dfu_core_due_exit;
     case 4:
         common_ret_op = 0;
-        goto dfu_device_c_tells_due_in_exit;
+        goto dfu_device_c_tells_dfu_core_due_exit;
     case 6:
         common_ret_op = 0;
-        goto dfu_device_c_tells_due_in_exit;
+        goto dfu_device_c_tells_dfu_core_due_exit;
     case 7:
         common_ret_op = 0;
-        goto dfu_device_c_tells_due_in_exit;
+        goto dfu_device_c_tells_dfu_core_due_exit;
     case 8:
         common_ret_op = 0;
-        goto dfu_device_c_tells_due_in_exit;
+        goto dfu_device_c_tells_dfu_core_due_exit;
     case 10:
         common_ret_op = 0;
-        goto dfu_device_c_tells_due_in_exit;
+        goto dfu_device_c_tells_dfu_core_due_exit;
     case 11:
         common_ret_op = 0;
-        goto dfu_device_c_tells_due_in_exit;
+        goto dfu_device_c_tells_dfu_core_due_exit;
     case 12:
         common_ret_op = 0;
-        goto dfu_device_c_tells_due_in_exit;
+        goto dfu_device_c_tells_dfu_core_due_exit;
     default: never();
     }
-arm_1:
-    dfu_device_c_config_functional_of(r15, a0);
-    uint8_t r25 = r15[3];
-    if (r25 & 1) {
-        common_ret_op = 1;
-        goto dfu_device_c_tells_due_in_exit;
+arm_1:;
+    uint8_t r3_0_3_0_copyload = r6[13];
+    if (r3_0_3_0_copyload & 1) {
+        r0_4_0 = 1;
+        goto v1;
     }
-    common_ret_op = umin32(umax32(usub_sat32(v2, v3), 1), 0x7fffffffU);
-    goto dfu_device_c_tells_due_in_exit;
+    r0_4_0 = umax32(usub_sat32(r3_6_0_copyload, r3_7_0_copyload), 1);
+    goto v1;
 arm_2_2:;
-    uint32_t r37 = load32(a0 + 16);
-    common_ret_op = umin32(umax32(usub_sat32(r37, v4), 1), 0x7fffffffU);
-    goto dfu_device_c_tells_due_in_exit;
+    uint32_t r3_8_0_copyload = load32(r6 + 52);
+    uint32_t r3_0_5_0_copyload = load32(r6 + 24);
+    r0_4_0 = umax32(usub_sat32(r3_0_5_0_copyload, r3_8_0_copyload), 1);
+    goto v1;
 arm_3:;
-    uint32_t r44 = load32(a0 + 20);
-    common_ret_op = umin32(umax32(usub_sat32(r44, v3), 1), 0x7fffffffU);
-    goto dfu_device_c_tells_due_in_exit;
-dfu_device_c_tells_due_in_exit:
-    r4_0 = common_ret_op;
+    uint32_t r3_0_6_0_copyload = load32(r6 + 28);
+    r0_4_0 = umax32(usub_sat32(r3_0_6_0_copyload, r3_7_0_copyload), 1);
+    goto v1;
+v1:
+    common_ret_op = umin32(r0_4_0, 0x7fffffffU);
     goto dfu_device_c_tells_dfu_core_due_exit;
 arm_2:;
-    uint8_t r2_0_0_copyload = r3[1];
-    uint32_t switch_load = load32(PLACE(switch_table_dfu_device_c_numbers_Refusal_number) + 4 * (size_t)r2_0_0_copyload);
-    r4_0 = switch_load;
+    uint8_t r4_0_0_copyload = r6[1];
+    uint32_t switch_load = load32(PLACE(switch_table_dfu_device_c_numbers_Refusal_number) + 4 * (size_t)r4_0_0_copyload);
+    common_ret_op = switch_load;
 dfu_device_c_tells_dfu_core_due_exit:
-    return signed32(r4_0);
+    return signed32(common_ret_op);
 }
 
 /* dfu_core_closes */
@@ -4338,34 +4380,35 @@ int32_t dfu_core_closes(const struct dfu_config *config, const struct dfu_record
     unsigned char *a0 = (unsigned char *)(uintptr_t)config;
     unsigned char *a1 = (unsigned char *)(uintptr_t)record;
     unsigned char *a2 = (unsigned char *)(uintptr_t)setup;
-    _Alignas(4) unsigned char r5[20];
-    _Alignas(8) unsigned char r4[8];
+    _Alignas(4) unsigned char r7[56];
+    _Alignas(4) unsigned char r2[16];
+    _Alignas(8) unsigned char r5[8];
     uint32_t common_ret_op;
-    memset(r5, 0, 20);
-    dfu_device_c_mode_idle_mode(r5, a0, a1);
-    uint8_t r14 = *r5;
+    store32(r2, 0);
+    memset(r7, 0, 56);
+    dfu_device_c_mode_idle_mode(r7, a0, a1);
+    uint8_t r14 = *r7;
     if (r14 != 0) goto arm_2;
-    uint8_t v1 = r5[4];
-    uint32_t v2 = load32(r5 + 8);
-    uint8_t r45 = a0[15];
+    uint8_t r3_3_0_copyload = r7[40];
+    uint8_t r3_4_0_copyload = r7[41];
+    uint32_t r3_6_0_copyload = load32(r7 + 44);
+    uint32_t r3_7_0_copyload = load32(r7 + 48);
+    uint32_t r3_8_0_copyload = load32(r7 + 52);
+    *r2 = r3_3_0_copyload;
+    r2[1] = r3_4_0_copyload;
+    store32(r2 + 4, r3_6_0_copyload);
+    store32(r2 + 8, r3_7_0_copyload);
+    store32(r2 + 12, r3_8_0_copyload);
+    uint8_t r30 = a0[15];
     uint64_t r2_0_0_copyload = load64u(a2);
-    store64(r4, (uint64_t)((r45 == (uint8_t)(r2_0_0_copyload >> 32)) ? 0 : 0x100000000ULL) | (r2_0_0_copyload & 0xffffff00ffffffffULL));
-    uint32_t r48 = load32(a0 + 24);
-    if ((v1 == 6) ? (r48 <= v2) : 0) goto then_6;
-    goto join_8;
-arm_2:;
-    uint8_t r3_0_0_copyload = r5[1];
-    uint32_t switch_load = load32(PLACE(switch_table_dfu_device_c_numbers_Refusal_number) + 4 * (size_t)r3_0_0_copyload);
-    common_ret_op = switch_load;
+    store64(r5, (uint64_t)((r30 == (uint8_t)(r2_0_0_copyload >> 32)) ? 0 : 0x100000000ULL) | (r2_0_0_copyload & 0xffffff00ffffffffULL));
+    uint8_t r34 = dfu_asks_closes_mode_closes(r7 + 4, r2, r5);
+    common_ret_op = (uint32_t)r34;
     goto dfu_device_c_closes_dfu_core_closes_exit;
-then_6:;
-    uint8_t r55 = dfu_device_table_is_close(r4);
-    if (r55) {
-        common_ret_op = 1;
-        goto dfu_device_c_closes_dfu_core_closes_exit;
-    }
-join_8:
-    common_ret_op = 0;
+arm_2:;
+    uint8_t r4_0_0_copyload = r7[1];
+    uint32_t switch_load = load32(PLACE(switch_table_dfu_device_c_numbers_Refusal_number) + 4 * (size_t)r4_0_0_copyload);
+    common_ret_op = switch_load;
 dfu_device_c_closes_dfu_core_closes_exit:
     return signed32(common_ret_op);
 }
@@ -4375,20 +4418,20 @@ int32_t dfu_core_refuse(const struct dfu_config *config, struct dfu_record *reco
     unsigned char *a0 = (unsigned char *)(uintptr_t)config;
     unsigned char *a1 = (unsigned char *)(uintptr_t)record;
     uint32_t a2 = status;
-    _Alignas(4) unsigned char r5[20];
-    _Alignas(4) unsigned char r10[16];
-    uint8_t v1, v2, r1_5_0, r12_0_0, r12_4_0;
-    uint32_t v3, v4, v5, r12_76_0, r12_10_0, r12_13_0, common_ret_op;
-    memset(r5, 0, 20);
-    store32(r10, 0);
-    dfu_device_c_mode_idle_mode(r5, a0, a1);
-    uint8_t r12 = *r5;
-    if (r12 != 0) goto arm_2;
-    v1 = r5[4];
-    v2 = r5[5];
-    v3 = load32(r5 + 8);
-    v4 = load32(r5 + 12);
-    v5 = load32(r5 + 16);
+    _Alignas(4) unsigned char r6[56];
+    _Alignas(4) unsigned char r11[16];
+    uint8_t r2_3_0_copyload, r2_4_0_copyload, r1_5_0, r12_0_0, r12_4_0;
+    uint32_t r2_6_0_copyload, r2_7_0_copyload, r2_8_0_copyload, r12_76_0, r12_10_0, r12_13_0, common_ret_op;
+    memset(r6, 0, 56);
+    store32(r11, 0);
+    dfu_device_c_mode_idle_mode(r6, a0, a1);
+    uint8_t r13 = *r6;
+    if (r13 != 0) goto arm_2;
+    r2_3_0_copyload = r6[40];
+    r2_4_0_copyload = r6[41];
+    r2_6_0_copyload = load32(r6 + 44);
+    r2_7_0_copyload = load32(r6 + 48);
+    r2_8_0_copyload = load32(r6 + 52);
     switch (a2) {
     case 1:
         r1_5_0 = 1;
@@ -4402,90 +4445,90 @@ arm_2_2:
     r1_5_0 = 2;
     goto arm_5;
 arm_2:;
-    uint8_t r3_0_0_copyload = r5[1];
+    uint8_t r3_0_0_copyload = r6[1];
     uint32_t switch_load = load32(PLACE(switch_table_dfu_device_c_numbers_Refusal_number) + 4 * (size_t)r3_0_0_copyload);
     common_ret_op = switch_load;
     goto dfu_device_c_refuse_dfu_core_refuse_exit;
 arm_5:
-    switch (v1) {
+    switch (r2_3_0_copyload) {
     case 7: goto arm_1;
     case 9: goto arm_1;
     case 0:
-        r12_0_0 = v1;
-        r12_4_0 = v2;
-        r12_76_0 = v3;
-        r12_10_0 = v4;
-        r12_13_0 = v5;
+        r12_0_0 = r2_3_0_copyload;
+        r12_4_0 = r2_4_0_copyload;
+        r12_76_0 = r2_6_0_copyload;
+        r12_10_0 = r2_7_0_copyload;
+        r12_13_0 = r2_8_0_copyload;
         goto dfu_device_device_state_DeviceState_after_refusal_exit;
     case 1:
-        r12_0_0 = v1;
-        r12_4_0 = v2;
-        r12_76_0 = v3;
-        r12_10_0 = v4;
-        r12_13_0 = v5;
+        r12_0_0 = r2_3_0_copyload;
+        r12_4_0 = r2_4_0_copyload;
+        r12_76_0 = r2_6_0_copyload;
+        r12_10_0 = r2_7_0_copyload;
+        r12_13_0 = r2_8_0_copyload;
         goto dfu_device_device_state_DeviceState_after_refusal_exit;
     case 2:
-        r12_0_0 = v1;
-        r12_4_0 = v2;
-        r12_76_0 = v3;
-        r12_10_0 = v4;
-        r12_13_0 = v5;
+        r12_0_0 = r2_3_0_copyload;
+        r12_4_0 = r2_4_0_copyload;
+        r12_76_0 = r2_6_0_copyload;
+        r12_10_0 = r2_7_0_copyload;
+        r12_13_0 = r2_8_0_copyload;
         goto dfu_device_device_state_DeviceState_after_refusal_exit;
     case 3:
-        r12_0_0 = v1;
-        r12_4_0 = v2;
-        r12_76_0 = v3;
-        r12_10_0 = v4;
-        r12_13_0 = v5;
+        r12_0_0 = r2_3_0_copyload;
+        r12_4_0 = r2_4_0_copyload;
+        r12_76_0 = r2_6_0_copyload;
+        r12_10_0 = r2_7_0_copyload;
+        r12_13_0 = r2_8_0_copyload;
         goto dfu_device_device_state_DeviceState_after_refusal_exit;
     case 4:
-        r12_0_0 = v1;
-        r12_4_0 = v2;
-        r12_76_0 = v3;
-        r12_10_0 = v4;
-        r12_13_0 = v5;
+        r12_0_0 = r2_3_0_copyload;
+        r12_4_0 = r2_4_0_copyload;
+        r12_76_0 = r2_6_0_copyload;
+        r12_10_0 = r2_7_0_copyload;
+        r12_13_0 = r2_8_0_copyload;
         goto dfu_device_device_state_DeviceState_after_refusal_exit;
     case 5:
-        r12_0_0 = v1;
-        r12_4_0 = v2;
-        r12_76_0 = v3;
-        r12_10_0 = v4;
-        r12_13_0 = v5;
+        r12_0_0 = r2_3_0_copyload;
+        r12_4_0 = r2_4_0_copyload;
+        r12_76_0 = r2_6_0_copyload;
+        r12_10_0 = r2_7_0_copyload;
+        r12_13_0 = r2_8_0_copyload;
         goto dfu_device_device_state_DeviceState_after_refusal_exit;
     case 6:
-        r12_0_0 = v1;
-        r12_4_0 = v2;
-        r12_76_0 = v3;
-        r12_10_0 = v4;
-        r12_13_0 = v5;
+        r12_0_0 = r2_3_0_copyload;
+        r12_4_0 = r2_4_0_copyload;
+        r12_76_0 = r2_6_0_copyload;
+        r12_10_0 = r2_7_0_copyload;
+        r12_13_0 = r2_8_0_copyload;
         goto dfu_device_device_state_DeviceState_after_refusal_exit;
     case 8:
-        r12_0_0 = v1;
-        r12_4_0 = v2;
-        r12_76_0 = v3;
-        r12_10_0 = v4;
-        r12_13_0 = v5;
+        r12_0_0 = r2_3_0_copyload;
+        r12_4_0 = r2_4_0_copyload;
+        r12_76_0 = r2_6_0_copyload;
+        r12_10_0 = r2_7_0_copyload;
+        r12_13_0 = r2_8_0_copyload;
         goto dfu_device_device_state_DeviceState_after_refusal_exit;
     case 10:
-        r12_0_0 = v1;
-        r12_4_0 = v2;
-        r12_76_0 = v3;
-        r12_10_0 = v4;
-        r12_13_0 = v5;
+        r12_0_0 = r2_3_0_copyload;
+        r12_4_0 = r2_4_0_copyload;
+        r12_76_0 = r2_6_0_copyload;
+        r12_10_0 = r2_7_0_copyload;
+        r12_13_0 = r2_8_0_copyload;
         goto dfu_device_device_state_DeviceState_after_refusal_exit;
     case 11:
-        r12_0_0 = v1;
-        r12_4_0 = v2;
-        r12_76_0 = v3;
-        r12_10_0 = v4;
-        r12_13_0 = v5;
+        r12_0_0 = r2_3_0_copyload;
+        r12_4_0 = r2_4_0_copyload;
+        r12_76_0 = r2_6_0_copyload;
+        r12_10_0 = r2_7_0_copyload;
+        r12_13_0 = r2_8_0_copyload;
         goto dfu_device_device_state_DeviceState_after_refusal_exit;
     case 12:
-        r12_0_0 = v1;
-        r12_4_0 = v2;
-        r12_76_0 = v3;
-        r12_10_0 = v4;
-        r12_13_0 = v5;
+        r12_0_0 = r2_3_0_copyload;
+        r12_4_0 = r2_4_0_copyload;
+        r12_76_0 = r2_6_0_copyload;
+        r12_10_0 = r2_7_0_copyload;
+        r12_13_0 = r2_8_0_copyload;
         goto dfu_device_device_state_DeviceState_after_refusal_exit;
     default: never();
     }
@@ -4497,12 +4540,12 @@ arm_1:
     r12_13_0 = 0;
     goto dfu_device_device_state_DeviceState_after_refusal_exit;
 dfu_device_device_state_DeviceState_after_refusal_exit:
-    *r10 = r12_0_0;
-    r10[1] = r12_4_0;
-    store32(r10 + 4, r12_76_0);
-    store32(r10 + 8, r12_10_0);
-    store32(r10 + 12, r12_13_0);
-    dfu_device_c_mode_set_mode(a1, r10);
+    *r11 = r12_0_0;
+    r11[1] = r12_4_0;
+    store32(r11 + 4, r12_76_0);
+    store32(r11 + 8, r12_10_0);
+    store32(r11 + 12, r12_13_0);
+    dfu_device_c_mode_set_mode(a1, r11);
     common_ret_op = 0;
 dfu_device_c_refuse_dfu_core_refuse_exit:
     return signed32(common_ret_op);
@@ -4514,18 +4557,30 @@ int32_t dfu_core_refuse_close(const struct dfu_config *config, struct dfu_record
     unsigned char *a1 = (unsigned char *)(uintptr_t)record;
     unsigned char *a2 = (unsigned char *)(uintptr_t)setup;
     uint32_t a3 = status;
-    _Alignas(4) unsigned char r6[20];
+    _Alignas(4) unsigned char r8[56];
+    _Alignas(4) unsigned char r2[16];
     _Alignas(4) unsigned char r19[16];
-    _Alignas(8) unsigned char r5[8];
-    uint8_t v1, r1_5_0;
-    uint32_t v2, common_ret_op;
-    memset(r6, 0, 20);
+    _Alignas(8) unsigned char r6[8];
+    unsigned char *r22;
+    uint8_t r1_5_0;
+    uint32_t common_ret_op;
+    store32(r2, 0);
+    memset(r8, 0, 56);
     store32(r19, 12);
-    dfu_device_c_mode_idle_mode(r6, a0, a1);
-    uint8_t r21 = *r6;
+    dfu_device_c_mode_idle_mode(r8, a0, a1);
+    uint8_t r21 = *r8;
     if (r21 != 0) goto arm_2;
-    v1 = r6[4];
-    v2 = load32(r6 + 8);
+    r22 = r8 + 4;
+    uint8_t r3_3_0_copyload = r8[40];
+    uint8_t r3_4_0_copyload = r8[41];
+    uint32_t r3_6_0_copyload = load32(r8 + 44);
+    uint32_t r3_7_0_copyload = load32(r8 + 48);
+    uint32_t r3_8_0_copyload = load32(r8 + 52);
+    *r2 = r3_3_0_copyload;
+    r2[1] = r3_4_0_copyload;
+    store32(r2 + 4, r3_6_0_copyload);
+    store32(r2 + 8, r3_7_0_copyload);
+    store32(r2 + 12, r3_8_0_copyload);
     switch (a3) {
     case 1:
         r1_5_0 = 1;
@@ -4539,21 +4594,16 @@ arm_2_2:
     r1_5_0 = 2;
     goto arm_5;
 arm_2:;
-    uint8_t r3_0_0_copyload = r6[1];
-    uint32_t switch_load = load32(PLACE(switch_table_dfu_device_c_numbers_Refusal_number) + 4 * (size_t)r3_0_0_copyload);
+    uint8_t r4_0_0_copyload = r8[1];
+    uint32_t switch_load = load32(PLACE(switch_table_dfu_device_c_numbers_Refusal_number) + 4 * (size_t)r4_0_0_copyload);
     common_ret_op = switch_load;
     goto dfu_device_c_refuse_dfu_core_refuse_close_exit;
 arm_5:;
-    uint8_t r59 = a0[15];
+    uint8_t r44 = a0[15];
     uint64_t r2_0_0_copyload = load64u(a2);
-    store64(r5, (uint64_t)((r59 == (uint8_t)(r2_0_0_copyload >> 32)) ? 0 : 0x100000000ULL) | (r2_0_0_copyload & 0xffffff00ffffffffULL));
-    uint32_t r62 = load32(a0 + 24);
-    if (!((v1 == 6) ? (r62 <= v2) : 0)) {
-        common_ret_op = 0xfffffff3U;
-        goto dfu_device_c_refuse_dfu_core_refuse_close_exit;
-    }
-    uint8_t r73 = dfu_device_table_is_close(r5);
-    if (!r73) {
+    store64(r6, (uint64_t)((r44 == (uint8_t)(r2_0_0_copyload >> 32)) ? 0 : 0x100000000ULL) | (r2_0_0_copyload & 0xffffff00ffffffffULL));
+    uint8_t r48 = dfu_asks_closes_mode_closes(r22, r2, r6);
+    if (!r48) {
         common_ret_op = 0xfffffff3U;
         goto dfu_device_c_refuse_dfu_core_refuse_close_exit;
     }
@@ -4572,43 +4622,51 @@ int32_t dfu_core_too_long(const struct dfu_config *config, struct dfu_record *re
     unsigned char *a0 = (unsigned char *)(uintptr_t)config;
     unsigned char *a1 = (unsigned char *)(uintptr_t)record;
     unsigned char *a2 = (unsigned char *)(uintptr_t)setup;
-    _Alignas(4) unsigned char r6[20];
-    _Alignas(4) unsigned char r18[16];
-    uint8_t v1, v2, r11_0_0, r11_6_0;
+    _Alignas(4) unsigned char r8[56];
+    _Alignas(4) unsigned char r6[16];
+    uint8_t r3_3_0_copyload, r3_4_0_copyload, r13_4_0, r13_7_0;
     uint64_t r2_0_0_copyload;
-    uint32_t common_ret_op;
-    memset(r6, 0, 20);
-    store32(r18, 0);
-    dfu_device_c_mode_idle_mode(r6, a0, a1);
-    uint8_t r20 = *r6;
-    if (r20 != 0) goto arm_2;
-    v1 = r6[4];
-    v2 = r6[5];
+    uint32_t r13_107_0, r13_13_0, r13_16_0, common_ret_op;
+    store32(r6, 0);
+    memset(r8, 0, 56);
+    dfu_device_c_mode_idle_mode(r8, a0, a1);
+    uint8_t r18 = *r8;
+    if (r18 != 0) goto arm_2;
+    uint16_t r3_0_3_0_copyload = load16(r8 + 16);
+    r3_3_0_copyload = r8[40];
+    r3_4_0_copyload = r8[41];
     r2_0_0_copyload = load64u(a2);
-    uint16_t r55 = load16(a0 + 12);
-    if (((r2_0_0_copyload & 255) == 33) ? (r55 < (uint16_t)(r2_0_0_copyload >> 48)) : 0) goto join_7;
-    common_ret_op = 0xfffffff7U;
-    goto dfu_device_c_long_dfu_core_too_long_exit;
-arm_2:;
-    uint8_t r3_0_0_copyload = r6[1];
-    uint32_t switch_load = load32(PLACE(switch_table_dfu_device_c_numbers_Refusal_number) + 4 * (size_t)r3_0_0_copyload);
-    common_ret_op = switch_load;
-    goto dfu_device_c_long_dfu_core_too_long_exit;
-join_7:;
-    uint8_t r51 = a0[15];
-    if (!(((r2_0_0_copyload & 0xff0000000000ULL) == 0) & (r51 == (uint8_t)(r2_0_0_copyload >> 32)))) {
-        common_ret_op = 0xffffffffU;
+    if (!(((r2_0_0_copyload & 255) == 33) ? (r3_0_3_0_copyload < (uint16_t)(r2_0_0_copyload >> 48)) : 0)) {
+        common_ret_op = 0xfffffff7U;
         goto dfu_device_c_long_dfu_core_too_long_exit;
     }
-    switch (v1) {
+    uint8_t r34 = a0[15];
+    uint32_t r3_8_0_copyload = load32(r8 + 52);
+    uint32_t r3_7_0_copyload = load32(r8 + 48);
+    uint32_t r3_6_0_copyload = load32(r8 + 44);
+    if (!(((r2_0_0_copyload & 0xff0000000000ULL) == 0) & (r34 == (uint8_t)(r2_0_0_copyload >> 32)))) {
+        r13_4_0 = r3_3_0_copyload;
+        r13_7_0 = r3_4_0_copyload;
+        r13_107_0 = r3_6_0_copyload;
+        r13_13_0 = r3_7_0_copyload;
+        r13_16_0 = r3_8_0_copyload;
+        goto arm_5;
+    }
+    switch (r3_3_0_copyload) {
     case 0:
-        r11_0_0 = 0;
-        r11_6_0 = 0;
-        goto dfu_device_c_long_after_long_exit;
+        r13_4_0 = 0;
+        r13_7_0 = 0;
+        r13_107_0 = 0;
+        r13_13_0 = 0;
+        r13_16_0 = 0;
+        goto arm_5;
     case 1:
-        r11_0_0 = 0;
-        r11_6_0 = 0;
-        goto dfu_device_c_long_after_long_exit;
+        r13_4_0 = 0;
+        r13_7_0 = 0;
+        r13_107_0 = 0;
+        r13_13_0 = 0;
+        r13_16_0 = 0;
+        goto arm_5;
     case 10: goto arm_2_2;
     case 12: goto arm_3;
     case 2: goto arm_4;
@@ -4623,47 +4681,41 @@ join_7:;
     default: never();
     }
 arm_2_2:
-    r11_0_0 = v1;
-    r11_6_0 = 0;
-    goto dfu_device_c_long_after_long_exit;
+    r13_4_0 = r3_3_0_copyload;
+    r13_7_0 = 0;
+    r13_107_0 = 0;
+    r13_13_0 = 0;
+    r13_16_0 = 0;
+    goto arm_5;
 arm_3:
-    r11_0_0 = v1;
-    r11_6_0 = v2;
-    goto dfu_device_c_long_after_long_exit;
+    r13_4_0 = r3_3_0_copyload;
+    r13_7_0 = r3_4_0_copyload;
+    r13_107_0 = 0;
+    r13_13_0 = 0;
+    r13_16_0 = 0;
+    goto arm_5;
 arm_4:
-    r11_0_0 = 12;
-    r11_6_0 = 15;
-    goto dfu_device_c_long_after_long_exit;
-dfu_device_c_long_after_long_exit:
-    *r18 = r11_0_0;
-    r18[1] = r11_6_0;
-    store32(r18 + 4, 0);
-    store32(r18 + 8, 0);
-    store32(r18 + 12, 0);
-    dfu_device_c_mode_set_mode(a1, r18);
+    r13_4_0 = 12;
+    r13_7_0 = 15;
+    r13_107_0 = 0;
+    r13_13_0 = 0;
+    r13_16_0 = 0;
+    goto arm_5;
+arm_2:;
+    uint8_t r4_0_0_copyload = r8[1];
+    uint32_t switch_load = load32(PLACE(switch_table_dfu_device_c_numbers_Refusal_number) + 4 * (size_t)r4_0_0_copyload);
+    common_ret_op = switch_load;
+    goto dfu_device_c_long_dfu_core_too_long_exit;
+arm_5:
+    *r6 = r13_4_0;
+    r6[1] = r13_7_0;
+    store32(r6 + 4, r13_107_0);
+    store32(r6 + 8, r13_13_0);
+    store32(r6 + 12, r13_16_0);
+    dfu_device_c_mode_set_mode(a1, r6);
     common_ret_op = 0xffffffffU;
 dfu_device_c_long_dfu_core_too_long_exit:
     return signed32(common_ret_op);
-}
-
-/* dfu_core_begin */
-int32_t dfu_core_begin(const struct dfu_config *config, struct dfu_record *record, const uint8_t *flash, size_t size) {
-    unsigned char *a0 = (unsigned char *)(uintptr_t)config;
-    unsigned char *a1 = (unsigned char *)(uintptr_t)record;
-    unsigned char *a2 = (unsigned char *)(uintptr_t)flash;
-    uint64_t a3 = size;
-    uint32_t r8 = dfu_device_c_power_start(a0, a1, (unsigned char *)((uintptr_t)a2 + (uintptr_t)(uint64_t)((a2 == NULL) ? 4096 : 0)), a3, 2);
-    return signed32(r8);
-}
-
-/* dfu_core_power_on */
-int32_t dfu_core_power_on(const struct dfu_config *config, struct dfu_record *record, const uint8_t *flash, size_t size) {
-    unsigned char *a0 = (unsigned char *)(uintptr_t)config;
-    unsigned char *a1 = (unsigned char *)(uintptr_t)record;
-    unsigned char *a2 = (unsigned char *)(uintptr_t)flash;
-    uint64_t a3 = size;
-    uint32_t r8 = dfu_device_c_power_start(a0, a1, (unsigned char *)((uintptr_t)a2 + (uintptr_t)(uint64_t)((a2 == NULL) ? 4096 : 0)), a3, 0);
-    return signed32(r8);
 }
 
 /* dfu_core_would_stall */
@@ -4672,60 +4724,60 @@ int32_t dfu_core_would_stall(const struct dfu_config *config, const struct dfu_r
     unsigned char *a1 = (unsigned char *)(uintptr_t)record;
     uint64_t a2 = size;
     unsigned char *a3 = (unsigned char *)(uintptr_t)setup;
-    _Alignas(8) unsigned char r4[32];
+    _Alignas(4) unsigned char r7[56];
+    _Alignas(8) unsigned char r12[32];
     _Alignas(4) unsigned char r17[24];
-    _Alignas(4) unsigned char r6[20];
     _Alignas(4) unsigned char r1[16];
-    _Alignas(8) unsigned char r22[8];
+    _Alignas(8) unsigned char r18[8];
     _Alignas(4) unsigned char r10[6];
-    _Alignas(4) unsigned char r19[6];
+    _Alignas(4) unsigned char r16_2[6];
     uint32_t common_ret_op;
-    store64(r4 + 8, 0);
-    memset(r6, 0, 20);
-    dfu_device_c_mode_idle_mode(r6, a0, a1);
-    uint8_t r25 = *r6;
-    if (r25 != 0) goto arm_2;
-    uint8_t v2 = r6[4];
-    uint8_t v3 = r6[5];
-    uint32_t v4 = load32(r6 + 8);
-    uint32_t v5 = load32(r6 + 12);
-    uint32_t v6 = load32(r6 + 16);
-    dfu_device_c_config_functional_of(r4, a0);
-    uint32_t r56 = load32(a0 + 24);
-    uint32_t r58 = load32(a0 + 16);
-    uint32_t r60 = load32(a0 + 20);
-    uint8_t r61 = dfu_device_c_config_unit_of(a0);
-    uint32_t r63 = load32(a0 + 32);
-    uint32_t switch_load = load32(PLACE(switch_table_dfu_core_would_stall) + 4 * (size_t)r61);
-    store32(r4 + 12, r56);
-    store32(r4 + 16, r58);
-    store32(r4 + 20, r60);
-    store64(r4 + 24, usub_sat64(a2 >> 1, (uint64_t)umax32(r63, switch_load) << 1));
-    uint8_t r76 = a0[15];
+    memset(r7, 0, 56);
+    dfu_device_c_mode_idle_mode(r7, a0, a1);
+    uint8_t r16 = *r7;
+    if (r16 != 0) goto arm_2;
+    uint32_t r3_0_3_0_copyload = load32(r7 + 20);
+    uint32_t r3_0_4_0_copyload = load32(r7 + 24);
+    uint32_t r3_0_5_0_copyload = load32(r7 + 28);
+    uint8_t r3_0_6_0_copyload = r7[32];
+    uint32_t r3_0_8_0_copyload = load32(r7 + 36);
+    uint8_t r3_3_0_copyload = r7[40];
+    uint8_t r3_4_0_copyload = r7[41];
+    uint32_t r3_6_0_copyload = load32(r7 + 44);
+    uint32_t r3_7_0_copyload = load32(r7 + 48);
+    uint32_t r3_8_0_copyload = load32(r7 + 52);
+    uint8_t r32 = a0[15];
     uint64_t r2_0_0_copyload = load64u(a3);
-    store64(r22, (uint64_t)((r76 == (uint8_t)(r2_0_0_copyload >> 32)) ? 0 : 0x100000000ULL) | (r2_0_0_copyload & 0xffffff00ffffffffULL));
-    dfu_wire_setups_Setup_request(r19, r22);
+    uint32_t switch_load = load32(PLACE(switch_table_dfu_core_would_stall) + 4 * (size_t)r3_0_6_0_copyload);
+    memcpy(r12, r7 + 10, 10);
+    store16(r12 + 10, 0);
+    store32(r12 + 12, r3_0_3_0_copyload);
+    store32(r12 + 16, r3_0_4_0_copyload);
+    store32(r12 + 20, r3_0_5_0_copyload);
+    store64(r12 + 24, usub_sat64(a2 >> 1, (uint64_t)umax32(r3_0_8_0_copyload, switch_load) << 1));
+    store64(r18, (uint64_t)((r32 == (uint8_t)(r2_0_0_copyload >> 32)) ? 0 : 0x100000000ULL) | (r2_0_0_copyload & 0xffffff00ffffffffULL));
+    dfu_wire_setups_Setup_request(r16_2, r18);
     store32(r1, 0);
-    *r1 = v2;
-    r1[1] = v3;
-    store32(r1 + 4, v4);
-    store32(r1 + 8, v5);
-    store32(r1 + 12, v6);
-    uint8_t r11 = *r19;
+    *r1 = r3_3_0_copyload;
+    r1[1] = r3_4_0_copyload;
+    store32(r1 + 4, r3_6_0_copyload);
+    store32(r1 + 8, r3_7_0_copyload);
+    store32(r1 + 12, r3_8_0_copyload);
+    uint8_t r11 = *r16_2;
     store16(r10, r11);
-    uint16_t v11 = load16(r19 + 2);
-    store16(r10 + 2, v11);
-    uint16_t v12 = load16(r19 + 4);
-    store16(r10 + 4, v12);
+    uint16_t v6 = load16(r16_2 + 2);
+    store16(r10 + 2, v6);
+    uint16_t v7 = load16(r16_2 + 4);
+    store16(r10 + 4, v7);
     memset(r17, 0, 24);
-    dfu_device_table_decide(r17, r4, r1, r10);
+    dfu_device_table_decide(r17, r12, r1, r10);
     uint8_t r1_0_0_copyload = *r17;
     uint8_t r1_3_1_copyload = r17[1];
     common_ret_op = (uint32_t)(((uint8_t)(r1_0_0_copyload + 253) < 254) ? (r1_3_1_copyload == 3) : 0);
     goto dfu_device_c_stalls_dfu_core_would_stall_exit;
 arm_2:;
-    uint8_t r3_0_0_copyload = r6[1];
-    uint32_t switch_load_2 = load32(PLACE(switch_table_dfu_device_c_numbers_Refusal_number) + 4 * (size_t)r3_0_0_copyload);
+    uint8_t r4_0_0_copyload = r7[1];
+    uint32_t switch_load_2 = load32(PLACE(switch_table_dfu_device_c_numbers_Refusal_number) + 4 * (size_t)r4_0_0_copyload);
     common_ret_op = switch_load_2;
 dfu_device_c_stalls_dfu_core_would_stall_exit:
     return signed32(common_ret_op);
@@ -4967,7 +5019,7 @@ arm_5:
     store32(r12 + 16, r18_36_0);
     store32(r12 + 20, 0);
     memset(r13_2, 0, 6);
-    dfu_asks_asking_Asking_carry_out(r29, r44, r12, 0, 0, PLACE(static_0), 0, r4, r1, r19, r21, r5_2, v3, r13_2, 6);
+    dfu_asks_asking_Asking_carry_out(r29, r44, r12, 0, 0, PLACE(static_2), 0, r4, r1, r19, r21, r5_2, v3, r13_2, 6);
     uint8_t v10 = *r29;
     dfu_device_c_keeping_keep(r44, a1);
     common_ret_op = (uint32_t)((v10 == 0) ? 0xfffffff5U : 0);

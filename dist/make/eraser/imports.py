@@ -16,22 +16,24 @@ WIDTH = 100
 
 
 class Tree:
-    """A path of a use: its words, and its branches in braces if it has some."""
+    """A path of a use: its words, and its branches in braces if it has some. In braces `self` is the word before them."""
 
     def __init__(self, words, branches, alias):
-        self.words, self.branches, self.alias = words, branches, alias
+        self.words, self.branches, self.alias, self.around = words, branches, alias, words
+        for branch in branches or []:
+            branch.around = words
 
     def name(self):
         """The name that it brings."""
-        return self.alias or (self.words[-2] if self.words[-1] == "self" else self.words[-1])
+        return self.alias or (self.around[-1] if self.words == ["self"] else self.words[-1])
 
     def pruned(self, is_used):
         """It without the names that are not used, or None."""
         if self.branches is None:
             return self if self.words[-1] == "*" or is_used(self.name()) else None
         left = [it for it in (branch.pruned(is_used) for branch in self.branches) if it]
-        if len(left) == 1 and left[0].branches is None and left[0].words != ["self"]:
-            return Tree(self.words + left[0].words, None, left[0].alias)
+        if len(left) == 1 and left[0].branches is None:
+            return Tree(self.words + [it for it in left[0].words if it != "self"], None, left[0].alias)
         return Tree(self.words, left, None) if left else None
 
     def leaves(self):

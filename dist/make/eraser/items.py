@@ -1,4 +1,5 @@
-"""Single items, named here by hand: those that only contracts name go, and those that need a feature get it."""
+"""Single items and words, named here by hand: items that only contracts name go, those that need a feature get it, and words that Rust
+lacks become others."""
 from ghosts import drop_space
 from refusal import Refusal
 from tokens import Token, code_before, tokens_of
@@ -10,15 +11,25 @@ ITEMS = {
     "crates/dfuse_file/src/listing.rt": {"use dfu_images": "formats", "fn list": "formats"},
 }
 
+# By file: words that Rust has in no stable form, and those that stand for them.
+WORDS = {
+    "crates/dfu_cmd/src/main.rt": {"fn main": "pub fn main"},
+    "crates/dfu_fs/src/reasons.rt": {'"{error}"': '"{}", io::reason(error)'},
+    "crates/dfu_fs/src/destination.rt": {"Error :: from ( ErrorKind :: FilesystemLoop )": "too_many_links()"},
+}
+
 
 def with_items(path, tokens):
-    """The tokens of a source with its items as the table says. Each is there once."""
-    for words, feature in ITEMS.get(path, {}).items():
+    """The tokens of a source with its items and words as the tables say. Each is there once."""
+    for words, new in WORDS.get(path, {}).items():
         wanted = words.split()
-        places = [at for at in range(len(tokens)) if begins(tokens, at, wanted)]
-        if len(places) != 1:
-            raise Refusal(path, 1, f"`{words}` is there {len(places)} times, and not once")
-        first = places[0]
+        first = place_of(path, tokens, words)
+        last = first
+        while len([it for it in tokens[first:last] if it.is_code()]) < len(wanted):
+            last += 1
+        tokens = [*tokens[:first], *tokens_of(path, new), *tokens[last:]]
+    for words, feature in ITEMS.get(path, {}).items():
+        first = place_of(path, tokens, words)
         while code_before(tokens, first) >= 0 and tokens[code_before(tokens, first)].text in ("pub", "(", "crate", ")"):
             first = code_before(tokens, first)
         if feature:
@@ -26,6 +37,14 @@ def with_items(path, tokens):
         else:
             tokens = without(tokens, first)
     return tokens
+
+
+def place_of(path, tokens, words):
+    """Where these words begin, which are there once."""
+    places = [at for at in range(len(tokens)) if begins(tokens, at, words.split())]
+    if len(places) != 1:
+        raise Refusal(path, 1, f"`{words}` is there {len(places)} times, and not once")
+    return places[0]
 
 
 def begins(tokens, at, wanted):

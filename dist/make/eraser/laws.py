@@ -27,6 +27,9 @@ def without_laws(path, tokens):
     made, names, at = [], set(), 0
     while at < len(tokens):
         end = end_of_law_item(tokens, at, names)
+        if end is None and is_branch(tokens, at):
+            at = next_code(tokens, next_code(tokens, at + 1) + 1)
+            continue
         if end is None and tokens[at].text in names and tokens[at].kind == "word":
             end = end_of_call(path, tokens, at)
             drop_comments(made)
@@ -59,6 +62,17 @@ def end_of_law_item(tokens, at, names):
         return None
     names |= {it for it in words[3:] if it.isidentifier()}
     return end
+
+
+def is_branch(tokens, at):
+    """Whether `laws` stands here in the braces of a use, with a comma behind it."""
+    if tokens[at].text != NAME or tokens[at].kind != "word":
+        return False
+    begin = at
+    while begin > 0 and tokens[begin].text not in (";", "use"):
+        begin -= 1
+    around = tokens[code_before(tokens, at)].text, tokens[next_code(tokens, at + 1)].text
+    return tokens[begin].text == "use" and around in ((",", ","), ("{", ","))
 
 
 def end_of_call(path, tokens, at):

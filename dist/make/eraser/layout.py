@@ -7,7 +7,7 @@ from tokens import Token
 SPOKEN = re.compile(r"// Called for its clause.*", re.S)
 INSTEAD = "// (The proof needs this call, and nothing else does.)"
 # A link to another item. Without a feature that item may not be there, so it becomes a name alone.
-LINK = re.compile(r"\[`(?:crate|super|Self)::([\w:]+)`\]")
+LINK = re.compile(r"\[`(?:(?:crate|super|Self)::)?((?<=::)[\w:]+|[a-z]\w*::[\w:]+)`\]")
 
 
 def laid_out(tokens):

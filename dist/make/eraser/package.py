@@ -19,11 +19,14 @@ MODULES = {
     "dfu_wire": "wire", "dfu_suffix": "suffix", "dfu_slots": "slots", "dfu_device": "device", "dfu_host": "host", "dfu_asks": "asks",
     "dfu_trial": "boot::trial", "dfu_install": "boot::install", "dfu_install_slots": "boot::install_slots", "dfuse_memory": "dfuse::memory",
     "dfuse_host": "dfuse::session", "dfuse_file": "dfuse::file", "dfu_images": "formats", "dfu_conformance": "conformance",
+    "dfuse_conformance": "dfuse_conformance",
 }
 # What is written by hand: the head of the crate, and the modules that only have modules.
 FRAME = os.path.join(os.path.dirname(__file__), "frame")
 # The name of Cargo.toml there: cargo looks for a package at every Cargo.toml of a repository, and has to find one alone.
 MANIFEST = "manifest.toml"
+# The first source of a library and of a program.
+HEADS = ("lib.rt", "main.rt")
 # The module of memory, until the names of the crates become modules.
 MEMORY = "fustrelan_memory"
 
@@ -54,11 +57,11 @@ class Source:
         return set(re.findall(r"macro_rules!\s*(\w+)", text_of(self.tokens)))
 
     @ends_early
-    def erase(self, macros, memory, kept=frozenset(), allowed=frozenset()):
+    def erase(self, macros, memory, kept=frozenset(), allowed=frozenset(), system=None):
         tokens = without_laws(self.path, with_shared_macros(self.path, self.tokens))
         tokens = without_proofs(self.path, tokens)
         tokens = without_tactics(self.path, tokens, kept)
-        words = Words(self.path, tokens, macros, memory, allowed)
+        words = Words(self.path, tokens, macros, memory, allowed, system)
         self.tokens = with_items(self.path, words.run())
         self.takes_memory = words.takes_memory
 
@@ -74,7 +77,7 @@ class Source:
 def sources_of(top, crate):
     """The sources of a crate by their names, without its laws."""
     folder, found = os.path.join(top, "crates", crate, "src"), []
-    if not os.path.exists(os.path.join(folder, "lib.rt")):
+    if not any(os.path.exists(os.path.join(folder, head)) for head in HEADS):
         raise Refusal(f"crates/{crate}/src/lib.rt", 1, "there is no such crate")
     for place, folders, names in os.walk(folder):
         folders.sort()
@@ -152,14 +155,24 @@ def files_of(top):
     return found
 
 
-def write(top, out):
-    """Writes the package into a folder that is not there: how many files."""
-    files = {f"src/{name}": text for name, text in files_of(top).items()}
-    for folder, _, names in os.walk(FRAME):
+def framed(files, frame):
+    """The files, and those of a folder that are written by hand."""
+    for folder, _, names in os.walk(frame):
         for name in names:
             path = os.path.join(folder, name)
             with open(path, encoding="utf-8") as file:
-                files["Cargo.toml" if name == MANIFEST else os.path.relpath(path, FRAME)] = file.read()
+                place = os.path.join(folder, "Cargo.toml" if name == MANIFEST else name)
+                files[os.path.relpath(place, frame)] = file.read()
+    return files
+
+
+def package_of(top):
+    """The files of the package by their names."""
+    return framed({f"src/{name}": text for name, text in files_of(top).items()}, FRAME)
+
+
+def write(files, out):
+    """Writes files into a folder that is not there: how many."""
     for name, text in files.items():
         path = os.path.join(out, name)
         os.makedirs(os.path.dirname(path), exist_ok=True)

@@ -1,4 +1,6 @@
 """Words that mean something else in Rust, or that Rust lacks: macros, paths of std, `Drop` as a bound; and words that are refused."""
+import re
+
 from refusal import Refusal
 from tokens import Token, code_before, next_code
 
@@ -9,14 +11,21 @@ PROVED = {"prove": "debug_assert", "prove_eq": "debug_assert_eq", "prove_ne": "d
 CORE = {"array", "ascii", "cell", "cmp", "convert", "fmt", "iter", "marker", "mem", "num", "ops", "option", "result", "slice", "str"}
 # What takes memory, or reads and writes: a small module of the crate has the first, as calls that may refuse; Rust's std the second.
 MEMORY, STREAMS = "alloc", "io"
+# Methods that take a range as a part of a slice, and not as an iterator.
+SLICING = {"get", "get_mut"}
+# Of a program: the modules of Rattle's std that stand by hand in a module of its own, and the macros that take memory.
+SYSTEM = {MEMORY, STREAMS, "env", "fs", "os", "process", "rt"}
+MAKING = {"format"}
 REFUSED = {"async", "await", "dyn", "extern", "final", "union", "unsafe", "forever", "HostRuntime", "ToVec", "String", "Box", "Rc"}
 
 
 class Words:
     """Goes through the words of one source."""
 
-    def __init__(self, path, tokens, macros, memory, allowed=frozenset()):
-        self.path, self.tokens, self.macros, self.memory = path, tokens, MACROS | macros, memory
+    def __init__(self, path, tokens, macros, memory, allowed=frozenset(), system=None):
+        self.path, self.tokens, self.macros = path, tokens, MACROS | macros
+        self.paths = {MEMORY: memory, STREAMS: "std::io"} if system is None else {name: f"{system}::{name}" for name in SYSTEM}
+        self.system = system
         self.refused = REFUSED - allowed
         self.made = []
         self.takes_memory = False
@@ -51,11 +60,18 @@ class Words:
     def put(self, at, text):
         self.made.append(Token("word", text, self.tokens[at].line))
 
+    def put_path(self, at, path):
+        for text in re.findall(r"\w+|::", path):
+            self.made.append(Token("mark" if text == "::" else "word", text, self.tokens[at].line))
+
     def is_macro(self, at):
         return self.tokens[at + 1:at + 2] and self.tokens[at + 1].text == "!" and self.tokens[at].text not in ("if", "return", "in")
 
     def macro(self, at):
         name = self.tokens[at].text
+        if self.system and name in MAKING:
+            self.put_path(at, f"{self.system}::{name}")
+            return
         if name not in self.macros and name not in PROVED:
             self.refuse(at, f"a macro that the eraser does not know: {name}!")
         self.put(at, PROVED.get(name, name))
@@ -63,8 +79,18 @@ class Words:
     def range(self, at):
         """A range without an end, outside of brackets: at the top of its type it ends in Rattle, and overflows in Rust."""
         before, after = code_before(self.tokens, at), next_code(self.tokens, at + 1)
+        if self.tokens[after].text == ")" and self.called(at) in SLICING:
+            return
         if self.tokens[after].text in (")", "{", ";") and self.tokens[before].text not in ("(", ",", "{"):
             self.refuse(at, "a range without an end, outside of brackets")
+
+    def called(self, at):
+        """The name before the parenthesis that is open at a place, or ''."""
+        depth = 0
+        while at > 0 and depth <= 0:
+            at -= 1
+            depth += {"(": 1, ")": -1}.get(self.tokens[at].text, 0)
+        return self.tokens[code_before(self.tokens, at)].text if depth > 0 else ""
 
     def std(self, at):
         """`std::x`: where the last word of it is."""
@@ -74,12 +100,9 @@ class Words:
         name = self.tokens[last].text
         if name in CORE:
             self.put(at, f"core::{name}")
-        elif name == MEMORY:
+        elif name in self.paths:
             self.takes_memory = True
-            self.put(at, self.memory)
-        elif name == STREAMS:
-            self.takes_memory = True
-            self.put(at, "std::io")
+            self.put_path(at, self.paths[name])
         else:
             self.refuse(at, f"a path of std that the eraser does not know: std::{name}")
         return last

@@ -3,31 +3,11 @@
 //! The calls for a device that asks.
 
 use crate::asks::noted::{View, look};
-use crate::asks::{Asking, Mapped, Noted, Refusal, Reply, Sector};
-use crate::device::{Answer, Config, DeviceState, asked_length, decide, decide_time, goes_with};
-use crate::slots::Unit;
+use crate::asks::{Asking, Mapped, Refusal, Reply};
+use crate::device::{Answer, asked_length, decide, decide_time, goes_with};
 use crate::wire::{Code, Request, Setup, State};
 
 impl Asking {
-    /// A device that is powered on: in appIDLE, with no block, on flash that it reads. The flash is written in this unit, and erased in
-    /// sectors before, or if there are none written over in place. It reads the images, to see which is active.
-    ///
-    /// None exactly if the flash has no active image, or 2^32 bytes or more.
-    pub fn power_on(config: Config, unit: Unit, sector: Sector, flash: &[u8]) -> Option<Asking> {
-        let noted = Noted::find(flash, unit, sector)?;
-        Some(Asking {
-            config,
-            unit,
-            sector,
-            mode: DeviceState::AppIdle,
-            block_len: 0,
-            held_len: 0,
-            put_end: 0,
-            noted,
-            work: None,
-        })
-    }
-
     /// The state of the standard (USB DFU 1.1, section 6.1.2, bState).
     pub fn state(&self) -> State {
         self.mode.state()

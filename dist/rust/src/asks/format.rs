@@ -48,8 +48,9 @@ fn part_behind(phase: FormatStep, unit: Unit, len: usize) -> FormatStep {
             }
         }
         FormatStep::Image { from } => {
-            let next = from as usize + PART;
-            if next < filled_len(unit, len) {
+            // A sum of 64 bits, which a damaged `from` does not wrap where a usize has 32.
+            let next = from as u64 + PART as u64;
+            if next < filled_len(unit, len) as u64 {
                 FormatStep::Image { from: next as u32 }
             } else {
                 FormatStep::Header

@@ -2,8 +2,9 @@
 
 //! The program of a device that asks refuses an image.
 
+use crate::asks::closes::mode_closes;
 use crate::asks::{Asking, Refusal};
-use crate::device::{DeviceState, Objection, is_close};
+use crate::device::{DeviceState, Objection};
 
 impl Asking {
     /// The program refuses the image that this setup closes, as `Device::refuse_close`: true if it closes one, and then the caller stalls
@@ -16,7 +17,7 @@ impl Asking {
         if self.work.is_some() {
             return Err(Refusal::Asked);
         }
-        if !self.mode.may_close(self.config.least()) || !is_close(setup) {
+        if !mode_closes(&self.config, self.mode, setup) {
             return Ok(false);
         }
         self.mode = DeviceState::after_refused_close(objection);

@@ -33,7 +33,8 @@ impl ByPart for Segments<'_> {
         }
         let from = le32(header, 4) as usize;
         let address = le32(header, 12) as u64;
-        if from + count > self.file.len() {
+        // A sum of 64 bits, which no two numbers of a header wrap where a usize has 32.
+        if from as u64 + count as u64 > self.file.len() as u64 {
             return Err(ImageFault::CutSegment(index));
         }
         if address + count as u64 > 0x1_0000_0000 {
@@ -55,7 +56,7 @@ pub fn read(alloc: Global, file: &[u8]) -> Result<Vec<Element>, ImageFault> {
         return Gathering::new(alloc).finish();
     }
     let from = le32(file, 28) as usize;
-    if le16(file, 42) != 32 || from + 32 * total > file.len() {
+    if le16(file, 42) != 32 || from as u64 + 32 * total as u64 > file.len() as u64 {
         return Err(ImageFault::CutHeader);
     }
     let (_, headers) = file.split_at(from);

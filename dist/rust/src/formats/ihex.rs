@@ -2,10 +2,10 @@
 
 //! Intel HEX, records 00 to 05.
 //!
-//! A line ends with a line feed, or a carriage return and a line feed, and the last one needs neither. A byte order mark and blank lines
-//! are passed over. Digits have either case. There is one end record, and only blank lines follow it. The data of a record may go on past
-//! the 65,536 bytes of a linear base (type 04, or none), but not past those of a segment (type 02). The address at which a program begins
-//! says nothing of the image.
+//! A line ends with a line feed, and the last one needs none. A byte order mark, blank lines and the blanks at either end of a line, such
+//! as a carriage return, are passed over. Digits have either case. There is one end record, and only blank lines follow it. The data of a
+//! record may go on past the 65,536 bytes of a linear base (type 04, or none), but not past those of a segment (type 02). The address at
+//! which a program begins says nothing of the image.
 
 use crate::formats::digits::{bytes_at, sum_of};
 use crate::formats::element::Element;

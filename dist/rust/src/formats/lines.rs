@@ -5,7 +5,7 @@
 use crate::formats::element::Element;
 use crate::formats::fault::ImageFault;
 use crate::formats::gathering::Gathering;
-use crate::formats::text::{is_blank_byte, unmarked};
+use crate::formats::text::{is_blank_byte, unblanked, unmarked};
 use crate::memory::{Global, Vec};
 
 /// Where the first line feed is.
@@ -25,17 +25,15 @@ fn take_line(text: &[u8]) -> (&[u8], Option<&[u8]>) {
     }
 }
 
-/// A line without the carriage return at its end, if there is one.
+/// A line without the blanks at its ends.
 fn bare(line: &[u8]) -> &[u8] {
-    if line.len() == 0 {
-        return line;
+    let from_first = unblanked(line);
+    let mut end = from_first.len();
+    while end > 0 && is_blank_byte(from_first[end - 1]) {
+        end -= 1;
     }
-    let last = line.len() - 1;
-    if line[last] == b'\r' {
-        let (kept, _) = line.split_at(last);
-        return kept;
-    }
-    line
+    let (kept, _) = from_first.split_at(end);
+    kept
 }
 
 /// What was read of a text up to a line: the elements, what Intel HEX counts offsets from, whether that is a segment of 65,536 bytes,

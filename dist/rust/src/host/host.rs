@@ -18,9 +18,7 @@ use crate::memory::{Global, Vec};
 /// A host in a session (USB DFU 1.1, appendix A, seen from the host's side).
 ///
 /// It does nothing itself: its caller does what `next` asks for and gives `take` what came of it,
-/// until `next` returns `Done`. It takes memory only for the parts of an upload. Contracts see it
-/// as a `HostState`: the task, the phase with what an upload keeps, and the actions and restarts
-/// that are left.
+/// until `next` returns `Done`. It takes memory only for the parts of an upload.
 pub struct Host<'f> {
     session: Session<'f>,
     memory: Memory,

@@ -17,9 +17,6 @@ use crate::suffix::File;
 use crate::wire::{Functional, Ids};
 
 /// A session of a host, for a caller that keeps what an upload fetches itself. It takes no memory.
-///
-/// Contracts see it as its parts. With the bytes that its caller keeps they are a `HostState`, as
-/// `Host` is one.
 pub struct Session<'f> {
     task: Task<'f>,
     progress: Progress,

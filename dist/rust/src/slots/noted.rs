@@ -1,6 +1,6 @@
 // Of crates/dfu_slots/src/noted.rt, whose contracts are taken away.
 
-//! The last writes of a medium in memory, for a trace. No clause speaks of them.
+//! The last writes of a medium in memory, for a trace.
 
 use crate::slots::Failed;
 use arrayvec::ArrayVec;

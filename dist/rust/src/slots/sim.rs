@@ -120,7 +120,7 @@ impl SimMedium {
         })
     }
 
-    /// Its last writes, for a trace. No clause speaks of them.
+    /// Its last writes, for a trace.
     pub fn noted(&self) -> &LastWrites {
         &self.noted
     }

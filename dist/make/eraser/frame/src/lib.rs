@@ -10,6 +10,7 @@
 //! |---|---|---|
 //! | [`wire`] | requests, states and descriptors as bytes | |
 //! | [`suffix`] | the suffix of a DFU file, and its CRC | |
+#![cfg_attr(feature = "device", doc = "| [`dfu`] | a device that owns its flash and memories, by hand over the others | `device` |")]
 #![cfg_attr(feature = "device", doc = "| [`asks`] | a device that asks for each write of its flash: [`asks::Asking`] | `device` |")]
 #![cfg_attr(feature = "device", doc = "| [`device`] | a device over a medium that it writes itself: [`device::Device`] | `device` |")]
 #![cfg_attr(feature = "device", doc = "| [`slots`] | a store of two slots, which keeps one whole image active | `device` |")]
@@ -18,6 +19,7 @@
 #![cfg_attr(feature = "dfuse", doc = "| [`dfuse`] | ST's extension: memories, a session, files | `dfuse` |")]
 #![cfg_attr(feature = "formats", doc = "| [`formats`] | Intel HEX, S-records, UF2 and ELF | `formats` |")]
 #![cfg_attr(feature = "judge", doc = "| [`conformance`] | could a device that keeps the standard have answered so? | `judge` |")]
+#![cfg_attr(feature = "judge", doc = "| [`dfuse_conformance`] | and one that keeps ST's extension? | `judge` |")]
 #![no_std]
 #![forbid(unsafe_code)]
 
@@ -44,6 +46,9 @@ pub mod asks;
 #[cfg(feature = "device")]
 pub mod boot;
 
+#[cfg(feature = "device")]
+pub mod dfu;
+
 #[cfg(feature = "host")]
 pub mod host;
 
@@ -55,6 +60,9 @@ pub mod formats;
 
 #[cfg(feature = "judge")]
 pub mod conformance;
+
+#[cfg(feature = "judge")]
+pub mod dfuse_conformance;
 
 #[cfg(feature = "std")]
 pub mod memory;

@@ -1,0 +1,36 @@
+//! The program `dfu`: files of USB DFU 1.1, a simulated link of a host and a device, and a judge of their traffic.
+//!
+//! The code is that of proved sources, whose contracts are taken away, but for [`system`], which is written by hand: it stands for what
+//! those sources ask of the system they were proved over.
+//!
+//! | Module | Has |
+//! |---|---|
+//! | [`sim`] | the link of a host and a device, event by event |
+//! | [`board`], [`board_sim`] | the same with a device that asks for its writes |
+//! | [`trace`], [`link`] | scripts of events, what they print, and a line for each action |
+//! | [`pcap`] | captures of usbmon and of USBPcap |
+//! | [`json`], [`output`], [`image_output`] | the lines that are printed |
+//! | [`files`] | files that are checked, made and replaced |
+//! | [`words`], [`cli`], [`command`] | the words of the command line, and what is done |
+#![no_std]
+#![deny(unsafe_code)]
+
+extern crate alloc;
+extern crate std;
+
+#[macro_use]
+pub mod system;
+
+pub mod board;
+pub mod board_sim;
+pub mod cli;
+pub mod command;
+pub mod files;
+pub mod image_output;
+pub mod json;
+pub mod link;
+pub mod output;
+pub mod pcap;
+pub mod sim;
+pub mod trace;
+pub mod words;

@@ -1,0 +1,37 @@
+// Of crates/dfu_asks/src/due.rt, whose contracts are taken away.
+
+//! When time changes the state of a device.
+
+use crate::asks::Asking;
+use crate::device::{Config, DeviceState};
+
+// How many milliseconds are left, at least 1.
+fn left(limit: u32, passed: u32) -> u32 {
+    limit.saturating_sub(passed).max(1)
+}
+
+/// In how many milliseconds the state of a device of this configuration in this mode changes, at least 1; None if no time changes it.
+pub fn mode_due(config: &Config, mode: DeviceState) -> Option<u32> {
+    match mode {
+        DeviceState::AppDetach { timer, passed } => {
+            if config.functional().will_detach {
+                return Some(1);
+            }
+            Some(left(timer, passed))
+        }
+        DeviceState::DownloadBusy { passed, .. } => Some(left(config.busy_ms(), passed)),
+        DeviceState::Manifest { passed, .. } => Some(left(config.manifest_ms(), passed)),
+        _ => None,
+    }
+}
+
+impl Asking {
+    /// In how many milliseconds `elapse` changes the state, at least 1: fewer leave it as it is, and that many or more change it. In
+    /// appDETACH it is the rest of wDetachTimeOut or of the host's time, whichever is less, or 1 with bitWillDetach (USB DFU 1.1, section
+    /// 5.1); in dfuDNBUSY and dfuMANIFEST the rest of the time that the host was asked to wait (section 6.1.2, bwPollTimeout).
+    ///
+    /// None if no time changes the device: in every other state.
+    pub fn due(&self) -> Option<u32> {
+        mode_due(&self.config, self.mode)
+    }
+}

@@ -1,0 +1,58 @@
+// Of crates/dfu_asks/src/stalls.rt, whose contracts are taken away.
+
+//! Whether a device will stall a setup, said before its body is there.
+
+use crate::asks::gates::gate_room;
+use crate::asks::{Asking, Refusal, Sector};
+use crate::device::{Config, Decision, DeviceState, Profile, Reply, decide};
+use crate::slots::Unit;
+use crate::wire::{Request, Setup};
+
+// Whether a decision answers with a stall.
+fn stalls(decision: Decision) -> bool {
+    match decision {
+        Decision::Sure { reply, .. }
+        | Decision::Writes { reply, .. }
+        | Decision::Commits { reply, .. } => matches!(reply, Reply::Stall),
+        Decision::Holds { .. } | Decision::Sends { .. } => false,
+    }
+}
+
+// Whether a device of this profile stalls this request of the class in this mode, whatever body of the right length comes with it.
+fn will_stall(profile: &Profile, mode: DeviceState, request: Request) -> bool {
+    stalls(decide(profile, mode, request))
+}
+
+// How many bytes of data a slot has in flash of this size.
+fn room_in(unit: Unit, sector: Sector, size: usize) -> u64 {
+    (size as u64 / 2).saturating_sub(2 * u64::from(gate_room(unit, sector)))
+}
+
+/// Whether a device of this configuration in this mode, on flash of so many bytes that is written in this unit and erased in these sectors,
+/// stalls this setup, as `Asking::would_stall`.
+pub fn mode_stalls(
+    config: &Config,
+    unit: Unit,
+    sector: Sector,
+    mode: DeviceState,
+    size: usize,
+    setup: &[u8; 8],
+) -> bool {
+    let profile = config.profile(room_in(unit, sector, size));
+    will_stall(&profile, mode, Setup::decode(setup).request())
+}
+
+impl Asking {
+    /// Whether `handle` will stall this setup, whatever body of wLength bytes comes with it: true exactly if so (USB DFU 1.1, appendix A).
+    /// `size` is how many bytes the flash has. A stack that stalls a request before its data stage asks this first.
+    ///
+    /// # Errors
+    ///
+    /// `Asked` if writes are due.
+    pub fn would_stall(&self, size: usize, setup: &[u8; 8]) -> Result<bool, Refusal> {
+        if self.work.is_some() {
+            return Err(Refusal::Asked);
+        }
+        Ok(mode_stalls(&self.config, self.unit, self.sector, self.mode, size, setup))
+    }
+}

@@ -1,0 +1,46 @@
+// Of crates/dfuse_conformance/src/rows.rt, whose contracts are taken away.
+
+//! What DfuSe adds to the table of USB DFU 1.1.
+
+use crate::conformance::EventKind::{Close, GetState, GetStatus, Reset, Upload};
+use crate::conformance::Gives::{Ack, Short, Silent, Stall};
+use crate::conformance::Row;
+use crate::conformance::Source::{Habit, Open};
+use crate::conformance::StandardState::{
+    DfuIdle, DownloadBusy, DownloadIdle, DownloadSync, Manifest, ManifestSync, UploadIdle,
+};
+use crate::conformance::When::Always;
+
+// The rows of a device at a place: one for each request that it answers so.
+macro_rules! rows {
+    ($($from:ident, $($asked:ident)|+ => $gives:ident, $next:ident, $source:ident;)+) => {
+        [$($(Row {
+            from: $from,
+            asked: $asked,
+            when: Always,
+            gives: $gives,
+            next: $next,
+            source: $source,
+        },)+)+]
+    };
+}
+
+/// What a DfuSe device may answer beyond USB DFU 1.1: where it is, what it is asked, what it answers, where it is then. `Habit`
+/// marks what each such device does, `Open` what they are known to do or may do.
+#[rustfmt::skip]
+pub static DFUSE: [Row; 12] = rows!(
+    // DNLOAD of no bytes asks the device to leave, from dfuIDLE too.
+    DfuIdle, Close => Ack, ManifestSync, Habit;
+    // UPLOAD is answered by the number of its block, so a short answer need not be the last.
+    UploadIdle, Upload => Short, UploadIdle, Open;
+    // While an order is carried out, or the device leaves, GETSTATUS and GETSTATE may be stalled, and nothing changes.
+    DownloadBusy, GetStatus | GetState => Stall, DownloadBusy, Open;
+    Manifest, GetStatus | GetState => Stall, Manifest, Open;
+    // A reset of the bus may change nothing.
+    DownloadSync, Reset => Silent, DownloadSync, Open;
+    DownloadBusy, Reset => Silent, DownloadBusy, Open;
+    DownloadIdle, Reset => Silent, DownloadIdle, Open;
+    ManifestSync, Reset => Silent, ManifestSync, Open;
+    Manifest, Reset => Silent, Manifest, Open;
+    UploadIdle, Reset => Silent, UploadIdle, Open;
+);

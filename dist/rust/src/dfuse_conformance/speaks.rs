@@ -1,0 +1,50 @@
+// Of crates/dfuse_conformance/src/speaks.rt, whose contracts are taken away.
+
+//! Whether a row is for a DfuSe device, and whether it may stay where it was.
+
+use crate::conformance::{EventKind, LogEvent, Reading, Response, When};
+
+/// Whether a DfuSe device may have this habit: bit n of 0Fh is reading n.
+fn is_habit(reading: Reading) -> bool {
+    match reading {
+        Reading::Bootloader => true,
+        Reading::RuntimeMute => true,
+        Reading::SelfReset => true,
+        Reading::DetachAtOnce => true,
+        Reading::DetachLeaves => false,
+        Reading::ErrorWithoutCode => false,
+    }
+}
+
+/// Whether a row or a move that is for these devices is for a DfuSe device: one that can download and upload, isn't tolerant and detaches
+/// by itself (bmAttributes 0Bh), with the habits bootloader, runtime-mute, self-reset and detach-at-once.
+pub fn is_of_dfuse(when: When) -> bool {
+    match when {
+        When::Always => true,
+        When::CanDownload => true,
+        When::CanUpload => true,
+        When::Tolerant => false,
+        When::NotTolerant => true,
+        When::WillDetach => true,
+        When::By(reading) => is_habit(reading),
+    }
+}
+
+/// Whether a request has to be answered: GETSTATUS and GETSTATE as section 3 of USB DFU 1.1 has them. Any other request may be stalled, and
+/// nothing changes.
+pub fn is_told(event: &LogEvent) -> bool {
+    match event.asked {
+        EventKind::GetStatus => event.is_plain,
+        EventKind::GetState => event.is_plain,
+        _ => false,
+    }
+}
+
+/// Whether a device may stay where it was: nothing was seen of an answer, or a request was stalled that doesn't have to be answered.
+pub(crate) fn may_rest(event: &LogEvent) -> bool {
+    match event.answer {
+        Response::Nothing => true,
+        Response::Stall => !is_told(event),
+        Response::Bytes { .. } => false,
+    }
+}

@@ -1,0 +1,18 @@
+// Of crates/dfuse_conformance/src/whole.rt, whose contracts are taken away.
+
+//! The first departure of a whole list of events.
+
+use crate::dfuse_conformance::judge::DfuseJudge;
+use crate::conformance::{Departure, LogEvent};
+
+/// The first event that no DfuSe device may have answered so, if nothing is known of it before them: its place in the list, counted
+/// from 0, and the departure. `None` if a DfuSe device may have answered all.
+pub fn first_departure(events: &[LogEvent]) -> Option<(usize, Departure)> {
+    let mut judge = DfuseJudge::new();
+    for n in 0..events.len() {
+        if let Some(departure) = judge.take(&events[n]) {
+            return Some((n, departure));
+        }
+    }
+    None
+}
