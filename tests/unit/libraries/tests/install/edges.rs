@@ -69,11 +69,12 @@ fn no_place_of_an_operation() {
 }
 
 /// What is said to be carried out, and what is the last operation then.
-static CARRIED_OUT: [(Due, Option<u32>); 6] = [
+static CARRIED_OUT: [(Due, Option<u32>); 7] = [
     (Due::Erase(512), Some(512)),
     (Due::Erase(1024), None),
     (Due::Erase(0xffff_ff00), None),
     (Due::Program(1024), None),
+    (Due::Program(0xffff_ff00), None),
     (Due::Start, None),
     (Due::Refuse(Refusal::NoImage), None),
 ];
