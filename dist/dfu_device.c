@@ -110,14 +110,14 @@ static inline uint64_t umin64(uint64_t x, uint64_t y) { return x < y ? x : y; }
 static inline uint32_t usub_sat32(uint32_t x, uint32_t y) { return x < y ? 0 : (uint32_t)(x - y); }
 static inline uint64_t usub_sat64(uint64_t x, uint64_t y) { return x < y ? 0 : (uint64_t)(x - y); }
 
-static _Alignas(4) const uint8_t static_0[64] = {
+static _Alignas(1) const uint8_t static_0[1] = {
+    0
+};
+static _Alignas(4) const uint8_t static_2[64] = {
     0, 0, 0, 0, 0x64, 0x10, 0xb7, 0x1d, 0xc8, 0x20, 0x6e, 0x3b, 0xac, 0x30, 0xd9, 0x26, 0x90, 0x41, 0xdc, 0x76,
     0xf4, 0x51, 0x6b, 0x6b, 0x58, 0x61, 0xb2, 0x4d, 0x3c, 0x71, 5, 0x50, 0x20, 0x83, 0xb8, 0xed, 0x44, 0x93, 0xf, 0xf0,
     0xe8, 0xa3, 0xd6, 0xd6, 0x8c, 0xb3, 0x61, 0xcb, 0xb0, 0xc2, 0x64, 0x9b, 0xd4, 0xd2, 0xd3, 0x86, 0x78, 0xe2, 0xa, 0xa0,
     0x1c, 0xf2, 0xbd, 0xbd
-};
-static _Alignas(1) const uint8_t static_2[1] = {
-    0
 };
 static _Alignas(4) const uint32_t switch_table_dfu_slots_layout_fill_size[4] = {
     1, 0x10, 0x40, 0x100
@@ -161,20 +161,6 @@ static void dfu_device_c_mode_mode_of(unsigned char *a0, unsigned char *a1);
 static void dfu_device_c_config_settings_of(unsigned char *a0, unsigned char *a1);
 static struct i8_i32 dfu_asks_sector_Sector_new(uint32_t a0);
 static void dfu_device_c_config_functional_of(unsigned char *a0, unsigned char *a1);
-static void dfu_asks_asking_Asking_power_on(unsigned char *a0, unsigned char *a1, uint8_t a2, uint32_t a3, unsigned char *a4, uint64_t a5);
-static void dfu_asks_noted_Noted_find(unsigned char *a0, unsigned char *a1, uint64_t a2, uint8_t a3, uint32_t a4);
-static void dfu_slots_places_check(unsigned char *a0, unsigned char *a1);
-static uint8_t dfu_slots_layout_is_sized(unsigned char *a0);
-static uint8_t dfu_slots_read_counts(unsigned char *a0, uint32_t a1);
-static uint8_t dfu_slots_read_is_open(unsigned char *a0, uint32_t a1);
-static uint8_t dfu_slots_read_byte_at(unsigned char *a0, uint32_t a1);
-static void core_slice_edits_slice_T_copy_from_slice_i8_core_clone_U8Clone(unsigned char *a0, unsigned char *a2, uint64_t a3);
-static uint32_t dfu_slots_layout_capacity_of(unsigned char *a0);
-static void dfu_slots_read_read_data(unsigned char *a0, uint32_t a1, uint32_t a2, unsigned char *a3, uint64_t a4);
-static void dfu_suffix_crc_Crc_update_small(unsigned char *a0, unsigned char *a1, uint64_t a2);
-static uint8_t dfu_slots_places_is_newest(unsigned char *a0, uint32_t a1, uint32_t a2, uint8_t a3, uint8_t a4);
-static uint8_t dfu_slots_read_generation(unsigned char *a0, uint32_t a1);
-static void dfu_slots_read_header_of(unsigned char *a0, unsigned char *a1, uint32_t a2);
 static void dfu_device_c_format_formatting_of(unsigned char *a0, unsigned char *a1, unsigned char *a2);
 static uint8_t dfu_asks_formatting_Formatting_due(unsigned char *a0, uint64_t a2, unsigned char *a3);
 static uint8_t dfu_asks_format_piece_part_piece(unsigned char *a0, uint64_t a1, unsigned char *a2);
@@ -185,7 +171,20 @@ static uint8_t dfu_asks_format_piece_open_piece(uint64_t a0, uint32_t a1, unsign
 static uint8_t dfu_asks_next_and_took_is_sound(uint32_t a0, unsigned char *a1);
 static void dfu_asks_cut_fill(unsigned char *a0, unsigned char *a1);
 static uint8_t dfu_asks_cut_byte_of(unsigned char *a0, uint64_t a1);
+static uint8_t dfu_slots_layout_is_sized(unsigned char *a0);
+static uint32_t dfu_slots_layout_capacity_of(unsigned char *a0);
+static void dfu_suffix_crc_Crc_update_small(unsigned char *a0, unsigned char *a1, uint64_t a2);
 static uint8_t dfu_asks_cut_stands(unsigned char *a0, uint64_t a1, unsigned char *a2);
+static void dfu_asks_noted_Noted_find(unsigned char *a0, unsigned char *a1, uint64_t a2, uint8_t a3, uint32_t a4);
+static void dfu_slots_places_check(unsigned char *a0, unsigned char *a1);
+static uint8_t dfu_slots_read_counts(unsigned char *a0, uint32_t a1);
+static uint8_t dfu_slots_read_is_open(unsigned char *a0, uint32_t a1);
+static uint8_t dfu_slots_read_byte_at(unsigned char *a0, uint32_t a1);
+static void core_slice_edits_slice_T_copy_from_slice_i8_core_clone_U8Clone(unsigned char *a0, unsigned char *a2, uint64_t a3);
+static void dfu_slots_read_read_data(unsigned char *a0, uint32_t a1, uint32_t a2, unsigned char *a3, uint64_t a4);
+static uint8_t dfu_slots_places_is_newest(unsigned char *a0, uint32_t a1, uint32_t a2, uint8_t a3, uint8_t a4);
+static uint8_t dfu_slots_read_generation(unsigned char *a0, uint32_t a1);
+static void dfu_slots_read_header_of(unsigned char *a0, unsigned char *a1, uint32_t a2);
 static uint8_t dfu_asks_blank_is_erased(unsigned char *a0, uint64_t a2, uint64_t a3);
 static void dfu_wire_bytes_two_bytes(unsigned char *a0, uint16_t a1);
 static void dfu_device_c_mode_mode_in(unsigned char *a0, unsigned char *a1, unsigned char *a2);
@@ -196,6 +195,7 @@ static void dfu_device_c_mode_set_mode(unsigned char *a0, unsigned char *a1);
 static void dfu_device_table_decide(unsigned char *a0, unsigned char *a1, unsigned char *a2, unsigned char *a3);
 static void dfu_device_plans_block(unsigned char *a0, unsigned char *a1, uint32_t a2, uint16_t a3, uint16_t a4, uint16_t a5);
 static void dfu_device_plans_upload(unsigned char *a0, unsigned char *a1, uint32_t a2, uint16_t a3, uint16_t a4, uint16_t a5);
+static uint32_t dfu_device_c_power_start(unsigned char *a0, unsigned char *a1, unsigned char *a2, uint64_t a3, uint32_t a4);
 static void dfu_device_c_keeping_found(unsigned char *a0, unsigned char *a1, uint64_t a2, unsigned char *a3);
 static void dfu_asks_noted_look(unsigned char *a0, unsigned char *a1, unsigned char *a2);
 static void dfu_asks_asking_Asking_see(unsigned char *a0, unsigned char *a1, uint64_t a2, unsigned char *a3, uint64_t a4);
@@ -527,352 +527,6 @@ static void dfu_device_c_config_functional_of(unsigned char *a0, unsigned char *
     store16(a0 + 4, r7);
     store16(a0 + 6, r9);
     store16(a0 + 8, 272);
-    return;
-}
-
-/* dfu_asks::asking::Asking::power_on */
-static void dfu_asks_asking_Asking_power_on(unsigned char *a0, unsigned char *a1, uint8_t a2, uint32_t a3, unsigned char *a4, uint64_t a5) {
-    _Alignas(4) unsigned char r1[28];
-    _Alignas(4) unsigned char r10[18];
-    memcpy(r1, a1, 28);
-    dfu_asks_noted_Noted_find(r10, a4, a5, a2, a3);
-    uint8_t r1_0_0_copyload = *r10;
-    if (r1_0_0_copyload != 1) goto arm_2;
-    store64(a0, 1);
-    memcpy(a0 + 8, r1, 28);
-    a0[36] = a2;
-    memset(a0 + 37, 0, 3);
-    store32(a0 + 40, a3);
-    memset(a0 + 44, 0, 20);
-    memcpy(a0 + 84, r10 + 1, 17);
-    memset(a0 + 101, 0, 3);
-    memset(a0 + 108, 0, 24);
-common_ret:
-    store32(a0 + 104, 0);
-    store32(a0 + 132, 0);
-    memset(a0 + 64, 0, 20);
-    return;
-arm_2:
-    memset(a0 + 108, 0, 24);
-    memset(a0, 0, 64);
-    memset(a0 + 84, 0, 20);
-    goto common_ret;
-}
-
-/* dfu_asks::noted::Noted::find */
-static void dfu_asks_noted_Noted_find(unsigned char *a0, unsigned char *a1, uint64_t a2, uint8_t a3, uint32_t a4) {
-    _Alignas(8) unsigned char r5[24];
-    _Alignas(4) unsigned char r14_6[16];
-    _Alignas(4) unsigned char r12[12];
-    uint8_t r14_0_0, r14_4_0;
-    memset(r14_6, 0, 16);
-    if (a2 >= 0x100000000ULL) goto arm_2;
-    store64(r5, (uint64_t)(uintptr_t)a1);
-    store64(r5 + 8, a2);
-    r5[16] = a3;
-    store32(r5 + 20, a4);
-    dfu_slots_places_check(r12, r5);
-    uint8_t r30 = *r12;
-    if (r30 == 0) goto arm_5;
-    r14_0_0 = 0;
-    r14_4_0 = 0;
-    goto join_7;
-arm_2:
-    memset(a0, 0, 18);
-    return;
-arm_5:;
-    uint32_t r8_0_0_copyload = load32(r12 + 4);
-    dfu_slots_read_header_of(r14_6, r5, r8_0_0_copyload);
-    r14_0_0 = 1;
-    r14_4_0 = r8_0_0_copyload != 0;
-join_7:
-    *a0 = r14_0_0;
-    a0[1] = r14_4_0;
-    memcpy(a0 + 2, r14_6, 16);
-    return;
-}
-
-/* dfu_slots::places::check::<#c4c4734aca759fff> */
-static void dfu_slots_places_check(unsigned char *a0, unsigned char *a1) {
-    _Alignas(1) unsigned char r3_4[16];
-    uint8_t r5, r11;
-    unsigned char *r2;
-    uint32_t r72_2, r72_3, r1_9_0_copyload, v3, v4;
-    uint8_t r1_2_0_copyload, v50, v5;
-    uint8_t r12 = dfu_slots_layout_is_sized(a1);
-    if (r12) goto join_3;
-    goto then_1;
-then_1:
-    *a0 = 1;
-    a0[1] = 0;
-    store32(a0 + 4, 0);
-    store32(a0 + 8, 0);
-    return;
-join_3:
-    r5 = dfu_slots_read_counts(a1, 0);
-    r2 = a1 + 8;
-    uint64_t r3 = load64(r2);
-    r11 = dfu_slots_read_counts(a1, (uint32_t)r3 >> 1);
-    if (r5 | r11) goto join_6;
-    *a0 = 1;
-    a0[1] = 1;
-    store32(a0 + 4, 0);
-    store32(a0 + 8, 0);
-    return;
-join_6:;
-    uint64_t r3_2 = load64(r2);
-    uint8_t r15 = dfu_slots_places_is_newest(a1, 0, (uint32_t)r3_2 >> 1, r5, r11);
-    uint64_t r3_3 = load64(r2);
-    uint32_t r72 = (uint32_t)r3_3 >> 1;
-    r72_2 = (uint32_t)(r15 ? 0 : r72);
-    r72_3 = (uint32_t)(r15 ? r72 : 0);
-    if (r72_2 != 0) goto dfu_slots_places_has_newest_exit;
-    uint8_t r24 = dfu_slots_places_is_newest(a1, 0, r72_3, r5, r11);
-    if (r24) goto join_9;
-    goto then_7;
-dfu_slots_places_has_newest_exit:;
-    uint8_t r33 = dfu_slots_places_is_newest(a1, r72_2, r72_3, r11, r5);
-    if (r33) goto join_9;
-then_7:
-    *a0 = 1;
-    a0[1] = 2;
-    store32(a0 + 4, 0);
-    store32(a0 + 8, 0);
-    return;
-join_9:
-    dfu_slots_read_header_of(r3_4, a1, r72_2);
-    r1_2_0_copyload = r3_4[1];
-    r1_9_0_copyload = load32u(r3_4 + 12);
-    if (r1_2_0_copyload != 2) goto join_3_2;
-    v50 = 0;
-    v3 = r72_3;
-    v4 = r72_2;
-    v5 = 0;
-    goto v2;
-join_3_2:;
-    uint32_t r1_6_0_copyload = load32u(r3_4 + 4);
-    uint32_t r1_8_0_copyload = load32u(r3_4 + 8);
-    uint8_t r1_5_0_copyload = r3_4[3];
-    uint8_t r1_4_0_copyload = r3_4[2];
-    uint32_t r26 = dfu_slots_layout_capacity_of(a1);
-    if (((((r1_2_0_copyload == 1) & (r1_6_0_copyload <= r26)) ? (r1_4_0_copyload == 0) : 0) ? (r1_5_0_copyload == 0) : 0) ? (r1_8_0_copyload == 0) : 0) goto dfu_slots_read_header_len_exit;
-    goto v1;
-dfu_slots_read_header_len_exit:
-    if (r1_9_0_copyload == 0) {
-        v50 = 0;
-        v3 = r72_3;
-        v4 = r72_2;
-        v5 = 0;
-        goto v2;
-    }
-v1:
-    v50 = 1;
-    v3 = 0;
-    v4 = 0;
-    v5 = 3;
-v2:
-    *a0 = v50;
-    a0[1] = v5;
-    store32(a0 + 4, v4);
-    store32(a0 + 8, v3);
-    return;
-}
-
-/* dfu_slots::layout::is_sized::<#c4c4734aca759fff> */
-static uint8_t dfu_slots_layout_is_sized(unsigned char *a0) {
-    uint32_t r1_0_0_copyload, a0_a1, r5, r69;
-    uint8_t common_ret_op;
-    uint64_t v0;
-    r1_0_0_copyload = load32(a0 + 20);
-    if ((r1_0_0_copyload < 0x20001U) & ((r1_0_0_copyload & 255) == 0)) goto join_3;
-    common_ret_op = 0;
-common_ret:
-    return common_ret_op;
-join_3:;
-    uint8_t r0_0_0_copyload = a0[16];
-    v0 = (uint64_t)r0_0_0_copyload;
-    uint32_t switch_load = load32(PLACE(switch_table_dfu_core_would_stall) + 4 * (size_t)v0);
-    a0_a1 = umax32(r1_0_0_copyload, switch_load);
-    uint64_t r3 = load64(a0 + 8);
-    r5 = (uint32_t)r3;
-    uint32_t pre = a0_a1 << 2;
-    if (!(((pre + 0x2000000U) >= r5) & (((r5 & 1) == 0) ? (pre < r5) : !(r3 & 1)))) {
-        common_ret_op = 0;
-        goto common_ret;
-    }
-    r69 = (r5 >> 1) - (a0_a1 << 1);
-    uint32_t switch_load_2 = load32(PLACE(switch_table_dfu_asks_asking_Asking_is_fit) + 4 * (size_t)v0);
-    if ((switch_load_2 & r69) != 0) {
-        common_ret_op = 0;
-        goto common_ret;
-    }
-    if (r1_0_0_copyload == 0) {
-        common_ret_op = 1;
-        goto common_ret;
-    }
-    common_ret_op = (r69 % r1_0_0_copyload) == 0;
-    goto common_ret;
-}
-
-/* dfu_slots::read::counts::<#c4c4734aca759fff> */
-static uint8_t dfu_slots_read_counts(unsigned char *a0, uint32_t a1) {
-    _Alignas(1) unsigned char r2[64];
-    _Alignas(1) unsigned char r3_2[16];
-    _Alignas(1) unsigned char r3[16];
-    _Alignas(4) unsigned char r1[4];
-    uint8_t r1_2_0_copyload, r1_3_0_copyload, r1_4_0_copyload;
-    uint32_t r1_5_0_copyload, r1_6_0_copyload, r1_7_0_copyload, r3_0;
-    uint8_t common_ret_op, r1_0_in;
-    uint8_t r8 = dfu_slots_read_is_open(a0, a1);
-    if (!r8) {
-        r1_0_in = 0;
-        goto join_3;
-    }
-    dfu_slots_read_header_of(r3, a0, a1);
-    uint8_t r4_2_0_copyload = r3[1];
-    if (r4_2_0_copyload != 2) {
-        r1_0_in = 1;
-        goto join_3;
-    }
-    dfu_slots_read_header_of(r3_2, a0, a1);
-    r1_2_0_copyload = r3_2[1];
-    r1_3_0_copyload = r3_2[2];
-    r1_4_0_copyload = r3_2[3];
-    r1_5_0_copyload = load32u(r3_2 + 4);
-    r1_6_0_copyload = load32u(r3_2 + 8);
-    r1_7_0_copyload = load32u(r3_2 + 12);
-    uint32_t r10 = dfu_slots_layout_capacity_of(a0);
-    if (r10 < r1_5_0_copyload) {
-        common_ret_op = 0;
-        goto dfu_slots_read_is_intact_exit;
-    }
-    store32(r1, 0xffffffffU);
-    memset(r2, 0, 64);
-    r3_0 = 0;
-loop_2:
-    if (r3_0 >= r1_5_0_copyload) goto dfu_slots_register_register_of_exit;
-    uint32_t a1_a0 = umin32(r1_5_0_copyload - r3_0, 64);
-    uint64_t r28 = (uint64_t)a1_a0;
-    dfu_slots_read_read_data(a0, a1, r3_0, r2, r28);
-    dfu_suffix_crc_Crc_update_small(r1, r2, r28);
-    r3_0 = a1_a0 + r3_0;
-    goto loop_2;
-dfu_slots_register_register_of_exit:;
-    uint32_t r0_0_0_copyload = load32(r1);
-    common_ret_op = ((((r1_2_0_copyload == 2) ? (r1_3_0_copyload == 0) : 0) ? (r1_4_0_copyload == 0) : 0) ? (r1_6_0_copyload == r0_0_0_copyload) : 0) ? (r1_7_0_copyload == 0) : 0;
-dfu_slots_read_is_intact_exit:
-    r1_0_in = common_ret_op;
-join_3:
-    return r1_0_in;
-}
-
-/* dfu_slots::read::is_open::<#c4c4734aca759fff> */
-static uint8_t dfu_slots_read_is_open(unsigned char *a0, uint32_t a1) {
-    uint8_t r2 = dfu_slots_read_byte_at(a0, a1);
-    return r2 == 165;
-}
-
-/* dfu_slots::read::byte_at::<#c4c4734aca759fff> */
-static uint8_t dfu_slots_read_byte_at(unsigned char *a0, uint32_t a1) {
-    _Alignas(4) unsigned char r1[1];
-    *r1 = 0;
-    uint64_t r5_0_0_copyload = load64(a0);
-    core_slice_edits_slice_T_copy_from_slice_i8_core_clone_U8Clone(r1, (unsigned char *)(uintptr_t)r5_0_0_copyload + (size_t)a1, 1);
-    uint8_t r15 = *r1;
-    return r15;
-}
-
-/* core::slice::edits::slice+T::copy_from_slice::<i8,20'core::clone::U8Clone{}> */
-static void core_slice_edits_slice_T_copy_from_slice_i8_core_clone_U8Clone(unsigned char *a0, unsigned char *a2, uint64_t a3) {
-    uint64_t r0_0;
-    if (((uint64_t)(uintptr_t)a0 - (uint64_t)(uintptr_t)a2) < a3) {
-        r0_0 = 0;
-        goto loop_4;
-    }
-    memmove(a0, a2, (size_t)a3);
-    return;
-loop_4:
-    if (r0_0 == a3) return;
-    uint8_t r26 = a2[(size_t)r0_0];
-    a0[(size_t)r0_0] = r26;
-    r0_0 = r0_0 + 1;
-    goto loop_4;
-}
-
-/* dfu_slots::layout::capacity_of::<#c4c4734aca759fff> */
-static uint32_t dfu_slots_layout_capacity_of(unsigned char *a0) {
-    uint64_t r3 = load64(a0 + 8);
-    uint8_t r0_0_0_copyload = a0[16];
-    uint32_t r1_0_0_copyload = load32(a0 + 20);
-    uint32_t switch_load = load32(PLACE(switch_table_dfu_core_would_stall) + 4 * (size_t)r0_0_0_copyload);
-    return ((uint32_t)r3 >> 1) - (umax32(r1_0_0_copyload, switch_load) << 1);
-}
-
-/* dfu_slots::read::read_data::<#c4c4734aca759fff> */
-static void dfu_slots_read_read_data(unsigned char *a0, uint32_t a1, uint32_t a2, unsigned char *a3, uint64_t a4) {
-    uint8_t r0_0_0_copyload = a0[16];
-    uint32_t r1_0_0_copyload = load32(a0 + 20);
-    uint32_t switch_load = load32(PLACE(switch_table_dfu_core_would_stall) + 4 * (size_t)r0_0_0_copyload);
-    uint64_t r5_0_0_copyload = load64(a0);
-    core_slice_edits_slice_T_copy_from_slice_i8_core_clone_U8Clone(a3, (unsigned char *)(uintptr_t)r5_0_0_copyload + (size_t)((a2 + a1) + (umax32(r1_0_0_copyload, switch_load) << 1)), a4);
-    return;
-}
-
-/* dfu_suffix::crc::Crc::update_small */
-static void dfu_suffix_crc_Crc_update_small(unsigned char *a0, unsigned char *a1, uint64_t a2) {
-    uint64_t r4_0;
-    uint32_t r3_0;
-    uint32_t r5 = load32(a0);
-    r4_0 = 0;
-    r3_0 = r5;
-loop_3:
-    if (r4_0 == a2) goto dfu_suffix_small_after_bytes_exit;
-    uint8_t r23 = a1[(size_t)r4_0];
-    uint32_t r6 = r3_0 ^ (uint32_t)r23;
-    uint32_t r20 = load32(PLACE(static_0) + (size_t)((r6 << 2) & 60));
-    uint32_t r23_2 = (r6 >> 4) ^ r20;
-    uint32_t r20_2 = load32(PLACE(static_0) + (size_t)((r23_2 << 2) & 60));
-    r4_0 = r4_0 + 1;
-    r3_0 = (r23_2 >> 4) ^ r20_2;
-    goto loop_3;
-dfu_suffix_small_after_bytes_exit:
-    store32(a0, r3_0);
-    return;
-}
-
-/* dfu_slots::places::is_newest::<#c4c4734aca759fff> */
-static uint8_t dfu_slots_places_is_newest(unsigned char *a0, uint32_t a1, uint32_t a2, uint8_t a3, uint8_t a4) {
-    uint8_t r1_0_in;
-    if (!(a3 & a4)) {
-        r1_0_in = a3;
-        goto join_3;
-    }
-    uint8_t r13 = dfu_slots_read_generation(a0, a1);
-    uint8_t r14 = dfu_slots_read_generation(a0, a2);
-    r1_0_in = r13 == (uint8_t)(r14 + 1);
-join_3:
-    return r1_0_in;
-}
-
-/* dfu_slots::read::generation::<#c4c4734aca759fff> */
-static uint8_t dfu_slots_read_generation(unsigned char *a0, uint32_t a1) {
-    uint8_t r0_0_0_copyload = a0[16];
-    uint32_t r1_0_0_copyload = load32(a0 + 20);
-    uint32_t switch_load = load32(PLACE(switch_table_dfu_core_would_stall) + 4 * (size_t)r0_0_0_copyload);
-    uint8_t r7 = dfu_slots_read_byte_at(a0, umax32(r1_0_0_copyload, switch_load) + a1);
-    return r7;
-}
-
-/* dfu_slots::read::header_of::<#c4c4734aca759fff> */
-static void dfu_slots_read_header_of(unsigned char *a0, unsigned char *a1, uint32_t a2) {
-    _Alignas(1) unsigned char r1[16];
-    memset(r1, 0, 16);
-    uint8_t r0_0_0_copyload = a1[16];
-    uint32_t r1_0_0_copyload = load32(a1 + 20);
-    uint32_t switch_load = load32(PLACE(switch_table_dfu_core_would_stall) + 4 * (size_t)r0_0_0_copyload);
-    uint64_t r5_0_0_copyload = load64(a1);
-    core_slice_edits_slice_T_copy_from_slice_i8_core_clone_U8Clone(r1, (unsigned char *)(uintptr_t)r5_0_0_copyload + (size_t)(umax32(r1_0_0_copyload, switch_load) + a2), 16);
-    memcpy(a0, r1, 16);
     return;
 }
 
@@ -1417,6 +1071,73 @@ arm_4:
     goto common_ret;
 }
 
+/* dfu_slots::layout::is_sized::<#c4c4734aca759fff> */
+static uint8_t dfu_slots_layout_is_sized(unsigned char *a0) {
+    uint32_t r1_0_0_copyload, a0_a1, r5, r69;
+    uint8_t common_ret_op;
+    uint64_t v0;
+    r1_0_0_copyload = load32(a0 + 20);
+    if ((r1_0_0_copyload < 0x20001U) & ((r1_0_0_copyload & 255) == 0)) goto join_3;
+    common_ret_op = 0;
+common_ret:
+    return common_ret_op;
+join_3:;
+    uint8_t r0_0_0_copyload = a0[16];
+    v0 = (uint64_t)r0_0_0_copyload;
+    uint32_t switch_load = load32(PLACE(switch_table_dfu_core_would_stall) + 4 * (size_t)v0);
+    a0_a1 = umax32(r1_0_0_copyload, switch_load);
+    uint64_t r3 = load64(a0 + 8);
+    r5 = (uint32_t)r3;
+    uint32_t pre = a0_a1 << 2;
+    if (!(((pre + 0x2000000U) >= r5) & (((r5 & 1) == 0) ? (pre < r5) : !(r3 & 1)))) {
+        common_ret_op = 0;
+        goto common_ret;
+    }
+    r69 = (r5 >> 1) - (a0_a1 << 1);
+    uint32_t switch_load_2 = load32(PLACE(switch_table_dfu_asks_asking_Asking_is_fit) + 4 * (size_t)v0);
+    if ((switch_load_2 & r69) != 0) {
+        common_ret_op = 0;
+        goto common_ret;
+    }
+    if (r1_0_0_copyload == 0) {
+        common_ret_op = 1;
+        goto common_ret;
+    }
+    common_ret_op = (r69 % r1_0_0_copyload) == 0;
+    goto common_ret;
+}
+
+/* dfu_slots::layout::capacity_of::<#c4c4734aca759fff> */
+static uint32_t dfu_slots_layout_capacity_of(unsigned char *a0) {
+    uint64_t r3 = load64(a0 + 8);
+    uint8_t r0_0_0_copyload = a0[16];
+    uint32_t r1_0_0_copyload = load32(a0 + 20);
+    uint32_t switch_load = load32(PLACE(switch_table_dfu_core_would_stall) + 4 * (size_t)r0_0_0_copyload);
+    return ((uint32_t)r3 >> 1) - (umax32(r1_0_0_copyload, switch_load) << 1);
+}
+
+/* dfu_suffix::crc::Crc::update_small */
+static void dfu_suffix_crc_Crc_update_small(unsigned char *a0, unsigned char *a1, uint64_t a2) {
+    uint64_t r4_0;
+    uint32_t r3_0;
+    uint32_t r5 = load32(a0);
+    r4_0 = 0;
+    r3_0 = r5;
+loop_3:
+    if (r4_0 == a2) goto dfu_suffix_small_after_bytes_exit;
+    uint8_t r23 = a1[(size_t)r4_0];
+    uint32_t r6 = r3_0 ^ (uint32_t)r23;
+    uint32_t r20 = load32(PLACE(static_2) + (size_t)((r6 << 2) & 60));
+    uint32_t r23_2 = (r6 >> 4) ^ r20;
+    uint32_t r20_2 = load32(PLACE(static_2) + (size_t)((r23_2 << 2) & 60));
+    r4_0 = r4_0 + 1;
+    r3_0 = (r23_2 >> 4) ^ r20_2;
+    goto loop_3;
+dfu_suffix_small_after_bytes_exit:
+    store32(a0, r3_0);
+    return;
+}
+
 /* dfu_asks::cut::stands */
 static uint8_t dfu_asks_cut_stands(unsigned char *a0, uint64_t a1, unsigned char *a2) {
     uint64_t r3_2_0_copyload, r3_4_0_copyload, r3_0, r3_0_lcssa;
@@ -1446,6 +1167,256 @@ loop_2:
 dfu_asks_cut_are_those_exit:
     common_ret_op = r3_0_lcssa >= r3_4_0_copyload;
     goto common_ret;
+}
+
+/* dfu_asks::noted::Noted::find */
+static void dfu_asks_noted_Noted_find(unsigned char *a0, unsigned char *a1, uint64_t a2, uint8_t a3, uint32_t a4) {
+    _Alignas(8) unsigned char r5[24];
+    _Alignas(4) unsigned char r14_6[16];
+    _Alignas(4) unsigned char r12[12];
+    uint8_t r14_0_0, r14_4_0;
+    memset(r14_6, 0, 16);
+    if (a2 >= 0x100000000ULL) goto arm_2;
+    store64(r5, (uint64_t)(uintptr_t)a1);
+    store64(r5 + 8, a2);
+    r5[16] = a3;
+    store32(r5 + 20, a4);
+    dfu_slots_places_check(r12, r5);
+    uint8_t r30 = *r12;
+    if (r30 == 0) goto arm_5;
+    r14_0_0 = 0;
+    r14_4_0 = 0;
+    goto join_7;
+arm_2:
+    memset(a0, 0, 18);
+    return;
+arm_5:;
+    uint32_t r8_0_0_copyload = load32(r12 + 4);
+    dfu_slots_read_header_of(r14_6, r5, r8_0_0_copyload);
+    r14_0_0 = 1;
+    r14_4_0 = r8_0_0_copyload != 0;
+join_7:
+    *a0 = r14_0_0;
+    a0[1] = r14_4_0;
+    memcpy(a0 + 2, r14_6, 16);
+    return;
+}
+
+/* dfu_slots::places::check::<#c4c4734aca759fff> */
+static void dfu_slots_places_check(unsigned char *a0, unsigned char *a1) {
+    _Alignas(1) unsigned char r3_4[16];
+    uint8_t r5, r11;
+    unsigned char *r2;
+    uint32_t r72_2, r72_3, r1_9_0_copyload, v3, v4;
+    uint8_t r1_2_0_copyload, v50, v5;
+    uint8_t r12 = dfu_slots_layout_is_sized(a1);
+    if (r12) goto join_3;
+    goto then_1;
+then_1:
+    *a0 = 1;
+    a0[1] = 0;
+    store32(a0 + 4, 0);
+    store32(a0 + 8, 0);
+    return;
+join_3:
+    r5 = dfu_slots_read_counts(a1, 0);
+    r2 = a1 + 8;
+    uint64_t r3 = load64(r2);
+    r11 = dfu_slots_read_counts(a1, (uint32_t)r3 >> 1);
+    if (r5 | r11) goto join_6;
+    *a0 = 1;
+    a0[1] = 1;
+    store32(a0 + 4, 0);
+    store32(a0 + 8, 0);
+    return;
+join_6:;
+    uint64_t r3_2 = load64(r2);
+    uint8_t r15 = dfu_slots_places_is_newest(a1, 0, (uint32_t)r3_2 >> 1, r5, r11);
+    uint64_t r3_3 = load64(r2);
+    uint32_t r72 = (uint32_t)r3_3 >> 1;
+    r72_2 = (uint32_t)(r15 ? 0 : r72);
+    r72_3 = (uint32_t)(r15 ? r72 : 0);
+    if (r72_2 != 0) goto dfu_slots_places_has_newest_exit;
+    uint8_t r24 = dfu_slots_places_is_newest(a1, 0, r72_3, r5, r11);
+    if (r24) goto join_9;
+    goto then_7;
+dfu_slots_places_has_newest_exit:;
+    uint8_t r33 = dfu_slots_places_is_newest(a1, r72_2, r72_3, r11, r5);
+    if (r33) goto join_9;
+then_7:
+    *a0 = 1;
+    a0[1] = 2;
+    store32(a0 + 4, 0);
+    store32(a0 + 8, 0);
+    return;
+join_9:
+    dfu_slots_read_header_of(r3_4, a1, r72_2);
+    r1_2_0_copyload = r3_4[1];
+    r1_9_0_copyload = load32u(r3_4 + 12);
+    if (r1_2_0_copyload != 2) goto join_3_2;
+    v50 = 0;
+    v3 = r72_3;
+    v4 = r72_2;
+    v5 = 0;
+    goto v2;
+join_3_2:;
+    uint32_t r1_6_0_copyload = load32u(r3_4 + 4);
+    uint32_t r1_8_0_copyload = load32u(r3_4 + 8);
+    uint8_t r1_5_0_copyload = r3_4[3];
+    uint8_t r1_4_0_copyload = r3_4[2];
+    uint32_t r26 = dfu_slots_layout_capacity_of(a1);
+    if (((((r1_2_0_copyload == 1) & (r1_6_0_copyload <= r26)) ? (r1_4_0_copyload == 0) : 0) ? (r1_5_0_copyload == 0) : 0) ? (r1_8_0_copyload == 0) : 0) goto dfu_slots_read_header_len_exit;
+    goto v1;
+dfu_slots_read_header_len_exit:
+    if (r1_9_0_copyload == 0) {
+        v50 = 0;
+        v3 = r72_3;
+        v4 = r72_2;
+        v5 = 0;
+        goto v2;
+    }
+v1:
+    v50 = 1;
+    v3 = 0;
+    v4 = 0;
+    v5 = 3;
+v2:
+    *a0 = v50;
+    a0[1] = v5;
+    store32(a0 + 4, v4);
+    store32(a0 + 8, v3);
+    return;
+}
+
+/* dfu_slots::read::counts::<#c4c4734aca759fff> */
+static uint8_t dfu_slots_read_counts(unsigned char *a0, uint32_t a1) {
+    _Alignas(1) unsigned char r2[64];
+    _Alignas(1) unsigned char r3_2[16];
+    _Alignas(1) unsigned char r3[16];
+    _Alignas(4) unsigned char r1[4];
+    uint8_t r1_2_0_copyload, r1_3_0_copyload, r1_4_0_copyload;
+    uint32_t r1_5_0_copyload, r1_6_0_copyload, r1_7_0_copyload, r3_0;
+    uint8_t common_ret_op, r1_0_in;
+    uint8_t r8 = dfu_slots_read_is_open(a0, a1);
+    if (!r8) {
+        r1_0_in = 0;
+        goto join_3;
+    }
+    dfu_slots_read_header_of(r3, a0, a1);
+    uint8_t r4_2_0_copyload = r3[1];
+    if (r4_2_0_copyload != 2) {
+        r1_0_in = 1;
+        goto join_3;
+    }
+    dfu_slots_read_header_of(r3_2, a0, a1);
+    r1_2_0_copyload = r3_2[1];
+    r1_3_0_copyload = r3_2[2];
+    r1_4_0_copyload = r3_2[3];
+    r1_5_0_copyload = load32u(r3_2 + 4);
+    r1_6_0_copyload = load32u(r3_2 + 8);
+    r1_7_0_copyload = load32u(r3_2 + 12);
+    uint32_t r10 = dfu_slots_layout_capacity_of(a0);
+    if (r10 < r1_5_0_copyload) {
+        common_ret_op = 0;
+        goto dfu_slots_read_is_intact_exit;
+    }
+    store32(r1, 0xffffffffU);
+    memset(r2, 0, 64);
+    r3_0 = 0;
+loop_2:
+    if (r3_0 >= r1_5_0_copyload) goto dfu_slots_register_register_of_exit;
+    uint32_t a1_a0 = umin32(r1_5_0_copyload - r3_0, 64);
+    uint64_t r28 = (uint64_t)a1_a0;
+    dfu_slots_read_read_data(a0, a1, r3_0, r2, r28);
+    dfu_suffix_crc_Crc_update_small(r1, r2, r28);
+    r3_0 = a1_a0 + r3_0;
+    goto loop_2;
+dfu_slots_register_register_of_exit:;
+    uint32_t r0_0_0_copyload = load32(r1);
+    common_ret_op = ((((r1_2_0_copyload == 2) ? (r1_3_0_copyload == 0) : 0) ? (r1_4_0_copyload == 0) : 0) ? (r1_6_0_copyload == r0_0_0_copyload) : 0) ? (r1_7_0_copyload == 0) : 0;
+dfu_slots_read_is_intact_exit:
+    r1_0_in = common_ret_op;
+join_3:
+    return r1_0_in;
+}
+
+/* dfu_slots::read::is_open::<#c4c4734aca759fff> */
+static uint8_t dfu_slots_read_is_open(unsigned char *a0, uint32_t a1) {
+    uint8_t r2 = dfu_slots_read_byte_at(a0, a1);
+    return r2 == 165;
+}
+
+/* dfu_slots::read::byte_at::<#c4c4734aca759fff> */
+static uint8_t dfu_slots_read_byte_at(unsigned char *a0, uint32_t a1) {
+    _Alignas(4) unsigned char r1[1];
+    *r1 = 0;
+    uint64_t r5_0_0_copyload = load64(a0);
+    core_slice_edits_slice_T_copy_from_slice_i8_core_clone_U8Clone(r1, (unsigned char *)(uintptr_t)r5_0_0_copyload + (size_t)a1, 1);
+    uint8_t r15 = *r1;
+    return r15;
+}
+
+/* core::slice::edits::slice+T::copy_from_slice::<i8,20'core::clone::U8Clone{}> */
+static void core_slice_edits_slice_T_copy_from_slice_i8_core_clone_U8Clone(unsigned char *a0, unsigned char *a2, uint64_t a3) {
+    uint64_t r0_0;
+    if (((uint64_t)(uintptr_t)a0 - (uint64_t)(uintptr_t)a2) < a3) {
+        r0_0 = 0;
+        goto loop_4;
+    }
+    memmove(a0, a2, (size_t)a3);
+    return;
+loop_4:
+    if (r0_0 == a3) return;
+    uint8_t r26 = a2[(size_t)r0_0];
+    a0[(size_t)r0_0] = r26;
+    r0_0 = r0_0 + 1;
+    goto loop_4;
+}
+
+/* dfu_slots::read::read_data::<#c4c4734aca759fff> */
+static void dfu_slots_read_read_data(unsigned char *a0, uint32_t a1, uint32_t a2, unsigned char *a3, uint64_t a4) {
+    uint8_t r0_0_0_copyload = a0[16];
+    uint32_t r1_0_0_copyload = load32(a0 + 20);
+    uint32_t switch_load = load32(PLACE(switch_table_dfu_core_would_stall) + 4 * (size_t)r0_0_0_copyload);
+    uint64_t r5_0_0_copyload = load64(a0);
+    core_slice_edits_slice_T_copy_from_slice_i8_core_clone_U8Clone(a3, (unsigned char *)(uintptr_t)r5_0_0_copyload + (size_t)((a2 + a1) + (umax32(r1_0_0_copyload, switch_load) << 1)), a4);
+    return;
+}
+
+/* dfu_slots::places::is_newest::<#c4c4734aca759fff> */
+static uint8_t dfu_slots_places_is_newest(unsigned char *a0, uint32_t a1, uint32_t a2, uint8_t a3, uint8_t a4) {
+    uint8_t r1_0_in;
+    if (!(a3 & a4)) {
+        r1_0_in = a3;
+        goto join_3;
+    }
+    uint8_t r13 = dfu_slots_read_generation(a0, a1);
+    uint8_t r14 = dfu_slots_read_generation(a0, a2);
+    r1_0_in = r13 == (uint8_t)(r14 + 1);
+join_3:
+    return r1_0_in;
+}
+
+/* dfu_slots::read::generation::<#c4c4734aca759fff> */
+static uint8_t dfu_slots_read_generation(unsigned char *a0, uint32_t a1) {
+    uint8_t r0_0_0_copyload = a0[16];
+    uint32_t r1_0_0_copyload = load32(a0 + 20);
+    uint32_t switch_load = load32(PLACE(switch_table_dfu_core_would_stall) + 4 * (size_t)r0_0_0_copyload);
+    uint8_t r7 = dfu_slots_read_byte_at(a0, umax32(r1_0_0_copyload, switch_load) + a1);
+    return r7;
+}
+
+/* dfu_slots::read::header_of::<#c4c4734aca759fff> */
+static void dfu_slots_read_header_of(unsigned char *a0, unsigned char *a1, uint32_t a2) {
+    _Alignas(1) unsigned char r1[16];
+    memset(r1, 0, 16);
+    uint8_t r0_0_0_copyload = a1[16];
+    uint32_t r1_0_0_copyload = load32(a1 + 20);
+    uint32_t switch_load = load32(PLACE(switch_table_dfu_core_would_stall) + 4 * (size_t)r0_0_0_copyload);
+    uint64_t r5_0_0_copyload = load64(a1);
+    core_slice_edits_slice_T_copy_from_slice_i8_core_clone_U8Clone(r1, (unsigned char *)(uintptr_t)r5_0_0_copyload + (size_t)(umax32(r1_0_0_copyload, switch_load) + a2), 16);
+    memcpy(a0, r1, 16);
+    return;
 }
 
 /* dfu_asks::blank::is_erased */
@@ -2711,6 +2682,36 @@ join_13:
     return;
 }
 
+/* dfu_device_c::power::start */
+static uint32_t dfu_device_c_power_start(unsigned char *a0, unsigned char *a1, unsigned char *a2, uint64_t a3, uint32_t a4) {
+    _Alignas(4) unsigned char r7[40];
+    _Alignas(4) unsigned char r8[18];
+    uint32_t common_ret_op;
+    dfu_device_c_config_settings_of(r7, a0);
+    uint8_t r14 = *r7;
+    if (r14 != 1) {
+        common_ret_op = 0xfffffffeU;
+        goto common_ret;
+    }
+    uint8_t r3_2_0_copyload = r7[32];
+    uint32_t r3_31_0_copyload = load32(r7 + 36);
+    dfu_asks_noted_Noted_find(r8, a2, a3, r3_2_0_copyload, r3_31_0_copyload);
+    uint8_t r24 = *r8;
+    if (r24 == 1) goto arm_5;
+    common_ret_op = 0xfffffffdU;
+common_ret:
+    return common_ret_op;
+arm_5:;
+    uint8_t r4_0_0_copyload = r8[1];
+    store32(a1, 300);
+    memset(a1 + 8, 0, 60);
+    store32(a1 + 4, a4);
+    store32(a1 + 20, (uint32_t)(r4_0_0_copyload & 1));
+    memcpy(a1 + 28, r8 + 2, 16);
+    common_ret_op = 0;
+    goto common_ret;
+}
+
 /* dfu_device_c::keeping::found */
 static void dfu_device_c_keeping_found(unsigned char *a0, unsigned char *a1, uint64_t a2, unsigned char *a3) {
     _Alignas(4) unsigned char r6[40];
@@ -3369,7 +3370,7 @@ static void dfu_asks_asking_Asking_advance(unsigned char *a0, unsigned char *a1,
     uint8_t r33 = *r32;
     if (r33 != 1) goto arm_2;
     memcpy(r9, a1 + 100, 24);
-    struct i64_i8 r61 = dfu_asks_asking_Asking_look_at(a1, r9, a2, a3, a4, a5, PLACE(static_2), 0);
+    struct i64_i8 r61 = dfu_asks_asking_Asking_look_at(a1, r9, a2, a3, a4, a5, PLACE(static_0), 0);
     if (r61.a == 0) goto join_7;
     goto then_5;
 arm_2:
@@ -3830,45 +3831,6 @@ dfu_device_c_tells_dfu_core_state_exit:
     return signed32(common_ret_op);
 }
 
-/* dfu_core_begin */
-int32_t dfu_core_begin(const struct dfu_config *config, struct dfu_record *record, const uint8_t *flash, size_t size) {
-    unsigned char *a0 = (unsigned char *)(uintptr_t)config;
-    unsigned char *a1 = (unsigned char *)(uintptr_t)record;
-    unsigned char *a2 = (unsigned char *)(uintptr_t)flash;
-    uint64_t a3 = size;
-    _Alignas(8) unsigned char r10[136];
-    _Alignas(4) unsigned char r5[40];
-    _Alignas(4) unsigned char r6_12_5[16];
-    uint32_t common_ret_op;
-    store64a4(r5 + 32, 0);
-    dfu_device_c_config_settings_of(r5, a0);
-    uint8_t r13 = *r5;
-    if (r13 != 1) {
-        common_ret_op = 0xfffffffeU;
-        goto dfu_device_c_power_dfu_core_begin_exit;
-    }
-    uint8_t r3_3_0_copyload = r5[32];
-    uint32_t r3_41_0_copyload = load32(r5 + 36);
-    dfu_asks_asking_Asking_power_on(r10, r5 + 4, r3_3_0_copyload, r3_41_0_copyload, (unsigned char *)((uintptr_t)a2 + (uintptr_t)(uint64_t)((a2 == NULL) ? 4096 : 0)), a3);
-    uint8_t r2 = *r10;
-    if (r2 == 1) goto arm_5;
-    common_ret_op = 0xfffffffdU;
-    goto dfu_device_c_power_dfu_core_begin_exit;
-arm_5:;
-    uint8_t r6_12_4_0_copyload = r10[84];
-    memcpy(r6_12_5, r10 + 85, 16);
-    store32(a1, 300);
-    store32(a1 + 4, 2);
-    memset(a1 + 8, 0, 12);
-    store32(a1 + 20, (uint32_t)(r6_12_4_0_copyload & 1));
-    store32(a1 + 24, 0);
-    memcpy(a1 + 28, r6_12_5, 16);
-    memset(a1 + 44, 0, 24);
-    common_ret_op = 0;
-dfu_device_c_power_dfu_core_begin_exit:
-    return signed32(common_ret_op);
-}
-
 /* dfu_core_format_next */
 int32_t dfu_core_format_next(const struct dfu_config *config, const struct dfu_record *record, const uint8_t *flash, size_t size, const uint8_t *image, size_t length, struct dfu_ask *ask) {
     unsigned char *a0 = (unsigned char *)(uintptr_t)config;
@@ -3908,7 +3870,7 @@ int32_t dfu_core_format_next(const struct dfu_config *config, const struct dfu_r
     store32(r5 + 4, r6_41_0_copyload);
     store32(r5 + 8, 0);
     store32(r5 + 12, 0);
-    store64(r5 + 16, (uint64_t)(uintptr_t)static_2);
+    store64(r5 + 16, (uint64_t)(uintptr_t)static_0);
     store64(r5 + 24, 0);
     store64(r5 + 32, (uint64_t)(uintptr_t)r13);
     store64(r5 + 40, a5);
@@ -4008,7 +3970,7 @@ int32_t dfu_core_format_took(const struct dfu_config *config, struct dfu_record 
     _Alignas(4) unsigned char r8[28];
     _Alignas(4) unsigned char r6[24];
     unsigned char *r4, *r13, *r30;
-    uint64_t wide_6726;
+    uint64_t wide_2395;
     uint8_t r3_0_0_copyload, r7_0_0_0, r6_2;
     uint32_t r4_0_0_copyload, r31, r100, r7_8_0, r26, r3_3_4_copyload, common_ret_op;
     r4 = (unsigned char *)((uintptr_t)a2 + (uintptr_t)(uint64_t)((a2 == NULL) ? 4096 : 0));
@@ -4028,7 +3990,7 @@ int32_t dfu_core_format_took(const struct dfu_config *config, struct dfu_record 
     }
     unsigned char *r24 = r8 + 4;
     memcpy(r6, r24, 24);
-    wide_6726 = (uint64_t)(uintptr_t)r13;
+    wide_2395 = (uint64_t)(uintptr_t)r13;
     r3_0_0_copyload = *r6;
     r4_0_0_copyload = load32(r6 + 4);
     r30 = r6 + 20;
@@ -4038,9 +4000,9 @@ int32_t dfu_core_format_took(const struct dfu_config *config, struct dfu_record 
     store32(r5 + 4, r4_0_0_copyload);
     store32(r5 + 8, 0);
     store32(r5 + 12, 0);
-    store64(r5 + 16, (uint64_t)(uintptr_t)static_2);
+    store64(r5 + 16, (uint64_t)(uintptr_t)static_0);
     store64(r5 + 24, 0);
-    store64(r5 + 32, wide_6726);
+    store64(r5 + 32, wide_2395);
     store64(r5 + 40, a5);
     store64(r5 + 48, (uint64_t)r31);
     memset(r5 + 56, 0, 40);
@@ -4059,9 +4021,9 @@ int32_t dfu_core_format_took(const struct dfu_config *config, struct dfu_record 
     store32(r3 + 4, r4_0_0_copyload);
     store32(r3 + 8, 0);
     store32(r3 + 12, 0);
-    store64(r3 + 16, (uint64_t)(uintptr_t)static_2);
+    store64(r3 + 16, (uint64_t)(uintptr_t)static_0);
     store64(r3 + 24, 0);
-    store64(r3 + 32, wide_6726);
+    store64(r3 + 32, wide_2395);
     store64(r3 + 40, a5);
     store64(r3 + 48, (uint64_t)r100);
     memset(r3 + 56, 0, 40);
@@ -4215,42 +4177,6 @@ int32_t dfu_core_is_blank(const struct dfu_config *config, const uint8_t *flash,
     uint8_t r50 = dfu_asks_blank_is_erased(r4, a2 >> 1, r26);
     common_ret_op = (uint32_t)r50;
 dfu_device_c_blank_dfu_core_is_blank_exit:
-    return signed32(common_ret_op);
-}
-
-/* dfu_core_power_on */
-int32_t dfu_core_power_on(const struct dfu_config *config, struct dfu_record *record, const uint8_t *flash, size_t size) {
-    unsigned char *a0 = (unsigned char *)(uintptr_t)config;
-    unsigned char *a1 = (unsigned char *)(uintptr_t)record;
-    unsigned char *a2 = (unsigned char *)(uintptr_t)flash;
-    uint64_t a3 = size;
-    _Alignas(8) unsigned char r6[136];
-    _Alignas(4) unsigned char r5[40];
-    uint32_t common_ret_op;
-    store64a4(r5 + 32, 0);
-    dfu_device_c_config_settings_of(r5, a0);
-    uint8_t r13 = *r5;
-    if (r13 != 1) {
-        common_ret_op = 0xfffffffeU;
-        goto dfu_device_c_power_dfu_core_power_on_exit;
-    }
-    uint8_t r3_3_0_copyload = r5[32];
-    uint32_t r3_41_0_copyload = load32(r5 + 36);
-    dfu_asks_asking_Asking_power_on(r6, r5 + 4, r3_3_0_copyload, r3_41_0_copyload, (unsigned char *)((uintptr_t)a2 + (uintptr_t)(uint64_t)((a2 == NULL) ? 4096 : 0)), a3);
-    uint8_t r23 = *r6;
-    if (r23 != 1) {
-        common_ret_op = 0xfffffffdU;
-        goto dfu_device_c_power_dfu_core_power_on_exit;
-    }
-    uint8_t r4_2_0_copyload = r6[84];
-    store32(a1, 300);
-    memset(a1 + 4, 0, 16);
-    store32(a1 + 20, (uint32_t)(r4_2_0_copyload & 1));
-    store32(a1 + 24, 0);
-    memcpy(a1 + 28, r6 + 85, 16);
-    memset(a1 + 44, 0, 24);
-    common_ret_op = 0;
-dfu_device_c_power_dfu_core_power_on_exit:
     return signed32(common_ret_op);
 }
 
@@ -4783,6 +4709,26 @@ dfu_device_c_stalls_dfu_core_would_stall_exit:
     return signed32(common_ret_op);
 }
 
+/* dfu_core_begin */
+int32_t dfu_core_begin(const struct dfu_config *config, struct dfu_record *record, const uint8_t *flash, size_t size) {
+    unsigned char *a0 = (unsigned char *)(uintptr_t)config;
+    unsigned char *a1 = (unsigned char *)(uintptr_t)record;
+    unsigned char *a2 = (unsigned char *)(uintptr_t)flash;
+    uint64_t a3 = size;
+    uint32_t r8 = dfu_device_c_power_start(a0, a1, (unsigned char *)((uintptr_t)a2 + (uintptr_t)(uint64_t)((a2 == NULL) ? 4096 : 0)), a3, 2);
+    return signed32(r8);
+}
+
+/* dfu_core_power_on */
+int32_t dfu_core_power_on(const struct dfu_config *config, struct dfu_record *record, const uint8_t *flash, size_t size) {
+    unsigned char *a0 = (unsigned char *)(uintptr_t)config;
+    unsigned char *a1 = (unsigned char *)(uintptr_t)record;
+    unsigned char *a2 = (unsigned char *)(uintptr_t)flash;
+    uint64_t a3 = size;
+    uint32_t r8 = dfu_device_c_power_start(a0, a1, (unsigned char *)((uintptr_t)a2 + (uintptr_t)(uint64_t)((a2 == NULL) ? 4096 : 0)), a3, 0);
+    return signed32(r8);
+}
+
 /* dfu_core_candidate */
 int32_t dfu_core_candidate(const struct dfu_config *config, const struct dfu_record *record, const uint8_t *flash, size_t size, struct dfu_place *place) {
     unsigned char *a0 = (unsigned char *)(uintptr_t)config;
@@ -5019,7 +4965,7 @@ arm_5:
     store32(r12 + 16, r18_36_0);
     store32(r12 + 20, 0);
     memset(r13_2, 0, 6);
-    dfu_asks_asking_Asking_carry_out(r29, r44, r12, 0, 0, PLACE(static_2), 0, r4, r1, r19, r21, r5_2, v3, r13_2, 6);
+    dfu_asks_asking_Asking_carry_out(r29, r44, r12, 0, 0, PLACE(static_0), 0, r4, r1, r19, r21, r5_2, v3, r13_2, 6);
     uint8_t v10 = *r29;
     dfu_device_c_keeping_keep(r44, a1);
     common_ret_op = (uint32_t)((v10 == 0) ? 0xfffffff5U : 0);
