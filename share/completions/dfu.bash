@@ -16,7 +16,7 @@ _dfu() {
     fi
     [ "$command" != add ] || options='--vid --pid --did --format --fill --explain -h --help'
     [ "$command" != set ] || options='--vid --pid --did --explain -h --help'
-    [ "$command" != run ] || options='--trace --board --file --explain -h --help'
+    [ "$command" != run ] || options='--trace --file --explain -h --help'
     [ "$command" != judge ] || options='--interface --device --dfuse --json --explain -h --help'
     case $command in check | show) options='--json --explain -h --help' ;; esac
     at=$((at + 1))

@@ -48,7 +48,6 @@ complete -c dfu -x -n '__fish_seen_subcommand_from add set' -l did -d 'Device re
 complete -c dfu -x -n '__fish_seen_subcommand_from add' -l format -d 'Format of FILE' -a 'raw auto ihex srec uf2 elf'
 complete -c dfu -x -n '__fish_seen_subcommand_from add' -l fill -d 'Byte for the gaps of an image'
 complete -c dfu -n '__fish_seen_subcommand_from run' -l trace -d 'Print a line for each action of the host too'
-complete -c dfu -n '__fish_seen_subcommand_from run' -l board -d 'Play each event on a board beside the device too'
 complete -c dfu -r -F -n '__fish_seen_subcommand_from run' -l file -d 'The file that FILE stands for in offer and verify'
 complete -c dfu -x -n '__fish_seen_subcommand_from judge' -l interface -d 'The number of the DFU interface'
 complete -c dfu -x -n '__fish_seen_subcommand_from judge' -l device -d 'The device in a capture'

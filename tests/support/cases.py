@@ -75,7 +75,7 @@ def of_show(dice):
 def of_run(dice):
     script = mutant(dice, dice.choice(SCRIPTS), dice.choice(SCRIPTS), True)[:20000]
     is_piped = dice.random() < 0.2
-    words = ["run", "-" if is_piped else "in", *some(dice, "--trace"), *some(dice, "--board")]
+    words = ["run", "-" if is_piped else "in", *some(dice, "--trace")]
     if dice.random() < 0.3:
         script = script.replace(b"offer ", b"offer FILE\n#", 1)
         words += ["--file", "other"]

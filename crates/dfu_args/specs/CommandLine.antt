@@ -62,9 +62,9 @@ set_app = takes (codes "set") (needed (codes "file") ∷ unset (codes "vid") ∷
 abbrev pub show_app : App
 show_app = takes (codes "show") (needed (codes "kind") ∷ repeated (codes "hex") ∷ flag (codes "json") ∷ [])
 
--- The command `run` takes SCRIPT, the flags `--trace` and `--board`, and the option `--file`.
+-- The command `run` takes SCRIPT, the flag `--trace`, and the option `--file`.
 abbrev pub run_app : App
-run_app = takes (codes "run") (needed (codes "script") ∷ flag (codes "trace") ∷ flag (codes "board") ∷ unset (codes "file") ∷ [])
+run_app = takes (codes "run") (needed (codes "script") ∷ flag (codes "trace") ∷ unset (codes "file") ∷ [])
 
 -- The command `judge` takes each FILE, `-` by default, the options `--interface`, `0` by default, and `--device`, `only` by default, and
 -- the flags `--dfuse` and `--json`.
@@ -111,9 +111,8 @@ States (Some p) (Change file vid pid did) =
     × (first_of (codes "did") p.1 ≡ option_map string_bytes did)
 States (Some p) (Show kind hex json) = (p.0 ≡ codes "show") × (first_of (codes "kind") p.1 ≡ Some (string_bytes kind))
     × (all_of (codes "hex") p.1 ≡ Some (map string_bytes hex.items)) × (json ≡ is_on (first_of (codes "json") p.1))
-States (Some p) (Run script trace board file) = (p.0 ≡ codes "run") × (first_of (codes "script") p.1 ≡ Some (string_bytes script))
-    × (trace ≡ is_on (first_of (codes "trace") p.1)) × (board ≡ is_on (first_of (codes "board") p.1))
-    × (first_of (codes "file") p.1 ≡ option_map string_bytes file)
+States (Some p) (Run script trace file) = (p.0 ≡ codes "run") × (first_of (codes "script") p.1 ≡ Some (string_bytes script))
+    × (trace ≡ is_on (first_of (codes "trace") p.1)) × (first_of (codes "file") p.1 ≡ option_map string_bytes file)
 States (Some p) (Judge files interface device dfuse json) =
     (p.0 ≡ codes "judge") × (all_of (codes "file") p.1 ≡ Some (map string_bytes files.items))
     × (first_of (codes "interface") p.1 ≡ Some (string_bytes interface)) × (first_of (codes "device") p.1 ≡ Some (string_bytes device))

@@ -134,7 +134,6 @@ fn run_command<'a>(alloc: Global) -> Result<Command<'a>, AllocError>
         needed(alloc, "script", "SCRIPT", help::RUN_SCRIPT),
     );
     let command = with(command, flag(alloc, "trace", help::RUN_TRACE));
-    let command = with(command, flag(alloc, "board", help::RUN_BOARD));
     let command = with(command, unset(alloc, "file", help::RUN_FILE));
     explained(alloc, command)
 }

@@ -83,9 +83,6 @@ pub(crate) const RUN_SCRIPT: &str = "The script, or - for standard input";
 pub(crate) const RUN_TRACE: &str =
     "Print a line for each action of the host too, which begins with #";
 
-pub(crate) const RUN_BOARD: &str =
-    "Play each event on a board beside the device too, and refuse at the first difference";
-
 pub(crate) const RUN_FILE: &str =
     "The file that FILE stands for in offer and verify, or - for standard input";
 

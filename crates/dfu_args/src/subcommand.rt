@@ -60,8 +60,6 @@ pub enum Subcommand {
         script: String,
         /// Whether each action is to be printed: `--trace` was given.
         trace: bool,
-        /// Whether each event is to be played on a board beside the device: `--board` was given.
-        board: bool,
         /// The file that FILE means, or standard input if it is `-`; none without `--file`.
         file: Option<String>,
     },

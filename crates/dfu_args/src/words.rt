@@ -112,7 +112,6 @@ fn parse_run(alloc: Global, found: &ArgMatches<'_>) -> Result<Subcommand, ArgsFa
     Ok(Subcommand::Run {
         script: text_of(alloc, found, "script")?,
         trace: is_on(found, "trace"),
-        board: is_on(found, "board"),
         file: text_if(alloc, found, "file")?,
     })
 }

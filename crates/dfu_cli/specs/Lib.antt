@@ -1,5 +1,4 @@
 pub mod RunText
-pub mod BesideText
 pub mod Buffering
 pub mod HexWords
 pub mod Identifiers

@@ -3,8 +3,7 @@
 use crate::identifiers::{IdTexts, change_said, ids_said};
 use crate::words::{WordFault, bad_identifier, refused, refused_word, word_reason};
 use dfu_fs::{AddOptions, Owned, add_file, set_file};
-use dfu_image_output::{FormatChoice, fill_in, format_in};
-use dfu_output::Outcome;
+use dfu_output::{FormatChoice, Outcome, fill_in, format_in};
 use std::alloc::Global;
 use std::rt::Files;
 

@@ -4,7 +4,6 @@
 //! `run_buffered` run a script of any reader.
 #![tactic(auto)]
 
-mod beside;
 mod buffering;
 mod captures;
 mod changing;

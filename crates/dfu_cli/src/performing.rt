@@ -11,8 +11,7 @@ use crate::tips::advised;
 use crate::watching::read_file;
 use crate::words::{WordFault, refused_word, word_reason};
 use dfu_args::{ArgsFault, ParsedArgs, Subcommand, parse_args};
-use dfu_fs::{Owned, check_files, extract_file};
-use dfu_json::JsonLines;
+use dfu_fs::{JsonLines, Owned, check_files, extract_file};
 use dfu_output::{Exit, Outcome, fault_text, show_text};
 use dfu_suffix::SuffixFault;
 use std::io::{self, IsTerminal};
@@ -144,14 +143,8 @@ where
         Subcommand::Run {
             script,
             trace,
-            board,
             file,
-        } => perform_run(
-            rt,
-            script,
-            file,
-            Ways::without_file(*trace, *board, explain),
-        ),
+        } => perform_run(rt, script, file, Ways::without_file(*trace, explain)),
         Subcommand::Judge {
             files,
             interface,

@@ -2,7 +2,6 @@
 
 ghost use Rattle.std.specs.Prelude.{◌≡◌, None};
 
-use crate::beside::{BoardStop, run_beside_traced_with_stop, run_beside_with_stop};
 use crate::buffering::run_buffered_with_fault;
 use crate::line::{line_why, setup_why};
 use crate::running::run_traced_with_fault;
@@ -37,8 +36,6 @@ fn buffer_of<R: Print + AllocGlobal>(rt: &R, room: usize) -> BufWriter<Printer<'
 pub(crate) struct Ways<'f> {
     /// Whether each action of the host is printed.
     pub trace: bool,
-    /// Whether a board plays each event too.
-    pub board: bool,
     /// The bytes of FILE, if there are any.
     pub file: Option<&'f [u8]>,
     /// Whether the reason is wanted if it stops.
@@ -47,29 +44,17 @@ pub(crate) struct Ways<'f> {
 
 impl Ways<'_> {
     /// These ways, and no bytes of FILE.
-    pub(crate) fn without_file(trace: bool, board: bool, explain: bool) -> Ways<'static>
+    pub(crate) fn without_file(trace: bool, explain: bool) -> Ways<'static>
         ensures trace { result.trace ≡ trace }
-        ensures board { result.board ≡ board }
         ensures file { result.file ≡ None }
         ensures explain { result.explain ≡ explain }
     {
         Ways {
             trace,
-            board,
             file: None,
             explain,
         }
     }
-}
-
-/// Why a script stopped at an event of this line, after which the board differs from the device.
-fn differs_reason(alloc: Global, name: &str, number: u32) -> Option<String> {
-    line_reason(
-        alloc,
-        name,
-        number,
-        "after an event of it the board differs from the device; report that, with the script",
-    )
 }
 
 /// Why a script stopped at a fault, if its line doesn't say it.
@@ -128,57 +113,46 @@ fn line_reason(alloc: Global, name: &str, number: u32, why: &str) -> Option<Stri
     }
 }
 
-/// Runs a script with its trace, on a board too, or both: the writers share the buffer. It returns the end, where the script
-/// stopped, if it did, and whether each line of the trace is out.
-fn run_shared<R: Read + Drop, W: Write + Drop>(
+/// Runs a script with its trace: both go through the buffer, in the order in which they are written. If a line of either isn't out, the end
+/// is Fault.
+fn run_traced<R: Read + Drop, W: Write + Drop>(
     alloc: Global,
-    ways: Ways<'_>,
+    file: Option<&[u8]>,
     reader: R,
-    shared: &Shared<W>,
+    buffer: BufWriter<W>,
     stopped: &Stopped,
-) -> (Exit, Option<BoardStop>, bool) {
+) -> (Exit, Option<ScriptFault>) {
+    let shared = Shared::new(buffer);
     let mut writer = shared.writer();
     let mut trace = shared.writer();
-    if !ways.board {
-        let (exit, fault, is_traced) = run_traced_with_fault(
-            alloc,
-            ways.file,
-            reader,
-            &mut writer,
-            &mut trace,
-            stopped,
-        );
-        return (exit, fault.map(BoardStop::Fault), is_traced);
+    let (exit, fault, is_traced) = run_traced_with_fault(
+        alloc,
+        file,
+        reader,
+        &mut writer,
+        &mut trace,
+        stopped,
+    );
+    if shared.finish() && is_traced {
+        (exit, fault)
+    } else {
+        (Exit::Fault, fault)
     }
-    if ways.trace {
-        let (exit, stop, _, is_traced) = run_beside_traced_with_stop(
-            alloc, ways.file, reader, writer, &mut trace, stopped,
-        );
-        return (exit, stop, is_traced);
-    }
-    let (exit, stop, _) = run_beside_with_stop(alloc, ways.file, reader, writer, stopped);
-    (exit, stop, true)
 }
 
-/// Runs a script in these ways. If a line of the trace isn't out, or what is printed, the end is Fault.
+/// Runs a script in these ways.
 fn run_in<R: Read + Drop, W: Write + Drop>(
     alloc: Global,
     ways: Ways<'_>,
     reader: R,
     buffer: BufWriter<W>,
     stopped: &Stopped,
-) -> (Exit, Option<BoardStop>) {
-    if !ways.trace && !ways.board {
-        let (exit, fault, _) = run_buffered_with_fault(alloc, ways.file, reader, buffer, stopped);
-        return (exit, fault.map(BoardStop::Fault));
+) -> (Exit, Option<ScriptFault>) {
+    if ways.trace {
+        return run_traced(alloc, ways.file, reader, buffer, stopped);
     }
-    let shared = Shared::new(buffer);
-    let (exit, stop, is_traced) = run_shared(alloc, ways, reader, &shared, stopped);
-    if shared.finish() && is_traced {
-        (exit, stop)
-    } else {
-        (Exit::Fault, stop)
-    }
+    let (exit, fault, _) = run_buffered_with_fault(alloc, ways.file, reader, buffer, stopped);
+    (exit, fault)
 }
 
 /// Runs a script through a buffer, so that it makes few writes. If the script is typed at a
@@ -193,12 +167,9 @@ fn run_from<R: Print + AllocGlobal, S: Read + IsTerminal + Drop>(
     let room = if script.is_terminal() { 0 } else { BUFFER };
     let mut watched = Watched::new(script);
     let stopped = Stopped::new();
-    let (exit, stop) = run_in(alloc, ways, &mut watched, buffer_of(rt, room), &stopped);
-    let reason = match stop {
-        Some(BoardStop::Fault(fault)) if ways.explain => {
-            fault_reason(alloc, name, fault, &stopped, &watched)
-        }
-        Some(BoardStop::Differs(number)) if ways.explain => differs_reason(alloc, name, number),
+    let (exit, fault) = run_in(alloc, ways, &mut watched, buffer_of(rt, room), &stopped);
+    let reason = match fault {
+        Some(fault) if ways.explain => fault_reason(alloc, name, fault, &stopped, &watched),
         _ => None,
     };
     Outcome { exit, reason }

@@ -7,7 +7,7 @@ fn owners(option: &str) -> Option<&'static str> {
     match option {
         "--vid" | "--pid" | "--did" => Some("add and set"),
         "--format" | "--fill" => Some("add"),
-        "--trace" | "--board" | "--file" => Some("run"),
+        "--trace" | "--file" => Some("run"),
         "--interface" | "--device" | "--dfuse" => Some("judge"),
         "--json" => Some("check, show and judge"),
         _ => None,

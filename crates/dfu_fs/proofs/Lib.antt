@@ -1,1 +1,4 @@
 pub mod ChangeLaws
+pub mod Ends
+pub mod Fits
+pub mod Texts

@@ -1,2 +1,6 @@
 pub mod Changing
+pub mod Names
+pub mod Objects
+pub mod Parts
+pub mod Quoted
 pub mod SuffixReasons

@@ -5,11 +5,11 @@ use crate::given::{Given, Held, RecordingReader, open};
 use crate::reasons::{error_reason, file_reason, given_reason};
 use crate::replacing::{Replacement, finish};
 use crate::temp_file::Owned;
-use dfu_image_output::{
-    FormatChoice, image_line, looks_like, not_image_line, refused_line, why, why_not,
-};
 use dfu_images::{Format, ImageFileFault, Looks, bad_place, image_of, look_at};
-use dfu_output::{Exit, Outcome, add_with_fault, fault_text, write_out};
+use dfu_output::{
+    Exit, FormatChoice, Outcome, add_with_fault, fault_text, image_line, looks_like,
+    not_image_line, refused_line, why, why_not, write_out,
+};
 use dfu_suffix::{Findings, SuffixFault, gather, read};
 use dfu_wire::Ids;
 use std::alloc::{AllocError, Global};

@@ -1,8 +1,8 @@
 //! `dfu check`.
 
+use crate::JsonLines;
 use crate::given::{RecordingReader, open};
 use crate::reasons::{error_reason, given_reason};
-use dfu_json::JsonLines;
 use dfu_output::{Exit, Outcome, check_with_fault, fault_text, name_before, write_out};
 use dfu_suffix::{Findings, SuffixFault};
 use std::io;

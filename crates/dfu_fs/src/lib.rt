@@ -1,4 +1,4 @@
-//! The files that the commands of `dfu` open, and those that they make.
+//! The files that the commands of `dfu` open, those that they make, and printed lines as JSON objects.
 //!
 //! The commands are over the library's traits for files, input and printing, so that tests run them on a machine in memory.
 #![tactic(auto)]
@@ -9,6 +9,7 @@ mod checking;
 mod destination;
 mod gathering;
 mod given;
+mod json;
 mod reasons;
 mod replacing;
 mod setting;
@@ -19,6 +20,7 @@ pub use changing::{Change, with_ids};
 pub use checking::check_files;
 pub use gathering::gather_fault;
 pub use given::{Given, open};
+pub use json::{JsonLines, object};
 pub use reasons::{error_reason, file_reason};
 pub use setting::{extract_file, set_file};
 pub use temp_file::{Owned, rights_after};

@@ -1,17 +1,17 @@
 //! Scripts of the link of a host and a device of USB device firmware upgrade (USB DFU 1.1): what each line
-//! does, what is printed of it, a trace of each action, and the same events on a board beside the device.
+//! does, what is printed of it, and a trace of each action.
 //!
 //! Each call does the lines of a text one by one, and takes memory. The link itself is that of `dfu_sim`, whose
 //! calls and definitions this crate passes on.
 #![tactic(auto)]
 
-mod beside;
 mod notes;
 mod scripting;
+mod trace;
 
 pub use dfu_sim::{Event, Fate, LinkFault, OfferFault, Purpose, Stop, World, laws, run};
 pub use notes::{Reason, Stopped};
 pub use scripting::{
-    Field, LineFault, ScriptFault, SetupFault, script, script_beside_traced_with,
-    script_beside_with, script_traced, script_traced_with, script_with,
+    Field, LineFault, ScriptFault, SetupFault, script, script_traced, script_traced_with,
+    script_with,
 };

@@ -1,12 +1,12 @@
-//! What is noted of a run of a script: a trace of it, where a board first differed from the device, and what is wrong with the script. What
-//! notes has no way to change the run, or what is printed of it.
+//! What is noted of a run of a script: a trace of it, and what is wrong with the script. What notes
+//! has no way to change the run, or what is printed of it.
 
 use crate::scripting::fault::LineFault;
 use crate::scripting::setup_fault::SetupFault;
+use crate::trace::{Count, Snapshot, step_line, time_of};
 use dfu_sim::{Fate, World};
 use dfu_slots::{Faulty, SimMedium};
 use dfu_suffix::write_whole;
-use dfu_trace::{Count, Snapshot, step_line, time_of};
 use std::alloc::Global;
 use std::cell::Cell;
 use std::io::Write;
@@ -25,7 +25,6 @@ pub enum Reason {
 /// What a run of a script notes of where it stops: nothing at first.
 #[derive(Drop)]
 pub struct Stopped {
-    difference: Cell<Option<u32>>,
     reason: Cell<Option<Reason>>,
 }
 
@@ -33,7 +32,6 @@ impl Stopped {
     /// Nothing was noted yet.
     pub fn new() -> Stopped {
         Stopped {
-            difference: Cell::new(None),
             reason: Cell::new(None),
         }
     }
@@ -46,18 +44,6 @@ impl Stopped {
     /// This is wrong with the script.
     pub(crate) fn note_reason(&self, reason: Reason) {
         self.reason.set(Some(reason));
-    }
-
-    /// A board differs in the line with this number. A later one is not noted.
-    pub(crate) fn note(&self, number: u32) {
-        if self.difference.get().is_none() {
-            self.difference.set(Some(number));
-        }
-    }
-
-    /// The number of the line in which a board first differed from the device, once it did.
-    pub(crate) fn line(&self) -> Option<u32> {
-        self.difference.get()
     }
 }
 

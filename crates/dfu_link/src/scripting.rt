@@ -7,7 +7,6 @@ pub(crate) mod fault;
 mod fields;
 mod line;
 mod line_forms;
-mod on_board;
 mod output;
 mod playing;
 mod reader;
@@ -23,6 +22,5 @@ mod starting;
 mod words;
 
 pub use fault::{Field, LineFault, ScriptFault};
-pub use on_board::{script_beside_traced_with, script_beside_with};
 pub use run_script::{script, script_traced, script_traced_with, script_with};
 pub use setup_fault::SetupFault;

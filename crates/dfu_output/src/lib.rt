@@ -26,6 +26,7 @@ mod adding;
 mod checking;
 mod configuration;
 mod exit;
+mod image_output;
 mod judge;
 mod numbers;
 mod reasons;
@@ -35,6 +36,10 @@ mod showing;
 pub use adding::{add_text, add_with_fault, wrote_line};
 pub use checking::{check_text, check_with_fault};
 pub use exit::{Exit, Outcome, bad_words, fault_text, write_out};
+pub use image_output::{
+    FormatChoice, fill_in, format_in, format_name, image_line, looks_like, not_image_line,
+    refused_line, why, why_not,
+};
 pub use judge::{
     LogFault, LogLines, dfuse_departure_text, is_single, judge_text, judge_with_fault, stop_text,
     verdict_text,

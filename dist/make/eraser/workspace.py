@@ -5,12 +5,10 @@ import package
 from imports import Known, uses
 from tokens import tokens_of
 
-# The crates dfu_board_play and dfuse_link have laws alone, so that nothing of them is left.
+# The crates dfu_board, dfu_board_play and dfuse_link have laws alone, so that nothing of them is left.
 MODULES = {
-    "dfu_sim": "sim", "dfu_board": "board", "dfu_board_sim": "board_sim", "dfu_trace": "trace", "dfu_link": "link",
-    "dfu_pcap": "pcap", "dfu_json": "json",
-    "dfu_output": "output", "dfu_image_output": "image_output", "dfu_args": "words", "dfu_fs": "files", "dfu_cli": "cli",
-    "dfu_cmd": "command",
+    "dfu_sim": "sim", "dfu_link": "link", "dfu_pcap": "pcap", "dfu_output": "output", "dfu_args": "words", "dfu_fs": "files",
+    "dfu_cli": "cli", "dfu_cmd": "command",
 }
 # What is written by hand: the head of the package, the entry of the program, and what it asks of the system.
 FRAME = os.path.join(os.path.dirname(__file__), "program")
@@ -22,7 +20,7 @@ OVER_SYSTEM = ("clap", "hex")
 # What a source names without a path in Rattle, and has to import in Rust.
 PRELUDE = ("AllocGlobal", "Eprint", "HostRuntime", "Input", "Print", "String", "ToText", "Vec")
 # A source that gives one of these names to something of its own.
-OTHERS = {"crates/dfu_json/src/name.rt": {"String"}}
+OTHERS = {"crates/dfu_fs/src/json/name.rt": {"String"}}
 # Methods by which a source uses a trait of the system that it does not name.
 METHODS = {
     "AllocGlobal": {"alloc"}, "Env": {"arg"}, "Eprint": {"eprint"}, "Input": {"reader"}, "Print": {"print"}, "ToText": {"to_string"},

@@ -11,7 +11,6 @@ ghost use Rattle.dfu_link.specs.Said.{GoesOn, said_by, tear_bytes};
 ghost use Rattle.dfu_link.specs.inside.Expected.{expectation_of, point_at, at_point};
 ghost use Rattle.dfu_link.specs.inside.Moving.{PlaysEvents, DoesLine, file_bytes, FindsNoTear};
 
-use crate::beside::Played;
 use crate::notes::Tracer;
 use crate::scripting::event_parts::{begins, harmed, offered};
 use crate::scripting::expectation::{Expectation, ScriptContext};
@@ -26,11 +25,10 @@ use dfu_slots::{Faulty, Medium};
 use std::alloc::Global;
 use std::io::Write;
 
-/// Lets an event come that is no action of the host, to the board beside the device too, and writes what is printed of it.
+/// Lets an event come that is no action of the host, and writes what is printed of it.
 fn play<'f, M: Faulty, W: Write>(
     world: &mut World<'f, M>,
     event: Event<'f, '_>,
-    beside: &mut Played<'f, '_>,
     next: &mut Option<Expectation>,
     writer: &mut W,
 ) -> Result<(), ScriptFault>
@@ -39,7 +37,6 @@ fn play<'f, M: Faulty, W: Write>(
         (expectation_of next.new) (W.contents writer.new) result }
 {
     let answer = world.step(event);
-    beside.meet::<M>(event, answer, world);
     say_next(writer, next, answer, world.uploaded())
 }
 
@@ -67,30 +64,23 @@ fn checked<'f, 't, M: Medium>(device: &Device<M>, check: &[u8], fate: Fate<'t>) 
     }
 }
 
-/// Lets the host take an action, on the board beside the device too, and shows the link to who watches before and after it. The device's
+/// Lets the host take an action, and shows the link to who watches before and after it. The device's
 /// program refuses an image that does not begin with these bytes, if the action closes it. What is printed of it is still to be written.
 fn take<'f, T: Tracer<M>, M: Faulty>(
     world: &mut World<'f, M>,
     fate: Fate<'_>,
     check: &[u8],
-    beside: &mut Played<'f, '_>,
     tracer: &mut T,
 ) -> Result<Option<Report>, LinkFault>
     ensures play { HasCome world.old (checked check.now world.old.bench (Goes (fate_of fate.entry) (harm_in fate.entry))) world.new result }
     ensures active { ShowsActive world.new.bench }
 {
-    // Once the board differs the run is over, and what it still does isn't traced.
-    let before = if beside.seen.line().is_some() {
-        None
-    } else {
-        tracer.snapshot(world)
-    };
+    let before = tracer.snapshot(world);
     let event = checked::<M>(world.device(), check, fate);
     let answer = world.step(event);
     if let Some(before) = before {
         tracer.write_action(&before, fate, world);
     }
-    beside.meet::<M>(event, answer, world);
     answer
 }
 
@@ -100,7 +90,6 @@ fn play_actions<'f, T: Tracer<M>, M: Faulty, W: Write>(
     fate: Fate<'_>,
     times: u32,
     check: &[u8],
-    beside: &mut Played<'f, '_>,
     next: &mut Option<Expectation>,
     writer: &mut W,
     tracer: &mut T,
@@ -110,7 +99,7 @@ fn play_actions<'f, T: Tracer<M>, M: Faulty, W: Write>(
         (W.contents writer.old) world.new.bench (expectation_of next.new) (W.contents writer.new) result }
 {
     for turn in 0..times {
-        let answer = take::<T, M>(world, fate, check, beside, tracer);
+        let answer = take::<T, M>(world, fate, check, tracer);
         say_next(writer, next, answer, world.uploaded())?;
     }
     Ok(())
@@ -121,7 +110,6 @@ fn play_actions<'f, T: Tracer<M>, M: Faulty, W: Write>(
 fn pass_on<'f, T: Tracer<M>, M: Faulty, W: Write>(
     world: &mut World<'f, M>,
     check: &[u8],
-    beside: &mut Played<'f, '_>,
     next: &mut Option<Expectation>,
     writer: &mut W,
     tracer: &mut T,
@@ -131,7 +119,7 @@ fn pass_on<'f, T: Tracer<M>, M: Faulty, W: Write>(
         (point_at given check.now limits (expectation_of next.new) world.new.bench) (W.contents writer.new) result }
 {
     'passes: loop {
-        let answer = take::<T, M>(world, Fate::Pass, check, beside, tracer);
+        let answer = take::<T, M>(world, Fate::Pass, check, tracer);
         say_next(writer, next, answer, world.uploaded())?;
         if !is_silent(answer) {
             return Ok(());
@@ -156,7 +144,6 @@ pub(crate) fn play_events<'f, T: Tracer<M>, M: Faulty, W: Write>(
     events: EventLine<'_, '_>,
     file: &'f [u8],
     torn: &[u8],
-    beside: &mut Played<'f, '_>,
     context: &mut ScriptContext<'_>,
     writer: &mut W,
     tracer: &mut T,
@@ -172,25 +159,25 @@ pub(crate) fn play_events<'f, T: Tracer<M>, M: Faulty, W: Write>(
     let next = &mut context.next;
     match events {
         EventLine::Offer { purpose, .. } => {
-            play::<M, W>(world, offered(purpose, file, limits), beside, next, writer)
+            play::<M, W>(world, offered(purpose, file, limits), next, writer)
         }
-        EventLine::Upload => play::<M, W>(world, Event::Upload { limits }, beside, next, writer),
-        EventLine::Abort => play::<M, W>(world, Event::Abort, beside, next, writer),
+        EventLine::Upload => play::<M, W>(world, Event::Upload { limits }, next, writer),
+        EventLine::Abort => play::<M, W>(world, Event::Abort, next, writer),
         EventLine::Go { fate, times } => {
-            play_actions::<T, M, W>(world, fate, times, check, beside, next, writer, tracer)
+            play_actions::<T, M, W>(world, fate, times, check, next, writer, tracer)
         }
         EventLine::GoHarmed { harm, writes, .. } => {
             let fate = harmed(harm, writes, torn);
-            play_actions::<T, M, W>(world, fate, 1, check, beside, next, writer, tracer)
+            play_actions::<T, M, W>(world, fate, 1, check, next, writer, tracer)
         }
-        EventLine::GoOn => pass_on::<T, M, W>(world, check, beside, next, writer, tracer),
+        EventLine::GoOn => pass_on::<T, M, W>(world, check, next, writer, tracer),
         EventLine::Time(ms) => {
             tracer.add_time(ms);
-            play::<M, W>(world, Event::Time(ms), beside, next, writer)
+            play::<M, W>(world, Event::Time(ms), next, writer)
         }
-        EventLine::Reset => play::<M, W>(world, Event::Reset, beside, next, writer),
-        EventLine::Cut => play::<M, W>(world, Event::Cut, beside, next, writer),
-        EventLine::Refuse(why) => play::<M, W>(world, Event::Refuse(why), beside, next, writer),
+        EventLine::Reset => play::<M, W>(world, Event::Reset, next, writer),
+        EventLine::Cut => play::<M, W>(world, Event::Cut, next, writer),
+        EventLine::Refuse(why) => play::<M, W>(world, Event::Refuse(why), next, writer),
     }
 }
 
@@ -199,7 +186,6 @@ pub(crate) fn play_live<'f, T: Tracer<M>, M: Faulty, W: Write>(
     world: &mut World<'f, M>,
     events: EventLine<'_, '_>,
     torn: &[u8],
-    beside: &mut Played<'f, '_>,
     context: &mut ScriptContext<'_>,
     writer: &mut W,
     tracer: &mut T,
@@ -210,19 +196,13 @@ pub(crate) fn play_live<'f, T: Tracer<M>, M: Faulty, W: Write>(
         (at_point context.new world.new.bench)
         (W.contents writer.new) result }
 {
-    let limits = context.limits;
     match events {
-        EventLine::Offer { purpose, .. } => {
-            beside.meet::<M>(
-                offered(purpose, &[], limits),
-                Err(LinkFault::HostBusy),
-                world,
-            );
+        EventLine::Offer { .. } => {
             // Called for its clause `active`, which a refusal's bench needs; what it answers isn't
             // used.
             let _ = world.device();
             say_next(writer, &mut context.next, Err(LinkFault::HostBusy), &[])
         }
-        _ => play_events::<T, M, W>(world, events, &[], torn, beside, context, writer, tracer),
+        _ => play_events::<T, M, W>(world, events, &[], torn, context, writer, tracer),
     }
 }

@@ -1,7 +1,7 @@
 //! The lines of a script once the device is started.
 //!
 //! A `World` borrows the file that it was offered, so each session has a world of its own, which is
-//! made over the device and taken apart again. So is that of a board that plays the script beside it.
+//! made over the device and taken apart again.
 
 ghost use Rattle.std.specs.Prelude.{◌≤◌, OnOk, IfOk, IfErr, IfSome};
 ghost use Rattle.dfu_sim.specs.LinkView.{IsLive};
@@ -10,7 +10,6 @@ ghost use Rattle.dfu_link.specs.inside.Expected.{at_point};
 ghost use Rattle.dfu_link.specs.inside.Source.{Next, GivesLine, SourceState};
 ghost use Rattle.dfu_link.specs.inside.Moving.{LineEnds, Ends, LinesDone, IsUnarmed, Plainly, PlainlyFalls, MovesAndFalls};
 
-use crate::beside::{Beside, Played};
 use crate::notes::Tracer;
 use crate::scripting::event_parts::file_of;
 use crate::scripting::expectation::{ScriptContext, expect};
@@ -70,7 +69,6 @@ fn live_line<'f, T: Tracer<M>, M: Faulty, W: Write>(
     world: &mut World<'f, M>,
     line: &[u8],
     number: u32,
-    beside: &mut Played<'f, '_>,
     context: &mut ScriptContext<'_>,
     writer: &mut W,
     tracer: &mut T,
@@ -84,18 +82,15 @@ fn live_line<'f, T: Tracer<M>, M: Faulty, W: Write>(
         return Ok(());
     };
     let torn = tear_of(alloc, events)?;
-    beside.number = number;
-    play_live::<T, M, W>(world, events, &torn, beside, context, writer, tracer)
+    play_live::<T, M, W>(world, events, &torn, context, writer, tracer)
 }
 
 /// Does lines until no session is live, and gives the device back; or all that are left, and then
 /// writes the line of the image.
-fn follow<'f, 'd, T: Tracer<M>, R: Read + Drop, M: Faulty, W: Write>(
+fn follow<'f, T: Tracer<M>, R: Read + Drop, M: Faulty, W: Write>(
     alloc: Global,
     world: World<'f, M>,
     source: &mut Source<R>,
-    played: Played<'f, 'd>,
-    beside: &mut Beside<'d>,
     context: &mut ScriptContext<'_>,
     writer: &mut W,
     tracer: &mut T,
@@ -109,10 +104,8 @@ fn follow<'f, 'd, T: Tracer<M>, R: Read + Drop, M: Faulty, W: Write>(
         (W.contents writer.new) f) }
 {
     let mut world = world;
-    let mut played = played;
     'lines: loop {
         if !world.is_live() {
-            beside.end(played);
             return Ok(Some(world.release()));
         }
         if source.next()? {
@@ -121,7 +114,6 @@ fn follow<'f, 'd, T: Tracer<M>, R: Read + Drop, M: Faulty, W: Write>(
                 &mut world,
                 source.line(),
                 source.number(),
-                &mut played,
                 context,
                 writer,
                 tracer,
@@ -135,11 +127,10 @@ fn follow<'f, 'd, T: Tracer<M>, R: Read + Drop, M: Faulty, W: Write>(
 
 /// Does the line that the source gave while no session is live, and those after it until the session
 /// that it begins is over. The device is given back, unless all lines were done first.
-fn act<'g, 'd, T: Tracer<M>, R: Read + Drop, M: Faulty, W: Write>(
+fn act<'g, T: Tracer<M>, R: Read + Drop, M: Faulty, W: Write>(
     alloc: Global,
     device: Device<M>,
     source: &mut Source<R>,
-    beside: &mut Beside<'d>,
     context: &mut ScriptContext<'g>,
     writer: &mut W,
     tracer: &mut T,
@@ -167,20 +158,8 @@ fn act<'g, 'd, T: Tracer<M>, R: Read + Drop, M: Faulty, W: Write>(
     let bytes = file.bytes();
     let torn = tear_of(alloc, events)?;
     let mut world = World::new(alloc, device);
-    let mut played = beside.begin(alloc, source.number());
-    play_events::<T, M, W>(
-        &mut world,
-        events,
-        bytes,
-        &torn,
-        &mut played,
-        context,
-        writer,
-        tracer,
-    )?;
-    let after = follow::<T, R, M, W>(
-        alloc, world, source, played, beside, context, writer, tracer,
-    )?;
+    play_events::<T, M, W>(&mut world, events, bytes, &torn, context, writer, tracer)?;
+    let after = follow::<T, R, M, W>(alloc, world, source, context, writer, tracer)?;
     Ok(after)
 }
 
@@ -191,7 +170,6 @@ pub(crate) fn run_on<T: Tracer<M>, R: Read + Drop, M: Faulty, W: Write>(
     device: Device<M>,
     source: &mut Source<R>,
     given: bool,
-    beside: Beside<'_>,
     context: ScriptContext<'_>,
     writer: &mut W,
     tracer: &mut T,
@@ -204,19 +182,10 @@ pub(crate) fn run_on<T: Tracer<M>, R: Read + Drop, M: Faulty, W: Write>(
         (W.contents writer.old) (W.contents writer.new) f) }
 {
     let mut device = device;
-    let mut beside = beside;
     let mut context = context;
     let mut more = given;
     while more {
-        match act::<T, R, M, W>(
-            alloc,
-            device,
-            source,
-            &mut beside,
-            &mut context,
-            writer,
-            tracer,
-        )? {
+        match act::<T, R, M, W>(alloc, device, source, &mut context, writer, tracer)? {
             Some(after) => device = after,
             None => return Ok(()),
         }

@@ -7,7 +7,6 @@ ghost use Rattle.dfu_link.specs.Printed.{HasPrinted};
 ghost use Rattle.dfu_link.specs.inside.Moving.{LinesConfigured, CannotConfigure};
 ghost use Rattle.dfu_link.specs.inside.SetupView.{settings_of};
 
-use crate::beside::Beside;
 use crate::notes::{NoTrace, Stopped, TraceWriter, Tracer};
 use crate::scripting::expectation::ScriptContext;
 use crate::scripting::fault::ScriptFault;
@@ -54,14 +53,13 @@ fn configure<R: Read + Drop>(
     }
 }
 
-/// Runs what a reader gives, with FILE for these bytes, on a board beside the device too if that is wanted.
+/// Runs what a reader gives, with FILE for these bytes.
 pub(super) fn run_lines<T: Tracer<SimMedium>, R: Read + Drop, W: Write>(
     alloc: Global,
     given: Option<&[u8]>,
     reader: R,
     writer: &mut W,
     tracer: &mut T,
-    wants_board: bool,
     stopped: &Stopped,
 ) -> Result<(), ScriptFault>
     ensures { IfSome (R.remaining reader)
@@ -71,7 +69,6 @@ pub(super) fn run_lines<T: Tracer<SimMedium>, R: Read + Drop, W: Write>(
     let mut setup = beginning(given);
     let more = configure(alloc, &mut setup, &mut source, stopped)?;
     let device = start(alloc, &setup, stopped)?;
-    let beside = Beside::start(alloc, wants_board, &device, stopped)?;
     let context = ScriptContext {
         given: setup.given,
         check: check_in(&setup),
@@ -79,16 +76,7 @@ pub(super) fn run_lines<T: Tracer<SimMedium>, R: Read + Drop, W: Write>(
         next: None,
         stopped,
     };
-    run_on::<T, R, SimMedium, W>(
-        alloc,
-        device,
-        &mut source,
-        more,
-        beside,
-        context,
-        writer,
-        tracer,
-    )
+    run_on::<T, R, SimMedium, W>(alloc, device, &mut source, more, context, writer, tracer)
 }
 
 /// Runs a script: reads it line by line, and does each line before the next one is read. Lines that
@@ -128,7 +116,7 @@ pub fn script_with<R: Read + Drop, W: Write>(
 {
     // Called for its law, which `printed` needs: no image but the one that is shown is active.
     image_shown();
-    run_lines::<NoTrace, R, W>(alloc, given, reader, writer, &mut NoTrace, false, stopped)
+    run_lines::<NoTrace, R, W>(alloc, given, reader, writer, &mut NoTrace, stopped)
 }
 
 /// Runs a script as `script_with` does, and writes a line for each action of the host to `trace`, before what is
@@ -165,7 +153,6 @@ pub fn script_traced_with<R: Read + Drop, W: Write, N: Write>(
         reader,
         writer,
         &mut trace_writer,
-        false,
         stopped,
     );
     (answer, !trace_writer.is_broken)

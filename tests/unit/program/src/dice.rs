@@ -34,4 +34,14 @@ impl Dice {
     pub fn byte(&mut self) -> u8 {
         self.roll(256) as u8
     }
+
+    /// So many random bytes.
+    pub fn bytes(&mut self, len: u32) -> Vec<u8> {
+        (0..len).map(|_| self.byte()).collect()
+    }
+
+    /// One of these.
+    pub fn one_of<T: Copy>(&mut self, these: &[T]) -> T {
+        these[self.roll(these.len() as u32) as usize]
+    }
 }

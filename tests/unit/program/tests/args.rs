@@ -71,13 +71,11 @@ fn told(job: Subcommand) -> String {
         Subcommand::Run {
             script,
             trace,
-            board,
             file,
         } => {
             let file = file.map_or(String::new(), |file| joined(&[&file]));
             joined(&["run", &script])
                 + &set(trace, "traced")
-                + &set(board, "on a board too")
                 + &file
         }
         Subcommand::Judge {
@@ -104,7 +102,7 @@ fn outcome(line: &str) -> Outcome<String> {
 }
 
 /// Words, and the job that they ask for.
-static JOBS: [(&str, &str); 55] = [
+static JOBS: [(&str, &str); 52] = [
     (
         "dfu add a b --pid 0001",
         "add;a;b;ffff;0001;ffff;none;none;",
@@ -137,10 +135,7 @@ static JOBS: [(&str, &str); 55] = [
     ("dfu show status", "words 2"),
     ("dfu run -", "run;-;"),
     ("dfu run --trace a", "run;a;traced;"),
-    ("dfu run --board a", "run;a;on a board too;"),
-    ("dfu run a --file b --board", "run;a;on a board too;b;"),
-    ("dfu run --trace --board a", "run;a;traced;on a board too;"),
-    ("dfu run --board=1 a", "words 2"),
+    ("dfu run --board a", "words 2"),
     ("dfu run a --file b", "run;a;b;"),
     ("dfu run --file=- a --trace", "run;a;traced;-;"),
     ("dfu run a --file", "words 2"),

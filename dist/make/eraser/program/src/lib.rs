@@ -6,11 +6,10 @@
 //! | Module | Has |
 //! |---|---|
 //! | [`sim`] | the link of a host and a device, event by event |
-//! | [`board`], [`board_sim`] | the same with a device that asks for its writes |
-//! | [`trace`], [`link`] | scripts of events, what they print, and a line for each action |
+//! | [`link`] | scripts of events, what they print, and a line for each action |
 //! | [`pcap`] | captures of usbmon and of USBPcap |
-//! | [`json`], [`output`], [`image_output`] | the lines that are printed |
-//! | [`files`] | files that are checked, made and replaced |
+//! | [`output`] | the lines that are printed |
+//! | [`files`] | files that are checked, made and replaced; lines as JSON objects |
 //! | [`words`], [`cli`], [`command`] | the words of the command line, and what is done |
 #![no_std]
 #![deny(unsafe_code)]
@@ -21,16 +20,11 @@ extern crate std;
 #[macro_use]
 pub mod system;
 
-pub mod board;
-pub mod board_sim;
 pub mod cli;
 pub mod command;
 pub mod files;
-pub mod image_output;
-pub mod json;
 pub mod link;
 pub mod output;
 pub mod pcap;
 pub mod sim;
-pub mod trace;
 pub mod words;

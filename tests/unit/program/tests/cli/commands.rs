@@ -6,7 +6,7 @@ use unit_program::known_files::FOUR_ONES;
 
 /// Words, what is printed, the calls that are made, and the end.
 #[rustfmt::skip]
-static READ: [(&str, &str, &str, u8); 43] = [
+static READ: [(&str, &str, &str, u8); 39] = [
     ("dfu check a", "ok payload 4 suffix 16 device ffff product ffff vendor ffff dfu 0100 crc 0c51c871\n", "open a;", 0),
     ("dfu check -", "refused TooShort\n", "", 1),
     ("dfu check c", "fault Read\n", "open c;", 3),
@@ -33,11 +33,7 @@ static READ: [(&str, &str, &str, u8); 43] = [
     ("dfu run a --file -", "refused BadLine 1\n", "open a;", 1),
     ("dfu run - --file c", "fault Read\n", "open c;", 3),
     ("dfu run c --file a", "fault Read\n", "open a;open c;", 3),
-    ("dfu run a --board", "refused BadLine 1\n", "open a;", 1),
-    ("dfu run - --board", "state appIDLE status OK image 00\nimage 00\n", "", 0),
-    ("dfu run - --board --trace --file a", "state appIDLE status OK image 00\nimage 00\n", "open a;", 0),
-    ("dfu run c --board", "fault Read\n", "open c;", 3),
-    ("dfu run - --board --file -", "bad words\n", "", 2),
+    ("dfu run - --trace --file a", "state appIDLE status OK image 00\nimage 00\n", "open a;", 0),
     ("dfu run - --file -", "bad words\n", "", 2),
     ("dfu run - --file=- --trace", "bad words\n", "", 2),
     ("dfu show name 00", "bad words\n", "", 2),
@@ -59,11 +55,6 @@ fn offers_what_is_given() -> Outcome {
     machine.input = b"offer FILE\ngo until report\n";
     ends(&machine, "dfu run - --file a", 0)?;
     prints(&machine, "report installed\nimage ffffffff\n")?;
-    ends(&machine, "dfu run - --file a --board", 0)?;
-    prints(
-        &machine,
-        "report installed\nimage ffffffff\nreport installed\nimage ffffffff\n",
-    )?;
     ends(&machine, "dfu run -", 1)
 }
 

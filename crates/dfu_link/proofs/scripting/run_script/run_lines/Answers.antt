@@ -28,15 +28,6 @@ returns-in_err-device g c =
     rw (failed.1, failed.2) (start_falls (g.R.Read.remaining c.args.reader) (g.W.Write.contents c.args.writer.now)
     c.in_err-device.field-0.0 c.in_ok-source.ensures.ok c.beginning-setup.ensures c.in_ok-more.ensures.ok c.in_err-device.ensures.fault)
 
-pub returns-in_err-beside : goal.returns-in_err-beside
-returns-in_err-beside g c =
-    let failed = err_from_is_err_and c.from_residual-in_err-beside.result c.from_residual-in_err-beside.ensures.1 in
-    let old = g.W.Write.contents c.args.writer.now in
-    rw (failed.1, failed.2) (if_some (g.R.Read.remaining c.args.reader)
-    (λ text. Falls (given_bytes c.args.given) text old old c.in_err-beside.field-0.0)
-    (λ text e. subst (λ (f : ScriptFault). Falls (given_bytes c.args.given) text old old f)
-    (sym c.in_err-beside.ensures.fault) (no_memory refl)))
-
 pub returns : goal.returns
 returns g c = run_ended c.run_on.result (g.R.Read.remaining c.args.reader) (g.W.Write.contents c.args.writer.now)
     (g.W.Write.contents c.run_on.new.writer) c.in_ok-device.device c.in_ok-source.ensures.ok c.beginning-setup.ensures

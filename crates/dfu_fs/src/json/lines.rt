@@ -1,0 +1,76 @@
+//! An output whose lines are objects.
+
+ghost use Rattle.std.specs.Prelude.{◌≤◌, length, IfOk};
+
+use crate::json::objects::object;
+use std::alloc::Global;
+use std::io::{self, ErrorKind, Write};
+
+/// An output to which the object of each line is written in the line's place, or each line as it is. A line is written once it is ended.
+#[derive(Drop)]
+pub struct JsonLines<'t, W> {
+    alloc: Global,
+    is_on: bool,
+    file: Option<&'t str>,
+    line: Vec<u8>,
+    out: W,
+}
+
+impl<'t, W> JsonLines<'t, W> {
+    /// Before the first line, which is of this file, if any. Each line is an object if `is_on` says so, and else unchanged.
+    pub fn new(alloc: Global, is_on: bool, file: Option<&'t str>, out: W) -> JsonLines<'t, W> {
+        JsonLines {
+            alloc,
+            is_on,
+            file,
+            line: Vec::new(alloc),
+            out,
+        }
+    }
+
+    /// Keeps more bytes of a line.
+    fn keep(&mut self, bytes: &[u8]) -> io::Result<()> {
+        match self.line.extend_from_slice(bytes) {
+            Ok(()) => Ok(()),
+            Err(_) => Err(io::Error::from(ErrorKind::OutOfMemory)),
+        }
+    }
+}
+
+impl<W: Write> JsonLines<'_, W> {
+    /// Writes the object of the line, which is ended.
+    fn end_line(&mut self) -> io::Result<()> {
+        let Ok(mut text) = object(self.alloc, self.file, &self.line) else {
+            return Err(io::Error::from(ErrorKind::OutOfMemory));
+        };
+        if text.extend_from_slice(b"\n").is_err() {
+            return Err(io::Error::from(ErrorKind::OutOfMemory));
+        }
+        self.line.clear();
+        self.out.write_all(&text)
+    }
+}
+
+impl<W: Write> Write for JsonLines<'_, W> {
+    /// Takes bytes up to the end of a line.
+    ///
+    /// # Errors
+    ///
+    /// There is no memory for the line or for its object, which is `OutOfMemory`; or the output fails.
+    fn write(&mut self, buf: &[u8]) -> io::Result<usize> {
+        if !self.is_on {
+            return self.out.write(buf);
+        }
+        let Some(end) = buf.iter().position(|byte| *byte == b'\n') else {
+            self.keep(buf)?;
+            return Ok(buf.len());
+        };
+        self.keep(&buf[..end])?;
+        self.end_line()?;
+        Ok(end + 1)
+    }
+
+    fn flush(&mut self) -> io::Result<()> {
+        self.out.flush()
+    }
+}

@@ -1,0 +1,61 @@
+//! Strings of JSON (RFC 8259, section 7).
+
+ghost use Rattle.std.specs.Prelude.{◌≡◌, ◌<◌, ◌++◌, OnOk};
+ghost use Rattle.std.specs.List.{flat_map};
+ghost use Rattle.dfu_fs.specs.Quoted.{digit, escaped, quoted};
+
+use std::alloc::AllocError;
+
+/// The lower-case hexadecimal digit of a number.
+fn digit(number: u8) -> u8
+    requires { number < 16 }
+    ensures { result ≡ digit number }
+{
+    if number < 10 {
+        b'0' + number
+    } else {
+        b'a' + (number - 10)
+    }
+}
+
+/// Adds a byte of a string.
+#[tactic(auto, unfolding(crate::specs::Quoted::escaped))]
+pub(crate) fn push_escaped(out: &mut Vec<u8>, byte: u8) -> Result<(), AllocError>
+    ensures { OnOk result (out.new.items ≡ out.old.items ++ escaped byte) }
+{
+    if byte == b'"' || byte == b'\\' {
+        return out.extend_from_slice(&[b'\\', byte]);
+    }
+    if byte < b' ' {
+        return out.extend_from_slice(&[
+            b'\\',
+            b'u',
+            b'0',
+            b'0',
+            digit(byte / 16),
+            digit(byte % 16),
+        ]);
+    }
+    out.extend_from_slice(&[byte])
+}
+
+/// Adds the bytes of a string.
+fn push_inner(out: &mut Vec<u8>, text: &[u8]) -> Result<(), AllocError>
+    ensures { OnOk result (out.new.items ≡ out.old.items ++ flat_map escaped text.now) }
+{
+    for byte in text {
+        push_escaped(out, *byte)?;
+    }
+    Ok(())
+}
+
+/// Adds a string.
+#[tactic(auto, unfolding(crate::specs::Quoted::quoted))]
+#[inline(never)]
+pub(crate) fn push_quoted(out: &mut Vec<u8>, text: &[u8]) -> Result<(), AllocError>
+    ensures { OnOk result (out.new.items ≡ out.old.items ++ quoted text.now) }
+{
+    out.extend_from_slice(b"\"")?;
+    push_inner(out, text)?;
+    out.extend_from_slice(b"\"")
+}

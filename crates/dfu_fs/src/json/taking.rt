@@ -1,0 +1,157 @@
+//! The parts of a line, taken one after the other.
+
+ghost use Rattle.std.specs.Prelude.{◌≡◌, IfOk, MatchBool, MatchOption, OnOk, None, Some};
+ghost use Rattle.std.specs.Char.{is_ascii_digit};
+ghost use Rattle.std.specs.List.{list_all};
+ghost use Rattle.dfu_fs.specs.Parts.{is_number, keyed, with_list, taken, valued, with_value};
+
+use crate::json::arrays::push_array;
+use crate::json::name::Name;
+use crate::json::part::{LinePart, WordKind};
+use crate::json::quoting::push_quoted;
+use crate::json::words::{list_length, rest_after, word_in};
+use std::alloc::AllocError;
+
+/// Whether each byte of a word is a digit.
+fn is_digits(word: &[u8]) -> bool
+    ensures { result ≡ list_all is_ascii_digit word.now }
+{
+    word.iter().all(|byte| byte.is_ascii_digit())
+}
+
+/// Whether a word is a number of JSON.
+fn is_number(word: &[u8]) -> bool
+    ensures { result ≡ is_number word.now }
+{
+    is_digits(word) && (word.len() <= 1 || word[0] != b'0')
+}
+
+/// Adds the key of a member.
+#[inline(never)]
+#[tactic(auto, unfolding(crate::specs::Parts::keyed))]
+fn push_key(out: &mut Vec<u8>, key: Name) -> Result<(), AllocError>
+    ensures { OnOk result (out.new.items ≡ keyed out.old.items key) }
+{
+    if !out.is_empty() {
+        out.extend_from_slice(b",")?;
+    }
+    push_quoted(out, key.text().as_bytes())?;
+    out.extend_from_slice(b":")
+}
+
+/// Adds the value that a word is, and returns whether it is of this kind.
+#[tactic(auto, unfolding(crate::specs::Parts::with_value))]
+fn push_value(out: &mut Vec<u8>, kind: WordKind, word: &[u8]) -> Result<bool, AllocError>
+    ensures { IfOk result (λ fits. MatchBool fits (with_value kind out.old.items word.now ≡ Some out.new.items)
+        (with_value kind out.old.items word.now ≡ None)) }
+{
+    match kind {
+        WordKind::Number => {
+            if !is_number(word) {
+                return Ok(false);
+            }
+            out.extend_from_slice(word)?;
+            Ok(true)
+        }
+        WordKind::Flag => {
+            if word == b"yes".as_slice() {
+                out.extend_from_slice(b"true")?;
+                return Ok(true);
+            }
+            if word == b"no".as_slice() {
+                out.extend_from_slice(b"false")?;
+                return Ok(true);
+            }
+            Ok(false)
+        }
+        WordKind::Word => {
+            push_quoted(out, word)?;
+            Ok(true)
+        }
+        WordKind::Inner(key) => {
+            out.extend_from_slice(b"{")?;
+            push_quoted(out, key.text().as_bytes())?;
+            out.extend_from_slice(b":")?;
+            push_quoted(out, word)?;
+            Ok(true)
+        }
+    }
+}
+
+/// Takes a word that is the value of a key.
+fn take_value<'l>(
+    out: &mut Vec<u8>,
+    key: Name,
+    kind: WordKind,
+    line: &'l [u8],
+) -> Result<Option<&'l [u8]>, AllocError>
+    ensures { IfOk result (λ r. MatchOption r (valued key kind out.old.items line.now ≡ None)
+        (λ rest. valued key kind out.old.items line.now ≡ Some (out.new.items, rest.now))) }
+{
+    let Some((word, rest)) = word_in(line) else {
+        return Ok(None);
+    };
+    push_key(out, key)?;
+    if push_value(out, kind, word)? {
+        return Ok(Some(rest));
+    }
+    Ok(None)
+}
+
+/// Takes a list that is the value of a key.
+fn take_list<'l>(out: &mut Vec<u8>, key: Name, line: &'l [u8]) -> Result<&'l [u8], AllocError>
+    ensures { IfOk result (λ rest. with_list key out.old.items line.now ≡ Some (out.new.items, rest.now)) }
+{
+    push_key(out, key)?;
+    let count = list_length(line);
+    let (words, behind) = line.split_at(count);
+    push_array(out, words)?;
+    if behind.is_empty() {
+        return Ok(behind);
+    }
+    let (_, rest) = line.split_at(count + 1);
+    Ok(rest)
+}
+
+/// Takes a part: adds its member, and returns the words after it. Nothing if the words are not of this part.
+#[tactic(auto, unfolding(crate::specs::Parts::taken))]
+pub(crate) fn take_part<'l>(
+    out: &mut Vec<u8>,
+    part: LinePart,
+    line: &'l [u8],
+) -> Result<Option<&'l [u8]>, AllocError>
+    ensures { IfOk result (λ r. MatchOption r (taken part out.old.items line.now ≡ None)
+        (λ rest. taken part out.old.items line.now ≡ Some (out.new.items, rest.now))) }
+{
+    match part {
+        LinePart::Says(key, word) => {
+            let Some(rest) = rest_after(line, word.text()) else {
+                return Ok(None);
+            };
+            push_key(out, key)?;
+            push_quoted(out, word.text().as_bytes())?;
+            Ok(Some(rest))
+        }
+        LinePart::Value(key, kind) => take_value(out, key, kind, line),
+        LinePart::Pair(key, kind) => match rest_after(line, key.text()) {
+            Some(rest) => take_value(out, key, kind, rest),
+            None => Ok(None),
+        },
+        LinePart::List(word, key) => match rest_after(line, word.text()) {
+            Some(rest) => Ok(Some(take_list(out, key, rest)?)),
+            None => Ok(None),
+        },
+        LinePart::Rest(key) => {
+            push_key(out, key)?;
+            push_array(out, line)?;
+            out.extend_from_slice(b"}")?;
+            Ok(Some(&[]))
+        }
+        LinePart::Without(key) => {
+            push_key(out, key)?;
+            push_array(out, &[])?;
+            Ok(Some(line))
+        }
+        LinePart::Blank => Ok(Some(line)),
+    }
+}

@@ -1,8 +1,0 @@
-use Rattle.std.proofs.Common.{arith}
-use Rattle.dfu_json.specs.Quoted.{parted}
-use Rattle.dfu_json.proofs.Texts.{text_more}
-use Rattle.dfu_json.proofs.arrays.push_all_parted.Goals as goal
-
-pub loop-byte-preserved : goal.loop-byte-preserved
-loop-byte-preserved c = text_more parted c.args.words.now c.loop-byte.byte-index _ _ _ _
-    (omega (arith, c.loop-byte-test.true)) c.loop-byte.invariant c.in_ok-push_parted.ensures

@@ -1,6 +1,0 @@
-use Rattle.std.specs.Prelude.{◌≡◌, [], drop}
-use Rattle.dfu_json.specs.Objects.{fitted}
-use Rattle.dfu_json.proofs.filling.fit.Given as goal
-
-abbrev pub invariant-loop-part : goal.invariant-loop-part
-invariant-loop-part l = fitted (drop l.part-index l.form) l.out.items l.rest ≡ fitted l.form [] l.line

@@ -1,4 +1,0 @@
-pub mod Names
-pub mod Objects
-pub mod Parts
-pub mod Quoted

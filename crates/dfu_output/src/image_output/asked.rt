@@ -1,0 +1,59 @@
+//! What `--format` and `--fill` ask for.
+
+ghost use Rattle.std.specs.Prelude.{◌≡◌, ◌≤◌, codes, None, Some};
+ghost use Rattle.dfu_output.specs.Asked.{IsNoFormat, fill_in};
+
+use dfu_images::{Format, hex_digit};
+
+/// How FILE is taken.
+#[derive(Clone, Copy, Debug, PartialEq, Eq)]
+pub enum FormatChoice {
+    /// Without a word: as it is, with a reason if it looks like a file of a format.
+    Unsaid,
+    /// As it is.
+    Raw,
+    /// As a file of the format that it looks like, or as it is if nothing is known against a raw image; else not at all.
+    Auto,
+    /// As a file of this format.
+    As(Format),
+}
+
+/// The byte in two hexadecimal digits of either case.
+#[tactic(auto, using(std::proofs::lemmas::Bool::Decides::nat_tests))]
+pub fn fill_in(word: &str) -> Option<u8>
+    ensures { result ≡ fill_in word.now }
+{
+    match word.as_bytes() {
+        [high, low] => {
+            let high = hex_digit(*high);
+            let low = hex_digit(*low);
+            if high < 16 && low < 16 {
+                Some(16 * high + low)
+            } else {
+                None
+            }
+        }
+        _ => None,
+    }
+}
+
+/// How FILE is taken by the word of `--format`.
+pub fn format_in(word: &str) -> Option<FormatChoice>
+    ensures raw { word.now ≡ codes "raw" → result ≡ Some FormatChoice.Raw }
+    ensures auto { word.now ≡ codes "auto" → result ≡ Some FormatChoice.Auto }
+    ensures ihex { word.now ≡ codes "ihex" → result ≡ Some (FormatChoice.As Format.IntelHex) }
+    ensures srec { word.now ≡ codes "srec" → result ≡ Some (FormatChoice.As Format.SRecord) }
+    ensures uf2 { word.now ≡ codes "uf2" → result ≡ Some (FormatChoice.As Format.Uf2) }
+    ensures elf { word.now ≡ codes "elf" → result ≡ Some (FormatChoice.As Format.Elf) }
+    ensures other { IsNoFormat word.now → result ≡ None }
+{
+    match word {
+        "raw" => Some(FormatChoice::Raw),
+        "auto" => Some(FormatChoice::Auto),
+        "ihex" => Some(FormatChoice::As(Format::IntelHex)),
+        "srec" => Some(FormatChoice::As(Format::SRecord)),
+        "uf2" => Some(FormatChoice::As(Format::Uf2)),
+        "elf" => Some(FormatChoice::As(Format::Elf)),
+        _ => None,
+    }
+}

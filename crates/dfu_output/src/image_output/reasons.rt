@@ -1,0 +1,60 @@
+//! Reasons, in words.
+
+use crate::image_output::lines::format_name;
+use dfu_images::{Ending, Format, ImageFault, ImageFileFault, LayFault, NotImage, Place};
+use std::alloc::{AllocError, Global};
+
+/// What to do about a file that makes no image; nothing if the reason says it.
+fn advice(fault: ImageFileFault) -> &'static str {
+    match fault {
+        ImageFileFault::Unread(ImageFault::NoMemory) | ImageFileFault::Unlaid(LayFault::NoMemory) =>
+            "",
+        ImageFileFault::Unread(ImageFault::Overlaps(_)) =>
+            "; build it so that each byte is there once",
+        ImageFileFault::Unread(ImageFault::TooManyElements(_)) =>
+            "; a part is a run in the file's order: build it with rising addresses, or with fewer gaps",
+        ImageFileFault::Unread(_) => "; build it anew",
+        ImageFileFault::NoData => "; look at what the build puts into it",
+        ImageFileFault::Unlaid(LayFault::Gap(_, _)) => "; --fill ff fills gaps with this byte",
+        ImageFileFault::Unlaid(LayFault::TooLarge) => "; give a file for one part of the memory",
+    }
+}
+
+/// Why a file makes no image, with the place of its first byte that no record has there, if there is one, and what to do.
+pub fn why(alloc: Global, fault: ImageFileFault, bad: Option<Place>) -> Result<String, AllocError> {
+    let advice = advice(fault);
+    match bad {
+        Some(Place { line, column }) => format!(in alloc;
+            "{fault}; the first wrong character is at line {line}, column {column}{advice}"
+        ),
+        None => format!(in alloc; "{fault}{advice}"),
+    }
+}
+
+/// What is seen of a file of which no image is taken, and what to do.
+pub fn why_not(alloc: Global, other: NotImage) -> Result<String, AllocError> {
+    let said = match other {
+        NotImage::DfuSe =>
+            "it begins as a DfuSe file: give it to dfu-flash, and get it anew if that refuses it",
+        NotImage::Zip => "it is a zip archive: unpack it, and give the file in it",
+        NotImage::Gzip => "it is a gzip archive: unpack it, and give the file in it",
+        NotImage::Text => "it is text and no image: give the file that the build made of it",
+        NotImage::Named(Ending::Dfu) =>
+            "its name ends in .dfu, but it has no DFU suffix: it was cut short or damaged; get it anew",
+        NotImage::Named(Ending::Of(format)) => {
+            let name = format_name(format);
+            return format!(in alloc;
+                "its name is that of {name}, but it does not begin so: build it anew, or rename it if it is a raw image"
+            );
+        }
+    };
+    String::from_str(alloc, said)
+}
+
+/// How a file was taken that looks like one of a format.
+pub fn looks_like(alloc: Global, format: Format) -> Result<String, AllocError> {
+    let name = format_name(format);
+    format!(in alloc;
+        "it looks like {name}, and was taken as it is; --format {name} takes the image out of it"
+    )
+}
