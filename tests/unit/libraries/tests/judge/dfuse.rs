@@ -27,11 +27,10 @@ fn judged(lines: &[&[u8]]) -> (DfuseJudge, u32, Option<Departure>) {
     let mut last = None;
     for line in lines {
         number += 1;
-        if let Some(event) = event_of(line)
-            && let Some(departure) = judge.take(&event)
-        {
+        let departure = event_of(line).and_then(|event| judge.take(&event));
+        if departure.is_some() {
             sum += number;
-            last = Some(departure);
+            last = departure;
         }
     }
     (judge, sum, last)
@@ -62,9 +61,7 @@ fn a_session_is_kept_and_departs_from_dfu_at_the_leave() {
     let (mut number, mut sum) = (0u32, 0u32);
     for line in &SESSION {
         number += 1;
-        if let Some(event) = event_of(line)
-            && standard.take(&event).is_some()
-        {
+        if event_of(line).is_some_and(|event| standard.take(&event).is_some()) {
             sum += number;
         }
     }

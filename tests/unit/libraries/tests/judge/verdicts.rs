@@ -46,11 +46,13 @@ fn judged(lines: &[&[u8]]) -> (Judge, u32, Option<Departure>) {
     for line in lines {
         let read = read_line(0, line);
         assert!(read.is_some(), "a line that can't be read");
-        if let Some(Line::Came(event)) = read
-            && let Some(departure) = judge.take(&event)
-        {
+        let departure = match read {
+            Some(Line::Came(event)) => judge.take(&event),
+            _ => None,
+        };
+        if departure.is_some() {
             count += 1;
-            last = Some(departure);
+            last = departure;
         }
     }
     (judge, count, last)

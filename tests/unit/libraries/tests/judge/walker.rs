@@ -98,10 +98,8 @@ impl Walker {
 
     /// What the cells have for a request, the first if there are several, except for what is done.
     fn row(&mut self, request: usize) -> (u8, u8) {
-        if let Some(planted) = self.planted
-            && planted.state == self.state
-            && planted.request == request
-        {
+        let is_planted = |it: &Planted| it.state == self.state && it.request == request;
+        if let Some(planted) = self.planted.filter(is_planted) {
             return (planted.letter, planted.next);
         }
         match (self.state, request, self.is_done) {
@@ -169,9 +167,8 @@ pub fn first_departure(seed: u32, steps: u32, planted: Option<Planted>) -> Resul
     let mut walker = Walker::new(seed, planted);
     let _ = judge.take(&POWER);
     for step in 0..steps {
-        if let Some(event) = walker.step()
-            && judge.take(&event).is_some()
-        {
+        let event = walker.step();
+        if event.is_some_and(|event| judge.take(&event).is_some()) {
             return Err(step);
         }
     }
