@@ -73,6 +73,8 @@ BECOMES = [
     ("    #[rattlefmt::skip]", "    #[rustfmt::skip]"),
     ("    let x = crate::Setup::decode(b);", "    let x = crate::wire::Setup::decode(b);"),
     ("    let x = dfu_slots::OPEN_GATE;", "    let x = crate::slots::OPEN_GATE;"),
+    ("    let x = dfu_formats::memory::Map::read(b);", "    let x = crate::dfuse::memory::Map::read(b);"),
+    ("    // as `dfu_formats::images` and `dfu_conformance::judge`", "    // as `formats` and `conformance::judge`"),
     ("    // (see dfu_slots)", "    // (see slots)"),
     ("    // (see specs/Setup.antt)", "    // (see crates/dfu_wire/specs/Setup.antt)"),
     ("    // Called for its clause `fits`.", "    // (The proof needs this call, and nothing else does.)"),

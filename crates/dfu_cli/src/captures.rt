@@ -1,7 +1,7 @@
 //! Captures that `dfu judge` reads, and what its words say of them.
 
 use crate::numbering::number_of;
-use dfu_pcap::{Address, CaptureFault};
+use dfu_conformance::captures::{Address, CaptureFault};
 use std::io::{self, Read};
 
 /// The most bytes of a capture.

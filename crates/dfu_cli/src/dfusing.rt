@@ -1,12 +1,12 @@
 //! `dfu judge --dfuse`: what is written of a log, if the device is to speak DfuSe.
 
+use dfu_conformance::dfuse::DfuseJudge;
 use dfu_conformance::{Departure, Line, LogEvent, Verdict};
 use dfu_output::{
     Exit, LogFault, LogLines, dfuse_departure_text, fault_text, is_single, stop_text, verdict_text,
     write_out,
 };
 use dfu_suffix::{SuffixFault, write_whole};
-use dfuse_conformance::DfuseJudge;
 use std::alloc::Global;
 use std::io::{Read, Write};
 

@@ -10,10 +10,10 @@ use Rattle.dfu_conformance.specs.declared.standard.TheConstants.{STANDARD}
 use Rattle.dfu_conformance.specs.declared.marks.TheConstants.{MARKS}
 use Rattle.dfu_conformance.specs.declared.habits.TheConstants.{HABITS}
 use Rattle.dfu_conformance.specs.declared.drifts.TheConstants.{DRIFTS}
-use Rattle.dfuse_conformance.specs.declared.rows.TheConstants.{DFUSE}
-use Rattle.dfuse_conformance.specs.Runs.{dfuse_attributes, dfuse_habits, rests, DfuseAnswer, DfuseRun, DfuseComesTo, GoesByDfuse, MayMoveDfuse}
-use Rattle.dfuse_conformance.specs.Verdicts.{may_stand}
-use Rattle.dfuse_conformance.specs.inside.Stepped.{leads_to, led_or_rests, after_event}
+use Rattle.dfu_conformance.specs.declared.dfuse.rows.TheConstants.{DFUSE}
+use Rattle.dfu_conformance.specs.dfuse.Runs.{dfuse_attributes, dfuse_habits, rests, DfuseAnswer, DfuseRun, DfuseComesTo, GoesByDfuse, MayMoveDfuse}
+use Rattle.dfu_conformance.specs.dfuse.Verdicts.{may_stand}
+use Rattle.dfu_conformance.specs.inside.DfuseStep.{leads_to, led_or_rests, after_event}
 use Rattle.dfu_conformance.proofs.Goings.{goes_by, led_by, moves_by, moved_by}
 
 -- Some row of four lists leads there, or the device stays.

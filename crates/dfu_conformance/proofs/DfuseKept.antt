@@ -7,8 +7,8 @@ use Rattle.dfu_conformance.specs.declared.event.Response.{Response}
 use Rattle.dfu_conformance.specs.declared.event.Response.TheVariants as answer
 use Rattle.dfu_conformance.specs.Fits.{stays_at}
 use Rattle.dfu_conformance.specs.MayAnswer.{MayAnswer as StandardAnswer, Run as StandardRun}
-use Rattle.dfuse_conformance.specs.Laws.{StandardIsKept}
-use Rattle.dfuse_conformance.specs.Runs.{dfuse_attributes, dfuse_habits, tells, DfuseAnswer, DfuseRun}
+use Rattle.dfu_conformance.specs.dfuse.Laws.{StandardIsKept}
+use Rattle.dfu_conformance.specs.dfuse.Runs.{dfuse_attributes, dfuse_habits, tells, DfuseAnswer, DfuseRun}
 
 -- A device that may stay if more requests have to be answered may stay if fewer have to.
 still : (plain other : Bool) (a : Response) → stays_at plain a ≡ true → stays_at (plain && other) a ≡ true

@@ -4,9 +4,9 @@ use Rattle.std.proofs.Common.{ap, ◌∙◌}
 use Rattle.dfu_conformance.specs.declared.row.StandardState.{StandardState}
 use Rattle.dfu_conformance.specs.declared.event.LogEvent.{LogEvent}
 use Rattle.dfu_conformance.specs.Fits.{place_number}
-use Rattle.dfuse_conformance.specs.Runs.{DfuseCanAnswer}
-use Rattle.dfuse_conformance.specs.Verdicts.{may_stand, AreHeld}
-use Rattle.dfuse_conformance.specs.inside.Stepped.{is_somewhere}
+use Rattle.dfu_conformance.specs.dfuse.Runs.{DfuseCanAnswer}
+use Rattle.dfu_conformance.specs.dfuse.Verdicts.{may_stand, AreHeld}
+use Rattle.dfu_conformance.specs.inside.DfuseStep.{is_somewhere}
 use Rattle.dfu_conformance.proofs.Places.{place_of, number_back, number_below}
 use Rattle.dfu_conformance.proofs.Somewhere.{some_there, some_from}
 

@@ -7,12 +7,12 @@ use Rattle.dfu_conformance.specs.declared.row.StandardState.{StandardState}
 use Rattle.dfu_conformance.specs.declared.row.StandardState.TheVariants.{AppIdle, AppDetach, DfuIdle, DownloadSync, DownloadBusy, DownloadIdle, ManifestSync, Manifest, ManifestWaitReset, UploadIdle, Error, Fresh}
 use Rattle.dfu_conformance.specs.declared.event.LogEvent.{LogEvent}
 use Rattle.dfu_conformance.specs.declared.verdict.Departure.{Departure}
-use Rattle.dfuse_conformance.specs.declared.judge.TheConstants.{EVERYWHERE}
-use Rattle.dfuse_conformance.specs.Runs.{DfuseCanAnswer, DfuseRun}
-use Rattle.dfuse_conformance.specs.Verdicts.{may_stand, AreHeld, DfuseDeparts, IsFirstDeparture}
-use Rattle.dfuse_conformance.specs.inside.Stepped.{after_event, is_somewhere}
-use Rattle.dfuse_conformance.proofs.Exact.{held_more, run_front}
-use Rattle.dfuse_conformance.proofs.Somewhere.{held_can}
+use Rattle.dfu_conformance.specs.declared.dfuse.judge.TheConstants.{EVERYWHERE}
+use Rattle.dfu_conformance.specs.dfuse.Runs.{DfuseCanAnswer, DfuseRun}
+use Rattle.dfu_conformance.specs.dfuse.Verdicts.{may_stand, AreHeld, DfuseDeparts, IsFirstDeparture}
+use Rattle.dfu_conformance.specs.inside.DfuseStep.{after_event, is_somewhere}
+use Rattle.dfu_conformance.proofs.DfuseExact.{held_more, run_front}
+use Rattle.dfu_conformance.proofs.DfuseSomewhere.{held_can}
 
 -- A device may be at each place at first.
 everywhere : (p : StandardState) → may_stand EVERYWHERE p ≡ true

@@ -1,3 +1,8 @@
+mod DfuseExact
+mod DfuseKept
+mod DfusePasses
+mod DfuseSomewhere
+mod DfuseVerdicts
 mod Everywhere
 mod Exact
 mod Fields
@@ -5,8 +10,8 @@ pub mod ForCallers
 pub mod Goings
 mod Joined
 mod Least
-mod Requests
 pub mod Places
+mod Requests
 pub mod Somewhere
 mod Verdicts
 mod Words

@@ -5,4 +5,6 @@ pub mod Line
 pub mod MayAnswer
 pub mod Setups
 pub mod Verdict
+pub mod captures
+pub mod dfuse
 pub mod inside

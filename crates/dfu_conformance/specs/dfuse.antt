@@ -1,4 +1,3 @@
 pub mod Laws
 pub mod Runs
 pub mod Verdicts
-pub mod inside

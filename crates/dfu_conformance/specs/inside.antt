@@ -1,1 +1,2 @@
+pub mod DfuseStep
 pub mod Stepped

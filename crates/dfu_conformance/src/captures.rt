@@ -1,7 +1,6 @@
 //! A reader of captures of the USB: pcap and pcapng with packets of Linux's usbmon, or of USBPcap on Windows.
 //!
 //! `log_of` makes the log of a device of it. No bytes make it stop but by a fault.
-#![tactic(auto)]
 
 mod address;
 mod event;

@@ -1,6 +1,5 @@
 //! Could a DfuSe device have answered so? What DfuSe adds to the table of USB DFU 1.1, and a judge that follows each device that keeps
 //! both.
-#![tactic(auto)]
 
 mod judge;
 pub mod laws;

@@ -26,6 +26,8 @@ macro_rules! drift {
     };
 }
 
+pub mod captures;
+pub mod dfuse;
 mod drifts;
 mod event;
 mod habits;

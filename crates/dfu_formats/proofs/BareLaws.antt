@@ -3,8 +3,8 @@ use Rattle.std.proofs.Common.{◌≡◌, ℕ, zero, suc, ◌+◌, ◌-◌, ◌<�
 use Rattle.std.specs.List.{suffix_len}
 use Rattle.std.proofs.lemmas.List.{take_all}
 use Rattle.std.proofs.lemmas.List.Sums.{suffix_len-take_yes, suffix_len-take_no}
-use Rattle.dfu_images.specs.Text.{is_blank_byte}
-use Rattle.dfu_images.specs.Lines.{to_last}
+use Rattle.dfu_formats.specs.images.Text.{is_blank_byte}
+use Rattle.dfu_formats.specs.images.Lines.{to_last}
 
 -- The blanks at the end of bytes are those of their front and all that follow it.
 abbrev pub AreBlank : (bytes : List ℕ) (end : ℕ) → Type 0

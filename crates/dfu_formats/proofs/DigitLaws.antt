@@ -2,7 +2,7 @@
 use Rattle.std.proofs.Common.{◌≡◌, ℕ, zero, suc, ◌+◌, ◌*◌, ◌^◌, ◌<◌, ◌≤◌, List, [], ◌∷◌, length, take, drop, get_or, refl, ap, ◌∙◌, arith}
 use Rattle.std.proofs.Math.Nat.{pow-succ', pow-le-pow_right}
 use Rattle.std.proofs.lemmas.Bool.{lt-ltb, le-ltb}
-use Rattle.dfuse_memory.specs.Reading.{digit_value, digits_in, digits_number}
+use Rattle.dfu_formats.specs.memory.Reading.{digit_value, digits_in, digits_number}
 
 -- A digit is counted.
 pub digits_cons : (base b : ℕ) (bs : List ℕ) → digit_value b < base → digits_in base (b ∷ bs) ≡ suc (digits_in base bs)

@@ -4,13 +4,13 @@ use Rattle.std.proofs.lemmas.Bool.{ltb-false, le-ltb}
 use Rattle.std.proofs.lemmas.List.{take-append-drop, take_at, drop_at}
 use Rattle.dfu_suffix.proofs.Bytes.{AreBytes-drop}
 use Rattle.dfu_suffix.specs.Laws.{AreBytes}
-use Rattle.dfu_images.specs.Elements.{Piece}
-use Rattle.dfuse_file.specs.declared.fault.FileFault.{FileFault}
-use Rattle.dfuse_file.specs.declared.fault.FileFault.TheVariants.{ElementPastTheTarget, EmptyElement, AddressPastTheEnd}
-use Rattle.dfuse_file.specs.Reading.{Split, ◌>>=◌, number_at, front_element, before_elements, elements_at}
-use Rattle.dfuse_file.specs.Grammar.{four, spelled_elements, ElementFits, ElementsFit}
-use Rattle.dfuse_file.proofs.Steps.{bound, passed, skip, same_ok, not_zero, zero_not}
-use Rattle.dfuse_file.proofs.Fields.{cut, number_fits, number_is}
+use Rattle.dfu_formats.specs.images.Elements.{Piece}
+use Rattle.dfu_formats.specs.declared.dfuse.fault.FileFault.{FileFault}
+use Rattle.dfu_formats.specs.declared.dfuse.fault.FileFault.TheVariants.{ElementPastTheTarget, EmptyElement, AddressPastTheEnd}
+use Rattle.dfu_formats.specs.dfuse.Reading.{Split, ◌>>=◌, number_at, front_element, before_elements, elements_at}
+use Rattle.dfu_formats.specs.dfuse.Grammar.{four, spelled_elements, ElementFits, ElementsFit}
+use Rattle.dfu_formats.proofs.FileSteps.{bound, passed, skip, same_ok, not_zero, zero_not}
+use Rattle.dfu_formats.proofs.FileFields.{cut, number_fits, number_is}
 
 -- The bytes begin with an element, and others follow it.
 pub record Begins (b : List ℕ) (s : Split) : Type 0 where

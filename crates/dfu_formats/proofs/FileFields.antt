@@ -7,8 +7,8 @@ use Rattle.std.proofs.lemmas.Nat.{from_le_bytes-to_le_bytes_4, le_bytes_4}
 use Rattle.std.proofs.Math.Seq.{drop-cons}
 use Rattle.dfu_suffix.proofs.Bytes.{AreBytes-drop, AreBytes-take}
 use Rattle.dfu_suffix.specs.Laws.{AreBytes}
-use Rattle.dfuse_file.specs.Reading.{number_at}
-use Rattle.dfuse_file.specs.Grammar.{four}
+use Rattle.dfu_formats.specs.dfuse.Reading.{number_at}
+use Rattle.dfu_formats.specs.dfuse.Grammar.{four}
 
 -- Six bytes precede the others, each in its place.
 pub six_cut : (b : List ℕ) → 6 ≤ length b →

@@ -6,15 +6,15 @@ use Rattle.std.proofs.Math.Seq.{drop-cons, take-append_seam}
 use Rattle.dfu_suffix.proofs.FileLaws.{if_ok}
 use Rattle.dfu_suffix.proofs.Bytes.{AreBytes-take, AreBytes-drop}
 use Rattle.dfu_suffix.specs.Laws.{AreBytes}
-use Rattle.dfuse_file.specs.declared.fault.FileFault.{FileFault}
-use Rattle.dfuse_file.specs.declared.fault.FileFault.TheVariants.{NoPrefix, BadVersion, BadImageSize, NoTargets}
-use Rattle.dfuse_file.specs.Reading.{Target, Suffixed, DfuseContent, ◌>>=◌, number_at, is_prefixed, targets_at, body_at, suffix_at, of_targets, file_at}
-use Rattle.dfuse_file.specs.Grammar.{four, opening, spelled_targets, IsBody, IsDfuSe}
-use Rattle.dfuse_file.proofs.Steps.{bound, passed, skip, same_ok, not_zero, zero_not}
-use Rattle.dfuse_file.proofs.Fields.{cut, letters_are, number_fits, number_is, six_cut}
-use Rattle.dfuse_file.proofs.TargetLaws.{targets_found, targets_read}
-use Rattle.dfuse_file.proofs.SuffixLaws.{suffix_found}
-use Rattle.dfuse_file.proofs.SuffixReads.{suffix_read}
+use Rattle.dfu_formats.specs.declared.dfuse.fault.FileFault.{FileFault}
+use Rattle.dfu_formats.specs.declared.dfuse.fault.FileFault.TheVariants.{NoPrefix, BadVersion, BadImageSize, NoTargets}
+use Rattle.dfu_formats.specs.dfuse.Reading.{Target, Suffixed, DfuseContent, ◌>>=◌, number_at, is_prefixed, targets_at, body_at, suffix_at, of_targets, file_at}
+use Rattle.dfu_formats.specs.dfuse.Grammar.{four, opening, spelled_targets, IsBody, IsDfuSe}
+use Rattle.dfu_formats.proofs.FileSteps.{bound, passed, skip, same_ok, not_zero, zero_not}
+use Rattle.dfu_formats.proofs.FileFields.{cut, letters_are, number_fits, number_is, six_cut}
+use Rattle.dfu_formats.proofs.TargetLaws.{targets_found, targets_read}
+use Rattle.dfu_formats.proofs.SuffixLaws.{suffix_found}
+use Rattle.dfu_formats.proofs.SuffixReads.{suffix_read}
 
 -- Letters that are compared one by one are DfuSe, with the version.
 opening_is : (b : List ℕ) → 6 ≤ length b → is_prefixed b ≡ true → get_or b 5 0 ≡ 1 → b ≡ opening ++ drop 6 b

@@ -1,8 +1,8 @@
 -- Steps of reading, one after the other.
 use Rattle.std.proofs.Common.{◌≡◌, ◌≢◌, ℕ, zero, suc, ◌-◌, ◌≤◌, Bool, true, false, cond, eqb, Result, Ok, Err, inl, inr, refl, arith}
 use Rattle.std.proofs.lemmas.Bool.Decides.{eqb_tells}
-use Rattle.dfuse_file.specs.declared.fault.FileFault.{FileFault}
-use Rattle.dfuse_file.specs.Reading.{◌>>=◌}
+use Rattle.dfu_formats.specs.declared.dfuse.fault.FileFault.{FileFault}
+use Rattle.dfu_formats.specs.dfuse.Reading.{◌>>=◌}
 
 -- What comes of a first step that comes of both.
 pub bound : {A B : Type 0} (r : Result A FileFault) (k : A → Result B FileFault) (x : B) → (r >>= k) ≡ Ok x →

@@ -1,12 +1,12 @@
 -- A range that was read was spelled.
 use Rattle.std.proofs.Common.{◌≡◌, ◌≢◌, ℕ, ◌+◌, ◌*◌, ◌^◌, ◌≤◌, ◌&&◌, Bool, true, false, cond, eqb, ltb, leb, List, [], ◌∷◌, ◌++◌, refl, sym, ap, ◌∙◌, subst, arith, Some, Result, Ok, Err, append_assoc}
 use Rattle.std.proofs.lemmas.Bool.{eq-eqb, ltb-false, leb-true, and_parts}
-use Rattle.dfuse_memory.specs.declared.fault.MapFault.{MapFault}
-use Rattle.dfuse_memory.specs.declared.fault.MapFault.TheVariants.{BadCount, BadSize, BadType, PastTheEnd}
-use Rattle.dfuse_memory.specs.Reading.{NumberRead, LetterRead, Grouped, ◌>>=◌, or, counting, behind, map_number_at, count_at, unit_bytes, unit_at, size_at, access_of, access_at, ranged, group_at}
-use Rattle.dfuse_memory.specs.Grammar.{IsNumber, IsUnit, IsGroup}
-use Rattle.dfuse_memory.proofs.NumbersRead.{Spelled, number_found}
-use Rattle.dfuse_memory.proofs.Steps.{then_ok, or_ok, counting_ok, behind_found}
+use Rattle.dfu_formats.specs.declared.memory.fault.MapFault.{MapFault}
+use Rattle.dfu_formats.specs.declared.memory.fault.MapFault.TheVariants.{BadCount, BadSize, BadType, PastTheEnd}
+use Rattle.dfu_formats.specs.memory.Reading.{NumberRead, LetterRead, Grouped, ◌>>=◌, or, counting, behind, map_number_at, count_at, unit_bytes, unit_at, size_at, access_of, access_at, ranged, group_at}
+use Rattle.dfu_formats.specs.memory.Grammar.{IsNumber, IsUnit, IsGroup}
+use Rattle.dfu_formats.proofs.NumbersRead.{Spelled, number_found}
+use Rattle.dfu_formats.proofs.MapSteps.{then_ok, or_ok, counting_ok, behind_found}
 
 -- A count that was read.
 record Counted (c : NumberRead) (text : List ℕ) : Type 0 where

@@ -2,12 +2,12 @@
 use Rattle.std.proofs.Common.{◌≡◌, ◌≢◌, ℕ, zero, suc, ◌+◌, ◌*◌, ◌^◌, ◌≤◌, leb, List, [], ◌∷◌, ◌++◌, refl, sym, ap, ◌∙◌, arith, Some, Ok, append_assoc}
 use Rattle.std.proofs.lemmas.Bool.{eq-eqb, le-ltb, ne_eqb, and_from, le-leb}
 use Rattle.std.proofs.lemmas.Bool.Decides.{nat_tests}
-use Rattle.dfuse_memory.specs.declared.pages.Access.{Access}
-use Rattle.dfuse_memory.specs.declared.pages.Pages.{Pages}
-use Rattle.dfuse_memory.specs.Ranges.{IsRange}
-use Rattle.dfuse_memory.specs.Reading.{NumberRead, Grouped, behind, count_at, unit_bytes, unit_at, size_at, access_of, access_at, ranged, group_at, digit_value}
-use Rattle.dfuse_memory.specs.Grammar.{IsNumber, IsUnit, IsGroup}
-use Rattle.dfuse_memory.proofs.NumbersRead.{NoDigitFirst, no_digit, number_read}
+use Rattle.dfu_formats.specs.declared.memory.pages.Access.{Access}
+use Rattle.dfu_formats.specs.declared.memory.pages.Pages.{Pages}
+use Rattle.dfu_formats.specs.memory.Ranges.{IsRange}
+use Rattle.dfu_formats.specs.memory.Reading.{NumberRead, Grouped, behind, count_at, unit_bytes, unit_at, size_at, access_of, access_at, ranged, group_at, digit_value}
+use Rattle.dfu_formats.specs.memory.Grammar.{IsNumber, IsUnit, IsGroup}
+use Rattle.dfu_formats.proofs.NumbersRead.{NoDigitFirst, no_digit, number_read}
 
 -- ---- what is spelled is read
 

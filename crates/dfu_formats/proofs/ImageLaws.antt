@@ -3,13 +3,13 @@ use Rattle.std.proofs.Common.{◌≡◌, ◌≢◌, ℕ, suc, ◌+◌, ◌<◌, 
 use Rattle.std.proofs.lemmas.Bool.{eq-eqb, le-ltb, and_from, le-leb, lt-ltb, ne_eqb, or_right}
 use Rattle.std.proofs.lemmas.List.{append_assoc, append-nil, map-append, take_more_set}
 use Rattle.std.specs.List.Sorted.{IsNonDecreasingBy}
-use Rattle.dfu_images.specs.Elements.{Piece}
-use Rattle.dfuse_host.specs.Refusing.{ascends_from}
-use Rattle.dfuse_host.specs.declared.element.Element.{Element}
-use Rattle.dfuse_file.specs.Found.{piece_of}
-use Rattle.dfuse_file.specs.Reading.{Target}
-use Rattle.dfuse_file.specs.declared.image.ImageFault.TheVariants.{NoSuchSetting, TooManyElements}
-use Rattle.dfuse_file.specs.Images.{all_for, one_setting, has_setting, elements_for, image_fault}
+use Rattle.dfu_formats.specs.images.Elements.{Piece}
+use Rattle.dfu_formats.specs.dfuse.Images.{ascends_from}
+use Rattle.dfu_formats.specs.declared.dfuse.element.Element.{Element}
+use Rattle.dfu_formats.specs.dfuse.Found.{piece_of}
+use Rattle.dfu_formats.specs.dfuse.Reading.{Target}
+use Rattle.dfu_formats.specs.declared.dfuse.image.ImageFault.TheVariants.{NoSuchSetting, TooManyElements}
+use Rattle.dfu_formats.specs.dfuse.Images.{all_for, one_setting, has_setting, elements_for, image_fault}
 
 -- An element after those that are there.
 pub one_behind : (room : List Element) (count : ℕ) (e : Element) (p : Piece) → count < length room → piece_of e ≡ p →

@@ -1,10 +1,10 @@
 -- Elements are laid one after the other.
 use Rattle.std.proofs.Common.{◌≡◌, ℕ, zero, suc, ◌+◌, ◌<◌, ◌≤◌, List, [], ◌∷◌, ◌++◌, length, drop, get_or, refl, sym, ap, ◌∙◌, subst, arith, Option, Result, Ok, Err, append_assoc, length-append}
 use Rattle.std.proofs.lemmas.List.{append-nil}
-use Rattle.dfu_images.specs.declared.laying.LayFault.{LayFault}
-use Rattle.dfu_images.specs.declared.laying.LayFault.TheVariants as fault
-use Rattle.dfu_images.specs.Elements.{Piece, end_of_piece, AreApart}
-use Rattle.dfu_images.specs.Laying.{filled_part, in_front, followed, laid, lowest, FailsToLay}
+use Rattle.dfu_formats.specs.declared.images.laying.LayFault.{LayFault}
+use Rattle.dfu_formats.specs.declared.images.laying.LayFault.TheVariants as fault
+use Rattle.dfu_formats.specs.images.Elements.{Piece, end_of_piece, AreApart}
+use Rattle.dfu_formats.specs.images.Laying.{filled_part, in_front, followed, laid, lowest, FailsToLay}
 
 -- What is left to lay, after bytes that were laid, makes all.
 pub record LaysOn (whole : Result (List ℕ) LayFault) (fill : Option ℕ) (bytes : List ℕ) (end : ℕ) (left : List Piece) : Type 0 where

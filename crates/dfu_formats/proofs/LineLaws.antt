@@ -3,7 +3,7 @@ use Rattle.std.proofs.Common.{◌≡◌, ℕ, zero, suc, ◌+◌, ◌<◌, ◌�
 use Rattle.std.proofs.lemmas.Bool.{ltb-true, ltb-false}
 use Rattle.std.specs.List.{position, position_or_len}
 use Rattle.std.proofs.lemmas.Option.{cond_some}
-use Rattle.dfu_images.specs.Lines.{lines, before_lines, is_feed}
+use Rattle.dfu_formats.specs.images.Lines.{lines, before_lines, is_feed}
 
 lines_none : lines [] ≡ [] ∷ []
 unfolding lines

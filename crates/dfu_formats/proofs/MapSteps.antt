@@ -1,8 +1,8 @@
 -- What steps of reading say that came to an end.
 use Rattle.std.proofs.Common.{◌≡◌, ℕ, ◌≤◌, Bool, true, false, cond, eqb, List, [], ◌∷◌, refl, Option, Some, None, Result, Ok, Err, zero, suc, arith}
 use Rattle.std.proofs.lemmas.Bool.{eqb-true}
-use Rattle.dfuse_memory.specs.declared.fault.MapFault.{MapFault}
-use Rattle.dfuse_memory.specs.Reading.{NumberRead, ◌>>=◌, or, counting, behind}
+use Rattle.dfu_formats.specs.declared.memory.fault.MapFault.{MapFault}
+use Rattle.dfu_formats.specs.memory.Reading.{NumberRead, ◌>>=◌, or, counting, behind}
 
 -- A number that isn't 0 is 1 at least.
 pub not_zero : (n : ℕ) → eqb n 0 ≡ false → 1 ≤ n

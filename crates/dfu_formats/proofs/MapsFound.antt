@@ -4,15 +4,15 @@ use Rattle.std.specs.Prelude.{replicate}
 use Rattle.std.specs.List.{prefix_len, position}
 use Rattle.std.proofs.lemmas.Bool.{eq-eqb, eqb-true, ltb-true, and_parts}
 use Rattle.std.proofs.lemmas.List.{append-nil}
-use Rattle.dfuse_memory.specs.declared.pages.Pages.{Pages}
-use Rattle.dfuse_memory.specs.declared.fault.MapFault.{MapFault}
-use Rattle.dfuse_memory.specs.declared.fault.MapFault.TheVariants.{NoMap, TooManyRanges, Overlaps}
-use Rattle.dfuse_memory.specs.Ranges.{end_of_range, are_apart}
-use Rattle.dfuse_memory.specs.Reading.{NumberRead, MapContent, Grouped, Named, ◌>>=◌, or, behind, going, group_at, address_at, next_at, ranges_at, trimmed, is_stroke, cut_at, map_name_at, map_if_apart, map_at}
-use Rattle.dfuse_memory.specs.Grammar.{IsMap, AreRanges, last, following, elsewhere, HasNoStroke, EndsInNoSpace}
-use Rattle.dfuse_memory.proofs.Steps.{then_ok, or_ok, behind_found}
-use Rattle.dfuse_memory.proofs.GroupsFound.{GroupSpelled, group_found}
-use Rattle.dfuse_memory.proofs.PlacesFound.{Leads, address_found, next_found}
+use Rattle.dfu_formats.specs.declared.memory.pages.Pages.{Pages}
+use Rattle.dfu_formats.specs.declared.memory.fault.MapFault.{MapFault}
+use Rattle.dfu_formats.specs.declared.memory.fault.MapFault.TheVariants.{NoMap, TooManyRanges, Overlaps}
+use Rattle.dfu_formats.specs.memory.Ranges.{end_of_range, are_apart}
+use Rattle.dfu_formats.specs.memory.Reading.{NumberRead, MapContent, Grouped, Named, ◌>>=◌, or, behind, going, group_at, address_at, next_at, ranges_at, trimmed, is_stroke, cut_at, map_name_at, map_if_apart, map_at}
+use Rattle.dfu_formats.specs.memory.Grammar.{IsMap, AreRanges, last, following, elsewhere, HasNoStroke, EndsInNoSpace}
+use Rattle.dfu_formats.proofs.MapSteps.{then_ok, or_ok, behind_found}
+use Rattle.dfu_formats.proofs.GroupsFound.{GroupSpelled, group_found}
+use Rattle.dfu_formats.proofs.PlacesFound.{Leads, address_found, next_found}
 
 -- ---- ranges
 

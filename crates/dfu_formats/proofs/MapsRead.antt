@@ -4,14 +4,14 @@ use Rattle.std.specs.Prelude.{replicate}
 use Rattle.std.specs.List.{prefix_len, position}
 use Rattle.std.proofs.lemmas.List.{append-nil, take_at, drop_at}
 use Rattle.std.proofs.lemmas.Bool.{lt-ltb, ne_eqb}
-use Rattle.dfuse_memory.specs.declared.pages.Pages.{Pages}
-use Rattle.dfuse_memory.specs.Ranges.{end_of_range}
-use Rattle.dfuse_memory.specs.Reading.{MapContent, Named, group_at, next_at, ranges_at, trimmed, is_stroke, cut_at, map_name_at, map_at}
-use Rattle.dfuse_memory.specs.Grammar.{IsMap, IsGroup, AreRanges, HasNoStroke, EndsInNoSpace}
-use Rattle.dfuse_memory.specs.Grammar.{last, following, elsewhere}
-use Rattle.dfuse_memory.proofs.GroupsRead.{behind_read, group_read}
-use Rattle.dfuse_memory.proofs.PlacesRead.{address_read, comma_read, stroke_read, end_read}
-use Rattle.dfuse_memory.proofs.NameLaws.{trimmed_nil, trimmed_cons, first_of, stays, stays_so, goes_off}
+use Rattle.dfu_formats.specs.declared.memory.pages.Pages.{Pages}
+use Rattle.dfu_formats.specs.memory.Ranges.{end_of_range}
+use Rattle.dfu_formats.specs.memory.Reading.{MapContent, Named, group_at, next_at, ranges_at, trimmed, is_stroke, cut_at, map_name_at, map_at}
+use Rattle.dfu_formats.specs.memory.Grammar.{IsMap, IsGroup, AreRanges, HasNoStroke, EndsInNoSpace}
+use Rattle.dfu_formats.specs.memory.Grammar.{last, following, elsewhere}
+use Rattle.dfu_formats.proofs.GroupsRead.{behind_read, group_read}
+use Rattle.dfu_formats.proofs.PlacesRead.{address_read, comma_read, stroke_read, end_read}
+use Rattle.dfu_formats.proofs.NameLaws.{trimmed_nil, trimmed_cons, first_of, stays, stays_so, goes_off}
 
 -- ---- ranges
 

@@ -2,7 +2,7 @@
 use Rattle.std.proofs.Common.{◌≡◌, ℕ, zero, suc, ◌<◌, ◌≤◌, ◌&&◌, cond, eqb, List, [], ◌∷◌, length, take, get_or, refl, sym, ap, ◌∙◌, arith, length-take}
 use Rattle.std.proofs.lemmas.Bool.{eq-eqb, ne_eqb, and_right, and_left}
 use Rattle.std.proofs.lemmas.List.{take_all}
-use Rattle.dfuse_memory.specs.Reading.{trimmed}
+use Rattle.dfu_formats.specs.memory.Reading.{trimmed}
 
 -- A first byte stays before bytes that stay, and before no bytes if it is not a space.
 abbrev pub first_of : ℕ → List ℕ → List ℕ

@@ -2,10 +2,10 @@
 use Rattle.std.proofs.Common.{◌≡◌, ℕ, zero, suc, ◌≤◌, ◌||◌, Bool, true, false, cond, eqb, ltb, List, [], ◌∷◌, ◌++◌, length, take, drop, refl, sym, ap, ◌∙◌, arith, Option, Some, None, length-take}
 use Rattle.std.proofs.lemmas.Bool.{ltb-true, ltb-false, or_parts, le-ltb, ne_eqb, or_from}
 use Rattle.std.proofs.lemmas.List.{take-append-drop, take_at, drop_at}
-use Rattle.dfuse_memory.proofs.Steps.{not_zero}
-use Rattle.dfuse_memory.specs.Reading.{NumberRead, digit_value, digits_in, digits_number, map_number_at}
-use Rattle.dfuse_memory.specs.Grammar.{AreDigits, IsNumber}
-use Rattle.dfuse_memory.proofs.DigitLaws.{digits_cons, digits_no, digits_none}
+use Rattle.dfu_formats.proofs.MapSteps.{not_zero}
+use Rattle.dfu_formats.specs.memory.Reading.{NumberRead, digit_value, digits_in, digits_number, map_number_at}
+use Rattle.dfu_formats.specs.memory.Grammar.{AreDigits, IsNumber}
+use Rattle.dfu_formats.proofs.DigitLaws.{digits_cons, digits_no, digits_none}
 
 -- The first byte is not a digit of a base.
 unfoldable pub NoDigitFirst : (base : ℕ) → List ℕ → Type 0

@@ -4,11 +4,11 @@ use Rattle.std.specs.List.{All}
 use Rattle.std.specs.Option.{option_map}
 use Rattle.std.proofs.Math.Nat.{le-div_iff_mul-le, div-lt_iff_lt-mul}
 use Rattle.std.proofs.lemmas.Bool.Decides.{nat_tests}
-use Rattle.dfuse_memory.specs.declared.pages.Pages.{Pages}
-use Rattle.dfuse_memory.specs.declared.pages.Page.{Page}
-use Rattle.dfuse_memory.specs.Ranges.{IsRange, end_of_range}
-use Rattle.dfuse_memory.specs.Lookups.{has, range_at, page_in, end_of_page, OnePage}
-use Rattle.dfuse_memory.proofs.OneRange.{same_range, found, no_range, to_has}
+use Rattle.dfu_formats.specs.declared.memory.pages.Pages.{Pages}
+use Rattle.dfu_formats.specs.declared.memory.pages.Page.{Page}
+use Rattle.dfu_formats.specs.memory.Ranges.{IsRange, end_of_range}
+use Rattle.dfu_formats.specs.memory.Lookups.{has, range_at, page_in, end_of_page, OnePage}
+use Rattle.dfu_formats.proofs.OneRange.{same_range, found, no_range, to_has}
 
 -- A range that is found is one of them, and has the address.
 sound_found : (a : ℕ) (p : Pages) (ranges : List Pages) → All IsRange ranges → range_at a ranges ≡ Some p → IsRange p × (has a p ≡ true)

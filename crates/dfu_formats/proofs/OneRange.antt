@@ -2,10 +2,10 @@
 use Rattle.std.proofs.Common.{◌≡◌, ℕ, ◌<◌, ◌≤◌, Bool, true, false, cond, List, [], ◌∷◌, Option, Some, ◌⊎◌, inl, inr, refl, sym, ap, ◌∙◌, subst, arith}
 use Rattle.std.proofs.lemmas.Bool.{cases_lt, and_parts}
 use Rattle.std.proofs.lemmas.Bool.Decides.{nat_tests}
-use Rattle.dfuse_memory.specs.declared.pages.Access.{Access}
-use Rattle.dfuse_memory.specs.declared.pages.Pages.{Pages}
-use Rattle.dfuse_memory.specs.Ranges.{end_of_range, is_apart, is_apart_from, are_apart}
-use Rattle.dfuse_memory.specs.Lookups.{has, range_at, grants, IsGranted, AllGranted}
+use Rattle.dfu_formats.specs.declared.memory.pages.Access.{Access}
+use Rattle.dfu_formats.specs.declared.memory.pages.Pages.{Pages}
+use Rattle.dfu_formats.specs.memory.Ranges.{end_of_range, is_apart, is_apart_from, are_apart}
+use Rattle.dfu_formats.specs.memory.Lookups.{has, range_at, grants, IsGranted, AllGranted}
 
 -- What a look-up finds here, or further on.
 found_by : (t : Bool) (q p : Pages) (o : Option Pages) → cond t (Some q) o ≡ Some p → ((t ≡ true) × (q ≡ p)) ⊎ ((t ≡ false) × (o ≡ Some p))

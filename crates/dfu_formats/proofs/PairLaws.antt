@@ -2,7 +2,7 @@
 use Rattle.std.proofs.Common.{◌≡◌, ℕ, suc, ◌+◌, ◌*◌, ◌<◌, ◌≤◌, ltb, List, [], ◌∷◌, ◌++◌, length, drop, get_or, refl, sym, ap, ◌∙◌, arith, Option, Some, None, append_assoc, drop-cons}
 use Rattle.std.proofs.lemmas.List.{append-nil, drop_all}
 use Rattle.std.proofs.lemmas.Bool.{lt-ltb, le-ltb, and_from, and_left, and_right}
-use Rattle.dfu_images.specs.Digits.{hex_value, before, pairs}
+use Rattle.dfu_formats.specs.images.Digits.{hex_value, before, pairs}
 
 -- Bytes before those that digits spell.
 abbrev pub joined : List ℕ → Option (List ℕ) → Option (List ℕ)

@@ -1,7 +1,7 @@
 -- Where an element goes among others, and that no two share an address.
 use Rattle.std.proofs.Common.{◌≡◌, ℕ, zero, suc, ◌+◌, ◌<◌, ◌≤◌, Bool, true, false, cond, ltb, List, [], ◌∷◌, length, drop, get_or, refl, sym, ap, ◌∙◌, arith, Some, None}
 use Rattle.std.proofs.lemmas.Bool.{ltb-false, lt-ltb, le-ltb}
-use Rattle.dfu_images.specs.Elements.{Piece, end_of_piece, element_place, shared, AreApart}
+use Rattle.dfu_formats.specs.images.Elements.{Piece, end_of_piece, element_place, shared, AreApart}
 
 place_cons : (a : ℕ) (p : Piece) (ps : List Piece) → p.address ≤ a → element_place a (p ∷ ps) ≡ suc (element_place a ps)
 unfolding element_place

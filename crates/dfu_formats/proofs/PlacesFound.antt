@@ -1,12 +1,12 @@
 -- An address that was read was spelled.
 use Rattle.std.proofs.Common.{◌≡◌, ℕ, ◌&&◌, ◌||◌, ◌⊎◌, inl, inr, Bool, true, false, cond, eqb, List, [], ◌∷◌, ◌++◌, refl, sym, ap, ◌∙◌, subst, Option, Some, None, Result, Ok, Err, append_assoc}
 use Rattle.std.proofs.lemmas.Bool.{eqb-true, and_parts, or_cases}
-use Rattle.dfuse_memory.specs.declared.fault.MapFault.{MapFault}
-use Rattle.dfuse_memory.specs.declared.fault.MapFault.TheVariants.{BadAddress, Trailing}
-use Rattle.dfuse_memory.specs.Reading.{NumberRead, ◌>>=◌, or, behind, map_number_at, behind_prefix, address_at, place_found, next_at}
-use Rattle.dfuse_memory.specs.Grammar.{IsNumber, IsPrefix, IsAddress}
-use Rattle.dfuse_memory.proofs.NumbersRead.{number_found}
-use Rattle.dfuse_memory.proofs.Steps.{then_ok, or_ok, behind_found}
+use Rattle.dfu_formats.specs.declared.memory.fault.MapFault.{MapFault}
+use Rattle.dfu_formats.specs.declared.memory.fault.MapFault.TheVariants.{BadAddress, Trailing}
+use Rattle.dfu_formats.specs.memory.Reading.{NumberRead, ◌>>=◌, or, behind, map_number_at, behind_prefix, address_at, place_found, next_at}
+use Rattle.dfu_formats.specs.memory.Grammar.{IsNumber, IsPrefix, IsAddress}
+use Rattle.dfu_formats.proofs.NumbersRead.{number_found}
+use Rattle.dfu_formats.proofs.MapSteps.{then_ok, or_ok, behind_found}
 
 -- What precedes the digits is a prefix.
 record Prefixed (rest text : List ℕ) : Type 0 where

@@ -1,10 +1,10 @@
 -- An address that is spelled is read, and what is read is spelled.
 use Rattle.std.proofs.Common.{◌≡◌, ℕ, ◌<◌, ◌≤◌, ◌&&◌, ◌⊎◌, inl, inr, true, false, cond, eqb, List, [], ◌∷◌, ◌++◌, length, refl, ap, ◌∙◌, arith, Some, None, Ok, append_assoc}
 use Rattle.std.proofs.lemmas.Bool.{ne_eqb}
-use Rattle.dfuse_memory.specs.Reading.{behind_prefix, address_at, next_at, digit_value}
-use Rattle.dfuse_memory.specs.Grammar.{AreDigits, IsPrefix, IsAddress}
-use Rattle.dfuse_memory.proofs.NumbersRead.{no_digit, number_read}
-use Rattle.dfuse_memory.proofs.GroupsRead.{behind_read}
+use Rattle.dfu_formats.specs.memory.Reading.{behind_prefix, address_at, next_at, digit_value}
+use Rattle.dfu_formats.specs.memory.Grammar.{AreDigits, IsPrefix, IsAddress}
+use Rattle.dfu_formats.proofs.NumbersRead.{no_digit, number_read}
+use Rattle.dfu_formats.proofs.GroupsRead.{behind_read}
 
 -- ---- what is spelled is read
 

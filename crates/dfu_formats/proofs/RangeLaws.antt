@@ -1,13 +1,13 @@
 -- How ranges are read, one after the other.
 use Rattle.std.proofs.Common.{◌≡◌, ℕ, zero, suc, ◌+◌, ◌<◌, ◌≤◌, List, [], ◌∷◌, ◌++◌, length, refl, sym, ap, ◌∙◌, subst, arith, Option, Some, None, Result, Ok, Err, append_assoc, length-append}
-use Rattle.dfuse_memory.specs.declared.pages.Pages.{Pages}
-use Rattle.dfuse_memory.specs.declared.fault.MapFault.{MapFault}
-use Rattle.dfuse_memory.specs.declared.fault.MapFault.TheVariants.{TooManyRanges}
+use Rattle.dfu_formats.specs.declared.memory.pages.Pages.{Pages}
+use Rattle.dfu_formats.specs.declared.memory.fault.MapFault.{MapFault}
+use Rattle.dfu_formats.specs.declared.memory.fault.MapFault.TheVariants.{TooManyRanges}
 use Rattle.std.specs.List.{All}
 use Rattle.std.proofs.lemmas.List.Elements.{All-append}
-use Rattle.dfuse_memory.specs.Ranges.{IsRange, end_of_range}
-use Rattle.dfuse_memory.specs.Reading.{NumberRead, Grouped, ◌>>=◌, going, group_at, next_at, ranges_at}
-use Rattle.dfuse_memory.specs.inside.Listing.{ranges_joined}
+use Rattle.dfu_formats.specs.memory.Ranges.{IsRange, end_of_range}
+use Rattle.dfu_formats.specs.memory.Reading.{NumberRead, Grouped, ◌>>=◌, going, group_at, next_at, ranges_at}
+use Rattle.dfu_formats.specs.inside.Listing.{ranges_joined}
 
 -- What is left to read, after the ranges that were read, makes all that is to be read.
 pub record Goes (whole : Result (List Pages) MapFault) (before : List Pages) (start : ℕ) (text : List ℕ) : Type 0 where

@@ -2,8 +2,8 @@
 use Rattle.std.proofs.Common.{◌≡◌, ◌-◌, ℕ, List, length, take, get_or, Option, Some, None, Ok, ap, ◌∙◌}
 use Rattle.dfu_suffix.specs.Grammar.{tail_of}
 use Rattle.dfu_suffix.specs.declared.fault.SuffixFault.{SuffixFault}
-use Rattle.dfuse_file.specs.declared.raw.RawFault.{RawFault}
-use Rattle.dfuse_file.specs.Raw.{raw_refusal, whole_or, payload_by}
+use Rattle.dfu_formats.specs.declared.dfuse.raw.RawFault.{RawFault}
+use Rattle.dfu_formats.specs.dfuse.Raw.{raw_refusal, whole_or, payload_by}
 
 -- By a fault.
 pub by_fault : (o : Option SuffixFault) (f : SuffixFault) (r : Option RawFault) (b : List ℕ) → o ≡ Some f → raw_refusal f ≡ r →

@@ -1,9 +1,9 @@
 -- Lines, or parts of one size, are read one after the other.
 use Rattle.std.proofs.Common.{◌≡◌, ℕ, suc, take, drop, ◌+◌, true, false, List, [], ◌∷◌, refl, sym, ap, ◌∙◌, subst, Result, Ok, Err}
-use Rattle.dfu_images.specs.declared.fault.ImageFault.{ImageFault}
-use Rattle.dfu_images.specs.declared.fault.ImageFault.TheVariants as fault
-use Rattle.dfu_images.specs.Reading.{◌>>=◌, parts_read, FailsToRead}
-use Rattle.dfu_images.specs.Lines.{State, bare, lines_read}
+use Rattle.dfu_formats.specs.declared.images.fault.ImageFault.{ImageFault}
+use Rattle.dfu_formats.specs.declared.images.fault.ImageFault.TheVariants as fault
+use Rattle.dfu_formats.specs.images.Reading.{◌>>=◌, parts_read, FailsToRead}
+use Rattle.dfu_formats.specs.images.Lines.{State, bare, lines_read}
 
 -- A step that failed fails all.
 pub fails_then : {A B : Type 0} (fault : ImageFault) (r : Result A ImageFault) (f : A → Result B ImageFault) → FailsToRead fault r →

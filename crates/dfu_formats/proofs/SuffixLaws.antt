@@ -9,10 +9,10 @@ use Rattle.dfu_suffix.specs.declared.fault.SuffixFault.{SuffixFault}
 use Rattle.dfu_suffix.specs.declared.fault.SuffixFault.TheVariants as suffix
 use Rattle.dfu_suffix.proofs.OneReading.{IsSpelled}
 use Rattle.dfu_suffix.proofs.NoFault.{Formed, IsIntact, extra_fits, extra_of, field_fits, formed, intact, spelled}
-use Rattle.dfuse_file.specs.declared.fault.FileFault.TheVariants.{BadCrc, NotDfuSe}
-use Rattle.dfuse_file.specs.Reading.{Suffixed, suffixed_by, is_dfuse, refusal, signed_by, suffix_by, suffix_at}
-use Rattle.dfuse_file.specs.Grammar.{EndsInSuffix}
-use Rattle.dfuse_file.proofs.Steps.{same_ok, passed as passed_over}
+use Rattle.dfu_formats.specs.declared.dfuse.fault.FileFault.TheVariants.{BadCrc, NotDfuSe}
+use Rattle.dfu_formats.specs.dfuse.Reading.{Suffixed, suffixed_by, is_dfuse, refusal, signed_by, suffix_by, suffix_at}
+use Rattle.dfu_formats.specs.dfuse.Grammar.{EndsInSuffix}
+use Rattle.dfu_formats.proofs.FileSteps.{same_ok, passed as passed_over}
 
 -- ---- what was found
 

@@ -7,9 +7,9 @@ use Rattle.dfu_suffix.specs.Grammar.{Content, tail_of, has_fault, fault_order}
 use Rattle.dfu_suffix.specs.declared.fault.SuffixFault.{SuffixFault}
 use Rattle.dfu_suffix.specs.declared.fault.SuffixFault.TheVariants as suffix
 use Rattle.dfu_suffix.proofs.OneReading.{reads}
-use Rattle.dfuse_file.specs.declared.fault.FileFault.TheVariants.{BadCrc}
-use Rattle.dfuse_file.specs.Reading.{Suffixed, suffixed_by, suffix_by, suffix_at}
-use Rattle.dfuse_file.specs.Grammar.{EndsInSuffix}
+use Rattle.dfu_formats.specs.declared.dfuse.fault.FileFault.TheVariants.{BadCrc}
+use Rattle.dfu_formats.specs.dfuse.Reading.{Suffixed, suffixed_by, suffix_by, suffix_at}
+use Rattle.dfu_formats.specs.dfuse.Grammar.{EndsInSuffix}
 
 by_dfuse : (o : Option SuffixFault) (b : List ℕ) (x : Suffixed) → o ≡ Some suffix.DfuSe → has_fault b suffix.BadCrc ≡ false → suffixed_by b ≡ x →
     suffix_by o b ≡ Ok x

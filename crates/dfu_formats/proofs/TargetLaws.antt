@@ -5,14 +5,14 @@ use Rattle.std.proofs.lemmas.List.{take-append-drop, take_at, drop_at, drop-drop
 use Rattle.std.proofs.Math.Seq.{drop-cons}
 use Rattle.dfu_suffix.proofs.Bytes.{AreBytes-take, AreBytes-drop}
 use Rattle.dfu_suffix.specs.Laws.{AreBytes}
-use Rattle.dfu_images.specs.Elements.{Piece}
-use Rattle.dfuse_file.specs.declared.fault.FileFault.{FileFault}
-use Rattle.dfuse_file.specs.declared.fault.FileFault.TheVariants.{NoTarget, BadTargetSize}
-use Rattle.dfuse_file.specs.Reading.{Target, Heading, ◌>>=◌, number_at, elements_at, is_target, heading_at, target_of, before_targets, targets_at}
-use Rattle.dfuse_file.specs.Grammar.{four, spelled_elements, ElementsFit, target_letters, spelled_targets, TargetsFit}
-use Rattle.dfuse_file.proofs.Steps.{bound, passed, skip, same_ok}
-use Rattle.dfuse_file.proofs.Fields.{cut, letters_are, number_fits, number_is, six_cut}
-use Rattle.dfuse_file.proofs.ElementLaws.{AreAll, none_of, elements_found, elements_read}
+use Rattle.dfu_formats.specs.images.Elements.{Piece}
+use Rattle.dfu_formats.specs.declared.dfuse.fault.FileFault.{FileFault}
+use Rattle.dfu_formats.specs.declared.dfuse.fault.FileFault.TheVariants.{NoTarget, BadTargetSize}
+use Rattle.dfu_formats.specs.dfuse.Reading.{Target, Heading, ◌>>=◌, number_at, elements_at, is_target, heading_at, target_of, before_targets, targets_at}
+use Rattle.dfu_formats.specs.dfuse.Grammar.{four, spelled_elements, ElementsFit, target_letters, spelled_targets, TargetsFit}
+use Rattle.dfu_formats.proofs.FileSteps.{bound, passed, skip, same_ok}
+use Rattle.dfu_formats.proofs.FileFields.{cut, letters_are, number_fits, number_is, six_cut}
+use Rattle.dfu_formats.proofs.ElementLaws.{AreAll, none_of, elements_found, elements_read}
 
 -- A target is spelled so, with what follows it.
 abbrev spelled_heading : Heading → List ℕ

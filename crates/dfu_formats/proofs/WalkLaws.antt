@@ -1,12 +1,12 @@
 -- Elements and targets, taken off one by one.
 use Rattle.std.proofs.Common.{◌≡◌, ◌==◌, if◌then◌else◌, eqb, ◌<◌, ◌≤◌, ◌+◌, ℕ, zero, suc, List, [], ◌∷◌, length, Result, Ok, Err, refl, sym, ap, ◌∙◌, subst, arith, ◌-◌, ◌≢◌}
 use Rattle.std.proofs.lemmas.Bool.{cond-false}
-use Rattle.dfu_images.specs.Elements.{Piece}
-use Rattle.dfuse_file.specs.declared.fault.FileFault.{FileFault}
-use Rattle.dfuse_file.specs.declared.fault.FileFault.TheVariants.{BadTargetSize, Trailing}
-use Rattle.dfuse_file.specs.Reading.{Split, Target, Heading, ◌>>=◌, front_element, before_elements, elements_at, heading_at, target_of, before_targets, targets_at}
-use Rattle.dfuse_file.specs.Found.{found, fault_only}
-use Rattle.dfuse_file.proofs.Steps.{bound, never_bound, same_ok, not_zero, positive}
+use Rattle.dfu_formats.specs.images.Elements.{Piece}
+use Rattle.dfu_formats.specs.declared.dfuse.fault.FileFault.{FileFault}
+use Rattle.dfu_formats.specs.declared.dfuse.fault.FileFault.TheVariants.{BadTargetSize, Trailing}
+use Rattle.dfu_formats.specs.dfuse.Reading.{Split, Target, Heading, ◌>>=◌, front_element, before_elements, elements_at, heading_at, target_of, before_targets, targets_at}
+use Rattle.dfu_formats.specs.dfuse.Found.{found, fault_only}
+use Rattle.dfu_formats.proofs.FileSteps.{bound, never_bound, same_ok, not_zero, positive}
 
 -- ---- a walk that counts, and asks the same of what is left as of all
 

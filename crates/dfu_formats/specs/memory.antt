@@ -2,4 +2,3 @@ pub mod Grammar
 pub mod Lookups
 pub mod Ranges
 pub mod Reading
-pub mod inside

@@ -1,10 +1,9 @@
 //! DfuSe files (ST's UM0391): what goes where in a device's memory, as elements of an address and bytes.
 //!
 //! `read` takes a whole file apart. `File::image` lists the elements of one alternate setting by their addresses, as `dfuse_host` wants
-//! them; `read_raw` makes one of a file without addresses, and `list` takes those that `dfu_images` reads. The crate takes no memory and
-//! opens no file.
-#![tactic(auto)]
+//! them; `read_raw` makes one of a file without addresses, and `list` takes those that `dfu_formats::images` reads. It takes no memory.
 
+mod element;
 mod elements;
 mod fault;
 mod file;
@@ -17,6 +16,7 @@ mod raw;
 mod suffix;
 mod targets;
 
+pub use element::Element;
 pub use elements::Elements;
 pub use fault::FileFault;
 pub use file::{File, read};

@@ -2,7 +2,6 @@
 //!
 //! Bytes that begin where those of the record before end belong to its element; others begin one. So two elements may touch if the file
 //! has them apart. A file has up to 16,777,216 bytes of data and 1,024 elements. Overlaps are looked for once all is read.
-#![tactic(auto)]
 
 mod digits;
 mod element;

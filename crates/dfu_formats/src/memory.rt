@@ -1,5 +1,4 @@
 //! The memory map of a DfuSe device: ranges of pages, read from the string of an alternate setting.
-#![tactic(auto)]
 
 mod apart;
 mod digits;

@@ -5,7 +5,7 @@ use crate::given::{Given, Held, RecordingReader, open};
 use crate::reasons::{error_reason, file_reason, given_reason};
 use crate::replacing::{Replacement, finish};
 use crate::temp_file::Owned;
-use dfu_images::{Format, ImageFileFault, Looks, bad_place, image_of, look_at};
+use dfu_formats::images::{Format, ImageFileFault, Looks, bad_place, image_of, look_at};
 use dfu_output::{
     Exit, FormatChoice, Outcome, add_with_fault, fault_text, image_line, looks_like,
     not_image_line, refused_line, why, why_not, write_out,

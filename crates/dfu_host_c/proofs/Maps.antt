@@ -5,9 +5,9 @@ use Rattle.std.specs.Borrow.{Bor}
 use Rattle.std.specs.List.{HoldsAt, slice_get}
 use Rattle.std.specs.Slice.{IsItemAt}
 use Rattle.std.proofs.lemmas.Option.{slice_get-get_or, slice_get_past}
-use Rattle.dfuse_memory.specs.Reading.{MapContent}
-use Rattle.dfuse_memory.specs.declared.fault.MapFault.{MapFault}
-use Rattle.dfuse_memory.specs.declared.pages.Pages.{Pages}
+use Rattle.dfu_formats.specs.memory.Reading.{MapContent}
+use Rattle.dfu_formats.specs.declared.memory.fault.MapFault.{MapFault}
+use Rattle.dfu_formats.specs.declared.memory.pages.Pages.{Pages}
 
 -- A string that has a fault is not a map.
 pub no_map : (result : Result MapContent MapFault) (fault : MapFault) (m : MapContent) → result ≡ Err fault → result ≡ Ok m → ⊥

@@ -1,14 +1,14 @@
 -- What a file without a DFU suffix is, as a record for C.
 use Rattle.std.specs.Prelude.{ℕ, Option, Some, None}
-use Rattle.dfu_images.specs.declared.format.Format.{Format}
-use Rattle.dfu_images.specs.declared.format.Format.TheVariants.{IntelHex, SRecord, Uf2, Elf}
-use Rattle.dfu_images.specs.declared.endings.Ending.{Ending}
-use Rattle.dfu_images.specs.declared.endings.Ending.TheVariants as ending
-use Rattle.dfu_images.specs.declared.places.Place.{Place}
-use Rattle.dfu_images.specs.declared.looks.NotImage.TheVariants.{DfuSe, Zip, Gzip, Text, Named}
-use Rattle.dfu_images.specs.declared.looks.Looks.{Looks}
-use Rattle.dfu_images.specs.declared.looks.Looks.TheVariants as looks
-use Rattle.dfu_images.specs.declared.looks.Look.{Look}
+use Rattle.dfu_formats.specs.declared.images.format.Format.{Format}
+use Rattle.dfu_formats.specs.declared.images.format.Format.TheVariants.{IntelHex, SRecord, Uf2, Elf}
+use Rattle.dfu_formats.specs.declared.images.endings.Ending.{Ending}
+use Rattle.dfu_formats.specs.declared.images.endings.Ending.TheVariants as ending
+use Rattle.dfu_formats.specs.declared.images.places.Place.{Place}
+use Rattle.dfu_formats.specs.declared.images.looks.NotImage.TheVariants.{DfuSe, Zip, Gzip, Text, Named}
+use Rattle.dfu_formats.specs.declared.images.looks.Looks.{Looks}
+use Rattle.dfu_formats.specs.declared.images.looks.Looks.TheVariants as looks
+use Rattle.dfu_formats.specs.declared.images.looks.Look.{Look}
 use Rattle.dfu_host_c.specs.declared.looks.DfuLook.{DfuLook}
 
 -- The number of a format, 1 to 4.

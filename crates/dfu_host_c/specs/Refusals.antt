@@ -3,10 +3,10 @@ use Rattle.std.specs.Prelude.{◌≡◌, ℤ, negsuc}
 use Rattle.dfu_wire.specs.declared.fault.WireFault.TheVariants as wire
 use Rattle.dfu_suffix.specs.declared.fault.SuffixFault.TheVariants as suffix
 use Rattle.dfu_host.specs.declared.fault.HostFault.TheVariants as host
-use Rattle.dfuse_memory.specs.declared.fault.MapFault.TheVariants as map
+use Rattle.dfu_formats.specs.declared.memory.fault.MapFault.TheVariants as map
 use Rattle.dfuse_host.specs.declared.fault.PlanFault.TheVariants as plan
-use Rattle.dfuse_file.specs.declared.fault.FileFault.TheVariants as dfuse
-use Rattle.dfuse_file.specs.declared.image.ImageFault.TheVariants as image
+use Rattle.dfu_formats.specs.declared.dfuse.fault.FileFault.TheVariants as dfuse
+use Rattle.dfu_formats.specs.declared.dfuse.image.ImageFault.TheVariants as image
 use Rattle.dfu_host_c.specs.declared.refusals.Refusal.{Refusal}
 use Rattle.dfu_host_c.specs.declared.refusals.Refusal.TheVariants as refusal
 

@@ -1,10 +1,10 @@
 //! What a file without a DFU suffix is, as a record for C: `include/dfu_image.h` describes this call.
 
 ghost use Rattle.std.specs.Prelude.{◌≡◌};
-ghost use Rattle.dfu_images.specs.Looks.{look_of};
+ghost use Rattle.dfu_formats.specs.images.Looks.{look_of};
 ghost use Rattle.dfu_host_c.specs.Looks.{ending_number, image_format_number, looks_number, record_of_look};
 
-use dfu_images::{Ending, Format, Look, Looks, NotImage, look_at};
+use dfu_formats::images::{Ending, Format, Look, Looks, NotImage, look_at};
 
 /// `struct dfu_look`: what a look at a file finds. The header says what each number means.
 #[repr(C)]

@@ -3,12 +3,12 @@
 ghost use Rattle.std.specs.Prelude.{◌≡◌};
 ghost use Rattle.dfu_host_c.specs.Refusals.{refused_number};
 
+use dfu_formats::dfuse::{FileFault, ImageFault};
+use dfu_formats::memory::MapFault;
 use dfu_host::HostFault;
 use dfu_suffix::SuffixFault;
 use dfu_wire::WireFault;
-use dfuse_file::{FileFault, ImageFault};
 use dfuse_host::PlanFault;
-use dfuse_memory::MapFault;
 
 /// The record is not that of a session over this payload and buffer, or over this map and image.
 pub(crate) const NO_SESSION: i32 = -41;

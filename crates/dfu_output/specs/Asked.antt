@@ -1,6 +1,6 @@
 -- What `--format` and `--fill` ask for.
 use Rattle.std.specs.Prelude.{◌≢◌, ℕ, ◌*◌, ◌+◌, ◌&&◌, nat_lt, if◌then◌else◌, List, [], ◌∷◌, Option, Some, None, codes}
-use Rattle.dfu_images.specs.Digits.{hex_value}
+use Rattle.dfu_formats.specs.images.Digits.{hex_value}
 
 -- A byte in two hexadecimal digits of either case.
 abbrev pub fill_in : List ℕ → Option ℕ

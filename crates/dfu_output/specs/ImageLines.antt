@@ -1,18 +1,18 @@
 -- The lines for files that builds produce, each ended by 0Ah.
 use Rattle.std.specs.Prelude.{ℕ, List, [], ◌∷◌, ◌++◌, codes}
 use Rattle.std.specs.Fmt.{decimal}
-use Rattle.dfu_images.specs.declared.fault.ImageFault.{ImageFault}
-use Rattle.dfu_images.specs.declared.fault.ImageFault.TheVariants as fault
-use Rattle.dfu_images.specs.declared.laying.LayFault.{LayFault}
-use Rattle.dfu_images.specs.declared.laying.LayFault.TheVariants as lay
-use Rattle.dfu_images.specs.declared.making.ImageFileFault.{ImageFileFault}
-use Rattle.dfu_images.specs.declared.making.ImageFileFault.TheVariants.{Unread, NoData, Unlaid}
-use Rattle.dfu_images.specs.declared.format.Format.{Format}
-use Rattle.dfu_images.specs.declared.format.Format.TheVariants.{IntelHex, SRecord, Uf2, Elf}
-use Rattle.dfu_images.specs.declared.endings.Ending.{Ending}
-use Rattle.dfu_images.specs.declared.endings.Ending.TheVariants as ending
-use Rattle.dfu_images.specs.declared.looks.NotImage.{NotImage}
-use Rattle.dfu_images.specs.declared.looks.NotImage.TheVariants.{DfuSe, Zip, Gzip, Text, Named}
+use Rattle.dfu_formats.specs.declared.images.fault.ImageFault.{ImageFault}
+use Rattle.dfu_formats.specs.declared.images.fault.ImageFault.TheVariants as fault
+use Rattle.dfu_formats.specs.declared.images.laying.LayFault.{LayFault}
+use Rattle.dfu_formats.specs.declared.images.laying.LayFault.TheVariants as lay
+use Rattle.dfu_formats.specs.declared.images.making.ImageFileFault.{ImageFileFault}
+use Rattle.dfu_formats.specs.declared.images.making.ImageFileFault.TheVariants.{Unread, NoData, Unlaid}
+use Rattle.dfu_formats.specs.declared.images.format.Format.{Format}
+use Rattle.dfu_formats.specs.declared.images.format.Format.TheVariants.{IntelHex, SRecord, Uf2, Elf}
+use Rattle.dfu_formats.specs.declared.images.endings.Ending.{Ending}
+use Rattle.dfu_formats.specs.declared.images.endings.Ending.TheVariants as ending
+use Rattle.dfu_formats.specs.declared.images.looks.NotImage.{NotImage}
+use Rattle.dfu_formats.specs.declared.images.looks.NotImage.TheVariants.{DfuSe, Zip, Gzip, Text, Named}
 use Rattle.dfu_output.specs.AnswerLines.{hex}
 
 -- The name of a format, as `--format` has it.

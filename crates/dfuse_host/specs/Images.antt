@@ -1,6 +1,6 @@
 -- Which bytes an image has, by their addresses.
 use Rattle.std.specs.Prelude.{ℕ, ◌+◌, ◌&&◌, nat_lt, nat_le, max, Bool, List, [], ◌∷◌, length, Option, Some, None, if◌then◌else◌}
-use Rattle.dfuse_host.specs.declared.element.Element.{Element}
+use Rattle.dfu_formats.specs.declared.dfuse.element.Element.{Element}
 
 -- The address after the last byte of an element.
 abbrev pub end_of : Element → ℕ

@@ -1,7 +1,7 @@
 -- What a plan says of addresses.
 use Rattle.std.specs.Prelude.{ℕ, ◌+◌, ◌^◌, nat_lt, min, max, Option, Some, None, if◌then◌else◌}
-use Rattle.dfuse_memory.specs.declared.pages.Page.{Page}
-use Rattle.dfuse_memory.specs.Lookups.{page_at}
+use Rattle.dfu_formats.specs.declared.memory.pages.Page.{Page}
+use Rattle.dfu_formats.specs.memory.Lookups.{page_at}
 use Rattle.dfuse_host.specs.declared.plan.Plan.{Plan}
 use Rattle.dfuse_host.specs.Images.{end_of, element_at, image_start}
 

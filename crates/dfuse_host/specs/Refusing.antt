@@ -1,9 +1,10 @@
 -- When a plan is refused.
 use Rattle.std.specs.Prelude.{◌≡◌, ℕ, ◌==◌, ◌&&◌, ◌||◌, nat_le, Bool, true, false, List, [], ◌∷◌, length}
-use Rattle.dfuse_memory.specs.declared.pages.Access.{Access}
-use Rattle.dfuse_memory.specs.declared.pages.Pages.{Pages}
-use Rattle.dfuse_memory.specs.Lookups.{AllGranted}
-use Rattle.dfuse_host.specs.declared.element.Element.{Element}
+use Rattle.dfu_formats.specs.declared.memory.pages.Access.{Access}
+use Rattle.dfu_formats.specs.declared.memory.pages.Pages.{Pages}
+use Rattle.dfu_formats.specs.memory.Lookups.{AllGranted}
+use Rattle.dfu_formats.specs.declared.dfuse.element.Element.{Element}
+use Rattle.dfu_formats.specs.dfuse.Images.{ascends_from}
 use Rattle.dfuse_host.specs.declared.plan.Plan.{Plan}
 use Rattle.dfuse_host.specs.declared.fault.PlanFault.{PlanFault}
 use Rattle.dfuse_host.specs.declared.fault.PlanFault.TheVariants.{NoTransferSize, EmptyImage, NotInOrder, Overlapping, OutsideTheMap, NotWritable, NotErasable, NotReadable}
@@ -17,11 +18,6 @@ has_empty (e ∷ es) = (length e.bytes.now == 0) || has_empty es
 -- There are no elements, or one of them has no bytes.
 abbrev pub is_empty : List Element → Bool
 is_empty es = (length es == 0) || has_empty es
-
--- None begins before the one before it does; the first one not before this address.
-abbrev pub ascends_from : ℕ → List Element → Bool
-ascends_from start [] = true
-ascends_from start (e ∷ es) = nat_le start e.address && ascends_from e.address es
 
 -- None begins before the one before it ends; the first one not before this address.
 abbrev pub apart_from : ℕ → List Element → Bool

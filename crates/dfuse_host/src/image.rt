@@ -3,7 +3,7 @@
 ghost use Rattle.std.specs.Prelude.{◌≡◌, ◌≤◌, ◌<◌, ◌+◌, ◌^◌, length, IfSome};
 ghost use Rattle.dfuse_host.specs.Images.{end_of, holds, element_at, next_byte, image_start, image_end};
 
-use crate::element::Element;
+use dfu_formats::dfuse::Element;
 
 /// The address after the last byte of an element.
 pub(crate) fn end_of(element: &Element<'_>) -> u64

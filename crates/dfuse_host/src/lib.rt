@@ -9,7 +9,6 @@ mod asking;
 mod clearing;
 mod closing;
 mod command;
-mod element;
 mod fault;
 mod heard;
 mod image;
@@ -30,7 +29,7 @@ mod step;
 mod work;
 
 pub use action::Action;
-pub use element::Element;
+pub use dfu_formats::dfuse::Element;
 pub use fault::PlanFault;
 pub use limits::Limits;
 pub use phase::{Phase, Standing};

@@ -3,9 +3,9 @@
 ghost use Rattle.std.specs.Prelude.{◌≡◌, ◌+◌, ◌≤◌, ◌<◌, ◌^◌, IfSome};
 ghost use Rattle.dfuse_host.specs.Plans.{page_of, page_start, page_end, element_end, front_end, block_size, write_end, read_end};
 
-use crate::element::Element;
 use crate::image::{element_at, end_of, image_start};
-use dfuse_memory::{Map, Page};
+use dfu_formats::dfuse::Element;
+use dfu_formats::memory::{Map, Page};
 
 /// What a session is to do.
 #[derive(Clone, Copy)]

@@ -1,13 +1,14 @@
 //! When a plan is refused.
 
 ghost use Rattle.std.specs.Prelude.{◌≡◌, ◌↔◌, IsTrue, IfErr, OnOk};
-ghost use Rattle.dfuse_host.specs.Refusing.{has_empty, is_empty, ascends_from, apart_from, Grants, wants, IsSoundPlan, FirstPlanFault};
+ghost use Rattle.dfu_formats.specs.dfuse.Images.{ascends_from};
+ghost use Rattle.dfuse_host.specs.Refusing.{has_empty, is_empty, apart_from, Grants, wants, IsSoundPlan, FirstPlanFault};
 
-use crate::element::Element;
 use crate::fault::PlanFault;
 use crate::image::end_of;
 use crate::plan::Plan;
-use dfuse_memory::Access;
+use dfu_formats::dfuse::Element;
+use dfu_formats::memory::Access;
 
 /// Whether there is no element, or one without bytes.
 #[tactic(auto, using(std::proofs::lemmas::Bool::Decides::nat_tests))]

@@ -4,12 +4,12 @@ use Rattle.std.specs.List.{All, AllByRecursion}
 use Rattle.std.proofs.lemmas.Bool.{leb-true, and_parts}
 use Rattle.std.proofs.lemmas.Bool.Decides.{nat_tests}
 use Rattle.std.proofs.lemmas.List.{get_or-take, get_or-drop}
-use Rattle.dfuse_memory.specs.declared.pages.Access.{Access}
-use Rattle.dfuse_memory.specs.declared.pages.Pages.{Pages}
-use Rattle.dfuse_memory.specs.Ranges.{IsRange}
-use Rattle.dfuse_memory.specs.Ranges as ranges
-use Rattle.dfuse_memory.specs.Lookups.{has, range_at, IsGranted}
-use Rattle.dfuse_host.specs.declared.element.Element.{Element}
+use Rattle.dfu_formats.specs.declared.memory.pages.Access.{Access}
+use Rattle.dfu_formats.specs.declared.memory.pages.Pages.{Pages}
+use Rattle.dfu_formats.specs.memory.Ranges.{IsRange}
+use Rattle.dfu_formats.specs.memory.Ranges as ranges
+use Rattle.dfu_formats.specs.memory.Lookups.{has, range_at, IsGranted}
+use Rattle.dfu_formats.specs.declared.dfuse.element.Element.{Element}
 use Rattle.dfuse_host.specs.Images.{end_of, holds, element_at}
 use Rattle.dfuse_host.specs.Refusing.{apart_from, EachGranted}
 use Rattle.dfuse_host.specs.ReadBack.{HasByte}

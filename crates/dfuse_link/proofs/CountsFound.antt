@@ -1,6 +1,6 @@
 -- Each plan can be counted.
 use Rattle.std.proofs.Common.{◌≡◌, ℕ, zero, suc, ◌+◌, ◌<◌, ◌≤◌, Bool, true, false, Option, Some, None, refl, ap, ◌∙◌, arith}
-use Rattle.dfuse_memory.specs.Lookups.{OnePage}
+use Rattle.dfu_formats.specs.memory.Lookups.{OnePage}
 use Rattle.dfuse_host.specs.declared.plan.Plan.{Plan}
 use Rattle.dfuse_host.specs.Images.{image_start, image_end}
 use Rattle.dfuse_host.specs.Plans.{page_start, page_end, front_end, write_end, read_end}

@@ -1,9 +1,9 @@
 -- The front, and the page that it is on.
 use Rattle.std.proofs.Common.{◌≡◌, ℕ, ◌%◌, ◌^◌, ◌<◌, ◌≤◌, inl, inr, max, Bool, true, false, cond, eqb, List, [], ◌∷◌, length, Some, None, sym, ap, ◌∙◌, arith}
 use Rattle.std.proofs.lemmas.Bool.{cases_lt, or_parts, lt-ltb}
-use Rattle.dfuse_memory.specs.Ranges.{are_apart}
-use Rattle.dfuse_memory.specs.Lookups.{OnePage}
-use Rattle.dfuse_host.specs.declared.element.Element.{Element}
+use Rattle.dfu_formats.specs.memory.Ranges.{are_apart}
+use Rattle.dfu_formats.specs.memory.Lookups.{OnePage}
+use Rattle.dfu_formats.specs.declared.dfuse.element.Element.{Element}
 use Rattle.dfuse_host.specs.declared.plan.Plan.{Plan}
 use Rattle.dfuse_host.specs.Images.{end_of, next_byte, image_start, image_end}
 use Rattle.dfuse_host.specs.Plans.{page_start, page_end, front_end}

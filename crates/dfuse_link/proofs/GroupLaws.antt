@@ -12,7 +12,7 @@ use Rattle.dfuse_host.specs.Plans.{page_start, page_end, front_end, write_end}
 use Rattle.dfuse_host.specs.Settling.{stand, sending, to_write_front, to_write, erase_or, to_erase, settle}
 use Rattle.dfuse_host.specs.Table.{read_on}
 use Rattle.dfuse_host.proofs.ForCallers.{by_command, set_address, write_at}
-use Rattle.dfuse_memory.specs.Lookups.{OnePage}
+use Rattle.dfu_formats.specs.memory.Lookups.{OnePage}
 use Rattle.dfuse_link.specs.Chips.{Chip, Device}
 use Rattle.dfuse_link.proofs.Claims.{IsBlanked, IsQuiet, IsDone}
 use Rattle.dfuse_link.proofs.GroupRows.{GoesIn, IsGroup}

@@ -12,7 +12,7 @@ use Rattle.dfuse_host.specs.Images.{image_start, image_end}
 use Rattle.dfuse_host.specs.Plans.{page_start, front_end}
 use Rattle.dfuse_host.specs.Settling.{stand, byte_in, leaving_by, staying, to_leave, compare_front_or, to_compare_front, write_front_or, to_write_front, compare_or, to_compare, write_or, to_write, erase_or, to_erase}
 use Rattle.dfuse_host.proofs.TouchedBytes.{filled}
-use Rattle.dfuse_memory.specs.Lookups.{OnePage}
+use Rattle.dfu_formats.specs.memory.Lookups.{OnePage}
 use Rattle.dfuse_link.specs.Chips.{Chip, Device}
 use Rattle.dfuse_link.specs.Fronts.{FrontIsBlank}
 use Rattle.dfuse_link.proofs.Claims.{IsQuiet}

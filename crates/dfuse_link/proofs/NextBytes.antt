@@ -4,7 +4,7 @@ use Rattle.std.proofs.lemmas.Bool.{ltb-true, ltb-false, or_parts, lt-ltb, le-ltb
 use Rattle.std.proofs.lemmas.Bool.Decides.{nat_tests}
 use Rattle.std.proofs.lemmas.Option.{cond_some}
 use Rattle.dfuse_link.proofs.Bytes.{element_step}
-use Rattle.dfuse_host.specs.declared.element.Element.{Element}
+use Rattle.dfu_formats.specs.declared.dfuse.element.Element.{Element}
 use Rattle.dfuse_host.specs.declared.plan.Plan.{Plan}
 use Rattle.dfuse_host.specs.Images.{end_of, holds, element_at, next_byte}
 use Rattle.dfuse_host.specs.Plans.{element_end}

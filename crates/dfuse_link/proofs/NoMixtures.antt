@@ -1,6 +1,6 @@
 -- No mixture: at each moment the front is blank, or what isn't on its page is all old, or all new.
 use Rattle.std.proofs.Common.{◌≡◌, ℕ, ◌≤◌, ◌⊎◌, inl, inr, refl, sym, ap, ◌∙◌, subst}
-use Rattle.dfuse_memory.specs.Lookups.{OnePage}
+use Rattle.dfu_formats.specs.memory.Lookups.{OnePage}
 use Rattle.dfuse_host.specs.declared.plan.Plan.{Plan}
 use Rattle.dfuse_host.specs.declared.phase.Phase.{Phase}
 use Rattle.dfuse_host.specs.declared.phase.Phase.TheVariants.{On}

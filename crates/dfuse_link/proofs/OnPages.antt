@@ -5,14 +5,14 @@ use Rattle.std.specs.Option.{option_map}
 use Rattle.std.proofs.lemmas.Bool.Decides.{nat_tests}
 use Rattle.std.proofs.Math.Nat.{div-mul-le_self}
 use Rattle.std.proofs.lemmas.Bool.{lt-ltb}
-use Rattle.dfuse_memory.specs.declared.pages.Access.{Access}
-use Rattle.dfuse_memory.specs.declared.pages.Pages.{Pages}
-use Rattle.dfuse_memory.specs.declared.pages.Page.{Page}
-use Rattle.dfuse_memory.specs.Ranges.{IsRange, are_apart}
-use Rattle.dfuse_memory.specs.Ranges as ranges
-use Rattle.dfuse_memory.specs.Lookups.{has, range_at, page_in, page_at, IsGranted, OnePage}
-use Rattle.dfuse_memory.proofs.OneRange.{no_range}
-use Rattle.dfuse_host.specs.declared.element.Element.{Element}
+use Rattle.dfu_formats.specs.declared.memory.pages.Access.{Access}
+use Rattle.dfu_formats.specs.declared.memory.pages.Pages.{Pages}
+use Rattle.dfu_formats.specs.declared.memory.pages.Page.{Page}
+use Rattle.dfu_formats.specs.memory.Ranges.{IsRange, are_apart}
+use Rattle.dfu_formats.specs.memory.Ranges as ranges
+use Rattle.dfu_formats.specs.memory.Lookups.{has, range_at, page_in, page_at, IsGranted, OnePage}
+use Rattle.dfu_formats.proofs.OneRange.{no_range}
+use Rattle.dfu_formats.specs.declared.dfuse.element.Element.{Element}
 use Rattle.dfuse_host.specs.declared.plan.Plan.{Plan}
 use Rattle.dfuse_host.specs.Plans.{page_of, page_start, page_end}
 use Rattle.dfuse_host.specs.Refusing.{EachGranted, IsSoundPlan, wants}

@@ -1,7 +1,7 @@
 -- What a session sends changes nothing on other pages, before they are erased and once they hold the image. It leaves a blank front blank.
 use Rattle.std.proofs.Common.{◌≡◌, ℕ, ◌%◌, ◌^◌, ◌<◌, ◌≤◌, inl, Bool, true, false, cond, eqb, refl, sym, ap, ◌∙◌, subst, arith}
 use Rattle.std.proofs.lemmas.Bool.{eqb-true}
-use Rattle.dfuse_memory.specs.Lookups.{OnePage}
+use Rattle.dfu_formats.specs.memory.Lookups.{OnePage}
 use Rattle.dfuse_host.specs.declared.plan.Plan.{Plan}
 use Rattle.dfuse_host.specs.declared.work.Work.{Work}
 use Rattle.dfuse_host.specs.declared.work.Work.TheVariants as work

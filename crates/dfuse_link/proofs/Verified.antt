@@ -1,7 +1,7 @@
 -- Once Verified is reported, the image is in the device's memory.
 use Rattle.std.proofs.Common.{◌≡◌, ℕ, List, ◌∷◌, refl, sym, ap, ◌∙◌, subst}
 use Rattle.std.specs.List.{AllByRecursion}
-use Rattle.dfuse_host.specs.declared.element.Element.{Element}
+use Rattle.dfu_formats.specs.declared.dfuse.element.Element.{Element}
 use Rattle.dfuse_host.specs.declared.plan.Plan.{Plan}
 use Rattle.dfuse_host.specs.declared.phase.Phase.{Phase}
 use Rattle.dfuse_host.specs.declared.seen.Seen.{Seen}

@@ -1,7 +1,7 @@
 -- How many requests and waits a session takes, if the device works and nothing gets lost.
 use Rattle.std.specs.Prelude.{◌≡◌, ℕ, zero, suc, ◌+◌, ◌*◌, ◌≤◌, ◌==◌, Bool, true, false, List, length, Option, Some, None, if◌then◌else◌}
 use Rattle.std.specs.List.{All}
-use Rattle.dfuse_memory.specs.Ranges.{IsRange, are_apart}
+use Rattle.dfu_formats.specs.memory.Ranges.{IsRange, are_apart}
 use Rattle.dfuse_host.specs.declared.plan.Plan.{Plan}
 use Rattle.dfuse_host.specs.declared.phase.Phase.TheVariants.{Over}
 use Rattle.dfuse_host.specs.declared.seen.Seen.{Seen}

@@ -1,7 +1,7 @@
 -- What is in a device's memory before a session has written its front.
 use Rattle.std.specs.Prelude.{◌≡◌, ℕ, ◌-◌, ◌<◌, ◌≤◌, ◌⊎◌, true, List, Some, slice_index}
-use Rattle.dfuse_memory.specs.Ranges.{are_apart}
-use Rattle.dfuse_host.specs.declared.element.Element.{Element}
+use Rattle.dfu_formats.specs.memory.Ranges.{are_apart}
+use Rattle.dfu_formats.specs.declared.dfuse.element.Element.{Element}
 use Rattle.dfuse_host.specs.declared.plan.Plan.{Plan}
 use Rattle.dfuse_host.specs.declared.phase.Phase.TheVariants.{On}
 use Rattle.dfuse_host.specs.declared.phase.Standing.{Standing}

@@ -1,8 +1,8 @@
 -- What a session's report says of the device. In each law a session begins with d, and later d' is the device and s the session.
 use Rattle.std.specs.Prelude.{◌≡◌, ◌≤◌, max, List, length}
 use Rattle.std.specs.List.{All, AllByRecursion}
-use Rattle.dfuse_memory.specs.Ranges.{IsRange}
-use Rattle.dfuse_host.specs.declared.element.Element.{Element}
+use Rattle.dfu_formats.specs.memory.Ranges.{IsRange}
+use Rattle.dfu_formats.specs.declared.dfuse.element.Element.{Element}
 use Rattle.dfuse_host.specs.declared.plan.Plan.{Plan}
 use Rattle.dfuse_host.specs.declared.phase.Phase.TheVariants.{Over}
 use Rattle.dfuse_host.specs.declared.seen.Seen.{Seen}

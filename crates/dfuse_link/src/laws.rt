@@ -6,8 +6,8 @@ ghost use Rattle.dfuse_link.specs.Fronts.{NoMixture, NoneButErasing, RestStands}
 ghost use Rattle.dfuse_link.specs.Promises.{EndsInTime, HistoriesAreRows, VerifiedIsTrue};
 ghost use Rattle.dfuse_link.specs.Touched.{OthersStay};
 
+use dfu_formats::memory::laws::one_page;
 use dfuse_host::laws::{only_touched, sessions_end, verified_is_read_back};
-use dfuse_memory::laws::one_page;
 
 /// A session with a device is over in time.
 pub fn sessions_end_in_time()

@@ -1,14 +1,15 @@
-"""Single items and words, named here by hand: items that only contracts name go, those that need a feature get it, and words that Rust
+"""Single items and words, named here by hand: items that only contracts name go, and modules that lie apart, those that need a feature get it, and words that Rust
 lacks become others."""
 from ghosts import drop_space
 from refusal import Refusal
 from tokens import Token, code_before, tokens_of
 
-# By file: the words that an item begins with, behind `pub`, and the feature that it needs, or None if only contracts name it.
+# By file: the words that an item begins with, behind `pub`, and the feature that it needs, or None if it goes.
 ITEMS = {
     "crates/dfu_slots/src/layout.rt": {"const CLOSED_GATE": None},
-    "crates/dfuse_file/src/lib.rt": {"use listing :: list": "formats"},
-    "crates/dfuse_file/src/listing.rt": {"use dfu_images": "formats", "fn list": "formats"},
+    "crates/dfu_conformance/src/lib.rt": {"mod captures": None, "mod dfuse": None},
+    "crates/dfu_formats/src/dfuse.rt": {"use listing :: list": "formats"},
+    "crates/dfu_formats/src/dfuse/listing.rt": {"fn list": "formats"},
 }
 
 # By file: words that Rust has in no stable form, and those that stand for them.

@@ -6,25 +6,42 @@ from tokens import Token, code_before, end_of_group, next_code
 
 def with_modules(tokens, crate, modules):
     """The tokens of a source of `crate`, whose `crate::` and whose names of other crates are paths of `modules`."""
-    made = []
-    for at, token in enumerate(tokens):
+    made, at = [], 0
+    owner = crate.partition("::")[0]
+    while at < len(tokens):
+        token, end = tokens[at], at
         if token.kind == "comment":
-            token = Token("comment", in_comment(token.text, crate, modules), token.line)
-        name = modules.get(crate if token.text == "crate" else token.text) if token.kind == "word" else None
-        if name and is_first(tokens, at):
+            token = Token("comment", in_comment(token.text, owner, modules), token.line)
+        elif token.kind == "word" and is_first(tokens, at):
+            name, end = name_at(tokens, at, owner, modules)
             macro = code_before(tokens, at)
-            if macro >= 0 and tokens[macro].text == "$" and not name.startswith("crate"):
+            if name and macro >= 0 and tokens[macro].text == "$" and not name.startswith("crate"):
                 name = name.partition("::")[2]
-            made.append(Token("word", name, token.line))
-        else:
-            made.append(token)
+            token = Token("word", name, token.line) if name else token
+        made.append(token)
+        at = end + 1
     return made
+
+
+def name_at(tokens, at, owner, modules):
+    """What the first word of a path becomes, or that with the one behind it, if they name a module that lies apart; or None. And where
+    what it stands for ends."""
+    word = owner if tokens[at].text == "crate" else tokens[at].text
+    if [it.text for it in tokens[at + 1:at + 2]] == ["::"] and f"{word}::{tokens[at + 2].text}" in modules:
+        return modules[f"{word}::{tokens[at + 2].text}"], at + 2
+    return modules.get(word), at
 
 
 def in_comment(text, crate, modules):
     """A comment that names a crate names the module, and one that names a file of the proofs says of which crate."""
-    text = re.sub(r"\b[a-z]\w*\b", lambda it: modules.get(it[0], it[0]).partition("::")[2] or it[0], text)
+    text = re.sub(r"\b[a-z]\w*(::[a-z]\w*)?", lambda it: short(it[0], modules) or (short(it[0].partition("::")[0], modules) or
+                  it[0].partition("::")[0]) + (it[1] or ""), text)
     return re.sub(r"(?<![\w/])(?=(specs|proofs)/\w+\.antt)", f"crates/{crate}/", text)
+
+
+def short(name, modules):
+    """The module that stands for a name, in its own package; or nothing."""
+    return modules.get(name, "").partition("::")[2]
 
 
 def is_first(tokens, at):

@@ -1,4 +1,4 @@
-"""Which crates become which modules of the crate `fustrelan`, and its files."""
+"""Which crates, and which modules of crates, become which modules of the crate `fustrelan`, and its files."""
 import functools
 import os
 import re
@@ -17,10 +17,12 @@ from words import Words
 
 MODULES = {
     "dfu_wire": "wire", "dfu_suffix": "suffix", "dfu_slots": "slots", "dfu_device": "device", "dfu_host": "host", "dfu_asks": "asks",
-    "dfu_trial": "boot::trial", "dfu_install": "boot::install", "dfu_install_slots": "boot::install_slots", "dfuse_memory": "dfuse::memory",
-    "dfuse_host": "dfuse::session", "dfuse_file": "dfuse::file", "dfu_images": "formats", "dfu_conformance": "conformance",
-    "dfuse_conformance": "dfuse_conformance",
+    "dfu_trial": "boot::trial", "dfu_install": "boot::install", "dfu_install_slots": "boot::install_slots",
+    "dfu_formats::memory": "dfuse::memory", "dfuse_host": "dfuse::session", "dfu_formats::dfuse": "dfuse::file",
+    "dfu_formats::images": "formats", "dfu_conformance": "conformance", "dfu_conformance::dfuse": "dfuse_conformance",
 }
+# Modules of a crate that become modules apart from it, here or in the program (workspace.py).
+APART = ("dfu_conformance::captures", "dfu_conformance::dfuse", "dfu_formats::dfuse", "dfu_formats::images", "dfu_formats::memory")
 # What is written by hand: the head of the crate, and the modules that only have modules.
 FRAME = os.path.join(os.path.dirname(__file__), "frame")
 # The name of Cargo.toml there: cargo looks for a package at every Cargo.toml of a repository, and has to find one alone.
@@ -43,11 +45,13 @@ def ends_early(step):
 
 
 class Source:
-    """A file of a crate, as tokens of plain Rust."""
+    """A file of a crate, or of a module that lies apart from its crate and whose head is named lib.rt too, as tokens of plain Rust."""
 
     def __init__(self, crate, name, text):
         self.crate, self.name = crate, name
-        self.path = f"crates/{crate}/src/{name}"
+        folder, _, module = crate.partition("::")
+        place = f"{module}.rt" if name == "lib.rt" else f"{module}/{name}"
+        self.path = f"crates/{folder}/src/{place if module else name}"
         self.tokens = tokens_of(self.path, text)
         self.lines = text.count("\n")
         self.takes_memory = False
@@ -74,19 +78,31 @@ class Source:
         return text_of(laid_out(with_modules(tokens, self.crate, modules)))
 
 
+def name_in(crate, place):
+    """The name in a crate, or in a module that lies apart, of the source at a place in the crate's folder; None if it has no such one."""
+    crate, _, module = crate.partition("::")
+    part, _, rest = place.partition("/")
+    if not module:
+        return None if f"{crate}::{part.removesuffix('.rt')}" in APART else place
+    return "lib.rt" if place == f"{module}.rt" else rest if part == module else None
+
+
 def sources_of(top, crate):
-    """The sources of a crate by their names, without its laws."""
-    folder, found = os.path.join(top, "crates", crate, "src"), []
-    if not any(os.path.exists(os.path.join(folder, head)) for head in HEADS):
-        raise Refusal(f"crates/{crate}/src/lib.rt", 1, "there is no such crate")
+    """The sources of a crate, or of a module that lies apart, by their names, without its laws."""
+    owner, _, module = crate.partition("::")
+    folder, found = os.path.join(top, "crates", owner, "src"), []
+    if not any(os.path.exists(os.path.join(folder, head)) for head in ((f"{module}.rt",) if module else HEADS)):
+        raise Refusal(Source(crate, "lib.rt", "").path, 1, "there is no such crate")
     for place, folders, names in os.walk(folder):
         folders.sort()
-        for name in sorted(names):
-            path = os.path.join(place, name)
-            if not name.endswith(".rt"):
+        for path in sorted(os.path.join(place, it) for it in names):
+            if not path.endswith(".rt"):
                 raise Refusal(path, 1, "a source that is no .rt")
+            name = name_in(crate, os.path.relpath(path, folder))
+            if name is None:
+                continue
             with open(path, encoding="utf-8") as file:
-                source = Source(crate, os.path.relpath(path, folder), file.read())
+                source = Source(crate, name, file.read())
             if source.name == FILE:
                 laws_in(source.path, source.tokens)
             else:

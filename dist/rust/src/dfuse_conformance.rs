@@ -1,4 +1,4 @@
-// Of crates/dfuse_conformance/src/lib.rt, whose contracts are taken away.
+// Of crates/dfu_conformance/src/dfuse.rt, whose contracts are taken away.
 
 //! Could a DfuSe device have answered so? What DfuSe adds to the table of USB DFU 1.1, and a judge that follows each device that keeps
 //! both.

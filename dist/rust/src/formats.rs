@@ -1,4 +1,4 @@
-// Of crates/dfu_images/src/lib.rt, whose contracts are taken away.
+// Of crates/dfu_formats/src/images.rt, whose contracts are taken away.
 
 //! Images in the files that builds produce: their bytes, by address.
 //!

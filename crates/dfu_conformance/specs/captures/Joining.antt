@@ -1,6 +1,6 @@
 -- Which packets are of one transfer.
 use Rattle.std.specs.Prelude.{◌≡◌}
-use Rattle.dfu_pcap.specs.declared.event.UsbEvent.{UsbEvent}
+use Rattle.dfu_conformance.specs.declared.captures.event.UsbEvent.{UsbEvent}
 
 -- Two events have the same id on the same bus. An id is in use once: it is the address of a kernel's object, which the next transfer of any
 -- device may have again.

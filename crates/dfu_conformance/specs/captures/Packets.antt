@@ -1,9 +1,9 @@
 -- What a packet of usbmon says (Linux, Documentation/usb/usbmon.rst, "Raw binary format and API").
 use Rattle.std.specs.Prelude.{ℕ, ◌+◌, ◌*◌, ◌%◌, ◌==◌, ◌&&◌, ◌||◌, nat_le, Bool, true, List, [], ◌∷◌, length, drop, slice_index_or, Option, Some, None, if◌then◌else◌}
-use Rattle.dfu_pcap.specs.declared.event.PacketKind.{PacketKind}
-use Rattle.dfu_pcap.specs.declared.event.PacketKind.TheVariants.{Submits, Completes, Other}
-use Rattle.dfu_pcap.specs.declared.event.Ending.{Ending}
-use Rattle.dfu_pcap.specs.declared.event.Ending.TheVariants.{Done, Stalled, Failed}
+use Rattle.dfu_conformance.specs.declared.captures.event.PacketKind.{PacketKind}
+use Rattle.dfu_conformance.specs.declared.captures.event.PacketKind.TheVariants.{Submits, Completes, Other}
+use Rattle.dfu_conformance.specs.declared.captures.event.Ending.{Ending}
+use Rattle.dfu_conformance.specs.declared.captures.event.Ending.TheVariants.{Done, Stalled, Failed}
 
 -- The byte at a place, and 0 after the end.
 abbrev pub byte : List ℕ → ℕ → ℕ

@@ -1,9 +1,9 @@
 -- Which transfers are pending.
 use Rattle.std.specs.Prelude.{◌≡◌, ◌⊎◌, ℕ, List, slice_get, Some}
 use Rattle.std.specs.List.{swap_remove}
-use Rattle.dfu_pcap.specs.Joining.{HasSameId, IsSameTransfer}
-use Rattle.dfu_pcap.specs.declared.event.UsbEvent.{UsbEvent}
-use Rattle.dfu_pcap.specs.declared.pending.Pending.{Pending}
+use Rattle.dfu_conformance.specs.captures.Joining.{HasSameId, IsSameTransfer}
+use Rattle.dfu_conformance.specs.declared.captures.event.UsbEvent.{UsbEvent}
+use Rattle.dfu_conformance.specs.declared.captures.pending.Pending.{Pending}
 
 -- No transfer has the id of this event on its bus.
 abbrev pub LacksId : UsbEvent → List Pending → Type 0

@@ -1,10 +1,10 @@
 -- What a packet of USBPcap says (USBPcap, "Capture format": USBPCAP_BUFFER_PACKET_HEADER and USBPCAP_BUFFER_CONTROL_HEADER).
 use Rattle.std.specs.Prelude.{ℕ, ◌+◌, ◌-◌, ◌%◌, ◌==◌, ◌&&◌, nat_le, Bool, false, List, length, drop, Option, Some, None, if◌then◌else◌}
-use Rattle.dfu_pcap.specs.Packets.{byte, two_in, four_in, eight_in}
-use Rattle.dfu_pcap.specs.declared.event.PacketKind.{PacketKind}
-use Rattle.dfu_pcap.specs.declared.event.PacketKind.TheVariants.{Submits, Carries, Completes, Ends, Other}
-use Rattle.dfu_pcap.specs.declared.event.Ending.{Ending}
-use Rattle.dfu_pcap.specs.declared.event.Ending.TheVariants.{Done, Stalled, Failed}
+use Rattle.dfu_conformance.specs.captures.Packets.{byte, two_in, four_in, eight_in}
+use Rattle.dfu_conformance.specs.declared.captures.event.PacketKind.{PacketKind}
+use Rattle.dfu_conformance.specs.declared.captures.event.PacketKind.TheVariants.{Submits, Carries, Completes, Ends, Other}
+use Rattle.dfu_conformance.specs.declared.captures.event.Ending.{Ending}
+use Rattle.dfu_conformance.specs.declared.captures.event.Ending.TheVariants.{Done, Stalled, Failed}
 
 -- A packet is of a control transfer (byte 22 is 2) to endpoint 0 (byte 21, but for its bit 7) of a device with a number below 256, and its
 -- head, of 28 bytes or more, is whole.

@@ -3,7 +3,7 @@ use Rattle.std.specs.Prelude.{List}
 use Rattle.dfu_conformance.specs.declared.row.StandardState.{StandardState}
 use Rattle.dfu_conformance.specs.declared.event.LogEvent.{LogEvent}
 use Rattle.dfu_conformance.specs.MayAnswer.{Run as StandardRun}
-use Rattle.dfuse_conformance.specs.Runs.{dfuse_attributes, dfuse_habits, DfuseRun}
+use Rattle.dfu_conformance.specs.dfuse.Runs.{dfuse_attributes, dfuse_habits, DfuseRun}
 
 -- A run of a device of USB DFU 1.1 that has the bmAttributes and habits of a DfuSe device is one of a DfuSe device.
 abbrev pub StandardIsKept : Type 0

@@ -12,7 +12,7 @@ use Rattle.dfu_conformance.specs.declared.row.When.{When}
 use Rattle.dfu_conformance.specs.Fits.{stays_at}
 use Rattle.dfu_conformance.specs.Held.{meets}
 use Rattle.dfu_conformance.specs.MayAnswer.{GoesBy, MayMove}
-use Rattle.dfuse_conformance.specs.declared.rows.TheConstants.{DFUSE}
+use Rattle.dfu_conformance.specs.declared.dfuse.rows.TheConstants.{DFUSE}
 
 -- The bmAttributes of a DfuSe device: it can download and upload, isn't tolerant, and detaches by itself.
 abbrev pub dfuse_attributes : ℕ

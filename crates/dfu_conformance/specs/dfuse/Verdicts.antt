@@ -4,7 +4,7 @@ use Rattle.dfu_conformance.specs.declared.row.StandardState.{StandardState}
 use Rattle.dfu_conformance.specs.declared.event.LogEvent.{LogEvent}
 use Rattle.dfu_conformance.specs.declared.verdict.Departure.{Departure}
 use Rattle.dfu_conformance.specs.Fits.{place_number}
-use Rattle.dfuse_conformance.specs.Runs.{DfuseCanAnswer, DfuseComesTo}
+use Rattle.dfu_conformance.specs.dfuse.Runs.{DfuseCanAnswer, DfuseComesTo}
 
 -- A device may be at this place.
 abbrev pub may_stand : List Bool → StandardState → Bool

@@ -11,9 +11,9 @@ use Rattle.dfu_conformance.specs.declared.habits.TheConstants.{HABITS}
 use Rattle.dfu_conformance.specs.declared.drifts.TheConstants.{DRIFTS}
 use Rattle.dfu_conformance.specs.Fits.{place_number, fits}
 use Rattle.dfu_conformance.specs.inside.Stepped.{some_below}
-use Rattle.dfuse_conformance.specs.declared.rows.TheConstants.{DFUSE}
-use Rattle.dfuse_conformance.specs.Runs.{of_dfuse, rests}
-use Rattle.dfuse_conformance.specs.Verdicts.{may_stand}
+use Rattle.dfu_conformance.specs.declared.dfuse.rows.TheConstants.{DFUSE}
+use Rattle.dfu_conformance.specs.dfuse.Runs.{of_dfuse, rests}
+use Rattle.dfu_conformance.specs.dfuse.Verdicts.{may_stand}
 
 -- The row leads a device to this place, from where it may be.
 abbrev pub leads_to : List Bool → LogEvent → StandardState → Row → Bool

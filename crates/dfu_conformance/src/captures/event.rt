@@ -1,6 +1,6 @@
 //! What a packet says of a control transfer.
 
-use crate::address::Address;
+use crate::captures::address::Address;
 
 /// Which part of a transfer a packet is.
 #[derive(Clone, Copy, Debug, PartialEq, Eq)]

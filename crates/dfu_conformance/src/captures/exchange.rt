@@ -1,6 +1,6 @@
 //! A request and its answer.
 
-use crate::address::Address;
+use crate::captures::address::Address;
 
 /// What was seen of an answer.
 #[derive(Clone, Copy)]

@@ -1,18 +1,18 @@
 //! Submissions and completions are joined.
 
 ghost use Rattle.std.specs.Prelude.{◌≡◌, ◌≤◌, length, false, true, Err, OnOk};
-ghost use Rattle.dfu_pcap.specs.Packets.{begins_capture};
-ghost use Rattle.dfu_pcap.specs.declared.fault.CaptureFault.TheVariants as CaptureFault;
+ghost use Rattle.dfu_conformance.specs.captures.Packets.{begins_capture};
+ghost use Rattle.dfu_conformance.specs.declared.captures.fault.CaptureFault.TheVariants as CaptureFault;
 
-use crate::address::Address;
-use crate::event::{Ending, PacketKind, UsbEvent};
-use crate::exchange::{Exchange, Seen};
-use crate::fault::CaptureFault;
-use crate::numbers::from;
-use crate::pending::{Pending, PendingTransfers};
-use crate::records::{Packet, form_of, head_of};
-use crate::usbmon::{self, packet_event};
-use crate::usbpcap::recorded_event;
+use crate::captures::address::Address;
+use crate::captures::event::{Ending, PacketKind, UsbEvent};
+use crate::captures::exchange::{Exchange, Seen};
+use crate::captures::fault::CaptureFault;
+use crate::captures::numbers::from;
+use crate::captures::pending::{Pending, PendingTransfers};
+use crate::captures::records::{Packet, form_of, head_of};
+use crate::captures::usbmon::{self, packet_event};
+use crate::captures::usbpcap::recorded_event;
 use std::alloc::Global;
 
 /// The link type of USBPcap.

@@ -1,14 +1,14 @@
 //! The log of a device.
 
 ghost use Rattle.std.specs.Prelude.{◌≡◌, false, true, Err, OnOk};
-ghost use Rattle.dfu_pcap.specs.Packets.{begins_capture};
-ghost use Rattle.dfu_pcap.specs.declared.fault.CaptureFault.TheVariants as CaptureFault;
+ghost use Rattle.dfu_conformance.specs.captures.Packets.{begins_capture};
+ghost use Rattle.dfu_conformance.specs.declared.captures.fault.CaptureFault.TheVariants as CaptureFault;
 
-use crate::address::Address;
-use crate::exchange::{Exchange, Seen};
-use crate::fault::CaptureFault;
-use crate::joining::exchanges_of;
-use crate::records::form_of;
+use crate::captures::address::Address;
+use crate::captures::exchange::{Exchange, Seen};
+use crate::captures::fault::CaptureFault;
+use crate::captures::joining::exchanges_of;
+use crate::captures::records::form_of;
 use std::alloc::{AllocError, Global};
 
 /// Whether bytes begin as a capture does: pcap of either order, or pcapng. Four bytes are enough.

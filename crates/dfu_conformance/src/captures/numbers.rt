@@ -1,7 +1,7 @@
 //! Numbers of a capture, in the order of bytes of the computer that made it.
 
 ghost use Rattle.std.specs.Prelude.{◌≡◌, drop, take, slice_index_or};
-ghost use Rattle.dfu_pcap.specs.Packets.{two_in, four_in, eight_in};
+ghost use Rattle.dfu_conformance.specs.captures.Packets.{two_in, four_in, eight_in};
 
 /// The byte at a place, or 0 after the end.
 pub(crate) fn byte_at(bytes: &[u8], at: usize) -> u8

@@ -1,11 +1,11 @@
 //! Transfers that were submitted and aren't completed, by their ids.
 
 ghost use Rattle.std.specs.Prelude.{◌≡◌, ◌↔◌, ◌++◌, [], ◌∷◌, IsTrue, IfNone, IfOk, IfSome};
-ghost use Rattle.dfu_pcap.specs.Joining.{IsSameTransfer, HasSameId};
-ghost use Rattle.dfu_pcap.specs.Pending.{LacksId, LacksSame, LeavesWithout};
+ghost use Rattle.dfu_conformance.specs.captures.Joining.{IsSameTransfer, HasSameId};
+ghost use Rattle.dfu_conformance.specs.captures.Pending.{LacksId, LacksSame, LeavesWithout};
 
-use crate::event::UsbEvent;
-use crate::fault::CaptureFault;
+use crate::captures::event::UsbEvent;
+use crate::captures::fault::CaptureFault;
 use std::alloc::Global;
 
 /// A transfer that was submitted and isn't completed.

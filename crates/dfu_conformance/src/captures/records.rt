@@ -1,9 +1,9 @@
 //! The records of a capture: pcap, and pcapng as Wireshark writes it.
 
 ghost use Rattle.std.specs.Prelude.{◌≡◌, ◌<◌, ◌≤◌, ◌+◌, drop, take, is_some, true, IfSome, IsNone, length};
-ghost use Rattle.dfu_pcap.specs.Packets.{begins_capture, captured_in};
+ghost use Rattle.dfu_conformance.specs.captures.Packets.{begins_capture, captured_in};
 
-use crate::numbers::{byte_at, four, from, two};
+use crate::captures::numbers::{byte_at, four, from, two};
 
 /// How many interfaces of a capture are known.
 const LINKS: usize = 16;

@@ -1,11 +1,11 @@
 //! The packets of usbmon (link types 189 and 220).
 
 ghost use Rattle.std.specs.Prelude.{◌≡◌, drop, take, length, nat_le, nat_lt, not, is_none, Some, IfSome};
-ghost use Rattle.dfu_pcap.specs.Packets.{byte, two_in, four_in, eight_in, head_in, is_control, kind_in, setup_in_packet, ending_in};
+ghost use Rattle.dfu_conformance.specs.captures.Packets.{byte, two_in, four_in, eight_in, head_in, is_control, kind_in, setup_in_packet, ending_in};
 
-use crate::address::Address;
-use crate::event::{Ending, PacketKind, UsbEvent};
-use crate::numbers::{byte_at, eight, four, from, front, two};
+use crate::captures::address::Address;
+use crate::captures::event::{Ending, PacketKind, UsbEvent};
+use crate::captures::numbers::{byte_at, eight, four, from, front, two};
 
 /// How a transfer ended: byte 28 on has 0, or -32 of a stall.
 fn ending_of(bytes: &[u8], is_big: bool) -> Ending

@@ -1,13 +1,13 @@
 //! The packets of USBPcap, the recorder of Windows (link type 249). Its numbers have the low byte first.
 
 ghost use Rattle.std.specs.Prelude.{◌≡◌, drop, take, length, nat_lt, not, is_none, Some, None, IfSome};
-ghost use Rattle.dfu_pcap.specs.Packets.{byte, two_in, four_in, eight_in};
-ghost use Rattle.dfu_pcap.specs.Usbpcap.{is_recorded_control, recorded_kind, recorded_setup, recorded_ending, recorded_length, recorded_from};
+ghost use Rattle.dfu_conformance.specs.captures.Packets.{byte, two_in, four_in, eight_in};
+ghost use Rattle.dfu_conformance.specs.captures.Usbpcap.{is_recorded_control, recorded_kind, recorded_setup, recorded_ending, recorded_length, recorded_from};
 ghost use Rattle.std.specs.Prelude.{false};
 
-use crate::address::Address;
-use crate::event::{Ending, PacketKind, UsbEvent};
-use crate::numbers::{byte_at, eight, four, from, front, two};
+use crate::captures::address::Address;
+use crate::captures::event::{Ending, PacketKind, UsbEvent};
+use crate::captures::numbers::{byte_at, eight, four, from, front, two};
 
 /// How many bytes the head of a control transfer has at least.
 const HEAD: usize = 28;

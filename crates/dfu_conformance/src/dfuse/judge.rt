@@ -2,8 +2,8 @@
 
 ghost use Rattle.std.specs.Prelude.{◌≡◌, List, IsNone, IfSome, [], ◌∷◌, ◌++◌};
 
-use crate::stands::{Places, is_anywhere, step};
-use dfu_conformance::{Departure, LogEvent};
+use crate::dfuse::stands::{Places, is_anywhere, step};
+use crate::{Departure, LogEvent};
 
 /// Every place.
 const EVERYWHERE: Places = [true; 12];
@@ -11,14 +11,14 @@ const EVERYWHERE: Places = [true; 12];
 /// A judge of one DfuSe device, about which nothing is known at first. It takes no memory beyond its own 12 bytes.
 #[derive(Clone, Copy, Debug, Drop, PartialEq, Eq)]
 pub struct DfuseJudge {
-    /// By place, in the order of [`dfu_conformance::StandardState`]: whether a DfuSe device may be there now, by the events since the
+    /// By place, in the order of [`crate::StandardState`]: whether a DfuSe device may be there now, by the events since the
     /// last departure.
     pub at: [bool; 12],
 }
 
 impl DfuseJudge {
-    ghost use Rattle.dfuse_conformance.specs.Runs.{DfuseCanAnswer};
-    ghost use Rattle.dfuse_conformance.specs.Verdicts.{AreHeld, DfuseDeparts};
+    ghost use Rattle.dfu_conformance.specs.dfuse.Runs.{DfuseCanAnswer};
+    ghost use Rattle.dfu_conformance.specs.dfuse.Verdicts.{AreHeld, DfuseDeparts};
     ghost use Rattle.dfu_conformance.specs.declared.event.LogEvent.{LogEvent};
 
     /// A judge of a device about which nothing is known: it may be anywhere.

@@ -1,13 +1,13 @@
 //! What DfuSe adds to the table of USB DFU 1.1.
 
-use dfu_conformance::EventKind::{Close, GetState, GetStatus, Reset, Upload};
-use dfu_conformance::Gives::{Ack, Short, Silent, Stall};
-use dfu_conformance::Row;
-use dfu_conformance::Source::{Habit, Open};
-use dfu_conformance::StandardState::{
+use crate::EventKind::{Close, GetState, GetStatus, Reset, Upload};
+use crate::Gives::{Ack, Short, Silent, Stall};
+use crate::Row;
+use crate::Source::{Habit, Open};
+use crate::StandardState::{
     DfuIdle, DownloadBusy, DownloadIdle, DownloadSync, Manifest, ManifestSync, UploadIdle,
 };
-use dfu_conformance::When::Always;
+use crate::When::Always;
 
 // The rows of a device at a place: one for each request that it answers so.
 macro_rules! rows {

@@ -3,9 +3,9 @@
 ghost use Rattle.std.specs.Prelude.{◌≡◌, ◌==◌};
 ghost use Rattle.std.specs.Int.{bit_at};
 ghost use Rattle.dfu_conformance.specs.Held.{reading_bit};
-ghost use Rattle.dfuse_conformance.specs.Runs.{dfuse_habits, is_told, of_dfuse, rests};
+ghost use Rattle.dfu_conformance.specs.dfuse.Runs.{dfuse_habits, is_told, of_dfuse, rests};
 
-use dfu_conformance::{EventKind, LogEvent, Reading, Response, When};
+use crate::{EventKind, LogEvent, Reading, Response, When};
 
 /// Whether a DfuSe device may have this habit: bit n of 0Fh is reading n.
 fn is_habit(reading: Reading) -> bool

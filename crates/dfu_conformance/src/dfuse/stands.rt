@@ -3,13 +3,13 @@
 ghost use Rattle.std.specs.Prelude.{◌≡◌, ◌||◌, ◌&&◌, ◌==◌};
 ghost use Rattle.std.specs.List.{list_any};
 ghost use Rattle.dfu_conformance.specs.Fits.{place_number};
-ghost use Rattle.dfuse_conformance.specs.Runs.{of_dfuse, rests};
-ghost use Rattle.dfuse_conformance.specs.Verdicts.{may_stand};
-ghost use Rattle.dfuse_conformance.specs.inside.Stepped.{is_somewhere, moves_to, leads_to, after_event};
+ghost use Rattle.dfu_conformance.specs.dfuse.Runs.{of_dfuse, rests};
+ghost use Rattle.dfu_conformance.specs.dfuse.Verdicts.{may_stand};
+ghost use Rattle.dfu_conformance.specs.inside.DfuseStep.{is_somewhere, moves_to, leads_to, after_event};
 
-use crate::rows::DFUSE;
-use crate::speaks::{is_of_dfuse, may_rest};
-use dfu_conformance::{
+use crate::dfuse::rows::DFUSE;
+use crate::dfuse::speaks::{is_of_dfuse, may_rest};
+use crate::{
     DRIFTS, Drift, HABITS, LogEvent, MARKS, Row, STANDARD, StandardState, When, speaks_of,
 };
 

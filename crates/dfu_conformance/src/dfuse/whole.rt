@@ -1,11 +1,11 @@
 //! The first departure of a whole list of events.
 
 ghost use Rattle.std.specs.Prelude.{◌≡◌, IsNone, IfSome};
-ghost use Rattle.dfuse_conformance.specs.Runs.{DfuseCanAnswer};
-ghost use Rattle.dfuse_conformance.specs.Verdicts.{IsFirstDeparture};
+ghost use Rattle.dfu_conformance.specs.dfuse.Runs.{DfuseCanAnswer};
+ghost use Rattle.dfu_conformance.specs.dfuse.Verdicts.{IsFirstDeparture};
 
-use crate::judge::DfuseJudge;
-use dfu_conformance::{Departure, LogEvent};
+use crate::dfuse::judge::DfuseJudge;
+use crate::{Departure, LogEvent};
 
 /// The first event that no DfuSe device may have answered so, if nothing is known of it before them: its place in the list, counted
 /// from 0, and the departure. `None` if a DfuSe device may have answered all.

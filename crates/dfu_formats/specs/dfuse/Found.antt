@@ -1,8 +1,8 @@
 -- The part of a reading that is handed out.
 use Rattle.std.specs.Prelude.{List, [], Result, Ok, Err}
-use Rattle.dfu_images.specs.Elements.{Piece}
-use Rattle.dfuse_host.specs.declared.element.Element.{Element}
-use Rattle.dfuse_file.specs.declared.fault.FileFault.{FileFault}
+use Rattle.dfu_formats.specs.images.Elements.{Piece}
+use Rattle.dfu_formats.specs.declared.dfuse.element.Element.{Element}
+use Rattle.dfu_formats.specs.declared.dfuse.fault.FileFault.{FileFault}
 
 -- What was found, or nothing.
 abbrev pub found : {A : Type 0} → Result (List A) FileFault → List A

@@ -1,11 +1,11 @@
 -- The grammar of a DfuSe file (UM0391), built from the front.
 use Rattle.std.specs.Prelude.{◌≡◌, ◌⊎◌, ℕ, ◌+◌, ◌<◌, ◌≤◌, ◌^◌, List, [], ◌∷◌, ◌++◌, length, Err}
 use Rattle.std.specs.Int.{w32, to_le_bytes}
-use Rattle.dfu_images.specs.Elements.{Piece}
+use Rattle.dfu_formats.specs.images.Elements.{Piece}
 use Rattle.dfu_suffix.specs.Register.{register}
 use Rattle.dfu_suffix.specs.Grammar.{before_crc}
-use Rattle.dfuse_file.specs.declared.fault.FileFault.{FileFault}
-use Rattle.dfuse_file.specs.Reading.{Target, Suffixed, DfuseContent, file_at}
+use Rattle.dfu_formats.specs.declared.dfuse.fault.FileFault.{FileFault}
+use Rattle.dfu_formats.specs.dfuse.Reading.{Target, Suffixed, DfuseContent, file_at}
 
 -- Four bytes that have this number, the low one first.
 abbrev pub four : ℕ → List ℕ

@@ -1,14 +1,13 @@
 -- The elements of an image, as a session takes them.
-use Rattle.std.specs.Prelude.{◌≡◌, ℕ, ◌+◌, ◌<◌, ◌≤◌, ◌==◌, ◌&&◌, ◌||◌, not, nat_lt, Bool, true, false, if◌then◌else◌, List, [], ◌∷◌, ◌++◌, length, take, map, Option, Some, None}
+use Rattle.std.specs.Prelude.{◌≡◌, ℕ, ◌+◌, ◌<◌, ◌≤◌, ◌==◌, ◌&&◌, ◌||◌, not, nat_lt, nat_le, Bool, true, false, if◌then◌else◌, List, [], ◌∷◌, ◌++◌, length, take, map, Option, Some, None}
 use Rattle.std.specs.List.Sorted.{IsPermutation}
-use Rattle.dfu_images.specs.Elements.{Piece}
-use Rattle.dfuse_host.specs.declared.element.Element.{Element}
-use Rattle.dfuse_host.specs.Refusing.{ascends_from}
-use Rattle.dfuse_file.specs.declared.targets.Target as made
-use Rattle.dfuse_file.specs.declared.image.ImageFault.{ImageFault}
-use Rattle.dfuse_file.specs.declared.image.ImageFault.TheVariants.{NoSuchSetting, TooManyElements}
-use Rattle.dfuse_file.specs.Reading.{Target}
-use Rattle.dfuse_file.specs.Found.{piece_of}
+use Rattle.dfu_formats.specs.images.Elements.{Piece}
+use Rattle.dfu_formats.specs.declared.dfuse.element.Element.{Element}
+use Rattle.dfu_formats.specs.declared.dfuse.targets.Target as made
+use Rattle.dfu_formats.specs.declared.dfuse.image.ImageFault.{ImageFault}
+use Rattle.dfu_formats.specs.declared.dfuse.image.ImageFault.TheVariants.{NoSuchSetting, TooManyElements}
+use Rattle.dfu_formats.specs.dfuse.Reading.{Target}
+use Rattle.dfu_formats.specs.dfuse.Found.{piece_of}
 
 -- A target that is handed out.
 abbrev pub handed_out : made.Target → Target
@@ -40,6 +39,11 @@ image_fault room setting targets =
     if not (has_setting setting targets) then Some NoSuchSetting
     else if nat_lt room (length (elements_for setting targets)) then Some TooManyElements
     else None
+
+-- None begins before the one before it does; the first one not before this address.
+abbrev pub ascends_from : ℕ → List Element → Bool
+ascends_from start [] = true
+ascends_from start (e ∷ es) = nat_le start e.address && ascends_from e.address es
 
 -- The first places have these elements, by their addresses.
 pub record IsImage (wanted : List Piece) (count : ℕ) (room : List Element) : Type 0 where

@@ -1,12 +1,12 @@
 -- A file without addresses, as one element.
 use Rattle.std.specs.Prelude.{ℕ, ◌+◌, ◌-◌, ◌^◌, ◌==◌, ◌&&◌, nat_lt, nat_le, Bool, if◌then◌else◌, List, length, take, slice_index, find, Option, Some, None, Result, Ok, Err}
-use Rattle.dfu_images.specs.Elements.{Piece}
+use Rattle.dfu_formats.specs.images.Elements.{Piece}
 use Rattle.dfu_suffix.specs.Grammar.{tail_of, has_fault, fault_order}
 use Rattle.dfu_suffix.specs.declared.fault.SuffixFault.{SuffixFault}
 use Rattle.dfu_suffix.specs.declared.fault.SuffixFault.TheVariants as suffix
-use Rattle.dfuse_file.specs.declared.raw.RawFault.{RawFault}
-use Rattle.dfuse_file.specs.declared.raw.RawFault.TheVariants.{TooLarge, BadLength, BadCrc, HasAddresses, Empty, AddressPastTheEnd}
-use Rattle.dfuse_file.specs.Reading.{is_prefixed}
+use Rattle.dfu_formats.specs.declared.dfuse.raw.RawFault.{RawFault}
+use Rattle.dfu_formats.specs.declared.dfuse.raw.RawFault.TheVariants.{TooLarge, BadLength, BadCrc, HasAddresses, Empty, AddressPastTheEnd}
+use Rattle.dfu_formats.specs.dfuse.Reading.{is_prefixed}
 
 -- Why a file with this fault of dfu_suffix isn't taken, if it isn't.
 abbrev pub raw_refusal : SuffixFault → Option RawFault

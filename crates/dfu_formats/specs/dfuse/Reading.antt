@@ -3,12 +3,12 @@ use Rattle.std.specs.Prelude.{ℕ, zero, suc, ◌+◌, ◌-◌, ◌^◌, ◌==�
 use Rattle.std.specs.Int.{w32, from_le_bytes}
 use Rattle.byteorder.specs.Endian.{little_number}
 use Rattle.dfu_wire.specs.declared.ids.Ids.{Ids}
-use Rattle.dfu_images.specs.Elements.{Piece}
+use Rattle.dfu_formats.specs.images.Elements.{Piece}
 use Rattle.dfu_suffix.specs.Grammar.{tail_of, has_fault, fault_order}
 use Rattle.dfu_suffix.specs.declared.fault.SuffixFault.{SuffixFault}
 use Rattle.dfu_suffix.specs.declared.fault.SuffixFault.TheVariants as suffix
-use Rattle.dfuse_file.specs.declared.fault.FileFault.{FileFault}
-use Rattle.dfuse_file.specs.declared.fault.FileFault.TheVariants.{TooLarge, TooShort, NoSignature, BadLength, NotDfuSe, BadCrc, NoPrefix, BadVersion, BadImageSize, NoTargets, NoTarget, BadTargetSize, ElementPastTheTarget, EmptyElement, AddressPastTheEnd, Trailing}
+use Rattle.dfu_formats.specs.declared.dfuse.fault.FileFault.{FileFault}
+use Rattle.dfu_formats.specs.declared.dfuse.fault.FileFault.TheVariants.{TooLarge, TooShort, NoSignature, BadLength, NotDfuSe, BadCrc, NoPrefix, BadVersion, BadImageSize, NoTargets, NoTarget, BadTargetSize, ElementPastTheTarget, EmptyElement, AddressPastTheEnd, Trailing}
 
 -- One step of reading after another: the first fault is the answer.
 infixl 10 ◌>>=◌

@@ -1,9 +1,9 @@
 -- How a file of UF2 blocks is read, block by block, with the fault of each. Blocks are counted from 0.
 use Rattle.std.specs.Prelude.{ℕ, ◌+◌, ◌/◌, ◌%◌, ◌^◌, ◌==◌, ◌&&◌, ◌||◌, not, nat_lt, Bool, if◌then◌else◌, List, length, take, drop, Result, Ok, Err}
-use Rattle.dfu_images.specs.declared.fault.ImageFault.{ImageFault}
-use Rattle.dfu_images.specs.declared.fault.ImageFault.TheVariants.{BadSize, BadMagic, BadBlock, BadNumber, FileContainer, OtherFamily, PastTheEnd}
-use Rattle.dfu_images.specs.Numbers.{le32}
-use Rattle.dfu_images.specs.Elements.{Piece, Gathering, added, elements_by_part}
+use Rattle.dfu_formats.specs.declared.images.fault.ImageFault.{ImageFault}
+use Rattle.dfu_formats.specs.declared.images.fault.ImageFault.TheVariants.{BadSize, BadMagic, BadBlock, BadNumber, FileContainer, OtherFamily, PastTheEnd}
+use Rattle.dfu_formats.specs.images.Numbers.{le32}
+use Rattle.dfu_formats.specs.images.Elements.{Piece, Gathering, added, elements_by_part}
 
 -- The three marks of a block.
 abbrev pub is_uf2_block : List ℕ → Bool

@@ -1,8 +1,8 @@
 -- Bytes in two hexadecimal digits each.
 use Rattle.std.specs.Prelude.{ℕ, ◌+◌, ◌-◌, ◌*◌, ◌&&◌, nat_lt, nat_le, if◌then◌else◌, List, [], ◌∷◌, length, Option, Some, None, Result, Err}
-use Rattle.dfu_images.specs.declared.fault.ImageFault.{ImageFault}
-use Rattle.dfu_images.specs.declared.fault.ImageFault.TheVariants.{BadDigit, BadLength}
-use Rattle.dfu_images.specs.Reading.{or}
+use Rattle.dfu_formats.specs.declared.images.fault.ImageFault.{ImageFault}
+use Rattle.dfu_formats.specs.declared.images.fault.ImageFault.TheVariants.{BadDigit, BadLength}
+use Rattle.dfu_formats.specs.images.Reading.{or}
 
 -- The value of a digit of either case; 16 for a byte that is not a digit.
 abbrev pub hex_value : ℕ → ℕ

@@ -1,10 +1,10 @@
 -- Elements of an image, as they are gathered from records.
 use Rattle.std.specs.Prelude.{◌≡◌, ℕ, suc, Option, Some, None, Vec, ◌+◌, ◌≤◌, ◌==◌, nat_lt, nat_le, if◌then◌else◌, List, [], ◌∷◌, ◌++◌, length, Result, Ok, Err}
-use Rattle.dfu_images.specs.declared.fault.ImageFault.{ImageFault}
-use Rattle.dfu_images.specs.declared.fault.ImageFault.TheVariants.{TooLarge, TooManyElements, Overlaps}
+use Rattle.dfu_formats.specs.declared.images.fault.ImageFault.{ImageFault}
+use Rattle.dfu_formats.specs.declared.images.fault.ImageFault.TheVariants.{TooLarge, TooManyElements, Overlaps}
 use Rattle.std.specs.List.{insert}
 use Rattle.std.specs.declared.alloc.Global.{Global}
-use Rattle.dfu_images.specs.Reading.{◌>>=◌, parts_read, FailsToRead}
+use Rattle.dfu_formats.specs.images.Reading.{◌>>=◌, parts_read, FailsToRead}
 
 -- Bytes, and the address of the first.
 pub record Piece : Type 0 where

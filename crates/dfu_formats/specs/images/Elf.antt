@@ -1,9 +1,9 @@
 -- How an ELF file of 32 bits, little endian, is read, segment by segment, with the fault of each. Segments are counted from 0.
 use Rattle.std.specs.Prelude.{ℕ, ◌+◌, ◌*◌, ◌^◌, ◌==◌, ◌&&◌, ◌||◌, not, nat_lt, Bool, if◌then◌else◌, List, length, take, drop, slice_index, Result, Ok, Err}
-use Rattle.dfu_images.specs.declared.fault.ImageFault.{ImageFault}
-use Rattle.dfu_images.specs.declared.fault.ImageFault.TheVariants.{NotElf, CutHeader, CutSegment, PastTheEnd}
-use Rattle.dfu_images.specs.Numbers.{le16, le32}
-use Rattle.dfu_images.specs.Elements.{Piece, Gathering, nothing, added, gathered, elements_by_part}
+use Rattle.dfu_formats.specs.declared.images.fault.ImageFault.{ImageFault}
+use Rattle.dfu_formats.specs.declared.images.fault.ImageFault.TheVariants.{NotElf, CutHeader, CutSegment, PastTheEnd}
+use Rattle.dfu_formats.specs.images.Numbers.{le16, le32}
+use Rattle.dfu_formats.specs.images.Elements.{Piece, Gathering, nothing, added, gathered, elements_by_part}
 
 -- The header of 52 bytes, its mark, and 1 each for 32 bits, little endian and the version.
 abbrev pub is_elf : List ℕ → Bool

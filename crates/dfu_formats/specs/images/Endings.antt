@@ -1,9 +1,9 @@
 -- What the ending of a file's name says of its format.
 use Rattle.std.specs.Prelude.{ℕ, ◌-◌, ◌||◌, Bool, if◌then◌else◌, List, length, drop, codes, Option, Some, None}
 use Rattle.std.specs.Str.{str_eq_ignore_ascii_case}
-use Rattle.dfu_images.specs.declared.format.Format.TheVariants.{IntelHex, SRecord, Uf2, Elf}
-use Rattle.dfu_images.specs.declared.endings.Ending.{Ending}
-use Rattle.dfu_images.specs.declared.endings.Ending.TheVariants.{Of, Dfu}
+use Rattle.dfu_formats.specs.declared.images.format.Format.TheVariants.{IntelHex, SRecord, Uf2, Elf}
+use Rattle.dfu_formats.specs.declared.images.endings.Ending.{Ending}
+use Rattle.dfu_formats.specs.declared.images.endings.Ending.TheVariants.{Of, Dfu}
 
 -- The name has this ending, in letters of either case. A name may be no more than its ending.
 unfoldable pub ends_in : (ending name : List ℕ) → Bool

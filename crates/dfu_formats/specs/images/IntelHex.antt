@@ -1,11 +1,11 @@
 -- How a file of Intel HEX is read, line by line, with the fault of each.
 use Rattle.std.specs.Prelude.{ℕ, ◌+◌, ◌*◌, ◌%◌, ◌^◌, ◌==◌, ◌&&◌, ◌||◌, Bool, not, nat_lt, true, if◌then◌else◌, List, [], ◌∷◌, length, take, drop, slice_index, sum, Result, Ok, Err}
-use Rattle.dfu_images.specs.declared.fault.ImageFault.{ImageFault}
-use Rattle.dfu_images.specs.declared.fault.ImageFault.TheVariants.{NoMark, BadLength, BadChecksum, BadType, PastSegment}
-use Rattle.dfu_images.specs.Reading.{◌>>=◌}
-use Rattle.dfu_images.specs.Digits.{bytes_at}
-use Rattle.dfu_images.specs.Lines.{State, elements_by_line}
-use Rattle.dfu_images.specs.Elements.{Piece, added}
+use Rattle.dfu_formats.specs.declared.images.fault.ImageFault.{ImageFault}
+use Rattle.dfu_formats.specs.declared.images.fault.ImageFault.TheVariants.{NoMark, BadLength, BadChecksum, BadType, PastSegment}
+use Rattle.dfu_formats.specs.images.Reading.{◌>>=◌}
+use Rattle.dfu_formats.specs.images.Digits.{bytes_at}
+use Rattle.dfu_formats.specs.images.Lines.{State, elements_by_line}
+use Rattle.dfu_formats.specs.images.Elements.{Piece, added}
 
 -- The bytes of a record: `:`, and two digits for each.
 unfoldable pub hex_spelled : (at : ℕ) → List ℕ → Result (List ℕ) ImageFault

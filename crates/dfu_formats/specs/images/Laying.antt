@@ -2,10 +2,10 @@
 use Rattle.std.specs.Prelude.{ℕ, ◌+◌, ◌-◌, ◌&&◌, not, nat_lt, if◌then◌else◌, List, [], ◌∷◌, ◌++◌, length, replicate, Option, is_some, Result, Ok, Err, Vec}
 use Rattle.std.specs.Option.{unwrap_or}
 use Rattle.std.specs.declared.alloc.Global.{Global}
-use Rattle.dfu_images.specs.declared.laying.LayFault.{LayFault}
-use Rattle.dfu_images.specs.declared.laying.LayFault.TheVariants.{NoMemory, Gap, TooLarge}
+use Rattle.dfu_formats.specs.declared.images.laying.LayFault.{LayFault}
+use Rattle.dfu_formats.specs.declared.images.laying.LayFault.TheVariants.{NoMemory, Gap, TooLarge}
 use Rattle.std.specs.Prelude.{◌≡◌}
-use Rattle.dfu_images.specs.Elements.{Piece, end_of_piece}
+use Rattle.dfu_formats.specs.images.Elements.{Piece, end_of_piece}
 
 -- The bytes of an element, after what fills the gap before it. Without a filling there may be no gap; all have 16,777,216 bytes at most.
 unfoldable pub filled_part : (fill : Option ℕ) → (count end : ℕ) → Piece → Result (List ℕ) LayFault

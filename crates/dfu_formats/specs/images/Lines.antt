@@ -1,11 +1,11 @@
 -- The lines of a text.
 use Rattle.std.specs.Prelude.{ℕ, ◌+◌, ◌-◌, ◌==◌, if◌then◌else◌, List, [], ◌∷◌, length, take, Bool, false, Result, Ok, Err}
-use Rattle.dfu_images.specs.declared.fault.ImageFault.{ImageFault}
-use Rattle.dfu_images.specs.declared.fault.ImageFault.TheVariants.{Trailing, NoEnd}
+use Rattle.dfu_formats.specs.declared.images.fault.ImageFault.{ImageFault}
+use Rattle.dfu_formats.specs.declared.images.fault.ImageFault.TheVariants.{Trailing, NoEnd}
 use Rattle.std.specs.List.{list_all, suffix_len}
-use Rattle.dfu_images.specs.Reading.{◌>>=◌}
-use Rattle.dfu_images.specs.Text.{is_blank_byte, unblanked, unmarked}
-use Rattle.dfu_images.specs.Elements.{Piece, Gathering, nothing, gathered}
+use Rattle.dfu_formats.specs.images.Reading.{◌>>=◌}
+use Rattle.dfu_formats.specs.images.Text.{is_blank_byte, unblanked, unmarked}
+use Rattle.dfu_formats.specs.images.Elements.{Piece, Gathering, nothing, gathered}
 
 -- A byte before the first line.
 abbrev pub before_lines : ℕ → List (List ℕ) → List (List ℕ)

@@ -1,17 +1,17 @@
 -- What a file without a DFU suffix is, by its bytes and its name.
 use Rattle.std.specs.Prelude.{ℕ, ◌==◌, ◌&&◌, ◌||◌, nat_le, nat_lt, nat_eq, Bool, false, if◌then◌else◌, List, [], ◌∷◌, codes, Option, Some, None}
 use Rattle.std.specs.List.{starts_with}
-use Rattle.dfu_images.specs.Digits.{hex_value}
-use Rattle.dfu_images.specs.Text.{unmarked, unblanked, is_text}
-use Rattle.dfu_images.specs.Endings.{name_ending}
-use Rattle.dfu_images.specs.Places.{bad_place}
-use Rattle.dfu_images.specs.declared.format.Format.TheVariants.{IntelHex, SRecord, Uf2, Elf}
-use Rattle.dfu_images.specs.declared.endings.Ending.{Ending}
-use Rattle.dfu_images.specs.declared.looks.NotImage.TheVariants.{DfuSe, Zip, Gzip, Text, Named}
-use Rattle.dfu_images.specs.declared.places.Place.{Place}
-use Rattle.dfu_images.specs.declared.looks.Looks.{Looks}
-use Rattle.dfu_images.specs.declared.looks.Looks.TheVariants as looks
-use Rattle.dfu_images.specs.declared.looks.Look.{Look}
+use Rattle.dfu_formats.specs.images.Digits.{hex_value}
+use Rattle.dfu_formats.specs.images.Text.{unmarked, unblanked, is_text}
+use Rattle.dfu_formats.specs.images.Endings.{name_ending}
+use Rattle.dfu_formats.specs.images.Places.{bad_place}
+use Rattle.dfu_formats.specs.declared.images.format.Format.TheVariants.{IntelHex, SRecord, Uf2, Elf}
+use Rattle.dfu_formats.specs.declared.images.endings.Ending.{Ending}
+use Rattle.dfu_formats.specs.declared.images.looks.NotImage.TheVariants.{DfuSe, Zip, Gzip, Text, Named}
+use Rattle.dfu_formats.specs.declared.images.places.Place.{Place}
+use Rattle.dfu_formats.specs.declared.images.looks.Looks.{Looks}
+use Rattle.dfu_formats.specs.declared.images.looks.Looks.TheVariants as looks
+use Rattle.dfu_formats.specs.declared.images.looks.Look.{Look}
 
 -- The file begins with these bytes.
 abbrev pub begins : (front file : List ℕ) → Bool

@@ -1,18 +1,18 @@
 -- One piece of a file of any format.
 use Rattle.std.specs.Prelude.{◌≡◌, ◌<◌, ℕ, List, [], length, Option, Result, Ok, Err}
-use Rattle.dfu_images.specs.declared.fault.ImageFault.{ImageFault}
-use Rattle.dfu_images.specs.declared.format.Format.{Format}
-use Rattle.dfu_images.specs.declared.format.Format.TheVariants as format
-use Rattle.dfu_images.specs.declared.making.Image.{Image}
-use Rattle.dfu_images.specs.declared.making.ImageFileFault.{ImageFileFault}
-use Rattle.dfu_images.specs.declared.making.ImageFileFault.TheVariants.{Unread, NoData, Unlaid}
-use Rattle.dfu_images.specs.Elements.{Piece}
-use Rattle.dfu_images.specs.Laying.{FailsToLay, laid, lowest}
-use Rattle.dfu_images.specs.Reading.{FailsToRead}
-use Rattle.dfu_images.specs.IntelHex as hex
-use Rattle.dfu_images.specs.SRecord as srec
-use Rattle.dfu_images.specs.Blocks as uf2
-use Rattle.dfu_images.specs.Elf as elf
+use Rattle.dfu_formats.specs.declared.images.fault.ImageFault.{ImageFault}
+use Rattle.dfu_formats.specs.declared.images.format.Format.{Format}
+use Rattle.dfu_formats.specs.declared.images.format.Format.TheVariants as format
+use Rattle.dfu_formats.specs.declared.images.making.Image.{Image}
+use Rattle.dfu_formats.specs.declared.images.making.ImageFileFault.{ImageFileFault}
+use Rattle.dfu_formats.specs.declared.images.making.ImageFileFault.TheVariants.{Unread, NoData, Unlaid}
+use Rattle.dfu_formats.specs.images.Elements.{Piece}
+use Rattle.dfu_formats.specs.images.Laying.{FailsToLay, laid, lowest}
+use Rattle.dfu_formats.specs.images.Reading.{FailsToRead}
+use Rattle.dfu_formats.specs.images.IntelHex as hex
+use Rattle.dfu_formats.specs.images.SRecord as srec
+use Rattle.dfu_formats.specs.images.Blocks as uf2
+use Rattle.dfu_formats.specs.images.Elf as elf
 
 -- The elements that a file of a format has, or its first fault.
 abbrev pub elements_in : Format → List ℕ → Result (List Piece) ImageFault

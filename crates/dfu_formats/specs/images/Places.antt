@@ -1,12 +1,12 @@
 -- The first byte of a text of records that no record has there.
 use Rattle.std.specs.Prelude.{ℕ, ◌+◌, ◌==◌, nat_lt, if◌then◌else◌, List, [], ◌∷◌, Option, Some, None}
-use Rattle.dfu_images.specs.Digits.{hex_value}
-use Rattle.dfu_images.specs.Text.{is_blank_byte, unmarked}
-use Rattle.dfu_images.specs.declared.format.Format.{Format}
-use Rattle.dfu_images.specs.declared.format.Format.TheVariants.{IntelHex, SRecord, Uf2, Elf}
-use Rattle.dfu_images.specs.declared.places.Part.{Part}
-use Rattle.dfu_images.specs.declared.places.Part.TheVariants.{Front, Digits, Back}
-use Rattle.dfu_images.specs.declared.places.Place.{Place}
+use Rattle.dfu_formats.specs.images.Digits.{hex_value}
+use Rattle.dfu_formats.specs.images.Text.{is_blank_byte, unmarked}
+use Rattle.dfu_formats.specs.declared.images.format.Format.{Format}
+use Rattle.dfu_formats.specs.declared.images.format.Format.TheVariants.{IntelHex, SRecord, Uf2, Elf}
+use Rattle.dfu_formats.specs.declared.images.places.Part.{Part}
+use Rattle.dfu_formats.specs.declared.images.places.Part.TheVariants.{Front, Digits, Back}
+use Rattle.dfu_formats.specs.declared.images.places.Place.{Place}
 
 -- The part of a line that a byte leads to, if a record has such a byte there. A line is blanks, the mark, digits, and blanks.
 abbrev pub led_to : (mark : ℕ) → Part → ℕ → Option Part

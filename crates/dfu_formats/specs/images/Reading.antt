@@ -1,7 +1,7 @@
 -- Steps of reading, one after the other, and what a call gives of what is read.
 use Rattle.std.specs.Prelude.{◌≡◌, ℕ, zero, suc, ◌+◌, List, take, drop, Option, Some, None, Result, Ok, Err}
-use Rattle.dfu_images.specs.declared.fault.ImageFault.{ImageFault}
-use Rattle.dfu_images.specs.declared.fault.ImageFault.TheVariants.{NoMemory}
+use Rattle.dfu_formats.specs.declared.images.fault.ImageFault.{ImageFault}
+use Rattle.dfu_formats.specs.declared.images.fault.ImageFault.TheVariants.{NoMemory}
 
 -- One step of reading after another: the first fault is the answer.
 infixl 10 ◌>>=◌

@@ -1,7 +1,7 @@
 -- The text of a file: its byte order mark, its blanks, and whether it is text alone.
 use Rattle.std.specs.Prelude.{ℕ, ◌-◌, ◌==◌, ◌&&◌, ◌||◌, not, nat_le, nat_lt, Bool, false, if◌then◌else◌, List, [], ◌∷◌, length, Option, Some, None}
 use Rattle.std.specs.Str.Lossy.{second_byte_min, second_byte_max}
-use Rattle.dfu_images.specs.declared.text.Awaited.{Awaited}
+use Rattle.dfu_formats.specs.declared.images.text.Awaited.{Awaited}
 
 -- A text without the byte order mark of UTF-8 at its front, if it has one.
 abbrev pub unmarked : List ℕ → List ℕ

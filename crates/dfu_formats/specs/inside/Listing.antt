@@ -1,8 +1,8 @@
 -- What the loop over ranges keeps.
 use Rattle.std.specs.Prelude.{◌≡◌, List, ◌++◌, Result, Ok, Err}
 use Rattle.arrayvec.specs.ArrayVec.{ArrayVec}
-use Rattle.dfuse_memory.specs.declared.pages.Pages.{Pages}
-use Rattle.dfuse_memory.specs.declared.fault.MapFault.{MapFault}
+use Rattle.dfu_formats.specs.declared.memory.pages.Pages.{Pages}
+use Rattle.dfu_formats.specs.declared.memory.fault.MapFault.{MapFault}
 
 -- Ranges before others, unless these have a fault.
 abbrev pub ranges_joined : List Pages → Result (List Pages) MapFault → Result (List Pages) MapFault

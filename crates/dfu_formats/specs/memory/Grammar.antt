@@ -1,9 +1,9 @@
 -- The grammar of a memory map, built from the front: `@NAME/ADDRESS/COUNT*SIZE LETTER`, with more ranges after `,` or after `/ADDRESS/`.
 use Rattle.std.specs.Prelude.{◌≡◌, ◌≢◌, ℕ, ◌*◌, ◌<◌, ◌≤◌, true, ◌⊎◌, List, [], ◌∷◌, ◌++◌, length, replicate}
-use Rattle.dfuse_memory.specs.declared.pages.Pages.{Pages}
-use Rattle.dfuse_memory.specs.declared.fault.MapFault.{MapFault}
-use Rattle.dfuse_memory.specs.Ranges.{IsRange, end_of_range, are_apart}
-use Rattle.dfuse_memory.specs.Reading.{MapContent, digit_value, digits_number, unit_bytes, access_of, map_at}
+use Rattle.dfu_formats.specs.declared.memory.pages.Pages.{Pages}
+use Rattle.dfu_formats.specs.declared.memory.fault.MapFault.{MapFault}
+use Rattle.dfu_formats.specs.memory.Ranges.{IsRange, end_of_range, are_apart}
+use Rattle.dfu_formats.specs.memory.Reading.{MapContent, digit_value, digits_number, unit_bytes, access_of, map_at}
 use Rattle.std.specs.Prelude.{Err}
 
 -- These bytes are digits of a base.

@@ -1,11 +1,11 @@
 -- What a map says of an address.
 use Rattle.std.specs.Prelude.{◌≡◌, ℕ, ◌+◌, ◌-◌, ◌*◌, ◌/◌, ◌<◌, ◌≤◌, ◌&&◌, ◌||◌, not, nat_lt, nat_le, Bool, true, List, [], ◌∷◌, Option, Some, None, if◌then◌else◌}
 use Rattle.std.specs.Option.{option_map}
-use Rattle.dfuse_memory.specs.declared.pages.Access.{Access}
-use Rattle.dfuse_memory.specs.declared.pages.Pages.{Pages}
-use Rattle.dfuse_memory.specs.declared.pages.Page.{Page}
+use Rattle.dfu_formats.specs.declared.memory.pages.Access.{Access}
+use Rattle.dfu_formats.specs.declared.memory.pages.Pages.{Pages}
+use Rattle.dfu_formats.specs.declared.memory.pages.Page.{Page}
 use Rattle.std.specs.List.{All}
-use Rattle.dfuse_memory.specs.Ranges.{IsRange, end_of_range, are_apart}
+use Rattle.dfu_formats.specs.memory.Ranges.{IsRange, end_of_range, are_apart}
 
 -- A range has this address.
 abbrev pub has : ℕ → Pages → Bool

@@ -1,6 +1,6 @@
 -- Ranges of pages: which addresses they have.
 use Rattle.std.specs.Prelude.{ℕ, ◌+◌, ◌*◌, ◌^◌, ◌≤◌, ◌&&◌, ◌||◌, nat_le, Bool, true, List, [], ◌∷◌}
-use Rattle.dfuse_memory.specs.declared.pages.Pages.{Pages}
+use Rattle.dfu_formats.specs.declared.memory.pages.Pages.{Pages}
 
 -- The address after the last byte of a range.
 abbrev pub end_of_range : Pages → ℕ

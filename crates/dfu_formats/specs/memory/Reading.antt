@@ -1,11 +1,11 @@
 -- How a map is read from the front of a string, piece by piece, with the fault of each piece.
 use Rattle.std.specs.Prelude.{ℕ, zero, suc, ◌+◌, ◌-◌, ◌*◌, ◌/◌, ◌%◌, ◌^◌, ◌==◌, ◌&&◌, ◌||◌, nat_lt, nat_le, Bool, if◌then◌else◌, List, [], ◌∷◌, length, take, drop, Option, Some, None, Result, Ok, Err}
 use Rattle.std.specs.List.{position}
-use Rattle.dfuse_memory.specs.Ranges.{end_of_range, are_apart}
-use Rattle.dfuse_memory.specs.declared.pages.Access.{Access}
-use Rattle.dfuse_memory.specs.declared.pages.Pages.{Pages}
-use Rattle.dfuse_memory.specs.declared.fault.MapFault.{MapFault}
-use Rattle.dfuse_memory.specs.declared.fault.MapFault.TheVariants.{NoMap, BadAddress, BadCount, BadSize, BadType, PastTheEnd, TooManyRanges, Trailing, Overlaps}
+use Rattle.dfu_formats.specs.memory.Ranges.{end_of_range, are_apart}
+use Rattle.dfu_formats.specs.declared.memory.pages.Access.{Access}
+use Rattle.dfu_formats.specs.declared.memory.pages.Pages.{Pages}
+use Rattle.dfu_formats.specs.declared.memory.fault.MapFault.{MapFault}
+use Rattle.dfu_formats.specs.declared.memory.fault.MapFault.TheVariants.{NoMap, BadAddress, BadCount, BadSize, BadType, PastTheEnd, TooManyRanges, Trailing, Overlaps}
 
 -- One step of reading after another: the first fault is the answer.
 infixl 10 ◌>>=◌

@@ -1,12 +1,12 @@
 //! Elements, one after the other.
 
 ghost use Rattle.std.specs.Prelude.{◌≡◌, ◌==◌, if◌then◌else◌, [], ◌∷◌, length, MatchOption, Ok, Err};
-ghost use Rattle.dfuse_file.specs.Reading.{front_element, elements_at};
-ghost use Rattle.dfuse_file.specs.Found.{piece_of, fault_only};
+ghost use Rattle.dfu_formats.specs.dfuse.Reading.{front_element, elements_at};
+ghost use Rattle.dfu_formats.specs.dfuse.Found.{piece_of, fault_only};
 
-use crate::fault::FileFault;
-use crate::numbers::number_at;
-use dfuse_host::Element;
+use crate::dfuse::element::Element;
+use crate::dfuse::fault::FileFault;
+use crate::dfuse::numbers::number_at;
 use std::marker::Model;
 
 /// An element, and the bytes after it.
@@ -17,8 +17,8 @@ struct Split<'f> {
 }
 
 impl<'f> Model for Split<'f> {
-    ghost use Rattle.dfuse_file.specs.Reading as reading;
-    ghost use Rattle.dfuse_file.specs.Found.{piece_of};
+    ghost use Rattle.dfu_formats.specs.dfuse.Reading as reading;
+    ghost use Rattle.dfu_formats.specs.dfuse.Found.{piece_of};
 
     ghost Value = { reading.Split };
 
@@ -26,7 +26,7 @@ impl<'f> Model for Split<'f> {
 }
 
 /// Takes an element off the front.
-#[tactic(auto, using(std::proofs::lemmas::Bool::Decides::nat_tests), unfolding(crate::specs::Reading::front_element))]
+#[tactic(auto, using(std::proofs::lemmas::Bool::Decides::nat_tests), unfolding(crate::specs::dfuse::Reading::front_element))]
 fn take_element(bytes: &[u8]) -> Result<Split<'_>, FileFault>
     ensures { result ≡ front_element bytes.now }
 {
@@ -85,9 +85,9 @@ pub struct Elements<'f> {
 
 impl<'f> Model for Elements<'f> {
     ghost use Rattle.std.specs.Prelude.{◌≡◌, List, Ok};
-    ghost use Rattle.dfu_images.specs.Elements.{Piece};
-    ghost use Rattle.dfuse_file.specs.Reading.{elements_at};
-    ghost use Rattle.dfuse_file.specs.Found.{found};
+    ghost use Rattle.dfu_formats.specs.images.Elements.{Piece};
+    ghost use Rattle.dfu_formats.specs.dfuse.Reading.{elements_at};
+    ghost use Rattle.dfu_formats.specs.dfuse.Found.{found};
 
     ghost Value = { List Piece };
 
@@ -97,7 +97,7 @@ impl<'f> Model for Elements<'f> {
 }
 
 impl<'f> Elements<'f> {
-    ghost use Rattle.dfuse_file.specs.Found.{found};
+    ghost use Rattle.dfu_formats.specs.dfuse.Found.{found};
 
     /// The elements that were checked.
     pub(crate) fn new(left: u32, rest: &'f [u8]) -> Elements<'f>

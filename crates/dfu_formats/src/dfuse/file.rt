@@ -1,16 +1,16 @@
 //! A DfuSe file.
 
 ghost use Rattle.std.specs.Prelude.{◌≡◌, ◌↔◌, length, Ok, Err, IfOk};
-ghost use Rattle.dfuse_file.specs.declared.fault.FileFault.{FileFault};
-ghost use Rattle.dfuse_file.specs.Reading.{DfuseContent, body_at, of_targets, file_at};
-ghost use Rattle.dfuse_file.specs.Grammar.{IsDfuSe, FirstFileFault};
-ghost use Rattle.dfuse_file.specs.Images.{one_setting};
+ghost use Rattle.dfu_formats.specs.declared.dfuse.fault.FileFault.{FileFault};
+ghost use Rattle.dfu_formats.specs.dfuse.Reading.{DfuseContent, body_at, of_targets, file_at};
+ghost use Rattle.dfu_formats.specs.dfuse.Grammar.{IsDfuSe, FirstFileFault};
+ghost use Rattle.dfu_formats.specs.dfuse.Images.{one_setting};
 
-use crate::fault::FileFault;
-use crate::marks::is_prefixed;
-use crate::numbers::number_at;
-use crate::suffix::read_suffix;
-use crate::targets::{Targets, check_targets};
+use crate::dfuse::fault::FileFault;
+use crate::dfuse::marks::is_prefixed;
+use crate::dfuse::numbers::number_at;
+use crate::dfuse::suffix::read_suffix;
+use crate::dfuse::targets::{Targets, check_targets};
 use dfu_wire::Ids;
 use std::marker::Model;
 
@@ -24,8 +24,8 @@ pub struct File<'f> {
 
 impl<'f> Model for File<'f> {
     ghost use Rattle.std.specs.Prelude.{◌≡◌, Ok};
-    ghost use Rattle.dfuse_file.specs.Reading.{DfuseContent, targets_at};
-    ghost use Rattle.dfuse_file.specs.Found.{found};
+    ghost use Rattle.dfu_formats.specs.dfuse.Reading.{DfuseContent, targets_at};
+    ghost use Rattle.dfu_formats.specs.dfuse.Found.{found};
 
     ghost Value = { DfuseContent };
 
@@ -35,7 +35,7 @@ impl<'f> Model for File<'f> {
 }
 
 /// The file with this body, and these identifiers in its suffix.
-#[tactic(auto, using(std::proofs::lemmas::Bool::Decides::nat_tests), unfolding(crate::specs::Reading::body_at))]
+#[tactic(auto, using(std::proofs::lemmas::Bool::Decides::nat_tests), unfolding(crate::specs::dfuse::Reading::body_at))]
 fn read_body(ids: Ids, whole: usize, bytes: &[u8]) -> Result<File<'_>, FileFault>
     ensures { result ≡ of_targets ids (body_at whole bytes.now) }
 {
@@ -68,7 +68,7 @@ fn read_body(ids: Ids, whole: usize, bytes: &[u8]) -> Result<File<'_>, FileFault
 }
 
 /// What the bytes say, or their first fault.
-#[tactic(auto, unfolding(crate::specs::Reading::file_at))]
+#[tactic(auto, unfolding(crate::specs::dfuse::Reading::file_at))]
 fn read_file(bytes: &[u8]) -> Result<File<'_>, FileFault>
     ensures { result ≡ file_at bytes.now }
 {

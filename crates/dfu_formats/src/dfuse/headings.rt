@@ -1,11 +1,11 @@
 //! What a target says before its elements.
 
 ghost use Rattle.std.specs.Prelude.{◌≡◌};
-ghost use Rattle.dfuse_file.specs.Reading.{heading_at};
+ghost use Rattle.dfu_formats.specs.dfuse.Reading.{heading_at};
 
-use crate::fault::FileFault;
-use crate::marks::is_target;
-use crate::numbers::number_at;
+use crate::dfuse::fault::FileFault;
+use crate::dfuse::marks::is_target;
+use crate::dfuse::numbers::number_at;
 use std::marker::Model;
 
 /// What a target says before its elements, the bytes of these, and the bytes after the target.
@@ -20,7 +20,7 @@ pub(crate) struct Heading<'f> {
 }
 
 impl<'f> Model for Heading<'f> {
-    ghost use Rattle.dfuse_file.specs.Reading as reading;
+    ghost use Rattle.dfu_formats.specs.dfuse.Reading as reading;
 
     ghost Value = { reading.Heading };
 
@@ -35,7 +35,7 @@ impl<'f> Model for Heading<'f> {
 }
 
 /// Takes the 274 bytes at the front of a target.
-#[tactic(auto, using(std::proofs::lemmas::Bool::Decides::nat_tests), unfolding(crate::specs::Reading::heading_at))]
+#[tactic(auto, using(std::proofs::lemmas::Bool::Decides::nat_tests), unfolding(crate::specs::dfuse::Reading::heading_at))]
 pub(crate) fn take_heading(bytes: &[u8]) -> Result<Heading<'_>, FileFault>
     ensures { result ≡ heading_at bytes.now }
 {

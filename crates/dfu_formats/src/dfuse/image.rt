@@ -2,12 +2,11 @@
 
 ghost use Rattle.std.specs.Prelude.{◌≡◌, ◌≤◌, length, take, true, IfOk, MatchResult, None, Some};
 ghost use Rattle.std.specs.List.Sorted.{IsPermutation};
-ghost use Rattle.dfuse_host.specs.Refusing.{ascends_from};
-ghost use Rattle.dfuse_file.specs.Images.{elements_for, image_fault, IsImage, ListsBehind};
+ghost use Rattle.dfu_formats.specs.dfuse.Images.{ascends_from, elements_for, image_fault, IsImage, ListsBehind};
 
-use crate::file::File;
-use crate::listing::put;
-use dfuse_host::Element;
+use crate::dfuse::element::Element;
+use crate::dfuse::file::File;
+use crate::dfuse::listing::put;
 use thiserror::Error;
 
 /// Why a file has no image for a setting: the first of these that holds.

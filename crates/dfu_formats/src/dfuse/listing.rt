@@ -1,12 +1,11 @@
 //! Elements of a session, from those of files.
 
 ghost use Rattle.std.specs.Prelude.{◌≡◌, ◌+◌, ◌<◌, ◌≤◌, ◌++◌, length, take, map, MatchOption};
-ghost use Rattle.dfuse_file.specs.Found.{piece_of};
-ghost use Rattle.dfuse_file.specs.Images.{ListsBehind};
+ghost use Rattle.dfu_formats.specs.dfuse.Found.{piece_of};
+ghost use Rattle.dfu_formats.specs.dfuse.Images.{ListsBehind};
 
-use crate::elements::Elements;
-use dfu_images as images;
-use dfuse_host::Element;
+use crate::dfuse::element::Element;
+use crate::dfuse::elements::Elements;
 
 /// Puts elements into `room` after the first `from`, and answers how many there are then, or None if they don't fit.
 pub(crate) fn put<'f>(
@@ -30,9 +29,9 @@ pub(crate) fn put<'f>(
     Some(count)
 }
 
-/// Puts elements that a reader of `dfu_images` gave into the front of `room`, in their order: how many they are, or None if they don't fit.
+/// Puts elements that a reader of `dfu_formats::images` gave into the front of `room`, in their order: how many they are, or None if they don't fit.
 /// Elements of one file are by their addresses, as a session wants them.
-pub fn list<'p>(pieces: &'p [images::Element], room: &mut [Element<'p>]) -> Option<usize>
+pub fn list<'p>(pieces: &'p [crate::images::Element], room: &mut [Element<'p>]) -> Option<usize>
     ensures size { length room.new ≡ length room.old }
     ensures listed { ListsBehind 0 pieces.now room.old result room.new }
 {

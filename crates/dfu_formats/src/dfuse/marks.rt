@@ -1,7 +1,7 @@
 //! The letters that mark the parts of a file.
 
 ghost use Rattle.std.specs.Prelude.{◌≡◌, ◌≤◌, length};
-ghost use Rattle.dfuse_file.specs.Reading.{is_target, is_prefixed};
+ghost use Rattle.dfu_formats.specs.dfuse.Reading.{is_target, is_prefixed};
 
 /// Whether the first six bytes are the letters Target.
 pub(crate) fn is_target(bytes: &[u8]) -> bool

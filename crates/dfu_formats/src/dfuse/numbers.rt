@@ -1,7 +1,7 @@
 //! Numbers in bytes.
 
 ghost use Rattle.std.specs.Prelude.{◌≡◌, ◌+◌, ◌≤◌, ◌<◌, ◌^◌, length};
-ghost use Rattle.dfuse_file.specs.Reading.{number_at};
+ghost use Rattle.dfu_formats.specs.dfuse.Reading.{number_at};
 
 /// The number in the four bytes from a place on, the low one first.
 pub(crate) fn number_at(place: usize, bytes: &[u8]) -> u32

@@ -2,12 +2,12 @@
 
 ghost use Rattle.std.specs.Prelude.{◌≡◌, MatchResult, Ok, Err, find};
 ghost use Rattle.dfu_suffix.specs.Grammar.{has_fault, fault_order};
-ghost use Rattle.dfuse_file.specs.Found.{piece_of};
-ghost use Rattle.dfuse_file.specs.Raw.{raw_refusal, payload_by, has_prefix, placed_at, raw_at};
+ghost use Rattle.dfu_formats.specs.dfuse.Found.{piece_of};
+ghost use Rattle.dfu_formats.specs.dfuse.Raw.{raw_refusal, payload_by, has_prefix, placed_at, raw_at};
 
-use crate::marks::is_prefixed;
+use crate::dfuse::element::Element;
+use crate::dfuse::marks::is_prefixed;
 use dfu_suffix::SuffixFault;
-use dfuse_host::Element;
 use thiserror::Error;
 
 /// Why a file can't be written to an address: the first of these that holds.
@@ -69,7 +69,7 @@ fn has_prefix(bytes: &[u8]) -> bool
 }
 
 /// An element of bytes at an address.
-#[tactic(auto, using(std::proofs::lemmas::Bool::Decides::nat_tests), unfolding(crate::specs::Raw::placed_at))]
+#[tactic(auto, using(std::proofs::lemmas::Bool::Decides::nat_tests), unfolding(crate::specs::dfuse::Raw::placed_at))]
 fn placed_at(address: u32, bytes: &[u8]) -> Result<Element<'_>, RawFault>
     ensures { MatchResult result (λ e. placed_at address bytes.now ≡ Ok (piece_of e)) (λ fault. placed_at address bytes.now ≡ Err fault) }
 {

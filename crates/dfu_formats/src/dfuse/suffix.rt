@@ -4,9 +4,9 @@ ghost use Rattle.std.specs.Prelude.{◌≡◌, ◌+◌, ◌≤◌, length, drop}
 ghost use Rattle.dfu_suffix.specs.Grammar.{tail_of, has_fault};
 ghost use Rattle.dfu_suffix.specs.declared.fault.SuffixFault.TheVariants as suffix;
 ghost use Rattle.byteorder.specs.Endian.{little_number};
-ghost use Rattle.dfuse_file.specs.Reading.{suffix_at, suffixed_by, is_dfuse, signed_by, refusal};
+ghost use Rattle.dfu_formats.specs.dfuse.Reading.{suffix_at, suffixed_by, is_dfuse, signed_by, refusal};
 
-use crate::fault::FileFault;
+use crate::dfuse::fault::FileFault;
 use byteorder::{ByteOrder, LittleEndian};
 use dfu_suffix::{Crc, SuffixFault};
 use dfu_wire::Ids;
@@ -20,7 +20,7 @@ pub(crate) struct Suffixed<'f> {
 }
 
 impl<'f> Model for Suffixed<'f> {
-    ghost use Rattle.dfuse_file.specs.Reading as reading;
+    ghost use Rattle.dfu_formats.specs.dfuse.Reading as reading;
 
     ghost Value = { reading.Suffixed };
 

@@ -1,13 +1,13 @@
 //! Targets, one after the other.
 
 ghost use Rattle.std.specs.Prelude.{◌≡◌, [], ◌∷◌, length, MatchOption};
-ghost use Rattle.dfuse_file.specs.Reading.{targets_at};
-ghost use Rattle.dfuse_file.specs.Found.{fault_only};
-ghost use Rattle.dfuse_file.specs.Images.{handed_out};
+ghost use Rattle.dfu_formats.specs.dfuse.Reading.{targets_at};
+ghost use Rattle.dfu_formats.specs.dfuse.Found.{fault_only};
+ghost use Rattle.dfu_formats.specs.dfuse.Images.{handed_out};
 
-use crate::elements::{Elements, check_elements, check_end};
-use crate::fault::FileFault;
-use crate::headings::take_heading;
+use crate::dfuse::elements::{Elements, check_elements, check_end};
+use crate::dfuse::fault::FileFault;
+use crate::dfuse::headings::take_heading;
 use std::marker::Model;
 
 /// What goes into the memory of an alternate setting.
@@ -49,8 +49,8 @@ pub struct Targets<'f> {
 
 impl<'f> Model for Targets<'f> {
     ghost use Rattle.std.specs.Prelude.{◌≡◌, List, Ok};
-    ghost use Rattle.dfuse_file.specs.Reading as reading;
-    ghost use Rattle.dfuse_file.specs.Found.{found};
+    ghost use Rattle.dfu_formats.specs.dfuse.Reading as reading;
+    ghost use Rattle.dfu_formats.specs.dfuse.Found.{found};
 
     ghost Value = { List reading.Target };
 
@@ -61,7 +61,7 @@ impl<'f> Model for Targets<'f> {
 
 impl<'f> Targets<'f> {
     ghost use Rattle.std.specs.Prelude.{Ok};
-    ghost use Rattle.dfuse_file.specs.Found.{found};
+    ghost use Rattle.dfu_formats.specs.dfuse.Found.{found};
 
     /// The targets that were checked.
     pub(crate) fn new(left: u8, rest: &'f [u8]) -> Targets<'f>

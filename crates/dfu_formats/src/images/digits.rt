@@ -1,10 +1,10 @@
 //! Bytes in two hexadecimal digits each.
 
 ghost use Rattle.std.specs.Prelude.{◌≡◌, ◌*◌, ◌≤◌, length, sum, MatchOption, MatchResult, None, Some, Ok, Err};
-ghost use Rattle.dfu_images.specs.Digits.{hex_value, pairs, bytes_at};
+ghost use Rattle.dfu_formats.specs.images.Digits.{hex_value, pairs, bytes_at};
 
-use crate::fault::ImageFault;
-use crate::limits::MAX_RECORD;
+use crate::images::fault::ImageFault;
+use crate::images::limits::MAX_RECORD;
 use arrayvec::ArrayVec;
 
 /// The value of a hexadecimal digit of either case, 0 to 15, or 16 if the byte is not one.
@@ -43,7 +43,7 @@ fn pairs(digits: &[u8]) -> Option<ArrayVec<u8, MAX_RECORD>>
 }
 
 /// The bytes of a record, from its digits.
-#[tactic(auto, using(std::proofs::lemmas::Bool::Decides::nat_tests), unfolding(crate::specs::Digits::bytes_at))]
+#[tactic(auto, using(std::proofs::lemmas::Bool::Decides::nat_tests), unfolding(crate::specs::images::Digits::bytes_at))]
 pub(crate) fn bytes_at(at: usize, digits: &[u8]) -> Result<ArrayVec<u8, MAX_RECORD>, ImageFault>
     ensures { MatchResult result (λ bytes. bytes_at at digits.now ≡ Ok bytes.items) (λ fault. bytes_at at digits.now ≡ Err fault) }
 {

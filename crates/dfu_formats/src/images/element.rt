@@ -1,7 +1,7 @@
 //! A part of an image.
 
 ghost use Rattle.std.specs.Prelude.{◌≡◌, ◌+◌, ◌≤◌, ◌^◌, length};
-ghost use Rattle.dfu_images.specs.Elements.{end_of_piece};
+ghost use Rattle.dfu_formats.specs.images.Elements.{end_of_piece};
 
 use std::marker::Model;
 
@@ -14,7 +14,7 @@ pub struct Element {
 
 impl Model for Element {
     ghost use Rattle.std.specs.Prelude.{◌+◌, ◌≤◌, ◌^◌, length};
-    ghost use Rattle.dfu_images.specs.Elements.{Piece};
+    ghost use Rattle.dfu_formats.specs.images.Elements.{Piece};
 
     ghost Value = { Piece };
 

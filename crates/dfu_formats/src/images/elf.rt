@@ -1,15 +1,15 @@
 //! ELF files of 32 bits, little endian: what their segments load.
 
 ghost use Rattle.std.specs.Prelude.{◌≡◌, ◌+◌, ◌*◌, ◌≤◌, ◌<◌, length, IfOk, true, Ok, Err};
-ghost use Rattle.dfu_images.specs.Reading.{Gives, FailsToRead};
-ghost use Rattle.dfu_images.specs.Elements.{AreApart, Lists};
-ghost use Rattle.dfu_images.specs.Elf.{is_elf, has_headers, segment_read, elf_elements_of};
+ghost use Rattle.dfu_formats.specs.images.Reading.{Gives, FailsToRead};
+ghost use Rattle.dfu_formats.specs.images.Elements.{AreApart, Lists};
+ghost use Rattle.dfu_formats.specs.images.Elf.{is_elf, has_headers, segment_read, elf_elements_of};
 
-use crate::element::Element;
-use crate::fault::ImageFault;
-use crate::gathering::Gathering;
-use crate::numbers::{le16, le32};
-use crate::parts::{ByPart, elements_by_part};
+use crate::images::element::Element;
+use crate::images::fault::ImageFault;
+use crate::images::gathering::Gathering;
+use crate::images::numbers::{le16, le32};
+use crate::images::parts::{ByPart, elements_by_part};
 use std::alloc::Global;
 
 /// Whether a file has the header of such a file.
@@ -32,7 +32,7 @@ impl ByPart for Segments<'_> {
 
     ghost part_read = { λ s. segment_read s.file.now };
 
-    #[tactic(auto, using(std::proofs::lemmas::Bool::Decides::nat_tests), unfolding(crate::specs::Elf::segment_read))]
+    #[tactic(auto, using(std::proofs::lemmas::Bool::Decides::nat_tests), unfolding(crate::specs::images::Elf::segment_read))]
     fn part_read(
         &self,
         alloc: Global,
@@ -60,7 +60,7 @@ impl ByPart for Segments<'_> {
 }
 
 /// The elements of a file.
-#[tactic(auto, using(std::proofs::lemmas::Bool::Decides::nat_tests), unfolding(crate::specs::Elf::elf_elements_of))]
+#[tactic(auto, using(std::proofs::lemmas::Bool::Decides::nat_tests), unfolding(crate::specs::images::Elf::elf_elements_of))]
 pub fn read(alloc: Global, file: &[u8]) -> Result<Vec<Element>, ImageFault>
     // What the file says, or its first fault.
     ensures value { Lists result (elf_elements_of file.now) }

@@ -1,9 +1,9 @@
 //! What the ending of a file's name says.
 
 ghost use Rattle.std.specs.Prelude.{◌≡◌};
-ghost use Rattle.dfu_images.specs.Endings.{name_ending, ends_in};
+ghost use Rattle.dfu_formats.specs.images.Endings.{name_ending, ends_in};
 
-use crate::format::Format;
+use crate::images::format::Format;
 
 /// What the ending of a file's name says that it is.
 #[derive(Clone, Copy, Debug, PartialEq, Eq)]
@@ -15,7 +15,7 @@ pub enum Ending {
 }
 
 /// Whether a name has this ending, in letters of either case.
-#[tactic(auto, unfolding(crate::specs::Endings::ends_in))]
+#[tactic(auto, unfolding(crate::specs::images::Endings::ends_in))]
 fn ends_in(ending: &[u8], name: &[u8]) -> bool
     ensures { result ≡ ends_in ending.now name.now }
 {

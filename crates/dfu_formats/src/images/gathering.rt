@@ -1,12 +1,12 @@
 //! Elements, as they are gathered from records.
 
 ghost use Rattle.std.specs.Prelude.{◌≡◌, ◌+◌, ◌≤◌, ◌<◌, ◌^◌, length, IfOk, Ok, Err};
-ghost use Rattle.dfu_images.specs.Reading.{Gives};
-ghost use Rattle.dfu_images.specs.Elements.{nothing, element_place, placed, completed, begun, grown, added, shared, gathered, AreApart, Lists};
+ghost use Rattle.dfu_formats.specs.images.Reading.{Gives};
+ghost use Rattle.dfu_formats.specs.images.Elements.{nothing, element_place, placed, completed, begun, grown, added, shared, gathered, AreApart, Lists};
 
-use crate::element::Element;
-use crate::fault::ImageFault;
-use crate::limits::{MAX_ELEMENTS, MAX_IMAGE};
+use crate::images::element::Element;
+use crate::images::fault::ImageFault;
+use crate::images::limits::{MAX_ELEMENTS, MAX_IMAGE};
 use std::alloc::Global;
 use std::marker::Model;
 
@@ -21,7 +21,7 @@ pub(crate) struct Gathering {
 
 impl Model for Gathering {
     ghost use Rattle.std.specs.Prelude.{◌+◌, ◌≤◌, ◌^◌, length};
-    ghost use Rattle.dfu_images.specs.Elements as elements;
+    ghost use Rattle.dfu_formats.specs.images.Elements as elements;
 
     ghost Value = { elements.Gathering };
 
@@ -61,7 +61,7 @@ fn placed(mut elements: Vec<Element>, element: Element) -> Result<Vec<Element>, 
 }
 
 /// The elements with the last one, which has no byte at first, complete.
-#[tactic(auto, using(std::proofs::lemmas::Bool::Decides::nat_tests), unfolding(crate::specs::Elements::completed))]
+#[tactic(auto, using(std::proofs::lemmas::Bool::Decides::nat_tests), unfolding(crate::specs::images::Elements::completed))]
 fn completed(
     elements: Vec<Element>,
     address: u64,
@@ -77,7 +77,7 @@ fn completed(
 }
 
 /// An element that begins with these bytes.
-#[tactic(auto, using(std::proofs::lemmas::Bool::Decides::nat_tests), unfolding(crate::specs::Elements::begun))]
+#[tactic(auto, using(std::proofs::lemmas::Bool::Decides::nat_tests), unfolding(crate::specs::images::Elements::begun))]
 fn begun(
     alloc: Global,
     at: usize,
@@ -105,7 +105,7 @@ fn begun(
 }
 
 /// The first address that lies before the end of the element before it.
-#[tactic(auto, unfolding(crate::specs::Elements::shared))]
+#[tactic(auto, unfolding(crate::specs::images::Elements::shared))]
 fn shared(elements: &[Element]) -> Option<u32>
     ensures { result ≡ shared 0 elements.now }
 {
@@ -133,7 +133,7 @@ impl Gathering {
     }
 
     /// Bytes that go on where the last ones end, or begin an element.
-    #[tactic(auto, using(std::proofs::lemmas::Bool::Decides::nat_tests), unfolding(crate::specs::Elements::grown))]
+    #[tactic(auto, using(std::proofs::lemmas::Bool::Decides::nat_tests), unfolding(crate::specs::images::Elements::grown))]
     fn grow(
         self,
         alloc: Global,
@@ -170,7 +170,7 @@ impl Gathering {
     }
 
     /// Bytes at an address.
-    #[tactic(auto, using(std::proofs::lemmas::Bool::Decides::nat_tests), unfolding(crate::specs::Elements::added))]
+    #[tactic(auto, using(std::proofs::lemmas::Bool::Decides::nat_tests), unfolding(crate::specs::images::Elements::added))]
     pub(crate) fn add(
         self,
         alloc: Global,
@@ -191,7 +191,7 @@ impl Gathering {
     }
 
     /// The elements of all that was gathered.
-    #[tactic(auto, using(std::proofs::lemmas::Bool::Decides::nat_tests), unfolding(crate::specs::Elements::gathered))]
+    #[tactic(auto, using(std::proofs::lemmas::Bool::Decides::nat_tests), unfolding(crate::specs::images::Elements::gathered))]
     pub(crate) fn finish(self) -> Result<Vec<Element>, ImageFault>
         ensures value { Lists result (gathered self) }
         ensures apart { IfOk result (λ v. AreApart 0 v.items) }

@@ -6,21 +6,21 @@
 //! which a program begins says nothing of the image.
 
 ghost use Rattle.std.specs.Prelude.{◌≡◌, ◌+◌, ◌≤◌, ◌<◌, ◌^◌, length, IfOk, MatchResult, Ok, Err};
-ghost use Rattle.dfu_images.specs.Reading.{Gives, FailsToRead};
-ghost use Rattle.dfu_images.specs.Elements.{AreApart, Lists};
-ghost use Rattle.dfu_images.specs.IntelHex.{hex_spelled, hex_framed, hex_data_at, leaves_segment, based, hex_record_read, hex_elements_of};
+ghost use Rattle.dfu_formats.specs.images.Reading.{Gives, FailsToRead};
+ghost use Rattle.dfu_formats.specs.images.Elements.{AreApart, Lists};
+ghost use Rattle.dfu_formats.specs.images.IntelHex.{hex_spelled, hex_framed, hex_data_at, leaves_segment, based, hex_record_read, hex_elements_of};
 
-use crate::digits::{bytes_at, sum_of};
-use crate::element::Element;
-use crate::fault::ImageFault;
-use crate::limits::MAX_RECORD;
-use crate::lines::{State, TextFormat, elements_by_line};
+use crate::images::digits::{bytes_at, sum_of};
+use crate::images::element::Element;
+use crate::images::fault::ImageFault;
+use crate::images::limits::MAX_RECORD;
+use crate::images::lines::{State, TextFormat, elements_by_line};
 use arrayvec::ArrayVec;
 use std::alloc::Global;
 use std::marker::Model;
 
 /// The bytes of a record, from the text of its line.
-#[tactic(auto, using(std::proofs::lemmas::Bool::Decides::nat_tests), unfolding(crate::specs::IntelHex::hex_spelled))]
+#[tactic(auto, using(std::proofs::lemmas::Bool::Decides::nat_tests), unfolding(crate::specs::images::IntelHex::hex_spelled))]
 fn spelled(at: usize, line: &[u8]) -> Result<ArrayVec<u8, MAX_RECORD>, ImageFault>
     ensures { MatchResult result (λ bytes. hex_spelled at line.now ≡ Ok bytes.items) (λ fault. hex_spelled at line.now ≡ Err fault) }
 {
@@ -39,7 +39,7 @@ struct Record<'t> {
 }
 
 impl<'t> Model for Record<'t> {
-    ghost use Rattle.dfu_images.specs.IntelHex as hex;
+    ghost use Rattle.dfu_formats.specs.images.IntelHex as hex;
 
     ghost Value = { hex.HexRecord };
 
@@ -47,7 +47,7 @@ impl<'t> Model for Record<'t> {
 }
 
 /// A record, from its bytes.
-#[tactic(auto, using(std::proofs::lemmas::Bool::Decides::nat_tests), unfolding(crate::specs::IntelHex::hex_framed))]
+#[tactic(auto, using(std::proofs::lemmas::Bool::Decides::nat_tests), unfolding(crate::specs::images::IntelHex::hex_framed))]
 fn framed(at: usize, bytes: &[u8]) -> Result<Record<'_>, ImageFault>
     requires { length bytes.now ≤ 260 }
     ensures value { result ≡ hex_framed at bytes.now }
@@ -81,7 +81,7 @@ fn leaves_segment(state: &State, said: &Record<'_>) -> bool
 }
 
 /// Data at an offset from the base.
-#[tactic(auto, using(std::proofs::lemmas::Bool::Decides::nat_tests), unfolding(crate::specs::IntelHex::hex_data_at))]
+#[tactic(auto, using(std::proofs::lemmas::Bool::Decides::nat_tests), unfolding(crate::specs::images::IntelHex::hex_data_at))]
 fn data_at(alloc: Global, at: usize, state: State, said: &Record<'_>) -> Result<State, ImageFault>
     requires { said.now.offset < 65536 }
     ensures value { Gives result (hex_data_at at state said.now) }
@@ -98,7 +98,7 @@ fn data_at(alloc: Global, at: usize, state: State, said: &Record<'_>) -> Result<
 }
 
 /// A new base, in units of so many addresses.
-#[tactic(auto, using(std::proofs::lemmas::Bool::Decides::nat_tests), unfolding(crate::specs::IntelHex::based))]
+#[tactic(auto, using(std::proofs::lemmas::Bool::Decides::nat_tests), unfolding(crate::specs::images::IntelHex::based))]
 fn based(at: usize, unit: u64, state: State, said: &Record<'_>) -> Result<State, ImageFault>
     requires { unit ≤ 65536 }
     ensures value { result ≡ based at unit state said.now }
@@ -120,7 +120,7 @@ struct IntelHex;
 impl TextFormat for IntelHex {
     ghost step = { hex_record_read };
 
-    #[tactic(auto, using(std::proofs::lemmas::Bool::Decides::nat_tests), unfolding(crate::specs::IntelHex::hex_record_read, crate::specs::IntelHex::hex_meant))]
+    #[tactic(auto, using(std::proofs::lemmas::Bool::Decides::nat_tests), unfolding(crate::specs::images::IntelHex::hex_record_read, crate::specs::images::IntelHex::hex_meant))]
     fn step(alloc: Global, at: usize, state: State, line: &[u8]) -> Result<State, ImageFault> {
         let bytes = spelled(at, line)?;
         let said = framed(at, &bytes)?;
@@ -141,7 +141,7 @@ impl TextFormat for IntelHex {
 }
 
 /// The elements of a file.
-#[tactic(auto, using(std::proofs::lemmas::Bool::Decides::nat_tests), unfolding(crate::specs::IntelHex::hex_elements_of))]
+#[tactic(auto, using(std::proofs::lemmas::Bool::Decides::nat_tests), unfolding(crate::specs::images::IntelHex::hex_elements_of))]
 pub fn read(alloc: Global, text: &[u8]) -> Result<Vec<Element>, ImageFault>
     // What the file says, or its first fault.
     ensures value { Lists result (hex_elements_of text.now) }

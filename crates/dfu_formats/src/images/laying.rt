@@ -1,11 +1,11 @@
 //! An image as one piece, from the lowest address of its elements on.
 
 ghost use Rattle.std.specs.Prelude.{◌≡◌, ◌+◌, ◌-◌, ◌≤◌, ◌<◌, ◌++◌, length, IfOk, Ok, Err};
-ghost use Rattle.dfu_images.specs.Elements.{AreApart};
-ghost use Rattle.dfu_images.specs.Laying.{filled_part, in_front, laid, lowest, Lays};
+ghost use Rattle.dfu_formats.specs.images.Elements.{AreApart};
+ghost use Rattle.dfu_formats.specs.images.Laying.{filled_part, in_front, laid, lowest, Lays};
 
-use crate::element::Element;
-use crate::limits::MAX_IMAGE;
+use crate::images::element::Element;
+use crate::images::limits::MAX_IMAGE;
 use std::alloc::Global;
 use thiserror::Error;
 
@@ -24,7 +24,7 @@ pub enum LayFault {
 }
 
 /// Puts an element after bytes that end at this address.
-#[tactic(auto, using(std::proofs::lemmas::Bool::Decides::nat_tests), unfolding(crate::specs::Laying::filled_part))]
+#[tactic(auto, using(std::proofs::lemmas::Bool::Decides::nat_tests), unfolding(crate::specs::images::Laying::filled_part))]
 fn with_part(
     mut bytes: Vec<u8>,
     fill: Option<u8>,

@@ -2,16 +2,16 @@
 
 ghost use Rattle.std.specs.Prelude.{◌≡◌, ◌+◌, ◌≤◌, ◌<◌, ℕ, List, Result, [], ◌∷◌, length, IfOk, IfSome, MatchOption};
 ghost use Rattle.std.specs.List.{list_all, position};
-ghost use Rattle.dfu_images.specs.declared.fault.ImageFault as declared;
-ghost use Rattle.dfu_images.specs.Reading.{Gives, FailsToRead};
-ghost use Rattle.dfu_images.specs.Elements.{AreApart, Lists};
-ghost use Rattle.dfu_images.specs.Text.{is_blank_byte};
-ghost use Rattle.dfu_images.specs.Lines.{lines, is_feed, bare, text_start, line_read, lines_read, elements_by_line};
+ghost use Rattle.dfu_formats.specs.declared.images.fault.ImageFault as declared;
+ghost use Rattle.dfu_formats.specs.images.Reading.{Gives, FailsToRead};
+ghost use Rattle.dfu_formats.specs.images.Elements.{AreApart, Lists};
+ghost use Rattle.dfu_formats.specs.images.Text.{is_blank_byte};
+ghost use Rattle.dfu_formats.specs.images.Lines.{lines, is_feed, bare, text_start, line_read, lines_read, elements_by_line};
 
-use crate::element::Element;
-use crate::fault::ImageFault;
-use crate::gathering::Gathering;
-use crate::text::{is_blank_byte, unblanked, unmarked};
+use crate::images::element::Element;
+use crate::images::fault::ImageFault;
+use crate::images::gathering::Gathering;
+use crate::images::text::{is_blank_byte, unblanked, unmarked};
 use std::alloc::Global;
 use std::marker::Model;
 
@@ -65,7 +65,7 @@ pub(crate) struct State {
 
 impl Model for State {
     ghost use Rattle.std.specs.Prelude.{◌≤◌};
-    ghost use Rattle.dfu_images.specs.Lines as lines;
+    ghost use Rattle.dfu_formats.specs.images.Lines as lines;
 
     ghost Value = { lines.State };
 
@@ -83,7 +83,7 @@ impl Model for State {
 
 /// A format that is read line by line.
 pub(crate) trait TextFormat {
-    ghost use Rattle.dfu_images.specs.Lines as lines;
+    ghost use Rattle.dfu_formats.specs.images.Lines as lines;
 
     /// What comes of the record on a line, by the number of the line.
     ghost step: { (at : ℕ) → lines.State → List ℕ → Result lines.State declared.ImageFault };
@@ -102,7 +102,7 @@ fn is_blank_line(line: &[u8]) -> bool
 }
 
 /// A line: a record, or blanks alone, or nothing.
-#[tactic(auto, using(std::proofs::lemmas::Bool::Decides::nat_tests), unfolding(crate::specs::Lines::line_read))]
+#[tactic(auto, using(std::proofs::lemmas::Bool::Decides::nat_tests), unfolding(crate::specs::images::Lines::line_read))]
 fn line_read<F: TextFormat>(
     alloc: Global,
     at: usize,

@@ -1,13 +1,13 @@
 //! What a file without a DFU suffix is.
 
 ghost use Rattle.std.specs.Prelude.{◌≡◌};
-ghost use Rattle.dfu_images.specs.Looks.{begins_ihex, begins_srec, has_digits, look_of, looks_by_name, looks_of};
+ghost use Rattle.dfu_formats.specs.images.Looks.{begins_ihex, begins_srec, has_digits, look_of, looks_by_name, looks_of};
 
-use crate::digits::hex_digit;
-use crate::endings::{Ending, name_ending};
-use crate::format::Format;
-use crate::places::{Place, bad_place};
-use crate::text::{is_text, unblanked, unmarked};
+use crate::images::digits::hex_digit;
+use crate::images::endings::{Ending, name_ending};
+use crate::images::format::Format;
+use crate::images::places::{Place, bad_place};
+use crate::images::text::{is_text, unblanked, unmarked};
 
 /// A file of which no image is taken.
 #[derive(Clone, Copy, Debug, PartialEq, Eq)]

@@ -1,14 +1,14 @@
 //! One piece of a file of any format.
 
 ghost use Rattle.std.specs.Prelude.{IfOk, length, ◌≤◌};
-ghost use Rattle.dfu_images.specs.Elements.{AreApart, Lists};
-ghost use Rattle.dfu_images.specs.Making.{MakesImage, elements_in};
+ghost use Rattle.dfu_formats.specs.images.Elements.{AreApart, Lists};
+ghost use Rattle.dfu_formats.specs.images.Making.{MakesImage, elements_in};
 
-use crate::element::Element;
-use crate::fault::ImageFault;
-use crate::format::Format;
-use crate::laying::{LayFault, lay, lowest};
-use crate::{elf, ihex, srec, uf2};
+use crate::images::element::Element;
+use crate::images::fault::ImageFault;
+use crate::images::format::Format;
+use crate::images::laying::{LayFault, lay, lowest};
+use crate::images::{elf, ihex, srec, uf2};
 use std::alloc::Global;
 use thiserror::Error;
 

@@ -1,7 +1,7 @@
 //! Numbers in bytes, the lowest first.
 
 ghost use Rattle.std.specs.Prelude.{◌≡◌, ◌+◌, ◌≤◌, ◌<◌, ◌^◌, length};
-ghost use Rattle.dfu_images.specs.Numbers.{le16, le32};
+ghost use Rattle.dfu_formats.specs.images.Numbers.{le16, le32};
 
 /// The number in two bytes.
 pub(crate) fn le16(bytes: &[u8], at: usize) -> u32

@@ -1,14 +1,14 @@
 //! Formats that are read part by part, each part of one size.
 
 ghost use Rattle.std.specs.Prelude.{◌≡◌, ◌+◌, ◌*◌, ◌≤◌, ℕ, List, Result, length, IfOk};
-ghost use Rattle.dfu_images.specs.declared.fault.ImageFault as declared;
-ghost use Rattle.dfu_images.specs.Reading.{parts_read, Gives, FailsToRead};
-ghost use Rattle.dfu_images.specs.Elements as elements;
-ghost use Rattle.dfu_images.specs.Elements.{AreApart, Lists, nothing, elements_by_part};
+ghost use Rattle.dfu_formats.specs.declared.images.fault.ImageFault as declared;
+ghost use Rattle.dfu_formats.specs.images.Reading.{parts_read, Gives, FailsToRead};
+ghost use Rattle.dfu_formats.specs.images.Elements as elements;
+ghost use Rattle.dfu_formats.specs.images.Elements.{AreApart, Lists, nothing, elements_by_part};
 
-use crate::element::Element;
-use crate::fault::ImageFault;
-use crate::gathering::Gathering;
+use crate::images::element::Element;
+use crate::images::fault::ImageFault;
+use crate::images::gathering::Gathering;
 use std::alloc::Global;
 
 /// What is known of a file before its parts are read, in a format that is read part by part.

@@ -1,11 +1,11 @@
 //! The first byte of a text of records that no record has there.
 
 ghost use Rattle.std.specs.Prelude.{◌≡◌};
-ghost use Rattle.dfu_images.specs.Places.{bad_from, bad_place, led_to};
+ghost use Rattle.dfu_formats.specs.images.Places.{bad_from, bad_place, led_to};
 
-use crate::digits::hex_digit;
-use crate::format::Format;
-use crate::text::{is_blank_byte, unmarked};
+use crate::images::digits::hex_digit;
+use crate::images::format::Format;
+use crate::images::text::{is_blank_byte, unmarked};
 
 /// A place in a text. Both numbers count from 1, and columns count bytes.
 #[derive(Clone, Copy, Debug, PartialEq, Eq)]
@@ -39,7 +39,7 @@ fn led_to(mark: u8, part: Part, byte: u8) -> Option<Part>
 }
 
 /// The first byte that no record with this mark has there, in a text without its byte order mark.
-#[tactic(auto, using(std::proofs::lemmas::Bool::Decides::nat_tests), unfolding(crate::specs::Places::bad_from))]
+#[tactic(auto, using(std::proofs::lemmas::Bool::Decides::nat_tests), unfolding(crate::specs::images::Places::bad_from))]
 fn bad_from(mark: u8, text: &[u8]) -> Option<Place>
     ensures { result ≡ bad_from mark Part.Front 1 1 text.now }
 {

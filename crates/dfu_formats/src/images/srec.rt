@@ -4,18 +4,18 @@
 //! end record. A count is of the records of data before it. Titles are passed over.
 
 ghost use Rattle.std.specs.Prelude.{◌≡◌, ◌+◌, ◌≤◌, ◌<◌, ◌^◌, length, IfOk, MatchResult, Ok, Err};
-ghost use Rattle.dfu_images.specs.Reading.{Gives, FailsToRead};
-ghost use Rattle.dfu_images.specs.Elements.{AreApart, Lists};
-ghost use Rattle.dfu_images.specs.SRecord.{srec_data_at, srec_closed, srec_record_read, srec_elements_of};
+ghost use Rattle.dfu_formats.specs.images.Reading.{Gives, FailsToRead};
+ghost use Rattle.dfu_formats.specs.images.Elements.{AreApart, Lists};
+ghost use Rattle.dfu_formats.specs.images.SRecord.{srec_data_at, srec_closed, srec_record_read, srec_elements_of};
 
-use crate::element::Element;
-use crate::fault::ImageFault;
-use crate::lines::{State, TextFormat, elements_by_line};
-use crate::srec_line::{Record, framed, spelled};
+use crate::images::element::Element;
+use crate::images::fault::ImageFault;
+use crate::images::lines::{State, TextFormat, elements_by_line};
+use crate::images::srec_line::{Record, framed, spelled};
 use std::alloc::Global;
 
 /// Data at an address.
-#[tactic(auto, using(std::proofs::lemmas::Bool::Decides::nat_tests), unfolding(crate::specs::SRecord::srec_data_at))]
+#[tactic(auto, using(std::proofs::lemmas::Bool::Decides::nat_tests), unfolding(crate::specs::images::SRecord::srec_data_at))]
 fn data_at(alloc: Global, at: usize, state: State, said: &Record<'_>) -> Result<State, ImageFault>
     requires { state.count < at }
     ensures value { Gives result (srec_data_at at state said.now) }
@@ -36,7 +36,7 @@ fn data_at(alloc: Global, at: usize, state: State, said: &Record<'_>) -> Result<
 }
 
 /// A count of the records of data, or the end.
-#[tactic(auto, using(std::proofs::lemmas::Bool::Decides::nat_tests), unfolding(crate::specs::SRecord::srec_closed))]
+#[tactic(auto, using(std::proofs::lemmas::Bool::Decides::nat_tests), unfolding(crate::specs::images::SRecord::srec_closed))]
 fn closed(at: usize, state: State, said: &Record<'_>) -> Result<State, ImageFault>
     ensures value { result ≡ srec_closed at state said.now }
     ensures counted { IfOk result (λ s. s.count ≤ state.count + 1) }
@@ -66,7 +66,7 @@ struct SRecord;
 impl TextFormat for SRecord {
     ghost step = { srec_record_read };
 
-    #[tactic(auto, using(std::proofs::lemmas::Bool::Decides::nat_tests), unfolding(crate::specs::SRecord::srec_record_read, crate::specs::SRecord::srec_meant))]
+    #[tactic(auto, using(std::proofs::lemmas::Bool::Decides::nat_tests), unfolding(crate::specs::images::SRecord::srec_record_read, crate::specs::images::SRecord::srec_meant))]
     fn step(alloc: Global, at: usize, state: State, line: &[u8]) -> Result<State, ImageFault> {
         let typed = spelled(at, line)?;
         let said = framed(at, &typed)?;
@@ -80,7 +80,7 @@ impl TextFormat for SRecord {
 }
 
 /// The elements of a file.
-#[tactic(auto, using(std::proofs::lemmas::Bool::Decides::nat_tests), unfolding(crate::specs::SRecord::srec_elements_of))]
+#[tactic(auto, using(std::proofs::lemmas::Bool::Decides::nat_tests), unfolding(crate::specs::images::SRecord::srec_elements_of))]
 pub fn read(alloc: Global, text: &[u8]) -> Result<Vec<Element>, ImageFault>
     // What the file says, or its first fault.
     ensures value { Lists result (srec_elements_of text.now) }

@@ -1,11 +1,11 @@
 //! One S-record: its type, its address and its data, from the text of its line.
 
 ghost use Rattle.std.specs.Prelude.{◌≡◌, ◌+◌, ◌≤◌, ◌<◌, ◌^◌, length, Ok, Err};
-ghost use Rattle.dfu_images.specs.SRecord.{srec_spelled, width, number, srec_framed};
+ghost use Rattle.dfu_formats.specs.images.SRecord.{srec_spelled, width, number, srec_framed};
 
-use crate::digits::{bytes_at, sum_of};
-use crate::fault::ImageFault;
-use crate::limits::MAX_RECORD;
+use crate::images::digits::{bytes_at, sum_of};
+use crate::images::fault::ImageFault;
+use crate::images::limits::MAX_RECORD;
 use arrayvec::ArrayVec;
 use std::marker::Model;
 
@@ -18,7 +18,7 @@ pub(crate) struct Typed {
 
 impl Model for Typed {
     ghost use Rattle.std.specs.Prelude.{◌≤◌};
-    ghost use Rattle.dfu_images.specs.SRecord as srec;
+    ghost use Rattle.dfu_formats.specs.images.SRecord as srec;
 
     ghost Value = { srec.Typed };
 
@@ -28,7 +28,7 @@ impl Model for Typed {
 }
 
 /// A record's type and bytes, from the text of its line.
-#[tactic(auto, using(std::proofs::lemmas::Bool::Decides::nat_tests), unfolding(crate::specs::SRecord::srec_spelled))]
+#[tactic(auto, using(std::proofs::lemmas::Bool::Decides::nat_tests), unfolding(crate::specs::images::SRecord::srec_spelled))]
 pub(crate) fn spelled(at: usize, line: &[u8]) -> Result<Typed, ImageFault>
     ensures { result ≡ srec_spelled at line.now }
 {
@@ -79,7 +79,7 @@ pub(crate) struct Record<'t> {
 
 impl<'t> Model for Record<'t> {
     ghost use Rattle.std.specs.Prelude.{◌<◌, ◌^◌};
-    ghost use Rattle.dfu_images.specs.SRecord as srec;
+    ghost use Rattle.dfu_formats.specs.images.SRecord as srec;
 
     ghost Value = { srec.SRecordLine };
 
@@ -89,7 +89,7 @@ impl<'t> Model for Record<'t> {
 }
 
 /// A record, from its type and bytes.
-#[tactic(auto, using(std::proofs::lemmas::Bool::Decides::nat_tests), unfolding(crate::specs::SRecord::srec_framed))]
+#[tactic(auto, using(std::proofs::lemmas::Bool::Decides::nat_tests), unfolding(crate::specs::images::SRecord::srec_framed))]
 pub(crate) fn framed(at: usize, typed: &Typed) -> Result<Record<'_>, ImageFault>
     ensures { result ≡ srec_framed at typed.now }
 {

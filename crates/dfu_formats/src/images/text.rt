@@ -1,7 +1,7 @@
 //! The text of a file: its byte order mark, its blanks, and whether it is text alone.
 
 ghost use Rattle.std.specs.Prelude.{◌≡◌};
-ghost use Rattle.dfu_images.specs.Text.{awaited_behind, awaited_behind_first, is_blank_byte, is_text_byte, is_text, nothing_awaited, text_from, unblanked, unmarked};
+ghost use Rattle.dfu_formats.specs.images.Text.{awaited_behind, awaited_behind_first, is_blank_byte, is_text_byte, is_text, nothing_awaited, text_from, unblanked, unmarked};
 
 /// A text without the byte order mark of UTF-8 at its front, if it has one.
 pub(crate) fn unmarked(text: &[u8]) -> &[u8]
@@ -21,7 +21,7 @@ pub(crate) fn is_blank_byte(byte: u8) -> bool
 }
 
 /// A text without the blanks and line feeds at its front.
-#[tactic(auto, using(std::proofs::lemmas::Bool::Decides::nat_tests), unfolding(crate::specs::Text::unblanked))]
+#[tactic(auto, using(std::proofs::lemmas::Bool::Decides::nat_tests), unfolding(crate::specs::images::Text::unblanked))]
 pub(crate) fn unblanked(text: &[u8]) -> &[u8]
     ensures { result.now ≡ unblanked text.now }
 {
@@ -102,7 +102,7 @@ fn awaited_behind(awaited: Awaited, byte: u8) -> Option<Awaited>
 }
 
 /// Whether bytes are characters of UTF-8, none of them another control character.
-#[tactic(auto, using(std::proofs::lemmas::Bool::Decides::nat_tests), unfolding(crate::specs::Text::text_from))]
+#[tactic(auto, using(std::proofs::lemmas::Bool::Decides::nat_tests), unfolding(crate::specs::images::Text::text_from))]
 fn are_characters(bytes: &[u8]) -> bool
     ensures { result ≡ text_from nothing_awaited bytes.now }
 {

@@ -1,16 +1,16 @@
 //! UF2.
 
 ghost use Rattle.std.specs.Prelude.{◌≡◌, ◌+◌, ◌*◌, ◌≤◌, ◌<◌, length, IfOk, Ok, Err};
-ghost use Rattle.dfu_images.specs.Reading.{Gives, FailsToRead};
-ghost use Rattle.dfu_images.specs.Numbers as numbers;
-ghost use Rattle.dfu_images.specs.Elements.{AreApart, Lists};
-ghost use Rattle.dfu_images.specs.Blocks.{is_uf2_block, has_flag, family_of, flashed, block_read, uf2_elements_of};
+ghost use Rattle.dfu_formats.specs.images.Reading.{Gives, FailsToRead};
+ghost use Rattle.dfu_formats.specs.images.Numbers as numbers;
+ghost use Rattle.dfu_formats.specs.images.Elements.{AreApart, Lists};
+ghost use Rattle.dfu_formats.specs.images.Blocks.{is_uf2_block, has_flag, family_of, flashed, block_read, uf2_elements_of};
 
-use crate::element::Element;
-use crate::fault::ImageFault;
-use crate::gathering::Gathering;
-use crate::numbers::le32;
-use crate::parts::{ByPart, elements_by_part};
+use crate::images::element::Element;
+use crate::images::fault::ImageFault;
+use crate::images::gathering::Gathering;
+use crate::images::numbers::le32;
+use crate::images::parts::{ByPart, elements_by_part};
 use std::alloc::Global;
 
 /// Whether a block has its three marks.
@@ -45,7 +45,7 @@ fn family_of(block: &[u8]) -> u32
 }
 
 /// The data of a block.
-#[tactic(auto, using(std::proofs::lemmas::Bool::Decides::nat_tests), unfolding(crate::specs::Blocks::flashed))]
+#[tactic(auto, using(std::proofs::lemmas::Bool::Decides::nat_tests), unfolding(crate::specs::images::Blocks::flashed))]
 fn flashed(
     alloc: Global,
     index: usize,
@@ -88,7 +88,7 @@ impl ByPart for Blocks {
 
     ghost part_read = { λ b. block_read b.total b.family };
 
-    #[tactic(auto, using(std::proofs::lemmas::Bool::Decides::nat_tests), unfolding(crate::specs::Blocks::block_read))]
+    #[tactic(auto, using(std::proofs::lemmas::Bool::Decides::nat_tests), unfolding(crate::specs::images::Blocks::block_read))]
     fn part_read(
         &self,
         alloc: Global,
@@ -110,7 +110,7 @@ impl ByPart for Blocks {
 }
 
 /// The elements of a file.
-#[tactic(auto, using(std::proofs::lemmas::Bool::Decides::nat_tests), unfolding(crate::specs::Blocks::uf2_elements_of))]
+#[tactic(auto, using(std::proofs::lemmas::Bool::Decides::nat_tests), unfolding(crate::specs::images::Blocks::uf2_elements_of))]
 pub fn read(alloc: Global, file: &[u8]) -> Result<Vec<Element>, ImageFault>
     // What the file says, or its first fault.
     ensures value { Lists result (uf2_elements_of file.now) }

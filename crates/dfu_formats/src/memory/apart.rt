@@ -2,10 +2,10 @@
 
 ghost use Rattle.std.specs.Prelude.{◌≡◌};
 ghost use Rattle.std.specs.List.{All};
-ghost use Rattle.dfuse_memory.specs.Ranges.{IsRange, is_apart, is_apart_from, are_apart};
+ghost use Rattle.dfu_formats.specs.memory.Ranges.{IsRange, is_apart, is_apart_from, are_apart};
 
-use crate::pages::Pages;
-use crate::ranges::end_of;
+use crate::memory::pages::Pages;
+use crate::memory::ranges::end_of;
 
 /// Whether two ranges share no address.
 fn is_apart(one: &Pages, other: &Pages) -> bool

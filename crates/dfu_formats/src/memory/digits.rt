@@ -1,9 +1,9 @@
 //! Numbers in digits.
 
 ghost use Rattle.std.specs.Prelude.{◌≡◌, ◌^◌, ◌≤◌, ◌<◌, length, IfSome};
-ghost use Rattle.dfuse_memory.specs.Reading.{digit_value, digits_in, digits_number, map_number_at};
+ghost use Rattle.dfu_formats.specs.memory.Reading.{digit_value, digits_in, digits_number, map_number_at};
 
-use crate::text::Number;
+use crate::memory::text::Number;
 
 /// The value of a digit, or 16.
 fn digit_value(byte: u8) -> u64
@@ -48,7 +48,7 @@ fn said(base: u64, digits: &[u8]) -> u64
 }
 
 /// The number at the front, in this base and in at most so many digits. All digits there belong to it.
-#[tactic(auto, unfolding(crate::specs::Reading::map_number_at))]
+#[tactic(auto, unfolding(crate::specs::memory::Reading::map_number_at))]
 pub(crate) fn take_number(base: u64, most: usize, text: &[u8]) -> Option<Number<'_>>
     requires base { base ≤ 16 }
     requires few { most ≤ 8 }

@@ -1,14 +1,14 @@
 //! A range, as the string has it: a count, a size with its unit, and a letter.
 
 ghost use Rattle.std.specs.Prelude.{◌≡◌, ◌*◌, ◌≤◌, ◌<◌, ◌^◌, IfOk};
-ghost use Rattle.dfuse_memory.specs.Ranges.{IsRange};
-ghost use Rattle.dfuse_memory.specs.Reading.{unit_bytes, unit_at, access_of, count_at, size_at, access_at, group_at};
+ghost use Rattle.dfu_formats.specs.memory.Ranges.{IsRange};
+ghost use Rattle.dfu_formats.specs.memory.Reading.{unit_bytes, unit_at, access_of, count_at, size_at, access_at, group_at};
 
-use crate::digits::take_number;
-use crate::fault::MapFault;
-use crate::limits::ADDRESSES;
-use crate::pages::{Access, Pages};
-use crate::text::{Number, behind, front};
+use crate::memory::digits::take_number;
+use crate::memory::fault::MapFault;
+use crate::memory::limits::ADDRESSES;
+use crate::memory::pages::{Access, Pages};
+use crate::memory::text::{Number, behind, front};
 use std::marker::Model;
 
 /// What may be done with pages, and the text after the letter that says it.
@@ -19,8 +19,8 @@ struct Allowed<'t> {
 }
 
 impl<'t> Model for Allowed<'t> {
-    ghost use Rattle.dfuse_memory.specs.Ranges.{IsRange};
-    ghost use Rattle.dfuse_memory.specs.Reading.{LetterRead};
+    ghost use Rattle.dfu_formats.specs.memory.Ranges.{IsRange};
+    ghost use Rattle.dfu_formats.specs.memory.Reading.{LetterRead};
 
     ghost Value = { LetterRead };
 
@@ -35,8 +35,8 @@ pub(crate) struct Group<'t> {
 }
 
 impl<'t> Model for Group<'t> {
-    ghost use Rattle.dfuse_memory.specs.Ranges.{IsRange};
-    ghost use Rattle.dfuse_memory.specs.Reading.{Grouped};
+    ghost use Rattle.dfu_formats.specs.memory.Ranges.{IsRange};
+    ghost use Rattle.dfu_formats.specs.memory.Reading.{Grouped};
 
     ghost Value = { Grouped };
 
@@ -57,7 +57,7 @@ fn unit_of(byte: u8) -> u64
 }
 
 /// A size in the unit at the front; in bytes, if there is no unit.
-#[tactic(auto, using(std::proofs::lemmas::Bool::Decides::nat_tests), unfolding(crate::specs::Reading::unit_at))]
+#[tactic(auto, using(std::proofs::lemmas::Bool::Decides::nat_tests), unfolding(crate::specs::memory::Reading::unit_at))]
 fn take_unit(value: u64, text: &[u8]) -> Number<'_>
     requires some { 1 ≤ value }
     requires small { value < 17 ^ 5 }
@@ -75,7 +75,7 @@ fn take_unit(value: u64, text: &[u8]) -> Number<'_>
 }
 
 /// Takes a count of pages, and `*`.
-#[tactic(auto, using(std::proofs::lemmas::Bool::Decides::nat_tests), unfolding(crate::specs::Reading::count_at))]
+#[tactic(auto, using(std::proofs::lemmas::Bool::Decides::nat_tests), unfolding(crate::specs::memory::Reading::count_at))]
 fn take_count(text: &[u8]) -> Result<Number<'_>, MapFault>
     ensures value { result ≡ count_at text.now }
     ensures small { IfOk result (λ n. (1 ≤ n.value) × (n.value < 17 ^ 5)) }
@@ -93,7 +93,7 @@ fn take_count(text: &[u8]) -> Result<Number<'_>, MapFault>
 }
 
 /// Takes the size of a page, with its unit.
-#[tactic(auto, using(std::proofs::lemmas::Bool::Decides::nat_tests), unfolding(crate::specs::Reading::size_at))]
+#[tactic(auto, using(std::proofs::lemmas::Bool::Decides::nat_tests), unfolding(crate::specs::memory::Reading::size_at))]
 fn take_size(text: &[u8]) -> Result<Number<'_>, MapFault>
     ensures value { result ≡ size_at text.now }
     ensures small { IfOk result (λ n. (1 ≤ n.value) × (n.value < 2 ^ 41)) }
@@ -118,7 +118,7 @@ fn access_of(letter: u8) -> Access
 }
 
 /// Takes the letter that says what may be done with the pages.
-#[tactic(auto, using(std::proofs::lemmas::Bool::Decides::nat_tests), unfolding(crate::specs::Reading::access_at))]
+#[tactic(auto, using(std::proofs::lemmas::Bool::Decides::nat_tests), unfolding(crate::specs::memory::Reading::access_at))]
 fn take_access(text: &[u8]) -> Result<Allowed<'_>, MapFault>
     ensures { result ≡ access_at text.now }
 {
@@ -132,7 +132,7 @@ fn take_access(text: &[u8]) -> Result<Allowed<'_>, MapFault>
 }
 
 /// Takes a range that begins at this address.
-#[tactic(auto, using(std::proofs::lemmas::Bool::Decides::nat_tests), unfolding(crate::specs::Reading::group_at))]
+#[tactic(auto, using(std::proofs::lemmas::Bool::Decides::nat_tests), unfolding(crate::specs::memory::Reading::group_at))]
 pub(crate) fn take_group(start: u64, text: &[u8]) -> Result<Group<'_>, MapFault>
     requires { start < 2 ^ 33 }
     ensures value { result ≡ group_at start text.now }

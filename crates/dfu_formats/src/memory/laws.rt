@@ -1,6 +1,6 @@
 //! Laws of memory maps. Each is the contract of a function with an empty body, which is proved and not to be called.
 
-ghost use Rattle.dfuse_memory.specs.Lookups.{OnePage};
+ghost use Rattle.dfu_formats.specs.memory.Lookups.{OnePage};
 
 /// Each address of a page is on that page.
 pub fn one_page()

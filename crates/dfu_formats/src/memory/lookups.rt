@@ -2,11 +2,11 @@
 
 ghost use Rattle.std.specs.Prelude.{◌≡◌, ◌≤◌, ◌<◌, ◌+◌, ◌^◌, ◌↔◌, true, IsTrue, IfSome};
 ghost use Rattle.std.specs.List.{All};
-ghost use Rattle.dfuse_memory.specs.Ranges.{IsRange, end_of_range, are_apart};
-ghost use Rattle.dfuse_memory.specs.Lookups.{has, range_at, page_at, page_in, end_of_page, AllGranted};
+ghost use Rattle.dfu_formats.specs.memory.Ranges.{IsRange, end_of_range, are_apart};
+ghost use Rattle.dfu_formats.specs.memory.Lookups.{has, range_at, page_at, page_in, end_of_page, AllGranted};
 
-use crate::pages::{Access, Page, Pages};
-use crate::ranges::end_of;
+use crate::memory::pages::{Access, Page, Pages};
+use crate::memory::ranges::end_of;
 
 /// Whether a range has this address.
 fn has(address: u64, pages: &Pages) -> bool
@@ -17,7 +17,7 @@ fn has(address: u64, pages: &Pages) -> bool
 }
 
 /// The range that has this address.
-#[tactic(auto, unfolding(crate::specs::Lookups::range_at))]
+#[tactic(auto, unfolding(crate::specs::memory::Lookups::range_at))]
 pub(crate) fn range_at(address: u64, ranges: &[Pages]) -> Option<Pages>
     requires { All IsRange ranges.now }
     ensures value { result ≡ range_at address ranges.now }

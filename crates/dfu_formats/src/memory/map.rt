@@ -2,20 +2,20 @@
 
 ghost use Rattle.std.specs.Prelude.{◌≡◌, ◌≤◌, ◌<◌, ◌^◌, ◌↔◌, length, true, IsTrue, Ok, Err, IfOk, IfSome};
 ghost use Rattle.std.specs.List.{All};
-ghost use Rattle.dfuse_memory.specs.Ranges.{IsRange, are_apart};
-ghost use Rattle.dfuse_memory.specs.Reading.{MapContent, map_at};
-ghost use Rattle.dfuse_memory.specs.declared.fault.MapFault.{MapFault};
-ghost use Rattle.dfuse_memory.specs.Grammar.{IsMap, FirstMapFault};
-ghost use Rattle.dfuse_memory.specs.Lookups.{range_at, page_at, end_of_page, AllGranted};
+ghost use Rattle.dfu_formats.specs.memory.Ranges.{IsRange, are_apart};
+ghost use Rattle.dfu_formats.specs.memory.Reading.{MapContent, map_at};
+ghost use Rattle.dfu_formats.specs.declared.memory.fault.MapFault.{MapFault};
+ghost use Rattle.dfu_formats.specs.memory.Grammar.{IsMap, FirstMapFault};
+ghost use Rattle.dfu_formats.specs.memory.Lookups.{range_at, page_at, end_of_page, AllGranted};
 
-use crate::apart::are_apart;
-use crate::fault::MapFault;
-use crate::limits::MOST_RANGES;
-use crate::lookups;
-use crate::name::take_name;
-use crate::pages::{Access, Page, Pages};
-use crate::place::take_address;
-use crate::ranges::take_ranges;
+use crate::memory::apart::are_apart;
+use crate::memory::fault::MapFault;
+use crate::memory::limits::MOST_RANGES;
+use crate::memory::lookups;
+use crate::memory::name::take_name;
+use crate::memory::pages::{Access, Page, Pages};
+use crate::memory::place::take_address;
+use crate::memory::ranges::take_ranges;
 use arrayvec::ArrayVec;
 use std::marker::Model;
 
@@ -29,8 +29,8 @@ pub struct Map<'t> {
 impl<'t> Model for Map<'t> {
     ghost use Rattle.std.specs.Prelude.{◌≡◌, true};
     ghost use Rattle.std.specs.List.{All};
-    ghost use Rattle.dfuse_memory.specs.Ranges.{IsRange, are_apart};
-    ghost use Rattle.dfuse_memory.specs.Reading.{MapContent};
+    ghost use Rattle.dfu_formats.specs.memory.Ranges.{IsRange, are_apart};
+    ghost use Rattle.dfu_formats.specs.memory.Reading.{MapContent};
 
     ghost Value = { MapContent };
 
@@ -40,7 +40,7 @@ impl<'t> Model for Map<'t> {
 }
 
 /// What a string says, or its first fault.
-#[tactic(auto, using(std::proofs::lemmas::Bool::Decides::nat_tests), unfolding(crate::specs::Reading::map_at))]
+#[tactic(auto, using(std::proofs::lemmas::Bool::Decides::nat_tests), unfolding(crate::specs::memory::Reading::map_at))]
 fn read_map(text: &[u8]) -> Result<Map<'_>, MapFault>
     ensures { result ≡ map_at text.now }
 {

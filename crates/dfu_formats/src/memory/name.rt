@@ -2,10 +2,10 @@
 
 ghost use Rattle.std.specs.Prelude.{◌≡◌, ◌<◌, length, IfSome};
 ghost use Rattle.std.specs.List.{position};
-ghost use Rattle.dfuse_memory.specs.Reading.{is_stroke, trimmed, map_name_at};
+ghost use Rattle.dfu_formats.specs.memory.Reading.{is_stroke, trimmed, map_name_at};
 
-use crate::fault::MapFault;
-use crate::text::behind;
+use crate::memory::fault::MapFault;
+use crate::memory::text::behind;
 use std::marker::Model;
 
 /// A name, and the text after it.
@@ -16,7 +16,7 @@ pub(crate) struct Named<'t> {
 }
 
 impl<'t> Model for Named<'t> {
-    ghost use Rattle.dfuse_memory.specs.Reading.{Named};
+    ghost use Rattle.dfu_formats.specs.memory.Reading.{Named};
 
     ghost Value = { Named };
 
@@ -48,7 +48,7 @@ fn stroke_in(text: &[u8]) -> Option<usize>
 }
 
 /// Takes a name that `@` begins and `/` ends.
-#[tactic(auto, using(std::proofs::lemmas::Bool::Decides::nat_tests), unfolding(crate::specs::Reading::map_name_at))]
+#[tactic(auto, using(std::proofs::lemmas::Bool::Decides::nat_tests), unfolding(crate::specs::memory::Reading::map_name_at))]
 pub(crate) fn take_name(text: &[u8]) -> Result<Named<'_>, MapFault>
     ensures { result ≡ map_name_at text.now }
 {

@@ -1,7 +1,7 @@
 //! Pages, and ranges of them.
 
 ghost use Rattle.std.specs.Prelude.{◌≡◌};
-ghost use Rattle.dfuse_memory.specs.Lookups.{grants};
+ghost use Rattle.dfu_formats.specs.memory.Lookups.{grants};
 
 /// What may be done with a page.
 #[derive(Clone, Copy, Debug, Default, PartialEq, Eq)]

@@ -1,14 +1,14 @@
 //! Where ranges begin: at an address of their own, or where the one before ends.
 
 ghost use Rattle.std.specs.Prelude.{◌≡◌, ◌<◌, ◌^◌, IfOk, IfSome};
-ghost use Rattle.dfuse_memory.specs.Reading.{behind_prefix, address_at, next_at};
+ghost use Rattle.dfu_formats.specs.memory.Reading.{behind_prefix, address_at, next_at};
 
-use crate::digits::take_number;
-use crate::fault::MapFault;
-use crate::text::{Number, behind, front};
+use crate::memory::digits::take_number;
+use crate::memory::fault::MapFault;
+use crate::memory::text::{Number, behind, front};
 
 /// The text after `0x` or `0X`, which may be missing.
-#[tactic(auto, using(std::proofs::lemmas::Bool::Decides::nat_tests), unfolding(crate::specs::Reading::behind_prefix))]
+#[tactic(auto, using(std::proofs::lemmas::Bool::Decides::nat_tests), unfolding(crate::specs::memory::Reading::behind_prefix))]
 fn behind_prefix(text: &[u8]) -> &[u8]
     ensures { result.now ≡ behind_prefix text.now }
 {
@@ -22,7 +22,7 @@ fn behind_prefix(text: &[u8]) -> &[u8]
 }
 
 /// Takes an address, and `/`.
-#[tactic(auto, using(std::proofs::lemmas::Bool::Decides::nat_tests), unfolding(crate::specs::Reading::address_at))]
+#[tactic(auto, using(std::proofs::lemmas::Bool::Decides::nat_tests), unfolding(crate::specs::memory::Reading::address_at))]
 pub(crate) fn take_address(text: &[u8]) -> Result<Number<'_>, MapFault>
     ensures value { result ≡ address_at text.now }
     ensures small { IfOk result (λ n. n.value < 2 ^ 33) }
@@ -40,7 +40,7 @@ pub(crate) fn take_address(text: &[u8]) -> Result<Number<'_>, MapFault>
 }
 
 /// Takes what leads to the next range, after one that ends at this address.
-#[tactic(auto, using(std::proofs::lemmas::Bool::Decides::nat_tests), unfolding(crate::specs::Reading::next_at))]
+#[tactic(auto, using(std::proofs::lemmas::Bool::Decides::nat_tests), unfolding(crate::specs::memory::Reading::next_at))]
 pub(crate) fn take_next(end: u64, text: &[u8]) -> Result<Option<Number<'_>>, MapFault>
     requires { end < 2 ^ 33 }
     ensures value { result ≡ next_at end text.now }

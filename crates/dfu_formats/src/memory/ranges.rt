@@ -2,15 +2,15 @@
 
 ghost use Rattle.std.specs.Prelude.{◌≡◌, ◌<◌, ◌≤◌, ◌^◌, IfOk};
 ghost use Rattle.std.specs.List.{All};
-ghost use Rattle.dfuse_memory.specs.Ranges.{IsRange, end_of_range, is_apart, is_apart_from, are_apart};
-ghost use Rattle.dfuse_memory.specs.Reading.{ranges_at};
-ghost use Rattle.dfuse_memory.specs.inside.Listing.{ListsRanges};
+ghost use Rattle.dfu_formats.specs.memory.Ranges.{IsRange, end_of_range, is_apart, is_apart_from, are_apart};
+ghost use Rattle.dfu_formats.specs.memory.Reading.{ranges_at};
+ghost use Rattle.dfu_formats.specs.inside.Listing.{ListsRanges};
 
-use crate::fault::MapFault;
-use crate::group::take_group;
-use crate::limits::MOST_RANGES;
-use crate::pages::Pages;
-use crate::place::take_next;
+use crate::memory::fault::MapFault;
+use crate::memory::group::take_group;
+use crate::memory::limits::MOST_RANGES;
+use crate::memory::pages::Pages;
+use crate::memory::place::take_next;
 use arrayvec::ArrayVec;
 
 /// The address after the last byte of a range.

@@ -1,7 +1,7 @@
 //! Pieces taken off the front of a text.
 
 ghost use Rattle.std.specs.Prelude.{◌≡◌, [], ◌∷◌, Some, None, IfSome, MatchOption};
-ghost use Rattle.dfuse_memory.specs.Reading.{behind};
+ghost use Rattle.dfu_formats.specs.memory.Reading.{behind};
 
 use std::marker::Model;
 
@@ -13,7 +13,7 @@ pub(crate) struct Number<'t> {
 }
 
 impl<'t> Model for Number<'t> {
-    ghost use Rattle.dfuse_memory.specs.Reading.{NumberRead};
+    ghost use Rattle.dfu_formats.specs.memory.Reading.{NumberRead};
 
     ghost Value = { NumberRead };
 
@@ -34,7 +34,7 @@ pub(crate) fn front(text: &[u8]) -> Option<(u8, &[u8])>
 }
 
 /// What follows this byte, if the text begins with it.
-#[tactic(auto, using(std::proofs::lemmas::Bool::Decides::nat_tests), unfolding(crate::specs::Reading::behind))]
+#[tactic(auto, using(std::proofs::lemmas::Bool::Decides::nat_tests), unfolding(crate::specs::memory::Reading::behind))]
 pub(crate) fn behind(byte: u8, text: &[u8]) -> Option<&[u8]>
     ensures { MatchOption result (behind byte text.now ≡ None) (λ rest. behind byte text.now ≡ Some rest.now) }
 {

@@ -1,9 +1,9 @@
 -- What came of a call.
 use Rattle.std.specs.Prelude.{◌≡◌, ◌⊎◌, ℕ, ℤ, List, Some, None}
 use Rattle.std.specs.Borrow.{Bor}
-use Rattle.dfuse_memory.specs.Reading.{MapContent}
-use Rattle.dfuse_memory.specs.Grammar.{IsMap}
-use Rattle.dfuse_host.specs.declared.element.Element.{Element}
+use Rattle.dfu_formats.specs.memory.Reading.{MapContent}
+use Rattle.dfu_formats.specs.memory.Grammar.{IsMap}
+use Rattle.dfu_formats.specs.declared.dfuse.element.Element.{Element}
 use Rattle.dfuse_host.specs.declared.seen.Seen.{Seen}
 use Rattle.dfuse_host.specs.declared.session.Session.{Session}
 use Rattle.dfuse_host.specs.Deeds.{dfuse_deed}

@@ -1,9 +1,9 @@
 -- A DfuSe file, as records for C.
 use Rattle.std.specs.Prelude.{◌≡◌, ℕ, ℤ, List, length, Option, Some, None}
-use Rattle.dfuse_host.specs.declared.element.Element.{Element}
-use Rattle.dfuse_file.specs.Reading.{DfuseContent}
-use Rattle.dfuse_file.specs.Grammar.{IsDfuSe, FirstFileFault}
-use Rattle.dfuse_file.specs.Images.{elements_for, image_fault, one_setting, ListsBehind}
+use Rattle.dfu_formats.specs.declared.dfuse.element.Element.{Element}
+use Rattle.dfu_formats.specs.dfuse.Reading.{DfuseContent}
+use Rattle.dfu_formats.specs.dfuse.Grammar.{IsDfuSe, FirstFileFault}
+use Rattle.dfu_formats.specs.dfuse.Images.{elements_for, image_fault, one_setting, ListsBehind}
 use Rattle.dfu_host_c.specs.Refusals.{IsRefusedFor}
 use Rattle.dfu_host_c.specs.declared.refusals.Refusal.TheVariants as refusal
 use Rattle.dfu_host_c.specs.declared.dfuse.file.DfuseFile.{DfuseFile}

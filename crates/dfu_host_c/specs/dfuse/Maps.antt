@@ -1,10 +1,10 @@
 -- A memory map, as records for C.
 use Rattle.std.specs.Prelude.{◌≡◌, ℕ, ℤ, ◌+◌, ◌*◌, List, length, Some, None}
 use Rattle.std.specs.List.{slice_get}
-use Rattle.dfuse_memory.specs.Reading.{MapContent}
-use Rattle.dfuse_memory.specs.Grammar.{IsMap, FirstMapFault}
-use Rattle.dfuse_memory.specs.declared.pages.Access.{Access}
-use Rattle.dfuse_memory.specs.declared.pages.Pages.{Pages}
+use Rattle.dfu_formats.specs.memory.Reading.{MapContent}
+use Rattle.dfu_formats.specs.memory.Grammar.{IsMap, FirstMapFault}
+use Rattle.dfu_formats.specs.declared.memory.pages.Access.{Access}
+use Rattle.dfu_formats.specs.declared.memory.pages.Pages.{Pages}
 use Rattle.dfu_host_c.specs.Refusals.{IsRefusedFor}
 use Rattle.dfu_host_c.specs.dfuse.Sessions.{bit}
 use Rattle.dfu_host_c.specs.declared.refusals.Refusal.TheVariants as refusal

@@ -1,9 +1,9 @@
 -- Which DfuSe session a record holds.
 use Rattle.std.specs.Prelude.{◌≡◌, ℕ, Bool, true, false, ◌==◌, not, if◌then◌else◌, List, Option, Some, None, option_map}
 use Rattle.std.specs.Borrow.{Bor}
-use Rattle.dfuse_memory.specs.Reading.{MapContent}
-use Rattle.dfuse_memory.specs.Grammar.{IsMap}
-use Rattle.dfuse_host.specs.declared.element.Element.{Element}
+use Rattle.dfu_formats.specs.memory.Reading.{MapContent}
+use Rattle.dfu_formats.specs.memory.Grammar.{IsMap}
+use Rattle.dfu_formats.specs.declared.dfuse.element.Element.{Element}
 use Rattle.dfuse_host.specs.declared.phase.Phase.{Phase}
 use Rattle.dfuse_host.specs.declared.limits.Limits.{Limits}
 use Rattle.dfuse_host.specs.declared.plan.Plan.{Plan}

@@ -4,7 +4,7 @@ ghost use Rattle.std.specs.Prelude.{◌≡◌, ◌⊎◌, pos};
 ghost use Rattle.dfu_host_c.specs.dfuse.Files.{file_record, setting_number, HasFile, IsNoDfuSe};
 
 use crate::refusals::Refusal;
-use dfuse_file::{File, read};
+use dfu_formats::dfuse::{File, read};
 
 /// `struct dfuse_file`: what a DfuSe file says. The header says what each number means.
 #[repr(C)]

@@ -4,7 +4,7 @@ ghost use Rattle.std.specs.Prelude.{◌≡◌, ◌⊎◌, length, pos};
 ghost use Rattle.dfu_host_c.specs.dfuse.Files.{HasFileElements, HasNoElements, IsNoDfuSe};
 
 use crate::refusals::Refusal;
-use dfuse_file::read;
+use dfu_formats::dfuse::read;
 use dfuse_host::Element;
 
 /// Lists the elements of a DfuSe file for an alternate setting, in the order of the file, at the front of the places: 0, or the file's

@@ -1,16 +1,16 @@
 //! The session of a record, and the record of a session.
 
 ghost use Rattle.std.specs.Prelude.{◌≡◌, IfSome, None, Some};
-ghost use Rattle.dfuse_memory.specs.Grammar.{IsMap};
-ghost use Rattle.dfuse_memory.specs.Reading.{MapContent};
+ghost use Rattle.dfu_formats.specs.memory.Grammar.{IsMap};
+ghost use Rattle.dfu_formats.specs.memory.Reading.{MapContent};
 ghost use Rattle.dfu_host_c.specs.dfuse.Sessions.{numbers_of, phase_in, dfuse_record_of, session_in};
 
 use crate::dfuse::phases::{EncodedDfusePhase, numbers_of, phase_at};
 use crate::dfuse::plan::DfusePlan;
 use crate::dfuse::session::DfuseSession;
 use crate::version::VERSION;
+use dfu_formats::memory::Map;
 use dfuse_host::{Element, Phase, Session};
-use dfuse_memory::Map;
 
 /// The numbers of a record's phase.
 fn numbers_in(given: &DfuseSession) -> EncodedDfusePhase

@@ -5,7 +5,7 @@ ghost use Rattle.dfu_host_c.specs.dfuse.Maps.{access_number, map_record, range_r
 ghost use Rattle.dfu_host_c.specs.Refusals.{no_range};
 
 use crate::refusals::{NO_RANGE, Refusal};
-use dfuse_memory::{Access, Map, Pages};
+use dfu_formats::memory::{Access, Map, Pages};
 
 /// `struct dfuse_map`: what a map has. The header says what each number means.
 #[repr(C)]

@@ -3,8 +3,8 @@
 ghost use Rattle.std.specs.Prelude.{◌≡◌};
 ghost use Rattle.dfu_host_c.specs.dfuse.Sessions.{dfuse_plan_of};
 
+use dfu_formats::memory::Map;
 use dfuse_host::{Element, Plan};
-use dfuse_memory::Map;
 
 /// `struct dfuse_plan`: what a session is to do beside its map and its image. The header says what each number means.
 #[repr(C)]

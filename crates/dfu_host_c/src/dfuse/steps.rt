@@ -11,8 +11,8 @@ use crate::dfuse::plan::DfusePlan;
 use crate::dfuse::session::DfuseSession;
 use crate::refusals::{NO_SEEN, NO_SESSION, Refusal};
 use crate::seen::dfuse_seen_at;
+use dfu_formats::memory::Map;
 use dfuse_host::{Element, Limits, Session};
-use dfuse_memory::Map;
 
 /// Begins a session that writes an image and reads it back: 0, or why the string is not a map, or why the plan is refused.
 #[unsafe(no_mangle)]

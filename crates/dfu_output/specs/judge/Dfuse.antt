@@ -5,8 +5,8 @@ use Rattle.dfu_conformance.specs.declared.event.LogEvent.{LogEvent}
 use Rattle.dfu_conformance.specs.declared.verdict.Departure.{Departure}
 use Rattle.dfu_conformance.specs.declared.standard.TheConstants.{STANDARD}
 use Rattle.dfu_conformance.specs.declared.habits.TheConstants.{HABITS}
-use Rattle.dfuse_conformance.specs.declared.rows.TheConstants.{DFUSE}
-use Rattle.dfuse_conformance.specs.Runs.{is_told, of_dfuse}
+use Rattle.dfu_conformance.specs.declared.dfuse.rows.TheConstants.{DFUSE}
+use Rattle.dfu_conformance.specs.dfuse.Runs.{is_told, of_dfuse}
 use Rattle.dfu_output.specs.judge.Names.{asked_name}
 use Rattle.dfu_output.specs.judge.Texts.{allowed_text, departs_text, each}
 

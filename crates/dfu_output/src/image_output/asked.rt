@@ -3,7 +3,7 @@
 ghost use Rattle.std.specs.Prelude.{◌≡◌, ◌≤◌, codes, None, Some};
 ghost use Rattle.dfu_output.specs.Asked.{IsNoFormat, fill_in};
 
-use dfu_images::{Format, hex_digit};
+use dfu_formats::images::{Format, hex_digit};
 
 /// How FILE is taken.
 #[derive(Clone, Copy, Debug, PartialEq, Eq)]

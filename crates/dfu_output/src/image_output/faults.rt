@@ -7,7 +7,7 @@ ghost use Rattle.dfu_output.specs.ImageLines.{ending_name, fault_text, not_image
 use crate::image_output::lines::format_name;
 use crate::image_output::numbers::{addressed, numbered};
 use crate::{made_field, push};
-use dfu_images::{Ending, ImageFault, ImageFileFault, LayFault, NotImage};
+use dfu_formats::images::{Ending, ImageFault, ImageFileFault, LayFault, NotImage};
 use std::alloc::{AllocError, Global};
 
 /// A fault of a file by its name, with its line, block, segment or address.

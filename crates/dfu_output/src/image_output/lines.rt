@@ -5,7 +5,7 @@ ghost use Rattle.std.specs.String.{string_bytes};
 ghost use Rattle.dfu_output.specs.ImageLines.{format_name, image_format_line};
 
 use crate::{made_field, push};
-use dfu_images::Format;
+use dfu_formats::images::Format;
 use std::alloc::{AllocError, Global};
 
 /// The name of a format, as `--format` has it.

@@ -1,7 +1,7 @@
 //! Reasons, in words.
 
 use crate::image_output::lines::format_name;
-use dfu_images::{Ending, Format, ImageFault, ImageFileFault, LayFault, NotImage, Place};
+use dfu_formats::images::{Ending, Format, ImageFault, ImageFileFault, LayFault, NotImage, Place};
 use std::alloc::{AllocError, Global};
 
 /// What to do about a file that makes no image; nothing if the reason says it.

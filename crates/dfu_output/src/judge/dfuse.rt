@@ -8,8 +8,8 @@ ghost use Rattle.dfu_output.specs.judge.Texts.{each};
 use crate::judge::names::asked_name;
 use crate::judge::texts::{departs_line, push_if_allowed};
 use crate::numbers::{field, push};
+use dfu_conformance::dfuse::{DFUSE, is_of_dfuse, is_told};
 use dfu_conformance::{Departure, HABITS, LogEvent, Row, STANDARD};
-use dfuse_conformance::{DFUSE, is_of_dfuse, is_told};
 use std::alloc::{AllocError, Global};
 
 /// Adds the line of a row that is for a DfuSe device and says what was allowed.

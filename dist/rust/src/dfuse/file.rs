@@ -1,11 +1,11 @@
-// Of crates/dfuse_file/src/lib.rt, whose contracts are taken away.
+// Of crates/dfu_formats/src/dfuse.rt, whose contracts are taken away.
 
 //! DfuSe files (ST's UM0391): what goes where in a device's memory, as elements of an address and bytes.
 //!
 //! `read` takes a whole file apart. `File::image` lists the elements of one alternate setting by their addresses, as `dfuse::session` wants
-//! them; `read_raw` makes one of a file without addresses, and `list` takes those that `formats` reads. The crate takes no memory and
-//! opens no file.
+//! them; `read_raw` makes one of a file without addresses, and `list` takes those that `formats` reads. It takes no memory.
 
+mod element;
 mod elements;
 mod fault;
 mod file;
@@ -18,6 +18,7 @@ mod raw;
 mod suffix;
 mod targets;
 
+pub use element::Element;
 pub use elements::Elements;
 pub use fault::FileFault;
 pub use file::{File, read};

@@ -1,4 +1,4 @@
-// Of crates/dfuse_memory/src/lib.rt, whose contracts are taken away.
+// Of crates/dfu_formats/src/memory.rt, whose contracts are taken away.
 
 //! The memory map of a DfuSe device: ranges of pages, read from the string of an alternate setting.
 

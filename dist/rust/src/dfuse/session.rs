@@ -10,7 +10,6 @@ mod asking;
 mod clearing;
 mod closing;
 mod command;
-mod element;
 mod fault;
 mod heard;
 mod image;
@@ -30,7 +29,7 @@ mod step;
 mod work;
 
 pub use action::Action;
-pub use element::Element;
+pub use crate::dfuse::file::Element;
 pub use fault::PlanFault;
 pub use limits::Limits;
 pub use phase::{Phase, Standing};

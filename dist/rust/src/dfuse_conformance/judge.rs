@@ -1,4 +1,4 @@
-// Of crates/dfuse_conformance/src/judge.rt, whose contracts are taken away.
+// Of crates/dfu_conformance/src/dfuse/judge.rt, whose contracts are taken away.
 
 //! The judge.
 
@@ -11,7 +11,7 @@ const EVERYWHERE: Places = [true; 12];
 /// A judge of one DfuSe device, about which nothing is known at first. It takes no memory beyond its own 12 bytes.
 #[derive(Clone, Copy, Debug, PartialEq, Eq)]
 pub struct DfuseJudge {
-    /// By place, in the order of `conformance::StandardState`: whether a DfuSe device may be there now, by the events since the
+    /// By place, in the order of `StandardState`: whether a DfuSe device may be there now, by the events since the
     /// last departure.
     pub at: [bool; 12],
 }

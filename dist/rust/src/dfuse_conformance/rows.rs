@@ -1,4 +1,4 @@
-// Of crates/dfuse_conformance/src/rows.rt, whose contracts are taken away.
+// Of crates/dfu_conformance/src/dfuse/rows.rt, whose contracts are taken away.
 
 //! What DfuSe adds to the table of USB DFU 1.1.
 

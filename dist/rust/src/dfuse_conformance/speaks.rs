@@ -1,4 +1,4 @@
-// Of crates/dfuse_conformance/src/speaks.rt, whose contracts are taken away.
+// Of crates/dfu_conformance/src/dfuse/speaks.rt, whose contracts are taken away.
 
 //! Whether a row is for a DfuSe device, and whether it may stay where it was.
 

@@ -1,4 +1,4 @@
-// Of crates/dfuse_conformance/src/stands.rt, whose contracts are taken away.
+// Of crates/dfu_conformance/src/dfuse/stands.rt, whose contracts are taken away.
 
 //! Where a device may be.
 

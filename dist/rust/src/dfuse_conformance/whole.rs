@@ -1,4 +1,4 @@
-// Of crates/dfuse_conformance/src/whole.rt, whose contracts are taken away.
+// Of crates/dfu_conformance/src/dfuse/whole.rt, whose contracts are taken away.
 
 //! The first departure of a whole list of events.
 

@@ -1,4 +1,4 @@
-// Of crates/dfu_images/src/digits.rt, whose contracts are taken away.
+// Of crates/dfu_formats/src/images/digits.rt, whose contracts are taken away.
 
 //! Bytes in two hexadecimal digits each.
 

@@ -1,4 +1,4 @@
-// Of crates/dfu_images/src/element.rt, whose contracts are taken away.
+// Of crates/dfu_formats/src/images/element.rt, whose contracts are taken away.
 
 //! A part of an image.
 

@@ -1,4 +1,4 @@
-// Of crates/dfu_images/src/elf.rt, whose contracts are taken away.
+// Of crates/dfu_formats/src/images/elf.rt, whose contracts are taken away.
 
 //! ELF files of 32 bits, little endian: what their segments load.
 

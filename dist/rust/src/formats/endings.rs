@@ -1,4 +1,4 @@
-// Of crates/dfu_images/src/endings.rt, whose contracts are taken away.
+// Of crates/dfu_formats/src/images/endings.rt, whose contracts are taken away.
 
 //! What the ending of a file's name says.
 

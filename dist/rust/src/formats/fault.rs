@@ -1,4 +1,4 @@
-// Of crates/dfu_images/src/fault.rt, whose contracts are taken away.
+// Of crates/dfu_formats/src/images/fault.rt, whose contracts are taken away.
 
 //! Why a file is refused.
 

@@ -1,4 +1,4 @@
-// Of crates/dfu_images/src/format.rt, whose contracts are taken away.
+// Of crates/dfu_formats/src/images/format.rt, whose contracts are taken away.
 
 //! Formats of files.
 

@@ -1,4 +1,4 @@
-// Of crates/dfu_images/src/gathering.rt, whose contracts are taken away.
+// Of crates/dfu_formats/src/images/gathering.rt, whose contracts are taken away.
 
 //! Elements, as they are gathered from records.
 

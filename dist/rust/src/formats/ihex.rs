@@ -1,4 +1,4 @@
-// Of crates/dfu_images/src/ihex.rt, whose contracts are taken away.
+// Of crates/dfu_formats/src/images/ihex.rt, whose contracts are taken away.
 
 //! Intel HEX, records 00 to 05.
 //!

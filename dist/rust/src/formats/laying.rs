@@ -1,4 +1,4 @@
-// Of crates/dfu_images/src/laying.rt, whose contracts are taken away.
+// Of crates/dfu_formats/src/images/laying.rt, whose contracts are taken away.
 
 //! An image as one piece, from the lowest address of its elements on.
 

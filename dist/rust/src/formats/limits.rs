@@ -1,4 +1,4 @@
-// Of crates/dfu_images/src/limits.rt, whose contracts are taken away.
+// Of crates/dfu_formats/src/images/limits.rt, whose contracts are taken away.
 
 //! Limits.
 

@@ -1,4 +1,4 @@
-// Of crates/dfu_images/src/lines.rt, whose contracts are taken away.
+// Of crates/dfu_formats/src/images/lines.rt, whose contracts are taken away.
 
 //! The lines of a text, and formats that are read line by line.
 

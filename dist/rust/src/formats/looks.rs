@@ -1,4 +1,4 @@
-// Of crates/dfu_images/src/looks.rt, whose contracts are taken away.
+// Of crates/dfu_formats/src/images/looks.rt, whose contracts are taken away.
 
 //! What a file without a DFU suffix is.
 

@@ -1,4 +1,4 @@
-// Of crates/dfu_images/src/making.rt, whose contracts are taken away.
+// Of crates/dfu_formats/src/images/making.rt, whose contracts are taken away.
 
 //! One piece of a file of any format.
 

@@ -1,4 +1,4 @@
-// Of crates/dfu_images/src/numbers.rt, whose contracts are taken away.
+// Of crates/dfu_formats/src/images/numbers.rt, whose contracts are taken away.
 
 //! Numbers in bytes, the lowest first.
 

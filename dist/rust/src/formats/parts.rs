@@ -1,4 +1,4 @@
-// Of crates/dfu_images/src/parts.rt, whose contracts are taken away.
+// Of crates/dfu_formats/src/images/parts.rt, whose contracts are taken away.
 
 //! Formats that are read part by part, each part of one size.
 

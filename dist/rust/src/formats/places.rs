@@ -1,4 +1,4 @@
-// Of crates/dfu_images/src/places.rt, whose contracts are taken away.
+// Of crates/dfu_formats/src/images/places.rt, whose contracts are taken away.
 
 //! The first byte of a text of records that no record has there.
 

@@ -1,4 +1,4 @@
-// Of crates/dfu_images/src/srec.rt, whose contracts are taken away.
+// Of crates/dfu_formats/src/images/srec.rt, whose contracts are taken away.
 
 //! S-records, types 0 to 3 and 5 to 9.
 //!

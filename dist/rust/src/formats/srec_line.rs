@@ -1,4 +1,4 @@
-// Of crates/dfu_images/src/srec_line.rt, whose contracts are taken away.
+// Of crates/dfu_formats/src/images/srec_line.rt, whose contracts are taken away.
 
 //! One S-record: its type, its address and its data, from the text of its line.
 

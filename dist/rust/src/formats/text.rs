@@ -1,4 +1,4 @@
-// Of crates/dfu_images/src/text.rt, whose contracts are taken away.
+// Of crates/dfu_formats/src/images/text.rt, whose contracts are taken away.
 
 //! The text of a file: its byte order mark, its blanks, and whether it is text alone.
 

@@ -1,4 +1,4 @@
-// Of crates/dfu_images/src/uf2.rt, whose contracts are taken away.
+// Of crates/dfu_formats/src/images/uf2.rt, whose contracts are taken away.
 
 //! UF2.
 

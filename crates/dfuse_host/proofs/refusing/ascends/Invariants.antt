@@ -1,5 +1,5 @@
 use Rattle.std.proofs.Common.{◌≡◌, drop}
-use Rattle.dfuse_host.specs.Refusing.{ascends_from}
+use Rattle.dfu_formats.specs.dfuse.Images.{ascends_from}
 use Rattle.dfuse_host.proofs.refusing.ascends.Given as goal
 
 abbrev pub invariant-loop-element : goal.invariant-loop-element

@@ -1,10 +1,10 @@
-// Of crates/dfuse_file/src/elements.rt, whose contracts are taken away.
+// Of crates/dfu_formats/src/dfuse/elements.rt, whose contracts are taken away.
 
 //! Elements, one after the other.
 
+use crate::dfuse::file::element::Element;
 use crate::dfuse::file::fault::FileFault;
 use crate::dfuse::file::numbers::number_at;
-use crate::dfuse::session::Element;
 
 /// An element, and the bytes after it.
 struct Split<'f> {

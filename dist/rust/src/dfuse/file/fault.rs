@@ -1,4 +1,4 @@
-// Of crates/dfuse_file/src/fault.rt, whose contracts are taken away.
+// Of crates/dfu_formats/src/dfuse/fault.rt, whose contracts are taken away.
 
 //! Why a file is refused.
 

@@ -1,4 +1,4 @@
-// Of crates/dfuse_file/src/file.rt, whose contracts are taken away.
+// Of crates/dfu_formats/src/dfuse/file.rt, whose contracts are taken away.
 
 //! A DfuSe file.
 

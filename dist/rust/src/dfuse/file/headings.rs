@@ -1,4 +1,4 @@
-// Of crates/dfuse_file/src/headings.rt, whose contracts are taken away.
+// Of crates/dfu_formats/src/dfuse/headings.rt, whose contracts are taken away.
 
 //! What a target says before its elements.
 

@@ -1,10 +1,10 @@
-// Of crates/dfuse_file/src/image.rt, whose contracts are taken away.
+// Of crates/dfu_formats/src/dfuse/image.rt, whose contracts are taken away.
 
 //! The elements of a file for an alternate setting.
 
+use crate::dfuse::file::element::Element;
 use crate::dfuse::file::file::File;
 use crate::dfuse::file::listing::put;
-use crate::dfuse::session::Element;
 use thiserror::Error;
 
 /// Why a file has no image for a setting: the first of these that holds.

@@ -1,11 +1,9 @@
-// Of crates/dfuse_file/src/listing.rt, whose contracts are taken away.
+// Of crates/dfu_formats/src/dfuse/listing.rt, whose contracts are taken away.
 
 //! Elements of a session, from those of files.
 
+use crate::dfuse::file::element::Element;
 use crate::dfuse::file::elements::Elements;
-#[cfg(feature = "formats")]
-use crate::formats as images;
-use crate::dfuse::session::Element;
 
 /// Puts elements into `room` after the first `from`, and answers how many there are then, or None if they don't fit.
 pub(crate) fn put<'f>(
@@ -28,7 +26,7 @@ pub(crate) fn put<'f>(
 /// Puts elements that a reader of `formats` gave into the front of `room`, in their order: how many they are, or None if they don't fit.
 /// Elements of one file are by their addresses, as a session wants them.
 #[cfg(feature = "formats")]
-pub fn list<'p>(pieces: &'p [images::Element], room: &mut [Element<'p>]) -> Option<usize> {
+pub fn list<'p>(pieces: &'p [crate::formats::Element], room: &mut [Element<'p>]) -> Option<usize> {
     if pieces.len() > room.len() {
         return None;
     }

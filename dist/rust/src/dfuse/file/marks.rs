@@ -1,4 +1,4 @@
-// Of crates/dfuse_file/src/marks.rt, whose contracts are taken away.
+// Of crates/dfu_formats/src/dfuse/marks.rt, whose contracts are taken away.
 
 //! The letters that mark the parts of a file.
 

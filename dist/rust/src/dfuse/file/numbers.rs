@@ -1,4 +1,4 @@
-// Of crates/dfuse_file/src/numbers.rt, whose contracts are taken away.
+// Of crates/dfu_formats/src/dfuse/numbers.rt, whose contracts are taken away.
 
 //! Numbers in bytes.
 

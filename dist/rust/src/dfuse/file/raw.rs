@@ -1,10 +1,10 @@
-// Of crates/dfuse_file/src/raw.rt, whose contracts are taken away.
+// Of crates/dfu_formats/src/dfuse/raw.rt, whose contracts are taken away.
 
 //! A file without addresses, as one element.
 
+use crate::dfuse::file::element::Element;
 use crate::dfuse::file::marks::is_prefixed;
 use crate::suffix::SuffixFault;
-use crate::dfuse::session::Element;
 use thiserror::Error;
 
 /// Why a file can't be written to an address: the first of these that holds.

@@ -1,4 +1,4 @@
-// Of crates/dfuse_file/src/suffix.rt, whose contracts are taken away.
+// Of crates/dfu_formats/src/dfuse/suffix.rt, whose contracts are taken away.
 
 //! The suffix of a file, with bcdDFU 011Ah.
 

@@ -1,4 +1,4 @@
-// Of crates/dfuse_file/src/targets.rt, whose contracts are taken away.
+// Of crates/dfu_formats/src/dfuse/targets.rt, whose contracts are taken away.
 
 //! Targets, one after the other.
 

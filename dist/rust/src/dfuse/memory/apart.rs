@@ -1,4 +1,4 @@
-// Of crates/dfuse_memory/src/apart.rt, whose contracts are taken away.
+// Of crates/dfu_formats/src/memory/apart.rt, whose contracts are taken away.
 
 //! Whether ranges share an address.
 

@@ -1,4 +1,4 @@
-// Of crates/dfuse_memory/src/digits.rt, whose contracts are taken away.
+// Of crates/dfu_formats/src/memory/digits.rt, whose contracts are taken away.
 
 //! Numbers in digits.
 

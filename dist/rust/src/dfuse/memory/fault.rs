@@ -1,4 +1,4 @@
-// Of crates/dfuse_memory/src/fault.rt, whose contracts are taken away.
+// Of crates/dfu_formats/src/memory/fault.rt, whose contracts are taken away.
 
 //! Why a string is refused.
 

@@ -1,4 +1,4 @@
-// Of crates/dfuse_memory/src/group.rt, whose contracts are taken away.
+// Of crates/dfu_formats/src/memory/group.rt, whose contracts are taken away.
 
 //! A range, as the string has it: a count, a size with its unit, and a letter.
 

@@ -1,4 +1,4 @@
-// Of crates/dfuse_memory/src/limits.rt, whose contracts are taken away.
+// Of crates/dfu_formats/src/memory/limits.rt, whose contracts are taken away.
 
 //! Limits.
 

@@ -1,4 +1,4 @@
-// Of crates/dfuse_memory/src/lookups.rt, whose contracts are taken away.
+// Of crates/dfu_formats/src/memory/lookups.rt, whose contracts are taken away.
 
 //! What ranges say of an address.
 

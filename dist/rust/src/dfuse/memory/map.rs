@@ -1,4 +1,4 @@
-// Of crates/dfuse_memory/src/map.rt, whose contracts are taken away.
+// Of crates/dfu_formats/src/memory/map.rt, whose contracts are taken away.
 
 //! A memory map.
 

@@ -1,4 +1,4 @@
-// Of crates/dfuse_memory/src/name.rt, whose contracts are taken away.
+// Of crates/dfu_formats/src/memory/name.rt, whose contracts are taken away.
 
 //! The name of a memory.
 

@@ -1,4 +1,4 @@
-// Of crates/dfuse_memory/src/pages.rt, whose contracts are taken away.
+// Of crates/dfu_formats/src/memory/pages.rt, whose contracts are taken away.
 
 //! Pages, and ranges of them.
 

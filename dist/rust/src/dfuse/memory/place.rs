@@ -1,4 +1,4 @@
-// Of crates/dfuse_memory/src/place.rt, whose contracts are taken away.
+// Of crates/dfu_formats/src/memory/place.rt, whose contracts are taken away.
 
 //! Where ranges begin: at an address of their own, or where the one before ends.
 

@@ -1,4 +1,4 @@
-// Of crates/dfuse_memory/src/ranges.rt, whose contracts are taken away.
+// Of crates/dfu_formats/src/memory/ranges.rt, whose contracts are taken away.
 
 //! Ranges, one after the other.
 

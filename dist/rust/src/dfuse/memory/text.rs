@@ -1,4 +1,4 @@
-// Of crates/dfuse_memory/src/text.rt, whose contracts are taken away.
+// Of crates/dfu_formats/src/memory/text.rt, whose contracts are taken away.
 
 //! Pieces taken off the front of a text.
 

@@ -2,7 +2,7 @@
 
 //! Which bytes an image has, by their addresses.
 
-use crate::dfuse::session::element::Element;
+use crate::dfuse::file::Element;
 
 /// The address after the last byte of an element.
 pub(crate) fn end_of(element: &Element<'_>) -> u64 {

@@ -2,8 +2,8 @@
 
 //! What a session is to do.
 
-use crate::dfuse::session::element::Element;
 use crate::dfuse::session::image::{element_at, end_of, image_start};
+use crate::dfuse::file::Element;
 use crate::dfuse::memory::{Map, Page};
 
 /// What a session is to do.

@@ -2,10 +2,10 @@
 
 //! When a plan is refused.
 
-use crate::dfuse::session::element::Element;
 use crate::dfuse::session::fault::PlanFault;
 use crate::dfuse::session::image::end_of;
 use crate::dfuse::session::plan::Plan;
+use crate::dfuse::file::Element;
 use crate::dfuse::memory::Access;
 
 /// Whether there is no element, or one without bytes.

@@ -1,5 +1,5 @@
 use Rattle.std.specs.Prelude.{length}
-use Rattle.dfu_pcap.proofs.joining.exchanges_of.Given as goal
+use Rattle.dfu_conformance.proofs.captures.joining.exchanges_of.Given as goal
 
 abbrev pub decreases-loop-rest : goal.decreases-loop-rest
 decreases-loop-rest l = length l.rest

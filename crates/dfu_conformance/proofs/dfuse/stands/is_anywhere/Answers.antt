@@ -1,8 +1,8 @@
 use Rattle.std.specs.Prelude.{◌≡◌, ℕ, false, slice_index_or}
 use Rattle.std.proofs.Common.{ap, ◌∙◌, arith}
 use Rattle.dfu_conformance.specs.inside.Stepped.{some_below}
-use Rattle.dfuse_conformance.specs.inside.Stepped.{is_somewhere}
-use Rattle.dfuse_conformance.proofs.stands.is_anywhere.Goals as goal
+use Rattle.dfu_conformance.specs.inside.DfuseStep.{is_somewhere}
+use Rattle.dfu_conformance.proofs.dfuse.stands.is_anywhere.Goals as goal
 
 pub returns : goal.returns
 unfolding is_somewhere

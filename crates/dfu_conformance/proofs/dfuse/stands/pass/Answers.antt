@@ -1,7 +1,7 @@
 use Rattle.std.proofs.Common.{arith}
-use Rattle.dfuse_conformance.specs.inside.Stepped.{leads_to}
-use Rattle.dfuse_conformance.proofs.Passes.{one_row}
-use Rattle.dfuse_conformance.proofs.stands.pass.Goals as goal
+use Rattle.dfu_conformance.specs.inside.DfuseStep.{leads_to}
+use Rattle.dfu_conformance.proofs.DfusePasses.{one_row}
+use Rattle.dfu_conformance.proofs.dfuse.stands.pass.Goals as goal
 
 pub loop-row-preserved : goal.loop-row-preserved
 loop-row-preserved c n =

@@ -1,9 +1,9 @@
 use Rattle.std.specs.Prelude.{◌≡◌, ◌||◌, take}
 use Rattle.std.specs.List.{list_any}
 use Rattle.dfu_conformance.specs.declared.row.StandardState.{StandardState}
-use Rattle.dfuse_conformance.specs.Verdicts.{may_stand}
-use Rattle.dfuse_conformance.specs.inside.Stepped.{leads_to}
-use Rattle.dfuse_conformance.proofs.stands.pass.Given as goal
+use Rattle.dfu_conformance.specs.dfuse.Verdicts.{may_stand}
+use Rattle.dfu_conformance.specs.inside.DfuseStep.{leads_to}
+use Rattle.dfu_conformance.proofs.dfuse.stands.pass.Given as goal
 
 abbrev pub invariant-loop-row : goal.invariant-loop-row
 invariant-loop-row l = (n : StandardState)

@@ -5,10 +5,10 @@ use Rattle.dfu_conformance.specs.declared.row.StandardState.{StandardState}
 use Rattle.dfu_conformance.specs.declared.standard.TheConstants.{STANDARD}
 use Rattle.dfu_conformance.specs.declared.marks.TheConstants.{MARKS}
 use Rattle.dfu_conformance.specs.declared.habits.TheConstants.{HABITS}
-use Rattle.dfuse_conformance.specs.declared.rows.TheConstants.{DFUSE}
-use Rattle.dfuse_conformance.specs.Verdicts.{may_stand}
-use Rattle.dfuse_conformance.specs.inside.Stepped.{leads_to, led_or_rests, then_moved}
-use Rattle.dfuse_conformance.proofs.stands.step.Goals as goal
+use Rattle.dfu_conformance.specs.declared.dfuse.rows.TheConstants.{DFUSE}
+use Rattle.dfu_conformance.specs.dfuse.Verdicts.{may_stand}
+use Rattle.dfu_conformance.specs.inside.DfuseStep.{leads_to, led_or_rests, then_moved}
+use Rattle.dfu_conformance.proofs.dfuse.stands.step.Goals as goal
 
 pub returns : goal.returns
 returns c n =

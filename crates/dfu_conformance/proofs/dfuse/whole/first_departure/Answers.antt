@@ -2,10 +2,10 @@ use Rattle.std.specs.Prelude.{◌≡◌, ◌<◌, List, take, length, is_some}
 use Rattle.std.proofs.Common.{sym, ap, subst, arith}
 use Rattle.std.proofs.lemmas.List.{take_more, take_all}
 use Rattle.dfu_conformance.specs.declared.event.LogEvent.{LogEvent}
-use Rattle.dfuse_conformance.specs.Runs.{DfuseCanAnswer}
-use Rattle.dfuse_conformance.specs.Verdicts.{AreHeld}
-use Rattle.dfuse_conformance.proofs.Verdicts.{can_nothing, is_first}
-use Rattle.dfuse_conformance.proofs.whole.first_departure.Goals as goal
+use Rattle.dfu_conformance.specs.dfuse.Runs.{DfuseCanAnswer}
+use Rattle.dfu_conformance.specs.dfuse.Verdicts.{AreHeld}
+use Rattle.dfu_conformance.proofs.DfuseVerdicts.{can_nothing, is_first}
+use Rattle.dfu_conformance.proofs.dfuse.whole.first_departure.Goals as goal
 
 pub loop-n-init : goal.loop-n-init
 loop-n-init c = record { can = can_nothing; held = c.new-judge.ensures }

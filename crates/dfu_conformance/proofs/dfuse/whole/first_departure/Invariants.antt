@@ -1,7 +1,7 @@
 use Rattle.std.specs.Prelude.{take}
-use Rattle.dfuse_conformance.specs.Runs.{DfuseCanAnswer}
-use Rattle.dfuse_conformance.specs.Verdicts.{AreHeld}
-use Rattle.dfuse_conformance.proofs.whole.first_departure.Given as goal
+use Rattle.dfu_conformance.specs.dfuse.Runs.{DfuseCanAnswer}
+use Rattle.dfu_conformance.specs.dfuse.Verdicts.{AreHeld}
+use Rattle.dfu_conformance.proofs.dfuse.whole.first_departure.Given as goal
 
 abbrev pub invariant-loop-n : goal.invariant-loop-n
 invariant-loop-n l = record {

@@ -1,7 +1,7 @@
 use Rattle.std.proofs.Common.{◌+◌, ◌-◌, sym, ap, ◌∙◌, arith}
-use Rattle.dfuse_file.specs.Reading.{Split}
-use Rattle.dfuse_file.proofs.WalkLaws.{walked, walked_out, elements_asked, element_further, element_fault, elements_end}
-use Rattle.dfuse_file.proofs.elements.check_elements.Goals as goal
+use Rattle.dfu_formats.specs.dfuse.Reading.{Split}
+use Rattle.dfu_formats.proofs.WalkLaws.{walked, walked_out, elements_asked, element_further, element_fault, elements_end}
+use Rattle.dfu_formats.proofs.dfuse.elements.check_elements.Goals as goal
 
 pub returns-in-Err : goal.returns-in-Err
 returns-in-Err c =

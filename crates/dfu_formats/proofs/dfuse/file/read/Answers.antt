@@ -1,6 +1,6 @@
 use Rattle.std.proofs.Common.{◌∙◌, arith}
-use Rattle.dfuse_file.proofs.FileLaws.{answer_found, file_read}
-use Rattle.dfuse_file.proofs.file.read.Goals as goal
+use Rattle.dfu_formats.proofs.FileLaws.{answer_found, file_read}
+use Rattle.dfu_formats.proofs.dfuse.file.read.Goals as goal
 
 pub returns-clause-found : goal.returns-clause-found
 returns-clause-found c = answer_found c.read_file.result c.args.bytes.now (λ k. omega (arith, c.type_inv.bytes k)) c.read_file.ensures

@@ -1,9 +1,9 @@
 use Rattle.std.proofs.Common.{rules}
 use Rattle.std.proofs.lemmas.List.Sorted.{IsNonDecreasingBy-from_sort_by_key}
 use Rattle.std.proofs.Common.{arith}
-use Rattle.dfuse_host.specs.declared.element.Element.{Element}
-use Rattle.dfuse_file.proofs.ImageLaws.{ascends}
-use Rattle.dfuse_file.proofs.image.sort_all.Goals as goal
+use Rattle.dfu_formats.specs.declared.dfuse.element.Element.{Element}
+use Rattle.dfu_formats.proofs.ImageLaws.{ascends}
+use Rattle.dfu_formats.proofs.dfuse.image.sort_all.Goals as goal
 
 pub returns-clause-sorted : goal.returns-clause-sorted
 returns-clause-sorted c =

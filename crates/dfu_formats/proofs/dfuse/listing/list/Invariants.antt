@@ -1,6 +1,6 @@
 use Rattle.std.proofs.Common.{◌≡◌, ◌-◌, ◌≤◌, length, map, take}
-use Rattle.dfuse_file.specs.Found.{piece_of}
-use Rattle.dfuse_file.proofs.listing.list.Given as goal
+use Rattle.dfu_formats.specs.dfuse.Found.{piece_of}
+use Rattle.dfu_formats.proofs.dfuse.listing.list.Given as goal
 
 abbrev pub invariant-loop-count : goal.invariant-loop-count
 invariant-loop-count l = record {

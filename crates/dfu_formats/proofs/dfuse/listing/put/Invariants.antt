@@ -1,6 +1,6 @@
 use Rattle.std.proofs.Common.{◌≡◌, ◌+◌, ◌≤◌, ◌++◌, length, map, take}
-use Rattle.dfuse_file.specs.Found.{piece_of}
-use Rattle.dfuse_file.proofs.listing.put.Given as goal
+use Rattle.dfu_formats.specs.dfuse.Found.{piece_of}
+use Rattle.dfu_formats.proofs.dfuse.listing.put.Given as goal
 
 abbrev pub invariant-loop-element : goal.invariant-loop-element
 invariant-loop-element l = record {

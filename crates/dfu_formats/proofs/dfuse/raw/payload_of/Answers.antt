@@ -1,10 +1,10 @@
 use Rattle.std.proofs.Common.{Some, None, sym, ◌∙◌}
 use Rattle.std.specs.Prelude.{find}
 use Rattle.dfu_suffix.specs.Grammar.{has_fault, fault_order}
-use Rattle.dfuse_file.proofs.SuffixLaws.{no_fault}
+use Rattle.dfu_formats.proofs.SuffixLaws.{no_fault}
 use Rattle.dfu_suffix.proofs.OneReading.{paid}
-use Rattle.dfuse_file.proofs.RawLaws.{by_fault, by_none}
-use Rattle.dfuse_file.proofs.raw.payload_of.Goals as goal
+use Rattle.dfu_formats.proofs.RawLaws.{by_fault, by_none}
+use Rattle.dfu_formats.proofs.dfuse.raw.payload_of.Goals as goal
 
 pub returns-in-Ok : goal.returns-in-Ok
 returns-in-Ok c =

@@ -2,9 +2,9 @@ use Rattle.std.proofs.Common.{Option, Some, Err, sym, ap, ◌∙◌}
 use Rattle.std.specs.Prelude.{find}
 use Rattle.dfu_suffix.specs.Grammar.{has_fault, fault_order}
 use Rattle.dfu_suffix.specs.declared.fault.SuffixFault.{SuffixFault}
-use Rattle.dfuse_file.specs.Reading.{suffix_by}
-use Rattle.dfuse_file.proofs.SuffixLaws.{no_fault, is_other, other_fault, the_fault, is_the_fault, long_enough}
-use Rattle.dfuse_file.proofs.suffix.read_suffix.Goals as goal
+use Rattle.dfu_formats.specs.dfuse.Reading.{suffix_by}
+use Rattle.dfu_formats.proofs.SuffixLaws.{no_fault, is_other, other_fault, the_fault, is_the_fault, long_enough}
+use Rattle.dfu_formats.proofs.dfuse.suffix.read_suffix.Goals as goal
 
 pub returns-in-Ok : goal.returns-in-Ok
 returns-in-Ok c =

@@ -1,7 +1,7 @@
 use Rattle.std.proofs.Common.{◌≡◌, ◌+◌, ◌-◌, Ok, Err, sym, ap, ◌∙◌, subst, arith}
-use Rattle.dfuse_file.specs.Reading.{Heading}
-use Rattle.dfuse_file.proofs.WalkLaws.{walked, walked_out, elements_asked, targets_asked, target_further, heading_fault, target_fault, targets_end}
-use Rattle.dfuse_file.proofs.targets.check_targets.Goals as goal
+use Rattle.dfu_formats.specs.dfuse.Reading.{Heading}
+use Rattle.dfu_formats.proofs.WalkLaws.{walked, walked_out, elements_asked, targets_asked, target_further, heading_fault, target_fault, targets_end}
+use Rattle.dfu_formats.proofs.dfuse.targets.check_targets.Goals as goal
 
 pub returns-in-Err : goal.returns-in-Err
 returns-in-Err c =

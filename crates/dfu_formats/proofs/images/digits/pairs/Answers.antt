@@ -1,8 +1,8 @@
 use Rattle.std.proofs.Common.{◌≡◌, ◌*◌, length, ◌+◌, ◌<◌, drop, get_or, ℕ, List, sym, subst, arith}
 use Rattle.std.proofs.Common.{inl, inr}
-use Rattle.dfu_images.specs.Digits.{hex_value, pairs}
-use Rattle.dfu_images.proofs.PairLaws.{joined, spelled_all, spelled_odd, spelled_high, spelled_low, spelled_more}
-use Rattle.dfu_images.proofs.digits.pairs.Goals as goal
+use Rattle.dfu_formats.specs.images.Digits.{hex_value, pairs}
+use Rattle.dfu_formats.proofs.PairLaws.{joined, spelled_all, spelled_odd, spelled_high, spelled_low, spelled_more}
+use Rattle.dfu_formats.proofs.images.digits.pairs.Goals as goal
 
 pub returns-then-at-digits : goal.returns-then-at-digits
 returns-then-at-digits c = spelled_odd c.args.digits.now c.loop-at.bytes.items c.loop-at.at (omega arith) c.loop-at.invariant.so_far

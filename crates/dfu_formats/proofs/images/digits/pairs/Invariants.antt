@@ -1,7 +1,7 @@
 use Rattle.std.proofs.Common.{◌≡◌, ◌-◌, ◌*◌, ◌≤◌, length, drop}
-use Rattle.dfu_images.specs.Digits.{pairs}
-use Rattle.dfu_images.proofs.PairLaws.{joined}
-use Rattle.dfu_images.proofs.digits.pairs.Given as goal
+use Rattle.dfu_formats.specs.images.Digits.{pairs}
+use Rattle.dfu_formats.proofs.PairLaws.{joined}
+use Rattle.dfu_formats.proofs.images.digits.pairs.Given as goal
 
 abbrev pub invariant-loop-at : goal.invariant-loop-at
 invariant-loop-at l = record {

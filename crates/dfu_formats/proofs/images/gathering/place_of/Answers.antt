@@ -1,7 +1,7 @@
 use Rattle.std.proofs.Common.{◌+◌, ◌∙◌, ap, sym, arith, get_or, ℕ}
-use Rattle.dfu_images.specs.Elements.{Piece}
-use Rattle.dfu_images.proofs.PlaceLaws.{place_more, place_stop, place_end}
-use Rattle.dfu_images.proofs.gathering.place_of.Goals as goal
+use Rattle.dfu_formats.specs.images.Elements.{Piece}
+use Rattle.dfu_formats.proofs.PlaceLaws.{place_more, place_stop, place_end}
+use Rattle.dfu_formats.proofs.images.gathering.place_of.Goals as goal
 
 pub returns-then-address-clause-value : goal.returns-then-address-clause-value
 returns-then-address-clause-value c =

@@ -1,8 +1,8 @@
 use Rattle.std.proofs.Common.{◌+◌, List, [], ◌∷◌, ℕ, length, drop, refl, sym, ap, ◌∙◌, subst, arith}
-use Rattle.dfu_images.specs.Elements.{Piece}
-use Rattle.dfu_images.specs.Laying.{laid, lowest}
-use Rattle.dfu_images.proofs.LayLaws.{LaysOn, lays_first, lays_ahead, lays_fault, lays_on, lays_all, from_lowest, drop_next, drop_all}
-use Rattle.dfu_images.proofs.laying.lay.Goals as goal
+use Rattle.dfu_formats.specs.images.Elements.{Piece}
+use Rattle.dfu_formats.specs.images.Laying.{laid, lowest}
+use Rattle.dfu_formats.proofs.LayLaws.{LaysOn, lays_first, lays_ahead, lays_fault, lays_on, lays_all, from_lowest, drop_next, drop_all}
+use Rattle.dfu_formats.proofs.images.laying.lay.Goals as goal
 
 pub loop-element-init : goal.loop-element-init
 loop-element-init c =

@@ -1,7 +1,7 @@
 use Rattle.std.proofs.Common.{◌≤◌, length, drop}
-use Rattle.dfu_images.specs.Laying.{laid, lowest}
-use Rattle.dfu_images.proofs.LayLaws.{LaysOn}
-use Rattle.dfu_images.proofs.laying.lay.Given as goal
+use Rattle.dfu_formats.specs.images.Laying.{laid, lowest}
+use Rattle.dfu_formats.proofs.LayLaws.{LaysOn}
+use Rattle.dfu_formats.proofs.images.laying.lay.Given as goal
 
 abbrev pub invariant-loop-element : goal.invariant-loop-element
 invariant-loop-element l = record {

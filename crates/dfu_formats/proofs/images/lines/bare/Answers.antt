@@ -1,8 +1,8 @@
 use Rattle.std.proofs.Common.{◌≡◌, take, sym, ap, ◌∙◌, arith}
-use Rattle.dfu_images.specs.Lines.{to_last, bare}
-use Rattle.dfu_images.proofs.BareLaws.{all_left, one_less, nothing_left, other_last}
-use Rattle.dfu_images.proofs.lines.bare.Goals as goal
-use Rattle.dfu_images.proofs.lines.bare.Goals.{then-loop-end-test+else-is_blank_byte, else-loop-end-test}
+use Rattle.dfu_formats.specs.images.Lines.{to_last, bare}
+use Rattle.dfu_formats.proofs.BareLaws.{all_left, one_less, nothing_left, other_last}
+use Rattle.dfu_formats.proofs.images.lines.bare.Goals as goal
+use Rattle.dfu_formats.proofs.images.lines.bare.Goals.{then-loop-end-test+else-is_blank_byte, else-loop-end-test}
 
 pub loop-end-init : goal.loop-end-init
 loop-end-init c = record { within = omega (arith); blank = all_left c.unblanked-from_first.result.now }

@@ -1,6 +1,6 @@
 use Rattle.std.proofs.Common.{◌≤◌, length}
-use Rattle.dfu_images.proofs.BareLaws.{AreBlank}
-use Rattle.dfu_images.proofs.lines.bare.Given as goal
+use Rattle.dfu_formats.proofs.BareLaws.{AreBlank}
+use Rattle.dfu_formats.proofs.images.lines.bare.Given as goal
 
 abbrev pub invariant-loop-end : goal.invariant-loop-end
 invariant-loop-end l = record {

@@ -1,8 +1,8 @@
 use Rattle.std.proofs.Common.{List, ℕ, sym, ap, ◌∙◌, arith, Bor}
-use Rattle.dfu_images.specs.Lines.{State, lines, line_read}
-use Rattle.dfu_images.proofs.LineLaws.{some_first}
-use Rattle.dfu_images.proofs.ReadLaws.{line_done, line_fault, all_done, end_missing}
-use Rattle.dfu_images.proofs.lines.lines_read.Goals as goal
+use Rattle.dfu_formats.specs.images.Lines.{State, lines, line_read}
+use Rattle.dfu_formats.proofs.LineLaws.{some_first}
+use Rattle.dfu_formats.proofs.ReadLaws.{line_done, line_fault, all_done, end_missing}
+use Rattle.dfu_formats.proofs.images.lines.lines_read.Goals as goal
 
 pub returns-in-Err : goal.returns-in-Err
 returns-in-Err g c =

@@ -1,6 +1,6 @@
 use Rattle.std.proofs.Common.{◌≡◌, ◌+◌, ◌<◌, ◌≤◌, length}
-use Rattle.dfu_images.specs.Lines.{lines, text_start, line_read, lines_read}
-use Rattle.dfu_images.proofs.lines.lines_read.Given as goal
+use Rattle.dfu_formats.specs.images.Lines.{lines, text_start, line_read, lines_read}
+use Rattle.dfu_formats.proofs.images.lines.lines_read.Given as goal
 
 abbrev pub invariant-loop-next : goal.invariant-loop-next
 invariant-loop-next g l = record {

@@ -1,7 +1,7 @@
 use Rattle.std.proofs.Common.{◌≡◌, ℕ, ◌+◌, List, ◌∷◌, take, drop, sym, ap, ◌∙◌, arith}
-use Rattle.dfu_images.specs.Lines.{lines}
-use Rattle.dfu_images.proofs.LineLaws.{lines_at, lines_last}
-use Rattle.dfu_images.proofs.lines.take_line.Goals as goal
+use Rattle.dfu_formats.specs.images.Lines.{lines}
+use Rattle.dfu_formats.proofs.LineLaws.{lines_at, lines_last}
+use Rattle.dfu_formats.proofs.images.lines.take_line.Goals as goal
 
 pub returns-in-Some-clause-value : goal.returns-in-Some-clause-value
 returns-in-Some-clause-value c =

@@ -1,7 +1,7 @@
 use Rattle.std.proofs.Common.{◌≡◌, ◌-◌, ◌+◌, ◌*◌, ◌∙◌, ℕ, ap, suc, arith}
 use Rattle.std.proofs.Math.Nat.{suc-mul}
-use Rattle.dfu_images.proofs.ReadLaws.{part_done, part_fault, parts_done}
-use Rattle.dfu_images.proofs.parts.parts_read.Goals as goal
+use Rattle.dfu_formats.proofs.ReadLaws.{part_done, part_fault, parts_done}
+use Rattle.dfu_formats.proofs.images.parts.parts_read.Goals as goal
 
 pub returns-in-Err : goal.returns-in-Err
 returns-in-Err g c =

@@ -1,7 +1,7 @@
 use Rattle.std.proofs.Common.{◌≡◌, ◌-◌, ◌*◌, ◌≤◌, length}
-use Rattle.dfu_images.specs.Reading.{parts_read}
-use Rattle.dfu_images.specs.Elements.{nothing}
-use Rattle.dfu_images.proofs.parts.parts_read.Given as goal
+use Rattle.dfu_formats.specs.images.Reading.{parts_read}
+use Rattle.dfu_formats.specs.images.Elements.{nothing}
+use Rattle.dfu_formats.proofs.images.parts.parts_read.Given as goal
 
 abbrev pub invariant-loop-index : goal.invariant-loop-index
 invariant-loop-index g l = record {

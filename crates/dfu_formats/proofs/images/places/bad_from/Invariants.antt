@@ -1,7 +1,7 @@
 use Rattle.std.proofs.Common.{◌≡◌, ◌+◌, ◌≤◌, drop}
-use Rattle.dfu_images.specs.Places.{bad_from}
-use Rattle.dfu_images.specs.declared.places.Part.TheVariants.{Front}
-use Rattle.dfu_images.proofs.places.bad_from.Given as goal
+use Rattle.dfu_formats.specs.images.Places.{bad_from}
+use Rattle.dfu_formats.specs.declared.images.places.Part.TheVariants.{Front}
+use Rattle.dfu_formats.proofs.images.places.bad_from.Given as goal
 
 abbrev pub invariant-loop-byte : goal.invariant-loop-byte
 invariant-loop-byte l = record {

@@ -1,6 +1,6 @@
 use Rattle.std.proofs.Common.{arith}
 use Rattle.std.proofs.Math.Nat.{pow-le-pow_right}
-use Rattle.dfu_images.proofs.srec_line.number.Goals as goal
+use Rattle.dfu_formats.proofs.images.srec_line.number.Goals as goal
 
 pub overflow_mul-value : goal.overflow_mul-value
 overflow_mul-value c =

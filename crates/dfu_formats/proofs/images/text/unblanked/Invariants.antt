@@ -1,6 +1,6 @@
 use Rattle.std.proofs.Common.{◌≡◌, length}
-use Rattle.dfu_images.specs.Text.{unblanked}
-use Rattle.dfu_images.proofs.text.unblanked.Given as goal
+use Rattle.dfu_formats.specs.images.Text.{unblanked}
+use Rattle.dfu_formats.proofs.images.text.unblanked.Given as goal
 
 abbrev pub invariant-loop-rest : goal.invariant-loop-rest
 invariant-loop-rest l = unblanked l.rest ≡ unblanked l.text

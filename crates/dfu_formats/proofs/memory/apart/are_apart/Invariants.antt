@@ -1,6 +1,6 @@
 use Rattle.std.proofs.Common.{◌≡◌, drop}
-use Rattle.dfuse_memory.specs.Ranges.{are_apart}
-use Rattle.dfuse_memory.proofs.apart.are_apart.Given as goal
+use Rattle.dfu_formats.specs.memory.Ranges.{are_apart}
+use Rattle.dfu_formats.proofs.memory.apart.are_apart.Given as goal
 
 abbrev pub invariant-loop-one : goal.invariant-loop-one
 invariant-loop-one l = (l.count ≡ l.one-index) × (are_apart l.ranges ≡ are_apart (drop l.one-index l.ranges))

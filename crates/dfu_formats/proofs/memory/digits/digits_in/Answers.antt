@@ -1,7 +1,7 @@
 use Rattle.std.proofs.Common.{◌+◌, ◌∙◌, ap, arith, get_or, ℕ}
-use Rattle.dfuse_memory.specs.Reading.{digit_value}
-use Rattle.dfuse_memory.proofs.DigitLaws.{digits_more, digits_stop, digits_end}
-use Rattle.dfuse_memory.proofs.digits.digits_in.Goals as goal
+use Rattle.dfu_formats.specs.memory.Reading.{digit_value}
+use Rattle.dfu_formats.proofs.DigitLaws.{digits_more, digits_stop, digits_end}
+use Rattle.dfu_formats.proofs.memory.digits.digits_in.Goals as goal
 
 pub returns-then-digit_value-base-clause-value : goal.returns-then-digit_value-base-clause-value
 returns-then-digit_value-base-clause-value c =

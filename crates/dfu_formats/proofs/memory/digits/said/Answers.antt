@@ -1,6 +1,6 @@
 use Rattle.std.proofs.Common.{◌+◌, sym, ap, ◌*◌, ℕ, arith, length}
-use Rattle.dfuse_memory.proofs.DigitLaws.{said_next, said_none, power_next, power_most, at_most_16}
-use Rattle.dfuse_memory.proofs.digits.said.Goals as goal
+use Rattle.dfu_formats.proofs.DigitLaws.{said_next, said_none, power_next, power_most, at_most_16}
+use Rattle.dfu_formats.proofs.memory.digits.said.Goals as goal
 
 pub loop-byte-init : goal.loop-byte-init
 loop-byte-init c = (sym (said_none c.args.base 0 c.args.digits.now), omega arith)

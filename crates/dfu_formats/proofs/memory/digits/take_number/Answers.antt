@@ -1,6 +1,6 @@
 use Rattle.std.proofs.Common.{length, arith}
-use Rattle.dfuse_memory.proofs.DigitLaws.{power_most}
-use Rattle.dfuse_memory.proofs.digits.take_number.Goals as goal
+use Rattle.dfu_formats.proofs.DigitLaws.{power_most}
+use Rattle.dfu_formats.proofs.memory.digits.take_number.Goals as goal
 
 pub returns-clause-small : goal.returns-clause-small
 returns-clause-small c =

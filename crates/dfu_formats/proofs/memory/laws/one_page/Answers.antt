@@ -1,5 +1,5 @@
-use Rattle.dfuse_memory.proofs.OnePageLaw.{one_page}
-use Rattle.dfuse_memory.proofs.laws.one_page.Goals as goal
+use Rattle.dfu_formats.proofs.OnePageLaw.{one_page}
+use Rattle.dfu_formats.proofs.memory.laws.one_page.Goals as goal
 
 pub returns : goal.returns
 returns c = one_page

@@ -1,7 +1,7 @@
 use Rattle.std.proofs.Common.{ℕ, sym, ◌∙◌, subst, arith}
-use Rattle.dfuse_memory.specs.Lookups.{AllGranted}
-use Rattle.dfuse_memory.proofs.OneRange.{granted_on}
-use Rattle.dfuse_memory.proofs.lookups.all_granted.Goals as goal
+use Rattle.dfu_formats.specs.memory.Lookups.{AllGranted}
+use Rattle.dfu_formats.proofs.OneRange.{granted_on}
+use Rattle.dfu_formats.proofs.memory.lookups.all_granted.Goals as goal
 
 pub loop-at-preserved : goal.loop-at-preserved
 loop-at-preserved c =

@@ -1,6 +1,6 @@
 use Rattle.std.proofs.Common.{◌-◌, ◌≤◌}
-use Rattle.dfuse_memory.specs.Lookups.{AllGranted}
-use Rattle.dfuse_memory.proofs.lookups.all_granted.Given as goal
+use Rattle.dfu_formats.specs.memory.Lookups.{AllGranted}
+use Rattle.dfu_formats.proofs.memory.lookups.all_granted.Given as goal
 
 abbrev pub invariant-loop-at : goal.invariant-loop-at
 invariant-loop-at l = record {

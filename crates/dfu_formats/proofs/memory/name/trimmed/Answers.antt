@@ -1,7 +1,7 @@
 use Rattle.std.proofs.Common.{◌+◌, ℕ, take, refl, ap, ◌∙◌, sym, arith}
-use Rattle.dfuse_memory.proofs.NameLaws.{space_next, byte_next, trimmed_none, trimmed_whole}
-use Rattle.dfuse_memory.proofs.name.trimmed.Goals as goal
-use Rattle.dfuse_memory.proofs.name.trimmed.Goals.{then-byte-ne32, else-byte-ne32}
+use Rattle.dfu_formats.proofs.NameLaws.{space_next, byte_next, trimmed_none, trimmed_whole}
+use Rattle.dfu_formats.proofs.memory.name.trimmed.Goals as goal
+use Rattle.dfu_formats.proofs.memory.name.trimmed.Goals.{then-byte-ne32, else-byte-ne32}
 
 pub loop-byte-init : goal.loop-byte-init
 loop-byte-init c = record { counted = refl; within = omega arith; kept = trimmed_none c.args.bytes.now }

@@ -1,6 +1,6 @@
 use Rattle.std.proofs.Common.{◌≡◌, ◌≤◌, take}
-use Rattle.dfuse_memory.specs.Reading.{trimmed}
-use Rattle.dfuse_memory.proofs.name.trimmed.Given as goal
+use Rattle.dfu_formats.specs.memory.Reading.{trimmed}
+use Rattle.dfu_formats.proofs.memory.name.trimmed.Given as goal
 
 abbrev pub invariant-loop-byte : goal.invariant-loop-byte
 invariant-loop-byte l = record {

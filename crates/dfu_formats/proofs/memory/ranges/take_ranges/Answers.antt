@@ -1,11 +1,11 @@
 use Rattle.std.proofs.Common.{◌≡◌, ◌<◌, List, length, sym, ap, ◌∙◌, subst, arith, Ok}
 use Rattle.std.proofs.lemmas.Bool.Decides.{nat_tests}
-use Rattle.dfuse_memory.specs.declared.pages.Pages.{Pages}
+use Rattle.dfu_formats.specs.declared.memory.pages.Pages.{Pages}
 use Rattle.std.specs.List.{All}
-use Rattle.dfuse_memory.specs.Ranges.{IsRange}
-use Rattle.dfuse_memory.specs.Reading.{NumberRead, Grouped, ranges_at}
-use Rattle.dfuse_memory.proofs.RangeLaws.{Goes, goes_first, goes_fault, goes_full, goes_behind, goes_last, goes_on, sound_more, next_by, pushed_by, goes_moved}
-use Rattle.dfuse_memory.proofs.ranges.take_ranges.Goals as goal
+use Rattle.dfu_formats.specs.memory.Ranges.{IsRange}
+use Rattle.dfu_formats.specs.memory.Reading.{NumberRead, Grouped, ranges_at}
+use Rattle.dfu_formats.proofs.RangeLaws.{Goes, goes_first, goes_fault, goes_full, goes_behind, goes_last, goes_on, sound_more, next_by, pushed_by, goes_moved}
+use Rattle.dfu_formats.proofs.memory.ranges.take_ranges.Goals as goal
 
 pub loop-group-init : goal.loop-group-init
 loop-group-init c = record {

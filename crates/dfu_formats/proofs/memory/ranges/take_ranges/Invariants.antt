@@ -1,9 +1,9 @@
 use Rattle.std.proofs.Common.{◌-◌, ◌^◌, ◌<◌, ◌≤◌, length}
 use Rattle.std.specs.List.{All}
-use Rattle.dfuse_memory.specs.Ranges.{IsRange}
-use Rattle.dfuse_memory.specs.Reading.{ranges_at}
-use Rattle.dfuse_memory.proofs.RangeLaws.{Goes}
-use Rattle.dfuse_memory.proofs.ranges.take_ranges.Given as goal
+use Rattle.dfu_formats.specs.memory.Ranges.{IsRange}
+use Rattle.dfu_formats.specs.memory.Reading.{ranges_at}
+use Rattle.dfu_formats.proofs.RangeLaws.{Goes}
+use Rattle.dfu_formats.proofs.memory.ranges.take_ranges.Given as goal
 
 abbrev pub invariant-loop-group : goal.invariant-loop-group
 invariant-loop-group l = record {

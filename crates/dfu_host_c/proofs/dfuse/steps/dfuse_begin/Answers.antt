@@ -1,7 +1,7 @@
 use Rattle.std.proofs.Common.{rules, ◌≡◌, ◌∙◌, inl, inr, refl, ap, sym, subst}
 use Rattle.std.specs.Borrow.{Bor}
-use Rattle.dfuse_memory.specs.Grammar.{IsMap}
-use Rattle.dfuse_memory.specs.Reading.{MapContent}
+use Rattle.dfu_formats.specs.memory.Grammar.{IsMap}
+use Rattle.dfu_formats.specs.memory.Reading.{MapContent}
 use Rattle.dfuse_host.specs.declared.plan.Plan.{Plan}
 use Rattle.dfuse_host.specs.Refusing.{FirstPlanFault}
 use Rattle.dfu_host_c.specs.dfuse.Sessions.{dfuse_plan_of}

@@ -1,7 +1,7 @@
 use Rattle.std.proofs.Common.{◌∙◌, ◌++◌, ℕ, List, ap}
 use Rattle.dfu_conformance.specs.declared.standard.TheConstants.{STANDARD}
 use Rattle.dfu_conformance.specs.declared.habits.TheConstants.{HABITS}
-use Rattle.dfuse_conformance.specs.declared.rows.TheConstants.{DFUSE}
+use Rattle.dfu_conformance.specs.declared.dfuse.rows.TheConstants.{DFUSE}
 use Rattle.dfu_output.specs.judge.Texts.{each}
 use Rattle.dfu_output.specs.judge.Dfuse.{dfuse_allowed_text, dfuse_departure_text, stalled_text}
 use Rattle.dfu_output.proofs.judge.dfuse.dfuse_departure_text.Goals as goal

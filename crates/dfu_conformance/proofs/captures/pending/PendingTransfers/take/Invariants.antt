@@ -1,7 +1,7 @@
 use Rattle.std.specs.Prelude.{◌≡◌, ◌<◌, ℕ, slice_get, Some}
-use Rattle.dfu_pcap.specs.Joining.{HasSameId}
-use Rattle.dfu_pcap.specs.declared.pending.Pending.{Pending}
-use Rattle.dfu_pcap.proofs.pending.PendingTransfers.take.Given as goal
+use Rattle.dfu_conformance.specs.captures.Joining.{HasSameId}
+use Rattle.dfu_conformance.specs.declared.captures.pending.Pending.{Pending}
+use Rattle.dfu_conformance.proofs.captures.pending.PendingTransfers.take.Given as goal
 
 abbrev pub invariant-loop-place : goal.invariant-loop-place
 invariant-loop-place l =

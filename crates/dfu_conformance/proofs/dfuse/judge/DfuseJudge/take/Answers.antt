@@ -1,6 +1,6 @@
 use Rattle.std.proofs.Common.{refl, sym, ◌∙◌}
-use Rattle.dfuse_conformance.proofs.Verdicts.{goes_on, departs}
-use Rattle.dfuse_conformance.proofs.judge.DfuseJudge.take.Goals as goal
+use Rattle.dfu_conformance.proofs.DfuseVerdicts.{goes_on, departs}
+use Rattle.dfu_conformance.proofs.dfuse.judge.DfuseJudge.take.Goals as goal
 
 pub returns-then-is_anywhere-clause-kept : goal.returns-then-is_anywhere-clause-kept
 returns-then-is_anywhere-clause-kept c is_none events so =

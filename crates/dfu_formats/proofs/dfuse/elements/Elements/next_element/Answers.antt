@@ -1,8 +1,8 @@
 use Rattle.std.proofs.Common.{◌≡◌, ℕ, ◌-◌, [], ◌∷◌, Ok, sym, ap, ◌∙◌, subst}
-use Rattle.dfuse_file.specs.Reading.{Split, elements_at}
-use Rattle.dfuse_file.specs.Found.{found}
-use Rattle.dfuse_file.proofs.WalkLaws.{none_left, element_taken, element_there}
-use Rattle.dfuse_file.proofs.elements.Elements.next_element.Goals as goal
+use Rattle.dfu_formats.specs.dfuse.Reading.{Split, elements_at}
+use Rattle.dfu_formats.specs.dfuse.Found.{found}
+use Rattle.dfu_formats.proofs.WalkLaws.{none_left, element_taken, element_there}
+use Rattle.dfu_formats.proofs.dfuse.elements.Elements.next_element.Goals as goal
 
 pub returns-then-self-eq0 : goal.returns-then-self-eq0
 returns-then-self-eq0 c =

@@ -1,9 +1,9 @@
 use Rattle.std.proofs.Common.{◌≡◌, List, take, map, subst, arith}
 use Rattle.std.proofs.lemmas.List.Sorted.{IsPermutation-map}
 use Rattle.std.specs.List.Sorted.{IsPermutation}
-use Rattle.dfu_images.specs.Elements.{Piece}
-use Rattle.dfuse_file.specs.Found.{piece_of}
-use Rattle.dfuse_file.proofs.file.File.image.Goals as goal
+use Rattle.dfu_formats.specs.images.Elements.{Piece}
+use Rattle.dfu_formats.specs.dfuse.Found.{piece_of}
+use Rattle.dfu_formats.proofs.dfuse.file.File.image.Goals as goal
 
 pub returns-clause-image : goal.returns-clause-image
 returns-clause-image c =

@@ -1,8 +1,8 @@
 use Rattle.std.proofs.Common.{◌≡◌, List, length, refl, sym, ap, ◌∙◌, subst, arith}
-use Rattle.dfuse_file.specs.Reading.{Target}
-use Rattle.dfuse_file.specs.Images.{elements_for, image_fault}
-use Rattle.dfuse_file.proofs.ImageLaws.{past_other, past_this, too_many_here, at_end, no_such, no_image_fault}
-use Rattle.dfuse_file.proofs.file.File.listed.Goals as goal
+use Rattle.dfu_formats.specs.dfuse.Reading.{Target}
+use Rattle.dfu_formats.specs.dfuse.Images.{elements_for, image_fault}
+use Rattle.dfu_formats.proofs.ImageLaws.{past_other, past_this, too_many_here, at_end, no_such, no_image_fault}
+use Rattle.dfu_formats.proofs.dfuse.file.File.listed.Goals as goal
 
 pub loop-target-init : goal.loop-target-init
 loop-target-init c = record {

@@ -1,6 +1,6 @@
 use Rattle.std.proofs.Common.{◌≡◌, ◌≤◌, length}
-use Rattle.dfuse_file.proofs.ImageLaws.{Looked}
-use Rattle.dfuse_file.proofs.file.File.listed.Given as goal
+use Rattle.dfu_formats.proofs.ImageLaws.{Looked}
+use Rattle.dfu_formats.proofs.dfuse.file.File.listed.Given as goal
 
 abbrev pub invariant-loop-target : goal.invariant-loop-target
 invariant-loop-target l = record {

@@ -1,7 +1,7 @@
 use Rattle.std.proofs.Common.{sym, ap, ◌∙◌, refl}
-use Rattle.dfuse_file.specs.Images.{all_for}
-use Rattle.dfuse_file.proofs.ImageLaws.{same_for, other_for, none_for, one_if, none_if}
-use Rattle.dfuse_file.proofs.file.File.setting.Goals as goal
+use Rattle.dfu_formats.specs.dfuse.Images.{all_for}
+use Rattle.dfu_formats.proofs.ImageLaws.{same_for, other_for, none_for, one_if, none_if}
+use Rattle.dfu_formats.proofs.dfuse.file.File.setting.Goals as goal
 
 pub returns-then-target-first : goal.returns-then-target-first
 returns-then-target-first c =

@@ -1,6 +1,6 @@
 use Rattle.std.proofs.Common.{◌≡◌, length}
-use Rattle.dfuse_file.specs.Images.{all_for}
-use Rattle.dfuse_file.proofs.file.File.setting.Given as goal
+use Rattle.dfu_formats.specs.dfuse.Images.{all_for}
+use Rattle.dfu_formats.proofs.dfuse.file.File.setting.Given as goal
 
 abbrev pub invariant-loop-target : goal.invariant-loop-target
 invariant-loop-target l = all_for l.first l.targets ≡ all_for l.first l.initial.targets

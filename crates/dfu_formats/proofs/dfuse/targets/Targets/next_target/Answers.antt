@@ -1,9 +1,9 @@
 use Rattle.std.proofs.Common.{◌≡◌, ℕ, ◌-◌, List, [], ◌∷◌, Ok, sym, ap, ◌∙◌, subst}
-use Rattle.dfu_images.specs.Elements.{Piece}
-use Rattle.dfuse_file.specs.Reading.{Heading, elements_at, targets_at, target_of}
-use Rattle.dfuse_file.specs.Found.{found}
-use Rattle.dfuse_file.proofs.WalkLaws.{no_target_left, target_taken, target_there}
-use Rattle.dfuse_file.proofs.targets.Targets.next_target.Goals as goal
+use Rattle.dfu_formats.specs.images.Elements.{Piece}
+use Rattle.dfu_formats.specs.dfuse.Reading.{Heading, elements_at, targets_at, target_of}
+use Rattle.dfu_formats.specs.dfuse.Found.{found}
+use Rattle.dfu_formats.proofs.WalkLaws.{no_target_left, target_taken, target_there}
+use Rattle.dfu_formats.proofs.dfuse.targets.Targets.next_target.Goals as goal
 
 pub returns-then-self-eq0 : goal.returns-then-self-eq0
 returns-then-self-eq0 c =

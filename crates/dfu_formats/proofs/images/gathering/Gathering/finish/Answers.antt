@@ -1,7 +1,7 @@
 use Rattle.std.proofs.Common.{sym, ◌∙◌, subst}
-use Rattle.dfu_images.specs.Elements.{AreApart}
-use Rattle.dfu_images.proofs.PlaceLaws.{apart_if}
-use Rattle.dfu_images.proofs.gathering.Gathering.finish.Goals as goal
+use Rattle.dfu_formats.specs.images.Elements.{AreApart}
+use Rattle.dfu_formats.proofs.PlaceLaws.{apart_if}
+use Rattle.dfu_formats.proofs.images.gathering.Gathering.finish.Goals as goal
 
 pub returns-in-None-clause-apart : goal.returns-in-None-clause-apart
 returns-in-None-clause-apart c =

@@ -1,8 +1,8 @@
 use Rattle.std.proofs.Common.{◌≡◌, ◌↔◌, List, ap, ◌∙◌, subst, IsTrue}
-use Rattle.dfuse_memory.specs.declared.pages.Pages.{Pages}
-use Rattle.dfuse_memory.specs.Reading.{MapContent}
-use Rattle.dfuse_memory.specs.Lookups.{AllGranted}
-use Rattle.dfuse_memory.proofs.map.Map.grants.Goals as goal
+use Rattle.dfu_formats.specs.declared.memory.pages.Pages.{Pages}
+use Rattle.dfu_formats.specs.memory.Reading.{MapContent}
+use Rattle.dfu_formats.specs.memory.Lookups.{AllGranted}
+use Rattle.dfu_formats.proofs.memory.map.Map.grants.Goals as goal
 
 pub returns : goal.returns
 returns c =

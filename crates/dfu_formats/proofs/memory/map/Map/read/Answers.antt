@@ -1,7 +1,7 @@
 use Rattle.std.proofs.Common.{◌∙◌, sym}
-use Rattle.dfuse_memory.proofs.MapsRead.{map_read}
-use Rattle.dfuse_memory.proofs.MapsFound.{if_ok, map_found}
-use Rattle.dfuse_memory.proofs.map.Map.read.Goals as goal
+use Rattle.dfu_formats.proofs.MapsRead.{map_read}
+use Rattle.dfu_formats.proofs.MapsFound.{if_ok, map_found}
+use Rattle.dfu_formats.proofs.memory.map.Map.read.Goals as goal
 
 pub returns-clause-found : goal.returns-clause-found
 returns-clause-found c = if_ok c.read_map.result _ (λ m e. map_found m c.args.text.now (sym c.read_map.ensures ∙ e))

@@ -1,4 +1,4 @@
-// Of crates/dfuse_host/src/element.rt, whose contracts are taken away.
+// Of crates/dfu_formats/src/dfuse/element.rt, whose contracts are taken away.
 
 //! A part of an image.
 

@@ -1,5 +1,0 @@
-mod Exact
-mod Kept
-mod Passes
-mod Somewhere
-mod Verdicts

@@ -1,0 +1,4 @@
+pub mod dfuse
+pub mod images
+pub mod inside
+pub mod memory

@@ -1,0 +1,9 @@
+//! What firmware lies in, and what a DfuSe device says of its memory.
+//!
+//! `images` reads the files that builds produce, and says what a file without a suffix is; `dfuse` reads DfuSe files, and `memory` the
+//! memory maps of devices. The crate opens no file.
+#![tactic(auto)]
+
+pub mod dfuse;
+pub mod images;
+pub mod memory;
