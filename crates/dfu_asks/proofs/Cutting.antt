@@ -1,8 +1,7 @@
 -- Pieces that are cut out of bytes in place.
-use Rattle.std.proofs.Common.{◌≡◌, ◌==◌, Bool, true, false, if◌then◌else◌, ℕ, ◌+◌, ◌-◌, ◌^◌, ◌≤◌, ◌<◌, min, List, [], ◌∷◌, ◌++◌, length, take, drop, replicate, slice_range, get_or, refl, sym, ◌∙◌, ap, subst, arith, length-append}
+use Rattle.std.proofs.Common.{◌≡◌, ◌==◌, Bool, true, false, if◌then◌else◌, ℕ, ◌+◌, ◌-◌, ◌^◌, ◌≤◌, ◌<◌, min, List, [], ◌∷◌, ◌++◌, length, take, drop, replicate, slice_range, refl, sym, ◌∙◌, ap, subst, arith, length-append}
 use Rattle.std.proofs.lemmas.Bool.{eq-eqb}
-use Rattle.std.proofs.lemmas.Grind.{same_number_lists}
-use Rattle.std.proofs.lemmas.List.{length-take-le, length-drop, length-replicate, get_or-take}
+use Rattle.std.proofs.lemmas.List.{length-take-le, length-drop, length-replicate}
 use Rattle.dfu_slots.specs.Units.{Grain, gate_size}
 use Rattle.dfu_slots.specs.Layout.{gate_unit}
 use Rattle.dfu_slots.specs.Writes.{erases}
@@ -43,22 +42,16 @@ pub step_size : (sector : ℕ) (c : Cut) → IsCut sector c → length (step_of 
 step_size sector c is =
     size_by c.piece.erases c.piece.len (drop c.from (zeroed c.source c.stock c.front)) (has_bytes sector c is)
 
--- Bytes that are those of a step one by one are the step's.
-same_by : (b : Bool) (n : ℕ) (xs ys : List ℕ) → (b ≡ false → n ≤ length xs) → (b ≡ false → n ≤ length ys)
-    → ((k : ℕ) → k < n → b ≡ false → get_or xs k 0 ≡ get_or (if b then replicate n 255 else take n ys) k 0)
-    → (if b then replicate n 255 else take n xs) ≡ (if b then replicate n 255 else take n ys)
-same_by true n xs ys some more each = refl
-same_by false n xs ys some more each =
-    same_number_lists (take n xs) (take n ys) (length-take-le n xs (some refl) ∙ sym (length-take-le n ys (more refl)))
-    (λ k lt. let low : k < n = omega (arith, lt, length-take-le n xs (some refl)) in
-    get_or-take n xs k 0 low ∙ each k low refl)
+-- The bytes of a step, if those of a program are at the front of a buffer.
+bytes_by : (b : Bool) (n : ℕ) (out ys all : List ℕ) → all ≡ (if b then replicate n 255 else take n ys) → (b ≡ false → take n out ≡ all)
+    → (if b then replicate n 255 else take n out) ≡ (if b then replicate n 255 else take n ys)
+bytes_by true n out ys all is h = refl
+bytes_by false n out ys all is h = h refl ∙ is
 
-pub filled_with : (sector : ℕ) (c : Cut) (out : List ℕ) → IsCut sector c → length out ≡ 256
-    → ((k : ℕ) → k < min c.piece.len 256 → get_or out k 0 ≡ get_or (step_of c).write.bytes k 0) → asked c.piece out ≡ step_of c
-filled_with sector c out is size each =
-    let bytes = same_by c.piece.erases c.piece.len out (drop c.from (zeroed c.source c.stock c.front))
-    (λ e. omega (arith, size, is.programs e)) (has_bytes sector c is)
-    (λ k lt e. each k (omega (arith, lt, is.programs e))) in
+pub filled_with : (c : Cut) (out all : List ℕ) → all ≡ (step_of c).write.bytes → (c.piece.erases ≡ false → take c.piece.len out ≡ all)
+    → asked c.piece out ≡ step_of c
+filled_with c out all is h =
+    let bytes = bytes_by c.piece.erases c.piece.len out (drop c.from (zeroed c.source c.stock c.front)) all is h in
     λ i. record { erases = c.piece.erases; write = record { at = c.piece.at; bytes = bytes i } }
 
 -- A cut is fit to be asked for, once its bytes are in a buffer.

@@ -36,3 +36,4 @@ pub mod Closing
 pub mod DueTimes
 mod ImagePlaces
 mod Blanks
+mod Running

@@ -2,6 +2,7 @@
 use Rattle.std.specs.Prelude.{◌≡◌, ◌↔◌, Bool, IsTrue, ℕ, ◌+◌, ◌^◌, ◌≤◌, ◌<◌, true, false, List, ◌++◌, length, drop, replicate, slice_range}
 use Rattle.dfu_asks.specs.declared.pending_writes.WriteInputs.{WriteInputs}
 use Rattle.dfu_asks.specs.declared.cut.Cut.{Cut}
+use Rattle.dfu_asks.specs.declared.runs.Runs.{Runs}
 use Rattle.dfu_slots.specs.declared.operation.Source.{Source}
 use Rattle.dfu_slots.specs.Operations.{source_of}
 use Rattle.dfu_asks.specs.Steps.{Step}
@@ -23,6 +24,10 @@ range_in source s front skip n = slice_range (zeroed source s front) skip (skip 
 -- The step that a piece asks for which is found.
 abbrev pub step_of : Cut → Step
 step_of c = asked c.piece (drop c.from (zeroed c.source c.stock c.front))
+
+-- The bytes of runs.
+abbrev pub run_bytes : Runs → List ℕ
+run_bytes r = (r.front.now ++ r.back.now) ++ replicate r.rest r.pad
 
 -- After so many bytes of these steps comes a piece with so many bytes; and whether they are on this flash.
 pub record IsNextPiece (steps : List Step) (done : ℕ) (flash : List ℕ) (n : ℕ) (stands : Bool) : Type 0 where

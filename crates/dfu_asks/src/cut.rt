@@ -5,7 +5,8 @@ ghost use Rattle.dfu_asks.specs.Cuts.{step_of, IsCut};
 
 use crate::FlashOp;
 use crate::pending_writes::WriteInputs;
-use dfu_slots::Source;
+use crate::runs::runs_of;
+use dfu_slots::{OPEN_GATE, Source};
 
 /// A search for the next piece of a series of writes, and the piece once it is found.
 #[derive(Clone, Copy, Drop)]
@@ -43,49 +44,19 @@ pub(crate) fn cut_at<'a>(stock: WriteInputs<'a>, done: u32) -> Cut<'a>
     }
 }
 
-// The byte at this distance from the first one of a piece.
-fn byte_of(cut: &Cut<'_>, i: usize) -> u8
-    requires cut { (sector : ℕ) × IsCut sector cut.now }
-    requires within { i < cut.now.piece.len }
-    ensures { result ≡ slice_index (step_of cut.now).write.bytes i }
-{
-    if cut.piece.erases {
-        return 0xff;
-    }
-    let stock = &cut.stock;
-    dfu_slots::byte_of(
-        cut.source,
-        stock.held,
-        stock.block,
-        &cut.front,
-        cut.from + i,
-    )
-}
-
 /// Puts the bytes of a piece at the front of a buffer; of an erase at most 256, each FFh.
 pub(crate) fn fill(cut: &Cut<'_>, out: &mut [u8; 256])
     requires { (sector : ℕ) × IsCut sector cut.now }
     ensures step { asked cut.now.piece out.new ≡ step_of cut.now }
     ensures fits { (sector : ℕ) → IsCut sector cut.now → IsFit sector cut.now.piece out.new }
 {
+    let runs = runs_of(cut, &[OPEN_GATE]);
+    let middle = runs.front.len();
+    let end = middle + runs.back.len();
     let len = cut.piece.len.min(256);
-    for i in 0..len {
-        out[i] = byte_of(cut, i);
-    }
-}
-
-// Whether these are the bytes of a piece.
-fn are_those(bytes: &[u8], cut: &Cut<'_>) -> bool
-    requires cut { (sector : ℕ) × IsCut sector cut.now }
-    requires len { length bytes.now ≡ cut.now.piece.len }
-    ensures { IsTrue result ↔ (bytes.now ≡ (step_of cut.now).write.bytes) }
-{
-    for i in 0..bytes.len() {
-        if bytes[i] != byte_of(cut, i) {
-            return false;
-        }
-    }
-    true
+    out[..middle].copy_from_slice(runs.front);
+    out[middle..end].copy_from_slice(runs.back);
+    out[end..len].fill(runs.pad);
 }
 
 /// Whether the bytes of a piece are on the flash; after an erase they are FFh.
@@ -101,5 +72,5 @@ pub(crate) fn stands(flash: &[u8], cut: &Cut<'_>) -> bool
         return false;
     }
     let at = piece.at as usize;
-    are_those(&flash[at..at + piece.len], cut)
+    runs_of(cut, &[OPEN_GATE]).are(&flash[at..at + piece.len])
 }

@@ -27,6 +27,7 @@ mod pending_writes;
 mod power;
 mod refuse;
 mod reply;
+mod runs;
 mod sector;
 mod stalls;
 mod start;

@@ -1,5 +1,6 @@
 //! What is noted of the active image, and what a call sees of its flash by it, with no image read.
-ghost use Rattle.std.specs.Prelude.{◌≡◌, ◌≤◌, ◌↔◌, ℕ, List, length, IsTrue, IfSome, IfNone};
+ghost use Rattle.std.specs.Prelude.{◌≡◌, ◌≤◌, ◌%◌, ◌↔◌, ℕ, List, length, IsTrue, IfSome, IfNone};
+ghost use Rattle.dfu_slots.specs.Units.{unit_size};
 ghost use Rattle.dfu_slots.specs.Image.{HasImage};
 ghost use Rattle.dfu_asks.specs.Mapped.{grain_of, mapped};
 ghost use Rattle.dfu_asks.specs.Noted.{IsNoted, NotedStands, IsView};
@@ -10,7 +11,7 @@ use crate::{Asking, Mapped, Sector};
 use dfu_device::{PutSoFar, is_filled};
 use dfu_slots::laws::active_image_is_one;
 use dfu_slots::{
-    Medium, Unit, capacity_of, check, gate_of, has_puts, header_of, is_open, is_sized, length_in,
+    Medium, Unit, capacity_of, check, gate_of, header_of, is_open, is_sized, length_in,
 };
 
 /// What is noted of the active image: which slot has it, and that slot's header as it was. A call that finds it there reads no image.
@@ -106,6 +107,13 @@ pub(crate) fn look(medium: &Mapped<'_>, noted: &Noted) -> Option<View>
     })
 }
 
+// Whether puts that end there fit in this room, and leave so many bytes held back. It reads nothing.
+fn may_end(unit: Unit, held: usize, end: u32, room: u32) -> bool
+    ensures { IsTrue result ↔ ((end ≤ room) × (held ≡ end % unit_size unit)) }
+{
+    end <= room && held == (end % unit.size()) as usize
+}
+
 impl Asking {
     /// Whether what is kept goes with what is seen, if the block's memory has so many bytes.
     #[inline(never)]
@@ -124,7 +132,7 @@ impl Asking {
         {
             return false;
         }
-        if !has_puts(medium, self.held_len, self.put_end, view.spare) {
+        if !may_end(self.unit, self.held_len, self.put_end, view.room) {
             return false;
         }
         let seen = PutSoFar {

@@ -1,4 +1,3 @@
-pub mod Block
 pub mod Stage
 pub mod Table
 pub mod Outcome

@@ -5,11 +5,9 @@ ghost use Rattle.dfu_wire.specs.State.{state_byte};
 ghost use Rattle.dfu_slots.specs.Seen.{image_of};
 ghost use Rattle.dfu_device.specs.Stage.{state_of};
 ghost use Rattle.dfu_device.specs.Rows.{Handles};
-ghost use Rattle.dfu_device.specs.Borrowed.{answer_room, HandlesInto};
-ghost use Rattle.dfu_device.specs.inside.PendingAnswer.{pending_answer_of, AnswersPending, GavePending};
+ghost use Rattle.dfu_device.specs.inside.PendingAnswer.{pending_answer_of, AnswersPending};
 ghost use Rattle.dfu_device.specs.inside.View.{shown};
 
-use crate::block::Block;
 use crate::decision::Reply;
 use crate::device_core::DeviceCore;
 use arrayvec::ArrayVec;
@@ -56,7 +54,7 @@ pub(crate) fn pending_answer_of(reply: Reply, asked: u16) -> PendingAnswer
     }
 }
 
-impl<M: Medium, B: Block> DeviceCore<M, B> {
+impl<M: Medium> DeviceCore<M> {
     /// Answers a setup with its body.
     pub(crate) fn handle(
         &mut self,
@@ -71,26 +69,6 @@ impl<M: Medium, B: Block> DeviceCore<M, B> {
         let pending_answer = self.pending_answer(setup, body);
         out.clear();
         self.give(pending_answer, out)
-    }
-
-    /// Answers a setup with its body into a buffer, if that has room for any answer.
-    pub(crate) fn handle_into(
-        &mut self,
-        setup: &[u8; 8],
-        body: &[u8],
-        out: &mut [u8],
-    ) -> Option<(Answer, usize)>
-        ensures row { IfSome result (λ r. HandlesInto setup.now body.now (shown self.old) r.0 r.1 out.old out.new (shown self.new)) }
-        ensures short { IfNone result (length out.old < answer_room self.old.config) }
-        ensures room { IfSome result (λ r. answer_room self.old.config ≤ length out.old) }
-        ensures unchanged { IfNone result ((shown self.new ≡ shown self.old) × (out.new ≡ out.old)) }
-        ensures memory { B.memory self.new.block ≡ B.memory self.old.block }
-    {
-        if out.len() < usize::from(self.config.transfer()).max(6) {
-            return None;
-        }
-        let pending_answer = self.pending_answer(setup, body);
-        Some(self.give_into(pending_answer, out))
     }
 
     /// Puts the bytes of an answer into an empty buffer.
@@ -123,30 +101,6 @@ impl<M: Medium, B: Block> DeviceCore<M, B> {
         }
     }
 
-    /// Puts the bytes of an answer at the front of a buffer, and returns their number.
-    fn give_into(&self, pending_answer: PendingAnswer, out: &mut [u8]) -> (Answer, usize)
-        requires fits { (a : Answer) (sent : List ℕ) → AnswersPending pending_answer (shown self.now) a sent
-            → length sent ≤ length out.old }
-        ensures { GavePending pending_answer (shown self.now) result.0 result.1 out.old out.new }
-    {
-        match pending_answer {
-            PendingAnswer::Ack => (Answer::Ack, 0),
-            PendingAnswer::Status { asked } => {
-                let bytes = self.status();
-                (Answer::Bytes, put_front(&bytes, asked, out))
-            }
-            PendingAnswer::State { asked } => {
-                let bytes = [self.state().byte()];
-                (Answer::Bytes, put_front(&bytes, asked, out))
-            }
-            PendingAnswer::Piece { place, asked } => (
-                Answer::Bytes,
-                self.put_piece(place, asked, out),
-            ),
-            PendingAnswer::Stall => (Answer::Stall, 0),
-        }
-    }
-
     /// How many bytes the image has from `place` on, at most `len`.
     #[inline(never)]
     pub(crate) fn piece_len(&self, place: u32, len: u16) -> u16
@@ -158,31 +112,6 @@ impl<M: Medium, B: Block> DeviceCore<M, B> {
         let rest = self.slots.active_len().saturating_sub(place);
         rest.min(len as u32) as u16
     }
-
-    /// Puts bytes of the image at the front of a buffer, from `place` on, at most `asked`, and returns their number.
-    fn put_piece(&self, place: u32, asked: u16, out: &mut [u8]) -> usize
-        requires { length (take asked (drop place (image_of self.now.slots))) ≤ length out.old }
-        ensures count { result ≡ length (take asked (drop place (image_of self.now.slots))) }
-        ensures bytes { out.new ≡ take asked (drop place (image_of self.now.slots)) ++ drop result out.old }
-    {
-        let count = self.piece_len(place, asked);
-        if count > 0 {
-            self.slots
-                .read_active(place, &mut out[..usize::from(count)]);
-        }
-        usize::from(count)
-    }
-}
-
-/// Puts the first of some bytes at the front of a buffer, at most `asked`, and returns their number.
-fn put_front(bytes: &[u8], asked: u16, out: &mut [u8]) -> usize
-    requires { length (take asked bytes.now) ≤ length out.old }
-    ensures count { result ≡ length (take asked bytes.now) }
-    ensures bytes { out.new ≡ take asked bytes.now ++ drop result out.old }
-{
-    let count = usize::from(asked).min(bytes.len());
-    out[..count].copy_from_slice(&bytes[..count]);
-    count
 }
 
 /// Copies so many bytes of the active image, from `place` on.

@@ -5,9 +5,8 @@ ghost use Rattle.dfu_device.specs.Candidate.{candidate_in, IsCandidate};
 ghost use Rattle.dfu_device.specs.inside.View.{shown};
 
 use crate::Device;
-use crate::block::Block;
 use crate::device_core::DeviceCore;
-use dfu_slots::{Medium, data_at};
+use dfu_slots::Medium;
 
 /// Where an image is that was received and is not in place yet. Its first bytes are on the medium, in the spare slot. The others, fewer
 /// than a unit of the medium, are held back in memory (`Slots::held`).
@@ -31,7 +30,7 @@ impl<M: Medium> Device<M> {
     }
 }
 
-impl<M: Medium, B: Block> DeviceCore<M, B> {
+impl<M: Medium> DeviceCore<M> {
     // Where the received image is.
     fn candidate(&self) -> Option<Candidate>
         ensures some { IfSome result (λ c. IsCandidate (shown self.now) c) }
@@ -41,13 +40,16 @@ impl<M: Medium, B: Block> DeviceCore<M, B> {
         // Called for its clause `store`, by which as many bytes are held back as make no whole unit.
         let _ = self.slots.held();
         let medium = self.slots.medium();
-        let spare = if self.slots.is_first() {
-            medium.len() / 2
+        let half = medium.len() / 2;
+        // Both slots have their data at the same distance from their begin.
+        let image = self.slots.image_at();
+        let at = if image < half {
+            image + half
         } else {
-            0
+            image - half
         };
         Some(Candidate {
-            at: data_at(medium, spare),
+            at,
             stored: len - len % medium.unit().size(),
         })
     }

@@ -9,7 +9,6 @@ ghost use Rattle.dfu_device.specs.Stage.{InAppIdle, state_of, code_of};
 ghost use Rattle.dfu_device.specs.Table.{reset_stage};
 ghost use Rattle.dfu_device.specs.DeviceView.{IsInSpareSlot, powered_on};
 ghost use Rattle.dfu_device.specs.Rows.{Handles, Elapses};
-ghost use Rattle.dfu_device.specs.Borrowed.{HandlesInto, answer_room};
 
 use crate::device_core::DeviceCore;
 use crate::{Answer, Config};
@@ -52,14 +51,11 @@ use std::marker::Model;
 /// - The state then says what runs: the application in appIDLE and appDETACH, else the upgrade. A
 ///   device with bitWillDetach goes from appDETACH to dfuIDLE by a tick, and there its maker detaches it
 ///   from the bus. In dfuMANIFEST-WAIT-RESET it waits for its maker or the host to reset it.
-/// - A program that keeps its state elsewhere between two calls takes the device apart by `into_parts`, and
-///   puts it together by `from_parts`. Or it reads the parts by `parts`, and restores them by `set_parts` in
-///   a device on the same medium, in place.
 #[derive(Drop)]
 pub struct Device<M: Medium> {
     // A layer of its own: its functions read its fields, which keep an invariant, and a caller of
     // `Device` sees one plain value, `DeviceView`, and not those fields.
-    pub(crate) core: DeviceCore<M, ArrayVec<u8, 4096>>,
+    pub(crate) core: DeviceCore<M>,
 }
 
 impl<M: Medium> Model for Device<M> {
@@ -76,8 +72,6 @@ impl<M: Medium> Device<M> {
     pub fn start(config: Config, slots: Slots<M>) -> Device<M>
         ensures { result ≡ record { config = config; slots = slots; stage = InAppIdle } }
     {
-        // Called for its clause `fits`: a block of this device finds room.
-        let _ = config.transfer();
         Device {
             core: DeviceCore::start(config, slots, ArrayVec::new()),
         }
@@ -119,25 +113,6 @@ impl<M: Medium> Device<M> {
         ensures row { Handles setup.now body.now self.old result out.new.items self.new }
     {
         self.core.handle(setup, body, out)
-    }
-
-    /// Answers a setup with its body, as `handle`, with the bytes of the answer at the front of a buffer of the caller's
-    /// own, and their number. The rest of the buffer is unchanged.
-    ///
-    /// None if the buffer has less room than an answer may need: 6 bytes or the transfer size, whichever is more.
-    /// Then nothing changed.
-    pub fn handle_into(
-        &mut self,
-        setup: &[u8; 8],
-        body: &[u8],
-        out: &mut [u8],
-    ) -> Option<(Answer, usize)>
-        ensures row { IfSome result (λ r. HandlesInto setup.now body.now self.old r.0 r.1 out.old out.new self.new) }
-        ensures room { IfSome result (λ r. answer_room self.old.config ≤ length out.old) }
-        ensures short { IfNone result (length out.old < answer_room self.old.config) }
-        ensures unchanged { IfNone result ((self.new ≡ self.old) × (out.new ≡ out.old)) }
-    {
-        self.core.handle_into(setup, body, out)
     }
 
     /// This many milliseconds pass; 0 changes nothing. They count in appDETACH, dfuDNBUSY and dfuMANIFEST,

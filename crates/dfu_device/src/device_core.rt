@@ -12,34 +12,41 @@ ghost use Rattle.dfu_device.specs.Decision.{profile_in, plan_of, HasLength, IsPo
 ghost use Rattle.dfu_device.specs.inside.PendingAnswer.{AnswersPending, DonePending, ServedPending, HandledPending};
 
 use crate::answer::{PendingAnswer, pending_answer_of};
-use crate::block::Block;
 use crate::config::Profile;
 use crate::decision::Decision;
 use crate::device_state::{DeviceState, status_in};
 use crate::table::{asked_length, decide, goes_with, is_close};
 use crate::time_table::decide_time;
 use crate::{Answer, Config, Objection};
+use arrayvec::ArrayVec;
 use dfu_slots::{Medium, Slots};
 use dfu_wire::{Code, Request, Setup, State};
+
+// Replaces the bytes of the block.
+fn hold(block: &mut ArrayVec<u8, 4096>, bytes: &[u8])
+    requires { length bytes.now ≤ 4096 }
+    ensures { block.new.items ≡ bytes.now }
+{
+    block.clear();
+    let _ = block.try_extend_from_slice(bytes);
+}
 
 /// The core of a device: what is fixed, the slot store, the state, and the block that is not
 /// written yet.
 #[derive(Drop)]
-pub struct DeviceCore<M: Medium, B: Block> {
+pub struct DeviceCore<M: Medium> {
     pub config: Config,
     pub slots: Slots<M>,
     pub mode: DeviceState,
-    pub block: B,
-    ghost sound: { IsTrue (is_sound mode (length (B.items block)) slots) },
-    ghost room: { config.functional.transfer ≤ (B.memory block).room },
+    pub block: ArrayVec<u8, 4096>,
+    ghost sound: { IsTrue (is_sound mode (length block.items) slots) },
 }
 
-impl<M: Medium, B: Block> DeviceCore<M, B> {
+impl<M: Medium> DeviceCore<M> {
     ghost use Rattle.dfu_device.specs.inside.View.{shown};
 
     /// A core in appIDLE.
-    pub(crate) fn start(config: Config, slots: Slots<M>, block: B) -> DeviceCore<M, B>
-        requires { config.functional.transfer ≤ (B.memory block).room }
+    pub(crate) fn start(config: Config, slots: Slots<M>, block: ArrayVec<u8, 4096>) -> DeviceCore<M>
         ensures { shown result ≡ record { config = config; slots = slots; stage = InAppIdle } }
     {
         // Called for its clauses, which say that the store is shaped, as the core is to keep it.
@@ -97,7 +104,6 @@ impl<M: Medium, B: Block> DeviceCore<M, B> {
         ensures row { HandledPending setup.now body.now (shown self.old) result (shown self.new) }
         ensures fits { (a : Answer) (sent : List ℕ) → AnswersPending result (shown self.new) a sent
             → length sent ≤ answer_room self.old.config }
-        ensures memory { B.memory self.new.block ≡ B.memory self.old.block }
     {
         let setup = Setup::decode(setup);
         let request = setup.request();
@@ -116,7 +122,6 @@ impl<M: Medium, B: Block> DeviceCore<M, B> {
     fn serve(&mut self, request: Request, body: &[u8]) -> PendingAnswer
         requires fits { HasLength request body.now }
         ensures row { ServedPending request body.now (shown self.old) result (shown self.new) }
-        ensures memory { B.memory self.new.block ≡ B.memory self.old.block }
     {
         let decision = decide(&self.profile(), self.mode, request);
         self.carry_out(decision, asked_length(request), body)
@@ -124,12 +129,11 @@ impl<M: Medium, B: Block> DeviceCore<M, B> {
 
     /// Carries a decision out, with the body of its request, which asks for so many bytes of a status or of a state.
     pub(crate) fn carry_out(&mut self, decision: Decision, asked: u16, body: &[u8]) -> PendingAnswer
-        requires { IsPossible self.old.config.functional.transfer (length (B.items self.old.block)) (length body.now) self.old.slots decision }
+        requires { IsPossible self.old.config.functional.transfer (length self.old.block.items) (length body.now) self.old.slots decision }
         ensures row { let w = shown self.old in let spare = spare_of w.slots in
-            DonePending (plan_of (profile w) (image_of w.slots) spare (B.items self.old.block) body.now decision) asked w result
+            DonePending (plan_of (profile w) (image_of w.slots) spare self.old.block.items body.now decision) asked w result
             (shown self.new) }
         ensures silent { IsSilent decision → result ≡ PendingAnswer.Ack }
-        ensures memory { B.memory self.new.block ≡ B.memory self.old.block }
     {
         match decision {
             Decision::Sure { reply, mode } => {
@@ -137,7 +141,9 @@ impl<M: Medium, B: Block> DeviceCore<M, B> {
                 pending_answer_of(reply, asked)
             }
             Decision::Holds { mode } => {
-                self.block.hold(body);
+                // Called for its clause `fits`: the body of a block finds room.
+                let _ = self.config.transfer();
+                hold(&mut self.block, body);
                 self.mode = mode;
                 PendingAnswer::Ack
             }
@@ -186,7 +192,6 @@ impl<M: Medium, B: Block> DeviceCore<M, B> {
     /// This many milliseconds pass.
     pub(crate) fn elapse(&mut self, ms: u32)
         ensures row { Elapses ms (shown self.old) (shown self.new) }
-        ensures memory { B.memory self.new.block ≡ B.memory self.old.block }
     {
         let decision = decide_time(&self.profile(), self.mode, ms);
         let _ = self.carry_out(decision, 0, &[]);
@@ -195,7 +200,6 @@ impl<M: Medium, B: Block> DeviceCore<M, B> {
     /// The bus is reset.
     pub(crate) fn usb_reset(&mut self)
         ensures row { shown self.new ≡ record (shown self.old) { stage = reset_stage (shown self.old).stage } }
-        ensures memory { B.memory self.new.block ≡ B.memory self.old.block }
     {
         self.mode = self.mode.after_reset();
     }
@@ -205,7 +209,6 @@ impl<M: Medium, B: Block> DeviceCore<M, B> {
         ensures closes { IsTrue result ↔ ClosesDownload setup.now (shown self.old) }
         ensures row { IsTrue result → shown self.new ≡ record (shown self.old) { stage = InError (objection_code objection) } }
         ensures unchanged { IsTrue (not result) → shown self.new ≡ shown self.old }
-        ensures memory { B.memory self.new.block ≡ B.memory self.old.block }
     {
         if !self.mode.may_close(self.config.least()) || !is_close(setup) {
             return false;
@@ -217,7 +220,6 @@ impl<M: Medium, B: Block> DeviceCore<M, B> {
     /// The program refuses the image that was closed.
     pub(crate) fn refuse(&mut self, objection: Objection)
         ensures row { shown self.new ≡ record (shown self.old) { stage = refuse_stage objection (shown self.old).stage } }
-        ensures memory { B.memory self.new.block ≡ B.memory self.old.block }
     {
         self.mode = self.mode.after_refusal(objection);
     }

@@ -10,13 +10,12 @@ ghost use Rattle.dfu_device.specs.Rows.{WroteBlock, FailedBlock, Committed, Fail
 ghost use Rattle.dfu_device.specs.Decision.{written_stage, TakesNothing};
 ghost use Rattle.dfu_device.specs.inside.View.{shown};
 
-use crate::block::Block;
 use crate::device_core::DeviceCore;
 use crate::device_state::DeviceState;
 use dfu_slots::{Medium, PutFault, Slots, WriteFault};
 use dfu_wire::Code;
 
-impl<M: Medium, B: Block> DeviceCore<M, B> {
+impl<M: Medium> DeviceCore<M> {
     /// Writes the block, and returns the fault if a write had one. `late` is true if time passed, so that the
     /// host has to ask for the status once more.
     pub(crate) fn write_block(
@@ -25,18 +24,17 @@ impl<M: Medium, B: Block> DeviceCore<M, B> {
         number: u16,
         late: bool,
     ) -> Result<(), WriteFault>
-        requires { IsTrue (is_filled (DeviceState.DownloadSync written number) (length (B.items self.old.block)) self.old.slots) }
+        requires { IsTrue (is_filled (DeviceState.DownloadSync written number) (length self.old.block.items) self.old.slots) }
         ensures done { let before = take written (spare_of self.old.slots) in
-            let block = B.items self.old.block in
+            let block = self.old.block.items in
             OnOk result (WroteBlock before block self.old.config self.old.slots (written_stage late (before ++ block) number)
             (shown self.new)) }
         ensures failed { IfErr result (λ fault. FailedBlock fault
-            (take written (spare_of self.old.slots)) (B.items self.old.block) self.old.config self.old.slots (shown self.new)) }
-        ensures memory { B.memory self.new.block ≡ B.memory self.old.block }
+            (take written (spare_of self.old.slots)) self.old.block.items self.old.config self.old.slots (shown self.new)) }
     {
-        match put_block(&mut self.slots, written, self.block.bytes()) {
+        match put_block(&mut self.slots, written, self.block.as_slice()) {
             Ok(()) => {
-                let written = written + self.block.bytes().len() as u32;
+                let written = written + self.block.as_slice().len() as u32;
                 self.mode = if late {
                     DeviceState::DownloadSyncWritten { written, number }
                 } else {
@@ -57,13 +55,12 @@ impl<M: Medium, B: Block> DeviceCore<M, B> {
     /// Makes the bytes taken the active image, and goes on to the next state. It returns the fault if a
     /// write had one.
     pub(crate) fn commit_taken(&mut self, written: u32, next: DeviceState) -> Result<(), WriteFault>
-        requires taken { IsTrue (is_filled (DeviceState.ManifestSync written) (length (B.items self.old.block)) self.old.slots) }
+        requires taken { IsTrue (is_filled (DeviceState.ManifestSync written) (length self.old.block.items) self.old.slots) }
         requires next { TakesNothing next }
         ensures done { OnOk result (Committed (take written (spare_of self.old.slots)) self.old.config self.old.slots
             (stage_of next [] []) (shown self.new)) }
         ensures failed { IfErr result (λ fault. FailedCommit fault (take written (spare_of self.old.slots)) self.old.config self.old.slots
             (shown self.new)) }
-        ensures memory { B.memory self.new.block ≡ B.memory self.old.block }
     {
         match self.slots.commit(written) {
             Ok(()) => {

@@ -4,8 +4,6 @@
 #![tactic(auto)]
 
 mod answer;
-mod block;
-mod borrowed_device;
 mod candidate;
 mod config;
 mod decision;
@@ -14,7 +12,6 @@ mod device_core;
 mod device_state;
 mod effects;
 mod filled;
-mod from_parts;
 pub mod laws;
 mod objection;
 mod plans;
@@ -22,8 +19,6 @@ mod table;
 mod time_table;
 
 pub use answer::Answer;
-pub use block::{Block, BorrowedBlock};
-pub use borrowed_device::BorrowedDevice;
 pub use candidate::Candidate;
 pub use config::{Config, ConfigFault, Profile};
 pub use decision::{Decision, Reply};

@@ -1,4 +1,4 @@
-//! Callers of a device: one that lets the power go and come back, which the README of dfu_device shows, and one that takes it apart.
+//! A caller of a device that lets the power go and come back, which the README of dfu_device shows.
 
 ghost use Rattle.std.specs.Prelude.{◌≡◌};
 ghost use Rattle.dfu_slots.specs.Seen.{store_on};
@@ -15,18 +15,6 @@ fn restarted<M: Medium>(device: Device<M>) -> Device<M>
 {
     let config = device.config();
     match Device::power_on(config, device.into_medium()) {
-        Ok(device) => device,
-        Err(_) => unreachable!(),
-    }
-}
-
-/// The same device, after it was taken apart and put together.
-fn together<M: Medium>(device: Device<M>) -> Device<M>
-    ensures { result ≡ device }
-{
-    let config = device.config();
-    let (slots, mode, block) = device.into_parts();
-    match Device::from_parts(config, slots, mode, block) {
         Ok(device) => device,
         Err(_) => unreachable!(),
     }
@@ -49,13 +37,13 @@ const FUNCTIONAL: Functional = Functional {
 };
 
 #[test]
-fn a_device_that_was_taken_apart_gets_power_anew(rt: HostRuntime) -> Result<(), Fail> {
+fn a_device_gets_power_anew(rt: HostRuntime) -> Result<(), Fail> {
     let slots = match Slots::format(SimMedium::new(rt.alloc(), 192)?, &[0]) {
         Ok(slots) => slots,
         Err((fault, _medium)) => return Err(fault)?,
     };
     let config = Config::new(IDS, FUNCTIONAL, 1, 5, 10)?;
-    let device = restarted(together(Device::start(config, slots)));
+    let device = restarted(Device::start(config, slots));
     assert_eq!(rt; device.state(), State::AppIdle);
     assert_eq!(rt; device.slots().active_len(), 1);
     Ok(())

@@ -1,5 +1,5 @@
 -- An answer before its bytes are in a buffer.
-use Rattle.std.specs.Prelude.{◌≡◌, ℕ, List, ◌++◌, length, take, drop}
+use Rattle.std.specs.Prelude.{ℕ, List, take, drop}
 use Rattle.dfu_wire.specs.declared.requests.Request.{Request as Asked}
 use Rattle.dfu_slots.specs.Seen.{image_of}
 use Rattle.dfu_device.specs.declared.answer.Answer.{Answer}
@@ -48,10 +48,3 @@ ServedPending q body w d w' = (a : Answer) (out : List ℕ) → AnswersPending d
 -- The row of a setup with its body, with its answer drafted.
 abbrev pub HandledPending : List ℕ → List ℕ → DeviceView → PendingAnswer → DeviceView → Type 0
 HandledPending setup body w d w' = (a : Answer) (out : List ℕ) → AnswersPending d w' a out → Handles setup body w a out w'
-
--- The bytes of a pending answer are at the front of a buffer.
-pub record GavePending (d : PendingAnswer) (w : DeviceView) (a : Answer) (count : ℕ) (out out' : List ℕ) : Type 0 where
-  pub sent : List ℕ
-  pub says : AnswersPending d w a sent
-  pub count_is : count ≡ length sent
-  pub out_is : out' ≡ sent ++ drop count out

@@ -1,19 +1,35 @@
-use Rattle.std.proofs.Common.{◌≡◌, arith}
-use Rattle.dfu_asks.specs.Jobs.{asked}
-use Rattle.dfu_asks.specs.Cuts.{step_of}
+use Rattle.std.proofs.Common.{◌≡◌, ◌+◌, ◌-◌, ◌++◌, ◌≤◌, ℕ, List, length, take, replicate, ap, ◌∙◌, sym, arith}
+use borrow.Rule.Slice.PartMut.{put_mid, post_of}
+use Rattle.dfu_asks.specs.Cuts.{run_bytes}
 use Rattle.dfu_asks.proofs.Cutting.{filled_with, fit_of}
+use Rattle.dfu_asks.proofs.Running.{front_of_put, size_behind}
 use Rattle.dfu_asks.proofs.cut.fill.Goals as goal
 
 pub returns-clause-step : goal.returns-clause-step
 returns-clause-step c =
-    let (size, each) = c.loop-i.invariant in
-    filled_with c.requires.0 c.args.cut.now c.loop-i.out c.requires.1 size
-    (λ k lt. each k (omega (arith, lt, c.loop-i-test.false, c.min-len.ensures)))
+    let r = c.runs_of-runs.result in
+    let out = c.args.out.now in
+    let front = c.copy_from_slice.new.self in
+    let back = c.copy_from_slice-2.new.self in
+    let middle = length r.front.now in
+    let end = middle + length r.back.now in
+    let one : front ≡ r.front.now = c.copy_from_slice.ensures.after in
+    let other : back ≡ r.back.now = c.copy_from_slice-2.ensures.after in
+    let m : middle ≡ length front = ap length (sym one) in
+    let e : end ≡ middle + length back = ap (λ (l : List ℕ). middle + length l) (sym other) in
+    filled_with c.args.cut.now (put_mid end (c.min-len.result - end) (put_mid middle (end - middle) (front ++ post_of 0 middle out) back) c.fill.new.self)
+    (run_bytes r) c.runs_of-runs.ensures.bytes
+    (λ program.
+    let len : c.min-len.result ≡ c.args.cut.now.piece.len = omega (arith, c.min-len.ensures, c.requires.1.programs program) in
+    let rest = c.fill.ensures.after (λ y is. is) in
+    let low : end ≤ c.min-len.result = omega (arith, len, c.runs_of-runs.ensures.size) in
+    let size = size_behind out front back middle end c.min-len.result m e low (omega (arith, c.min-len.ensures, c.told-out)) in
+    let behind : length c.fill.new.self ≡ c.min-len.result - end = c.fill.ensures.len ∙ size in
+    let two = put_mid middle (end - middle) (front ++ post_of 0 middle out) back in
+    ap (λ (n : ℕ). take n (put_mid end (c.min-len.result - end) two c.fill.new.self)) (sym len)
+    ∙ front_of_put out front back c.fill.new.self middle end c.min-len.result m e (omega (arith, behind, low))
+    ∙ (λ i. (one i ++ other i) ++ rest i)
+    ∙ ap (λ (n : ℕ). (r.front.now ++ r.back.now) ++ replicate n r.pad) (size ∙ omega (arith, len, c.runs_of-runs.ensures.size)))
 
 pub returns-clause-fits : goal.returns-clause-fits
-returns-clause-fits c = λ sector is.
-    let (size, each) = c.loop-i.invariant in
-    let same : asked c.args.cut.now.piece c.loop-i.out ≡ step_of c.args.cut.now =
-    filled_with c.requires.0 c.args.cut.now c.loop-i.out c.requires.1 size
-    (λ k lt. each k (omega (arith, lt, c.loop-i-test.false, c.min-len.ensures))) in
-    fit_of sector c.args.cut.now c.loop-i.out is same
+returns-clause-fits c = λ sector is. fit_of sector c.args.cut.now _ is (returns-clause-step c)

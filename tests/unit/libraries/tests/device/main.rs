@@ -9,10 +9,9 @@ use unit::requests::IDS;
 use unit::{Outcome, are_displayed};
 
 mod all_setups;
-mod apart;
 mod blocks;
 mod cells;
-mod lent;
+mod filled;
 mod lies;
 mod many_pieces;
 mod named;

@@ -1,4 +1,5 @@
-use Rattle.std.proofs.Common.{◌≡◌, ◌==◌, not, IsTrue, ℕ, length, sym, ◌∙◌, ap, subst, refl}
+use Rattle.std.proofs.Common.{◌≡◌, ◌≤◌, ◌%◌, ◌==◌, not, IsTrue, ℕ, length, sym, ◌∙◌, ap, subst, refl, arith}
+use Rattle.dfu_slots.specs.Units.{unit_size}
 use Rattle.std.proofs.lemmas.List.{length-take-le}
 use Rattle.dfu_slots.specs.Medium.{MediumState}
 use Rattle.dfu_slots.specs.Layout.{OPEN}
@@ -16,18 +17,16 @@ use Rattle.dfu_asks.proofs.Noting.{noted_spare, begun_is}
 use Rattle.dfu_asks.proofs.Room.{held_size}
 use Rattle.dfu_asks.proofs.asking.Asking.is_fit.Goals as goal
 
-pub returns-then-not-has_puts-clause-kept : goal.returns-then-not-has_puts-clause-kept
-returns-then-not-has_puts-clause-kept c = λ block held room size kept.
+pub returns-then-not-may_end-clause-kept : goal.returns-then-not-may_end-clause-kept
+returns-then-not-may_end-clause-kept c = λ block held room size kept.
     let a = c.args.self.now in
     let l = lent a block held in
     let s = store_in l c.args.medium.now.bytes.now in
-    let m = mapped (record { unit = c.args.medium.now.unit; sector = c.args.medium.now.sector.size }) c.args.medium.now.bytes.now in
-    let same : m ≡ s.medium = mapped_as c.args.medium.now.bytes.now c.requires.unit c.requires.sector in
-    let spare : c.args.view.now.spare ≡ spare_at (gate_of m) m.bytes = c.requires.view.spare ∙ noted_spare a.noted s.medium kept.is.noted
-    ∙ sym (ap (λ (x : MediumState). spare_at (gate_of x) x.bytes) same) in
-    let count : length l.held ≡ a.held_len = held_size a.unit a.held_len a.put_end held size kept.is.store.puts.part in
-    absurd (is_false c.has_puts.result c.if-not-has_puts.true ((c.has_puts.ensures.puts l.held count spare).1
-    (subst (λ (x : MediumState). HasPuts (store_of x l.held a.put_end)) (sym same) kept.is.store.puts)))
+    let puts = kept.is.store.puts in
+    let count : length l.held ≡ a.held_len = held_size a.unit a.held_len a.put_end held size puts.part in
+    let fits : a.put_end ≤ c.args.view.now.room = omega (arith, puts.fits, c.requires.view.room) in
+    let part : a.held_len ≡ a.put_end % unit_size a.unit = sym count ∙ puts.part in
+    absurd (is_false c.may_end.result c.if-not-may_end.true (c.may_end.ensures.1 (fits, part)))
 
 pub returns-clause-kept : goal.returns-clause-kept
 returns-clause-kept c = λ block held room size kept.

@@ -10,7 +10,7 @@ pub returns-in-Writes-clause-row : goal.returns-in-Writes-clause-row
 returns-in-Writes-clause-row g c =
     let d = c.args.self.now in
     let before = take c.in-Writes.written (spare_of d.slots) in
-    let block = g.B.Block.items d.block in
+    let block = d.block.items in
     rw (c.in-Writes.is, c.pending_answer_of-in-Writes.ensures) (block_done (shown d) (shown c.write_block.new.self) before block
     (written_stage c.in-Writes.late (before ++ block) c.in-Writes.number) c.in-Writes.reply c.args.asked c.write_block.result
     c.write_block.ensures.done c.write_block.ensures.failed)

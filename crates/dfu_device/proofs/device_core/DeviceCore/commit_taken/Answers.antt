@@ -6,20 +6,20 @@ use Rattle.dfu_device.proofs.device_core.DeviceCore.commit_taken.Goals as goal
 pub returns-in-Ok-clause-done : goal.returns-in-Ok-clause-done
 returns-in-Ok-clause-done g c =
     let d = c.args.self.now in
-    let r = commit_ready (length (g.B.Block.items d.block)) c.args.written d.slots
-    (shaped d.mode (length (g.B.Block.items d.block)) d.slots d.sound) c.requires.taken in
-    committed d.config d.slots c.commit.new.self c.args.next (g.B.Block.items d.block) c.args.written r
+    let r = commit_ready (length d.block.items) c.args.written d.slots
+    (shaped d.mode (length d.block.items) d.slots d.sound) c.requires.taken in
+    committed d.config d.slots c.commit.new.self c.args.next d.block.items c.args.written r
     (c.in-Ok.ensures.common.call r.begun r.room) c.in-Ok.ensures.image c.in-Ok.ensures.common.room c.requires.next
 
 pub returns-in-Err-clause-failed : goal.returns-in-Err-clause-failed
 returns-in-Err-clause-failed g c =
     let d = c.args.self.now in
-    let r = commit_ready (length (g.B.Block.items d.block)) c.args.written d.slots
-    (shaped d.mode (length (g.B.Block.items d.block)) d.slots d.sound) c.requires.taken in
+    let r = commit_ready (length d.block.items) c.args.written d.slots
+    (shaped d.mode (length d.block.items) d.slots d.sound) c.requires.taken in
     rw c.commit_code.ensures (rw c.write_fault-fault.ensures (not_committed (fault_of c.in-Err.fault) d.config d.slots
-    c.commit.new.self (g.B.Block.items d.block) c.args.written r (c.in-Err.ensures.common.call r.begun r.room) c.in-Err.ensures.kept
+    c.commit.new.self d.block.items c.args.written r (c.in-Err.ensures.common.call r.begun r.room) c.in-Err.ensures.kept
     c.in-Err.ensures.common.room))
 
-pub invariant_of-self-clause-sound : goal.invariant_of-self-clause-sound
-invariant_of-self-clause-sound g c =
-    rested_sound c.args.next (length (g.B.Block.items c.args.self.now.block)) c.commit.new.self c.requires.next c.in-Ok.ensures.common.shape
+pub invariant_of-self : goal.invariant_of-self
+invariant_of-self g c =
+    record { sound = rested_sound c.args.next (length c.args.self.now.block.items) c.commit.new.self c.requires.next c.in-Ok.ensures.common.shape }

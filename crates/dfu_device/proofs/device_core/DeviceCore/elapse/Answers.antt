@@ -7,14 +7,16 @@ use Rattle.dfu_device.proofs.device_core.DeviceCore.elapse.Goals as goal
 pub carry_out-requires : goal.carry_out-requires
 carry_out-requires g c =
     let d = c.args.self.now in
-    let n = length (g.B.Block.items d.block) in
+    let n = length d.block.items in
     subst (λ (t : ℕ). IsPossible t n 0 d.slots c.decide_time-decision.result) c.profile.ensures.transfer
     (c.decide_time-decision.ensures.possible n d.slots (sym c.profile.ensures.capacity) (filled d.mode n d.slots d.sound))
 
-pub returns-clause-row : goal.returns-clause-row
-returns-clause-row g c =
+pub returns : goal.returns
+returns g c =
     let d = c.args.self.now in
-    passed c.profile.result c.args.ms d.mode (g.B.Block.items d.block) _ c.decide_time-decision.result (shown d)
-    (shown c.carry_out.new.self)
-    c.carry_out.result c.profile.ensures.profile refl c.decide_time-decision.ensures.row refl c.carry_out.ensures.row
-    (c.carry_out.ensures.silent c.decide_time-decision.ensures.silent)
+    record {
+      row = passed c.profile.result c.args.ms d.mode d.block.items _ c.decide_time-decision.result (shown d)
+          (shown c.carry_out.new.self)
+          c.carry_out.result c.profile.ensures.profile refl c.decide_time-decision.ensures.row refl c.carry_out.ensures.row
+          (c.carry_out.ensures.silent c.decide_time-decision.ensures.silent);
+    }

@@ -13,7 +13,7 @@ returns-in-NotDfu g c =
     let row : HandledPending c.args.setup.now c.args.body.now w pending_answer.Stall w = λ a out says.
     handled_as c.decode-setup.result c.request-request.result c.decode-setup.ensures.fields
     c.request-request.ensures.asks (rw c.in-NotDfu.is (says, refl)) in
-    record { row = row; fits = λ a sent says. handled_fits _ _ _ _ _ _ (row a sent says); memory = refl }
+    record { row = row; fits = λ a sent says. handled_fits _ _ _ _ _ _ (row a sent says) }
 
 pub returns-then-not-goes_with : goal.returns-then-not-goes_with
 returns-then-not-goes_with g c =
@@ -22,7 +22,7 @@ returns-then-not-goes_with g c =
     handled_as c.decode-setup.result c.request-request.result c.decode-setup.ensures.fields c.request-request.ensures.asks
     (refused_class c.decode-setup.result c.request-request.result c.args.body.now _ w a out c.in_default.not-NotDfu
     (sym c.goes_with.ensures ∙ c.if-not-goes_with.true) says) in
-    record { row = row; fits = λ a sent says. handled_fits _ _ _ _ _ _ (row a sent says); memory = refl }
+    record { row = row; fits = λ a sent says. handled_fits _ _ _ _ _ _ (row a sent says) }
 
 pub returns-else-not-goes_with : goal.returns-else-not-goes_with
 returns-else-not-goes_with g c =
@@ -32,4 +32,4 @@ returns-else-not-goes_with g c =
     handled_as c.decode-setup.result c.request-request.result c.decode-setup.ensures.fields c.request-request.ensures.asks
     (served_class c.decode-setup.result c.request-request.result c.args.body.now w w' a out c.in_default.not-NotDfu
     (sym c.goes_with.ensures ∙ c.if-not-goes_with.false) (c.serve.ensures.row a out says)) in
-    record { row = row; fits = λ a sent says. handled_fits _ _ _ _ _ _ (row a sent says); memory = c.serve.ensures.memory }
+    record { row = row; fits = λ a sent says. handled_fits _ _ _ _ _ _ (row a sent says) }

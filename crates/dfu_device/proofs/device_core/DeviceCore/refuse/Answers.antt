@@ -5,9 +5,8 @@ use Rattle.dfu_device.proofs.device_core.DeviceCore.refuse.Goals as goal
 pub invariant_of-self : goal.invariant_of-self
 invariant_of-self g c =
     let d = c.args.self.now in
-    let n = length (g.B.Block.items d.block) in
+    let n = length d.block.items in
     record {
       sound = still_sound d.mode c.after_refusal-self.result n d.slots d.sound
           (c.after_refusal-self.ensures.filled n d.slots (filled d.mode n d.slots d.sound));
-      room = d.room;
     }

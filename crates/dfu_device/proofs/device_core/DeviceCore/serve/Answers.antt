@@ -7,14 +7,16 @@ use Rattle.dfu_device.proofs.device_core.DeviceCore.serve.Goals as goal
 pub carry_out-requires : goal.carry_out-requires
 carry_out-requires g c =
     let d = c.args.self.now in
-    let n = length (g.B.Block.items d.block) in
+    let n = length d.block.items in
     subst (λ (t : ℕ). IsPossible t n (length c.args.body.now) d.slots c.decide-decision.result) c.profile.ensures.transfer
     (c.decide-decision.ensures.possible c.args.body.now c.requires.fits n d.slots (sym c.profile.ensures.capacity)
     (filled d.mode n d.slots d.sound))
 
-pub returns-clause-row : goal.returns-clause-row
-returns-clause-row g c =
+pub returns : goal.returns
+returns g c =
     let d = c.args.self.now in
-    served c.profile.result c.args.request d.mode (g.B.Block.items d.block) c.args.body.now c.decide-decision.result c.asked_length.result
-    (shown d) (shown c.carry_out.new.self) c.carry_out.result c.profile.ensures.profile d.sound refl c.decide-decision.ensures.row
-    c.requires.fits c.asked_length.ensures c.carry_out.ensures.row
+    record {
+      row = served c.profile.result c.args.request d.mode d.block.items c.args.body.now c.decide-decision.result c.asked_length.result
+          (shown d) (shown c.carry_out.new.self) c.carry_out.result c.profile.ensures.profile d.sound refl c.decide-decision.ensures.row
+          c.requires.fits c.asked_length.ensures c.carry_out.ensures.row;
+    }

@@ -5,8 +5,5 @@ use Rattle.dfu_device.proofs.device_core.DeviceCore.usb_reset.Goals as goal
 pub invariant_of-self : goal.invariant_of-self
 invariant_of-self g c =
     let d = c.args.self.now in
-    let n = length (g.B.Block.items d.block) in
-    record {
-      sound = still_sound d.mode c.after_reset-self.result n d.slots d.sound (c.after_reset-self.ensures.filled n d.slots);
-      room = d.room;
-    }
+    let n = length d.block.items in
+    record { sound = still_sound d.mode c.after_reset-self.result n d.slots d.sound (c.after_reset-self.ensures.filled n d.slots) }

@@ -5,16 +5,18 @@ use Rattle.dfu_device.proofs.Commits.{block_room, written_sound}
 use Rattle.dfu_device.proofs.device_core.DeviceCore.write_block.Goals as goal
 use Rattle.dfu_device.proofs.device_core.DeviceCore.write_block.Goals.{then-late, else-late}
 
-pub invariant_of-self-clause-sound : goal.invariant_of-self-clause-sound
-invariant_of-self-clause-sound g c =
+pub invariant_of-self : goal.invariant_of-self
+invariant_of-self g c =
     let d = c.args.self.now in
     let s = c.put_block.new.slots in
-    let size = ap length c.bytes-in-Ok.ensures.value in
-    let n = c.args.written + length c.bytes-in-Ok.result.now in
-    let found = block_room c.args.written (length (g.B.Block.items d.block)) c.args.number d.slots c.requires in
+    let size = ap length c.as_slice-in-Ok.ensures.value in
+    let n = c.args.written + length c.as_slice-in-Ok.result.now in
+    let found = block_room c.args.written (length d.block.items) c.args.number d.slots c.requires in
     let either : (c.if-late.self ≡ device_state.DownloadSyncWritten n c.args.number)
     ⊎ (c.if-late.self ≡ device_state.DownloadIdle n c.args.number) =
     elim c.if-late.branch [ then-late w ↦ inl w.self-is | else-late w ↦ inr w.self-is ] in
-    written_sound c.if-late.self (length (g.B.Block.items d.block)) n c.args.number s either (omega (arith, found.some, size))
-    (omega (arith, found.room, size, c.in-Ok.ensures.room)) c.in-Ok.ensures.shape
-    (subst (λ (k : ℕ). is_put (c.args.written + k) s ≡ true) (ap length c.bytes.ensures.value ∙ sym size) c.in-Ok.ensures.put)
+    record {
+      sound = written_sound c.if-late.self (length d.block.items) n c.args.number s either (omega (arith, found.some, size))
+          (omega (arith, found.room, size, c.in-Ok.ensures.room)) c.in-Ok.ensures.shape
+          (subst (λ (k : ℕ). is_put (c.args.written + k) s ≡ true) (ap length c.as_slice.ensures.value ∙ sym size) c.in-Ok.ensures.put);
+    }

@@ -1,0 +1,38 @@
+/* Asks a device in dfuDNLOAD-IDLE for its status so many times, for a tool that counts instructions: SECTOR TURNS. Before that a block
+ * of 64 bytes is put, in units of 16, so that the rest of its sector of SECTOR bytes is erased. */
+#include <stdio.h>
+#include <stdlib.h>
+
+#include "dfu_device_memory.h"
+
+#define LARGEST 131072
+
+static struct dfu_config config = {DFU_VERSION, 0x0100, 1, 0x1209, 255, 1024, 7, 0, 0, 0, 1, 16, 0};
+static uint8_t medium[DFU_MEDIUM_SIZE(16, LARGEST, LARGEST)], block[DFU_BLOCK_SIZE(1024, 16)], out[1024];
+static const struct dfu_driver driver = DFU_MEMORY_DRIVER(medium);
+static struct dfu_device device = {.config = &config, .flash = medium, .block = block, .most = sizeof block, .driver = &driver};
+
+static int32_t ask(uint8_t kind, uint8_t request, uint8_t length)
+{
+    static const uint8_t body[64] = {1};
+    const uint8_t setup[8] = {kind, request, 0, 0, 0, 0, length, 0};
+    return dfu_device_serve(&device, setup, body, out, sizeof out);
+}
+
+int main(int count, char **words)
+{
+    if (count != 3)
+        return 2;
+    config.sector = (uint32_t)atol(words[1]);
+    device.size = DFU_MEDIUM_SIZE(16, config.sector, config.sector);
+    static const uint8_t image[100] = {1};
+    if (config.sector > LARGEST || dfu_device_format(&device, image, sizeof image) != 0 || dfu_device_begin(&device) != 0)
+        return 2;
+    if (ask(0x21, DFU_DNLOAD, 64) != 0 || ask(0xa1, DFU_GETSTATUS, 6) != 6)
+        return 1;
+    for (long turn = atol(words[2]); turn > 0; turn--) {
+        if (ask(0xa1, DFU_GETSTATUS, 6) != 6 || dfu_device_state(&device) != DFU_STATE_DNLOAD_IDLE)
+            return 1;
+    }
+    return 0;
+}
