@@ -10,6 +10,3 @@ pub use bootloader::{Happened, Start, Transfer, UsbDevice, boot, load, serve, te
 pub use flasher::{UsbHost, flash};
 pub use fram::{Chip, ChipFault, Fram};
 pub use nor::{Flash, Nor};
-
-#[cfg(test)]
-mod tests;

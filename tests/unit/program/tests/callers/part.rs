@@ -1,11 +1,9 @@
 //! NOR flash in memory: a program only clears bits, and each unit is programmed once between two erases.
 
-use crate::tests::write_over;
-use crate::{ChipFault, Flash};
-use dfu_slots::Unit;
+use dfu::callers::{ChipFault, Flash};
+use fustrelan::slots::Unit;
 
 /// Two slots with a sector of 256 bytes each for gate, header and data, programmed in units of 16.
-#[derive(Drop)]
 pub(crate) struct SimulatedNor {
     bytes: [u8; 1536],
     /// How many units were programmed that were not erased.
@@ -26,12 +24,6 @@ impl SimulatedNor {
 }
 
 impl Flash for SimulatedNor {
-    ghost use Rattle.dfu_slots.specs.declared.layout.Unit.TheVariants.{U16};
-
-    ghost cells = { λ p. p.bytes };
-
-    ghost grain = { λ p. record { unit = U16; sector = 256 } };
-
     fn size(&self) -> u32 {
         1536
     }
@@ -58,13 +50,13 @@ impl Flash for SimulatedNor {
             self.twice = self.twice.saturating_add(1);
             return Err(ChipFault::Protected);
         }
-        write_over(&mut self.bytes, from, bytes);
+        self.bytes[from..from + bytes.len()].copy_from_slice(bytes);
         Ok(())
     }
 
     fn erase(&mut self, at: u32) -> Result<(), ChipFault> {
         self.erases = self.erases.saturating_add(1);
-        write_over(&mut self.bytes, at as usize, &[0xff; 256]);
+        self.bytes[at as usize..][..256].fill(0xff);
         Ok(())
     }
 }

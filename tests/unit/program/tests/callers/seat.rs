@@ -1,10 +1,9 @@
 //! A device stack with a host at the other end of its cable.
 
-use crate::{Happened, Transfer, UsbDevice};
-use dfu_host::{Action, Host, Report, Seen};
+use dfu::callers::{Happened, Transfer, UsbDevice};
+use fustrelan::host::{Action, Host, Report, Seen};
 
 /// A device stack with a host in its session at the other end of the cable.
-#[derive(Drop)]
 pub(crate) struct Seat<'f> {
     host: Host<'f>,
 }

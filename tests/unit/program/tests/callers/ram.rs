@@ -1,7 +1,6 @@
 //! A chip in memory.
 
-use crate::tests::write_over;
-use crate::{Chip, ChipFault};
+use dfu::callers::{Chip, ChipFault};
 
 /// What the next writes do.
 #[derive(Clone, Copy, PartialEq, Eq)]
@@ -14,7 +13,6 @@ enum Writes {
 }
 
 /// A chip in memory, of bytes FFh at first.
-#[derive(Drop)]
 pub(crate) struct Ram {
     bytes: [u8; 192],
     writes: Writes,
@@ -40,8 +38,6 @@ impl Ram {
 }
 
 impl Chip for Ram {
-    ghost cells = { λ c. c.bytes };
-
     fn size(&self) -> u32 {
         192
     }
@@ -59,7 +55,7 @@ impl Chip for Ram {
             Writes::LieAfter(left) => self.writes = Writes::LieAfter(left - 1),
             Writes::Work => {}
         }
-        write_over(&mut self.bytes, at as usize, bytes);
+        self.bytes[at as usize..][..bytes.len()].copy_from_slice(bytes);
         Ok(())
     }
 }

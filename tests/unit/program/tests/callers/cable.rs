@@ -1,13 +1,12 @@
 //! A host stack whose transfers reach a device.
 
-use crate::tests::ram::Ram;
-use crate::{Fram, Happened, UsbHost, tell};
+use crate::ram::Ram;
 use arrayvec::ArrayVec;
-use dfu_device::{Answer, Device};
-use dfu_host::Seen;
+use dfu::callers::{Fram, Happened, UsbHost, tell};
+use fustrelan::device::{Answer, Device};
+use fustrelan::host::Seen;
 
 /// A host stack with a device at the other end of its cable.
-#[derive(Drop)]
 pub(crate) struct Cable {
     device: Device<Fram<Ram>>,
     out: ArrayVec<u8, 4096>,
