@@ -6,12 +6,9 @@ use dfu_output::{
     Exit, LogFault, LogLines, dfuse_departure_text, fault_text, is_single, stop_text, verdict_text,
     write_out,
 };
-use dfu_suffix::{SuffixFault, write_whole};
+use dfu_suffix::{READ_BYTES, SuffixFault, write_whole};
 use std::alloc::Global;
 use std::io::{Read, Write};
-
-/// How many bytes are asked for at a time.
-const PIECE: usize = 65_536;
 
 /// A device that is followed through a log.
 #[derive(Drop)]
@@ -99,7 +96,7 @@ fn judge_all<R: Read + Drop, W: Write>(
     followed: &mut FollowedDevice,
     writer: &mut W,
 ) -> Result<(), LogFault> {
-    let mut piece = [0u8; PIECE];
+    let mut piece = [0u8; READ_BYTES];
     for _turn in 0..u64::MAX {
         let Ok(count) = reader.read(&mut piece) else {
             return Err(LogFault::Read);

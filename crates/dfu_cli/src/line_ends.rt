@@ -5,13 +5,13 @@ ghost use Rattle.std.specs.Prelude.{◌≤◌, length, IfOk};
 use std::io::{self, Read};
 
 /// How many bytes are read at a time.
-const PIECE: usize = 4096;
+const BUFFER_BYTES: usize = 4096;
 
 /// A reader that gives a line feed for a carriage return and a line feed. Any other carriage return stays.
 #[derive(Drop)]
 pub(crate) struct LineEnds<R> {
     reader: R,
-    piece: [u8; PIECE],
+    piece: [u8; BUFFER_BYTES],
     from: usize,
     to: usize,
     // A carriage return was read, and nothing after it.
@@ -24,7 +24,7 @@ impl<R> LineEnds<R> {
     pub(crate) fn new(reader: R) -> LineEnds<R> {
         LineEnds {
             reader,
-            piece: [0; PIECE],
+            piece: [0; BUFFER_BYTES],
             from: 0,
             to: 0,
             is_returned: false,

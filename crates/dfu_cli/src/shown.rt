@@ -7,13 +7,13 @@ use std::alloc::Global;
 use std::io::{self, Write};
 
 /// How many bytes are remembered: more than the longest line of a refusal of `dfu show` has.
-const MOST: usize = 32;
+const REMEMBERED_BYTES: usize = 32;
 
 /// An output, and the first bytes that were written to it.
 #[derive(Drop)]
 pub(crate) struct Remembering<W> {
     out: W,
-    kept: [u8; MOST],
+    kept: [u8; REMEMBERED_BYTES],
     count: usize,
 }
 
@@ -22,7 +22,7 @@ impl<W> Remembering<W> {
     pub(crate) fn new(out: W) -> Remembering<W> {
         Remembering {
             out,
-            kept: [0; MOST],
+            kept: [0; REMEMBERED_BYTES],
             count: 0,
         }
     }

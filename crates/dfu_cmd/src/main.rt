@@ -16,7 +16,7 @@ use std::io::{self, ErrorKind, IsTerminal};
 use std::process::ExitCode;
 
 /// The most bytes of a word that is looked at.
-const MOST: usize = 4096;
+const WORD_BYTES: usize = 4096;
 
 /// The words of the command line.
 fn words_of(rt: &HostRuntime) -> io::Result<Vec<String>> {
@@ -32,7 +32,7 @@ fn words_of(rt: &HostRuntime) -> io::Result<Vec<String>> {
 fn looked_at(rt: &HostRuntime) -> (usize, bool) {
     let mut wrong = 0;
     let mut explain = false;
-    let mut buffer = [0u8; MOST];
+    let mut buffer = [0u8; WORD_BYTES];
     for place in 1..u16::MAX {
         let place = usize::from(place);
         match rt.arg(place, &mut buffer) {

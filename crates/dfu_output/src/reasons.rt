@@ -9,7 +9,7 @@ use crate::numbers::{field, push};
 use std::alloc::{AllocError, Global};
 
 /// The most characters that are shown of a text.
-const MOST: u32 = 4096;
+const SHOWN_CHARACTERS: u32 = 4096;
 
 /// A character as a terminal may show it.
 fn plain(letter: char) -> char
@@ -36,7 +36,7 @@ fn shown(alloc: Global, text: &str) -> Result<String, AllocError>
 {
     let mut line = String::new(alloc);
     let mut rest = text;
-    let mut room = MOST;
+    let mut room = SHOWN_CHARACTERS;
     'letters: while room > 0 {
         let Some((letter, after)) = first_of(rest) else {
             return Ok(line);

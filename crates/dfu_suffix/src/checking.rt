@@ -6,7 +6,7 @@ ghost use Rattle.dfu_suffix.specs.declared.fault.SuffixFault.TheVariants.{NoMemo
 
 use crate::crc::Crc;
 use crate::fault::SuffixFault;
-use crate::file::{MAX_FILE, MAX_READS, PIECE};
+use crate::file::{MAX_FILE, MAX_READS, READ_BYTES};
 use crate::findings::{Findings, findings_of};
 use crate::summary::{Summary, check_register};
 use std::io::Read;
@@ -50,7 +50,7 @@ pub fn check_with<R: Read + Drop>(
     let mut crc = Crc::new();
     let mut count: u32 = 0;
     let mut window = [0u8; 16];
-    let mut buffer = [0u8; PIECE];
+    let mut buffer = [0u8; READ_BYTES];
     for turn in 0..MAX_READS {
         match reader.read(&mut buffer) {
             Ok(0) => {

@@ -3,7 +3,7 @@
 ghost use Rattle.std.specs.Prelude.{◌≤◌, length, IfOk, IfSome};
 ghost use Rattle.dfu_suffix.specs.Gathering.{Gathers};
 
-use crate::file::{MAX_READS, PIECE};
+use crate::file::{MAX_READS, READ_BYTES};
 use std::alloc::Global;
 use std::io::Read;
 
@@ -36,7 +36,7 @@ pub fn gather<R: Read + Drop>(
     ensures len { IfOk result (λ v. length v.items ≤ limit) }
 {
     let mut bytes = Vec::new(alloc);
-    let mut buffer = [0u8; PIECE];
+    let mut buffer = [0u8; READ_BYTES];
     for turn in 0..MAX_READS {
         match reader.read(&mut buffer) {
             Ok(0) => return Ok(bytes),

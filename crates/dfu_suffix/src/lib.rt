@@ -26,7 +26,7 @@ pub use adding::add;
 pub use checking::{check, check_with};
 pub use crc::Crc;
 pub use fault::SuffixFault;
-pub use file::File;
+pub use file::{File, READ_BYTES};
 pub use findings::Findings;
 pub use gathering::{GatherFault, gather};
 pub use parse::{read, read_small};

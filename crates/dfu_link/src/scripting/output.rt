@@ -46,7 +46,7 @@ pub(crate) fn write_three<W: Write>(
 }
 
 /// How many bytes are printed at once.
-const PIECE: usize = 256;
+pub(crate) const SHOWN_BYTES: usize = 256;
 
 /// Writes at most 256 bytes as digits.
 pub(crate) fn write_digits<W: Write>(writer: &mut W, bytes: &[u8]) -> Result<(), ScriptFault>
@@ -54,7 +54,7 @@ pub(crate) fn write_digits<W: Write>(writer: &mut W, bytes: &[u8]) -> Result<(),
     ensures { Puts (encode_lower bytes.now) (W.contents writer.old) (W.contents writer.new) result }
 {
     let len = bytes.len();
-    let mut digits = [0; 512];
+    let mut digits = [0; 2 * SHOWN_BYTES];
     let Ok(()) = hex::encode_to_slice(bytes, &mut digits[..2 * len]) else {
         unreachable!()
     };
@@ -68,7 +68,7 @@ fn write_all_digits<W: Write>(writer: &mut W, bytes: &[u8]) -> Result<(), Script
     let all = bytes.len();
     let mut at = 0;
     while at < all {
-        let len = PIECE.min(all - at);
+        let len = SHOWN_BYTES.min(all - at);
         write_digits(writer, &bytes[at..at + len])?;
         at += len;
     }

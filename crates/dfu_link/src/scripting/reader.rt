@@ -4,11 +4,9 @@ ghost use Rattle.std.specs.Prelude.{◌≡◌, ◌≤◌, [], length, take, drop
 ghost use Rattle.std.specs.Io.KnownBytes.{Keeps, Consumes, IsAtEnd, prepend_known};
 
 use crate::scripting::fault::ScriptFault;
+use dfu_suffix::READ_BYTES;
 use std::io::Read;
 use std::marker::Model;
-
-/// How many bytes are asked for at a time.
-const PIECE: usize = 65_536;
 
 /// A reader, and the bytes that it gave and that were not taken yet.
 ///
@@ -16,7 +14,7 @@ const PIECE: usize = 65_536;
 #[derive(Drop)]
 pub(crate) struct Pieces<R: Read + Drop> {
     reader: R,
-    bytes: [u8; PIECE],
+    bytes: [u8; READ_BYTES],
     from: usize,
     to: usize,
     ended: bool,
@@ -42,7 +40,7 @@ impl<R: Read + Drop> Pieces<R> {
     {
         Pieces {
             reader,
-            bytes: [0; PIECE],
+            bytes: [0; READ_BYTES],
             from: 0,
             to: 0,
             ended: false,

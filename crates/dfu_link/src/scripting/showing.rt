@@ -8,13 +8,10 @@ ghost use Rattle.dfu_link.specs.Texts.{hex_text, image_line, state_text, show_li
 
 use crate::scripting::expectation::{Expectation, write_next};
 use crate::scripting::fault::ScriptFault;
-use crate::scripting::output::{write_digits, write_out, write_three, write_two};
+use crate::scripting::output::{SHOWN_BYTES, write_digits, write_out, write_three, write_two};
 use dfu_device::Device;
 use dfu_slots::{Medium, Slots};
 use std::io::Write;
-
-/// How many bytes of an image are printed at once.
-const PIECE: u32 = 256;
 
 /// Writes the bytes of the image from `at` on, so many as fit in a piece of `len` bytes.
 fn write_piece<M: Medium, W: Write>(
@@ -28,7 +25,7 @@ fn write_piece<M: Medium, W: Write>(
     ensures { Puts (encode_lower (slice_range (image_of slots.now) at (at + len))) (W.contents writer.old) (W.contents writer.new) result }
 {
     let len = len as usize;
-    let mut bytes = [0; 256];
+    let mut bytes = [0; SHOWN_BYTES];
     slots.read_active(at, &mut bytes[..len]);
     write_digits(writer, &bytes[..len])
 }
@@ -40,7 +37,7 @@ fn write_pieces<M: Medium, W: Write>(writer: &mut W, slots: &Slots<M>) -> Result
     let all = slots.active_len();
     let mut at = 0;
     while at < all {
-        let len = PIECE.min(all - at);
+        let len = (SHOWN_BYTES as u32).min(all - at);
         write_piece(writer, slots, at, len)?;
         at += len;
     }

@@ -11,12 +11,9 @@ use crate::judge::fault::{LogFault, stop_text};
 use crate::judge::judging::Judging;
 use crate::judge::texts::{departure_text, verdict_text};
 use dfu_conformance::{Departure, Verdict};
-use dfu_suffix::{SuffixFault, write_whole};
+use dfu_suffix::{READ_BYTES, SuffixFault, write_whole};
 use std::alloc::Global;
 use std::io::{Read, Write};
-
-/// How many bytes are asked for at a time.
-const PIECE: usize = 65_536;
 
 /// Writes the lines of a departure.
 fn tell<W: Write>(
@@ -97,7 +94,7 @@ fn judge_all<R: Read + Drop, W: Write>(
     ensures err { (old : Option (List ℕ)) → Going interface old (W.contents writer.old) [] judging.old → IfSome (R.remaining reader)
         (λ text. IfErr result (λ f. LogStops interface old (W.contents writer.new) (text ++ 10 ∷ []) f)) }
 {
-    let mut piece = [0u8; PIECE];
+    let mut piece = [0u8; READ_BYTES];
     'pieces: loop {
         match reader.read(&mut piece) {
             Ok(count) => {
