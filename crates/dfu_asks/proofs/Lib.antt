@@ -37,3 +37,4 @@ pub mod DueTimes
 mod ImagePlaces
 mod Blanks
 mod Running
+mod Clear

@@ -22,3 +22,4 @@ pub mod Close
 pub mod Times
 pub mod Blank
 pub mod ActiveImage
+pub mod Ahead

@@ -1,5 +1,5 @@
 //! What is to be written of a row that begins.
-ghost use Rattle.std.specs.Prelude.{◌≡◌, ◌⊎◌, ◌+◌, ◌≤◌, ◌++◌, true, ℕ, List, Option, length, take, slice_range, Some};
+ghost use Rattle.std.specs.Prelude.{◌≡◌, ◌⊎◌, ◌+◌, ◌≤◌, ◌++◌, true, ℕ, List, Option, length, take, slice_range, Some, IsTrue};
 ghost use Rattle.dfu_suffix.specs.Register.{register};
 ghost use Rattle.dfu_device.specs.Parts.{stage_of, is_put};
 ghost use Rattle.dfu_asks.specs.declared.pending_writes.PendingWrites.{PendingWrites};
@@ -10,10 +10,11 @@ ghost use Rattle.dfu_asks.specs.Due.{IsDueStage};
 ghost use Rattle.dfu_asks.specs.Asks.{device_in, store_in, IsDevice, IsBlockJob, IsCommitJob, IsJobOf};
 ghost use Rattle.dfu_asks.specs.Calls.{DueComes, HasAtMost};
 
+use crate::ahead::is_clear;
 use crate::noted::View;
 use crate::{Asking, Mapped, PendingWrites, Reply, SlotWrite};
 use dfu_device::DeviceState;
-use dfu_slots::{data_at, is_open};
+use dfu_slots::{WriteFault, data_at, is_open};
 use dfu_suffix::Crc;
 
 // The register over bytes of flash, and these after them.
@@ -97,7 +98,26 @@ impl Asking {
         }
     }
 
-    /// Begins the work of the row that is due.
+    // Whether what the row that is due programs behind the puts with no erase before is erased, if its puts end there.
+    fn is_ahead(&self, end: u32, medium: &Mapped<'_>, view: &View) -> bool
+        requires unit { medium.now.unit ≡ self.now.unit }
+        requires sector { medium.now.sector ≡ self.now.sector }
+        requires view { IsView view.now self.now.noted (mapped (grain_of self.now.unit self.now.sector) medium.now.bytes.now) }
+        requires end { self.now.put_end ≤ view.now.room }
+        requires held { self.now.held_len ≤ self.now.put_end }
+        ensures { (block held : List ℕ) → HasRoom self.now.unit held → IsDevice (lent self.now block held) medium.now.bytes.now →
+            IsTrue result }
+    {
+        if end == 0 {
+            return true;
+        }
+        let at = data_at(medium, view.spare) + (self.put_end - self.held_len as u32);
+        let len = self.held_len + self.block_len;
+        is_clear(medium.bytes, self.sector, u64::from(at), len as u64)
+    }
+
+    /// Begins the work of the row that is due. If what it programs behind the puts is not erased, so that what is kept is no device on
+    /// this flash, the row ends with NotVerified, and nothing is written.
     pub(crate) fn start(
         &mut self,
         asked: Option<u16>,
@@ -125,6 +145,10 @@ impl Asking {
         ensures block { self.new.block_len ≡ self.old.block_len }
     {
         let (job, held_len, put_end) = self.begin_job(held, medium, view);
+        if !self.is_ahead(put_end, medium, view) {
+            let (answer, count) = self.fail(WriteFault::NotVerified, asked, medium.bytes, out);
+            return Reply::Answered(answer, count);
+        }
         self.held_len = held_len;
         self.put_end = put_end;
         let work = PendingWrites {

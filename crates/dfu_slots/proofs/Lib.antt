@@ -12,7 +12,6 @@ pub mod Filled
 pub mod Formatted
 pub mod Formatting
 mod Kept
-pub mod Unread
 pub mod Newest
 mod Opening
 pub mod Parts
@@ -48,4 +47,3 @@ pub mod Edges
 mod SizedOn
 mod Ahead
 mod PutAhead
-mod LookedAhead

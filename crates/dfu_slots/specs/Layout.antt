@@ -1,12 +1,16 @@
 -- Where the two slots of a medium are, and what is in them.
 -- The gate and the header take up `g` bytes each, at least 16.
-use Rattle.std.specs.Prelude.{◌≡◌, ◌⊎◌, ℕ, ◌+◌, ◌-◌, ◌*◌, ◌/◌, ◌%◌, ◌≤◌, List, ◌∷◌, ◌++◌, length, take, drop, replicate, slice_index, slice_range}
+use Rattle.std.specs.Prelude.{◌≡◌, ◌⊎◌, ℕ, ◌+◌, ◌-◌, ◌*◌, ◌/◌, ◌%◌, ◌≤◌, Bool, List, ◌∷◌, ◌++◌, length, take, drop, replicate, slice_index, slice_range, if◌then◌else◌}
 use Rattle.std.specs.Int.{w32, to_le_bytes, from_le_bytes}
 use Rattle.dfu_suffix.specs.Register.{register}
 
 -- A slot is one half of the medium.
 abbrev pub slot_size : List ℕ → ℕ
 slot_size bytes = length bytes / 2
+
+-- Where the first slot begins, or the second.
+abbrev pub slot_place : Bool → List ℕ → ℕ
+slot_place first bytes = if first then 0 else slot_size bytes
 
 -- The data of a slot is what the gate and the header leave of it.
 abbrev pub capacity : ℕ → List ℕ → ℕ

@@ -6,7 +6,6 @@ pub mod Writes
 pub mod Operations
 pub mod Seen
 pub mod Store
-pub mod Known
 pub mod Changes
 pub mod Leaves
 pub mod Unarmed

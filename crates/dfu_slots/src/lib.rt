@@ -7,9 +7,7 @@ mod changes;
 mod erasing;
 mod fault;
 mod format;
-mod from_parts;
 mod gates;
-mod known;
 pub mod laws;
 mod layout;
 mod medium;
@@ -26,9 +24,7 @@ mod steps;
 mod writes;
 
 // For a caller that reads a medium by itself, and knows which slot is active.
-pub use carry::byte_of;
 pub use fault::{FormatFault, OpenFault, PutFault, WriteFault};
-pub use from_parts::has_puts;
 pub use layout::{
     OPEN_GATE, Unit, VERSION, capacity_of, gate_of, is_sized, length_in, make_header,
 };

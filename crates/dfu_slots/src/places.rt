@@ -1,8 +1,7 @@
 //! Where the active slot and the spare one are.
 ghost use Rattle.std.specs.Prelude.{◌≡◌, ◌+◌, ◌≤◌, ◌&&◌, not, length, OnOk, IfOk, IfErr};
-ghost use Rattle.dfu_slots.specs.Layout.{slot_size};
+ghost use Rattle.dfu_slots.specs.Layout.{slot_size, slot_place};
 ghost use Rattle.dfu_slots.specs.Image.{gate_of, IsSized, slot_of, counts, is_newest, active_at, spare_at, HasImage};
-ghost use Rattle.dfu_slots.specs.Known.{slot_place};
 ghost use Rattle.dfu_slots.specs.Changes.{IsOpenFault};
 
 use crate::layout::is_sized;

@@ -5,6 +5,7 @@ ghost use Rattle.dfu_slots.specs.Medium.Fuse.{Whole, Armed, Lying};
 ghost use Rattle.dfu_slots.specs.Image.{gate_of, capacity_of, active_at, Active, HasImage};
 ghost use Rattle.dfu_slots.specs.Seen.{store_on, image_of, is_begun, room_of, is_shaped, format_series};
 ghost use Rattle.dfu_slots.specs.Changes.{CanFormat, IsFormatFault, IsOpenFault};
+ghost use Rattle.dfu_slots.specs.Store.{IsStore};
 ghost use Rattle.dfu_slots.specs.Leaves.{FuseLeaves};
 
 use crate::layout::{capacity_of, is_sized};
@@ -130,6 +131,14 @@ impl<M: Medium> Slots<M> {
         ensures nothing { result ≡ 0 → self.now.held ≡ [] }
     {
         self.puts.end
+    }
+
+    /// The bytes held back: those put last that make no whole unit of the medium yet.
+    pub fn held(&self) -> &[u8]
+        ensures held { result.now ≡ self.now.held }
+        ensures store { IsStore self.now }
+    {
+        self.puts.held.as_slice()
     }
 
     /// Whether the gate of the spare slot is closed, so that `put` and `commit` are not refused with `NotBegun`.

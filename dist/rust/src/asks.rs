@@ -3,6 +3,7 @@
 //! A device that asks for each write of its medium, which its caller carries out.
 
 mod advance;
+mod ahead;
 mod asking;
 mod blank;
 mod calls;
@@ -27,6 +28,7 @@ mod pending_writes;
 mod power;
 mod refuse;
 mod reply;
+mod runs;
 mod sector;
 mod stalls;
 mod start;

@@ -5,8 +5,6 @@
 //! device table, `crates/dfu_device/specs/Table.antt`.
 
 mod answer;
-mod block;
-mod borrowed_device;
 mod candidate;
 mod config;
 mod decision;
@@ -15,15 +13,12 @@ mod device_core;
 mod device_state;
 mod effects;
 mod filled;
-mod from_parts;
 mod objection;
 mod plans;
 mod table;
 mod time_table;
 
 pub use answer::Answer;
-pub use block::{Block, BorrowedBlock};
-pub use borrowed_device::BorrowedDevice;
 pub use candidate::Candidate;
 pub use config::{Config, ConfigFault, Profile};
 pub use decision::{Decision, Reply};

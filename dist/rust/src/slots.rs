@@ -8,9 +8,7 @@ mod changes;
 mod erasing;
 mod fault;
 mod format;
-mod from_parts;
 mod gates;
-mod known;
 mod layout;
 mod medium;
 mod noted;
@@ -27,9 +25,7 @@ mod steps;
 mod writes;
 
 // For a caller that reads a medium by itself, and knows which slot is active.
-pub use carry::byte_of;
 pub use fault::{FormatFault, OpenFault, PutFault, WriteFault};
-pub use from_parts::has_puts;
 pub use layout::{
     OPEN_GATE, Unit, VERSION, capacity_of, gate_of, is_sized, length_in, make_header,
 };

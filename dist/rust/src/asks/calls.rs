@@ -58,7 +58,7 @@ impl Asking {
         }
     }
 
-    /// Answers a setup with its body, as `Device::handle_into`; or the row writes, and its writes are asked for now.
+    /// Answers a setup with its body, as `Device::handle`; or the row writes, and its writes are asked for now.
     ///
     /// # Errors
     ///

@@ -4,7 +4,8 @@
 
 use crate::asks::FlashOp;
 use crate::asks::pending_writes::WriteInputs;
-use crate::slots::Source;
+use crate::asks::runs::runs_of;
+use crate::slots::{OPEN_GATE, Source};
 
 /// A search for the next piece of a series of writes, and the piece once it is found.
 #[derive(Clone, Copy)]
@@ -39,37 +40,15 @@ pub(crate) fn cut_at<'a>(stock: WriteInputs<'a>, done: u32) -> Cut<'a> {
     }
 }
 
-// The byte at this distance from the first one of a piece.
-fn byte_of(cut: &Cut<'_>, i: usize) -> u8 {
-    if cut.piece.erases {
-        return 0xff;
-    }
-    let stock = &cut.stock;
-    crate::slots::byte_of(
-        cut.source,
-        stock.held,
-        stock.block,
-        &cut.front,
-        cut.from + i,
-    )
-}
-
 /// Puts the bytes of a piece at the front of a buffer; of an erase at most 256, each FFh.
 pub(crate) fn fill(cut: &Cut<'_>, out: &mut [u8; 256]) {
+    let runs = runs_of(cut, &[OPEN_GATE]);
+    let middle = runs.front.len();
+    let end = middle + runs.back.len();
     let len = cut.piece.len.min(256);
-    for i in 0..len {
-        out[i] = byte_of(cut, i);
-    }
-}
-
-// Whether these are the bytes of a piece.
-fn are_those(bytes: &[u8], cut: &Cut<'_>) -> bool {
-    for i in 0..bytes.len() {
-        if bytes[i] != byte_of(cut, i) {
-            return false;
-        }
-    }
-    true
+    out[..middle].copy_from_slice(runs.front);
+    out[middle..end].copy_from_slice(runs.back);
+    out[end..len].fill(runs.pad);
 }
 
 /// Whether the bytes of a piece are on the flash; after an erase they are FFh.
@@ -79,5 +58,5 @@ pub(crate) fn stands(flash: &[u8], cut: &Cut<'_>) -> bool {
         return false;
     }
     let at = piece.at as usize;
-    are_those(&flash[at..at + piece.len], cut)
+    runs_of(cut, &[OPEN_GATE]).are(&flash[at..at + piece.len])
 }

@@ -5,7 +5,7 @@
 use crate::asks::{Asking, Mapped, Sector};
 use crate::device::{PutSoFar, is_filled};
 use crate::slots::{
-    Medium, Unit, capacity_of, check, gate_of, has_puts, header_of, is_open, is_sized, length_in,
+    Medium, Unit, capacity_of, check, gate_of, header_of, is_open, is_sized, length_in,
 };
 
 /// What is noted of the active image: which slot has it, and that slot's header as it was. A call that finds it there reads no image.
@@ -85,6 +85,11 @@ pub(crate) fn look(medium: &Mapped<'_>, noted: &Noted) -> Option<View> {
     })
 }
 
+// Whether puts that end there fit in this room, and leave so many bytes held back. It reads nothing.
+fn may_end(unit: Unit, held: usize, end: u32, room: u32) -> bool {
+    end <= room && held == (end % unit.size()) as usize
+}
+
 impl Asking {
     /// Whether what is kept goes with what is seen, if the block's memory has so many bytes.
     #[inline(never)]
@@ -94,7 +99,7 @@ impl Asking {
         {
             return false;
         }
-        if !has_puts(medium, self.held_len, self.put_end, view.spare) {
+        if !may_end(self.unit, self.held_len, self.put_end, view.room) {
             return false;
         }
         let seen = PutSoFar {

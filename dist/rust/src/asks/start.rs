@@ -2,10 +2,11 @@
 
 //! What is to be written of a row that begins.
 
+use crate::asks::ahead::is_clear;
 use crate::asks::noted::View;
 use crate::asks::{Asking, Mapped, PendingWrites, Reply, SlotWrite};
 use crate::device::DeviceState;
-use crate::slots::{data_at, is_open};
+use crate::slots::{WriteFault, data_at, is_open};
 use crate::suffix::Crc;
 
 // The register over bytes of flash, and these after them.
@@ -58,7 +59,18 @@ impl Asking {
         }
     }
 
-    /// Begins the work of the row that is due.
+    // Whether what the row that is due programs behind the puts with no erase before is erased, if its puts end there.
+    fn is_ahead(&self, end: u32, medium: &Mapped<'_>, view: &View) -> bool {
+        if end == 0 {
+            return true;
+        }
+        let at = data_at(medium, view.spare) + (self.put_end - self.held_len as u32);
+        let len = self.held_len + self.block_len;
+        is_clear(medium.bytes, self.sector, u64::from(at), len as u64)
+    }
+
+    /// Begins the work of the row that is due. If what it programs behind the puts is not erased, so that what is kept is no device on
+    /// this flash, the row ends with NotVerified, and nothing is written.
     pub(crate) fn start(
         &mut self,
         asked: Option<u16>,
@@ -69,6 +81,10 @@ impl Asking {
         out: &mut [u8],
     ) -> Reply {
         let (job, held_len, put_end) = self.begin_job(held, medium, view);
+        if !self.is_ahead(put_end, medium, view) {
+            let (answer, count) = self.fail(WriteFault::NotVerified, asked, medium.bytes, out);
+            return Reply::Answered(answer, count);
+        }
         self.held_len = held_len;
         self.put_end = put_end;
         let work = PendingWrites {

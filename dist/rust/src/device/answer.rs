@@ -2,7 +2,6 @@
 
 //! How a device answers a setup: what is answered, and its bytes in the buffer of the caller.
 
-use crate::device::block::Block;
 use crate::device::decision::Reply;
 use crate::device::device_core::DeviceCore;
 use arrayvec::ArrayVec;
@@ -47,7 +46,7 @@ pub(crate) fn pending_answer_of(reply: Reply, asked: u16) -> PendingAnswer {
     }
 }
 
-impl<M: Medium, B: Block> DeviceCore<M, B> {
+impl<M: Medium> DeviceCore<M> {
     /// Answers a setup with its body.
     pub(crate) fn handle(
         &mut self,
@@ -60,20 +59,6 @@ impl<M: Medium, B: Block> DeviceCore<M, B> {
         let pending_answer = self.pending_answer(setup, body);
         out.clear();
         self.give(pending_answer, out)
-    }
-
-    /// Answers a setup with its body into a buffer, if that has room for any answer.
-    pub(crate) fn handle_into(
-        &mut self,
-        setup: &[u8; 8],
-        body: &[u8],
-        out: &mut [u8],
-    ) -> Option<(Answer, usize)> {
-        if out.len() < usize::from(self.config.transfer()).max(6) {
-            return None;
-        }
-        let pending_answer = self.pending_answer(setup, body);
-        Some(self.give_into(pending_answer, out))
     }
 
     /// Puts the bytes of an answer into an empty buffer.
@@ -102,49 +87,12 @@ impl<M: Medium, B: Block> DeviceCore<M, B> {
         }
     }
 
-    /// Puts the bytes of an answer at the front of a buffer, and returns their number.
-    fn give_into(&self, pending_answer: PendingAnswer, out: &mut [u8]) -> (Answer, usize) {
-        match pending_answer {
-            PendingAnswer::Ack => (Answer::Ack, 0),
-            PendingAnswer::Status { asked } => {
-                let bytes = self.status();
-                (Answer::Bytes, put_front(&bytes, asked, out))
-            }
-            PendingAnswer::State { asked } => {
-                let bytes = [self.state().byte()];
-                (Answer::Bytes, put_front(&bytes, asked, out))
-            }
-            PendingAnswer::Piece { place, asked } => (
-                Answer::Bytes,
-                self.put_piece(place, asked, out),
-            ),
-            PendingAnswer::Stall => (Answer::Stall, 0),
-        }
-    }
-
     /// How many bytes the image has from `place` on, at most `len`.
     #[inline(never)]
     pub(crate) fn piece_len(&self, place: u32, len: u16) -> u16 {
         let rest = self.slots.active_len().saturating_sub(place);
         rest.min(len as u32) as u16
     }
-
-    /// Puts bytes of the image at the front of a buffer, from `place` on, at most `asked`, and returns their number.
-    fn put_piece(&self, place: u32, asked: u16, out: &mut [u8]) -> usize {
-        let count = self.piece_len(place, asked);
-        if count > 0 {
-            self.slots
-                .read_active(place, &mut out[..usize::from(count)]);
-        }
-        usize::from(count)
-    }
-}
-
-/// Puts the first of some bytes at the front of a buffer, at most `asked`, and returns their number.
-fn put_front(bytes: &[u8], asked: u16, out: &mut [u8]) -> usize {
-    let count = usize::from(asked).min(bytes.len());
-    out[..count].copy_from_slice(&bytes[..count]);
-    count
 }
 
 /// Copies so many bytes of the active image, from `place` on.

@@ -3,9 +3,8 @@
 //! Where an image is that was received and is not in place yet.
 
 use crate::device::Device;
-use crate::device::block::Block;
 use crate::device::device_core::DeviceCore;
-use crate::slots::{Medium, data_at};
+use crate::slots::Medium;
 
 /// Where an image is that was received and is not in place yet. Its first bytes are on the medium, in the spare slot. The others, fewer
 /// than a unit of the medium, are held back in memory (`Slots::held`).
@@ -26,20 +25,23 @@ impl<M: Medium> Device<M> {
     }
 }
 
-impl<M: Medium, B: Block> DeviceCore<M, B> {
+impl<M: Medium> DeviceCore<M> {
     // Where the received image is.
     fn candidate(&self) -> Option<Candidate> {
         let len = self.mode.candidate_len()?;
         // (The proof needs this call, and nothing else does.)
         let _ = self.slots.held();
         let medium = self.slots.medium();
-        let spare = if self.slots.is_first() {
-            medium.len() / 2
+        let half = medium.len() / 2;
+        // Both slots have their data at the same distance from their begin.
+        let image = self.slots.image_at();
+        let at = if image < half {
+            image + half
         } else {
-            0
+            image - half
         };
         Some(Candidate {
-            at: data_at(medium, spare),
+            at,
             stored: len - len % medium.unit().size(),
         })
     }

@@ -42,20 +42,15 @@ use crate::wire::{Code, Functional, Ids, State};
 /// - The state then says what runs: the application in appIDLE and appDETACH, else the upgrade. A
 ///   device with bitWillDetach goes from appDETACH to dfuIDLE by a tick, and there its maker detaches it
 ///   from the bus. In dfuMANIFEST-WAIT-RESET it waits for its maker or the host to reset it.
-/// - A program that keeps its state elsewhere between two calls takes the device apart by `into_parts`, and
-///   puts it together by `from_parts`. Or it reads the parts by `parts`, and restores them by `set_parts` in
-///   a device on the same medium, in place.
 pub struct Device<M: Medium> {
     // A layer of its own: its functions read its fields, which keep an invariant, and a caller of
     // `Device` sees one plain value, `DeviceView`, and not those fields.
-    pub(crate) core: DeviceCore<M, ArrayVec<u8, 4096>>,
+    pub(crate) core: DeviceCore<M>,
 }
 
 impl<M: Medium> Device<M> {
     /// A device in appIDLE.
     pub fn start(config: Config, slots: Slots<M>) -> Device<M> {
-        // (The proof needs this call, and nothing else does.)
-        let _ = config.transfer();
         Device {
             core: DeviceCore::start(config, slots, ArrayVec::new()),
         }
@@ -88,20 +83,6 @@ impl<M: Medium> Device<M> {
     /// answer is `Bytes`, it has them, at most wLength.
     pub fn handle(&mut self, setup: &[u8; 8], body: &[u8], out: &mut ArrayVec<u8, 4096>) -> Answer {
         self.core.handle(setup, body, out)
-    }
-
-    /// Answers a setup with its body, as `handle`, with the bytes of the answer at the front of a buffer of the caller's
-    /// own, and their number. The rest of the buffer is unchanged.
-    ///
-    /// None if the buffer has less room than an answer may need: 6 bytes or the transfer size, whichever is more.
-    /// Then nothing changed.
-    pub fn handle_into(
-        &mut self,
-        setup: &[u8; 8],
-        body: &[u8],
-        out: &mut [u8],
-    ) -> Option<(Answer, usize)> {
-        self.core.handle_into(setup, body, out)
     }
 
     /// This many milliseconds pass; 0 changes nothing. They count in appDETACH, dfuDNBUSY and dfuMANIFEST,

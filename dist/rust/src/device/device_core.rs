@@ -3,28 +3,34 @@
 //! The core of a device.
 
 use crate::device::answer::{PendingAnswer, pending_answer_of};
-use crate::device::block::Block;
 use crate::device::config::Profile;
 use crate::device::decision::Decision;
 use crate::device::device_state::{DeviceState, status_in};
 use crate::device::table::{asked_length, decide, goes_with, is_close};
 use crate::device::time_table::decide_time;
 use crate::device::{Config, Objection};
+use arrayvec::ArrayVec;
 use crate::slots::{Medium, Slots};
 use crate::wire::{Code, Request, Setup, State};
 
+// Replaces the bytes of the block.
+fn hold(block: &mut ArrayVec<u8, 4096>, bytes: &[u8]) {
+    block.clear();
+    let _ = block.try_extend_from_slice(bytes);
+}
+
 /// The core of a device: what is fixed, the slot store, the state, and the block that is not
 /// written yet.
-pub struct DeviceCore<M: Medium, B: Block> {
+pub struct DeviceCore<M: Medium> {
     pub config: Config,
     pub slots: Slots<M>,
     pub mode: DeviceState,
-    pub block: B,
+    pub block: ArrayVec<u8, 4096>,
 }
 
-impl<M: Medium, B: Block> DeviceCore<M, B> {
+impl<M: Medium> DeviceCore<M> {
     /// A core in appIDLE.
-    pub(crate) fn start(config: Config, slots: Slots<M>, block: B) -> DeviceCore<M, B> {
+    pub(crate) fn start(config: Config, slots: Slots<M>, block: ArrayVec<u8, 4096>) -> DeviceCore<M> {
         // (The proof needs this call, and nothing else does.)
         let _ = slots.capacity();
         DeviceCore {
@@ -90,7 +96,9 @@ impl<M: Medium, B: Block> DeviceCore<M, B> {
                 pending_answer_of(reply, asked)
             }
             Decision::Holds { mode } => {
-                self.block.hold(body);
+                // (The proof needs this call, and nothing else does.)
+                let _ = self.config.transfer();
+                hold(&mut self.block, body);
                 self.mode = mode;
                 PendingAnswer::Ack
             }

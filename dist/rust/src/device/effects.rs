@@ -2,13 +2,12 @@
 
 //! What a device does to its slot store: it writes a block, or makes the bytes taken the active image.
 
-use crate::device::block::Block;
 use crate::device::device_core::DeviceCore;
 use crate::device::device_state::DeviceState;
 use crate::slots::{Medium, PutFault, Slots, WriteFault};
 use crate::wire::Code;
 
-impl<M: Medium, B: Block> DeviceCore<M, B> {
+impl<M: Medium> DeviceCore<M> {
     /// Writes the block, and returns the fault if a write had one. `late` is true if time passed, so that the
     /// host has to ask for the status once more.
     pub(crate) fn write_block(
@@ -17,9 +16,9 @@ impl<M: Medium, B: Block> DeviceCore<M, B> {
         number: u16,
         late: bool,
     ) -> Result<(), WriteFault> {
-        match put_block(&mut self.slots, written, self.block.bytes()) {
+        match put_block(&mut self.slots, written, self.block.as_slice()) {
             Ok(()) => {
-                let written = written + self.block.bytes().len() as u32;
+                let written = written + self.block.as_slice().len() as u32;
                 self.mode = if late {
                     DeviceState::DownloadSyncWritten { written, number }
                 } else {

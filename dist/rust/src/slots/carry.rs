@@ -32,8 +32,8 @@ fn byte_in(front: &[u8], back: &[u8], at: usize) -> u8 {
     if behind < back.len() { back[behind] } else { 0 }
 }
 
-/// The byte at this place of a source, given the bytes held back, the block and the header.
-pub fn byte_of(source: Source, held: &[u8], block: &[u8], header: &[u8; 16], at: usize) -> u8 {
+// The byte at this place of a source, given the bytes held back, the block and the header.
+fn byte_of(source: Source, held: &[u8], block: &[u8], header: &[u8; 16], at: usize) -> u8 {
     match source {
         Source::Joined => byte_in(held, block, at),
         Source::Held => byte_in(held, &[], at),

@@ -81,6 +81,11 @@ impl<M: Medium> Slots<M> {
         self.puts.end
     }
 
+    /// The bytes held back: those put last that make no whole unit of the medium yet.
+    pub fn held(&self) -> &[u8] {
+        self.puts.held.as_slice()
+    }
+
     /// Whether the gate of the spare slot is closed, so that `put` and `commit` are not refused with `NotBegun`.
     pub fn is_begun(&self) -> bool {
         !is_open(&self.medium, self.places.spare)

@@ -1,5 +1,6 @@
 //! Devices that ask for their writes, over flash in memory that the tests write.
 
+mod ahead;
 mod board;
 mod chip;
 mod composed;

@@ -5,9 +5,8 @@ use fustrelan::slots::{Medium, OpenFault, PutFault, SimMedium, Slots, Unit};
 use unit::Outcome;
 use unit::refusing::Refusing;
 
-mod apart;
 mod bytes;
-mod known;
+mod image;
 mod lies;
 mod media;
 mod noted;

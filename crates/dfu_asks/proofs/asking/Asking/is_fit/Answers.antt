@@ -1,15 +1,11 @@
 use Rattle.std.proofs.Common.{◌≡◌, ◌≤◌, ◌%◌, ◌==◌, not, IsTrue, ℕ, length, sym, ◌∙◌, ap, subst, refl, arith}
 use Rattle.dfu_slots.specs.Units.{unit_size}
 use Rattle.std.proofs.lemmas.List.{length-take-le}
-use Rattle.dfu_slots.specs.Medium.{MediumState}
 use Rattle.dfu_slots.specs.Layout.{OPEN}
 use Rattle.dfu_slots.specs.Image.{gate_of, slot_of, spare_at}
-use Rattle.dfu_slots.specs.Store.{HasPuts}
-use Rattle.dfu_slots.specs.Seen.{store_of}
 use Rattle.dfu_slots.proofs.Seeing.{room_capacity}
 use Rattle.dfu_device.specs.Parts.{is_filled}
 use Rattle.dfu_device.proofs.Carried.{filled}
-use Rattle.dfu_asks.specs.Mapped.{mapped}
 use Rattle.dfu_asks.specs.Lent.{lent}
 use Rattle.dfu_asks.specs.Asks.{store_in}
 use Rattle.dfu_asks.proofs.Calling.{is_false, mapped_as}

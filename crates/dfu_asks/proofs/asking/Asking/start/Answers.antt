@@ -5,8 +5,12 @@ use Rattle.dfu_asks.specs.Lent.{LentAsking, lent}
 use Rattle.dfu_asks.specs.Asks.{store_in, writes_in, steps_in}
 use Rattle.dfu_asks.proofs.Carrying.{carried_none}
 use Rattle.dfu_asks.proofs.Pieces.{reached_none}
-use Rattle.dfu_asks.proofs.Calling.{begins}
+use Rattle.dfu_asks.proofs.Calling.{begins, is_false}
 use Rattle.dfu_asks.proofs.asking.Asking.start.Goals as goal
+
+pub returns-then-not-is_ahead-clause-outcome : goal.returns-then-not-is_ahead-clause-outcome
+returns-then-not-is_ahead-clause-outcome c = λ len is due.
+    absurd (is_false c.is_ahead.result c.if-not-is_ahead.true (c.is_ahead.ensures c.args.block.now c.args.held.now c.requires.memory is))
 
 pub returns-clause-outcome : goal.returns-clause-outcome
 returns-clause-outcome c = λ len is due.
