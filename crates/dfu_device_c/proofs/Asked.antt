@@ -10,11 +10,11 @@ use Rattle.dfu_asks.specs.Asks.{device_in, IsDevice}
 use Rattle.dfu_asks.specs.InMode.{IsDeviceIn}
 use Rattle.dfu_asks.specs.Lent.{LentAsking}
 use Rattle.dfu_asks.specs.Verdict.{IsBodyOf}
-use Rattle.dfu_device_c.specs.declared.config.DfuConfig.{DfuConfig}
-use Rattle.dfu_device_c.specs.declared.record.DfuRecord.{DfuRecord}
-use Rattle.dfu_device_c.specs.Kept.{IsSetUp, with_memory}
-use Rattle.dfu_device_c.specs.Long.{TakesLong}
-use Rattle.dfu_device_c.specs.Mode.{HasMode}
+use Rattle.dfu_core.specs.declared.config.DfuConfig.{DfuConfig}
+use Rattle.dfu_core.specs.declared.record.DfuRecord.{DfuRecord}
+use Rattle.dfu_core.specs.Kept.{IsSetUp, with_memory}
+use Rattle.dfu_core.specs.Long.{TakesLong}
+use Rattle.dfu_core.specs.Mode.{HasMode}
 use Rattle.dfu_device_c.proofs.Moved.{none_kept, moved_kept}
 use Rattle.dfu_device_c.proofs.Told.{kept_in}
 

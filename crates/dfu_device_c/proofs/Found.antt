@@ -5,10 +5,10 @@ use Rattle.dfu_asks.specs.declared.reply.Refusal.{Refusal as Why}
 use Rattle.dfu_asks.specs.declared.reply.Refusal.TheVariants as why
 use Rattle.dfu_asks.specs.Lent.{LentAsking}
 use Rattle.dfu_asks.specs.Refused.{IsRefusedCall as IsRefusedFor, IsNotTaken}
-use Rattle.dfu_device_c.specs.Kept.{block_in, held_back_in}
-use Rattle.dfu_device_c.specs.Calls.{IsRefusedAsking}
-use Rattle.dfu_device_c.specs.Numbers.{refusal_of}
-use Rattle.dfu_device_c.specs.Writes.{AsksOnSomeFlash}
+use Rattle.dfu_core.specs.Kept.{block_in, held_back_in}
+use Rattle.dfu_core.specs.Calls.{IsRefusedAsking}
+use Rattle.dfu_core.specs.Numbers.{refusal_of}
+use Rattle.dfu_core.specs.Writes.{AsksOnSomeFlash}
 
 -- What a call for a device is refused for, if its buffer has room for the answer.
 pub cause_of : (e : Why) (block flash : List ℕ) (a : Asking) (need room : ℕ) → need ≤ room

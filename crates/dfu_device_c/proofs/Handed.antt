@@ -1,13 +1,17 @@
 -- The step that a program in C is handed is the one that its device asks for.
-use Rattle.std.proofs.Common.{◌≡◌, ◌⊎◌, ◌==◌, ℕ, ℤ, pos, Bool, true, false, List, take, replicate, if◌then◌else◌, inl, inr, refl, sym, ◌∙◌, arith}
+use Rattle.std.proofs.Common.{◌≡◌, ◌⊎◌, ◌==◌, ℕ, ℤ, pos, Bool, true, false, List, [], take, replicate, if◌then◌else◌, inl, inr, refl, sym, ◌∙◌, arith}
 use Rattle.dfu_asks.specs.declared.asking.Asking.{Asking}
 use Rattle.dfu_asks.specs.Steps.{Step}
-use Rattle.dfu_device_c.specs.declared.config.DfuConfig.{DfuConfig}
-use Rattle.dfu_device_c.specs.declared.record.DfuRecord.{DfuRecord}
-use Rattle.dfu_device_c.specs.declared.numbers.Refusal.{Refusal}
-use Rattle.dfu_device_c.specs.declared.numbers.Refusal.TheVariants as refusal
-use Rattle.dfu_device_c.specs.Numbers.{refusal_number}
-use Rattle.dfu_device_c.specs.Writes.{RefusesPiece, refuses_unfound, refuses_piece}
+use Rattle.dfu_slots.specs.Medium.{Torn}
+use Rattle.dfu_core.specs.declared.config.DfuConfig.{DfuConfig}
+use Rattle.dfu_core.specs.declared.record.DfuRecord.{DfuRecord}
+use Rattle.dfu_core.specs.declared.numbers.Refusal.{Refusal}
+use Rattle.dfu_core.specs.declared.numbers.Refusal.TheVariants as refusal
+use Rattle.dfu_core.specs.Numbers.{refusal_number}
+use Rattle.dfu_core.specs.declared.records.DfuAsk.{DfuAsk}
+use Rattle.dfu_core.specs.Writes.{ask_step, HandsOut, RefusesPiece, refuses_unfound, refuses_piece}
+use Rattle.dfu_core.specs.Board.{CoreWrite, core_board}
+use Rattle.dfu_core.specs.Happens.{CoreHappens}
 
 -- The number of a piece is that of an erase or of a program.
 pub is_kind : (erases : Bool) (k : ℕ) → k ≡ (if erases then 1 else 2) → (k ≡ 1) ⊎ (k ≡ 2)
@@ -48,3 +52,18 @@ pub never_refused : (c : DfuConfig) (r : DfuRecord) (block : List ℕ) (Why : As
     → n ≡ pos 0 → ⊥
 never_refused c r block Why n (refuses_unfound e is cause) zero = refusal_some e (sym is ∙ zero)
 never_refused c r block Why n (refuses_piece a is config room kept why) zero = refusal_some refusal.NoDevice (sym is ∙ zero)
+
+-- A write that was handed out is a step of a board in C, if the flash changes in its range alone.
+pub written : (c : DfuConfig) (r : DfuRecord) (block flash : List ℕ) (Why : Asking → Type 0) (n : ℤ) (ask before : DfuAsk)
+    → HandsOut c r block flash n ask ⊎ (RefusesPiece c r block Why n × (ask ≡ before)) → n ≡ pos 0 → (now : List ℕ)
+    → Torn flash (ask_step ask).write.at (ask_step ask).write.bytes now
+    → CoreHappens (core_board c r block flash) CoreWrite n [] (core_board c r block now)
+written c r block flash Why n ask before (inl handed) zero now torn = record {
+  ask = ask;
+  handed = handed;
+  torn = torn;
+  config = refl;
+  kept = refl;
+  block = refl;
+}
+written c r block flash Why n ask before (inr refused) zero now torn = absurd (never_refused c r block Why n refused.0 zero)

@@ -11,12 +11,12 @@ use Rattle.dfu_asks.specs.declared.pending_writes.SlotWrite.TheVariants as slot_
 use Rattle.dfu_asks.specs.Lent.{LentAsking}
 use Rattle.dfu_asks.specs.Asks.{store_in, device_in, IsDevice}
 use Rattle.dfu_asks.proofs.Refuses.{enters}
-use Rattle.dfu_device_c.specs.declared.config.DfuConfig.{DfuConfig}
-use Rattle.dfu_device_c.specs.declared.record.DfuRecord.{DfuRecord}
-use Rattle.dfu_device_c.specs.Config.{setting_of}
-use Rattle.dfu_device_c.specs.Mode.{HasMode}
-use Rattle.dfu_device_c.specs.Kept.{IsFlag, HasJob, HasWork, IsKept, with_memory}
-use Rattle.dfu_device_c.specs.Refuse.{TakesCause}
+use Rattle.dfu_core.specs.declared.config.DfuConfig.{DfuConfig}
+use Rattle.dfu_core.specs.declared.record.DfuRecord.{DfuRecord}
+use Rattle.dfu_core.specs.Config.{setting_of}
+use Rattle.dfu_core.specs.Mode.{HasMode}
+use Rattle.dfu_core.specs.Kept.{IsFlag, HasJob, HasWork, IsKept, with_memory}
+use Rattle.dfu_core.specs.Refuse.{TakesCause}
 
 -- No work is due if the record has the number of none.
 pub none_kept : (r : DfuRecord) (w : Option PendingWrites) → r.work ≡ 0 → HasWork r w → w ≡ None

@@ -16,14 +16,14 @@ use Rattle.dfu_asks.specs.declared.noted.Noted.{Noted}
 use Rattle.dfu_asks.specs.Noted.{IsNoted}
 use Rattle.dfu_asks.specs.Mapped.{grain_of, mapped}
 use Rattle.dfu_asks.proofs.Working.{idle_sound}
-use Rattle.dfu_device_c.specs.declared.config.DfuConfig.{DfuConfig}
-use Rattle.dfu_device_c.specs.declared.record.DfuRecord.{DfuRecord}
-use Rattle.dfu_device_c.specs.Config.{IsConfig}
-use Rattle.dfu_device_c.specs.Mode.{blank}
-use Rattle.dfu_device_c.specs.Kept.{HasNote, IsSetUp}
-use Rattle.dfu_device_c.specs.Power.{Powers, RefusesPower}
-use Rattle.dfu_device_c.specs.Board.{CoreRestart, core_board}
-use Rattle.dfu_device_c.specs.Happens.{start_mode, CoreHappens, IsCoreOn}
+use Rattle.dfu_core.specs.declared.config.DfuConfig.{DfuConfig}
+use Rattle.dfu_core.specs.declared.record.DfuRecord.{DfuRecord}
+use Rattle.dfu_core.specs.Config.{IsConfig}
+use Rattle.dfu_core.specs.Mode.{blank}
+use Rattle.dfu_core.specs.Kept.{HasNote, IsSetUp}
+use Rattle.dfu_core.specs.Power.{Powers, RefusesPower}
+use Rattle.dfu_core.specs.Board.{CoreRestart, core_board}
+use Rattle.dfu_core.specs.Happens.{start_mode, CoreHappens, IsCoreOn}
 
 -- What is kept of a device that gets power.
 abbrev fresh : Setting → WriteUnit → Sector → DeviceState → Noted → Asking

@@ -11,8 +11,8 @@ use Rattle.dfu_device.specs.Table.{objection_code, refuse_stage}
 use Rattle.dfu_device.proofs.Carried.{filled}
 use Rattle.dfu_asks.specs.Lent.{LentAsking}
 use Rattle.dfu_asks.specs.Asks.{store_in, device_in, IsDevice}
-use Rattle.dfu_device_c.specs.declared.config.DfuConfig.{DfuConfig}
-use Rattle.dfu_device_c.specs.Config.{setting_of}
+use Rattle.dfu_core.specs.declared.config.DfuConfig.{DfuConfig}
+use Rattle.dfu_core.specs.Config.{setting_of}
 
 module _ (c : DfuConfig) (m m' : DeviceState) (why : Objection) (l : LentAsking) (flash : List ℕ) (config : l.config ≡ setting_of c)
     (mode : m ≡ l.mode) (device : IsDevice l flash) where

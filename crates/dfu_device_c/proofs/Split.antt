@@ -11,13 +11,13 @@ use Rattle.dfu_asks.specs.declared.sector.Sector.{Sector}
 use Rattle.dfu_asks.specs.Lent.{LentAsking, lent, HasRoom, IsSetUpAs}
 use Rattle.dfu_asks.specs.Refused.{Fits, IsKeptOn, IsRefusedCall as IsRefusedFor}
 use Rattle.dfu_asks.specs.declared.reply.Refusal.{Refusal as Why}
-use Rattle.dfu_device_c.specs.declared.config.DfuConfig.{DfuConfig}
-use Rattle.dfu_device_c.specs.declared.record.DfuRecord.{DfuRecord}
-use Rattle.dfu_device_c.specs.declared.numbers.Refusal.{Refusal}
-use Rattle.dfu_device_c.specs.Config.{transfer_of, block_memory_size, IsConfig}
-use Rattle.dfu_device_c.specs.Kept.{IsKept, IsSetUp, block_in, held_back_in, with_memory}
-use Rattle.dfu_device_c.specs.Calls.{Goes, CoreRefuses, IsIntact, IsRefusedAsking}
-use Rattle.dfu_device_c.specs.Numbers.{refusal_of, refusal_number}
+use Rattle.dfu_core.specs.declared.config.DfuConfig.{DfuConfig}
+use Rattle.dfu_core.specs.declared.record.DfuRecord.{DfuRecord}
+use Rattle.dfu_core.specs.declared.numbers.Refusal.{Refusal}
+use Rattle.dfu_core.specs.Config.{transfer_of, block_memory_size, IsConfig}
+use Rattle.dfu_core.specs.Kept.{IsKept, IsSetUp, block_in, held_back_in, with_memory}
+use Rattle.dfu_core.specs.Calls.{Goes, CoreRefuses, IsIntact, IsRefusedAsking}
+use Rattle.dfu_core.specs.Numbers.{refusal_of, refusal_number}
 use Rattle.dfu_device_c.proofs.Found.{cause_of}
 
 -- These are the two parts.

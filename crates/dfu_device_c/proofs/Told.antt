@@ -13,12 +13,12 @@ use Rattle.dfu_asks.specs.Lent.{LentAsking}
 use Rattle.dfu_asks.specs.Mapped.{grain_of}
 use Rattle.dfu_asks.specs.Times.{due_of, ChangesOnceDue}
 use Rattle.dfu_asks.proofs.DueTimes.{time_due}
-use Rattle.dfu_device_c.specs.declared.config.DfuConfig.{DfuConfig}
-use Rattle.dfu_device_c.specs.declared.record.DfuRecord.{DfuRecord}
-use Rattle.dfu_device_c.specs.Due.{LATEST, ToldDue}
-use Rattle.dfu_device_c.specs.Kept.{IsKept, IsSetUp, with_memory}
-use Rattle.dfu_device_c.specs.Mode.{HasMode}
-use Rattle.dfu_device_c.specs.Numbers.{told_number}
+use Rattle.dfu_core.specs.declared.config.DfuConfig.{DfuConfig}
+use Rattle.dfu_core.specs.declared.record.DfuRecord.{DfuRecord}
+use Rattle.dfu_core.specs.Due.{LATEST, ToldDue}
+use Rattle.dfu_core.specs.Kept.{IsKept, IsSetUp, with_memory}
+use Rattle.dfu_core.specs.Mode.{HasMode}
+use Rattle.dfu_core.specs.Numbers.{told_number}
 
 -- A yes or a no has one of two numbers.
 pub two : (said : Bool) (n : ℤ) → n ≡ told_number said → (n ≡ pos 0) ⊎ (n ≡ pos 1)

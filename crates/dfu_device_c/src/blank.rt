@@ -1,10 +1,10 @@
 //! Whether the flash reads as if it was never written, so that a program can tell a new board from a damaged one.
 ghost use Rattle.std.specs.Prelude.{◌⊎◌};
-ghost use Rattle.dfu_device_c.specs.Blank.{ToldBlank, RefusesBlank};
+ghost use Rattle.dfu_core.specs.Blank.{ToldBlank, RefusesBlank};
 
-use crate::config::{DfuConfig, settings_of};
 use crate::numbers::told_number;
 use dfu_asks::Mapped;
+use dfu_core::{DfuConfig, settings_of};
 
 /// Whether the flash reads as if it was never written: 1 if every byte that the gates and the headers of both slots take up is FFh, and
 /// then there is no active image; 0 if one is not.

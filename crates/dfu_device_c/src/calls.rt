@@ -3,25 +3,19 @@
 //! Every call is refused, in this order, with -12 if a format is due; -2 if the configuration is not allowed; -10 if the block's memory
 //! has less room than the transfer size and the unit together; -4 if the record is no device's; -12 if writes are due; -3 if the header
 //! that the record notes is not in an open slot of the flash; -4 if record or memory are not as the last call left them on this flash.
-ghost use Rattle.std.specs.Prelude.{◌≡◌, ◌⊎◌, ◌<◌, not, ◌==◌, [], ℕ, List, pos, length, take, if◌then◌else◌, None};
-ghost use Rattle.dfu_device.specs.Rows.{Handles, Elapses};
-ghost use Rattle.dfu_device.specs.Table.{reset_stage};
+ghost use Rattle.std.specs.Prelude.{◌≡◌, ◌⊎◌, ◌<◌, [], ℕ, List, pos, length, take};
+ghost use Rattle.dfu_slots.specs.Medium.{Torn};
 ghost use Rattle.dfu_device.specs.Borrowed.{answer_room};
-ghost use Rattle.dfu_asks.specs.Asks.{device_in};
-ghost use Rattle.dfu_asks.specs.Addressed.{addressed};
-ghost use Rattle.dfu_device_c.specs.Calls.{Goes, Went, Replied, TimePassed, CoreRefuses, HasNoRoom, IsIntact};
-ghost use Rattle.dfu_device_c.specs.Config.{setting_of, transfer_of};
-ghost use Rattle.dfu_device_c.specs.Kept.{with_memory};
-ghost use Rattle.dfu_device_c.specs.Numbers.{reply_number, NO_ROOM};
-ghost use Rattle.dfu_device_c.specs.Writes.{HandsOut, RefusesPiece, HandsNothing, AsksOnSomeFlash};
+ghost use Rattle.dfu_core.specs.Board.{CoreHandle, CoreElapse, CoreReset, CoreWrite, CoreTook, core_board};
+ghost use Rattle.dfu_core.specs.Config.{setting_of, transfer_of};
+ghost use Rattle.dfu_core.specs.Happens.{CoreHappens};
+ghost use Rattle.dfu_core.specs.Kept.{with_memory};
+ghost use Rattle.dfu_core.specs.Numbers.{NO_ROOM};
+ghost use Rattle.dfu_core.specs.Writes.{ask_step, HandsOut, RefusesPiece, HandsNothing};
 
-use crate::config::DfuConfig;
-use crate::keeping::{found, keep};
-use crate::numbers::{NO_ROOM, Refusal, kind_of, number_of, refused, room_for};
-use crate::record::DfuRecord;
+use crate::numbers::{NO_ROOM, kind_of, number_of, refused, room_for};
 use dfu_asks::{Reply, addressed};
-use dfu_c::{ASKS, DfuAsk};
-use dfu_device::Answer;
+use dfu_core::{ASKS, DfuAsk, DfuConfig, DfuRecord, Refusal, found, keep};
 
 // Keeps the device after a call, and gives the number of what it replied; or that of the refusal, and nothing is kept.
 macro_rules! reply {
@@ -54,12 +48,8 @@ pub extern "C" fn dfu_core_handle(
     body: &[u8],
     out: &mut [u8],
 ) -> i32
-    ensures outcome { Goes config.now device.old block.old device.new block.new
-        (λ a a'. let before = with_memory block.old a in Replied (IsIntact block.old flash.now a) before flash.now out.old
-        (λ x sent d'. Handles (addressed config.now.interface setup.now) body.now (device_in before flash.now) x sent d') reply_number result
-        (with_memory block.new a') out.new)
-        ⊎ (CoreRefuses config.now device.old block.old flash.now result device.new block.new × (out.new ≡ out.old))
-        ⊎ HasNoRoom (answer_room (setting_of config.now)) device.old block.old out.old result device.new block.new out.new }
+    ensures step { CoreHappens (core_board config.now device.old block.old flash.now) (CoreHandle setup.now body.now out.old) result out.new
+        (core_board config.now device.new block.new flash.now) }
     ensures short { length out.old < answer_room (setting_of config.now) → result ≡ NO_ROOM }
 {
     if out.len() < room_for(config) {
@@ -86,11 +76,8 @@ pub extern "C" fn dfu_core_elapse(
     flash: &[u8],
     ms: u32,
 ) -> i32
-    ensures outcome { Goes config.now device.old block.old device.new block.new
-        (λ a a'. let before = with_memory block.old a in TimePassed (IsIntact block.old flash.now a) before flash.now
-        (λ x sent d'. (x ≡ Answer.Ack) × (sent ≡ []) × Elapses ms (device_in before flash.now) d') result
-        (with_memory block.new a'))
-        ⊎ CoreRefuses config.now device.old block.old flash.now result device.new block.new }
+    ensures step { CoreHappens (core_board config.now device.old block.old flash.now) (CoreElapse ms) result []
+        (core_board config.now device.new block.new flash.now) }
 {
     find!(asking, config, device, block.len(), mut);
     let (front, held) = block.split_at_mut(usize::from(config.transfer));
@@ -111,11 +98,8 @@ pub extern "C" fn dfu_core_usb_reset(
     block: &mut [u8],
     flash: &[u8],
 ) -> i32
-    ensures outcome { Goes config.now device.old block.old device.new block.new
-        (λ a a'. let before = device_in (with_memory block.old a) flash.now in (a.work ≡ None) × (result ≡ pos 0) × (a'.work ≡ None)
-        × (device_in (with_memory block.new a') flash.now ≡ record before { stage = reset_stage before.stage })
-        × (IsIntact block.old flash.now a → IsIntact block.new flash.now a'))
-        ⊎ CoreRefuses config.now device.old block.old flash.now result device.new block.new }
+    ensures step { CoreHappens (core_board config.now device.old block.old flash.now) CoreReset result []
+        (core_board config.now device.new block.new flash.now) }
 {
     find!(asking, config, device, block.len(), mut);
     let (front, held) = block.split_at(usize::from(config.transfer));
@@ -141,12 +125,8 @@ pub extern "C" fn dfu_core_took(
     failed: u32,
     out: &mut [u8],
 ) -> i32
-    ensures outcome { Goes config.now device.old block.old device.new block.new
-        (λ a a'. Went (with_memory block.old a) flash.now (not (failed == 0)) out.old result (with_memory block.new a')
-        out.new)
-        ⊎ (RefusesPiece config.now device.old block.old (λ a. ¬ AsksOnSomeFlash (with_memory block.old a)) result
-        × (device.new ≡ device.old) × (block.new ≡ block.old) × (out.new ≡ out.old))
-        ⊎ HasNoRoom 6 device.old block.old out.old result device.new block.new out.new }
+    ensures step { CoreHappens (core_board config.now device.old block.old flash.now) (CoreTook failed out.old) result out.new
+        (core_board config.now device.new block.new flash.now) }
     ensures block { take (transfer_of config.now) block.new ≡ take (transfer_of config.now) block.old }
     ensures short { length out.old < 6 → result ≡ NO_ROOM }
 {
@@ -180,6 +160,9 @@ pub extern "C" fn dfu_core_next(
     ensures outcome { HandsOut config.now device.now block.now flash.now result ask.new
         ⊎ (RefusesPiece config.now device.now block.now (λ a. HandsNothing (with_memory block.now a) flash.now) result
         × (ask.new ≡ ask.old)) }
+    ensures step { result ≡ pos 0 → (now : List ℕ) → Torn flash.now (ask_step ask.new).write.at (ask_step ask.new).write.bytes now →
+        CoreHappens (core_board config.now device.now block.now flash.now) CoreWrite result []
+        (core_board config.now device.now block.now now) }
 {
     find!(asking, config, device, block.len());
     if flash.len() > 0xffff_ffff {

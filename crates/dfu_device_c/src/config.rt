@@ -1,136 +1,19 @@
-//! What a program in C sets a device up with.
-ghost use Rattle.std.specs.Prelude.{◌≡◌, ◌⊎◌, IfSome, IfNone, OnSome, IsTrue, not, pos};
+//! What a program gets to know of its configuration and of the library.
+ghost use Rattle.std.specs.Prelude.{◌≡◌, ◌⊎◌, IsTrue, not, pos};
 ghost use Rattle.dfu_wire.specs.Functional.{IsFunctional};
-ghost use Rattle.dfu_device_c.specs.Config.{version, setting_of, unit_of, IsConfig};
-ghost use Rattle.dfu_device_c.specs.Numbers.{NO_CONFIG};
+ghost use Rattle.dfu_core.specs.Config.{version, setting_of, IsConfig};
+ghost use Rattle.dfu_core.specs.Numbers.{NO_CONFIG};
 
-use dfu_asks::Sector;
-use dfu_device::Config;
-use dfu_slots::Unit;
-use dfu_wire::{Functional, Ids};
+use dfu_core::{DfuConfig, VERSION, functional_of, settings_of};
 
-/// The version, 0.3.0: 10,000 for each major one, 100 for each minor one, and 1 for each patch.
-pub(crate) const VERSION: u32 = 300;
-
-/// bcdDFUVersion of every device.
-const BCD_VERSION: u16 = 0x0110;
-
-/// What a device is set up with: `struct dfu_config`. It is to stay the same between two calls for a device.
-#[repr(C)]
-#[derive(Clone, Copy)]
-pub struct DfuConfig {
-    /// The version of the header that the program was built with.
-    pub version: u32,
-    /// bcdDevice.
-    pub device: u16,
-    /// idProduct.
-    pub product: u16,
-    /// idVendor.
-    pub vendor: u16,
-    /// wDetachTimeOut, in milliseconds.
-    pub detach_ms: u16,
-    /// wTransferSize: the most bytes of a block, 1 to 4,096.
-    pub transfer: u16,
-    /// bmAttributes: bitCanDnload, bitCanUpload, bitManifestationTolerant and bitWillDetach from bit 0 on; bits 4 to 7 are ignored.
-    pub attributes: u8,
-    /// bInterfaceNumber: a setup whose wIndex is another number is stalled.
-    pub interface: u8,
-    /// How long a block takes to be written, in milliseconds, 0 to 16,777,215.
-    pub busy_ms: u32,
-    /// How long an image takes to be put in place, in milliseconds, 0 to 16,777,215; at least 1 without bitManifestationTolerant.
-    pub manifest_ms: u32,
-    /// The fewest bytes of an image, 1 to 16,777,216.
-    pub least: u32,
-    /// How many bytes the flash is written at a time: 1, 16, 64 or 256.
-    pub unit: u32,
-    /// How many bytes it is erased at a time: a multiple of 256 up to 131,072; or 0, and it is written over in place.
-    pub sector: u32,
-}
-
-/// What a configuration that is allowed sets up.
-#[derive(Drop)]
-pub(crate) struct Settings {
-    /// The configuration of the device.
-    pub(crate) config: Config,
-    /// In which unit the flash is written.
-    pub(crate) unit: Unit,
-    /// In which sectors it is erased before, if in any.
-    pub(crate) sector: Sector,
-}
-
-/// Whether the configuration is of this version, `Config::new` takes its numbers, a unit has that size, and there are such sectors.
-pub(crate) fn is_allowed(config: &DfuConfig) -> bool
+// Whether the configuration is of this version, `Config::new` takes its numbers, a unit has that size, and there are such sectors.
+fn is_allowed(config: &DfuConfig) -> bool
     ensures yes { IsTrue result → IsConfig config.now }
     ensures no { IsTrue (not result) → ¬ IsConfig config.now }
 {
     match settings_of(config) {
         Some(_) => true,
         None => false,
-    }
-}
-
-/// The functional descriptor of these numbers, with bcdDFUVersion 0110h.
-pub(crate) fn functional_of(config: &DfuConfig) -> Functional
-    ensures { result ≡ (setting_of config.now).functional }
-{
-    Functional::of_attributes(
-        config.attributes,
-        config.detach_ms,
-        config.transfer,
-        BCD_VERSION,
-    )
-}
-
-/// The unit in which the flash is written; if no unit has that size, the byte.
-#[tactic(auto, unfolding(crate::specs::Config::unit_of))]
-pub(crate) fn unit_of(config: &DfuConfig) -> Unit
-    ensures { result ≡ unit_of config.now }
-{
-    if config.unit == 16 {
-        Unit::U16
-    } else if config.unit == 64 {
-        Unit::U64
-    } else if config.unit == 256 {
-        Unit::U256
-    } else {
-        Unit::Byte
-    }
-}
-
-/// What the configuration sets up. None if it is of another version, `Config::new` refuses its numbers, no unit has that size, or
-/// there are no such sectors.
-#[inline(never)]
-pub(crate) fn settings_of(config: &DfuConfig) -> Option<Settings>
-    ensures config { IfSome result (λ s. s.config ≡ setting_of config.now) }
-    ensures unit { IfSome result (λ s. s.unit ≡ unit_of config.now) }
-    ensures sector { IfSome result (λ s. s.sector.size ≡ config.now.sector) }
-    ensures allowed { OnSome result (IsConfig config.now) }
-    ensures none { IfNone result (¬ IsConfig config.now) }
-{
-    let unit = unit_of(config);
-    if config.version != VERSION || unit.size() != config.unit {
-        return None;
-    }
-    let sector = Sector::new(config.sector)?;
-    let ids = Ids {
-        device: config.device,
-        product: config.product,
-        vendor: config.vendor,
-    };
-    let functional = functional_of(config);
-    match Config::new(
-        ids,
-        functional,
-        config.least,
-        config.busy_ms,
-        config.manifest_ms,
-    ) {
-        Ok(config) => Some(Settings {
-            config,
-            unit,
-            sector,
-        }),
-        Err(_) => None,
     }
 }
 

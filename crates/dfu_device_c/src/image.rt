@@ -1,15 +1,12 @@
 //! Where an image is: the active one, which a program is to run, and one that was taken and is not in place yet.
 ghost use Rattle.std.specs.Prelude.{◌≡◌, ◌⊎◌};
-ghost use Rattle.dfu_device_c.specs.Candidate.{HasCandidate, HasNone, RefusesCandidate};
-ghost use Rattle.dfu_device_c.specs.Power.{RefusesPower};
-ghost use Rattle.dfu_device_c.specs.Image.{ImageIsFound};
+ghost use Rattle.dfu_core.specs.Candidate.{HasCandidate, HasNone, RefusesCandidate};
+ghost use Rattle.dfu_core.specs.Power.{RefusesPower};
+ghost use Rattle.dfu_core.specs.Image.{ImageIsFound};
 
-use crate::config::{DfuConfig, settings_of};
-use crate::keeping::found;
-use crate::numbers::{Refusal, refused};
-use crate::record::DfuRecord;
+use crate::numbers::refused;
 use dfu_asks::ImagePlace;
-use dfu_c::DfuPlace;
+use dfu_core::{DfuConfig, DfuPlace, DfuRecord, Refusal, found, settings_of};
 
 /// Where the active image is in its flash: 0, and `place` has it.
 ///

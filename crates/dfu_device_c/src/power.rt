@@ -1,12 +1,12 @@
 //! A device that asks gets power.
-ghost use Rattle.std.specs.Prelude.{◌≡◌, ◌⊎◌};
+ghost use Rattle.std.specs.Prelude.{◌≡◌, ◌⊎◌, true, false, ℕ, List, [], pos};
 ghost use Rattle.dfu_device.specs.declared.device_state.DeviceState.TheVariants.{AppIdle, DfuIdle};
-ghost use Rattle.dfu_device_c.specs.Power.{Powers, RefusesPower};
+ghost use Rattle.dfu_core.specs.Board.{CoreRestart, core_board};
+ghost use Rattle.dfu_core.specs.Happens.{CoreHappens, IsCoreOn};
+ghost use Rattle.dfu_core.specs.Power.{Powers, RefusesPower};
 
-use crate::config::{DfuConfig, settings_of};
-use crate::keeping::slot_of;
-use crate::record::{DfuRecord, blank};
 use dfu_asks::Noted;
+use dfu_core::{DfuConfig, DfuRecord, blank, settings_of, slot_of};
 
 // A device gets power, and is in appIDLE or dfuIDLE, by the number of that mode: 0, or the number of the refusal.
 fn start(config: &DfuConfig, device: &mut DfuRecord, flash: &[u8], mode: u32) -> i32
@@ -38,6 +38,10 @@ fn start(config: &DfuConfig, device: &mut DfuRecord, flash: &[u8], mode: u32) ->
 pub extern "C" fn dfu_core_power_on(config: &DfuConfig, device: &mut DfuRecord, flash: &[u8]) -> i32
     ensures outcome { Powers config.now AppIdle flash.now result device.new
         ⊎ (RefusesPower config.now flash.now result × (device.new ≡ device.old)) }
+    ensures step { result ≡ pos 0 → (kept : DfuRecord) (before block : List ℕ) →
+        CoreHappens (core_board config.now kept before flash.now) (CoreRestart false) result []
+        (core_board config.now device.new block flash.now) }
+    ensures on { result ≡ pos 0 → (block : List ℕ) → IsCoreOn (core_board config.now device.new block flash.now) }
 {
     start(config, device, flash, 0)
 }
@@ -47,6 +51,10 @@ pub extern "C" fn dfu_core_power_on(config: &DfuConfig, device: &mut DfuRecord, 
 pub extern "C" fn dfu_core_begin(config: &DfuConfig, device: &mut DfuRecord, flash: &[u8]) -> i32
     ensures outcome { Powers config.now DfuIdle flash.now result device.new
         ⊎ (RefusesPower config.now flash.now result × (device.new ≡ device.old)) }
+    ensures step { result ≡ pos 0 → (kept : DfuRecord) (before block : List ℕ) →
+        CoreHappens (core_board config.now kept before flash.now) (CoreRestart true) result []
+        (core_board config.now device.new block flash.now) }
+    ensures on { result ≡ pos 0 → (block : List ℕ) → IsCoreOn (core_board config.now device.new block flash.now) }
 {
     start(config, device, flash, 2)
 }

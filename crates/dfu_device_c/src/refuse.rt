@@ -1,12 +1,12 @@
 //! The program refuses an image: only the record is needed.
-ghost use Rattle.std.specs.Prelude.{◌≡◌, IfSome, IfNone};
+ghost use Rattle.std.specs.Prelude.{◌≡◌, ℕ, List, [], IfSome, IfNone};
 ghost use Rattle.dfu_asks.specs.Addressed.{addressed};
-ghost use Rattle.dfu_device_c.specs.Refuse.{objection_in, IsObjection, WasRefused, CloseRefused};
+ghost use Rattle.dfu_core.specs.Board.{CoreRefuseClose, CoreRefuse, core_board};
+ghost use Rattle.dfu_core.specs.Happens.{CoreHappens};
+ghost use Rattle.dfu_core.specs.Refuse.{objection_in, IsObjection, WasRefused, CloseRefused};
 
-use crate::config::DfuConfig;
-use crate::mode::{idle_mode, set_mode};
-use crate::record::DfuRecord;
 use dfu_asks::{addressed, mode_closes};
+use dfu_core::{DfuConfig, DfuRecord, idle_mode, set_mode};
 use dfu_device::{DeviceState, Objection};
 
 // The objection of a status, which is errTARGET or errFILE.
@@ -27,6 +27,8 @@ fn objection_of(status: u32) -> Option<Objection>
 #[unsafe(no_mangle)]
 pub extern "C" fn dfu_core_refuse(config: &DfuConfig, device: &mut DfuRecord, status: u32) -> i32
     ensures outcome { WasRefused config.now device.old status result device.new }
+    ensures step { (block flash : List ℕ) → CoreHappens (core_board config.now device.old block flash) (CoreRefuse status) result []
+        (core_board config.now device.new block flash) }
 {
     let (_, mode) = match idle_mode(config, device) {
         Ok(found) => found,
@@ -50,6 +52,9 @@ pub extern "C" fn dfu_core_refuse_close(
     status: u32,
 ) -> i32
     ensures outcome { CloseRefused config.now device.old (addressed config.now.interface setup.now) status result device.new }
+    ensures step { (block flash : List ℕ) →
+        CoreHappens (core_board config.now device.old block flash) (CoreRefuseClose setup.now status) result []
+        (core_board config.now device.new block flash) }
 {
     let (settings, mode) = match idle_mode(config, device) {
         Ok(found) => found,

@@ -1,14 +1,12 @@
 //! Whether a device will stall a setup, said before its body is there.
 ghost use Rattle.std.specs.Prelude.{◌≡◌, ◌⊎◌, pos};
 ghost use Rattle.dfu_asks.specs.Addressed.{addressed};
-ghost use Rattle.dfu_device_c.specs.Stalls.{ToldStall};
-ghost use Rattle.dfu_device_c.specs.Idle.{IsIdleRecord, RefusesSetup};
+ghost use Rattle.dfu_core.specs.Stalls.{ToldStall};
+ghost use Rattle.dfu_core.specs.Idle.{IsIdleRecord, RefusesSetup};
 
-use crate::config::DfuConfig;
-use crate::mode::idle_mode;
 use crate::numbers::told_number;
-use crate::record::DfuRecord;
 use dfu_asks::{addressed, mode_stalls};
+use dfu_core::{DfuConfig, DfuRecord, idle_mode};
 
 /// Whether `dfu_core_handle` will stall this setup, whatever body of wLength bytes comes with it: 1 or 0. `size` is how many
 /// bytes the flash has.

@@ -5,16 +5,14 @@ ghost use Rattle.dfu_wire.specs.State.{state_byte};
 ghost use Rattle.dfu_device.specs.declared.device_state.DeviceState.{DeviceState};
 ghost use Rattle.dfu_device.specs.Parts.{stage_of};
 ghost use Rattle.dfu_device.specs.Stage.{state_of, code_of};
-ghost use Rattle.dfu_device_c.specs.Config.{IsConfig};
-ghost use Rattle.dfu_device_c.specs.Due.{LATEST, ToldDue};
-ghost use Rattle.dfu_device_c.specs.Idle.{RefusesRecord};
-ghost use Rattle.dfu_device_c.specs.Mode.{HasMode};
-ghost use Rattle.dfu_device_c.specs.Numbers.{NO_DEVICE};
+ghost use Rattle.dfu_core.specs.Config.{IsConfig};
+ghost use Rattle.dfu_core.specs.Due.{LATEST, ToldDue};
+ghost use Rattle.dfu_core.specs.Idle.{RefusesRecord};
+ghost use Rattle.dfu_core.specs.Mode.{HasMode};
+ghost use Rattle.dfu_core.specs.Numbers.{NO_DEVICE};
 
-use crate::config::DfuConfig;
-use crate::mode::{has_mode, mode_in};
-use crate::record::DfuRecord;
 use dfu_asks::mode_due;
+use dfu_core::{DfuConfig, DfuRecord, has_mode, mode_in};
 
 /// The state of the device, bState: 0 to 10; -4 if the record has no mode.
 #[unsafe(no_mangle)]

@@ -8,7 +8,7 @@ ghost use Rattle.dfu_install_c.specs.Tells.{TellsDue};
 
 use crate::area::{DfuRunArea, last_of, number_of};
 use crate::numbers::{due_of, number_of as refusal_number};
-use dfu_c::{ASKS, DfuAsk, ERASE, PROGRAM};
+use dfu_core::{ASKS, DfuAsk, ERASE, PROGRAM};
 use dfu_install::{Due, next, piece, took};
 
 // Tells what is due.

@@ -2,7 +2,7 @@
 ghost use Rattle.std.specs.Prelude.{◌≡◌};
 ghost use Rattle.dfu_install_c.specs.Calls.{due_of_kind, install_refusal_number};
 
-use dfu_c::{DfuAsk, ERASE, PROGRAM};
+use dfu_core::{DfuAsk, ERASE, PROGRAM};
 use dfu_install::{Due, Refusal};
 
 /// The operation that a program was asked for; for another kind none, which the start has too.

@@ -10,9 +10,9 @@ use Rattle.dfu_trial.specs.declared.operation.Operation.TheVariants.{Mark, Close
 use Rattle.dfu_trial.specs.declared.standing.Standing.{Standing}
 use Rattle.dfu_trial.specs.declared.standing.Standing.TheVariants.{Settled, OnTrial}
 use Rattle.dfu_trial.specs.declared.starting.Starting.{Starting}
-use Rattle.dfu_c.specs.declared.records.DfuAsk.{DfuAsk}
-use Rattle.dfu_c.specs.declared.records.DfuPlace.{DfuPlace}
-use Rattle.dfu_c.specs.Numbers.{ASKS}
+use Rattle.dfu_core.specs.declared.records.DfuAsk.{DfuAsk}
+use Rattle.dfu_core.specs.declared.records.DfuPlace.{DfuPlace}
+use Rattle.dfu_core.specs.Numbers.{ASKS}
 use Rattle.dfu_trial_c.specs.declared.told.DfuStanding.{DfuStanding}
 use Rattle.dfu_trial_c.specs.declared.told.DfuStarting.{DfuStarting}
 

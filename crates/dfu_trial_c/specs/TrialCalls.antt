@@ -4,7 +4,7 @@ use Rattle.dfu_trial.specs.Calls.{trial_start, confirm_of, end_of_trial, upload_
 use Rattle.dfu_trial.specs.declared.standing.Standing.{Standing}
 use Rattle.dfu_trial.specs.declared.confirming.Confirmation.{Confirmation}
 use Rattle.dfu_trial.specs.declared.confirming.Confirmation.TheVariants as confirm
-use Rattle.dfu_c.specs.declared.records.DfuAsk.{DfuAsk}
+use Rattle.dfu_core.specs.declared.records.DfuAsk.{DfuAsk}
 use Rattle.dfu_trial_c.specs.declared.flash.Refusal.{Refusal}
 use Rattle.dfu_trial_c.specs.declared.flash.DfuTries.{DfuTries}
 use Rattle.dfu_trial_c.specs.declared.told.DfuStanding.{DfuStanding}

@@ -7,7 +7,7 @@ ghost use Rattle.dfu_trial_c.specs.TrialCalls.{RefusesTrial, ToldStanding, ToldS
 
 use crate::flash::{DfuTries, looked};
 use crate::told::{DfuStanding, DfuStarting, standing_told, starting_told, tell};
-use dfu_c::{DfuAsk, DfuPlace, PROGRAM};
+use dfu_core::{DfuAsk, DfuPlace, PROGRAM};
 use dfu_trial::Confirmation;
 
 /// DFU_ELSEWHERE.

@@ -6,7 +6,7 @@ ghost use Rattle.dfu_trial.specs.Marks.{AreTries};
 ghost use Rattle.dfu_trial.specs.Calls.{IsStanding};
 ghost use Rattle.dfu_trial_c.specs.Told.{image_in, standing_told, starting_told, IsTrialAsked};
 
-use dfu_c::{ASKS, DfuAsk, DfuPlace, ERASE, PROGRAM};
+use dfu_core::{ASKS, DfuAsk, DfuPlace, ERASE, PROGRAM};
 use dfu_slots::{Medium, data_at, header_of, length_in};
 use dfu_trial::{Operation, Standing, Starting};
 

@@ -5,7 +5,7 @@ import package
 from imports import Known, uses
 from tokens import tokens_of
 
-# The crates dfu_board, dfu_board_play and dfuse_link have laws alone, so that nothing of them is left.
+# The crates dfu_laws and dfuse_link have laws alone, so that nothing of them is left.
 MODULES = {
     "dfu_sim": "sim", "dfu_link": "link", "dfu_conformance::captures": "pcap", "dfu_output": "output", "dfu_args": "words", "dfu_fs": "files",
     "dfu_cli": "cli", "dfu_cmd": "command", "dfu_examples": "callers",

@@ -5,10 +5,10 @@ use Rattle.dfu_slots.specs.Image.{HasImage}
 use Rattle.dfu_slots.specs.Medium.{MediumState}
 use Rattle.dfu_asks.specs.Blank.{IsUnwritten}
 use Rattle.dfu_asks.specs.Mapped.{mapped}
-use Rattle.dfu_device_c.specs.declared.config.DfuConfig.{DfuConfig}
-use Rattle.dfu_device_c.specs.Blank.{ToldBlank, told_blank, told_written}
-use Rattle.dfu_device_c.specs.Config.{config_grain}
-use Rattle.dfu_device_c.specs.Numbers.{told_number}
+use Rattle.dfu_core.specs.declared.config.DfuConfig.{DfuConfig}
+use Rattle.dfu_core.specs.Blank.{ToldBlank, told_blank, told_written}
+use Rattle.dfu_core.specs.Config.{config_grain}
+use Rattle.dfu_core.specs.Numbers.{told_number}
 use Rattle.dfu_device_c.proofs.blank.dfu_core_is_blank.Goals as goal
 
 -- The number of what is said of the medium of this flash.

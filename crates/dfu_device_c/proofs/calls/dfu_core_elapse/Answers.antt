@@ -6,10 +6,10 @@ use Rattle.dfu_device.specs.Rows.{Elapses}
 use Rattle.dfu_asks.specs.declared.reply.Reply.{Reply}
 use Rattle.dfu_asks.specs.Asks.{device_in}
 use Rattle.dfu_asks.specs.Calls.{DeviceCalled}
-use Rattle.dfu_device_c.specs.declared.record.DfuRecord.{DfuRecord}
-use Rattle.dfu_device_c.specs.Kept.{IsSetUp, IsKept, with_memory}
-use Rattle.dfu_device_c.specs.Numbers.{passed_number}
-use Rattle.dfu_device_c.specs.Calls.{Goes, TimePassed, IsIntact}
+use Rattle.dfu_core.specs.declared.record.DfuRecord.{DfuRecord}
+use Rattle.dfu_core.specs.Kept.{IsSetUp, IsKept, with_memory}
+use Rattle.dfu_core.specs.Numbers.{passed_number}
+use Rattle.dfu_core.specs.Calls.{Goes, TimePassed, IsIntact}
 use Rattle.dfu_device_c.proofs.Split.{whole, in_memory, IsParted, is_parted, has_room, split_in, split_after, fits_front, unchanged, goes, refuses}
 use Rattle.dfu_device_c.proofs.calls.dfu_core_elapse.Goals.{After-elapse}
 use Rattle.dfu_device_c.proofs.calls.dfu_core_elapse.Goals as goal
@@ -57,14 +57,20 @@ passed c reply r' is number_is kept =
 
 pub returns-in-Ok-Asks : goal.returns-in-Ok-Asks
 returns-in-Ok-Asks c = record {
-  outcome = inl (passed (goal.at.returns-in-Ok-Asks c).After-elapse _ _ c.in-Ok-Asks.is (sym (ap passed_number c.in-Ok-Asks.field-0-is))
-      (c.keep.ensures c.args.config.now));
+  step = (
+    record { config = refl; flash = refl },
+    inl (passed (goal.at.returns-in-Ok-Asks c).After-elapse _ _ c.in-Ok-Asks.is (sym (ap passed_number c.in-Ok-Asks.field-0-is))
+        (c.keep.ensures c.args.config.now)),
+  );
 }
 
 pub returns-in-Ok-Answered : goal.returns-in-Ok-Answered
 returns-in-Ok-Answered c = record {
-  outcome = inl (passed (goal.at.returns-in-Ok-Answered c).After-elapse _ _ c.in-Ok-Answered.is
-      (sym (ap passed_number c.in-Ok-Answered.field-0-is)) (c.keep-in-Ok-Answered.ensures c.args.config.now));
+  step = (
+    record { config = refl; flash = refl },
+    inl (passed (goal.at.returns-in-Ok-Answered c).After-elapse _ _ c.in-Ok-Answered.is
+        (sym (ap passed_number c.in-Ok-Answered.field-0-is)) (c.keep-in-Ok-Answered.ensures c.args.config.now)),
+  );
 }
 
 pub returns-in-Err-elapse : goal.returns-in-Err-elapse
@@ -72,7 +78,10 @@ returns-in-Err-elapse c =
     let p = parted (goal.at.returns-in-Err-elapse c).After-elapse in
     let done = c.in-Err-elapse.ensures in
     record {
-      outcome = inr (refuses p c.in-Err-elapse.refusal c.args.flash.now 0 0 (omega arith) done.refused c.refused.ensures
-          (to_z-of_z w32 _ (omega (arith, c.number-in-Err-elapse.type_inv)) ∙ c.number-in-Err-elapse.ensures)
-          refl (unchanged p _ _ done.unchanged.1 done.unchanged.2));
+      step = (
+        record { config = refl; flash = refl },
+        inr (refuses p c.in-Err-elapse.refusal c.args.flash.now 0 0 (omega arith) done.refused c.refused.ensures
+            (to_z-of_z w32 _ (omega (arith, c.number-in-Err-elapse.type_inv)) ∙ c.number-in-Err-elapse.ensures)
+            refl (unchanged p _ _ done.unchanged.1 done.unchanged.2)),
+      );
     }

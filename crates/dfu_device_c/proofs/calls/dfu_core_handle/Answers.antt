@@ -6,11 +6,11 @@ use Rattle.dfu_device.specs.Rows.{Handles}
 use Rattle.dfu_asks.specs.declared.reply.Reply.{Reply}
 use Rattle.dfu_asks.specs.Asks.{device_in}
 use Rattle.dfu_asks.specs.Calls.{DeviceCalled}
-use Rattle.dfu_device_c.specs.declared.record.DfuRecord.{DfuRecord}
+use Rattle.dfu_core.specs.declared.record.DfuRecord.{DfuRecord}
 use Rattle.dfu_asks.specs.Addressed.{addressed}
-use Rattle.dfu_device_c.specs.Kept.{IsSetUp, IsKept, with_memory}
-use Rattle.dfu_device_c.specs.Numbers.{reply_number}
-use Rattle.dfu_device_c.specs.Calls.{Goes, Replied, IsIntact}
+use Rattle.dfu_core.specs.Kept.{IsSetUp, IsKept, with_memory}
+use Rattle.dfu_core.specs.Numbers.{reply_number}
+use Rattle.dfu_core.specs.Calls.{Goes, Replied, IsIntact}
 use Rattle.dfu_device_c.proofs.Split.{whole, in_memory, IsParted, is_parted, has_room, split_in, split_after, fits_front, unchanged, goes, refuses}
 use Rattle.dfu_device_c.proofs.calls.dfu_core_handle.Goals.{After-handle}
 use Rattle.dfu_device_c.proofs.calls.dfu_core_handle.Goals as goal
@@ -56,27 +56,33 @@ replied c reply r' is number_is kept =
           (split_in p) after (IfOk-at_ok _ is done.outcome (whole (split_in p) flash intact)));
     })
 
-pub returns-in-Ok-Asks-clause-outcome : goal.returns-in-Ok-Asks-clause-outcome
-returns-in-Ok-Asks-clause-outcome c =
-    inl (replied (goal.at.returns-in-Ok-Asks-clause-outcome c).After-handle _ _ c.in-Ok-Asks.is
-    (sym (ap reply_number c.in-Ok-Asks.field-0-is)) (c.keep.ensures c.args.config.now))
+pub returns-in-Ok-Asks-clause-step : goal.returns-in-Ok-Asks-clause-step
+returns-in-Ok-Asks-clause-step c = (
+  record { config = refl; flash = refl },
+  inl (replied (goal.at.returns-in-Ok-Asks-clause-step c).After-handle _ _ c.in-Ok-Asks.is
+      (sym (ap reply_number c.in-Ok-Asks.field-0-is)) (c.keep.ensures c.args.config.now)),
+)
 
-pub returns-in-Ok-Answered-clause-outcome : goal.returns-in-Ok-Answered-clause-outcome
-returns-in-Ok-Answered-clause-outcome c =
-    inl (replied (goal.at.returns-in-Ok-Answered-clause-outcome c).After-handle _ _ c.in-Ok-Answered.is
-    (to_z-of_z w32 _ (omega (arith, c.number_of.type_inv)) ∙ c.number_of.ensures ∙ sym (ap reply_number c.in-Ok-Answered.field-0-is))
-    (c.keep-in-Ok-Answered.ensures c.args.config.now))
+pub returns-in-Ok-Answered-clause-step : goal.returns-in-Ok-Answered-clause-step
+returns-in-Ok-Answered-clause-step c = (
+  record { config = refl; flash = refl },
+  inl (replied (goal.at.returns-in-Ok-Answered-clause-step c).After-handle _ _ c.in-Ok-Answered.is
+      (to_z-of_z w32 _ (omega (arith, c.number_of.type_inv)) ∙ c.number_of.ensures ∙ sym (ap reply_number c.in-Ok-Answered.field-0-is))
+      (c.keep-in-Ok-Answered.ensures c.args.config.now)),
+)
 
-pub returns-in-Err-handle-clause-outcome : goal.returns-in-Err-handle-clause-outcome
-returns-in-Err-handle-clause-outcome c =
-    let p = parted (goal.at.returns-in-Err-handle-clause-outcome c).After-handle in
+pub returns-in-Err-handle-clause-step : goal.returns-in-Err-handle-clause-step
+returns-in-Err-handle-clause-step c =
+    let p = parted (goal.at.returns-in-Err-handle-clause-step c).After-handle in
     let a = c.in-Ok.asking in
     let done = c.in-Err-handle.ensures in
     let need : answer_room a.config ≤ length c.args.out.now =
-    omega (arith, c.if-out-room_for.false, c.room_for.ensures, ap answer_room p.kept.set_up.config_is) in
-    inr (inl (
-      refuses p c.in-Err-handle.refusal c.args.flash.now (answer_room a.config) (length c.args.out.now) need done.refused c.refused.ensures
-          (to_z-of_z w32 _ (omega (arith, c.number-in-Err-handle.type_inv)) ∙ c.number-in-Err-handle.ensures)
-          refl (unchanged p _ _ done.unchanged.1 done.unchanged.2),
-      done.unchanged.3,
-    ))
+    omega (arith, c.if-out-room_for.false, c.room_for.ensures, ap answer_room p.kept.set_up.config_is) in (
+      record { config = refl; flash = refl },
+      inr (inl (
+        refuses p c.in-Err-handle.refusal c.args.flash.now (answer_room a.config) (length c.args.out.now) need done.refused c.refused.ensures
+            (to_z-of_z w32 _ (omega (arith, c.number-in-Err-handle.type_inv)) ∙ c.number-in-Err-handle.ensures)
+            refl (unchanged p _ _ done.unchanged.1 done.unchanged.2),
+        done.unchanged.3,
+      )),
+    )

@@ -5,8 +5,8 @@ use Rattle.dfu_asks.specs.Steps.{Step}
 use Rattle.dfu_asks.specs.Carried.{IsPiece, ErasesWhole}
 use Rattle.dfu_asks.specs.Asks.{steps_in}
 use Rattle.dfu_asks.specs.Lent.{LentAsking, lent}
-use Rattle.dfu_device_c.specs.Writes.{IsAsking, refuses_unfound, refuses_piece}
-use Rattle.dfu_device_c.proofs.Handed.{is_kind, programs, by_number, same_step}
+use Rattle.dfu_core.specs.Writes.{IsAsking, refuses_unfound, refuses_piece}
+use Rattle.dfu_device_c.proofs.Handed.{is_kind, programs, by_number, same_step, written}
 use Rattle.dfu_device_c.proofs.Split.{joined, lent_is, IsParted, is_parted, split_in}
 use Rattle.dfu_device_c.proofs.calls.dfu_core_next.Goals.{After-split_at}
 use Rattle.dfu_device_c.proofs.calls.dfu_core_next.Goals as goal
@@ -14,14 +14,15 @@ use Rattle.dfu_device_c.proofs.calls.dfu_core_next.Goals as goal
 pub split_at-requires : goal.split_at-requires
 split_at-requires c = omega (arith, IfOk-at_ok _ c.in-Ok.is c.found.ensures.room, c.from.ensures)
 
-pub returns-in-Err : goal.returns-in-Err
-returns-in-Err c = record {
-  outcome = inr (
-    refuses_unfound c.in-Err.refusal (to_z-of_z w32 _ (omega (arith, c.number.type_inv)) ∙ c.number.ensures)
-        (IfErr-at_err _ c.in-Err.is c.found.ensures.err),
-    refl,
-  );
-}
+pub returns-in-Err-clause-outcome : goal.returns-in-Err-clause-outcome
+returns-in-Err-clause-outcome c = inr (
+  refuses_unfound c.in-Err.refusal (to_z-of_z w32 _ (omega (arith, c.number.type_inv)) ∙ c.number.ensures)
+      (IfErr-at_err _ c.in-Err.is c.found.ensures.err),
+  refl,
+)
+
+pub returns-in-Err-clause-step : goal.returns-in-Err-clause-step
+returns-in-Err-clause-step c = written _ _ _ _ _ _ _ _ (returns-in-Err-clause-outcome c)
 
 -- The device that the record is, and the two parts of its memory.
 parted : (c : After-split_at) → IsParted c.args.config.now c.args.device.now c.in-Ok.asking c.args.block.now
@@ -30,57 +31,60 @@ parted c = is_parted _ _ _ _ _ _ _ c.in-Ok.is c.found.ensures.ok c.found.ensures
     (joined c.from.result _ _ _ c.split_at.ensures.front c.split_at.ensures.back)
     (omega (arith, c.split_at.ensures.front_len, c.from.ensures))
 
-pub returns-in_default : goal.returns-in_default
-returns-in_default c =
-    let p = parted (goal.at.returns-in_default c).After-split_at in
-    record {
-      outcome = inr (
-        refuses_piece c.in-Ok.asking (to_z-of_z w32 _ (omega (arith, c.number-in_default.type_inv)) ∙ c.number-in_default.ensures)
-            p.config p.room p.kept
-            (inl (λ at.
-            let there = subst (λ (l : LentAsking). IsAsking l c.args.flash.now) (lent_is (split_in p)) at in
-            c.in_default.ensures.goes there.0 there.1 there.2 there.3)),
-        λ i. record c.args.ask.now { bytes = c.in_default.ensures.unchanged i },
-      );
-    }
+pub returns-in_default-clause-outcome : goal.returns-in_default-clause-outcome
+returns-in_default-clause-outcome c =
+    let p = parted (goal.at.returns-in_default-clause-outcome c).After-split_at in
+    inr (
+      refuses_piece c.in-Ok.asking (to_z-of_z w32 _ (omega (arith, c.number-in_default.type_inv)) ∙ c.number-in_default.ensures)
+          p.config p.room p.kept
+          (inl (λ at.
+          let there = subst (λ (l : LentAsking). IsAsking l c.args.flash.now) (lent_is (split_in p)) at in
+          c.in_default.ensures.goes there.0 there.1 there.2 there.3)),
+      λ i. record c.args.ask.now { bytes = c.in_default.ensures.unchanged i },
+    )
 
-pub returns-then-flash-gt4294967295 : goal.returns-then-flash-gt4294967295
-returns-then-flash-gt4294967295 c = record {
-  outcome = inr (
-    refuses_piece c.in-Ok.asking
-        (to_z-of_z w32 _ (omega (arith, c.number-then-flash-gt4294967295.type_inv)) ∙ c.number-then-flash-gt4294967295.ensures)
-        (IfOk-at_ok _ c.in-Ok.is c.found.ensures.config) (IfOk-at_ok _ c.in-Ok.is c.found.ensures.room)
-        (IfOk-at_ok _ c.in-Ok.is c.found.ensures.ok) (inr (omega (arith, c.if-flash-gt4294967295.true))),
-    refl,
-  );
-}
+pub returns-in_default-clause-step : goal.returns-in_default-clause-step
+returns-in_default-clause-step c = written _ _ _ _ _ _ _ _ (returns-in_default-clause-outcome c)
 
-pub returns : goal.returns
-returns c =
-    let p = parted (goal.at.returns c).After-split_at in
+pub returns-then-flash-gt4294967295-clause-outcome : goal.returns-then-flash-gt4294967295-clause-outcome
+returns-then-flash-gt4294967295-clause-outcome c = inr (
+  refuses_piece c.in-Ok.asking
+      (to_z-of_z w32 _ (omega (arith, c.number-then-flash-gt4294967295.type_inv)) ∙ c.number-then-flash-gt4294967295.ensures)
+      (IfOk-at_ok _ c.in-Ok.is c.found.ensures.config) (IfOk-at_ok _ c.in-Ok.is c.found.ensures.room)
+      (IfOk-at_ok _ c.in-Ok.is c.found.ensures.ok) (inr (omega (arith, c.if-flash-gt4294967295.true))),
+  refl,
+)
+
+pub returns-then-flash-gt4294967295-clause-step : goal.returns-then-flash-gt4294967295-clause-step
+returns-then-flash-gt4294967295-clause-step c = written _ _ _ _ _ _ _ _ (returns-then-flash-gt4294967295-clause-outcome c)
+
+pub returns-clause-outcome : goal.returns-clause-outcome
+returns-clause-outcome c =
+    let p = parted (goal.at.returns-clause-outcome c).After-split_at in
     let says = c.in-Some.ensures in
     let due = says.due in
     let piece = c.in-Some.piece in
     let same = same_step piece.erases c.kind_of-ask.result piece.at piece.len c.next.new.out c.kind_of-ask.ensures in
     let l = lent c.in-Ok.asking c.split_at.result.0.now c.split_at.result.1.now in
-    record {
-      outcome = inl (record {
-        number_is = refl;
-        config = p.config;
-        room = p.room;
-        asking = c.in-Ok.asking;
-        is = p.kept;
-        work = due.0;
-        work_is = due.1.work_is;
-        kind = is_kind piece.erases c.kind_of-ask.result c.kind_of-ask.ensures;
-        piece = subst (λ (x : LentAsking). IsPiece (steps_in x due.0) due.0.done
-            (by_number c.kind_of-ask.result piece.at piece.len c.next.new.out))
-            (sym (lent_is (split_in p)))
-            (subst (λ (s : Step). IsPiece (steps_in l due.0) due.0.done s) (sym same) (says.piece due.0 due.1.work_is));
-        some = says.most.some;
-        most = λ is. says.most.programs (programs piece.erases c.kind_of-ask.result c.kind_of-ask.ensures is);
-        sector = subst (λ (n : ℕ). ErasesWhole n (by_number c.kind_of-ask.result piece.at piece.len c.next.new.out)) p.kept.set_up.sector_is
-            (subst (λ (s : Step). ErasesWhole l.sector.size s) (sym same) says.sector);
-        spare = says.spare;
-      });
-    }
+    inl (record {
+      number_is = refl;
+      config = p.config;
+      room = p.room;
+      asking = c.in-Ok.asking;
+      is = p.kept;
+      work = due.0;
+      work_is = due.1.work_is;
+      kind = is_kind piece.erases c.kind_of-ask.result c.kind_of-ask.ensures;
+      piece = subst (λ (x : LentAsking). IsPiece (steps_in x due.0) due.0.done
+          (by_number c.kind_of-ask.result piece.at piece.len c.next.new.out))
+          (sym (lent_is (split_in p)))
+          (subst (λ (s : Step). IsPiece (steps_in l due.0) due.0.done s) (sym same) (says.piece due.0 due.1.work_is));
+      some = says.most.some;
+      most = λ is. says.most.programs (programs piece.erases c.kind_of-ask.result c.kind_of-ask.ensures is);
+      sector = subst (λ (n : ℕ). ErasesWhole n (by_number c.kind_of-ask.result piece.at piece.len c.next.new.out)) p.kept.set_up.sector_is
+          (subst (λ (s : Step). ErasesWhole l.sector.size s) (sym same) says.sector);
+      spare = says.spare;
+    })
+
+pub returns-clause-step : goal.returns-clause-step
+returns-clause-step c = written _ _ _ _ _ _ _ _ (returns-clause-outcome c)

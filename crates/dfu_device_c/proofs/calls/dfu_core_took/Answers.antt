@@ -11,11 +11,11 @@ use Rattle.dfu_asks.specs.Lent.{LentAsking}
 use Rattle.dfu_asks.specs.Asks.{device_of, steps_in}
 use Rattle.dfu_asks.specs.Calls.{AsksWrites, DeviceTook}
 use Rattle.dfu_asks.specs.Refused.{IsLeft}
-use Rattle.dfu_device_c.specs.declared.record.DfuRecord.{DfuRecord}
-use Rattle.dfu_device_c.specs.Kept.{IsSetUp, IsKept, with_memory}
-use Rattle.dfu_device_c.specs.Numbers.{reply_number}
-use Rattle.dfu_device_c.specs.Calls.{Goes, Went}
-use Rattle.dfu_device_c.specs.Writes.{AsksOnSomeFlash, refuses_unfound, refuses_piece}
+use Rattle.dfu_core.specs.declared.record.DfuRecord.{DfuRecord}
+use Rattle.dfu_core.specs.Kept.{IsSetUp, IsKept, with_memory}
+use Rattle.dfu_core.specs.Numbers.{reply_number}
+use Rattle.dfu_core.specs.Calls.{Goes, Went}
+use Rattle.dfu_core.specs.Writes.{AsksOnSomeFlash, refuses_unfound, refuses_piece}
 use Rattle.dfu_device_c.proofs.Found.{not_taken}
 use Rattle.dfu_device_c.proofs.Split.{lent_is, in_memory, IsParted, is_parted, has_room, split_in, split_after, unchanged, same_front, goes}
 use Rattle.dfu_device_c.proofs.calls.dfu_core_took.Goals.{After-took}
@@ -30,13 +30,16 @@ took-requires c = has_room (is_parted _ _ _ _ c.split_at_mut-front.result.0.now 
 
 pub returns-in-Err : goal.returns-in-Err
 returns-in-Err c = record {
-  outcome = inr (inl (
-    refuses_unfound c.in-Err.refusal (to_z-of_z w32 _ (omega (arith, c.number.type_inv)) ∙ c.number.ensures)
-        (IfErr-at_err _ c.in-Err.is c.found.ensures.err),
-    refl,
-    refl,
-    refl,
-  ));
+  step = (
+    record { config = refl; flash = refl },
+    inr (inl (
+      refuses_unfound c.in-Err.refusal (to_z-of_z w32 _ (omega (arith, c.number.type_inv)) ∙ c.number.ensures)
+          (IfErr-at_err _ c.in-Err.is c.found.ensures.err),
+      refl,
+      refl,
+      refl,
+    )),
+  );
   block = refl;
   short = λ less. absurd (omega (arith, less, c.if-out-lt6.false));
 }
@@ -81,7 +84,10 @@ pub returns-in-Ok-Asks : goal.returns-in-Ok-Asks
 returns-in-Ok-Asks c =
     let at = (goal.at.returns-in-Ok-Asks c).After-took in
     record {
-      outcome = inl (went at _ _ c.in-Ok-Asks.is (sym (ap reply_number c.in-Ok-Asks.field-0-is)) (c.keep.ensures c.args.config.now));
+      step = (
+        record { config = refl; flash = refl },
+        inl (went at _ _ c.in-Ok-Asks.is (sym (ap reply_number c.in-Ok-Asks.field-0-is)) (c.keep.ensures c.args.config.now)),
+      );
       block = same_front (parted at) c.took.new.held;
       short = λ less. absurd (omega (arith, less, c.if-out-lt6.false));
     }
@@ -90,9 +96,12 @@ pub returns-in-Ok-Answered : goal.returns-in-Ok-Answered
 returns-in-Ok-Answered c =
     let at = (goal.at.returns-in-Ok-Answered c).After-took in
     record {
-      outcome = inl (went at _ _ c.in-Ok-Answered.is
-          (to_z-of_z w32 _ (omega (arith, c.number_of.type_inv)) ∙ c.number_of.ensures ∙ sym (ap reply_number c.in-Ok-Answered.field-0-is))
-          (c.keep-in-Ok-Answered.ensures c.args.config.now));
+      step = (
+        record { config = refl; flash = refl },
+        inl (went at _ _ c.in-Ok-Answered.is
+            (to_z-of_z w32 _ (omega (arith, c.number_of.type_inv)) ∙ c.number_of.ensures ∙ sym (ap reply_number c.in-Ok-Answered.field-0-is))
+            (c.keep-in-Ok-Answered.ensures c.args.config.now)),
+      );
       block = same_front (parted at) c.took.new.held;
       short = λ less. absurd (omega (arith, less, c.if-out-lt6.false));
     }
@@ -102,15 +111,18 @@ returns-in-Err-took c =
     let p = parted (goal.at.returns-in-Err-took c).After-took in
     let done = c.in-Err-took.ensures in
     record {
-      outcome = inr (inl (
-        refuses_piece c.in-Ok.asking (to_z-of_z w32 _ (omega (arith, c.number-in-Err-took.type_inv)) ∙ c.number-in-Err-took.ensures)
-            p.config p.room p.kept
-            (subst (λ (l : LentAsking). ¬ AsksOnSomeFlash l) (sym (lent_is (split_in p)))
-            (not_taken c.in-Err-took.field-0 _ _ (omega (arith, c.if-out-lt6.false)) done.refused)),
-        refl,
-        unchanged p _ _ refl done.unchanged.1,
-        done.unchanged.2,
-      ));
+      step = (
+        record { config = refl; flash = refl },
+        inr (inl (
+          refuses_piece c.in-Ok.asking (to_z-of_z w32 _ (omega (arith, c.number-in-Err-took.type_inv)) ∙ c.number-in-Err-took.ensures)
+              p.config p.room p.kept
+              (subst (λ (l : LentAsking). ¬ AsksOnSomeFlash l) (sym (lent_is (split_in p)))
+              (not_taken c.in-Err-took.field-0 _ _ (omega (arith, c.if-out-lt6.false)) done.refused)),
+          refl,
+          unchanged p _ _ refl done.unchanged.1,
+          done.unchanged.2,
+        )),
+      );
       block = same_front p c.took.new.held;
       short = λ less. absurd (omega (arith, less, c.if-out-lt6.false));
     }

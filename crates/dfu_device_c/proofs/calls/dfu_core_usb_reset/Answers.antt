@@ -27,19 +27,25 @@ returns-in-Ok-usb_reset c =
     let flash = c.args.flash.now in
     let after = split_after p c.args.block.now _ _ done.same p.parts refl in
     record {
-      outcome = inl (goes p done.same (c.keep.ensures c.args.config.now) (λ _. fits_front p _ refl done.fits) (
-        done.served.work,
-        refl,
-        done.work,
-        in_memory (λ l l'. device_in l' flash ≡ record (device_in l flash) { stage = reset_stage (device_in l flash).stage })
-            (split_in p) after done.row,
-        λ is. intact after flash (done.is (whole (split_in p) flash is)),
-      ));
+      step = (
+        record { config = refl; flash = refl },
+        inl (goes p done.same (c.keep.ensures c.args.config.now) (λ _. fits_front p _ refl done.fits) (
+          done.served.work,
+          refl,
+          done.work,
+          in_memory (λ l l'. device_in l' flash ≡ record (device_in l flash) { stage = reset_stage (device_in l flash).stage })
+              (split_in p) after done.row,
+          λ is. intact after flash (done.is (whole (split_in p) flash is)),
+        )),
+      );
     }
 
 pub returns-in-Err-usb_reset : goal.returns-in-Err-usb_reset
 returns-in-Err-usb_reset c = record {
-  outcome = inr (refuses (parted (goal.at.returns-in-Err-usb_reset c).After-split_at) c.in-Err-usb_reset.refusal c.args.flash.now 0 0
-      (omega arith) c.in-Err-usb_reset.ensures.refused c.refused.ensures
-      (to_z-of_z w32 _ (omega (arith, c.number-in-Err-usb_reset.type_inv)) ∙ c.number-in-Err-usb_reset.ensures) refl refl);
+  step = (
+    record { config = refl; flash = refl },
+    inr (refuses (parted (goal.at.returns-in-Err-usb_reset c).After-split_at) c.in-Err-usb_reset.refusal c.args.flash.now 0 0
+        (omega arith) c.in-Err-usb_reset.ensures.refused c.refused.ensures
+        (to_z-of_z w32 _ (omega (arith, c.number-in-Err-usb_reset.type_inv)) ∙ c.number-in-Err-usb_reset.ensures) refl refl),
+  );
 }

@@ -1,9 +1,9 @@
 use Rattle.std.proofs.Common.{◌≡◌, ◌⊎◌, ℕ, ℤ, pos, List, inl, inr, refl, subst, sym, ◌∙◌, w32, arith}
 use Rattle.std.proofs.lemmas.Int.{to_z-of_z}
-use Rattle.dfu_device_c.specs.Closes.{ToldClose}
+use Rattle.dfu_core.specs.Closes.{ToldClose}
 use Rattle.dfu_asks.specs.Addressed.{addressed}
-use Rattle.dfu_device_c.specs.Idle.{IsIdleRecord, RefusesSetup}
-use Rattle.dfu_device_c.specs.Numbers.{told_number}
+use Rattle.dfu_core.specs.Idle.{IsIdleRecord, RefusesSetup}
+use Rattle.dfu_core.specs.Numbers.{told_number}
 use Rattle.dfu_device_c.proofs.Told.{two, kept_in}
 use Rattle.dfu_device_c.proofs.closes.dfu_core_closes.Goals as goal
 

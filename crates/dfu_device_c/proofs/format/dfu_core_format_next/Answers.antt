@@ -2,7 +2,7 @@ use Rattle.std.proofs.Common.{ℕ, length, refl, sym, subst, inl, inr}
 use Rattle.dfu_asks.specs.Steps.{Step}
 use Rattle.dfu_asks.specs.Carried.{IsPiece, ErasesWhole}
 use Rattle.dfu_asks.specs.Phases.{steps_left}
-use Rattle.dfu_device_c.specs.Formatting.{IsFormatting}
+use Rattle.dfu_core.specs.Formatting.{IsFormatting}
 use Rattle.dfu_device_c.proofs.Handed.{is_kind, programs, by_number, same_step}
 use Rattle.dfu_device_c.proofs.format.dfu_core_format_next.Goals.{After-next}
 use Rattle.dfu_device_c.proofs.format.dfu_core_format_next.Goals as goal

@@ -4,9 +4,9 @@ use Rattle.std.proofs.lemmas.Option.{MatchOption-at_some}
 use Rattle.dfu_asks.specs.declared.sector.Sector.{Sector}
 use Rattle.dfu_asks.specs.declared.formatting.FormatProgress.{FormatProgress}
 use Rattle.dfu_asks.specs.declared.formatting.FormatProgress.TheVariants as format_progress
-use Rattle.dfu_device_c.specs.declared.record.DfuRecord.{DfuRecord}
-use Rattle.dfu_device_c.specs.Formatting.{IsFormatting}
-use Rattle.dfu_device_c.specs.Formats.{progress_number, GoesFormat}
+use Rattle.dfu_core.specs.declared.record.DfuRecord.{DfuRecord}
+use Rattle.dfu_core.specs.Formatting.{IsFormatting}
+use Rattle.dfu_core.specs.Formats.{progress_number, GoesFormat}
 use Rattle.dfu_device_c.proofs.format.dfu_core_format_took.Goals.{After-took}
 use Rattle.dfu_device_c.proofs.format.dfu_core_format_took.Goals as goal
 
@@ -80,5 +80,5 @@ pub returns-in-Some-Broken : goal.returns-in-Some-Broken
 returns-in-Some-Broken c = record {
   outcome = inl (went (goal.at.returns-in-Some-Broken c).After-took (format_progress.Broken c.in-Some-Broken.field-0-0) _
       (c.in-Some-Broken.is ∙ ap Some c.in-Some-Broken.field-0-is)
-      (to_z-of_z w32 _ (omega (arith, c.number_of.type_inv)) ∙ c.number_of.ensures) (λ e. cc) (λ other. refl) refl);
+      (to_z-of_z w32 _ (omega (arith, c.format_number.type_inv)) ∙ c.format_number.ensures) (λ e. cc) (λ other. refl) refl);
 }

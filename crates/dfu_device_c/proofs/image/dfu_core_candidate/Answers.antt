@@ -2,9 +2,9 @@ use Rattle.std.proofs.Common.{inl, inr, refl, ap, ◌∙◌, w32, arith}
 use Rattle.std.proofs.lemmas.Int.{to_z-of_z}
 use Rattle.std.proofs.lemmas.Option.{MatchOption-at_some, MatchOption-at_none}
 use Rattle.std.proofs.lemmas.Result.{IfOk-at_ok}
-use Rattle.dfu_device_c.specs.declared.numbers.Refusal.{Refusal}
-use Rattle.dfu_device_c.specs.Kept.{block_in, held_back_in}
-use Rattle.dfu_device_c.specs.Numbers.{refusal_number}
+use Rattle.dfu_core.specs.declared.numbers.Refusal.{Refusal}
+use Rattle.dfu_core.specs.Kept.{block_in, held_back_in}
+use Rattle.dfu_core.specs.Numbers.{refusal_number}
 use Rattle.dfu_device_c.proofs.image.dfu_core_candidate.Goals as goal
 
 pub returns-in-Ok-Some : goal.returns-in-Ok-Some

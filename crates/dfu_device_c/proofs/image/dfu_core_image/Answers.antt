@@ -2,7 +2,7 @@ use Rattle.std.proofs.Common.{◌≡◌, inl, refl, subst}
 use Rattle.dfu_slots.specs.Units.{Grain}
 use Rattle.dfu_asks.specs.ActiveImage.{ImageIsAt}
 use Rattle.dfu_asks.specs.Mapped.{grain_of}
-use Rattle.dfu_device_c.specs.Config.{config_grain}
+use Rattle.dfu_core.specs.Config.{config_grain}
 use Rattle.dfu_device_c.proofs.image.dfu_core_image.Goals as goal
 
 pub returns-in-Some-find : goal.returns-in-Some-find

@@ -1,8 +1,11 @@
-use Rattle.std.proofs.Common.{ℕ, List, subst, inl, refl}
+use Rattle.std.proofs.Common.{ℕ, List, [], subst, inl, refl}
 use Rattle.dfu_device.specs.Setting.{Setting}
 use Rattle.dfu_asks.specs.AfterLong.{IsLong}
-use Rattle.dfu_device_c.specs.Config.{setting_of}
-use Rattle.dfu_device_c.specs.Long.{TakesLong}
+use Rattle.dfu_core.specs.Board.{core_board}
+use Rattle.dfu_core.specs.Config.{setting_of}
+use Rattle.dfu_core.specs.Happens.{TooLongCalled}
+use Rattle.dfu_core.specs.Long.{TakesLong}
+use Rattle.dfu_core.specs.Numbers.{STALL}
 use Rattle.dfu_device_c.proofs.Asked.{takes_long}
 use Rattle.dfu_device_c.proofs.long.dfu_core_too_long.Goals as goal
 
@@ -16,4 +19,9 @@ returns c =
     let takes : TakesLong k r own r' = takes_long k r r' own c.in-Ok.found.1 c.in-Some.after c.in-Ok.ensures.set_up c.in-Ok.ensures.only
     c.in-Ok.ensures.idle.idle c.set_mode.ensures.mode c.set_mode.ensures.others c.in-Some.ensures.row in
     let both = subst (λ (x : List ℕ). IsLong (setting_of k) x × TakesLong k r x r') c.addressed-own.ensures (long, takes) in
-    record { outcome = inl (refl, c.in-Ok.ensures.idle, both.0, both.1) }
+    let outcome : TooLongCalled (core_board k r [] []) c.args.setup.now STALL (core_board k r' [] []) =
+    inl (refl, c.in-Ok.ensures.idle, both.0, both.1) in
+    record {
+      outcome = outcome;
+      step = λ block flash body room is_body. (record { config = refl; flash = refl }, refl, room, is_body, outcome);
+    }

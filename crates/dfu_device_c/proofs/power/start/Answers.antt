@@ -1,7 +1,7 @@
 use Rattle.std.proofs.Common.{pos, ℕ, inl, refl, sym, ap, subst}
 use Rattle.dfu_device.specs.declared.device_state.DeviceState.TheVariants as device_state
-use Rattle.dfu_device_c.specs.declared.record.DfuRecord.{DfuRecord}
-use Rattle.dfu_device_c.specs.Power.{Powers}
+use Rattle.dfu_core.specs.declared.record.DfuRecord.{DfuRecord}
+use Rattle.dfu_core.specs.Power.{Powers}
 use Rattle.dfu_device_c.proofs.Powered.{powers, begins}
 use Rattle.dfu_device_c.proofs.power.start.Goals as goal
 

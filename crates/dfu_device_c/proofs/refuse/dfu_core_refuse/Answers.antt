@@ -1,8 +1,8 @@
-use Rattle.std.proofs.Common.{inl, refl, subst}
+use Rattle.std.proofs.Common.{pos, inl, refl, subst}
 use Rattle.dfu_device.specs.declared.answer.Answer.TheVariants as answer
 use Rattle.dfu_device.specs.declared.objection.Objection.{Objection}
 use Rattle.dfu_device.specs.Rows.{Refusing}
-use Rattle.dfu_device_c.specs.Refuse.{TakesCause}
+use Rattle.dfu_core.specs.Refuse.{TakesCause, WasRefused}
 use Rattle.dfu_device_c.proofs.Moved.{takes_cause}
 use Rattle.dfu_device_c.proofs.Refusals.{refuse_leads}
 use Rattle.dfu_device_c.proofs.refuse.dfu_core_refuse.Goals as goal
@@ -14,15 +14,14 @@ returns c =
     let r' = c.set_mode.new.kept in
     let m' = c.after_refusal.result in
     let why = c.in-Some.objection in
-    record {
-      outcome = inl (
-        refl,
-        c.in-Ok.ensures.idle,
-        c.in-Some.ensures.some.1,
-        subst (λ (w : Objection). TakesCause k r (Refusing w) answer.Ack r') c.in-Some.ensures.some.0
-            (takes_cause k r r' c.in-Ok.found.1 m' c.in-Ok.ensures.only c.in-Ok.ensures.idle.idle c.set_mode.ensures.mode
-            c.set_mode.ensures.others (Refusing why) answer.Ack
-            (λ l flash config mode device. refuse_leads k c.in-Ok.found.1 m' why l flash config mode device c.after_refusal.ensures.stage
-            c.after_refusal.ensures.filled)),
-      );
-    }
+    let outcome : WasRefused k r c.args.status (pos 0) r' = inl (
+      refl,
+      c.in-Ok.ensures.idle,
+      c.in-Some.ensures.some.1,
+      subst (λ (w : Objection). TakesCause k r (Refusing w) answer.Ack r') c.in-Some.ensures.some.0
+          (takes_cause k r r' c.in-Ok.found.1 m' c.in-Ok.ensures.only c.in-Ok.ensures.idle.idle c.set_mode.ensures.mode
+          c.set_mode.ensures.others (Refusing why) answer.Ack
+          (λ l flash config mode device. refuse_leads k c.in-Ok.found.1 m' why l flash config mode device c.after_refusal.ensures.stage
+          c.after_refusal.ensures.filled)),
+    ) in
+    record { outcome = outcome; step = λ block flash. (record { config = refl; flash = refl }, refl, outcome) }

@@ -3,8 +3,10 @@ use Rattle.std.proofs.lemmas.Bool.{false≢true}
 use Rattle.dfu_device.specs.declared.answer.Answer.TheVariants as answer
 use Rattle.dfu_device.specs.declared.objection.Objection.{Objection}
 use Rattle.dfu_device.specs.Rows.{RefusingClose}
-use Rattle.dfu_device_c.specs.Kept.{with_memory}
-use Rattle.dfu_device_c.specs.Refuse.{objection_in, TakesCause, ClosesNone}
+use Rattle.dfu_asks.specs.Addressed.{addressed}
+use Rattle.dfu_core.specs.Kept.{with_memory}
+use Rattle.dfu_core.specs.Numbers.{STALL, NO_CLOSE}
+use Rattle.dfu_core.specs.Refuse.{objection_in, TakesCause, ClosesNone, CloseRefused}
 use Rattle.dfu_device_c.proofs.Told.{kept_in}
 use Rattle.dfu_device_c.proofs.Moved.{takes_cause}
 use Rattle.dfu_device_c.proofs.Refusals.{close_leads}
@@ -18,17 +20,16 @@ returns-then-not-mode_closes c =
     let told = c.mode_closes.ensures (with_memory block a) flash
     (kept_in k r c.in-Ok.found.1 c.in-Ok.ensures.set_up c.in-Ok.ensures.only block flash a kept device) in
     false≢true (sym c.if-not-mode_closes.true ∙ told.closes.1 closes) in
-    record {
-      outcome = inr (
+    let outcome : CloseRefused k r (addressed k.interface c.args.setup.now) c.args.status NO_CLOSE r = inr (
+      refl,
+      inl (
         refl,
-        inl (
-          refl,
-          c.in-Ok.ensures.idle,
-          c.in-Some.ensures.some.1,
-          subst (λ (x : List ℕ). ClosesNone k r x) c.addressed-own.ensures none,
-        ),
-      );
-    }
+        c.in-Ok.ensures.idle,
+        c.in-Some.ensures.some.1,
+        subst (λ (x : List ℕ). ClosesNone k r x) c.addressed-own.ensures none,
+      ),
+    ) in
+    record { outcome = outcome; step = λ block flash. (record { config = refl; flash = refl }, refl, outcome) }
 
 pub returns : goal.returns
 returns c =
@@ -38,21 +39,20 @@ returns c =
     let m' = c.after_refused_close.result in
     let why = c.in-Some.objection in
     let own = c.addressed-own.result in
-    record {
-      outcome = inl (
-        refl,
-        c.in-Ok.ensures.idle,
-        c.in-Some.ensures.some.1,
-        subst (λ (x : List ℕ). TakesCause k r (RefusingClose x (objection_in c.args.status)) answer.Stall r') c.addressed-own.ensures
-            (subst (λ (w : Objection). TakesCause k r (RefusingClose own w) answer.Stall r') c.in-Some.ensures.some.0
-            (takes_cause k r r' c.in-Ok.found.1 m' c.in-Ok.ensures.only c.in-Ok.ensures.idle.idle c.set_mode.ensures.mode
-            c.set_mode.ensures.others (RefusingClose own why) answer.Stall
-            (λ l flash config mode device. close_leads k c.in-Ok.found.1 m' why l flash config mode device own
-            ((c.mode_closes.ensures l flash (record {
-              config_is = config ∙ sym c.in-Ok.ensures.set_up.config_is;
-              mode_is = sym mode;
-              device = device;
-            })).closes.0 c.if-not-mode_closes.false)
-            c.after_refused_close.ensures.stage c.after_refused_close.ensures.filled))),
-      );
-    }
+    let outcome : CloseRefused k r (addressed k.interface c.args.setup.now) c.args.status STALL r' = inl (
+      refl,
+      c.in-Ok.ensures.idle,
+      c.in-Some.ensures.some.1,
+      subst (λ (x : List ℕ). TakesCause k r (RefusingClose x (objection_in c.args.status)) answer.Stall r') c.addressed-own.ensures
+          (subst (λ (w : Objection). TakesCause k r (RefusingClose own w) answer.Stall r') c.in-Some.ensures.some.0
+          (takes_cause k r r' c.in-Ok.found.1 m' c.in-Ok.ensures.only c.in-Ok.ensures.idle.idle c.set_mode.ensures.mode
+          c.set_mode.ensures.others (RefusingClose own why) answer.Stall
+          (λ l flash config mode device. close_leads k c.in-Ok.found.1 m' why l flash config mode device own
+          ((c.mode_closes.ensures l flash (record {
+            config_is = config ∙ sym c.in-Ok.ensures.set_up.config_is;
+            mode_is = sym mode;
+            device = device;
+          })).closes.0 c.if-not-mode_closes.false)
+          c.after_refused_close.ensures.stage c.after_refused_close.ensures.filled))),
+    ) in
+    record { outcome = outcome; step = λ block flash. (record { config = refl; flash = refl }, refl, outcome) }

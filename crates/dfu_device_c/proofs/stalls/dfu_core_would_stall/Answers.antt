@@ -1,9 +1,9 @@
 use Rattle.std.proofs.Common.{◌≡◌, ◌⊎◌, ℕ, ℤ, pos, List, inl, inr, refl, subst, sym, ◌∙◌, w32, arith}
 use Rattle.std.proofs.lemmas.Int.{to_z-of_z}
 use Rattle.dfu_asks.specs.Addressed.{addressed}
-use Rattle.dfu_device_c.specs.Idle.{IsIdleRecord, RefusesSetup}
-use Rattle.dfu_device_c.specs.Numbers.{told_number}
-use Rattle.dfu_device_c.specs.Stalls.{ToldStall}
+use Rattle.dfu_core.specs.Idle.{IsIdleRecord, RefusesSetup}
+use Rattle.dfu_core.specs.Numbers.{told_number}
+use Rattle.dfu_core.specs.Stalls.{ToldStall}
 use Rattle.dfu_device_c.proofs.Told.{two, kept_in, grain_is}
 use Rattle.dfu_device_c.proofs.stalls.dfu_core_would_stall.Goals as goal
 

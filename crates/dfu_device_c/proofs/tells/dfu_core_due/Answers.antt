@@ -1,7 +1,7 @@
 use Rattle.std.proofs.Common.{◌≡◌, min, ℕ, ℤ, pos, Option, Some, None, IfSome, IfNone, sym, ap, ◌∙◌, subst, inl, inr, w32, arith}
 use Rattle.std.proofs.lemmas.Int.{to_z-of_z}
-use Rattle.dfu_device_c.specs.Due.{LATEST}
-use Rattle.dfu_device_c.specs.Idle.{RefusesRecord}
+use Rattle.dfu_core.specs.Due.{LATEST}
+use Rattle.dfu_core.specs.Idle.{RefusesRecord}
 use Rattle.dfu_device_c.proofs.Told.{told_due}
 use Rattle.dfu_device_c.proofs.tells.dfu_core_due.Goals as goal
 

@@ -1,0 +1,17 @@
+-- Where the image is that a program in C is to run.
+use Rattle.std.specs.Prelude.{◌≡◌, ℕ, ℤ, pos, List}
+use Rattle.dfu_core.specs.declared.records.DfuPlace.{DfuPlace}
+use Rattle.dfu_asks.specs.declared.image.ImagePlace.{ImagePlace}
+use Rattle.dfu_asks.specs.ActiveImage.{ImageIsAt}
+use Rattle.dfu_core.specs.declared.config.DfuConfig.{DfuConfig}
+use Rattle.dfu_core.specs.Config.{config_grain, IsConfig}
+
+-- This place as dfu_asks has it.
+abbrev pub place_told : DfuPlace → ImagePlace
+place_told place = record { at = place.at; len = place.length }
+
+-- The active image of the flash is there, and the number says so.
+pub record ImageIsFound (c : DfuConfig) (flash : List ℕ) (result : ℤ) (place : DfuPlace) : Type 0 where
+  pub number_is : result ≡ pos 0
+  pub config : IsConfig c
+  pub there : ImageIsAt (config_grain c) flash (place_told place)

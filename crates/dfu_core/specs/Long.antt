@@ -1,0 +1,21 @@
+-- A body that is longer than a block may be.
+use Rattle.std.specs.Prelude.{◌≡◌, ℕ, List, [], None, length}
+use Rattle.dfu_wire.specs.declared.setups.Setup.{Setup}
+use Rattle.dfu_wire.specs.Setup.{IsSetup}
+use Rattle.dfu_device.specs.declared.answer.Answer.TheVariants as answer
+use Rattle.dfu_device.specs.Rows.{Handles, body_length}
+use Rattle.dfu_asks.specs.declared.asking.Asking.{Asking}
+use Rattle.dfu_asks.specs.Asks.{device_in, IsDevice}
+use Rattle.dfu_core.specs.declared.config.DfuConfig.{DfuConfig}
+use Rattle.dfu_core.specs.declared.record.DfuRecord.{DfuRecord}
+use Rattle.dfu_core.specs.Kept.{IsKept, with_memory}
+
+-- Whatever that body is: a device that the record was, with no writes due, is now the one that its row makes of it, with a block
+-- as long as before, and the answer is a stall.
+abbrev pub TakesLong : DfuConfig → DfuRecord → List ℕ → DfuRecord → Type 0
+TakesLong c r setup r' = (a : Asking) → IsKept c r a → (a' : Asking) × IsKept c r' a' × (a'.work ≡ None)
+    × (a'.block_len ≡ a.block_len)
+    × ((block flash : List ℕ) → IsDevice (with_memory block a) flash
+    → (body : List ℕ) → ((p : Setup) → IsSetup p setup → length body ≡ body_length p)
+    → IsDevice (with_memory block a') flash
+    × Handles setup body (device_in (with_memory block a) flash) answer.Stall [] (device_in (with_memory block a') flash))

@@ -1,0 +1,62 @@
+-- The writes that a program in C is asked for.
+use Rattle.std.specs.Prelude.{◌≡◌, ◌⊎◌, ◌==◌, ◌^◌, ℕ, ℤ, pos, ◌<◌, ◌≤◌, List, length, take, replicate, Some, if◌then◌else◌}
+use Rattle.dfu_slots.specs.Image.{Active}
+use Rattle.dfu_slots.specs.Seen.{SlotsState}
+use Rattle.dfu_asks.specs.declared.asking.Asking.{Asking}
+use Rattle.dfu_asks.specs.declared.pending_writes.PendingWrites.{PendingWrites}
+use Rattle.dfu_asks.specs.Mapped.{grain_of, mapped, IsInSpare}
+use Rattle.dfu_asks.specs.Steps.{Step}
+use Rattle.dfu_asks.specs.Carried.{IsPiece, ErasesWhole}
+use Rattle.dfu_asks.specs.Asks.{steps_in}
+use Rattle.dfu_asks.specs.Lent.{LentAsking}
+use Rattle.dfu_asks.specs.Calls.{AsksWrites}
+use Rattle.dfu_core.specs.declared.records.DfuAsk.{DfuAsk}
+use Rattle.dfu_core.specs.declared.config.DfuConfig.{DfuConfig}
+use Rattle.dfu_core.specs.declared.record.DfuRecord.{DfuRecord}
+use Rattle.dfu_core.specs.declared.numbers.Refusal.{Refusal}
+use Rattle.dfu_core.specs.Config.{block_memory_size, IsConfig}
+use Rattle.dfu_core.specs.Kept.{IsKept, with_memory}
+use Rattle.dfu_core.specs.Calls.{IsUnfound}
+use Rattle.dfu_core.specs.Numbers.{refusal_number, NO_DEVICE}
+
+-- The step that is asked for: kind 1 erases so many bytes there, and any other programs these.
+abbrev pub ask_step : DfuAsk → Step
+ask_step ask = record {
+  erases = ask.kind == 1;
+  write = record { at = ask.at; bytes = if ask.kind == 1 then replicate ask.length 255 else take ask.length ask.bytes };
+}
+
+-- The next write that is due was handed out.
+pub record HandsOut (c : DfuConfig) (r : DfuRecord) (block flash : List ℕ) (result : ℤ) (ask : DfuAsk) : Type 0 where
+  pub number_is : result ≡ pos 0
+  pub config : IsConfig c
+  pub room : block_memory_size c ≤ length block
+  pub asking : Asking
+  pub is : IsKept c r asking
+  pub work : PendingWrites
+  pub work_is : asking.work ≡ Some work
+  pub kind : (ask.kind ≡ 1) ⊎ (ask.kind ≡ 2)
+  pub piece : IsPiece (steps_in (with_memory block asking) work) work.done (ask_step ask)
+  pub some : 0 < ask.length
+  pub most : ask.kind ≡ 2 → ask.length ≤ 256
+  pub sector : ErasesWhole c.sector (ask_step ask)
+  pub spare : (image : List ℕ) → Active (mapped (grain_of asking.unit asking.sector) flash) image
+      → IsInSpare (mapped (grain_of asking.unit asking.sector) flash) ask.at ask.length
+
+-- It asks for the writes of a row, and those before the next one are carried out on this flash.
+abbrev pub IsAsking : LentAsking → List ℕ → Type 0
+IsAsking a flash = (len : ℕ) × (s : SlotsState) × (was : List ℕ) × AsksWrites a len s was flash
+
+-- No write is handed out: it does not ask for any on this flash, or the flash has 2^32 bytes or more.
+abbrev pub HandsNothing : LentAsking → List ℕ → Type 0
+HandsNothing a flash = ¬ IsAsking a flash ⊎ 2 ^ 32 ≤ length flash
+
+-- There is a flash on which it asks for the writes of a row.
+abbrev pub AsksOnSomeFlash : LentAsking → Type 0
+AsksOnSomeFlash a = (flash : List ℕ) × IsAsking a flash
+
+-- There is no device that asks; or else it is refused with DFU_NO_DEVICE, for this reason.
+pub data RefusesPiece (c : DfuConfig) (r : DfuRecord) (block : List ℕ) (Why : Asking → Type 0) (result : ℤ) : Type 0 where
+  refuses_unfound : (e : Refusal) → result ≡ refusal_number e → IsUnfound e c r (length block) → RefusesPiece c r block Why result
+  refuses_piece : (a : Asking) → result ≡ NO_DEVICE → IsConfig c → block_memory_size c ≤ length block → IsKept c r a → Why a
+      → RefusesPiece c r block Why result

@@ -1,0 +1,79 @@
+//! A format that asks for its writes is read from its record, and written into it again.
+ghost use Rattle.std.specs.Prelude.{◌≡◌, IfSome, IfNone};
+ghost use Rattle.dfu_asks.specs.declared.formatting.FormatStep.{FormatStep as Part};
+ghost use Rattle.dfu_asks.specs.declared.formatting.Formatting.{Formatting as Going};
+ghost use Rattle.dfu_core.specs.declared.config.DfuConfig.{DfuConfig as Given};
+ghost use Rattle.dfu_core.specs.Kept.{IsSetUp};
+ghost use Rattle.dfu_core.specs.Formatting.{FORMAT, HasPhase, IsFormatting, ChangesOnlyFormat};
+
+use crate::config::Settings;
+use crate::record::DfuRecord;
+use dfu_asks::{FormatStep, Formatting};
+
+/// What is due of a record if that is a format.
+pub(crate) const WORK: u32 = 3;
+
+// The part of a format by its number, and the place at which the image goes on.
+fn phase_of(number: u8, from: u32) -> Option<FormatStep>
+    ensures some { IfSome result (λ phase. HasPhase number from phase) }
+    ensures none { IfNone result ((phase : Part) → ¬ HasPhase number from phase) }
+{
+    match number {
+        0 => Some(FormatStep::CloseSecond),
+        1 => Some(FormatStep::CloseFirst),
+        2 => Some(FormatStep::Image { from }),
+        3 => Some(FormatStep::Header),
+        4 => Some(FormatStep::Gate),
+        5 => Some(FormatStep::Ended),
+        _ => None,
+    }
+}
+
+/// The format that a record is, if it is one.
+pub fn formatting_of(settings: &Settings, kept: &DfuRecord) -> Option<Formatting>
+    ensures some { IfSome result (λ f. (c : Given) → IsSetUp c settings.now.config settings.now.unit settings.now.sector
+        → IsFormatting c kept.now f) }
+    ensures none { IfNone result ((c : Given) (f : Going) → ¬ IsFormatting c kept.now f) }
+{
+    if kept.work != WORK {
+        return None;
+    }
+    let phase = phase_of(kept.generation, kept.spare)?;
+    Some(Formatting {
+        unit: settings.unit,
+        sector: settings.sector,
+        register: kept.sum,
+        phase,
+        done: kept.done,
+    })
+}
+
+// The number of a part of a format, and the place at which the image goes on.
+fn numbers_of(phase: FormatStep) -> (u8, u32)
+    ensures { HasPhase result.0 result.1 phase }
+{
+    match phase {
+        FormatStep::CloseSecond => (0, 0),
+        FormatStep::CloseFirst => (1, 0),
+        FormatStep::Image { from } => (2, from),
+        FormatStep::Header => (3, 0),
+        FormatStep::Gate => (4, 0),
+        FormatStep::Ended => (5, 0),
+    }
+}
+
+/// Keeps a format in its record.
+pub fn keep_format(formatting: &Formatting, kept: &mut DfuRecord)
+    ensures work { kept.new.work ≡ FORMAT }
+    ensures sum { kept.new.sum ≡ formatting.now.register }
+    ensures done { kept.new.done ≡ formatting.now.done }
+    ensures phase { HasPhase kept.new.generation kept.new.spare formatting.now.phase }
+    ensures others { ChangesOnlyFormat kept.old kept.new }
+{
+    let (number, from) = numbers_of(formatting.phase);
+    kept.work = WORK;
+    kept.sum = formatting.register;
+    kept.done = formatting.done;
+    kept.generation = number;
+    kept.spare = from;
+}

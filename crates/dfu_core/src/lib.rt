@@ -1,0 +1,20 @@
+//! What the library of the device for C stands on: its configuration, its record, and which device or format these are. The records
+//! and numbers that the other libraries for C have too are here as well.
+#![tactic(auto)]
+
+mod config;
+mod format;
+mod keeping;
+mod mode;
+mod numbers;
+mod record;
+mod records;
+mod work;
+
+pub use config::{DfuConfig, Settings, VERSION, functional_of, settings_of};
+pub use format::{formatting_of, keep_format};
+pub use keeping::{found, keep, slot_of};
+pub use mode::{has_mode, idle_mode, mode_in, set_mode};
+pub use numbers::Refusal;
+pub use record::{DfuRecord, blank};
+pub use records::{ASKS, DfuAsk, DfuPlace, ERASE, PROGRAM};

@@ -1,0 +1,34 @@
+//! Why a call of the device for C is refused, and the number of that.
+ghost use Rattle.std.specs.Prelude.{◌≡◌};
+ghost use Rattle.dfu_core.specs.Numbers.{refusal_number};
+
+/// Why a call is refused. Nothing changed then.
+#[derive(Clone, Copy)]
+pub enum Refusal {
+    /// The configuration is of another version, or not allowed.
+    NoConfig,
+    /// The block's memory has less room than the transfer size and the unit together.
+    NoBlock,
+    /// Writes are due, of a device or of a format: they come first.
+    Asked,
+    /// At power on: the flash has no active image, or 2^32 bytes or more. Of a device: the header that it
+    /// noted is not in an open slot of the flash.
+    NoMedium,
+    /// The record is not that of a device that asks, or not as the last call left it on that flash.
+    NoDevice,
+}
+
+impl Refusal {
+    /// The number of the refusal, which is negative.
+    pub fn number(self) -> i32
+        ensures { result ≡ refusal_number self }
+    {
+        match self {
+            Refusal::NoConfig => -2,
+            Refusal::NoBlock => -10,
+            Refusal::Asked => -12,
+            Refusal::NoMedium => -3,
+            Refusal::NoDevice => -4,
+        }
+    }
+}

@@ -1,0 +1,86 @@
+//! What a program in C keeps of a device, or of a format, between two calls.
+ghost use Rattle.std.specs.Prelude.{◌≡◌};
+ghost use Rattle.dfu_core.specs.Mode.{blank};
+
+use crate::config::VERSION;
+
+/// What is kept of a device that asks for its writes: `struct dfu_record`, as the last call left it.
+///
+/// | `mode` | State | `first` | `second` | `number` |
+/// |---|---|---|---|---|
+/// | 0 | appIDLE | | | |
+/// | 1 | appDETACH | its timer | milliseconds in the state | |
+/// | 2 | dfuIDLE | | | |
+/// | 3 | dfuDNLOAD-SYNC, the block not written | bytes written | | of the next block |
+/// | 4 | dfuDNLOAD-SYNC, all written | bytes written | | of the next block |
+/// | 5 | dfuDNBUSY | bytes written | milliseconds in the state | of the next block |
+/// | 6 | dfuDNLOAD-IDLE | bytes written | | of the next block |
+/// | 7 | dfuMANIFEST-SYNC, not complete | bytes written | | |
+/// | 8 | dfuMANIFEST-SYNC, complete | | | |
+/// | 9 | dfuMANIFEST | bytes written | milliseconds in the state | |
+/// | 10 | dfuMANIFEST-WAIT-RESET | | | |
+/// | 11 | dfuUPLOAD-IDLE | bytes sent | | of the next block |
+/// | 12 | dfuERROR | | | the status code |
+#[repr(C)]
+#[derive(Drop)]
+pub struct DfuRecord {
+    /// The version of the library that wrote it.
+    pub version: u32,
+    /// The state and what it keeps, by its number.
+    pub mode: u32,
+    /// The bytes written or sent, or a timer.
+    pub first: u32,
+    /// The milliseconds that passed in the state.
+    pub second: u32,
+    /// Where the puts end in the spare slot.
+    pub put_end: u32,
+    /// Which slot was found to be the active one: 0 the first, 1 the second.
+    pub slot: u32,
+    /// The number of the next block, or the status code.
+    pub number: u16,
+    /// How many bytes at the front of the block's memory are the block that is not written, 0 to 4,096.
+    pub length: u16,
+    /// The header of the active slot, as it was in the flash.
+    pub header: [u8; 16],
+    /// What is due: 0 no writes, 1 a block, 2 an image is put in place, 3 a format.
+    pub work: u32,
+    /// Where the spare slot begins; for a format the place at which the image goes on.
+    pub spare: u32,
+    /// The register over the image.
+    pub sum: u32,
+    /// How many bytes of the writes are carried out.
+    pub done: u32,
+    /// 0; or 1 more than wLength of the GETSTATUS that waits for its answer.
+    pub asked: u32,
+    /// The generation of the image that is put in place; of a format the number of its part.
+    pub generation: u8,
+    /// Whether the gate of the spare slot is closed first: 1, or 0.
+    pub close: u8,
+    /// How many bytes after the block's in its memory are held back until a unit is whole: fewer than a unit has.
+    pub held_length: u16,
+}
+
+/// A record in which all is 0 but its version.
+pub fn blank() -> DfuRecord
+    ensures { result ≡ blank }
+{
+    DfuRecord {
+        version: VERSION,
+        mode: 0,
+        first: 0,
+        second: 0,
+        put_end: 0,
+        slot: 0,
+        number: 0,
+        length: 0,
+        header: [0; 16],
+        work: 0,
+        spare: 0,
+        sum: 0,
+        done: 0,
+        asked: 0,
+        generation: 0,
+        close: 0,
+        held_length: 0,
+    }
+}

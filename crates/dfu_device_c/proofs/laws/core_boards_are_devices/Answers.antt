@@ -1,5 +1,0 @@
-use Rattle.dfu_device_c.proofs.Runs.{core_refines}
-use Rattle.dfu_device_c.proofs.laws.core_boards_are_devices.Goals as goal
-
-pub returns : goal.returns
-returns c = core_refines c.boards_are_devices.ensures.power

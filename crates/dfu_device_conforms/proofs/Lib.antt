@@ -1,6 +1,0 @@
-mod Bits
-mod Histories
-mod Leads
-mod Passing
-mod Rows
-mod Seen

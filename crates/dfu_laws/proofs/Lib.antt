@@ -1,0 +1,4 @@
+mod board
+mod link
+mod in_c
+mod judge

@@ -1,0 +1,16 @@
+pub mod Pieces
+pub mod Broken
+pub mod Cut
+pub mod Closing
+pub mod Installs
+pub mod Objected
+pub mod Due
+pub mod Turns
+pub mod Called
+pub mod Works
+pub mod Powers
+pub mod Each
+pub mod Runs
+pub mod Boards
+pub mod Accepts
+pub mod Served

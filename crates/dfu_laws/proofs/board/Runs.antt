@@ -1,0 +1,141 @@
+-- Whole runs of a board.
+use Rattle.std.specs.Prelude.{◌≡◌, ◌⊎◌, ℕ, List, [], ◌∷◌, ◌++◌, Option, Some, None}
+use Rattle.std.proofs.Common.{inl, inr, refl, sym, ap, ◌∙◌, subst}
+use Rattle.std.proofs.lemmas.List.{append_assoc, append-nil}
+use Rattle.dfu_slots.specs.Seen.{image_of}
+use Rattle.dfu_device.specs.Stage.{state_of}
+use Rattle.dfu_device.specs.DeviceView.{DeviceView, situation}
+use Rattle.dfu_device.specs.Parts.{stage_of}
+use Rattle.dfu_device.specs.declared.device_state.DeviceState.{DeviceState}
+use Rattle.dfu_device.specs.declared.device_state.DeviceState.TheVariants as device_state
+use Rattle.dfu_device.specs.Rows.{Cause}
+use Rattle.dfu_device.specs.History.{IsHistory, HistoryStep as TableRow}
+use Rattle.dfu_device.specs.Taken.{taken_of, held_in}
+use Rattle.dfu_device.specs.TakenHistory.{RowTakes}
+use Rattle.dfu_laws.specs.board.Board.{Board, state_on, BoardStep}
+use Rattle.dfu_laws.specs.board.Happens.{IsRun}
+use Rattle.dfu_laws.specs.board.Keeps.{acknowledged_body, taken_by, IsClosed}
+use Rattle.dfu_laws.specs.board.Refines.{TellsAll, StandsFor}
+use Rattle.dfu_laws.proofs.board.Cut.{WriteLaws}
+use Rattle.dfu_laws.specs.board.Accepts.{IsPending}
+use Rattle.dfu_laws.proofs.board.Turns.{Turned}
+use Rattle.dfu_laws.proofs.board.Each.{turn}
+
+-- The state.
+
+mode_state : (m : DeviceState) (xs ys xs' ys' : List ℕ) → state_of (stage_of m xs ys) ≡ state_of (stage_of m xs' ys')
+mode_state m xs ys xs' ys' = by_mode m
+  where
+    by_mode : (m : DeviceState) → state_of (stage_of m xs ys) ≡ state_of (stage_of m xs' ys')
+    by_mode device_state.AppIdle = refl
+    by_mode m = refl
+
+-- A board is in the state of the device that it stands for.
+pub state_stands : (b : Board) (due : Option Cause) (d : DeviceView) → StandsFor b due d → state_on b ≡ state_of d.stage
+state_stands b None d k = mode_state b.asking.mode [] [] _ _ ∙ ap (λ (x : DeviceView). state_of x.stage) k.device
+state_stands b (Some cause) d k = mode_state b.asking.mode [] [] _ _ ∙ ap (λ (x : DeviceView). state_of x.stage) k.device
+
+-- What is kept.
+
+-- Behind these old steps, the bytes that a device has taken are those of the steps, those that wait were closed by one, and so were those
+-- of the image, or it is this one.
+pub record KeptAt (image : List ℕ) (old steps : List BoardStep) (d : DeviceView) : Type 0 where
+  pub taken : taken_by [] (old ++ steps) ≡ taken_of (situation d)
+  pub waits : (t : List ℕ) → IsPending d.stage t → IsClosed old steps t
+  pub whence : (image_of d.slots ≡ image) ⊎ IsClosed old steps (image_of d.slots)
+
+taken_append : (t : List ℕ) (xs ys : List BoardStep) → taken_by t (xs ++ ys) ≡ taken_by (taken_by t xs) ys
+taken_append t [] ys = refl
+taken_append t (x ∷ xs) ys = taken_append (held_in (state_on x.after) (t ++ acknowledged_body x.event x.says)) xs ys
+
+longer : (old steps : List BoardStep) (s : BoardStep) (t : List ℕ) → IsClosed old steps t → IsClosed old (steps ++ s ∷ []) t
+longer old steps s t c = record {
+  first = c.first;
+  close = c.close;
+  rest = c.rest ++ s ∷ [];
+  steps_are = ap (λ (l : List BoardStep). l ++ s ∷ []) c.steps_are ∙ append_assoc c.first (c.close ∷ c.rest) (s ∷ []);
+  is = c.is;
+  image_is = c.image_is;
+}
+
+-- Each step keeps them.
+pub kept_step : (image : List ℕ) (old steps : List BoardStep) (s : BoardStep) (due : Option Cause) (d : DeviceView)
+    → KeptAt image old steps d
+    → (x : Turned s.after due d s.event s.says) → KeptAt image old (steps ++ s ∷ []) x.device
+kept_step image old steps s due d k x =
+    record {
+      taken = ap (λ (l : List BoardStep). taken_by [] l) (sym (append_assoc old steps (s ∷ [])))
+          ∙ taken_append [] (old ++ steps) (s ∷ [])
+          ∙ (λ i. held_in (state_stands s.after x.due' x.device x.stands i) (k.taken i ++ acknowledged_body s.event s.says))
+          ∙ sym x.taken;
+      waits = λ t m. elim (x.waits t m) [
+        | inl before ↦ longer old steps s t (k.waits t before)
+        | inr closed ↦
+            let c = closed.0 in
+            record {
+              first = steps;
+              close = s;
+              rest = [];
+              steps_are = refl;
+              is = record { setup = c.0; event = c.1; dnload = c.2; says = c.3 };
+              image_is = closed.1 ∙ sym k.taken;
+            }
+      ];
+      whence = elim (x.image) [
+        | inl same ↦ elim (k.whence) [
+          | inl here ↦ inl (same ∙ here)
+          | inr closed ↦ inr (subst (λ (t : List ℕ). IsClosed old (steps ++ s ∷ []) t) (sym same)
+              (longer old steps s (image_of d.slots) closed))
+        ]
+        | inr waited ↦ inr (longer old steps s (image_of x.device.slots) (k.waits (image_of x.device.slots) waited))
+      ];
+    }
+
+-- Runs.
+
+history_append : (w mid w' : DeviceView) (xs ys : List TableRow) → IsHistory w xs mid → IsHistory mid ys w' → IsHistory w (xs ++ ys) w'
+history_append w mid w' [] ys h more = subst (λ (x : DeviceView). IsHistory x ys w') h more
+history_append w mid w' (x ∷ xs) ys h more = (h.0, h.1, history_append x.after mid w' xs ys h.2 more)
+
+-- What comes of a run, after these steps, if this is kept of the steps and the device.
+pub record RanOn (Kept : List BoardStep → DeviceView → Type 0) (steps rest : List BoardStep) (b' : Board) (due : Option Cause)
+    (d : DeviceView)
+    : Type 0 where
+  pub rows : List TableRow
+  pub due' : Option Cause
+  pub device : DeviceView
+  pub history : IsHistory d rows device
+  pub tells : TellsAll due rest rows due'
+  pub stands : StandsFor b' due' device
+  pub kept : Kept (steps ++ rest) device
+
+-- Each step keeps this.
+abbrev pub KeptOn : (List BoardStep → DeviceView → Type 0) → Type 0
+KeptOn Kept = (steps : List BoardStep) (s : BoardStep) (due : Option Cause) (d : DeviceView) → Kept steps d
+    → (x : Turned s.after due d s.event s.says) → Kept (steps ++ s ∷ []) x.device
+
+module _ (laws : WriteLaws) (takes : RowTakes) (Kept : List BoardStep → DeviceView → Type 0) (keeps : KeptOn Kept) where
+  -- A run makes rows of the device that the board stands for, and what each step keeps is kept.
+  pub run_on : (steps rest : List BoardStep) (b b' : Board) (due : Option Cause) (d : DeviceView) → StandsFor b due d
+      → Kept steps d → IsRun b rest b' → RanOn Kept steps rest b' due d
+  run_on steps [] b b' due d k kept run = record {
+    rows = [];
+    due' = due;
+    device = d;
+    history = refl;
+    tells = (refl, refl);
+    stands = subst (λ (x : Board). StandsFor x due d) (sym run) k;
+    kept = subst (λ (l : List BoardStep). Kept l d) (sym (append-nil steps)) kept;
+  }
+  run_on steps (s ∷ rest) b b' due d k kept run =
+      let x = turn laws takes b s.after due d s.event s.says k run.1 run.2 in
+      let y = run_on (steps ++ s ∷ []) rest s.after b' x.due' x.device x.stands (keeps steps s due d kept x) run.3 in
+      record {
+        rows = x.rows ++ y.rows;
+        due' = y.due';
+        device = y.device;
+        history = history_append d x.device y.device x.rows y.rows x.history y.history;
+        tells = (x.rows, y.rows, x.due', refl, x.tells, y.tells);
+        stands = y.stands;
+        kept = subst (λ (l : List BoardStep). Kept l y.device) (append_assoc steps (s ∷ []) rest) y.kept;
+      }

@@ -1,0 +1,164 @@
+-- What the clauses of a call say is what a step of a board does.
+use Rattle.std.specs.Prelude.{◌≡◌, ℕ, Bool, false, List, [], length, take, Result, Ok, Err, Option, Some, None, IfOk, IfSome, IfNone, IsSome, OnOk, OnErr}
+use Rattle.std.proofs.Common.{refl, sym, ap, ◌∙◌}
+use Rattle.dfu_slots.specs.Medium.{Torn}
+use Rattle.dfu_slots.specs.Seen.{SlotsState}
+use Rattle.dfu_device.specs.declared.answer.Answer.{Answer}
+use Rattle.dfu_device.specs.Setting.{Setting}
+use Rattle.dfu_device.specs.DeviceView.{powered_on}
+use Rattle.dfu_device.specs.Rows.{Cause, Passing, Row}
+use Rattle.dfu_slots.specs.declared.layout.Unit.{Unit as WriteUnit}
+use Rattle.dfu_asks.specs.declared.asking.Asking.{Asking}
+use Rattle.dfu_asks.specs.declared.pending_writes.PendingWrites.{PendingWrites}
+use Rattle.dfu_asks.specs.declared.reply.Refusal.{Refusal}
+use Rattle.dfu_asks.specs.declared.reply.Reply.{Reply}
+use Rattle.dfu_asks.specs.declared.reply.Reply.TheVariants as reply
+use Rattle.dfu_asks.specs.declared.sector.Sector.{Sector}
+use Rattle.dfu_asks.specs.Mapped.{grain_of, mapped}
+use Rattle.dfu_asks.specs.Steps.{Step}
+use Rattle.dfu_asks.specs.Carried.{IsPiece}
+use Rattle.dfu_asks.specs.Asks.{device_in, device_of, IsDevice, steps_in}
+use Rattle.dfu_asks.specs.Calls.{AsksWrites, DeviceCalled, called_ended, called_asks, DeviceTook}
+use Rattle.dfu_asks.specs.Refused.{IsKeptOn, Fits, IsLeft, IsServed, IsTaken}
+use Rattle.dfu_asks.specs.Lent.{lent}
+use Rattle.dfu_laws.specs.board.Board.{Board, lent_on, device_on, Says, Answers}
+use Rattle.dfu_laws.specs.board.Happens.{IsServedBy, IsTold, BoardStarts, IsRefusedOr, reply_said}
+use Rattle.dfu_laws.specs.board.Steps.{board, result_said}
+
+-- What follows in one case of a refusal follows in each.
+pub on_err : {T E P Q : Type 0} (r : Result T E) → (P → Q) → OnErr r P → OnErr r Q
+on_err (Ok x) follows p = tt
+on_err (Err e) follows p = follows p
+
+-- A reply always says something, so what holds of a board after a call that is not refused holds after a reply.
+by_reply : (b b' : Board) (out : List ℕ) (P : Type 0) (r : Reply) → P → IsRefusedOr (reply_said r out) b b' P
+by_reply b b' out P reply.Asks is = is
+by_reply b b' out P (reply.Answered x count) is = is
+
+-- A board serves a call by this outcome, which says what the board says.
+by_outcome : (b b' : Board) (cause : Cause) (said : Says) (r : Reply) → b.asking.work ≡ None → Fits b.asking (length b.block)
+    → b'.flash ≡ b.flash
+    → (IsKeptOn b.asking b.block b.held b.flash → (out out' : List ℕ)
+    × DeviceCalled (lent_on b) b.flash out (λ x sent d'. Row (device_on b) cause x sent d') (lent_on b') out' r
+    × (said ≡ reply_said r out'))
+    → IsServedBy b cause said b'
+by_outcome b b' cause said r idle fits flash outcome =
+    record { idle = idle; fits = fits; flash = flash; reply = r; outcome = outcome }
+
+-- A reply to a setup is what a board does that serves it.
+pub served_step : (b b' : Board) (cause : Cause) (out out' : List ℕ) (r : Reply) → b.asking.work ≡ None → Fits b.asking (length b.block)
+    → b'.flash ≡ b.flash
+    → (IsKeptOn b.asking b.block b.held b.flash
+    → DeviceCalled (lent_on b) b.flash out (λ x sent d'. Row (device_on b) cause x sent d') (lent_on b') out' r)
+    → IsRefusedOr (reply_said r out') b b' (IsServedBy b cause (reply_said r out') b')
+served_step b b' cause out out' r idle fits flash outcome =
+    by_reply b b' out' (IsServedBy b cause (reply_said r out') b') r
+    (by_outcome b b' cause (reply_said r out') r idle fits flash (λ kept. (out, out', outcome kept, refl)))
+
+-- `handle`.
+pub call_step : (b b' : Board) (cause : Cause) (need room : ℕ) (out out' : List ℕ) (r : Result Reply Refusal) → b'.flash ≡ b.flash
+    → OnOk r (IsServed b.asking b.block b.flash need room)
+    → IfOk r (λ y. IsKeptOn b.asking b.block b.held b.flash
+    → DeviceCalled (lent_on b) b.flash out (λ x sent d'. Row (device_on b) cause x sent d') (lent_on b') out' y)
+    → OnErr r (b' ≡ b)
+    → IsRefusedOr (result_said r out') b b' (IsServedBy b cause (result_said r out') b')
+call_step b b' cause need room out out' (Ok r) flash served outcome same =
+    served_step b b' cause out out' r served.work served.fits flash outcome
+call_step b b' cause need room out out' (Err e) flash served outcome same = same
+
+module _ (b b' : Board) (ms : ℕ) (zeros : List ℕ) where
+  of_none : (out : List ℕ) (x : Answer) (count : ℕ) (r : Reply) → r ≡ reply.Answered x count
+      → DeviceCalled (lent_on b) b.flash zeros (λ y sent d'. Row (device_on b) (Passing ms) y sent d') (lent_on b') out r → count ≡ 0
+  of_none out x count _ is (called_ended y n e) =
+      let one : n ≡ count = cc in
+      sym one ∙ e.gave.count_is ∙ ap (λ (l : List ℕ). length l) e.gave.row.1
+  of_none out x count _ is (called_asks len asks device due out_is) = absurd (cc)
+
+  -- A reply to time that passed, which has no bytes, is what a board does as time passes.
+  pub passed_step : (r : Reply) → b.asking.work ≡ None → Fits b.asking (length b.block) → b'.flash ≡ b.flash
+      → (IsKeptOn b.asking b.block b.held b.flash → (out : List ℕ)
+      × DeviceCalled (lent_on b) b.flash zeros (λ x sent d'. Row (device_on b) (Passing ms) x sent d') (lent_on b') out r)
+      → IsRefusedOr (reply_said r []) b b' (IsServedBy b (Passing ms) (reply_said r []) b')
+  passed_step r idle fits flash outcome =
+      by_reply b b' [] (IsServedBy b (Passing ms) (reply_said r []) b') r
+      (by_outcome b b' (Passing ms) (reply_said r []) r idle fits flash
+      (λ kept. let o = outcome kept in (zeros, o.0, o.1, no_bytes r o.0 o.1)))
+    where
+      no_bytes : (r : Reply) (out : List ℕ)
+          → DeviceCalled (lent_on b) b.flash zeros (λ y sent d'. Row (device_on b) (Passing ms) y sent d') (lent_on b') out r
+          → reply_said r [] ≡ reply_said r out
+      no_bytes reply.Asks out called = refl
+      no_bytes (reply.Answered x count) out called =
+          let none : count ≡ 0 = of_none out x count (reply.Answered x count) refl called in
+          ap (λ (n : ℕ). Answers x (take n [])) none ∙ sym (ap (λ (n : ℕ). Answers x (take n out)) none)
+
+  -- `elapse`.
+  pub elapse_step : (r : Result Reply Refusal) → b'.flash ≡ b.flash → OnOk r (IsServed b.asking b.block b.flash 0 0)
+      → IfOk r (λ y. IsKeptOn b.asking b.block b.held b.flash
+      → (out : List ℕ) × DeviceCalled (lent_on b) b.flash zeros (λ x sent d'. Row (device_on b) (Passing ms) x sent d') (lent_on b') out y)
+      → OnErr r (b' ≡ b)
+      → IsRefusedOr (result_said r []) b b' (IsServedBy b (Passing ms) (result_said r []) b')
+  elapse_step (Ok r) flash served outcome same = passed_step r served.work served.fits flash outcome
+  elapse_step (Err e) flash served outcome same = same
+
+-- A reply to how a piece went is what a board does after that report.
+pub told_step : (b b' : Board) (failed : Bool) (out out' : List ℕ) (r : Reply) (w : PendingWrites) → IsLeft (lent_on b) w
+    → b'.flash ≡ b.flash
+    → ((len : ℕ) (s : SlotsState) (was before : List ℕ) (asks : AsksWrites (lent_on b) len s was before) (p : Step)
+    → IsPiece (steps_in (lent_on b) asks.work) asks.work.done p → Torn before p.write.at p.write.bytes b.flash
+    → DeviceTook (device_of (lent_on b) s) len s was p.write failed b.flash out (lent_on b') out' r)
+    → IsRefusedOr (reply_said r out') b b' (IsTold b failed (reply_said r out') b')
+told_step b b' failed out out' r w left flash outcome = by_reply b b' out' (IsTold b failed (reply_said r out') b') r (record {
+  work = w;
+  left = left;
+  flash = flash;
+  reply = r;
+  out = out;
+  out' = out';
+  outcome = outcome;
+  says_is = refl;
+})
+
+-- `took`.
+pub took_step : (b b' : Board) (failed : Bool) (room : ℕ) (out out' : List ℕ) (r : Result Reply Refusal) → b'.flash ≡ b.flash
+    → OnOk r (IsTaken (lent_on b) room)
+    → IfOk r (λ y. (len : ℕ) (s : SlotsState) (was before : List ℕ) (asks : AsksWrites (lent_on b) len s was before) (p : Step)
+    → IsPiece (steps_in (lent_on b) asks.work) asks.work.done p → Torn before p.write.at p.write.bytes b.flash
+    → DeviceTook (device_of (lent_on b) s) len s was p.write failed b.flash out (lent_on b') out' y)
+    → OnErr r (b' ≡ b)
+    → IsRefusedOr (result_said r out') b b' (IsTold b failed (result_said r out') b')
+took_step b b' failed room out out' (Ok r) flash taken outcome same =
+    told_step b b' failed out out' r taken.work taken.is_left flash outcome
+took_step b b' failed room out out' (Err e) flash taken outcome same = same
+
+-- What is None only against a fact is Some by it.
+pub some_of : {A P : Type 0} (r : Option A) → IfNone r (¬ P) → P → IsSome r
+some_of (Some x) never p = refl
+some_of None never p = absurd (never p)
+
+-- `power_on`.
+pub on_step : (r : Option Asking) (block held flash : List ℕ) (config : Setting) (unit : WriteUnit) (sector : Sector)
+    → IfSome r (λ a. device_in (lent a block held) flash ≡ powered_on config (mapped (grain_of unit sector) flash))
+    → IfSome r (λ a. IsDevice (lent a block held) flash)
+    → IfSome r (λ a. (a.work ≡ None) × (a.block_len ≡ 0) × (a.config ≡ config) × (a.unit ≡ unit))
+    → IfSome r (λ a. a.sector ≡ sector)
+    → IfSome r (λ a. BoardStarts false (board a block held flash))
+on_step (Some a) block held flash config unit sector device is kept sector_is = (
+  record {
+    begins = false;
+    device = device ∙ (λ i. powered_on (sym kept.2 i) (mapped (grain_of (sym kept.3 i) (sym sector_is i)) flash));
+    is = is;
+    work = kept.0;
+  },
+  refl,
+)
+on_step None block held flash config unit sector device is kept sector_is = tt
+
+-- What follows of a value from one fact, or from two, follows if there is a value.
+pub on_some : {A : Type 0} (P Q : A → Type 0) (r : Option A) → ((x : A) → P x → Q x) → IfSome r P → IfSome r Q
+on_some P Q (Some x) follows p = follows x p
+on_some P Q None follows p = tt
+
+pub on_both : {A : Type 0} (P R Q : A → Type 0) (r : Option A) → ((x : A) → P x → R x → Q x) → IfSome r P → IfSome r R → IfSome r Q
+on_both P R Q (Some x) follows p t = follows x p t
+on_both P R Q None follows p t = tt

@@ -1,0 +1,11 @@
+pub mod Closing
+pub mod Same
+pub mod Parts
+pub mod Turned
+pub mod CallTurns
+pub mod Each
+pub mod Fits
+pub mod Runs
+pub mod Played
+pub mod GoesOn
+pub mod FormatCalls

@@ -1,0 +1,24 @@
+use Rattle.dfu_laws.proofs.link.Ran.{plays_run}
+use Rattle.dfu_laws.proofs.link.Sessions.{plays_install, plays_give, plays_know, plays_know_within}
+use Rattle.dfu_laws.proofs.laws.boards_install.Goals as goal
+
+pub returns-clause-in_place : goal.returns-clause-in_place
+returns-clause-in_place c =
+    plays_install c.boards_are_devices.ensures.idle c.simulation.ensures c.only_offered.ensures c.active_image_is_one.ensures.shown
+
+pub returns-clause-known : goal.returns-clause-known
+returns-clause-known c =
+    plays_know c.boards_are_devices.ensures.idle c.simulation.ensures c.only_offered.ensures c.active_image_is_one.ensures.shown
+    c.active_image_is_one.ensures.only
+
+pub returns-clause-known_within : goal.returns-clause-known_within
+returns-clause-known_within c =
+    plays_know_within c.boards_are_devices.ensures.idle c.simulation.ensures c.only_offered.ensures c.active_image_is_one.ensures.shown
+    c.active_image_is_one.ensures.only
+
+pub returns-clause-gives : goal.returns-clause-gives
+returns-clause-gives c =
+    plays_give c.boards_are_devices.ensures.idle c.simulation.ensures c.only_offered.ensures c.active_image_is_one.ensures.shown
+
+pub returns-clause-run : goal.returns-clause-run
+returns-clause-run c = plays_run

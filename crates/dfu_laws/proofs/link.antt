@@ -1,0 +1,13 @@
+pub mod Served
+pub mod Fixed
+pub mod Timed
+pub mod Acted
+pub mod Became
+pub mod Sent
+pub mod Played
+pub mod Ran
+pub mod Sessions
+pub mod Parts
+pub mod Stopped
+pub mod Within
+pub mod Throughout

@@ -1,0 +1,4 @@
+pub mod board
+pub mod link
+pub mod in_c
+pub mod judge

@@ -1,0 +1,136 @@
+-- The steps of a board are a history of the device table.
+use Rattle.std.specs.Prelude.{◌≡◌, ◌⊎◌, ℕ, Bool, true, false, List, [], ◌∷◌, ◌++◌, Option, Some, None}
+use Rattle.dfu_wire.specs.declared.setups.Setup.{Setup}
+use Rattle.dfu_wire.specs.declared.requests.Request.TheVariants as request
+use Rattle.dfu_wire.specs.Setup.{IsSetup}
+use Rattle.dfu_wire.specs.Request.{Asks as AsksFor}
+use Rattle.dfu_slots.specs.Medium.{Torn}
+use Rattle.dfu_slots.specs.Image.{Active, HasImage}
+use Rattle.dfu_slots.specs.Seen.{SlotsState, image_of}
+use Rattle.dfu_device.specs.declared.answer.Answer.{Answer}
+use Rattle.dfu_device.specs.declared.answer.Answer.TheVariants as answer
+use Rattle.dfu_device.specs.Stage.{state_of}
+use Rattle.dfu_device.specs.DeviceView.{DeviceView, situation}
+use Rattle.dfu_device.specs.Rows.{Cause, Transfer, Passing, BusReset, RefusingClose, Refusing, PowerOn, Row}
+use Rattle.dfu_device.specs.History.{IsHistory, HistoryStep as TableRow}
+use Rattle.dfu_device.specs.Taken.{taken_of}
+use Rattle.dfu_asks.specs.Steps.{Step}
+use Rattle.dfu_asks.specs.Carried.{IsPiece}
+use Rattle.dfu_asks.specs.Due.{IsDueRow}
+use Rattle.dfu_asks.specs.Asks.{device_of, IsDevice, steps_in}
+use Rattle.dfu_asks.specs.Calls.{AsksWrites}
+use Rattle.dfu_laws.specs.board.Board.{Board, lent_on, medium_on, device_on, state_on, Event, Handle, Elapse, UsbReset, RefuseClose, Refuse, Write, Took, Restart, Says, Nothing, WritesDue, Answers, BoardStep}
+use Rattle.dfu_laws.specs.board.Happens.{IsPoweredOn, IsRun}
+use Rattle.dfu_laws.specs.board.Keeps.{is_manifesting}
+
+-- There is one row, of this cause, with this answer.
+pub record IsOne (cause : Cause) (a : Answer) (out : List ℕ) (rows : List TableRow) : Type 0 where
+  pub row : TableRow
+  pub rows_are : rows ≡ row ∷ []
+  pub cause_is : row.cause ≡ cause
+  pub answer_is : row.answer ≡ a
+  pub out_is : row.out ≡ out
+
+-- This cause is a DETACH.
+pub record IsDetach (cause : Cause) : Type 0 where
+  pub setup : List ℕ
+  pub cause_is : cause ≡ Transfer setup []
+  pub read : Setup
+  pub fields : IsSetup read setup
+  pub timeout : ℕ
+  pub asks : AsksFor read (request.Detach timeout)
+
+-- There are three rows: that of the power that came back, that of a DETACH, and that of a reset of the bus.
+pub record IsBegin (rows : List TableRow) : Type 0 where
+  pub power : TableRow
+  pub detach : TableRow
+  pub reset : TableRow
+  pub rows_are : rows ≡ power ∷ detach ∷ reset ∷ []
+  pub power_is : power.cause ≡ PowerOn
+  pub detach_is : IsDetach detach.cause
+  pub reset_is : reset.cause ≡ BusReset
+
+-- The rows of power that comes back, whether the device begins for a host or not.
+abbrev pub IsStart : Bool → List TableRow → Type 0
+IsStart true rows = IsBegin rows
+IsStart false rows = IsOne PowerOn answer.Ack [] rows
+
+-- The first row is of this cause, and nobody saw its answer. Then come those of the power that came back.
+pub record AreCutRows (cause : Cause) (begins : Bool) (rows : List TableRow) : Type 0 where
+  pub row : TableRow
+  pub rest : List TableRow
+  pub rows_are : rows ≡ row ∷ rest
+  pub cause_is : row.cause ≡ cause
+  pub start : IsStart begins rest
+
+-- The rows of a call for this cause, and what is due after it: none if it is refused; none yet if writes are due, and then its own row
+-- is due; its own row if it answers.
+abbrev pub TellsCall : Cause → Option Cause → Says → List TableRow → Option Cause → Type 0
+TellsCall cause due Nothing rows due' = (rows ≡ []) × (due' ≡ due)
+TellsCall cause due WritesDue rows due' = (rows ≡ []) × (due' ≡ Some cause)
+TellsCall cause due (Answers a out) rows due' = IsOne cause a out rows × (due' ≡ None)
+
+-- The rows of an event, if the row of this cause, or none, is due before it; and what is due after it.
+abbrev pub TellsRows : Option Cause → Event → Says → List TableRow → Option Cause → Type 0
+TellsRows due (Handle setup body) says rows due' = TellsCall (Transfer setup body) due says rows due'
+TellsRows due (Elapse ms) says rows due' = TellsCall (Passing ms) due says rows due'
+TellsRows due UsbReset says rows due' = TellsCall BusReset due says rows due'
+TellsRows due (RefuseClose setup why) says rows due' = TellsCall (RefusingClose setup why) due says rows due'
+TellsRows due (Refuse why) says rows due' = TellsCall (Refusing why) due says rows due'
+TellsRows due Write says rows due' = (rows ≡ []) × (due' ≡ due)
+TellsRows (Some cause) (Took failed) says rows due' = TellsCall cause (Some cause) says rows due'
+TellsRows None (Took failed) says rows due' = (rows ≡ []) × (due' ≡ None)
+TellsRows (Some cause) (Restart begins) says rows due' = AreCutRows cause begins rows × (due' ≡ None)
+TellsRows None (Restart begins) says rows due' = IsStart begins rows × (due' ≡ None)
+
+-- The rows of these steps, in their order, and what is due after them.
+abbrev pub TellsAll : Option Cause → List BoardStep → List TableRow → Option Cause → Type 0
+TellsAll due [] rows due' = (rows ≡ []) × (due' ≡ due)
+TellsAll due (s ∷ rest) rows due' = (first later : List TableRow) × (mid : Option Cause) × (rows ≡ first ++ later)
+    × TellsRows due s.event s.says first mid × TellsAll mid rest later due'
+
+-- A board carries out the writes of this device's row for this cause: some pieces are on its flash, and the range of the next one
+-- may have any bytes.
+pub record IsAtWork (b : Board) (cause : Cause) (d : DeviceView) : Type 0 where
+  pub len : ℕ
+  pub s : SlotsState
+  pub was : List ℕ
+  pub stood : List ℕ
+  pub asks : AsksWrites (lent_on b) len s was stood
+  pub device : device_of (lent_on b) s ≡ d
+  pub row : IsDueRow len d (λ x sent d'. Row d cause x sent d')
+  pub torn : (p : Step) → IsPiece (steps_in (lent_on b) asks.work) asks.work.done p → Torn stood p.write.at p.write.bytes b.flash
+
+-- No writes are due on a board, and it is this device.
+pub record IsIdle (b : Board) (d : DeviceView) : Type 0 where
+  pub work : b.asking.work ≡ None
+  pub is : IsDevice (lent_on b) b.flash
+  pub device : device_on b ≡ d
+
+-- A board stands for a device: it is the device, or carries out its row that is due.
+abbrev pub StandsFor : Board → Option Cause → DeviceView → Type 0
+StandsFor b None d = IsIdle b d
+StandsFor b (Some cause) d = IsAtWork b cause d
+
+-- The steps of a board are rows from this device to another, which it stands for now and whose state it is in. Its flash has an active
+-- image, which is that device's, or if writes are due in dfuMANIFEST-SYNC or dfuMANIFEST it may be the bytes that the device has taken.
+pub record HasRefined (w : DeviceView) (steps : List BoardStep) (b : Board) : Type 0 where
+  pub rows : List TableRow
+  pub due : Option Cause
+  pub device : DeviceView
+  pub history : IsHistory w rows device
+  pub tells : TellsAll None steps rows due
+  pub stands : StandsFor b due device
+  pub state : state_on b ≡ state_of device.stage
+  pub has_image : HasImage (medium_on b)
+  pub image : (image : List ℕ) → Active (medium_on b) image
+      → (image ≡ image_of device.slots)
+      ⊎ ((due ≡ None → ⊥) × (is_manifesting (state_of device.stage) ≡ true) × (image ≡ taken_of (situation device)))
+
+-- All steps of a board on which no writes are due are rows of the device that it is.
+abbrev pub IdleRefines : Type 0
+IdleRefines = (b b' : Board) (d : DeviceView) (steps : List BoardStep) → IsIdle b d → IsRun b steps b' → HasRefined d steps b'
+
+-- All steps of a board since power on are rows of the device table.
+abbrev pub RunRefines : Type 0
+RunRefines = (b b' : Board) (steps : List BoardStep) → IsPoweredOn b → IsRun b steps b' → HasRefined (device_on b) steps b'

@@ -1,0 +1,6 @@
+pub mod Steps
+pub mod Fits
+pub mod Runs
+pub mod Plays
+pub mod FormatCalls
+pub mod Closes

@@ -1,0 +1,143 @@
+//! Laws over all that may come to a board, to a board over a link with a host, and to a board whose program makes the calls in C; and
+//! over the answers of a device. Each is the contract of a function that only calls other laws. It is proved, and has no effect when
+//! called.
+
+ghost use Rattle.dfu_laws.specs.board.Keeps.{RunKeeps, RunStays, RunInstalls};
+ghost use Rattle.dfu_laws.specs.board.Accepts.{RunAccepts, HistoryAccepts};
+ghost use Rattle.dfu_laws.specs.board.Refines.{RunRefines, IdleRefines};
+ghost use Rattle.dfu_laws.specs.link.Plays.{PlaysGive, PlaysInstall, PlaysKnow, PlaysKnowWithin, PlaysRun};
+ghost use Rattle.dfu_laws.specs.judge.Kept.{HistoryIsKept, StartIsKept};
+ghost use Rattle.dfu_laws.specs.in_c.Closes.{ClosesIfRefused};
+ghost use Rattle.dfu_laws.specs.in_c.Runs.{CoreRefines, CoreKeeps, CoreStays, CoreInstalls, CoreStarts};
+ghost use Rattle.dfu_laws.specs.in_c.FormatCalls.{FormatsEnd, FormatsBeginAnew};
+ghost use Rattle.dfu_laws.specs.in_c.Plays.{CorePlaysInstall, CorePlaysKnow, CorePlaysKnowWithin, CorePlaysGive, CorePlaysRun, CorePlaysGoOn};
+
+use dfu_asks::laws::{pieces_are_the_writes, steps_are_the_writes, writes_are_the_calls};
+use dfu_device::laws::rows_take;
+use dfu_sim::laws::{only_offered, simulation};
+use dfu_slots::laws::active_image_is_one;
+
+// What follows of a board from the rows that its steps make.
+fn boards_make_rows()
+    ensures power { RunRefines }
+    ensures idle { IdleRefines }
+    ensures keeps { RunKeeps }
+    ensures stays { RunStays }
+    ensures installs { RunInstalls }
+{
+    pieces_are_the_writes();
+    steps_are_the_writes();
+    writes_are_the_calls();
+    rows_take();
+    active_image_is_one();
+}
+
+/// All steps of a board after power on are a history of the device table: each answer ends a row of it, and a loss of power within a row
+/// is that row, broken off by a write that failed, and then the row of power. The board is in the state of the
+/// device to which the rows lead, and its flash has that device's active image, or while writes are due the bytes that it has taken.
+/// The same holds from any later time at which no writes are due.
+pub fn boards_are_devices()
+    ensures power { RunRefines }
+    ensures idle { IdleRefines }
+{
+    boards_make_rows();
+}
+
+/// After any steps of a board since power on, its flash has an active image: the one that it had then, or all bytes of a download that
+/// was closed since. The same holds from any later time on at which the state is neither dfuMANIFEST-SYNC nor dfuMANIFEST, of the
+/// image and the downloads from that time on. If a step leads from one of these two states to dfuIDLE or dfuMANIFEST-WAIT-RESET, all
+/// bytes taken are the active image.
+pub fn boards_keep_an_image()
+    ensures keeps { RunKeeps }
+    ensures stays { RunStays }
+    ensures installs { RunInstalls }
+{
+    boards_make_rows();
+}
+
+/// For any steps of a board since power on, and any check that its program makes: if no close of bytes that the check refuses was
+/// acknowledged, its flash has an active image that it had then, or one that the check accepts, all bytes of a download that was closed
+/// since. For any history of a device of the table: if each image that waits to be put in place, and that the check refuses, was refused
+/// in time or given up, the active image is the one that it had at first, or one that the check accepts. A program that never checks takes
+/// every image.
+pub fn boards_take_what_is_accepted()
+    ensures at_close { RunAccepts }
+    ensures in_time { HistoryAccepts }
+{
+    boards_keep_an_image();
+}
+
+/// For all that comes to a board over a link with a host, from power on: if the host reports Installed or Verified, the payload with which
+/// its session began is the active image of the board's flash, and the board is in appIDLE. With any report, the active image is the one
+/// that it was at first, or the whole of a payload offered so far, at each step, also between two writes of a call. The bytes that come
+/// with Uploaded are the active image. All that comes to the board is a run of it, so the laws above hold of it.
+pub fn boards_install()
+    ensures in_place { PlaysInstall }
+    ensures known { PlaysKnow }
+    ensures known_within { PlaysKnowWithin }
+    ensures gives { PlaysGive }
+    ensures run { PlaysRun }
+{
+    boards_are_devices();
+    simulation();
+    only_offered();
+    active_image_is_one();
+}
+
+/// For every history of a device, and every list of events that it shows, some run of the standard's table has these events, from
+/// the device's first place to its last; no habit is needed. So no judge ever reports a departure of it. It is a law, the contract of a
+/// function with an empty body, which is not to be called.
+pub fn answers_are_kept()
+    ensures history { HistoryIsKept }
+    ensures start { StartIsKept }
+{}
+
+/// Whatever steps come to a board in C that just got power, they are a run of a board, event by event, and so rows of the
+/// device table, with the answers that the numbers say.
+pub fn core_boards_are_devices()
+    ensures { CoreRefines }
+{
+    boards_are_devices();
+}
+
+/// Whatever steps come to a board in C that just got power, its flash has an active image: the one that it had then, or all bytes of a
+/// download that was closed since. The same holds from any later time on at which its state is neither dfuMANIFEST-SYNC nor
+/// dfuMANIFEST. If a step leads from one of these two states to dfuIDLE or dfuMANIFEST-WAIT-RESET, all bytes taken are the active
+/// image. So power that comes back is never refused.
+pub fn core_boards_keep_an_image()
+    ensures keeps { CoreKeeps }
+    ensures stays { CoreStays }
+    ensures installs { CoreInstalls }
+    ensures starts { CoreStarts }
+{
+    boards_keep_an_image();
+}
+
+/// Whatever comes to a board in C over a link with a host, from power on: if the host reports Installed or Verified, the payload with
+/// which its session began is the active image of the flash, and dfu_core_state returns appIDLE. Whatever is reported, the active image is
+/// the one that it was at first, or the whole of a payload offered so far, at each step, also between two writes of a call. The bytes that
+/// come with Uploaded are the active image. All that comes to the board is a run of it, so the laws above hold of it.
+pub fn core_boards_install()
+    ensures in_place { CorePlaysInstall }
+    ensures known { CorePlaysKnow }
+    ensures known_within { CorePlaysKnowWithin }
+    ensures gives { CorePlaysGive }
+    ensures run { CorePlaysRun }
+    ensures goes_on { CorePlaysGoOn }
+{
+    boards_install();
+}
+
+/// Whatever becomes of the writes of a format: once dfu_core_format_took returns 0 the image is the active one of the flash, on which
+/// dfu_core_power_on is not refused. A format that was broken off, by a loss of power or a fault of a write, leaves a flash which need not
+/// have an active image, and a new format may begin on it as on any other.
+pub fn core_formats_make_an_image()
+    ensures formatted { FormatsEnd }
+    ensures anew { FormatsBeginAnew }
+{}
+
+/// What dfu_core_closes says of a setup is what dfu_core_refuse_close does with it: at 1 it returns DFU_STALL, and at 0 DFU_NO_CLOSE. So a
+/// program that checks the image where dfu_core_closes says 1 can refuse each image that would be put in place.
+pub fn core_closes_if_refused()
+    ensures { ClosesIfRefused }
+{}

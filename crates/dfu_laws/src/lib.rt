@@ -1,0 +1,13 @@
+//! What holds of whole runs: of a board that runs a device of dfu_asks, through every call and a loss of power at any time; of what a
+//! host reports of it over a link that may lose any message; of the same board with the calls in C; and of the answers of a device,
+//! beside a table of the standard that was made apart. No program calls them.
+#![tactic(auto)]
+
+mod laws;
+pub mod steps;
+
+pub use laws::{
+    answers_are_kept, boards_are_devices, boards_install, boards_keep_an_image,
+    boards_take_what_is_accepted, core_boards_are_devices, core_boards_install,
+    core_boards_keep_an_image, core_closes_if_refused, core_formats_make_an_image,
+};
