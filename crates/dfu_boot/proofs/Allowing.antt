@@ -1,11 +1,11 @@
 -- What is due is allowed.
 use Rattle.std.proofs.Common.{◌≡◌, ◌<◌, ◌+◌, ◌%◌, ℕ, List, length, Option, Some, None, sym, subst, arith}
-use Rattle.dfu_install.specs.declared.due.Due.TheVariants.{Refuse, Erase, Program, Start}
-use Rattle.dfu_install.specs.Allowed.{Differs, IsInLastSector, DoesOnlyAllowed}
-use Rattle.dfu_install.specs.Area.{AreBlank, start_of}
-use Rattle.dfu_install.specs.Next.{IsNext, MayProgram, look_from}
-use Rattle.dfu_install.proofs.Nexts.{next_is_inside, next_differs}
-use Rattle.dfu_install.proofs.Starts.{whole_in, start_is_whole, start_is_near, start_fits}
+use Rattle.dfu_boot.specs.declared.install.due.Due.TheVariants.{Refuse, Erase, Program, Start}
+use Rattle.dfu_boot.specs.install.Allowed.{Differs, IsInLastSector, DoesOnlyAllowed}
+use Rattle.dfu_boot.specs.install.Area.{AreBlank, start_of}
+use Rattle.dfu_boot.specs.install.Next.{IsNext, MayProgram, look_from}
+use Rattle.dfu_boot.proofs.Nexts.{next_is_inside, next_differs}
+use Rattle.dfu_boot.proofs.WholeStarts.{whole_in, start_is_whole, start_is_near, start_fits}
 
 -- The part of the next byte that differs has it.
 pub next_differs_in : (image run : List ℕ) (part begins at : ℕ) (last : Option ℕ) → 0 < part → IsNext image run (look_from image last) at

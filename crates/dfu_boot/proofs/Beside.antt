@@ -1,14 +1,14 @@
 -- What lies outside the image is left as it was.
 use Rattle.std.proofs.Common.{◌≡◌, inl, inr, ◌≤◌, ◌%◌, ℕ, List, [], ◌∷◌, length, Option, slice_index, ◌∙◌, ap, refl, arith}
 use Rattle.std.proofs.Math.Nat.{mod-le}
-use Rattle.dfu_install.specs.Area.{start_of}
-use Rattle.dfu_install.specs.Next.{Does}
-use Rattle.dfu_install.specs.Operations.{end_of_operation}
-use Rattle.dfu_install.specs.Courses.{Moment, IsStep, LeavesWhatIsBeside}
-use Rattle.dfu_install.specs.declared.due.Due.{Due}
-use Rattle.dfu_install.specs.declared.due.Due.TheVariants.{Refuse, Erase, Program, Start}
-use Rattle.dfu_install.proofs.Starts.{whole_in, start_is_whole, start_fits}
-use Rattle.dfu_install.proofs.Nexts.{next_is_inside}
+use Rattle.dfu_boot.specs.install.Area.{start_of}
+use Rattle.dfu_boot.specs.install.Next.{Does}
+use Rattle.dfu_boot.specs.install.Operations.{end_of_operation}
+use Rattle.dfu_boot.specs.install.Courses.{Moment, IsStep, LeavesWhatIsBeside}
+use Rattle.dfu_boot.specs.declared.install.due.Due.{Due}
+use Rattle.dfu_boot.specs.declared.install.due.Due.TheVariants.{Refuse, Erase, Program, Start}
+use Rattle.dfu_boot.proofs.WholeStarts.{whole_in, start_is_whole, start_fits}
+use Rattle.dfu_boot.proofs.Nexts.{next_is_inside}
 
 -- An operation ends at the end of the image's sectors, or before.
 pub ends_with_image : (image run : List ℕ) (sector edge : ℕ) (last : Option ℕ) (due : Due) → Does image run sector last due

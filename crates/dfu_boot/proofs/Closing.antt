@@ -8,10 +8,10 @@ use Rattle.dfu_slots.proofs.Stands.{standing}
 use Rattle.dfu_slots.proofs.Sectors.{gate_wide}
 use Rattle.dfu_slots.proofs.Torn.{written_torn, written_range, first_of_range, keeps_wider}
 use Rattle.dfu_slots.proofs.Newest.{places_are, places_newest}
-use Rattle.dfu_trial.specs.Marks.{is_set}
-use Rattle.dfu_trial.specs.Trial.{IsFilled, HasTrial, image_at, closed}
-use Rattle.dfu_trial.proofs.Places.{slot_in}
-use Rattle.dfu_trial.proofs.Slots.{active_filled, comes_back, came_back}
+use Rattle.dfu_boot.specs.trial.Marks.{is_set}
+use Rattle.dfu_boot.specs.trial.Trial.{IsFilled, HasTrial, image_at, closed}
+use Rattle.dfu_boot.proofs.Places.{slot_in}
+use Rattle.dfu_boot.proofs.Slots.{active_filled, comes_back, came_back}
 
 module _ (m : MediumState) (p q : ℕ) (has : HasImage m) (active : p ≡ active_at (gate_of m) m.bytes)
     (spare : q ≡ spare_at (gate_of m) m.bytes) where

@@ -2,7 +2,7 @@
 use Rattle.std.proofs.Common.{◌≡◌, ⊎_elim, ℕ, zero, suc, ◌+◌, ◌≤◌, ◌<◌, Bool, true, false, ◌∙◌, ap, arith, if◌then◌else◌}
 use Rattle.std.proofs.lemmas.Bool.{cases_Bool, cases_lt}
 use Rattle.dfu_slots.specs.Medium.{MediumState}
-use Rattle.dfu_trial.specs.Marks.{is_set, set_from}
+use Rattle.dfu_boot.specs.trial.Marks.{is_set, set_from}
 
 -- A mark that is set counts, with those after it.
 counts_on : (m : MediumState) (at i most : ℕ) → is_set m at i ≡ true → set_from m at i (suc most) ≡ set_from m at (i + 1) most + 1

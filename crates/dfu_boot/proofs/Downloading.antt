@@ -7,16 +7,16 @@ use Rattle.dfu_slots.proofs.Stands.{standing}
 use Rattle.dfu_slots.proofs.Newest.{places_are, places_newest}
 use Rattle.dfu_slots.proofs.Sectors.{gate_wide}
 use Rattle.dfu_slots.proofs.Parts.{slot_outside}
-use Rattle.dfu_trial.specs.Marks.{is_set, AreTries}
-use Rattle.dfu_trial.specs.Trial.{IsFilled, image_at}
-use Rattle.dfu_trial.specs.Calls.{IsSettled}
-use Rattle.dfu_trial.specs.Lists.{NewPlaced, Alone, Tried, AreTrusted}
-use Rattle.dfu_trial.specs.declared.standing.Settled.{Settled}
-use Rattle.dfu_trial.proofs.Places.{turned, mark_room}
-use Rattle.dfu_trial.proofs.Slots.{active_there, active_filled, sized_left, places_left}
-use Rattle.dfu_trial.proofs.Closing.{no_trial}
-use Rattle.dfu_trial.proofs.Counting.{none_counted}
-use Rattle.dfu_trial.proofs.Keeping.{mark_kept, image_kept}
+use Rattle.dfu_boot.specs.trial.Marks.{is_set, AreTries}
+use Rattle.dfu_boot.specs.trial.Trial.{IsFilled, image_at}
+use Rattle.dfu_boot.specs.trial.Calls.{IsSettled}
+use Rattle.dfu_boot.specs.trial.Lists.{NewPlaced, Alone, Tried, AreTrusted}
+use Rattle.dfu_boot.specs.declared.trial.standing.Settled.{Settled}
+use Rattle.dfu_boot.proofs.Places.{turned, mark_room}
+use Rattle.dfu_boot.proofs.Slots.{active_there, active_filled, sized_left, places_left}
+use Rattle.dfu_boot.proofs.Closing.{no_trial}
+use Rattle.dfu_boot.proofs.Counting.{none_counted}
+use Rattle.dfu_boot.proofs.Keeping.{mark_kept, image_kept}
 
 module _ (m now : MediumState) (tries : ℕ) (are : AreTries m.grain tries) (s : Settled) (spare : ℕ) (settled : IsSettled m s)
     (confirmed : s.is_confirmed ≡ true) (places : ArePlaces m.bytes s.slot spare)

@@ -2,15 +2,15 @@
 use Rattle.std.proofs.Common.{◌≡◌, ◌≢◌, ◌⊎◌, inl, inr, ◌<◌, ◌≤◌, ◌+◌, ◌*◌, ◌%◌, ℕ, suc, List, length, slice_index, Option, Some, None, sym, ◌∙◌, ap, subst, arith}
 use Rattle.std.proofs.lemmas.Bool.{cases_lt}
 use Rattle.std.proofs.Math.Nat.{suc-mul}
-use Rattle.dfu_install.specs.Allowed.{Differs}
-use Rattle.dfu_install.specs.Area.{AreSame, AreBlank, start_of}
-use Rattle.dfu_install.specs.Next.{IsReady, IsNext, MayProgram, IsEraseOf, look_from}
-use Rattle.dfu_install.specs.Operations.{LeavesOthers}
-use Rattle.dfu_install.proofs.Starts.{whole_in, start_is_whole, start_is_near, start_fits, start_keeps, start_is, starts_apart, part_fits, edge_is_whole, start_of_start}
-use Rattle.dfu_install.proofs.Allowing.{next_differs_in}
-use Rattle.dfu_install.proofs.Members.{take_away}
-use Rattle.dfu_install.proofs.Nexts.{next_is_inside, next_differs}
-use Rattle.dfu_install.proofs.Tidy.{IsTidy, LeftTidy, IsToErase, Costs}
+use Rattle.dfu_boot.specs.install.Allowed.{Differs}
+use Rattle.dfu_boot.specs.install.Area.{AreSame, AreBlank, start_of}
+use Rattle.dfu_boot.specs.install.Next.{IsReady, IsNext, MayProgram, IsEraseOf, look_from}
+use Rattle.dfu_boot.specs.install.Operations.{LeavesOthers}
+use Rattle.dfu_boot.proofs.WholeStarts.{whole_in, start_is_whole, start_is_near, start_fits, start_keeps, start_is, starts_apart, part_fits, edge_is_whole, start_of_start}
+use Rattle.dfu_boot.proofs.Allowing.{next_differs_in}
+use Rattle.dfu_boot.proofs.Members.{take_away}
+use Rattle.dfu_boot.proofs.Nexts.{next_is_inside, next_differs}
+use Rattle.dfu_boot.proofs.Tidy.{IsTidy, LeftTidy, IsToErase, Costs}
 
 -- A byte that differs in a tidy sector is in a piece that may be programmed.
 tidy_is_programmed : (image run : List ℕ) (sector last at : ℕ) → IsReady image run sector → IsTidy image run sector last

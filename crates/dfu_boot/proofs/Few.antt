@@ -1,18 +1,18 @@
 -- How many operations there are on a medium that works.
 use Rattle.std.proofs.Common.{◌≡◌, inl, ◌<◌, ◌≤◌, ◌+◌, ◌*◌, ◌-◌, ℕ, suc, false, List, [], ◌∷◌, length, slice_index, Option, Some, None, sym, ◌∙◌, ap, refl, subst, arith}
-use Rattle.dfu_install.specs.declared.due.Due.{Due}
-use Rattle.dfu_install.specs.declared.due.Due.TheVariants.{Refuse, Erase, Program, Start}
-use Rattle.dfu_install.specs.Area.{IsRunArea, AreSame, AreBlank, program_piece}
-use Rattle.dfu_install.specs.Next.{IsProgramOf, IsEraseOf}
-use Rattle.dfu_install.specs.Took.{TookDue}
-use Rattle.dfu_install.specs.Working.{CarriesOut, AllWork, FewOperations}
-use Rattle.dfu_install.proofs.Filling.{piece_has}
-use Rattle.dfu_install.proofs.Members.{multiples, multiples_count, below_is_in}
-use Rattle.dfu_install.proofs.Nexts.{next_is_inside}
-use Rattle.dfu_install.proofs.Starts.{whole_in, start_fits}
-use Rattle.dfu_install.proofs.Tidy.{HasLeft, Costs}
-use Rattle.dfu_install.proofs.Programming.{is_inside, program_costs}
-use Rattle.dfu_install.proofs.Erasing.{erase_costs}
+use Rattle.dfu_boot.specs.declared.install.due.Due.{Due}
+use Rattle.dfu_boot.specs.declared.install.due.Due.TheVariants.{Refuse, Erase, Program, Start}
+use Rattle.dfu_boot.specs.install.Area.{IsRunArea, AreSame, AreBlank, program_piece}
+use Rattle.dfu_boot.specs.install.Next.{IsProgramOf, IsEraseOf}
+use Rattle.dfu_boot.specs.install.Took.{TookDue}
+use Rattle.dfu_boot.specs.install.Working.{CarriesOut, AllWork, FewOperations}
+use Rattle.dfu_boot.proofs.Filling.{piece_has}
+use Rattle.dfu_boot.proofs.Members.{multiples, multiples_count, below_is_in}
+use Rattle.dfu_boot.proofs.Nexts.{next_is_inside}
+use Rattle.dfu_boot.proofs.WholeStarts.{whole_in, start_fits}
+use Rattle.dfu_boot.proofs.Tidy.{HasLeft, Costs}
+use Rattle.dfu_boot.proofs.Programming.{is_inside, program_costs}
+use Rattle.dfu_boot.proofs.Erasing.{erase_costs}
 
 -- A piece that was programmed reads as the image.
 programmed_is_same : (image run : List ℕ) (at : ℕ) → ((i : ℕ) → i < 256 → slice_index run (at + i) ≡ slice_index (program_piece image at) i)

@@ -2,7 +2,7 @@
 use Rattle.std.proofs.Common.{◌≡◌, ℕ, ◌+◌, ◌-◌, ◌<◌, min, List, ◌++◌, length, take, drop, replicate, slice_index, length-drop, ap, ◌∙◌, arith}
 use Rattle.std.proofs.lemmas.List.{drop-replicate, drop_min, take_min, take_rest, length-take, get_or-take, get_or-drop}
 use Rattle.std.proofs.Math.ListN.{get_or-append}
-use Rattle.dfu_install.specs.Area.{program_piece}
+use Rattle.dfu_boot.specs.install.Area.{program_piece}
 
 -- A buffer of FFh, to whose front bytes were copied.
 pub filled_up : (bytes copied : List ℕ) (most : ℕ) → copied ≡ bytes

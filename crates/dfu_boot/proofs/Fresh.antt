@@ -1,15 +1,15 @@
 -- A piece is programmed once after an erase.
 use Rattle.std.proofs.Common.{◌≡◌, ◌⊎◌, inl, inr, ◌<◌, ◌≤◌, ◌+◌, ◌%◌, ℕ, Bool, List, [], ◌∷◌, Option, Some, None, sym, ◌∙◌, ap, subst, arith}
 use Rattle.std.proofs.lemmas.Bool.{cases_lt}
-use Rattle.dfu_install.specs.declared.due.Due.{Due}
-use Rattle.dfu_install.specs.declared.due.Due.TheVariants.{Refuse, Erase, Program, Start}
-use Rattle.dfu_install.specs.Area.{AreSame, AreBlank, start_of}
-use Rattle.dfu_install.specs.Allowed.{Differs}
-use Rattle.dfu_install.specs.Next.{Does, MayProgram}
-use Rattle.dfu_install.specs.Took.{TookDue}
-use Rattle.dfu_install.specs.Courses.{Moment, IsStep, InstallCourse, end_of_course, IsFresh, ProgramsOnlyFresh}
-use Rattle.dfu_install.proofs.Starts.{start_is_whole, start_of_start}
-use Rattle.dfu_install.proofs.Allowing.{next_differs_in}
+use Rattle.dfu_boot.specs.declared.install.due.Due.{Due}
+use Rattle.dfu_boot.specs.declared.install.due.Due.TheVariants.{Refuse, Erase, Program, Start}
+use Rattle.dfu_boot.specs.install.Area.{AreSame, AreBlank, start_of}
+use Rattle.dfu_boot.specs.install.Allowed.{Differs}
+use Rattle.dfu_boot.specs.install.Next.{Does, MayProgram}
+use Rattle.dfu_boot.specs.install.Took.{TookDue}
+use Rattle.dfu_boot.specs.install.Courses.{Moment, IsStep, InstallCourse, end_of_course, IsFresh, ProgramsOnlyFresh}
+use Rattle.dfu_boot.proofs.WholeStarts.{start_is_whole, start_of_start}
+use Rattle.dfu_boot.proofs.Allowing.{next_differs_in}
 
 -- After the place of the last operation all of its sector is fresh, and at it, unless it is not blank.
 pub record IsFreshFrom (run : List ℕ) (sector last : ℕ) (since : List Due) : Type 0 where

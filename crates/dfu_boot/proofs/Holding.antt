@@ -1,12 +1,12 @@
 -- A run area that holds the image.
 use Rattle.std.proofs.Common.{◌≡◌, ◌<◌, ℕ, List, Option, length, slice_index, sym, ◌∙◌, ap, refl, arith}
 use Rattle.std.proofs.lemmas.List.{get_or-take}
-use Rattle.dfu_install.specs.Area.{Holds}
-use Rattle.dfu_install.specs.Next.{IsNext, look_from}
-use Rattle.dfu_install.specs.Working.{HeldIsStarted}
-use Rattle.dfu_install.specs.declared.due.Due.TheVariants.{Refuse, Erase, Program, Start}
-use Rattle.dfu_install.specs.declared.due.Refusal.TheVariants.{WrongSize, NoImage, TooLarge}
-use Rattle.dfu_install.proofs.Nexts.{next_is_inside, next_differs}
+use Rattle.dfu_boot.specs.install.Area.{Holds}
+use Rattle.dfu_boot.specs.install.Next.{IsNext, look_from}
+use Rattle.dfu_boot.specs.install.Working.{HeldIsStarted}
+use Rattle.dfu_boot.specs.declared.install.due.Due.TheVariants.{Refuse, Erase, Program, Start}
+use Rattle.dfu_boot.specs.declared.install.due.Refusal.TheVariants.{WrongSize, NoImage, TooLarge}
+use Rattle.dfu_boot.proofs.Nexts.{next_is_inside, next_differs}
 
 -- Each byte of the image is there.
 pub held_is_same : (image run : List ℕ) → Holds run image → (i : ℕ) → i < length image → slice_index run i ≡ slice_index image i

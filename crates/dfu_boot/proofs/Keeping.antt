@@ -9,16 +9,16 @@ use Rattle.dfu_slots.proofs.Torn.{range_outside}
 use Rattle.dfu_slots.proofs.Sectors.{gate_wide, unit_wide}
 use Rattle.dfu_slots.proofs.Parts.{gate_outside, header_outside, data_outside, slot_outside}
 use Rattle.dfu_slots.proofs.Newest.{places_newest}
-use Rattle.dfu_trial.specs.Marks.{mark_size, mark_at, is_marked, is_set, starts, AreTries}
-use Rattle.dfu_trial.specs.Trial.{IsFilled, IsOnTrial, image_at}
-use Rattle.dfu_trial.specs.Calls.{IsStanding}
-use Rattle.dfu_trial.specs.Laws.{KeepsImages, GoesOn, HasStarted, IsConfirmed, IsBack}
-use Rattle.dfu_trial.specs.declared.standing.Trial.{Trial}
-use Rattle.dfu_trial.specs.declared.standing.Standing.TheVariants.{OnTrial}
-use Rattle.dfu_trial.proofs.Places.{turned, mark_room}
-use Rattle.dfu_trial.proofs.Slots.{active_there, sized_left, places_left, other_left, newest_again, comes_back}
-use Rattle.dfu_trial.proofs.Closing.{no_trial}
-use Rattle.dfu_trial.proofs.Counting.{at_most, each_set, count_least, count_same}
+use Rattle.dfu_boot.specs.trial.Marks.{mark_size, mark_at, is_marked, is_set, starts, AreTries}
+use Rattle.dfu_boot.specs.trial.Trial.{IsFilled, IsOnTrial, image_at}
+use Rattle.dfu_boot.specs.trial.Calls.{IsStanding}
+use Rattle.dfu_boot.specs.trial.Laws.{KeepsImages, GoesOn, HasStarted, IsConfirmed, IsBack}
+use Rattle.dfu_boot.specs.declared.trial.standing.Trial.{Trial}
+use Rattle.dfu_boot.specs.declared.trial.standing.Standing.TheVariants.{OnTrial}
+use Rattle.dfu_boot.proofs.Places.{turned, mark_room}
+use Rattle.dfu_boot.proofs.Slots.{active_there, sized_left, places_left, other_left, newest_again, comes_back}
+use Rattle.dfu_boot.proofs.Closing.{no_trial}
+use Rattle.dfu_boot.proofs.Counting.{at_most, each_set, count_least, count_same}
 
 -- A mark outside a change is as it was.
 pub mark_kept : (m now : MediumState) (p j from to : ℕ) → KeepsOutside from to m.bytes now.bytes

@@ -4,25 +4,25 @@ use Rattle.std.proofs.lemmas.Bool.{true≢false, ltb-true}
 use Rattle.dfu_slots.specs.Units.{Grain}
 use Rattle.dfu_slots.specs.Medium.{MediumState}
 use Rattle.dfu_slots.specs.Image.{HasImage}
-use Rattle.dfu_trial.specs.Marks.{is_set, AreTries}
-use Rattle.dfu_trial.specs.Trial.{image_at}
-use Rattle.dfu_trial.specs.Calls.{IsStanding, image_place, sets, trial_start, confirm_of, end_of_trial, upload_of, upload_slot}
-use Rattle.dfu_trial.specs.Laws.{Carried, CarriedIf, GoesOn, HasStarted, IsBack, Starts as StartsBy}
-use Rattle.dfu_trial.specs.Lists.{TrialEvent, Starts, Confirms, Ends, Uploads, Downloads, TrialStep, RanBy, ConfirmedBy, GivenBy, IsDownload, NewPlaced, TrialGoes, CameAll, Trust, Alone, Tried, AreTrusted, IsOnOrBack, MayGive, MayBecome, AllTrusted}
-use Rattle.dfu_trial.specs.declared.standing.Settled.{Settled}
-use Rattle.dfu_trial.specs.declared.standing.Trial.{Trial}
-use Rattle.dfu_trial.specs.declared.standing.Standing.{Standing}
-use Rattle.dfu_trial.specs.declared.standing.Standing.TheVariants as standing
-use Rattle.dfu_trial.specs.declared.operation.Operation.{Operation}
-use Rattle.dfu_trial.specs.declared.operation.Operation.TheVariants.{Mark, Close}
-use Rattle.dfu_trial.specs.declared.confirming.Confirmation.{Confirmation}
-use Rattle.dfu_trial.specs.declared.confirming.Confirmation.TheVariants as confirm
-use Rattle.dfu_trial.proofs.Slots.{active_there}
-use Rattle.dfu_trial.proofs.Outcomes.{confirms_or_goes_on, ends_or_goes_on}
-use Rattle.dfu_trial.proofs.Starts.{starts_so}
-use Rattle.dfu_trial.proofs.Unique.{same_standing}
-use Rattle.dfu_trial.proofs.Uploading.{asks_by, is_left}
-use Rattle.dfu_trial.proofs.Downloading.{downloaded}
+use Rattle.dfu_boot.specs.trial.Marks.{is_set, AreTries}
+use Rattle.dfu_boot.specs.trial.Trial.{image_at}
+use Rattle.dfu_boot.specs.trial.Calls.{IsStanding, image_place, sets, trial_start, confirm_of, end_of_trial, upload_of, upload_slot}
+use Rattle.dfu_boot.specs.trial.Laws.{Carried, CarriedIf, GoesOn, HasStarted, IsBack, Starts as StartsBy}
+use Rattle.dfu_boot.specs.trial.Lists.{TrialEvent, Starts, Confirms, Ends, Uploads, Downloads, TrialStep, RanBy, ConfirmedBy, GivenBy, IsDownload, NewPlaced, TrialGoes, CameAll, Trust, Alone, Tried, AreTrusted, IsOnOrBack, MayGive, MayBecome, AllTrusted}
+use Rattle.dfu_boot.specs.declared.trial.standing.Settled.{Settled}
+use Rattle.dfu_boot.specs.declared.trial.standing.Trial.{Trial}
+use Rattle.dfu_boot.specs.declared.trial.standing.Standing.{Standing}
+use Rattle.dfu_boot.specs.declared.trial.standing.Standing.TheVariants as standing
+use Rattle.dfu_boot.specs.declared.trial.operation.Operation.{Operation}
+use Rattle.dfu_boot.specs.declared.trial.operation.Operation.TheVariants.{Mark, Close}
+use Rattle.dfu_boot.specs.declared.trial.confirming.Confirmation.{Confirmation}
+use Rattle.dfu_boot.specs.declared.trial.confirming.Confirmation.TheVariants as confirm
+use Rattle.dfu_boot.proofs.Slots.{active_there}
+use Rattle.dfu_boot.proofs.Outcomes.{confirms_or_goes_on, ends_or_goes_on}
+use Rattle.dfu_boot.proofs.Starts.{starts_so}
+use Rattle.dfu_boot.proofs.Unique.{same_standing}
+use Rattle.dfu_boot.proofs.Uploading.{asks_by, is_left}
+use Rattle.dfu_boot.proofs.Downloading.{downloaded}
 
 -- A medium with these images has an active one.
 pub trusted_has : (m : MediumState) (tries : ℕ) (trust : Trust) → AreTrusted m tries trust → HasImage m

@@ -1,6 +1,6 @@
 -- How far bytes were looked at.
 use Rattle.std.specs.Prelude.{ℕ, ◌≤◌, List}
-use Rattle.dfu_install.specs.Area.{AreSame, AreBlank}
+use Rattle.dfu_boot.specs.install.Area.{AreSame, AreBlank}
 
 -- So far all bytes are FFh.
 pub record IsBlankTo (run : List ℕ) (from at : ℕ) : Type 0 where

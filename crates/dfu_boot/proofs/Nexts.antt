@@ -1,6 +1,6 @@
 -- The next byte that differs.
 use Rattle.std.proofs.Common.{◌≢◌, inl, inr, ℕ, ◌≤◌, ◌<◌, List, length, slice_index, Option, Some, None, arith}
-use Rattle.dfu_install.specs.Next.{IsNext, look_from}
+use Rattle.dfu_boot.specs.install.Next.{IsNext, look_from}
 
 -- It is looked for within the image.
 pub looks_inside : (image : List ℕ) (last : Option ℕ) → look_from image last ≤ length image

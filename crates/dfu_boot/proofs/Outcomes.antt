@@ -5,15 +5,15 @@ use Rattle.dfu_slots.specs.Units.{Grain}
 use Rattle.dfu_slots.specs.Medium.{MediumState, KeepsOutside}
 use Rattle.dfu_slots.specs.Image.{capacity_of}
 use Rattle.dfu_slots.proofs.Sectors.{room_sector}
-use Rattle.dfu_trial.specs.Marks.{mark_size, mark_at, is_set, starts, AreTries}
-use Rattle.dfu_trial.specs.Calls.{IsStanding, sets, runs_in}
-use Rattle.dfu_trial.specs.Laws.{GoesOn, HasStarted, IsConfirmed, IsBack, AfterMark, Carried, IsUnmarked}
-use Rattle.dfu_trial.specs.declared.starting.Starting.{Starting}
-use Rattle.dfu_trial.specs.declared.operation.Operation.TheVariants.{Close}
-use Rattle.dfu_trial.specs.declared.standing.Trial.{Trial}
-use Rattle.dfu_trial.specs.declared.standing.Standing.TheVariants.{OnTrial}
-use Rattle.dfu_trial.proofs.Counting.{next_unset}
-use Rattle.dfu_trial.proofs.Keeping.{mark_goes_on, mark_starts, mark_confirms, gate_either}
+use Rattle.dfu_boot.specs.trial.Marks.{mark_size, mark_at, is_set, starts, AreTries}
+use Rattle.dfu_boot.specs.trial.Calls.{IsStanding, sets, runs_in}
+use Rattle.dfu_boot.specs.trial.Laws.{GoesOn, HasStarted, IsConfirmed, IsBack, AfterMark, Carried, IsUnmarked}
+use Rattle.dfu_boot.specs.declared.trial.starting.Starting.{Starting}
+use Rattle.dfu_boot.specs.declared.trial.operation.Operation.TheVariants.{Close}
+use Rattle.dfu_boot.specs.declared.trial.standing.Trial.{Trial}
+use Rattle.dfu_boot.specs.declared.trial.standing.Standing.TheVariants.{OnTrial}
+use Rattle.dfu_boot.proofs.Counting.{next_unset}
+use Rattle.dfu_boot.proofs.Keeping.{mark_goes_on, mark_starts, mark_confirms, gate_either}
 
 -- What runs after the mark of a start.
 module _ (m now : MediumState) (tries : ℕ) (t : Trial) (are : AreTries m.grain tries) (stands : IsStanding m tries (OnTrial t))

@@ -13,9 +13,9 @@ use Rattle.dfu_slots.proofs.Stands.{two_slots}
 use Rattle.dfu_slots.proofs.Newest.{place_end}
 use Rattle.dfu_slots.proofs.Edges.{place_edge}
 use Rattle.dfu_slots.proofs.Sectors.{room_sector, room_multiple, multiple_gate}
-use Rattle.dfu_trial.specs.Marks.{mark_size, mark_at, mark_bytes, is_erased, is_set, set_from, starts, AreTries}
-use Rattle.dfu_trial.specs.Calls.{MediumTakes, sets}
-use Rattle.dfu_trial.specs.declared.operation.Operation.TheVariants.{Close}
+use Rattle.dfu_boot.specs.trial.Marks.{mark_size, mark_at, mark_bytes, is_erased, is_set, set_from, starts, AreTries}
+use Rattle.dfu_boot.specs.trial.Calls.{MediumTakes, sets}
+use Rattle.dfu_boot.specs.declared.trial.operation.Operation.TheVariants.{Close}
 
 -- The places of the two slots, the other way round.
 pub turned : (l : List ℕ) (p q : ℕ) → ArePlaces l p q → ArePlaces l q p

@@ -1,12 +1,12 @@
 -- A program costs one of the pieces that are left.
 use Rattle.std.proofs.Common.{◌≡◌, ◌≢◌, ◌⊎◌, inl, inr, ◌<◌, ◌≤◌, ◌+◌, ◌*◌, ◌%◌, ℕ, suc, zero, List, length, slice_index, Some, sym, ◌∙◌, subst, arith}
 use Rattle.std.proofs.lemmas.Bool.{cases_lt}
-use Rattle.dfu_install.specs.Allowed.{Differs}
-use Rattle.dfu_install.specs.Area.{AreSame, AreBlank, start_of}
-use Rattle.dfu_install.specs.Next.{IsReady, IsNext, IsProgramOf, look_from}
-use Rattle.dfu_install.specs.Operations.{LeavesOthers}
-use Rattle.dfu_install.proofs.Starts.{whole_in, start_is_whole, start_is_near, start_keeps, part_fits, edge_is_whole}
-use Rattle.dfu_install.proofs.Tidy.{IsTidy, IsToErase, HasLeft, Costs}
+use Rattle.dfu_boot.specs.install.Allowed.{Differs}
+use Rattle.dfu_boot.specs.install.Area.{AreSame, AreBlank, start_of}
+use Rattle.dfu_boot.specs.install.Next.{IsReady, IsNext, IsProgramOf, look_from}
+use Rattle.dfu_boot.specs.install.Operations.{LeavesOthers}
+use Rattle.dfu_boot.proofs.WholeStarts.{whole_in, start_is_whole, start_is_near, start_keeps, part_fits, edge_is_whole}
+use Rattle.dfu_boot.proofs.Tidy.{IsTidy, IsToErase, HasLeft, Costs}
 
 -- What is known when a piece is programmed: it is in the sector of the last operation, and all between is done.
 pub record IsInside (image run : List ℕ) (sector last piece at : ℕ) : Type 0 where

@@ -9,8 +9,8 @@ use Rattle.dfu_slots.specs.Layout.{Slot, slot, slot_size, ArePlaces, OPEN, heade
 use Rattle.dfu_slots.specs.Image.{gate_of, slot_of, IsSized, Counts, IsNewest, Active, HasImage}
 use Rattle.dfu_slots.proofs.Sectors.{gate_wide}
 use Rattle.dfu_slots.proofs.Parts.{slot_outside, data_length}
-use Rattle.dfu_trial.specs.Trial.{IsFilled, image_at}
-use Rattle.dfu_trial.proofs.Places.{turned, slot_in}
+use Rattle.dfu_boot.specs.trial.Trial.{IsFilled, image_at}
+use Rattle.dfu_boot.proofs.Places.{turned, slot_in}
 
 -- The length in a well-formed header is that of its image.
 length_is : (s : Slot) (len : ℕ) → HasHeader s len → len < 2 ^ 32 → header_length s ≡ len

@@ -3,19 +3,19 @@ use Rattle.std.proofs.Common.{◌≡◌, inl, inr, ⊎_elim, ℕ, ◌+◌, Bool,
 use Rattle.std.proofs.lemmas.Bool.{ltb-true, ltb-false}
 use Rattle.dfu_slots.specs.Medium.{MediumState}
 use Rattle.dfu_slots.specs.Image.{HasImage}
-use Rattle.dfu_trial.specs.Marks.{AreTries}
-use Rattle.dfu_trial.specs.Trial.{image_at}
-use Rattle.dfu_trial.specs.Calls.{IsStanding, MarkIsWithin, sets, trial_start, runs_in}
-use Rattle.dfu_trial.specs.Laws.{Carried, CarriedIf, Starts}
-use Rattle.dfu_trial.specs.declared.operation.Operation.{Operation}
-use Rattle.dfu_trial.specs.declared.operation.Operation.TheVariants.{Mark, Close}
-use Rattle.dfu_trial.specs.declared.starting.Starting.{Starting}
-use Rattle.dfu_trial.specs.declared.standing.Trial.{Trial}
-use Rattle.dfu_trial.specs.declared.standing.Standing.{Standing}
-use Rattle.dfu_trial.specs.declared.standing.Standing.TheVariants as standing
-use Rattle.dfu_trial.specs.declared.standing.Standing.TheVariants.{OnTrial}
-use Rattle.dfu_trial.proofs.Slots.{active_there}
-use Rattle.dfu_trial.proofs.Outcomes.{mark_runs, ends_or_goes_on}
+use Rattle.dfu_boot.specs.trial.Marks.{AreTries}
+use Rattle.dfu_boot.specs.trial.Trial.{image_at}
+use Rattle.dfu_boot.specs.trial.Calls.{IsStanding, MarkIsWithin, sets, trial_start, runs_in}
+use Rattle.dfu_boot.specs.trial.Laws.{Carried, CarriedIf, Starts}
+use Rattle.dfu_boot.specs.declared.trial.operation.Operation.{Operation}
+use Rattle.dfu_boot.specs.declared.trial.operation.Operation.TheVariants.{Mark, Close}
+use Rattle.dfu_boot.specs.declared.trial.starting.Starting.{Starting}
+use Rattle.dfu_boot.specs.declared.trial.standing.Trial.{Trial}
+use Rattle.dfu_boot.specs.declared.trial.standing.Standing.{Standing}
+use Rattle.dfu_boot.specs.declared.trial.standing.Standing.TheVariants as standing
+use Rattle.dfu_boot.specs.declared.trial.standing.Standing.TheVariants.{OnTrial}
+use Rattle.dfu_boot.proofs.Slots.{active_there}
+use Rattle.dfu_boot.proofs.Outcomes.{mark_runs, ends_or_goes_on}
 
 module _ (m now : MediumState) (tries : ℕ) (are : AreTries m.grain tries) where
   on_trial : (t : Trial) → IsStanding m tries (OnTrial t) → (b : Bool) → nat_lt t.starts tries ≡ b

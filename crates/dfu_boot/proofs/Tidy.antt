@@ -1,8 +1,8 @@
 -- What is left to do of a run area, as long as the medium works.
 use Rattle.std.proofs.Common.{◌≡◌, ◌⊎◌, ◌≤◌, ◌+◌, ◌*◌, ◌%◌, ℕ, suc, List, length, Option, Some, None}
-use Rattle.dfu_install.specs.Allowed.{Differs}
-use Rattle.dfu_install.specs.Area.{AreSame, AreBlank, start_of}
-use Rattle.dfu_install.proofs.Members.{IsIn}
+use Rattle.dfu_boot.specs.install.Allowed.{Differs}
+use Rattle.dfu_boot.specs.install.Area.{AreSame, AreBlank, start_of}
+use Rattle.dfu_boot.proofs.Members.{IsIn}
 
 -- The sector of this piece is as the last operation there left it: what is before the piece is done, what is after it is blank.
 pub record IsTidy (image run : List ℕ) (sector piece : ℕ) : Type 0 where

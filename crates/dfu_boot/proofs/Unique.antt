@@ -3,10 +3,10 @@ use Rattle.std.proofs.Common.{◌≡◌, ℕ, sym, ◌∙◌, ap}
 use Rattle.dfu_slots.specs.Medium.{MediumState}
 use Rattle.dfu_slots.specs.Image.{gate_of}
 use Rattle.dfu_slots.proofs.Newest.{places_newest}
-use Rattle.dfu_trial.specs.Marks.{is_set, starts}
-use Rattle.dfu_trial.specs.Calls.{IsStanding}
-use Rattle.dfu_trial.specs.declared.standing.Standing.{Standing}
-use Rattle.dfu_trial.specs.declared.standing.Standing.TheVariants as standing
+use Rattle.dfu_boot.specs.trial.Marks.{is_set, starts}
+use Rattle.dfu_boot.specs.trial.Calls.{IsStanding}
+use Rattle.dfu_boot.specs.declared.trial.standing.Standing.{Standing}
+use Rattle.dfu_boot.specs.declared.trial.standing.Standing.TheVariants as standing
 
 module _ (m : MediumState) (tries : ℕ) where
   pub same_standing : (a b : Standing) → IsStanding m tries a → IsStanding m tries b → a ≡ b

@@ -2,18 +2,18 @@
 use Rattle.std.proofs.Common.{◌≡◌, inl, inr, ⊎_elim, ℕ, ◌+◌, nat_lt, Bool, true, false, List, Option, Some, None, refl, sym, ◌∙◌, ap, subst, if◌then◌else◌}
 use Rattle.std.proofs.lemmas.Bool.{ltb-true, ltb-false}
 use Rattle.dfu_slots.specs.Medium.{MediumState}
-use Rattle.dfu_trial.specs.Marks.{AreTries}
-use Rattle.dfu_trial.specs.Trial.{image_at}
-use Rattle.dfu_trial.specs.Calls.{IsStanding, sets, trial_start, runs_in, upload_of, upload_slot}
-use Rattle.dfu_trial.specs.Laws.{CarriedIf, RunsNext, Uploads, RunsOrIsNext}
-use Rattle.dfu_trial.specs.declared.operation.Operation.{Operation}
-use Rattle.dfu_trial.specs.declared.operation.Operation.TheVariants.{Close}
-use Rattle.dfu_trial.specs.declared.starting.Starting.{Starting}
-use Rattle.dfu_trial.specs.declared.standing.Trial.{Trial}
-use Rattle.dfu_trial.specs.declared.standing.Standing.{Standing}
-use Rattle.dfu_trial.specs.declared.standing.Standing.TheVariants as standing
-use Rattle.dfu_trial.proofs.Outcomes.{mark_told, ends_or_goes_on}
-use Rattle.dfu_trial.proofs.Unique.{same_standing}
+use Rattle.dfu_boot.specs.trial.Marks.{AreTries}
+use Rattle.dfu_boot.specs.trial.Trial.{image_at}
+use Rattle.dfu_boot.specs.trial.Calls.{IsStanding, sets, trial_start, runs_in, upload_of, upload_slot}
+use Rattle.dfu_boot.specs.trial.Laws.{CarriedIf, RunsNext, Uploads, RunsOrIsNext}
+use Rattle.dfu_boot.specs.declared.trial.operation.Operation.{Operation}
+use Rattle.dfu_boot.specs.declared.trial.operation.Operation.TheVariants.{Close}
+use Rattle.dfu_boot.specs.declared.trial.starting.Starting.{Starting}
+use Rattle.dfu_boot.specs.declared.trial.standing.Trial.{Trial}
+use Rattle.dfu_boot.specs.declared.trial.standing.Standing.{Standing}
+use Rattle.dfu_boot.specs.declared.trial.standing.Standing.TheVariants as standing
+use Rattle.dfu_boot.proofs.Outcomes.{mark_told, ends_or_goes_on}
+use Rattle.dfu_boot.proofs.Unique.{same_standing}
 
 -- With a start left an upload asks for nothing, and without one for the end of the trial.
 pub asks_by : (tries : ℕ) (t : Trial) (b : Bool) → nat_lt t.starts tries ≡ b

@@ -1,6 +1,5 @@
 //! A run area beside a slot store: flash of its own, to which images are linked. It is brought to the image that is to be started by
 //! operations that the caller carries out one by one. Nothing is written here, and nothing allocated.
-#![tactic(auto)]
 
 mod area;
 mod compare;

@@ -1,16 +1,16 @@
-//! What is due next, for the active image.
+//! A run area beside a slot store is brought to the active image of the store: what is due next.
 ghost use Rattle.std.specs.Prelude.{◌≡◌, ℕ, List};
 ghost use Rattle.dfu_slots.specs.Seen.{image_of};
 ghost use Rattle.dfu_slots.specs.Image.{Active};
-ghost use Rattle.dfu_install.specs.Area.{Holds};
-ghost use Rattle.dfu_install.specs.Next.{Does};
-ghost use Rattle.dfu_install.specs.declared.due.Due.TheVariants.{Start};
+ghost use Rattle.dfu_boot.specs.install.Area.{Holds};
+ghost use Rattle.dfu_boot.specs.install.Next.{Does};
+ghost use Rattle.dfu_boot.specs.declared.install.due.Due.TheVariants.{Start};
 
-use dfu_install::{Due, next};
+use crate::install::{Due, next};
 use dfu_slots::laws::active_image_is_one;
 use dfu_slots::{Medium, Slots};
 
-/// What is due next, so that the run area comes to hold the active image of the store: `next` of dfu_install, with that image.
+/// What is due next, so that the run area comes to hold the active image of the store: `install::next`, with that image.
 ///
 /// `memory` has the bytes of the store's medium, as it is mapped for reading. The store is not changed.
 pub fn next_active<M: Medium>(

@@ -1,6 +1,6 @@
-//! A run area beside a slot store is brought to the active image of the store.
+//! What starts an image of a slot store: a new image on trial, and a run area, to which images are linked.
 #![tactic(auto)]
 
-mod active;
-
-pub use active::next_active;
+pub mod install;
+pub mod install_slots;
+pub mod trial;

@@ -1,5 +1,4 @@
 //! A new image of a slot store runs on trial until it is confirmed; else the one before it comes back.
-#![tactic(auto)]
 
 mod booting;
 mod closed;

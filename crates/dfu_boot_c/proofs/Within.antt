@@ -2,15 +2,15 @@
 use Rattle.std.proofs.Common.{◌≡◌, ℕ, ◌+◌, ◌≤◌, Bool, true, false, nat_lt, Some, length, refl, sym, subst, if◌then◌else◌}
 use Rattle.dfu_slots.specs.Medium.{MediumState}
 use Rattle.dfu_slots.specs.Layout.{slot_size}
-use Rattle.dfu_trial.specs.Marks.{AreTries}
-use Rattle.dfu_trial.specs.Calls.{IsStanding, sets, trial_start}
-use Rattle.dfu_trial.specs.declared.operation.Operation.TheVariants.{Close}
-use Rattle.dfu_trial.specs.declared.standing.Trial.{Trial}
-use Rattle.dfu_trial.specs.declared.standing.Standing.{Standing}
-use Rattle.dfu_trial.specs.declared.standing.Standing.TheVariants as standing
-use Rattle.dfu_trial.specs.declared.starting.Starting.{Starting}
-use Rattle.dfu_trial.proofs.Places.{turned, slot_in}
-use Rattle.dfu_trial.proofs.Asked.{active_in, trial_in}
+use Rattle.dfu_boot.specs.trial.Marks.{AreTries}
+use Rattle.dfu_boot.specs.trial.Calls.{IsStanding, sets, trial_start}
+use Rattle.dfu_boot.specs.declared.trial.operation.Operation.TheVariants.{Close}
+use Rattle.dfu_boot.specs.declared.trial.standing.Trial.{Trial}
+use Rattle.dfu_boot.specs.declared.trial.standing.Standing.{Standing}
+use Rattle.dfu_boot.specs.declared.trial.standing.Standing.TheVariants as standing
+use Rattle.dfu_boot.specs.declared.trial.starting.Starting.{Starting}
+use Rattle.dfu_boot.proofs.Places.{turned, slot_in}
+use Rattle.dfu_boot.proofs.Asked.{active_in, trial_in}
 
 -- The slots of what starts end within the medium.
 abbrev pub AreWithin : MediumState → Starting → Type 0

@@ -1,5 +1,4 @@
 //! The run area for programs in C, as a static library: `include/dfu_install_core.h` has its calls.
-#![tactic(auto)]
 
 mod area;
 mod calls;

@@ -17,9 +17,8 @@ from words import Words
 
 MODULES = {
     "dfu_wire": "wire", "dfu_suffix": "suffix", "dfu_slots": "slots", "dfu_device": "device", "dfu_host": "host", "dfu_asks": "asks",
-    "dfu_trial": "boot::trial", "dfu_install": "boot::install", "dfu_install_slots": "boot::install_slots", "dfuse_memory": "dfuse::memory",
-    "dfuse_host": "dfuse::session", "dfuse_file": "dfuse::file", "dfu_images": "formats", "dfu_conformance": "conformance",
-    "dfuse_conformance": "dfuse_conformance",
+    "dfu_boot": "boot", "dfuse_memory": "dfuse::memory", "dfuse_host": "dfuse::session", "dfuse_file": "dfuse::file",
+    "dfu_images": "formats", "dfu_conformance": "conformance", "dfuse_conformance": "dfuse_conformance",
 }
 # What is written by hand: the head of the crate, and the modules that only have modules.
 FRAME = os.path.join(os.path.dirname(__file__), "frame")
@@ -87,7 +86,7 @@ def sources_of(top, crate):
                 raise Refusal(path, 1, "a source that is no .rt")
             with open(path, encoding="utf-8") as file:
                 source = Source(crate, os.path.relpath(path, folder), file.read())
-            if source.name == FILE:
+            if os.path.basename(source.name) == FILE:
                 laws_in(source.path, source.tokens)
             else:
                 found.append(source)

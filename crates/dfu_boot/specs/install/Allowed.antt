@@ -1,9 +1,9 @@
 -- What an operation is for.
 use Rattle.std.specs.Prelude.{◌≡◌, ◌≢◌, ℕ, ◌+◌, ◌%◌, ◌≤◌, ◌<◌, List, length, slice_index, Option, Some, None}
-use Rattle.dfu_install.specs.declared.due.Due.{Due}
-use Rattle.dfu_install.specs.declared.due.Due.TheVariants.{Refuse, Erase, Program, Start}
-use Rattle.dfu_install.specs.Area.{Holds, AreBlank, start_of}
-use Rattle.dfu_install.specs.Next.{Does}
+use Rattle.dfu_boot.specs.declared.install.due.Due.{Due}
+use Rattle.dfu_boot.specs.declared.install.due.Due.TheVariants.{Refuse, Erase, Program, Start}
+use Rattle.dfu_boot.specs.install.Area.{Holds, AreBlank, start_of}
+use Rattle.dfu_boot.specs.install.Next.{Does}
 
 -- A byte of the image differs, from one place to before another.
 pub record Differs (image run : List ℕ) (from to : ℕ) : Type 0 where

@@ -1,11 +1,11 @@
 -- What may come to a run area, one thing after another.
 use Rattle.std.specs.Prelude.{◌≡◌, ◌⊎◌, ℕ, ◌≤◌, Bool, List, [], ◌∷◌, length, slice_index, Option, None}
-use Rattle.dfu_install.specs.declared.due.Due.{Due}
-use Rattle.dfu_install.specs.declared.due.Due.TheVariants.{Refuse, Erase, Program, Start}
-use Rattle.dfu_install.specs.Area.{Holds, start_of}
-use Rattle.dfu_install.specs.Next.{Does}
-use Rattle.dfu_install.specs.Took.{TookDue}
-use Rattle.dfu_install.specs.Operations.{from_of, end_of_operation, LeavesOthers}
+use Rattle.dfu_boot.specs.declared.install.due.Due.{Due}
+use Rattle.dfu_boot.specs.declared.install.due.Due.TheVariants.{Refuse, Erase, Program, Start}
+use Rattle.dfu_boot.specs.install.Area.{Holds, start_of}
+use Rattle.dfu_boot.specs.install.Next.{Does}
+use Rattle.dfu_boot.specs.install.Took.{TookDue}
+use Rattle.dfu_boot.specs.install.Operations.{from_of, end_of_operation, LeavesOthers}
 
 -- The image that is to be started, the run area as it is, where the last operation went, and the operations since the power came,
 -- the last one first.

@@ -1,9 +1,9 @@
 -- What is due next of a run area.
 use Rattle.std.specs.Prelude.{◌≡◌, ◌⊎◌, ℕ, ◌+◌, ◌≤◌, ◌<◌, min, List, length, Option, Some, None}
-use Rattle.dfu_install.specs.declared.due.Due.{Due}
-use Rattle.dfu_install.specs.declared.due.Due.TheVariants.{Refuse, Erase, Program, Start}
-use Rattle.dfu_install.specs.declared.due.Refusal.TheVariants.{WrongSize, NoImage, TooLarge}
-use Rattle.dfu_install.specs.Area.{IsRunArea, Holds, AreSame, AreBlank, FirstDiffers, start_of}
+use Rattle.dfu_boot.specs.declared.install.due.Due.{Due}
+use Rattle.dfu_boot.specs.declared.install.due.Due.TheVariants.{Refuse, Erase, Program, Start}
+use Rattle.dfu_boot.specs.declared.install.due.Refusal.TheVariants.{WrongSize, NoImage, TooLarge}
+use Rattle.dfu_boot.specs.install.Area.{IsRunArea, Holds, AreSame, AreBlank, FirstDiffers, start_of}
 
 -- Nothing is refused.
 pub record IsReady (image run : List ℕ) (sector : ℕ) : Type 0 where

@@ -1,8 +1,8 @@
 -- How an operation went.
 use Rattle.std.specs.Prelude.{◌≡◌, ℕ, ◌+◌, ◌≤◌, Bool, false, List, length, Option, Some, None}
-use Rattle.dfu_install.specs.declared.due.Due.{Due}
-use Rattle.dfu_install.specs.declared.due.Due.TheVariants.{Refuse, Erase, Program, Start}
-use Rattle.dfu_install.specs.Area.{IsRunArea, AreSame, AreBlank}
+use Rattle.dfu_boot.specs.declared.install.due.Due.{Due}
+use Rattle.dfu_boot.specs.declared.install.due.Due.TheVariants.{Refuse, Erase, Program, Start}
+use Rattle.dfu_boot.specs.install.Area.{IsRunArea, AreSame, AreBlank}
 
 -- The sector that begins there is in the run area, and blank.
 abbrev pub IsErasedSector : List ℕ → ℕ → ℕ → Type 0

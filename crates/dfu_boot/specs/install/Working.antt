@@ -1,11 +1,11 @@
 -- How many operations it takes on a medium that works.
 use Rattle.std.specs.Prelude.{◌≡◌, ℕ, ◌+◌, ◌*◌, ◌≤◌, false, List, [], ◌∷◌, length, Option}
-use Rattle.dfu_install.specs.declared.due.Due.{Due}
-use Rattle.dfu_install.specs.declared.due.Due.TheVariants.{Start}
-use Rattle.dfu_install.specs.Area.{Holds}
-use Rattle.dfu_install.specs.Next.{Does, IsReady}
-use Rattle.dfu_install.specs.Took.{TookDue}
-use Rattle.dfu_install.specs.Operations.{from_of, end_of_operation, LeavesOthers, HasBytes}
+use Rattle.dfu_boot.specs.declared.install.due.Due.{Due}
+use Rattle.dfu_boot.specs.declared.install.due.Due.TheVariants.{Start}
+use Rattle.dfu_boot.specs.install.Area.{Holds}
+use Rattle.dfu_boot.specs.install.Next.{Does, IsReady}
+use Rattle.dfu_boot.specs.install.Took.{TookDue}
+use Rattle.dfu_boot.specs.install.Operations.{from_of, end_of_operation, LeavesOthers, HasBytes}
 
 -- An operation is asked for, and a medium that works carries it out.
 pub record CarriesOut (image run run' : List ℕ) (sector : ℕ) (last last' : Option ℕ) (due : Due) : Type 0 where

@@ -3,18 +3,18 @@ use Rattle.std.specs.Prelude.{◌≡◌, ℕ, ◌+◌, ◌*◌, ◌≤◌, ◌<�
 use Rattle.dfu_slots.specs.Units.{Grain, gate_room, IsMultiple}
 use Rattle.dfu_slots.specs.Medium.{MediumState, IsWritable}
 use Rattle.dfu_slots.specs.Image.{gate_of, HasImage, active_at}
-use Rattle.dfu_trial.specs.Marks.{mark_size, mark_at, is_marked, is_set, starts}
-use Rattle.dfu_trial.specs.Trial.{IsOnTrial, HasTrial}
-use Rattle.dfu_trial.specs.declared.tries.TriesFault.{TriesFault}
-use Rattle.dfu_trial.specs.declared.tries.TriesFault.TheVariants.{NoSectors, TooFew, TooMany}
-use Rattle.dfu_trial.specs.declared.operation.Operation.{Operation}
-use Rattle.dfu_trial.specs.declared.operation.Operation.TheVariants.{Mark, Close}
-use Rattle.dfu_trial.specs.declared.standing.Settled.{Settled}
-use Rattle.dfu_trial.specs.declared.standing.Standing.{Standing}
-use Rattle.dfu_trial.specs.declared.standing.Standing.TheVariants as standing
-use Rattle.dfu_trial.specs.declared.starting.Starting.{Starting}
-use Rattle.dfu_trial.specs.declared.confirming.Confirmation.{Confirmation}
-use Rattle.dfu_trial.specs.declared.confirming.Confirmation.TheVariants as confirm
+use Rattle.dfu_boot.specs.trial.Marks.{mark_size, mark_at, is_marked, is_set, starts}
+use Rattle.dfu_boot.specs.trial.Trial.{IsOnTrial, HasTrial}
+use Rattle.dfu_boot.specs.declared.trial.tries.TriesFault.{TriesFault}
+use Rattle.dfu_boot.specs.declared.trial.tries.TriesFault.TheVariants.{NoSectors, TooFew, TooMany}
+use Rattle.dfu_boot.specs.declared.trial.operation.Operation.{Operation}
+use Rattle.dfu_boot.specs.declared.trial.operation.Operation.TheVariants.{Mark, Close}
+use Rattle.dfu_boot.specs.declared.trial.standing.Settled.{Settled}
+use Rattle.dfu_boot.specs.declared.trial.standing.Standing.{Standing}
+use Rattle.dfu_boot.specs.declared.trial.standing.Standing.TheVariants as standing
+use Rattle.dfu_boot.specs.declared.trial.starting.Starting.{Starting}
+use Rattle.dfu_boot.specs.declared.trial.confirming.Confirmation.{Confirmation}
+use Rattle.dfu_boot.specs.declared.trial.confirming.Confirmation.TheVariants as confirm
 
 -- This is the first thing that is wrong with so many tries.
 abbrev pub IsTriesFault : TriesFault → Grain → ℕ → Type 0

@@ -1,15 +1,15 @@
 -- What becomes of the images of a medium when an operation is carried out, whatever becomes of the operation.
 use Rattle.std.specs.Prelude.{◌≡◌, ◌⊎◌, ℕ, ◌+◌, ◌≤◌, ◌<◌, true, false, List, slice_range, Option, Some, None}
 use Rattle.dfu_slots.specs.Medium.{MediumState, KeepsOutside}
-use Rattle.dfu_trial.specs.Marks.{is_marked}
-use Rattle.dfu_trial.specs.Trial.{image_at}
-use Rattle.dfu_trial.specs.Calls.{IsSettled, IsStanding, upload_of, upload_slot}
-use Rattle.dfu_trial.specs.declared.operation.Operation.{Operation}
-use Rattle.dfu_trial.specs.declared.operation.Operation.TheVariants.{Mark, Close}
-use Rattle.dfu_trial.specs.declared.standing.Trial.{Trial}
-use Rattle.dfu_trial.specs.declared.standing.Standing.{Standing}
-use Rattle.dfu_trial.specs.declared.standing.Standing.TheVariants as standing
-use Rattle.dfu_trial.specs.declared.standing.Standing.TheVariants.{OnTrial}
+use Rattle.dfu_boot.specs.trial.Marks.{is_marked}
+use Rattle.dfu_boot.specs.trial.Trial.{image_at}
+use Rattle.dfu_boot.specs.trial.Calls.{IsSettled, IsStanding, upload_of, upload_slot}
+use Rattle.dfu_boot.specs.declared.trial.operation.Operation.{Operation}
+use Rattle.dfu_boot.specs.declared.trial.operation.Operation.TheVariants.{Mark, Close}
+use Rattle.dfu_boot.specs.declared.trial.standing.Trial.{Trial}
+use Rattle.dfu_boot.specs.declared.trial.standing.Standing.{Standing}
+use Rattle.dfu_boot.specs.declared.trial.standing.Standing.TheVariants as standing
+use Rattle.dfu_boot.specs.declared.trial.standing.Standing.TheVariants.{OnTrial}
 
 -- An operation was carried out, and worked, failed, lied or was cut: its range has any bytes, and elsewhere there are the old ones.
 abbrev pub Carried : MediumState → Operation → MediumState → Type 0

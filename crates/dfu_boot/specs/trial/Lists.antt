@@ -3,17 +3,17 @@ use Rattle.std.specs.Prelude.{◌≡◌, ◌⊎◌, ℕ, ◌+◌, ◌≤◌, ◌
 use Rattle.dfu_slots.specs.Medium.{MediumState, KeepsOutside}
 use Rattle.dfu_slots.specs.Layout.{slot_size, ArePlaces}
 use Rattle.dfu_slots.specs.Image.{slot_of, IsNewest}
-use Rattle.dfu_trial.specs.Marks.{is_set}
-use Rattle.dfu_trial.specs.Trial.{IsFilled, image_at}
-use Rattle.dfu_trial.specs.Calls.{IsSettled, IsStanding, trial_start, runs_in, confirm_of, end_of_trial, upload_of}
-use Rattle.dfu_trial.specs.Laws.{Carried, CarriedIf, RunsNext}
-use Rattle.dfu_trial.specs.declared.standing.Trial.{Trial}
-use Rattle.dfu_trial.specs.declared.standing.Settled.{Settled}
-use Rattle.dfu_trial.specs.declared.standing.Standing.{Standing}
-use Rattle.dfu_trial.specs.declared.standing.Standing.TheVariants.{OnTrial}
-use Rattle.dfu_trial.specs.declared.starting.Starting.{Starting}
-use Rattle.dfu_trial.specs.declared.confirming.Confirmation.{Confirmation}
-use Rattle.dfu_trial.specs.declared.confirming.Confirmation.TheVariants as confirm
+use Rattle.dfu_boot.specs.trial.Marks.{is_set}
+use Rattle.dfu_boot.specs.trial.Trial.{IsFilled, image_at}
+use Rattle.dfu_boot.specs.trial.Calls.{IsSettled, IsStanding, trial_start, runs_in, confirm_of, end_of_trial, upload_of}
+use Rattle.dfu_boot.specs.trial.Laws.{Carried, CarriedIf, RunsNext}
+use Rattle.dfu_boot.specs.declared.trial.standing.Trial.{Trial}
+use Rattle.dfu_boot.specs.declared.trial.standing.Settled.{Settled}
+use Rattle.dfu_boot.specs.declared.trial.standing.Standing.{Standing}
+use Rattle.dfu_boot.specs.declared.trial.standing.Standing.TheVariants.{OnTrial}
+use Rattle.dfu_boot.specs.declared.trial.starting.Starting.{Starting}
+use Rattle.dfu_boot.specs.declared.trial.confirming.Confirmation.{Confirmation}
+use Rattle.dfu_boot.specs.declared.trial.confirming.Confirmation.TheVariants as confirm
 
 -- One thing that may come. Whatever becomes of its operation, the medium is the one after it.
 pub data TrialEvent : Type 0 where

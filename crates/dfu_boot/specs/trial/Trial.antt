@@ -4,7 +4,7 @@ use Rattle.dfu_slots.specs.Medium.{MediumState, written}
 use Rattle.dfu_slots.specs.Medium.Fuse.{Unknown}
 use Rattle.dfu_slots.specs.Layout.{Slot, ArePlaces, HasHeader, header_length}
 use Rattle.dfu_slots.specs.Image.{slot_of, IsSized, Counts, IsNewest}
-use Rattle.dfu_trial.specs.Marks.{is_set}
+use Rattle.dfu_boot.specs.trial.Marks.{is_set}
 
 -- A slot has an image: it counts, and its header is well formed.
 pub record IsFilled (s : Slot) : Type 0 where

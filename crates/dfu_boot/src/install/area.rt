@@ -1,6 +1,6 @@
 //! The sizes of a run area, and its blank parts.
 ghost use Rattle.std.specs.Prelude.{◌≡◌, ◌≤◌, length, IsTrue, ◌↔◌};
-ghost use Rattle.dfu_install.specs.Area.{IsRunArea, AreBlank};
+ghost use Rattle.dfu_boot.specs.install.Area.{IsRunArea, AreBlank};
 
 /// How many bytes are programmed at a time.
 pub(crate) const PIECE: u32 = 256;

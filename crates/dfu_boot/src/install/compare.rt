@@ -1,7 +1,7 @@
 //! Where a run area differs from an image.
 ghost use Rattle.std.specs.Prelude.{◌≡◌, ◌≤◌, ◌<◌, ◌^◌, ◌+◌, length, min, IfSome, IfNone, IsTrue};
-ghost use Rattle.dfu_install.specs.Area.{AreSame, FirstDiffers};
-ghost use Rattle.dfu_install.specs.Next.{IsNext};
+ghost use Rattle.dfu_boot.specs.install.Area.{AreSame, FirstDiffers};
+ghost use Rattle.dfu_boot.specs.install.Next.{IsNext};
 
 // Whether the four bytes from there on are the same.
 fn are_four_same(image: &[u8], run: &[u8], at: u32) -> bool

@@ -1,11 +1,11 @@
 //! What is due next.
 ghost use Rattle.std.specs.Prelude.{◌≡◌, ◌+◌, ◌-◌, ◌%◌, ◌<◌, ◌≤◌, ◌^◌, length, min, IsTrue, ◌↔◌};
-ghost use Rattle.dfu_install.specs.Area.{IsRunArea, start_of};
-ghost use Rattle.dfu_install.specs.Next.{Does, IsNext, IsReady, MayProgram, look_from};
+ghost use Rattle.dfu_boot.specs.install.Area.{IsRunArea, start_of};
+ghost use Rattle.dfu_boot.specs.install.Next.{Does, IsNext, IsReady, MayProgram, look_from};
 
-use crate::area::{PIECE, are_blank, is_run_area};
-use crate::compare::next_difference;
-use crate::due::{Due, Refusal};
+use crate::install::area::{PIECE, are_blank, is_run_area};
+use crate::install::compare::next_difference;
+use crate::install::due::{Due, Refusal};
 
 // Where to look first.
 fn look_from(image: &[u8], last: Option<u32>) -> u32

@@ -1,7 +1,7 @@
 //! Laws of a run area. Each is the contract of a function with an empty body, which is proved and not to be called.
-ghost use Rattle.dfu_install.specs.Allowed.{DoesOnlyAllowed};
-ghost use Rattle.dfu_install.specs.Courses.{StartsOnlyWhole, LeavesWhatIsBeside, ProgramsOnlyFresh};
-ghost use Rattle.dfu_install.specs.Working.{FewOperations, HeldIsStarted};
+ghost use Rattle.dfu_boot.specs.install.Allowed.{DoesOnlyAllowed};
+ghost use Rattle.dfu_boot.specs.install.Courses.{StartsOnlyWhole, LeavesWhatIsBeside, ProgramsOnlyFresh};
+ghost use Rattle.dfu_boot.specs.install.Working.{FewOperations, HeldIsStarted};
 
 /// Whatever is there, each operation lies in the run area and has something to mend: an erase is of a whole sector that differs, a
 /// program of a piece that differs and is blank, in the sector of the last operation.

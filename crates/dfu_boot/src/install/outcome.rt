@@ -1,10 +1,10 @@
 //! How an operation went.
 ghost use Rattle.std.specs.Prelude.{◌<◌, ◌^◌, ◌↔◌, length, IsTrue};
-ghost use Rattle.dfu_install.specs.Took.{TookDue, IsErasedSector, IsProgrammed};
+ghost use Rattle.dfu_boot.specs.install.Took.{TookDue, IsErasedSector, IsProgrammed};
 
-use crate::area::{PIECE, are_blank, is_run_area};
-use crate::compare::first_difference;
-use crate::due::Due;
+use crate::install::area::{PIECE, are_blank, is_run_area};
+use crate::install::compare::first_difference;
+use crate::install::due::Due;
 
 // Whether all of the sector that begins there reads FFh.
 fn is_erased(run: &[u8], sector: u32, at: u32) -> bool

@@ -1,6 +1,6 @@
 //! The bytes that are programmed.
 ghost use Rattle.std.specs.Prelude.{◌≡◌, ◌+◌, ◌-◌, ◌≤◌, ◌++◌, replicate, length, slice_range, min};
-ghost use Rattle.dfu_install.specs.Area.{program_piece};
+ghost use Rattle.dfu_boot.specs.install.Area.{program_piece};
 
 // Makes `out` these bytes, and FFh after them.
 fn fill_up(bytes: &[u8], out: &mut [u8; 256])

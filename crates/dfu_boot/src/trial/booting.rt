@@ -2,10 +2,10 @@
 ghost use Rattle.std.specs.Prelude.{◌≡◌, OnOk, OnErr, IfOk, IfErr};
 ghost use Rattle.dfu_slots.specs.Image.{HasImage};
 ghost use Rattle.dfu_slots.specs.Changes.{IsOpenFault};
-ghost use Rattle.dfu_trial.specs.Marks.{AreTries};
-ghost use Rattle.dfu_trial.specs.Laws.{HasBooted};
+ghost use Rattle.dfu_boot.specs.trial.Marks.{AreTries};
+ghost use Rattle.dfu_boot.specs.trial.Laws.{HasBooted};
 
-use crate::look;
+use crate::trial::look;
 use dfu_slots::{Medium, OpenFault};
 
 /// Looks what starts, carries out what is asked before, and returns where the slot begins that runs. Whatever became of the operation, some

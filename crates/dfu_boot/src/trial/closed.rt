@@ -1,6 +1,6 @@
 //! A medium as it reads once one of its gates is closed.
 ghost use Rattle.std.specs.Prelude.{◌≡◌, ◌<◌, length};
-ghost use Rattle.dfu_trial.specs.Trial.{closed};
+ghost use Rattle.dfu_boot.specs.trial.Trial.{closed};
 
 use dfu_slots::{Failed, Medium, Unit};
 

@@ -1,11 +1,11 @@
 //! How a running image is confirmed.
 ghost use Rattle.std.specs.Prelude.{◌≡◌, ◌+◌, ◌≤◌, length};
-ghost use Rattle.dfu_trial.specs.Marks.{AreTries, mark_at};
-ghost use Rattle.dfu_trial.specs.Calls.{IsStanding, IsTakenBy, sets, confirm_of};
-ghost use Rattle.dfu_trial.specs.declared.confirming.Confirmation.TheVariants.{By};
+ghost use Rattle.dfu_boot.specs.trial.Marks.{AreTries, mark_at};
+ghost use Rattle.dfu_boot.specs.trial.Calls.{IsStanding, IsTakenBy, sets, confirm_of};
+ghost use Rattle.dfu_boot.specs.declared.trial.confirming.Confirmation.TheVariants.{By};
 
-use crate::marks::{mark_at, mark_size};
-use crate::{Operation, Standing};
+use crate::trial::marks::{mark_at, mark_size};
+use crate::trial::{Operation, Standing};
 use dfu_slots::{Medium, data_at};
 
 /// How a running image is confirmed.

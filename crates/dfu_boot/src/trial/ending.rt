@@ -1,9 +1,9 @@
 //! How a trial ends.
 ghost use Rattle.std.specs.Prelude.{◌≡◌, IfSome};
-ghost use Rattle.dfu_trial.specs.Marks.{AreTries};
-ghost use Rattle.dfu_trial.specs.Calls.{IsStanding, MediumTakes, end_of_trial, upload_of};
+ghost use Rattle.dfu_boot.specs.trial.Marks.{AreTries};
+ghost use Rattle.dfu_boot.specs.trial.Calls.{IsStanding, MediumTakes, end_of_trial, upload_of};
 
-use crate::{Operation, Standing};
+use crate::trial::{Operation, Standing};
 use dfu_slots::Medium;
 
 impl Standing {

@@ -2,16 +2,16 @@
 ghost use Rattle.std.specs.Prelude.{◌≡◌, ◌⊎◌, ℕ, true, List};
 ghost use Rattle.dfu_slots.specs.Medium.{MediumState};
 ghost use Rattle.dfu_slots.specs.Image.{HasImage};
-ghost use Rattle.dfu_trial.specs.Marks.{AreTries};
-ghost use Rattle.dfu_trial.specs.Calls.{IsStanding, sets, trial_start, runs_in, upload_of};
-ghost use Rattle.dfu_trial.specs.Laws.{Carried, CarriedIf, GoesOn, IsConfirmed, IsBack, Starts, Uploads, RunsNext, RunsOrIsNext};
-ghost use Rattle.dfu_trial.specs.Trial.{image_at};
-ghost use Rattle.dfu_trial.specs.Lists.{TrialStep, CameAll, Trust, Alone, AreTrusted, AllTrusted};
-ghost use Rattle.dfu_trial.specs.declared.standing.Settled.{Settled};
-ghost use Rattle.dfu_trial.specs.declared.standing.Trial.{Trial};
-ghost use Rattle.dfu_trial.specs.declared.standing.Standing.{Standing};
-ghost use Rattle.dfu_trial.specs.declared.standing.Standing.TheVariants.{OnTrial, Settled as AreSettled};
-ghost use Rattle.dfu_trial.specs.declared.operation.Operation.TheVariants.{Close};
+ghost use Rattle.dfu_boot.specs.trial.Marks.{AreTries};
+ghost use Rattle.dfu_boot.specs.trial.Calls.{IsStanding, sets, trial_start, runs_in, upload_of};
+ghost use Rattle.dfu_boot.specs.trial.Laws.{Carried, CarriedIf, GoesOn, IsConfirmed, IsBack, Starts, Uploads, RunsNext, RunsOrIsNext};
+ghost use Rattle.dfu_boot.specs.trial.Trial.{image_at};
+ghost use Rattle.dfu_boot.specs.trial.Lists.{TrialStep, CameAll, Trust, Alone, AreTrusted, AllTrusted};
+ghost use Rattle.dfu_boot.specs.declared.trial.standing.Settled.{Settled};
+ghost use Rattle.dfu_boot.specs.declared.trial.standing.Trial.{Trial};
+ghost use Rattle.dfu_boot.specs.declared.trial.standing.Standing.{Standing};
+ghost use Rattle.dfu_boot.specs.declared.trial.standing.Standing.TheVariants.{OnTrial, Settled as AreSettled};
+ghost use Rattle.dfu_boot.specs.declared.trial.operation.Operation.TheVariants.{Close};
 
 /// A start, whatever becomes of what it asks for: if nothing is on trial the active image runs. On trial, with a start left, the image on
 /// trial runs and at least one more start is recorded, or the confirmed image runs and the trial is as it was. Without one the confirmed

@@ -2,13 +2,13 @@
 ghost use Rattle.std.specs.Prelude.{◌≡◌, OnOk, IfOk, IfErr, IsTrue, ◌↔◌};
 ghost use Rattle.dfu_slots.specs.Image.{gate_of, slot_of, HasImage, active_at, spare_at};
 ghost use Rattle.dfu_slots.specs.Changes.{IsOpenFault};
-ghost use Rattle.dfu_trial.specs.Marks.{AreTries};
-ghost use Rattle.dfu_trial.specs.Trial.{IsFilled};
-ghost use Rattle.dfu_trial.specs.Calls.{IsStanding};
+ghost use Rattle.dfu_boot.specs.trial.Marks.{AreTries};
+ghost use Rattle.dfu_boot.specs.trial.Trial.{IsFilled};
+ghost use Rattle.dfu_boot.specs.trial.Calls.{IsStanding};
 
-use crate::closed::Closed;
-use crate::marks::{is_set, starts};
-use crate::{Settled, Standing, Trial};
+use crate::trial::closed::Closed;
+use crate::trial::marks::{is_set, starts};
+use crate::trial::{Settled, Standing, Trial};
 use dfu_slots::laws::active_image_is_one;
 use dfu_slots::{Medium, OpenFault, Places, check};
 

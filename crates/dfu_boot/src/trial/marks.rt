@@ -3,7 +3,7 @@ ghost use Rattle.std.specs.Prelude.{◌≡◌, ◌+◌, ◌*◌, ◌≤◌, ◌<
 ghost use Rattle.std.specs.List.{list_all};
 ghost use Rattle.dfu_slots.specs.Layout.{slot_size};
 ghost use Rattle.dfu_slots.specs.Image.{IsSized};
-ghost use Rattle.dfu_trial.specs.Marks.{mark_size, mark_at, is_erased, is_marked, is_set, starts, AreTries};
+ghost use Rattle.dfu_boot.specs.trial.Marks.{mark_size, mark_at, is_erased, is_marked, is_set, starts, AreTries};
 
 use dfu_slots::{Medium, gate_of};
 

@@ -1,6 +1,6 @@
 //! What the calls ask of their caller.
-ghost use Rattle.dfu_trial.specs.Calls.{MediumTakes, MarkIsWithin};
-ghost use Rattle.dfu_trial.specs.Laws.{Carried};
+ghost use Rattle.dfu_boot.specs.trial.Calls.{MediumTakes, MarkIsWithin};
+ghost use Rattle.dfu_boot.specs.trial.Laws.{Carried};
 
 use dfu_slots::{Failed, Medium};
 

@@ -1,10 +1,10 @@
 //! What starts.
 ghost use Rattle.std.specs.Prelude.{◌≡◌, IfSome};
-ghost use Rattle.dfu_trial.specs.Marks.{AreTries};
-ghost use Rattle.dfu_trial.specs.Calls.{IsStanding, MediumTakes, MarkIsWithin, trial_start, runs_in};
+ghost use Rattle.dfu_boot.specs.trial.Marks.{AreTries};
+ghost use Rattle.dfu_boot.specs.trial.Calls.{IsStanding, MediumTakes, MarkIsWithin, trial_start, runs_in};
 
-use crate::marks::{is_marked, mark_at, mark_size};
-use crate::{Operation, Standing};
+use crate::trial::marks::{is_marked, mark_at, mark_size};
+use crate::trial::{Operation, Standing};
 use dfu_slots::Medium;
 
 /// What starts, and what the caller carries out before.

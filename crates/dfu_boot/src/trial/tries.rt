@@ -1,9 +1,9 @@
 //! How many tries a medium has marks for.
 ghost use Rattle.std.specs.Prelude.{◌≡◌, ◌≤◌, OnOk, IfErr};
-ghost use Rattle.dfu_trial.specs.Marks.{AreTries};
-ghost use Rattle.dfu_trial.specs.Calls.{IsTriesFault};
+ghost use Rattle.dfu_boot.specs.trial.Marks.{AreTries};
+ghost use Rattle.dfu_boot.specs.trial.Calls.{IsTriesFault};
 
-use crate::marks::mark_size;
+use crate::trial::marks::mark_size;
 use dfu_slots::Medium;
 use thiserror::Error;
 

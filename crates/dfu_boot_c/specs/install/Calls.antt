@@ -1,9 +1,9 @@
 -- What the numbers of a program in C mean.
 use Rattle.std.specs.Prelude.{ℕ, ℤ, negsuc, ◌==◌, if◌then◌else◌, Option, Some, None}
-use Rattle.dfu_install.specs.declared.due.Due.{Due}
-use Rattle.dfu_install.specs.declared.due.Due.TheVariants.{Erase, Program, Start}
-use Rattle.dfu_install.specs.declared.due.Refusal.{Refusal}
-use Rattle.dfu_install.specs.declared.due.Refusal.TheVariants.{WrongSize, NoImage, TooLarge}
+use Rattle.dfu_boot.specs.declared.install.due.Due.{Due}
+use Rattle.dfu_boot.specs.declared.install.due.Due.TheVariants.{Erase, Program, Start}
+use Rattle.dfu_boot.specs.declared.install.due.Refusal.{Refusal}
+use Rattle.dfu_boot.specs.declared.install.due.Refusal.TheVariants.{WrongSize, NoImage, TooLarge}
 
 -- The place that a number means: DFU_NOWHERE for none.
 abbrev pub last_of : ℕ → Option ℕ

@@ -1,11 +1,11 @@
 -- How a program in C gets what is due.
 use Rattle.std.specs.Prelude.{◌≡◌, ℕ, ℤ, pos, List}
-use Rattle.dfu_install.specs.declared.due.Due.{Due}
-use Rattle.dfu_install.specs.declared.due.Due.TheVariants.{Refuse, Erase, Program, Start}
-use Rattle.dfu_install.specs.Area.{program_piece}
+use Rattle.dfu_boot.specs.declared.install.due.Due.{Due}
+use Rattle.dfu_boot.specs.declared.install.due.Due.TheVariants.{Refuse, Erase, Program, Start}
+use Rattle.dfu_boot.specs.install.Area.{program_piece}
 use Rattle.dfu_c.specs.declared.records.DfuAsk.{DfuAsk}
 use Rattle.dfu_c.specs.Numbers.{ASKS}
-use Rattle.dfu_install_c.specs.Calls.{install_refusal_number}
+use Rattle.dfu_boot_c.specs.install.Calls.{install_refusal_number}
 
 -- An operation gives DFU_ASKS, and is written into what is asked for. The start gives 0, a refusal its number, and nothing changes.
 abbrev pub TellsDue : List ℕ → ℕ → Due → ℤ → DfuAsk → DfuAsk → Type 0

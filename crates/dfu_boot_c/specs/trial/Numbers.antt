@@ -1,8 +1,8 @@
 -- The numbers that a program in C gets of a trial.
 use Rattle.std.specs.Prelude.{ℤ, negsuc}
-use Rattle.dfu_trial.specs.declared.tries.TriesFault.TheVariants.{NoSectors, TooFew, TooMany}
-use Rattle.dfu_trial_c.specs.declared.flash.Refusal.{Refusal}
-use Rattle.dfu_trial_c.specs.declared.flash.Refusal.TheVariants.{NoConfig, Tries, NoMedium}
+use Rattle.dfu_boot.specs.declared.trial.tries.TriesFault.TheVariants.{NoSectors, TooFew, TooMany}
+use Rattle.dfu_boot_c.specs.declared.trial.flash.Refusal.{Refusal}
+use Rattle.dfu_boot_c.specs.declared.trial.flash.Refusal.TheVariants.{NoConfig, Tries, NoMedium}
 
 -- DFU_ELSEWHERE.
 abbrev pub ELSEWHERE : ℤ

@@ -3,18 +3,18 @@ use Rattle.std.specs.Prelude.{◌≡◌, ℕ, ℤ, pos, ◌-◌, ◌+◌, ◌==�
 use Rattle.dfu_slots.specs.Medium.{MediumState}
 use Rattle.dfu_slots.specs.Layout.{header_length}
 use Rattle.dfu_slots.specs.Image.{slot_of}
-use Rattle.dfu_trial.specs.Marks.{is_marked}
-use Rattle.dfu_trial.specs.Calls.{image_place}
-use Rattle.dfu_trial.specs.declared.operation.Operation.{Operation}
-use Rattle.dfu_trial.specs.declared.operation.Operation.TheVariants.{Mark, Close}
-use Rattle.dfu_trial.specs.declared.standing.Standing.{Standing}
-use Rattle.dfu_trial.specs.declared.standing.Standing.TheVariants.{Settled, OnTrial}
-use Rattle.dfu_trial.specs.declared.starting.Starting.{Starting}
+use Rattle.dfu_boot.specs.trial.Marks.{is_marked}
+use Rattle.dfu_boot.specs.trial.Calls.{image_place}
+use Rattle.dfu_boot.specs.declared.trial.operation.Operation.{Operation}
+use Rattle.dfu_boot.specs.declared.trial.operation.Operation.TheVariants.{Mark, Close}
+use Rattle.dfu_boot.specs.declared.trial.standing.Standing.{Standing}
+use Rattle.dfu_boot.specs.declared.trial.standing.Standing.TheVariants.{Settled, OnTrial}
+use Rattle.dfu_boot.specs.declared.trial.starting.Starting.{Starting}
 use Rattle.dfu_c.specs.declared.records.DfuAsk.{DfuAsk}
 use Rattle.dfu_c.specs.declared.records.DfuPlace.{DfuPlace}
 use Rattle.dfu_c.specs.Numbers.{ASKS}
-use Rattle.dfu_trial_c.specs.declared.told.DfuStanding.{DfuStanding}
-use Rattle.dfu_trial_c.specs.declared.told.DfuStarting.{DfuStarting}
+use Rattle.dfu_boot_c.specs.declared.trial.told.DfuStanding.{DfuStanding}
+use Rattle.dfu_boot_c.specs.declared.trial.told.DfuStarting.{DfuStarting}
 
 -- Where the image begins in the slot that begins there, and its length by its header.
 abbrev pub image_in : MediumState → ℕ → DfuPlace

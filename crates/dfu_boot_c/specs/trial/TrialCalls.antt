@@ -1,17 +1,17 @@
 -- What comes of the calls of a program in C for a trial.
 use Rattle.std.specs.Prelude.{◌≡◌, ℕ, ℤ, pos, List, Some}
-use Rattle.dfu_trial.specs.Calls.{trial_start, confirm_of, end_of_trial, upload_of}
-use Rattle.dfu_trial.specs.declared.standing.Standing.{Standing}
-use Rattle.dfu_trial.specs.declared.confirming.Confirmation.{Confirmation}
-use Rattle.dfu_trial.specs.declared.confirming.Confirmation.TheVariants as confirm
+use Rattle.dfu_boot.specs.trial.Calls.{trial_start, confirm_of, end_of_trial, upload_of}
+use Rattle.dfu_boot.specs.declared.trial.standing.Standing.{Standing}
+use Rattle.dfu_boot.specs.declared.trial.confirming.Confirmation.{Confirmation}
+use Rattle.dfu_boot.specs.declared.trial.confirming.Confirmation.TheVariants as confirm
 use Rattle.dfu_c.specs.declared.records.DfuAsk.{DfuAsk}
-use Rattle.dfu_trial_c.specs.declared.flash.Refusal.{Refusal}
-use Rattle.dfu_trial_c.specs.declared.flash.DfuTries.{DfuTries}
-use Rattle.dfu_trial_c.specs.declared.told.DfuStanding.{DfuStanding}
-use Rattle.dfu_trial_c.specs.declared.told.DfuStarting.{DfuStarting}
-use Rattle.dfu_trial_c.specs.Tries.{tries_grain, flash_state, HasStanding, IsTrialRefused}
-use Rattle.dfu_trial_c.specs.Told.{standing_told, starting_told, IsTrialAsked}
-use Rattle.dfu_trial_c.specs.Numbers.{ELSEWHERE, trial_number}
+use Rattle.dfu_boot_c.specs.declared.trial.flash.Refusal.{Refusal}
+use Rattle.dfu_boot_c.specs.declared.trial.flash.DfuTries.{DfuTries}
+use Rattle.dfu_boot_c.specs.declared.trial.told.DfuStanding.{DfuStanding}
+use Rattle.dfu_boot_c.specs.declared.trial.told.DfuStarting.{DfuStarting}
+use Rattle.dfu_boot_c.specs.trial.Tries.{tries_grain, flash_state, HasStanding, IsTrialRefused}
+use Rattle.dfu_boot_c.specs.trial.Told.{standing_told, starting_told, IsTrialAsked}
+use Rattle.dfu_boot_c.specs.trial.Numbers.{ELSEWHERE, trial_number}
 
 -- A call with this number was refused by this.
 abbrev pub RefusesTrial : DfuTries → List ℕ → ℤ → Type 0

@@ -6,12 +6,12 @@ use Rattle.dfu_slots.specs.Units.{unit_size, Grain}
 use Rattle.dfu_slots.specs.Medium.{MediumState}
 use Rattle.dfu_slots.specs.Image.{HasImage}
 use Rattle.dfu_asks.specs.Mapped.{mapped}
-use Rattle.dfu_trial.specs.Marks.{AreTries}
-use Rattle.dfu_trial.specs.Calls.{IsTriesFault, IsStanding}
-use Rattle.dfu_trial.specs.declared.standing.Standing.{Standing}
-use Rattle.dfu_trial_c.specs.declared.flash.DfuTries.{DfuTries}
-use Rattle.dfu_trial_c.specs.declared.flash.Refusal.{Refusal}
-use Rattle.dfu_trial_c.specs.declared.flash.Refusal.TheVariants.{NoConfig, Tries, NoMedium}
+use Rattle.dfu_boot.specs.trial.Marks.{AreTries}
+use Rattle.dfu_boot.specs.trial.Calls.{IsTriesFault, IsStanding}
+use Rattle.dfu_boot.specs.declared.trial.standing.Standing.{Standing}
+use Rattle.dfu_boot_c.specs.declared.trial.flash.DfuTries.{DfuTries}
+use Rattle.dfu_boot_c.specs.declared.trial.flash.Refusal.{Refusal}
+use Rattle.dfu_boot_c.specs.declared.trial.flash.Refusal.TheVariants.{NoConfig, Tries, NoMedium}
 
 -- The largest unit of at most so many bytes; for 0 the byte.
 unfoldable pub unit_sized : ℕ → WriteUnit

@@ -1,6 +1,6 @@
 //! What a program in C keeps of a run area.
 ghost use Rattle.std.specs.Prelude.{◌≡◌};
-ghost use Rattle.dfu_install_c.specs.Calls.{last_of, number_of_place};
+ghost use Rattle.dfu_boot_c.specs.install.Calls.{last_of, number_of_place};
 
 /// What is kept of a run area between two calls: `struct dfu_run_area`.
 #[repr(C)]

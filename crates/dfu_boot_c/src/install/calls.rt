@@ -1,15 +1,15 @@
 //! The calls for a run area, as a program in C makes them: `include/dfu_install_core.h` says each for a reader of C.
 ghost use Rattle.std.specs.Prelude.{◌≡◌, not, ◌==◌, pos};
-ghost use Rattle.dfu_install.specs.Next.{Does};
-ghost use Rattle.dfu_install.specs.Took.{TookDue};
-ghost use Rattle.dfu_install.specs.declared.due.Due.{Due};
-ghost use Rattle.dfu_install_c.specs.Calls.{last_of, due_of_kind};
-ghost use Rattle.dfu_install_c.specs.Tells.{TellsDue};
+ghost use Rattle.dfu_boot.specs.install.Next.{Does};
+ghost use Rattle.dfu_boot.specs.install.Took.{TookDue};
+ghost use Rattle.dfu_boot.specs.declared.install.due.Due.{Due};
+ghost use Rattle.dfu_boot_c.specs.install.Calls.{last_of, due_of_kind};
+ghost use Rattle.dfu_boot_c.specs.install.Tells.{TellsDue};
 
-use crate::area::{DfuRunArea, last_of, number_of};
-use crate::numbers::{due_of, number_of as refusal_number};
+use crate::install::area::{DfuRunArea, last_of, number_of};
+use crate::install::numbers::{due_of, number_of as refusal_number};
+use dfu_boot::install::{Due, next, piece, took};
 use dfu_c::{ASKS, DfuAsk, ERASE, PROGRAM};
-use dfu_install::{Due, next, piece, took};
 
 // Tells what is due.
 fn tell(due: Due, image: &[u8], sector: u32, ask: &mut DfuAsk) -> i32

@@ -1,9 +1,9 @@
 //! The numbers of a program in C: the operation that they describe, and those that it gets.
 ghost use Rattle.std.specs.Prelude.{◌≡◌};
-ghost use Rattle.dfu_install_c.specs.Calls.{due_of_kind, install_refusal_number};
+ghost use Rattle.dfu_boot_c.specs.install.Calls.{due_of_kind, install_refusal_number};
 
+use dfu_boot::install::{Due, Refusal};
 use dfu_c::{DfuAsk, ERASE, PROGRAM};
-use dfu_install::{Due, Refusal};
 
 /// The operation that a program was asked for; for another kind none, which the start has too.
 pub(crate) fn due_of(ask: &DfuAsk) -> Due

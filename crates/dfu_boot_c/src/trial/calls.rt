@@ -1,14 +1,14 @@
 //! The calls for a trial, as a program in C makes them: `include/dfu_trial_core.h` says each for a reader of C.
 ghost use Rattle.std.specs.Prelude.{◌≡◌, ◌⊎◌, pos};
 ghost use Rattle.std.specs.List.{list_all};
-ghost use Rattle.dfu_trial.specs.Marks.{is_erased};
-ghost use Rattle.dfu_trial_c.specs.Told.{is_there, run_told};
-ghost use Rattle.dfu_trial_c.specs.TrialCalls.{RefusesTrial, ToldStanding, ToldStart, ToldConfirm, ToldEnd, ToldUpload};
+ghost use Rattle.dfu_boot.specs.trial.Marks.{is_erased};
+ghost use Rattle.dfu_boot_c.specs.trial.Told.{is_there, run_told};
+ghost use Rattle.dfu_boot_c.specs.trial.TrialCalls.{RefusesTrial, ToldStanding, ToldStart, ToldConfirm, ToldEnd, ToldUpload};
 
-use crate::flash::{DfuTries, looked};
-use crate::told::{DfuStanding, DfuStarting, standing_told, starting_told, tell};
+use crate::trial::flash::{DfuTries, looked};
+use crate::trial::told::{DfuStanding, DfuStarting, standing_told, starting_told, tell};
+use dfu_boot::trial::Confirmation;
 use dfu_c::{DfuAsk, DfuPlace, PROGRAM};
-use dfu_trial::Confirmation;
 
 /// DFU_ELSEWHERE.
 const ELSEWHERE: i32 = -19;

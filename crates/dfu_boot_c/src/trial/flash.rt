@@ -1,14 +1,14 @@
 //! A flash is looked at, with the unit, the sector and the number of tries that a program in C hands in; or that is refused.
 ghost use Rattle.std.specs.Prelude.{◌≡◌, ◌≤◌, ◌^◌, ℕ, List, IfSome, IfNone, IfOk, IfErr, length};
 ghost use Rattle.dfu_asks.specs.Mapped.{grain_of as mapped_grain, mapped};
-ghost use Rattle.dfu_trial.specs.Marks.{AreTries};
-ghost use Rattle.dfu_trial_c.specs.Numbers.{trial_number};
-ghost use Rattle.dfu_trial_c.specs.Tries.{unit_sized, tries_grain, flash_state, IsTriesPart, HasStanding, IsTrialRefused};
+ghost use Rattle.dfu_boot.specs.trial.Marks.{AreTries};
+ghost use Rattle.dfu_boot_c.specs.trial.Numbers.{trial_number};
+ghost use Rattle.dfu_boot_c.specs.trial.Tries.{unit_sized, tries_grain, flash_state, IsTriesPart, HasStanding, IsTrialRefused};
 
 use dfu_asks::Mapped;
+use dfu_boot::trial::{Standing, TriesFault, check_tries, look};
 use dfu_slots::Unit;
 use dfu_slots::laws::active_image_is_one;
-use dfu_trial::{Standing, TriesFault, check_tries, look};
 
 /// How the flash is written, and how many tries a new image has: `struct dfu_tries`.
 #[repr(C)]
@@ -26,7 +26,7 @@ pub struct DfuTries {
 /// The largest unit of at most so many bytes; for 0 the byte. (Comparisons for order: of powers of two by equality LLVM makes a count of
 /// zero bits.)
 #[inline(never)]
-#[tactic(auto, unfolding(crate::specs::Tries::unit_sized))]
+#[tactic(auto, unfolding(crate::specs::trial::Tries::unit_sized))]
 pub(crate) fn unit_sized(size: u32) -> Unit
     ensures { result ≡ unit_sized size }
 {

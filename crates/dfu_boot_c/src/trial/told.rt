@@ -2,13 +2,13 @@
 ghost use Rattle.std.specs.Prelude.{◌≡◌, ◌+◌, ◌≤◌, length};
 ghost use Rattle.dfu_slots.specs.Layout.{slot_size};
 ghost use Rattle.dfu_slots.specs.Image.{IsSized};
-ghost use Rattle.dfu_trial.specs.Marks.{AreTries};
-ghost use Rattle.dfu_trial.specs.Calls.{IsStanding};
-ghost use Rattle.dfu_trial_c.specs.Told.{image_in, standing_told, starting_told, IsTrialAsked};
+ghost use Rattle.dfu_boot.specs.trial.Marks.{AreTries};
+ghost use Rattle.dfu_boot.specs.trial.Calls.{IsStanding};
+ghost use Rattle.dfu_boot_c.specs.trial.Told.{image_in, standing_told, starting_told, IsTrialAsked};
 
+use dfu_boot::trial::{Operation, Standing, Starting};
 use dfu_c::{ASKS, DfuAsk, DfuPlace, ERASE, PROGRAM};
 use dfu_slots::{Medium, data_at, header_of, length_in};
-use dfu_trial::{Operation, Standing, Starting};
 
 /// The standing of the images of a flash: `struct dfu_standing`.
 #[repr(C)]

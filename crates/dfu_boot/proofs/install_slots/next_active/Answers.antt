@@ -1,9 +1,9 @@
 use Rattle.std.proofs.Common.{◌≡◌, ℕ, List, ◌+◌, slice_range, sym, ◌∙◌, ap, subst}
-use Rattle.dfu_install.specs.Area.{Holds}
-use Rattle.dfu_install.specs.Next.{Does}
-use Rattle.dfu_install.specs.declared.due.Due.{Due}
-use Rattle.dfu_install.specs.declared.due.Due.TheVariants.{Start}
-use Rattle.dfu_install_slots.proofs.active.next_active.Goals as goal
+use Rattle.dfu_boot.specs.install.Area.{Holds}
+use Rattle.dfu_boot.specs.install.Next.{Does}
+use Rattle.dfu_boot.specs.declared.install.due.Due.{Due}
+use Rattle.dfu_boot.specs.declared.install.due.Due.TheVariants.{Start}
+use Rattle.dfu_boot.proofs.install_slots.next_active.Goals as goal
 
 pub returns-clause-started : goal.returns-clause-started
 returns-clause-started g c = λ image active is.

@@ -1,6 +1,6 @@
 use Rattle.std.proofs.Common.{◌-◌}
-use Rattle.dfu_install.proofs.Looking.{IsBlankTo}
-use Rattle.dfu_install.proofs.area.are_blank.Given as goal
+use Rattle.dfu_boot.proofs.Looking.{IsBlankTo}
+use Rattle.dfu_boot.proofs.install.area.are_blank.Given as goal
 
 abbrev pub invariant-loop-at : goal.invariant-loop-at
 invariant-loop-at l = IsBlankTo l.run l.from l.at

@@ -1,6 +1,6 @@
 use Rattle.std.proofs.Common.{◌-◌}
-use Rattle.dfu_install.proofs.Looking.{IsSameTo}
-use Rattle.dfu_install.proofs.compare.first_difference.Given as goal
+use Rattle.dfu_boot.proofs.Looking.{IsSameTo}
+use Rattle.dfu_boot.proofs.install.compare.first_difference.Given as goal
 
 abbrev pub invariant-loop-at : goal.invariant-loop-at
 invariant-loop-at l = IsSameTo l.image l.run l.from l.at

@@ -1,7 +1,7 @@
 use Rattle.std.proofs.Common.{length, arith}
-use Rattle.dfu_install.proofs.Starts.{whole_in, start_fits}
-use Rattle.dfu_install.proofs.Nexts.{next_is_inside}
-use Rattle.dfu_install.proofs.deciding.mend.Goals as goal
+use Rattle.dfu_boot.proofs.WholeStarts.{whole_in, start_fits}
+use Rattle.dfu_boot.proofs.Nexts.{next_is_inside}
+use Rattle.dfu_boot.proofs.install.deciding.mend.Goals as goal
 
 pub may_program-requires-clause-inside : goal.may_program-requires-clause-inside
 may_program-requires-clause-inside c =

@@ -1,5 +1,5 @@
-use Rattle.dfu_install.proofs.Few.{few_operations}
-use Rattle.dfu_install.proofs.laws.few_operations.Goals as goal
+use Rattle.dfu_boot.proofs.Few.{few_operations}
+use Rattle.dfu_boot.proofs.install.laws.few_operations.Goals as goal
 
 pub returns : goal.returns
 returns c = few_operations

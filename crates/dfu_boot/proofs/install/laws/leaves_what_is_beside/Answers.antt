@@ -1,5 +1,5 @@
-use Rattle.dfu_install.proofs.Beside.{leaves_what_is_beside}
-use Rattle.dfu_install.proofs.laws.leaves_what_is_beside.Goals as goal
+use Rattle.dfu_boot.proofs.Beside.{leaves_what_is_beside}
+use Rattle.dfu_boot.proofs.install.laws.leaves_what_is_beside.Goals as goal
 
 pub returns : goal.returns
 returns c = leaves_what_is_beside

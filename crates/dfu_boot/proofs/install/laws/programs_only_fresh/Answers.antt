@@ -1,5 +1,5 @@
-use Rattle.dfu_install.proofs.Fresh.{programs_only_fresh}
-use Rattle.dfu_install.proofs.laws.programs_only_fresh.Goals as goal
+use Rattle.dfu_boot.proofs.Fresh.{programs_only_fresh}
+use Rattle.dfu_boot.proofs.install.laws.programs_only_fresh.Goals as goal
 
 pub returns : goal.returns
 returns c = programs_only_fresh

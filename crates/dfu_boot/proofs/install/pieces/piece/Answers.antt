@@ -1,5 +1,5 @@
-use Rattle.dfu_install.proofs.Filling.{piece_made}
-use Rattle.dfu_install.proofs.pieces.piece.Goals as goal
+use Rattle.dfu_boot.proofs.Filling.{piece_made}
+use Rattle.dfu_boot.proofs.install.pieces.piece.Goals as goal
 
 pub returns : goal.returns
 returns c =

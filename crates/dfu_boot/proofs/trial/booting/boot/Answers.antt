@@ -1,10 +1,10 @@
 use Rattle.std.proofs.Common.{ℕ, Option, sym, subst, IfSome}
-use Rattle.dfu_trial.specs.Calls.{MediumTakes, MarkIsWithin, runs_in}
-use Rattle.dfu_trial.specs.Laws.{CarriedIf, Starts}
-use Rattle.dfu_trial.specs.declared.operation.Operation.{Operation}
-use Rattle.dfu_trial.specs.declared.starting.Starting.{Starting}
-use Rattle.dfu_trial.proofs.Starts.{starts_so, starts_has, within_kept}
-use Rattle.dfu_trial.proofs.booting.boot.Goals as goal
+use Rattle.dfu_boot.specs.trial.Calls.{MediumTakes, MarkIsWithin, runs_in}
+use Rattle.dfu_boot.specs.trial.Laws.{CarriedIf, Starts}
+use Rattle.dfu_boot.specs.declared.trial.operation.Operation.{Operation}
+use Rattle.dfu_boot.specs.declared.trial.starting.Starting.{Starting}
+use Rattle.dfu_boot.proofs.Starts.{starts_so, starts_has, within_kept}
+use Rattle.dfu_boot.proofs.trial.booting.boot.Goals as goal
 
 pub carry_out-requires-clause-taken : goal.carry_out-requires-clause-taken
 carry_out-requires-clause-taken g c =

@@ -1,5 +1,5 @@
-use Rattle.dfu_trial.proofs.Starts.{starts_so, starts_has}
-use Rattle.dfu_trial.proofs.laws.a_start_runs_one_of_two.Goals as goal
+use Rattle.dfu_boot.proofs.Starts.{starts_so, starts_has}
+use Rattle.dfu_boot.proofs.trial.laws.a_start_runs_one_of_two.Goals as goal
 
 pub returns-clause-starts : goal.returns-clause-starts
 returns-clause-starts c m now tries s are stands carried = starts_so m now tries are s stands carried

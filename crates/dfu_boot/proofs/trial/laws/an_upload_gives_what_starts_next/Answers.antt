@@ -1,5 +1,5 @@
-use Rattle.dfu_trial.proofs.Uploading.{uploads_so, next_starts}
-use Rattle.dfu_trial.proofs.laws.an_upload_gives_what_starts_next.Goals as goal
+use Rattle.dfu_boot.proofs.Uploading.{uploads_so, next_starts}
+use Rattle.dfu_boot.proofs.trial.laws.an_upload_gives_what_starts_next.Goals as goal
 
 pub returns-clause-upload : goal.returns-clause-upload
 returns-clause-upload c m now tries s are stands carried = uploads_so m now tries are s stands carried

@@ -1,5 +1,5 @@
-use Rattle.dfu_trial.proofs.Lists.{trusted_first, all_trusted, trusted_has}
-use Rattle.dfu_trial.proofs.laws.what_was_confirmed_runs_or_the_newest_on_trial.Goals as goal
+use Rattle.dfu_boot.proofs.Lists.{trusted_first, all_trusted, trusted_has}
+use Rattle.dfu_boot.proofs.trial.laws.what_was_confirmed_runs_or_the_newest_on_trial.Goals as goal
 
 pub returns-clause-first : goal.returns-clause-first
 returns-clause-first c m tries s stands confirmed = trusted_first m tries s stands confirmed

@@ -1,8 +1,8 @@
 use Rattle.std.proofs.Common.{refl, sym}
 use Rattle.std.proofs.lemmas.Bool.{true≢false}
-use Rattle.dfu_trial.specs.Trial.{closed}
-use Rattle.dfu_trial.proofs.Closing.{closed_filled, filled_closed}
-use Rattle.dfu_trial.proofs.looking.comes_back.Goals as goal
+use Rattle.dfu_boot.specs.trial.Trial.{closed}
+use Rattle.dfu_boot.proofs.Closing.{closed_filled, filled_closed}
+use Rattle.dfu_boot.proofs.trial.looking.comes_back.Goals as goal
 
 pub returns-in-Ok : goal.returns-in-Ok
 returns-in-Ok g c = (

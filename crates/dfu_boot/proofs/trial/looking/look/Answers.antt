@@ -1,9 +1,9 @@
 use Rattle.std.proofs.Common.{inl, inr, arith, sym, ◌∙◌}
 use Rattle.std.proofs.lemmas.Bool.{true≢false}
-use Rattle.dfu_trial.proofs.Places.{mark_in, slot_in, turned}
-use Rattle.dfu_trial.proofs.Closing.{found, found_newest, found_filled, no_trial}
-use Rattle.dfu_trial.proofs.looking.look.Goals.{else-not-is_confirmed-via-then-not-is_confirmed+then-is_set+else-comes_back, else-not-is_confirmed-via-then-not-is_confirmed+else-is_set, else-not-is_confirmed-via-else-not-is_confirmed}
-use Rattle.dfu_trial.proofs.looking.look.Goals as goal
+use Rattle.dfu_boot.proofs.Places.{mark_in, slot_in, turned}
+use Rattle.dfu_boot.proofs.Closing.{found, found_newest, found_filled, no_trial}
+use Rattle.dfu_boot.proofs.trial.looking.look.Goals.{else-not-is_confirmed-via-then-not-is_confirmed+then-is_set+else-comes_back, else-not-is_confirmed-via-then-not-is_confirmed+else-is_set, else-not-is_confirmed-via-else-not-is_confirmed}
+use Rattle.dfu_boot.proofs.trial.looking.look.Goals as goal
 
 pub is_set-is_confirmed-requires : goal.is_set-is_confirmed-requires
 is_set-is_confirmed-requires g c =

@@ -1,8 +1,8 @@
 use Rattle.std.proofs.Common.{◌≡◌, not, ◌+◌, ℕ, List, length, slice_range, ◌∙◌, ap, arith, replicate, take}
 use Rattle.std.specs.List.{list_all}
 use Rattle.std.proofs.lemmas.List.{length-take-le}
-use Rattle.dfu_trial.specs.Marks.{is_erased}
-use Rattle.dfu_trial.proofs.marks.is_marked.Goals as goal
+use Rattle.dfu_boot.specs.trial.Marks.{is_erased}
+use Rattle.dfu_boot.proofs.trial.marks.is_marked.Goals as goal
 
 pub returns : goal.returns
 returns g c =

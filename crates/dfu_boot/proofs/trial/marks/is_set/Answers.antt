@@ -1,6 +1,6 @@
 use Rattle.std.proofs.Common.{◌+◌, ℕ, List, slice_range, ◌∙◌}
-use Rattle.dfu_trial.specs.Marks.{is_marked, is_set}
-use Rattle.dfu_trial.proofs.marks.is_set.Goals as goal
+use Rattle.dfu_boot.specs.trial.Marks.{is_marked, is_set}
+use Rattle.dfu_boot.proofs.trial.marks.is_set.Goals as goal
 
 pub returns : goal.returns
 unfolding is_set

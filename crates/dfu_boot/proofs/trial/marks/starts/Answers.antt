@@ -1,6 +1,6 @@
 use Rattle.std.proofs.Common.{◌+◌, arith, sym, ◌∙◌}
-use Rattle.dfu_trial.proofs.Places.{mark_in, set_more, set_no_more}
-use Rattle.dfu_trial.proofs.marks.starts.Goals as goal
+use Rattle.dfu_boot.proofs.Places.{mark_in, set_more, set_no_more}
+use Rattle.dfu_boot.proofs.trial.marks.starts.Goals as goal
 
 pub is_set-requires : goal.is_set-requires
 is_set-requires g c = mark_in (g.M.Medium.state c.args.medium.now) c.args.tries c.args.at (c.loop-done.done + 1) c.requires.sized

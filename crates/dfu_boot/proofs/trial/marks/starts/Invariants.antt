@@ -1,6 +1,6 @@
 use Rattle.std.proofs.Common.{◌-◌, ◌≡◌, ◌+◌, ◌≤◌}
-use Rattle.dfu_trial.specs.Marks.{set_from, starts}
-use Rattle.dfu_trial.proofs.marks.starts.Given as goal
+use Rattle.dfu_boot.specs.trial.Marks.{set_from, starts}
+use Rattle.dfu_boot.proofs.trial.marks.starts.Given as goal
 
 abbrev pub invariant-loop-done : goal.invariant-loop-done
 invariant-loop-done g l =

@@ -1,12 +1,12 @@
 use Rattle.std.proofs.Common.{sym, subst}
 use Rattle.dfu_slots.specs.Medium.{MediumState}
 use Rattle.dfu_asks.specs.Mapped.{grain_of as mapped_grain, mapped}
-use Rattle.dfu_trial.specs.Marks.{AreTries}
-use Rattle.dfu_trial.specs.Calls.{IsStanding}
-use Rattle.dfu_trial.specs.declared.starting.Starting.{Starting}
-use Rattle.dfu_trial_c.proofs.Within.{AreWithin, starts_within}
-use Rattle.dfu_trial_c.proofs.calls.dfu_core_trial_start.Goals.{After-start-starts}
-use Rattle.dfu_trial_c.proofs.calls.dfu_core_trial_start.Goals as goal
+use Rattle.dfu_boot.specs.trial.Marks.{AreTries}
+use Rattle.dfu_boot.specs.trial.Calls.{IsStanding}
+use Rattle.dfu_boot.specs.declared.trial.starting.Starting.{Starting}
+use Rattle.dfu_boot_c.proofs.Within.{AreWithin, starts_within}
+use Rattle.dfu_boot_c.proofs.trial.calls.dfu_core_trial_start.Goals.{After-start-starts}
+use Rattle.dfu_boot_c.proofs.trial.calls.dfu_core_trial_start.Goals as goal
 
 -- The slots of what starts end within the flash.
 within : (c : After-start-starts) → let medium = c.in-Ok.looked.medium in

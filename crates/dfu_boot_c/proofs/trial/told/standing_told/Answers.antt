@@ -1,8 +1,8 @@
 use Rattle.std.proofs.Common.{subst, arith}
-use Rattle.dfu_trial.specs.Calls.{IsStanding}
-use Rattle.dfu_trial.specs.declared.standing.Standing.{Standing}
-use Rattle.dfu_trial.proofs.Counting.{at_most}
-use Rattle.dfu_trial_c.proofs.told.standing_told.Goals as goal
+use Rattle.dfu_boot.specs.trial.Calls.{IsStanding}
+use Rattle.dfu_boot.specs.declared.trial.standing.Standing.{Standing}
+use Rattle.dfu_boot.proofs.Counting.{at_most}
+use Rattle.dfu_boot_c.proofs.trial.told.standing_told.Goals as goal
 
 pub overflow_sub-result : goal.overflow_sub-result
 overflow_sub-result g c =

@@ -1,8 +1,8 @@
 use Rattle.std.proofs.Common.{inl, inr, length, ◌+◌, [], ◌∷◌, sym, ◌∙◌, arith}
 use Rattle.dfu_slots.specs.Medium.{written}
 use Rattle.dfu_slots.proofs.Torn.{range_outside, written_torn}
-use Rattle.dfu_trial.proofs.closed.ClosedMedium.read.Goals.{else-self-at-via-then-self-at+else-self-at-2, else-self-at-via-else-self-at}
-use Rattle.dfu_trial.proofs.closed.ClosedMedium.read.Goals as goal
+use Rattle.dfu_boot.proofs.trial.closed.ClosedMedium.read.Goals.{else-self-at-via-then-self-at+else-self-at-2, else-self-at-via-else-self-at}
+use Rattle.dfu_boot.proofs.trial.closed.ClosedMedium.read.Goals as goal
 
 pub returns-else-self-at : goal.returns-else-self-at
 returns-else-self-at g c =

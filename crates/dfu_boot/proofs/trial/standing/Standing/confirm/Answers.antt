@@ -1,9 +1,9 @@
 use Rattle.std.proofs.Common.{subst, sym, ◌∙◌}
-use Rattle.dfu_trial.specs.Calls.{IsStanding, IsTakenBy}
-use Rattle.dfu_trial.specs.declared.standing.Standing.{Standing}
-use Rattle.dfu_trial.specs.declared.confirming.Confirmation.{Confirmation}
-use Rattle.dfu_trial.proofs.Asked.{confirm_taken, active_taken}
-use Rattle.dfu_trial.proofs.standing.Standing.confirm.Goals as goal
+use Rattle.dfu_boot.specs.trial.Calls.{IsStanding, IsTakenBy}
+use Rattle.dfu_boot.specs.declared.trial.standing.Standing.{Standing}
+use Rattle.dfu_boot.specs.declared.trial.confirming.Confirmation.{Confirmation}
+use Rattle.dfu_boot.proofs.Asked.{confirm_taken, active_taken}
+use Rattle.dfu_boot.proofs.trial.standing.Standing.confirm.Goals as goal
 
 pub returns-then-at-data_at-2-clause-taken : goal.returns-then-at-data_at-2-clause-taken
 returns-then-at-data_at-2-clause-taken g c =

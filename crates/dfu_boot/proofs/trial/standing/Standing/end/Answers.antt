@@ -1,8 +1,8 @@
 use Rattle.std.proofs.Common.{subst}
-use Rattle.dfu_trial.specs.Calls.{IsStanding}
-use Rattle.dfu_trial.specs.declared.standing.Standing.{Standing}
-use Rattle.dfu_trial.proofs.Asked.{end_taken}
-use Rattle.dfu_trial.proofs.standing.Standing.end.Goals as goal
+use Rattle.dfu_boot.specs.trial.Calls.{IsStanding}
+use Rattle.dfu_boot.specs.declared.trial.standing.Standing.{Standing}
+use Rattle.dfu_boot.proofs.Asked.{end_taken}
+use Rattle.dfu_boot.proofs.trial.standing.Standing.end.Goals as goal
 
 pub returns-in-OnTrial-clause-taken : goal.returns-in-OnTrial-clause-taken
 returns-in-OnTrial-clause-taken g c =

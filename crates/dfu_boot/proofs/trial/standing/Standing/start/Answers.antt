@@ -1,11 +1,11 @@
 use Rattle.std.proofs.Common.{subst, arith}
-use Rattle.dfu_trial.specs.Calls.{IsStanding, MediumTakes, MarkIsWithin}
-use Rattle.dfu_trial.specs.declared.standing.Standing.{Standing}
-use Rattle.dfu_trial.specs.declared.operation.Operation.TheVariants.{Mark}
-use Rattle.dfu_trial.proofs.Asked.{start_in, start_taken, end_taken}
-use Rattle.dfu_trial.proofs.standing.Standing.start.Given as given
-use Rattle.dfu_trial.proofs.standing.Standing.start.Goals.{After-mark_size}
-use Rattle.dfu_trial.proofs.standing.Standing.start.Goals as goal
+use Rattle.dfu_boot.specs.trial.Calls.{IsStanding, MediumTakes, MarkIsWithin}
+use Rattle.dfu_boot.specs.declared.trial.standing.Standing.{Standing}
+use Rattle.dfu_boot.specs.declared.trial.operation.Operation.TheVariants.{Mark}
+use Rattle.dfu_boot.proofs.Asked.{start_in, start_taken, end_taken}
+use Rattle.dfu_boot.proofs.trial.standing.Standing.start.Given as given
+use Rattle.dfu_boot.proofs.trial.standing.Standing.start.Goals.{After-mark_size}
+use Rattle.dfu_boot.proofs.trial.standing.Standing.start.Goals as goal
 
 pub mark_at-mark-requires : goal.mark_at-mark-requires
 mark_at-mark-requires g c =
