@@ -1,15 +1,14 @@
 # shellcheck shell=sh disable=SC2034,SC2154
 # What dist/ is made of, and what crates.txt says of it. A script that reads this file has set `top`, the folder of the repository.
 
-# The program; each library with the name of its header, its C being NAME.c of a crate NAME_c; the libraries that the page takes, as
-# modules of WebAssembly; and what only the plain Rust has, whose crates eraser/package.py names.
+# The program; each library with the names of its headers, its C being NAME.c of a crate NAME_c; and the libraries that the page takes, as
+# modules of WebAssembly. (eraser/package.py names the crates of the plain Rust.)
 program=dfu_cmd
-libraries='dfu_device_c:dfu_core dfu_host_c:dfuse_watch dfu_install_c:dfu_install_core dfu_trial_c:dfu_trial_core'
+libraries='dfu_device_c:dfu_core dfu_host_c:dfuse_watch dfu_boot_c:dfu_install_core:dfu_trial_core'
 of_page='dfu_device_c dfu_host_c'
-of_rust=dfu_install_slots
-wanted="$program $of_rust"
+wanted=$program
 for it in $libraries; do
-    wanted="$wanted ${it%:*}"
+    wanted="$wanted ${it%%:*}"
 done
 
 # needs NAME: the libraries that a crate names; those without a folder in crates/ are of the kit.

@@ -1,4 +1,4 @@
-"""Laws: the file laws.rt of a crate has functions that do nothing, and whose contracts are proved. The file goes, and so do the calls."""
+"""Laws: a file laws.rt has functions that do nothing, and whose contracts are proved. The file goes, and so do the calls."""
 from refusal import Refusal
 from tokens import code_before, end_of_group, next_code
 

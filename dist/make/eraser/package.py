@@ -17,7 +17,7 @@ from words import Words
 
 MODULES = {
     "dfu_wire": "wire", "dfu_suffix": "suffix", "dfu_slots": "slots", "dfu_device": "device", "dfu_host": "host", "dfu_asks": "asks",
-    "dfu_trial": "boot::trial", "dfu_install": "boot::install", "dfu_install_slots": "boot::install_slots",
+    "dfu_boot": "boot",
     "dfu_formats::memory": "dfuse::memory", "dfuse_host": "dfuse::session", "dfu_formats::dfuse": "dfuse::file",
     "dfu_formats::images": "formats", "dfu_conformance": "conformance", "dfu_conformance::dfuse": "dfuse_conformance",
 }
@@ -103,7 +103,7 @@ def sources_of(top, crate):
                 continue
             with open(path, encoding="utf-8") as file:
                 source = Source(crate, name, file.read())
-            if source.name == FILE:
+            if os.path.basename(source.name) == FILE:
                 laws_in(source.path, source.tokens)
             else:
                 found.append(source)

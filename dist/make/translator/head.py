@@ -3,12 +3,12 @@ import re
 
 WHAT_IT_IS = """/* SPDX-License-Identifier: MIT OR Apache-2.0
  *
- * The body of {name}: {what}
+ * The body of {names}: {what}
  *
  * Made by dist/make/library of the proved crate. Nobody edits it: change the crate, and make it anew by dist/generate. Compile it as C11
  * beside its header. Memory is arrays of bytes here, laid out as on a 64-bit processor with the low byte first: a size is a uint64_t,
  * and a pointer takes 8 bytes. */
-#include "{name}"
+{includes}
 
 #include <stddef.h>
 #include <stdint.h>
@@ -17,8 +17,7 @@ WHAT = {
     "dfu_core.h": "a device of USB DFU 1.1.",
     "dfu_host.h": "the host of USB DFU 1.1.",
     "dfuse_watch.h": "the hosts of USB DFU 1.1 (dfu_host.h) and of DfuSe (dfuse_host.h), DfuSe files (dfuse_file.h),\n * what a file is (dfu_image.h), and when a device is given up (dfu_watch.h and this one).",
-    "dfu_install_core.h": "a run area, to which images are linked.",
-    "dfu_trial_core.h": "images on trial.",
+    "dfu_install_core.h and dfu_trial_core.h": "a run area, to which images are linked, and images\n * on trial.",
 }
 OF_C = """
 #if defined(__BYTE_ORDER__) && __BYTE_ORDER__ != __ORDER_LITTLE_ENDIAN__
@@ -76,10 +75,12 @@ def helper(name):
 
 def head(header, bodies):
     """All that comes before the functions, for what their text uses."""
+    names = " and ".join(header.names)
+    includes = "\n".join(f'#include "{it}"' for it in header.names)
     pairs = sorted(set(re.findall(r"struct ((?:i[0-9]+|ptr)_(?:i[0-9]+|ptr))\b", bodies)))
     used = sorted(set(re.findall(rf"\b((?:{'|'.join(HELPERS)})[0-9]+(?:u|a[0-9]+|))\(", bodies)))
     return "\n".join([
-        WHAT_IT_IS.format(name=header.name, what=WHAT.get(header.name, "")) + OF_C,
+        WHAT_IT_IS.format(names=names, what=WHAT.get(names, ""), includes=includes) + OF_C,
         *(f'_Static_assert({it}, "another layout");' for it in header.layouts), "",
         *(f"struct {it} {{ {' '.join(of_struct(it))} }};" for it in pairs), "",
         *(helper(it) for it in used), ""])

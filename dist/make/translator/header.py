@@ -1,4 +1,4 @@
-"""A library's header: the prototypes of its exports, and what the module takes for granted of its structs' layouts."""
+"""A library's headers: the prototypes of its exports, and what the module takes for granted of its structs' layouts."""
 import os
 import re
 
@@ -28,11 +28,12 @@ def prototypes(text):
 
 
 class Header:
-    def __init__(self, file):
-        self.name = os.path.basename(file)
-        own = self.read(file)
-        included = re.findall(r'^#include "(\w+\.h)"', own, re.M)
-        texts = [self.read(os.path.join(os.path.dirname(file), it)) for it in included] + [own]
+    def __init__(self, *files):
+        self.names = [os.path.basename(it) for it in files]
+        own = {it: self.read(it) for it in files}
+        included = {os.path.join(os.path.dirname(it), name): None for it, text in own.items()
+                    for name in re.findall(r'^#include "(\w+\.h)"', text, re.M)}
+        texts = [self.read(it) for it in included if it not in own] + [*own.values()]
         self.text = "".join(texts)
         self.files = [prototypes(it) for it in texts]
         self.exports = {name: it for file in self.files for name, it in file.items()}
@@ -43,7 +44,8 @@ class Header:
 
     def leave_out(self, names):
         """Leaves out the exports of an included header that is another library's: the module has none of these names there."""
-        kept = [it for it in self.files[:-1] if it.keys() & names] + self.files[-1:]
+        included = len(self.files) - len(self.names)
+        kept = [it for it in self.files[:included] if it.keys() & names] + self.files[included:]
         self.exports = {name: it for file in kept for name, it in file.items()}
 
     def read(self, file):

@@ -1,5 +1,5 @@
 #!/usr/bin/env python3
-"""translate.py WIDE.ll HEADER.h > FILE.c: portable C11 of a module that widen.py made, as it is or as LLVM's optimiser leaves it.
+"""translate.py WIDE.ll HEADER.h.. > FILE.c: portable C11 of a module that widen.py made, as it is or as LLVM's optimiser leaves it.
 
 A line that is not known, or an export that is not the header's, is refused: then nothing is written, and the status is 1."""
 import re
@@ -47,7 +47,7 @@ def of_table(table, name):
 
 
 def main():
-    header = Header(sys.argv[2])
+    header = Header(*sys.argv[2:])
     module = Module(open(sys.argv[1], encoding="latin-1").read(), lines.OPTIMISED)
     program = Program(module, header)
     end_if_any()

@@ -1,4 +1,4 @@
-// Of crates/dfu_install/src/lib.rt, whose contracts are taken away.
+// Of crates/dfu_boot/src/install.rt, whose contracts are taken away.
 
 //! A run area beside a slot store: flash of its own, to which images are linked. It is brought to the image that is to be started by
 //! operations that the caller carries out one by one. Nothing is written here, and nothing allocated.

@@ -1,7 +1,26 @@
-// Of crates/dfu_install_slots/src/lib.rt, whose contracts are taken away.
+// Of crates/dfu_boot/src/install_slots.rt, whose contracts are taken away.
 
-//! A run area beside a slot store is brought to the active image of the store.
+//! A run area beside a slot store is brought to the active image of the store: what is due next.
 
-mod active;
+use crate::boot::install::{Due, next};
+use crate::slots::{Medium, Slots};
 
-pub use active::next_active;
+/// What is due next, so that the run area comes to hold the active image of the store: `install::next`, with that image.
+///
+/// `memory` has the bytes of the store's medium, as it is mapped for reading. The store is not changed.
+///
+/// # What the caller must keep to
+///
+/// - `memory` has the bytes of the store's medium.
+pub fn next_active<M: Medium>(
+    slots: &Slots<M>,
+    memory: &[u8],
+    run: &[u8],
+    sector: u32,
+    last: Option<u32>,
+) -> Due {
+    debug_assert!(memory.len() as u64 == u64::from(slots.medium().len()));
+    let at = slots.image_at() as usize;
+    let end = at + slots.active_len() as usize;
+    next(&memory[at..end], run, sector, last)
+}

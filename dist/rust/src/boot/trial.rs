@@ -1,4 +1,4 @@
-// Of crates/dfu_trial/src/lib.rt, whose contracts are taken away.
+// Of crates/dfu_boot/src/trial.rt, whose contracts are taken away.
 
 //! A new image of a slot store runs on trial until it is confirmed; else the one before it comes back.
 

@@ -1,4 +1,4 @@
-// Of crates/dfu_install/src/area.rt, whose contracts are taken away.
+// Of crates/dfu_boot/src/install/area.rt, whose contracts are taken away.
 
 //! The sizes of a run area, and its blank parts.
 

@@ -1,4 +1,4 @@
-// Of crates/dfu_install/src/compare.rt, whose contracts are taken away.
+// Of crates/dfu_boot/src/install/compare.rt, whose contracts are taken away.
 
 //! Where a run area differs from an image.
 

@@ -1,4 +1,4 @@
-// Of crates/dfu_install/src/deciding.rt, whose contracts are taken away.
+// Of crates/dfu_boot/src/install/deciding.rt, whose contracts are taken away.
 
 //! What is due next.
 

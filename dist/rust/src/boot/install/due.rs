@@ -1,4 +1,4 @@
-// Of crates/dfu_install/src/due.rt, whose contracts are taken away.
+// Of crates/dfu_boot/src/install/due.rt, whose contracts are taken away.
 
 //! What is due next of a run area.
 

@@ -1,4 +1,4 @@
-// Of crates/dfu_install/src/outcome.rt, whose contracts are taken away.
+// Of crates/dfu_boot/src/install/outcome.rt, whose contracts are taken away.
 
 //! How an operation went.
 

@@ -1,4 +1,4 @@
-// Of crates/dfu_install/src/pieces.rt, whose contracts are taken away.
+// Of crates/dfu_boot/src/install/pieces.rt, whose contracts are taken away.
 
 //! The bytes that are programmed.
 

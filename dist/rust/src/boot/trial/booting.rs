@@ -1,4 +1,4 @@
-// Of crates/dfu_trial/src/booting.rt, whose contracts are taken away.
+// Of crates/dfu_boot/src/trial/booting.rt, whose contracts are taken away.
 
 //! A start that is carried out.
 

@@ -1,4 +1,4 @@
-// Of crates/dfu_trial/src/closed.rt, whose contracts are taken away.
+// Of crates/dfu_boot/src/trial/closed.rt, whose contracts are taken away.
 
 //! A medium as it reads once one of its gates is closed.
 

@@ -1,4 +1,4 @@
-// Of crates/dfu_trial/src/confirming.rt, whose contracts are taken away.
+// Of crates/dfu_boot/src/trial/confirming.rt, whose contracts are taken away.
 
 //! How a running image is confirmed.
 

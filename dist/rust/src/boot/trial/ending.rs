@@ -1,4 +1,4 @@
-// Of crates/dfu_trial/src/ending.rt, whose contracts are taken away.
+// Of crates/dfu_boot/src/trial/ending.rt, whose contracts are taken away.
 
 //! How a trial ends.
 

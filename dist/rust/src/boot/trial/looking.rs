@@ -1,4 +1,4 @@
-// Of crates/dfu_trial/src/looking.rt, whose contracts are taken away.
+// Of crates/dfu_boot/src/trial/looking.rt, whose contracts are taken away.
 
 //! Whether an image is on trial.
 

@@ -1,4 +1,4 @@
-// Of crates/dfu_trial/src/marks.rt, whose contracts are taken away.
+// Of crates/dfu_boot/src/trial/marks.rt, whose contracts are taken away.
 
 //! What is read of the marks.
 

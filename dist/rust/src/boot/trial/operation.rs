@@ -1,4 +1,4 @@
-// Of crates/dfu_trial/src/operation.rt, whose contracts are taken away.
+// Of crates/dfu_boot/src/trial/operation.rt, whose contracts are taken away.
 
 //! What the calls ask of their caller.
 

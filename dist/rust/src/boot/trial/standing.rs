@@ -1,4 +1,4 @@
-// Of crates/dfu_trial/src/standing.rt, whose contracts are taken away.
+// Of crates/dfu_boot/src/trial/standing.rt, whose contracts are taken away.
 
 //! The standing of the images of a medium.
 

@@ -1,4 +1,4 @@
-// Of crates/dfu_trial/src/starting.rt, whose contracts are taken away.
+// Of crates/dfu_boot/src/trial/starting.rt, whose contracts are taken away.
 
 //! What starts.
 

@@ -1,4 +1,4 @@
-// Of crates/dfu_trial/src/tries.rt, whose contracts are taken away.
+// Of crates/dfu_boot/src/trial/tries.rt, whose contracts are taken away.
 
 //! How many tries a medium has marks for.
 

@@ -1,0 +1,25 @@
+pub mod Allowing
+pub mod Asked
+pub mod Beside
+mod Closing
+pub mod Counting
+mod Downloading
+pub mod Erasing
+pub mod Few
+pub mod Filling
+pub mod Fresh
+pub mod Holding
+mod Keeping
+mod Lists
+pub mod Looking
+pub mod Members
+pub mod Nexts
+mod Outcomes
+pub mod Places
+pub mod Programming
+mod Slots
+mod Starts
+pub mod Tidy
+mod Unique
+mod Uploading
+pub mod WholeStarts

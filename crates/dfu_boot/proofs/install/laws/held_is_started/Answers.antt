@@ -1,0 +1,5 @@
+use Rattle.dfu_boot.proofs.Holding.{held_is_started}
+use Rattle.dfu_boot.proofs.install.laws.held_is_started.Goals as goal
+
+pub returns : goal.returns
+returns c = held_is_started

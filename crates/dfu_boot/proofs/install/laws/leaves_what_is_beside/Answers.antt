@@ -1,0 +1,5 @@
+use Rattle.dfu_boot.proofs.Beside.{leaves_what_is_beside}
+use Rattle.dfu_boot.proofs.install.laws.leaves_what_is_beside.Goals as goal
+
+pub returns : goal.returns
+returns c = leaves_what_is_beside

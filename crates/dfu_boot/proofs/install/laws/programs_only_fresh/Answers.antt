@@ -1,0 +1,5 @@
+use Rattle.dfu_boot.proofs.Fresh.{programs_only_fresh}
+use Rattle.dfu_boot.proofs.install.laws.programs_only_fresh.Goals as goal
+
+pub returns : goal.returns
+returns c = programs_only_fresh

@@ -1,0 +1,47 @@
+use Rattle.std.proofs.Common.{ℕ, Option, sym, subst, IfSome}
+use Rattle.dfu_boot.specs.trial.Calls.{MediumTakes, MarkIsWithin, runs_in}
+use Rattle.dfu_boot.specs.trial.Laws.{CarriedIf, Starts}
+use Rattle.dfu_boot.specs.declared.trial.operation.Operation.{Operation}
+use Rattle.dfu_boot.specs.declared.trial.starting.Starting.{Starting}
+use Rattle.dfu_boot.proofs.Starts.{starts_so, starts_has, within_kept}
+use Rattle.dfu_boot.proofs.trial.booting.boot.Goals as goal
+
+pub carry_out-requires-clause-taken : goal.carry_out-requires-clause-taken
+carry_out-requires-clause-taken g c =
+    let m = g.M.Medium.state c.args.medium.now in
+    subst (λ (o : Option Operation). IfSome o (λ op. MediumTakes m op)) c.in-Some.is c.start-starting.ensures.taken
+
+pub carry_out-requires-clause-within : goal.carry_out-requires-clause-within
+carry_out-requires-clause-within g c =
+    let m = g.M.Medium.state c.args.medium.now in
+    subst (λ (o : Option Operation). IfSome o (λ op. MarkIsWithin m op)) c.in-Some.is c.start-starting.ensures.within
+
+pub runs-requires : goal.runs-requires
+runs-requires g c =
+    let m = g.M.Medium.state c.args.medium.now in
+    let now = g.M.Medium.state c.carry_out.new.medium in
+    subst (λ (o : Option Operation). IfSome o (λ op. MarkIsWithin now op)) (sym c.in-Some.is)
+    (within_kept m now c.in-Some.operation c.carry_out.ensures
+    (subst (λ (o : Option Operation). IfSome o (λ op. MarkIsWithin m op)) c.in-Some.is c.start-starting.ensures.within))
+
+pub returns-in-Some-clause-booted : goal.returns-in-Some-clause-booted
+returns-in-Some-clause-booted g c =
+    let m = g.M.Medium.state c.args.medium.now in
+    let now = g.M.Medium.state c.carry_out.new.medium in
+    let s = c.in_ok-standing.standing in
+    let carried : CarriedIf m c.start-starting.result.operation now =
+    subst (λ (o : Option Operation). CarriedIf m o now) (sym c.in-Some.is) c.carry_out.ensures in
+    record {
+      standing = s;
+      stands = c.in_ok-standing.ensures.standing;
+      starts = subst (λ (ran : ℕ). Starts m c.args.tries s now ran) (sym c.runs.ensures)
+          (subst (λ (x : Starting). CarriedIf m x.operation now → Starts m c.args.tries s now (runs_in now x x.operation))
+          (sym c.start-starting.ensures.value)
+          (starts_so m now c.args.tries c.requires.tries s c.in_ok-standing.ensures.standing) carried);
+    }
+
+pub returns-in-Some-clause-image : goal.returns-in-Some-clause-image
+returns-in-Some-clause-image g c =
+    let booted = returns-in-Some-clause-booted g c in
+    starts_has (g.M.Medium.state c.args.medium.now) (g.M.Medium.state c.carry_out.new.medium) c.args.tries c.requires.tries booted.standing
+    c.runs.result booted.stands booted.starts

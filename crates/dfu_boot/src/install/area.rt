@@ -1,0 +1,36 @@
+//! The sizes of a run area, and its blank parts.
+ghost use Rattle.std.specs.Prelude.{◌≡◌, ◌≤◌, length, IsTrue, ◌↔◌};
+ghost use Rattle.dfu_boot.specs.install.Area.{IsRunArea, AreBlank};
+
+/// How many bytes are programmed at a time.
+pub(crate) const PIECE: u32 = 256;
+
+// The largest sector, bytes.
+const MOST: u32 = 131_072;
+
+/// Whether a run area of so many bytes may have sectors of so many.
+pub(crate) fn is_run_area(len: usize, sector: u32) -> bool
+    ensures { IsTrue result ↔ IsRunArea len sector }
+{
+    sector > 0
+        && sector % 256 == 0
+        && sector <= MOST
+        && len <= 0xffff_ffff
+        && len % sector as usize == 0
+}
+
+/// Whether the bytes from one place to before another are all FFh.
+pub(crate) fn are_blank(run: &[u8], from: u32, to: u32) -> bool
+    requires order { from ≤ to }
+    requires inside { to ≤ length run.now }
+    ensures { IsTrue result ↔ AreBlank run.now from to }
+{
+    let mut at = from;
+    while at < to {
+        if run[at as usize] != 0xff {
+            return false;
+        }
+        at += 1;
+    }
+    true
+}

@@ -1,0 +1,52 @@
+//! Where a run area differs from an image.
+ghost use Rattle.std.specs.Prelude.{◌≡◌, ◌≤◌, ◌<◌, ◌^◌, ◌+◌, length, min, IfSome, IfNone, IsTrue};
+ghost use Rattle.dfu_boot.specs.install.Area.{AreSame, FirstDiffers};
+ghost use Rattle.dfu_boot.specs.install.Next.{IsNext};
+
+// Whether the four bytes from there on are the same.
+fn are_four_same(image: &[u8], run: &[u8], at: u32) -> bool
+    requires image { at + 4 ≤ length image.now }
+    requires run { at + 4 ≤ length run.now }
+    ensures { IsTrue result → AreSame image.now run.now at (at + 4) }
+{
+    let at = at as usize;
+    run[at] == image[at]
+        && run[at + 1] == image[at + 1]
+        && run[at + 2] == image[at + 2]
+        && run[at + 3] == image[at + 3]
+}
+
+/// The first byte that differs, from one place to before another.
+pub(crate) fn first_difference(image: &[u8], run: &[u8], from: u32, to: u32) -> Option<u32>
+    requires image { to ≤ length image.now }
+    requires run { to ≤ length run.now }
+    ensures some { IfSome result (λ at. FirstDiffers image.now run.now from to at) }
+    ensures none { IfNone result (AreSame image.now run.now from to) }
+{
+    let mut at = from;
+    // (four at a time take half as many instructions)
+    while at < to && to - at >= 4 && are_four_same(image, run, at) {
+        at += 4;
+    }
+    while at < to {
+        if run[at as usize] != image[at as usize] {
+            return Some(at);
+        }
+        at += 1;
+    }
+    None
+}
+
+/// The first byte of the image that differs from that place on; if there is none, the first one from the front.
+pub(crate) fn next_difference(image: &[u8], run: &[u8], from: u32) -> Option<u32>
+    requires from { from ≤ length image.now }
+    requires bound { length image.now < 2 ^ 32 }
+    requires fits { length image.now ≤ length run.now }
+    ensures some { IfSome result (λ at. IsNext image.now run.now from at) }
+    ensures none { IfNone result (AreSame image.now run.now 0 (length image.now)) }
+{
+    match first_difference(image, run, from, image.len() as u32) {
+        Some(at) => Some(at),
+        None => first_difference(image, run, 0, from),
+    }
+}

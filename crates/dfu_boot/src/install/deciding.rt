@@ -1,0 +1,76 @@
+//! What is due next.
+ghost use Rattle.std.specs.Prelude.{◌≡◌, ◌+◌, ◌-◌, ◌%◌, ◌<◌, ◌≤◌, ◌^◌, length, min, IsTrue, ◌↔◌};
+ghost use Rattle.dfu_boot.specs.install.Area.{IsRunArea, start_of};
+ghost use Rattle.dfu_boot.specs.install.Next.{Does, IsNext, IsReady, MayProgram, look_from};
+
+use crate::install::area::{PIECE, are_blank, is_run_area};
+use crate::install::compare::next_difference;
+use crate::install::due::{Due, Refusal};
+
+// Where to look first.
+fn look_from(image: &[u8], last: Option<u32>) -> u32
+    requires { length image.now < 2 ^ 32 }
+    ensures value { result ≡ look_from image.now last }
+    ensures most { result ≤ length image.now }
+{
+    match last {
+        Some(at) => at.min(image.len() as u32),
+        None => 0,
+    }
+}
+
+// Whether the piece that begins there may be programmed, in a sector that begins there.
+fn may_program(run: &[u8], sector: u32, last: Option<u32>, piece: u32) -> bool
+    requires some { 0 < sector }
+    requires inside { piece + 256 ≤ length run.now }
+    requires bound { length run.now < 2 ^ 32 }
+    ensures { IsTrue result ↔ MayProgram run.now sector last piece }
+{
+    match last {
+        Some(at) => {
+            at <= piece
+                && at - at % sector == piece - piece % sector
+                && are_blank(run, piece, piece + PIECE)
+        }
+        None => false,
+    }
+}
+
+// What is due of the sector in which that byte differs.
+fn mend(image: &[u8], run: &[u8], sector: u32, last: Option<u32>, at: u32) -> Due
+    requires ready { IsReady image.now run.now sector }
+    requires next { IsNext image.now run.now (look_from image.now last) at }
+    ensures { Does image.now run.now sector last result }
+{
+    let piece = at - at % PIECE;
+    if may_program(run, sector, last, piece) {
+        Due::Program(piece)
+    } else {
+        Due::Erase(at - at % sector)
+    }
+}
+
+/// What is due next, so that the run area comes to hold the image.
+///
+/// `image` has the bytes of the image, `run` those of the run area as they are, in sectors of `sector` bytes. `last` is what `took`
+/// returned for the last operation, and None after each loss of power; whatever it is, Start comes only if the run area holds the whole
+/// image, and no operation lies outside the sectors of the image.
+///
+/// Refused, in this order: `WrongSize`, `NoImage`, `TooLarge`.
+pub fn next(image: &[u8], run: &[u8], sector: u32, last: Option<u32>) -> Due
+    ensures { Does image.now run.now sector last result }
+{
+    if !is_run_area(run.len(), sector) {
+        return Due::Refuse(Refusal::WrongSize);
+    }
+    if image.is_empty() {
+        return Due::Refuse(Refusal::NoImage);
+    }
+    if image.len() > run.len() {
+        return Due::Refuse(Refusal::TooLarge);
+    }
+    match next_difference(image, run, look_from(image, last)) {
+        Some(at) => mend(image, run, sector, last, at),
+        None => Due::Start,
+    }
+}

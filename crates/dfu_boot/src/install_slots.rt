@@ -1,0 +1,31 @@
+//! A run area beside a slot store is brought to the active image of the store: what is due next.
+ghost use Rattle.std.specs.Prelude.{◌≡◌, ℕ, List};
+ghost use Rattle.dfu_slots.specs.Seen.{image_of};
+ghost use Rattle.dfu_slots.specs.Image.{Active};
+ghost use Rattle.dfu_boot.specs.install.Area.{Holds};
+ghost use Rattle.dfu_boot.specs.install.Next.{Does};
+ghost use Rattle.dfu_boot.specs.declared.install.due.Due.TheVariants.{Start};
+
+use crate::install::{Due, next};
+use dfu_slots::laws::active_image_is_one;
+use dfu_slots::{Medium, Slots};
+
+/// What is due next, so that the run area comes to hold the active image of the store: `install::next`, with that image.
+///
+/// `memory` has the bytes of the store's medium, as it is mapped for reading. The store is not changed.
+pub fn next_active<M: Medium>(
+    slots: &Slots<M>,
+    memory: &[u8],
+    run: &[u8],
+    sector: u32,
+    last: Option<u32>,
+) -> Due
+    requires mapped { memory.now ≡ slots.now.medium.bytes }
+    ensures does { Does (image_of slots.now) run.now sector last result }
+    ensures started { (image : List ℕ) → Active slots.now.medium image → result ≡ Start → Holds run.now image }
+{
+    active_image_is_one();
+    let at = slots.image_at() as usize;
+    let end = at + slots.active_len() as usize;
+    next(&memory[at..end], run, sector, last)
+}

@@ -1,0 +1,6 @@
+//! What starts an image of a slot store: a new image on trial, and a run area, to which images are linked.
+#![tactic(auto)]
+
+pub mod install;
+pub mod install_slots;
+pub mod trial;

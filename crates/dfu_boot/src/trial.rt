@@ -1,0 +1,21 @@
+//! A new image of a slot store runs on trial until it is confirmed; else the one before it comes back.
+
+mod booting;
+mod closed;
+mod confirming;
+mod ending;
+pub mod laws;
+mod looking;
+mod marks;
+mod operation;
+mod standing;
+mod starting;
+mod tries;
+
+pub use booting::boot;
+pub use confirming::Confirmation;
+pub use looking::look;
+pub use operation::Operation;
+pub use standing::{Settled, Standing, Trial};
+pub use starting::Starting;
+pub use tries::{TriesFault, check_tries};

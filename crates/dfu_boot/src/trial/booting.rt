@@ -1,0 +1,34 @@
+//! A start that is carried out.
+ghost use Rattle.std.specs.Prelude.{◌≡◌, OnOk, OnErr, IfOk, IfErr};
+ghost use Rattle.dfu_slots.specs.Image.{HasImage};
+ghost use Rattle.dfu_slots.specs.Changes.{IsOpenFault};
+ghost use Rattle.dfu_boot.specs.trial.Marks.{AreTries};
+ghost use Rattle.dfu_boot.specs.trial.Laws.{HasBooted};
+
+use crate::trial::look;
+use dfu_slots::{Medium, OpenFault};
+
+/// Looks what starts, carries out what is asked before, and returns where the slot begins that runs. Whatever became of the operation, some
+/// image is active afterwards, and one of the two runs.
+///
+/// # Errors
+///
+/// Those of `check` of dfu_slots: the medium has no active image. Nothing was done then.
+pub fn boot<M: Medium>(medium: &mut M, tries: u32) -> Result<u32, OpenFault>
+    requires tries { AreTries (M.state medium.old).grain tries }
+    ensures booted { IfOk result (λ slot. HasBooted (M.state medium.old) tries (M.state medium.new) slot) }
+    ensures image { OnOk result (HasImage (M.state medium.new)) }
+    ensures fault { IfErr result (λ fault. IsOpenFault fault (M.state medium.old)) }
+    ensures unchanged { OnErr result (M.state medium.new ≡ M.state medium.old) }
+{
+    let standing = look(medium, tries)?;
+    let starting = standing.start(medium, tries);
+    match starting.operation {
+        None => Ok(starting.slot),
+        Some(operation) => {
+            // Whatever it returns, the mark is read back.
+            let _ = operation.carry_out(medium);
+            Ok(starting.runs(medium))
+        }
+    }
+}

@@ -1,0 +1,60 @@
+//! How a running image is confirmed.
+ghost use Rattle.std.specs.Prelude.{◌≡◌, ◌+◌, ◌≤◌, length};
+ghost use Rattle.dfu_boot.specs.trial.Marks.{AreTries, mark_at};
+ghost use Rattle.dfu_boot.specs.trial.Calls.{IsStanding, IsTakenBy, sets, confirm_of};
+ghost use Rattle.dfu_boot.specs.declared.trial.confirming.Confirmation.TheVariants.{By};
+
+use crate::trial::marks::{mark_at, mark_size};
+use crate::trial::{Operation, Standing};
+use dfu_slots::{Medium, data_at};
+
+/// How a running image is confirmed.
+#[derive(Clone, Copy, Debug, PartialEq, Eq, Drop)]
+pub enum Confirmation {
+    /// By this operation.
+    By(Operation),
+    /// It is confirmed.
+    Confirmed,
+    /// No image that may run begins there.
+    Elsewhere,
+}
+
+// The operation that sets the confirmation of the slot that begins there.
+fn by_mark<M: Medium>(medium: &M, slot: u32) -> Confirmation
+    requires { mark_at (M.state medium.now).grain slot 0 ≤ length (M.state medium.now).bytes }
+    ensures { result ≡ By (sets (M.state medium.now).grain slot 0) }
+{
+    Confirmation::By(Operation::Mark(mark_at(medium, slot, 0), mark_size(medium)))
+}
+
+impl Standing {
+    /// Tells how the image that begins at `at` is confirmed: its caller's own place, as `image_at` of a store gives it. So an old image
+    /// that runs since the mark of a start failed does not confirm the new one.
+    pub fn confirm<M: Medium>(self, medium: &M, tries: u32, at: u32) -> Confirmation
+        requires tries { AreTries (M.state medium.now).grain tries }
+        requires stands { IsStanding (M.state medium.now) tries self }
+        ensures value { result ≡ confirm_of (M.state medium.now).grain self at }
+        ensures taken { IsTakenBy (M.state medium.now) result }
+    {
+        match self {
+            Standing::Settled(settled) => {
+                if at != data_at(medium, settled.slot) {
+                    return Confirmation::Elsewhere;
+                }
+                if settled.is_confirmed {
+                    return Confirmation::Confirmed;
+                }
+                by_mark(medium, settled.slot)
+            }
+            Standing::OnTrial(trial) => {
+                if at == data_at(medium, trial.slot) {
+                    return by_mark(medium, trial.slot);
+                }
+                if at == data_at(medium, trial.base) {
+                    return Confirmation::Confirmed;
+                }
+                Confirmation::Elsewhere
+            }
+        }
+    }
+}

@@ -1,0 +1,59 @@
+//! Laws of a trial. Each is the contract of a function with an empty body, which is proved and not to be called for what it does.
+ghost use Rattle.std.specs.Prelude.{◌≡◌, ◌⊎◌, ℕ, true, List};
+ghost use Rattle.dfu_slots.specs.Medium.{MediumState};
+ghost use Rattle.dfu_slots.specs.Image.{HasImage};
+ghost use Rattle.dfu_boot.specs.trial.Marks.{AreTries};
+ghost use Rattle.dfu_boot.specs.trial.Calls.{IsStanding, sets, trial_start, runs_in, upload_of};
+ghost use Rattle.dfu_boot.specs.trial.Laws.{Carried, CarriedIf, GoesOn, IsConfirmed, IsBack, Starts, Uploads, RunsNext, RunsOrIsNext};
+ghost use Rattle.dfu_boot.specs.trial.Trial.{image_at};
+ghost use Rattle.dfu_boot.specs.trial.Lists.{TrialStep, CameAll, Trust, Alone, AreTrusted, AllTrusted};
+ghost use Rattle.dfu_boot.specs.declared.trial.standing.Settled.{Settled};
+ghost use Rattle.dfu_boot.specs.declared.trial.standing.Trial.{Trial};
+ghost use Rattle.dfu_boot.specs.declared.trial.standing.Standing.{Standing};
+ghost use Rattle.dfu_boot.specs.declared.trial.standing.Standing.TheVariants.{OnTrial, Settled as AreSettled};
+ghost use Rattle.dfu_boot.specs.declared.trial.operation.Operation.TheVariants.{Close};
+
+/// A start, whatever becomes of what it asks for: if nothing is on trial the active image runs. On trial, with a start left, the image on
+/// trial runs and at least one more start is recorded, or the confirmed image runs and the trial is as it was. Without one the confirmed
+/// image runs, and is back, or the trial is as it was. Some image is active afterwards.
+pub fn a_start_runs_one_of_two()
+    ensures starts { (m now : MediumState) (tries : ℕ) (s : Standing) → AreTries m.grain tries → IsStanding m tries s →
+        CarriedIf m (trial_start m.grain tries s).operation now →
+        Starts m tries s now (runs_in now (trial_start m.grain tries s) (trial_start m.grain tries s).operation) }
+    ensures image { (m now : MediumState) (tries : ℕ) (s : Standing) (ran : ℕ) → AreTries m.grain tries → IsStanding m tries s →
+        Starts m tries s now ran → HasImage now }
+{}
+
+/// A confirmation of the image on trial, whatever becomes of the mark: it is the active one and confirmed, or the trial is as it was.
+pub fn a_confirmation_holds_or_the_trial_goes_on()
+    ensures { (m now : MediumState) (tries : ℕ) (t : Trial) → AreTries m.grain tries → IsStanding m tries (OnTrial t) →
+        Carried m (sets m.grain t.slot 0) now → IsConfirmed m t now ⊎ GoesOn m tries t now }
+{}
+
+/// The end of a trial, asked for or since no start was left, whatever becomes of the erase: the confirmed image is back, or the trial is as
+/// it was.
+pub fn a_trial_ends_or_goes_on()
+    ensures { (m now : MediumState) (tries : ℕ) (t : Trial) → AreTries m.grain tries → IsStanding m tries (OnTrial t) →
+        Carried m (Close t.slot) now → GoesOn m tries t now ⊎ IsBack m t now }
+{}
+
+/// An upload, whatever becomes of what it asks for: the next start is to run the image that it gives, or the trial that was to end goes on.
+/// And the start of such an image, whatever becomes of its mark: it runs, or the mark does not read set, and it is still the next one.
+pub fn an_upload_gives_what_starts_next()
+    ensures upload { (m now : MediumState) (tries : ℕ) (s : Standing) → AreTries m.grain tries → IsStanding m tries s →
+        CarriedIf m (upload_of tries s) now → Uploads m tries s now }
+    ensures start { (m now : MediumState) (tries : ℕ) (image : List ℕ) (s : Standing) → AreTries m.grain tries → RunsNext m tries image →
+        IsStanding m tries s → CarriedIf m (trial_start m.grain tries s).operation now →
+        RunsOrIsNext image tries (trial_start m.grain tries s).operation now
+        (runs_in now (trial_start m.grain tries s) (trial_start m.grain tries s).operation) }
+{}
+
+/// Starts, confirmations, ends, uploads and downloads in any order, with whatever becomes of each operation, once an image was confirmed. What runs
+/// is the image that was confirmed last, or that on trial, fewer than `tries` times before; and some image is active after each.
+pub fn what_was_confirmed_runs_or_the_newest_on_trial()
+    ensures first { (m : MediumState) (tries : ℕ) (s : Settled) → IsStanding m tries (AreSettled s) → s.is_confirmed ≡ true →
+        AreTrusted m tries (Alone (image_at m s.slot)) }
+    ensures list { (m : MediumState) (tries : ℕ) (trust : Trust) (steps : List TrialStep) → AreTries m.grain tries →
+        AreTrusted m tries trust → CameAll tries m steps → AllTrusted tries trust m steps }
+    ensures image { (m : MediumState) (tries : ℕ) (trust : Trust) → AreTrusted m tries trust → HasImage m }
+{}

@@ -1,0 +1,32 @@
+//! What the calls ask of their caller.
+ghost use Rattle.dfu_boot.specs.trial.Calls.{MediumTakes, MarkIsWithin};
+ghost use Rattle.dfu_boot.specs.trial.Laws.{Carried};
+
+use dfu_slots::{Failed, Medium};
+
+/// One operation on the medium, which the caller carries out. Whatever becomes of it, only the bytes of its range may change.
+#[derive(Clone, Copy, Debug, PartialEq, Eq, Drop)]
+pub enum Operation {
+    /// So many zeros, at most 256, are programmed from there on: a mark, all of whose bytes are FFh. Place, and length.
+    Mark(u32, u32),
+    /// The sector that begins there is erased: a gate is closed.
+    Close(u32),
+}
+
+impl Operation {
+    /// Carries it out on a medium. Nothing is read back: the next look at the medium shows what became of it.
+    ///
+    /// # Errors
+    ///
+    /// The medium answered that it failed.
+    pub fn carry_out<M: Medium>(self, medium: &mut M) -> Result<(), Failed>
+        requires taken { MediumTakes (M.state medium.old) self }
+        requires within { MarkIsWithin (M.state medium.old) self }
+        ensures { Carried (M.state medium.old) self (M.state medium.new) }
+    {
+        match self {
+            Operation::Mark(at, len) => medium.write(at, &[0; 256][..len as usize]),
+            Operation::Close(at) => medium.erase(at),
+        }
+    }
+}

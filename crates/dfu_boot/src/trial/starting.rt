@@ -1,0 +1,74 @@
+//! What starts.
+ghost use Rattle.std.specs.Prelude.{◌≡◌, IfSome};
+ghost use Rattle.dfu_boot.specs.trial.Marks.{AreTries};
+ghost use Rattle.dfu_boot.specs.trial.Calls.{IsStanding, MediumTakes, MarkIsWithin, trial_start, runs_in};
+
+use crate::trial::marks::{is_marked, mark_at, mark_size};
+use crate::trial::{Operation, Standing};
+use dfu_slots::Medium;
+
+/// What starts, and what the caller carries out before.
+#[derive(Clone, Copy, Debug, PartialEq, Eq, Drop)]
+pub struct Starting {
+    /// The operation that is carried out first, if any.
+    pub operation: Option<Operation>,
+    /// Where the slot begins that runs then; if the operation is a mark, only if that reads set.
+    pub slot: u32,
+    /// Where the slot begins that runs if the mark does not read set; else the same.
+    pub otherwise: u32,
+}
+
+impl Standing {
+    /// What starts, and what is carried out before. On trial that is the mark of the next start; without a start left the gate is closed of
+    /// the slot on trial. After it `Starting::runs` gives what runs.
+    pub fn start<M: Medium>(self, medium: &M, tries: u32) -> Starting
+        requires tries { AreTries (M.state medium.now).grain tries }
+        requires stands { IsStanding (M.state medium.now) tries self }
+        ensures value { result ≡ trial_start (M.state medium.now).grain tries self }
+        ensures taken { IfSome result.operation (λ operation. MediumTakes (M.state medium.now) operation) }
+        ensures within { IfSome result.operation (λ operation. MarkIsWithin (M.state medium.now) operation) }
+    {
+        match self {
+            Standing::Settled(settled) => Starting {
+                operation: None,
+                slot: settled.slot,
+                otherwise: settled.slot,
+            },
+            Standing::OnTrial(trial) => {
+                if trial.starts < tries {
+                    let mark = mark_at(medium, trial.slot, trial.starts + 1);
+                    Starting {
+                        operation: Some(Operation::Mark(mark, mark_size(medium))),
+                        slot: trial.slot,
+                        otherwise: trial.base,
+                    }
+                } else {
+                    Starting {
+                        operation: Some(Operation::Close(trial.slot)),
+                        slot: trial.base,
+                        otherwise: trial.base,
+                    }
+                }
+            }
+        }
+    }
+}
+
+impl Starting {
+    /// Where the slot begins that runs, once the operation was carried out, whatever became of it: a mark is read back.
+    pub fn runs<M: Medium>(self, medium: &M) -> u32
+        requires { IfSome self.operation (λ operation. MarkIsWithin (M.state medium.now) operation) }
+        ensures { result ≡ runs_in (M.state medium.now) self self.operation }
+    {
+        match self.operation {
+            Some(Operation::Mark(at, len)) => {
+                if is_marked(medium, at, len) {
+                    self.slot
+                } else {
+                    self.otherwise
+                }
+            }
+            _ => self.slot,
+        }
+    }
+}

@@ -1,0 +1,2 @@
+pub mod install
+pub mod trial

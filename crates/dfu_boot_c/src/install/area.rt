@@ -1,0 +1,34 @@
+//! What a program in C keeps of a run area.
+ghost use Rattle.std.specs.Prelude.{◌≡◌};
+ghost use Rattle.dfu_boot_c.specs.install.Calls.{last_of, number_of_place};
+
+/// What is kept of a run area between two calls: `struct dfu_run_area`.
+#[repr(C)]
+#[derive(Drop)]
+pub struct DfuRunArea {
+    /// Bytes of a sector.
+    pub sector: u32,
+    /// Where the last operation went, if it worked and the power has not gone since; else FFFFFFFFh.
+    pub last: u32,
+}
+
+/// The place that a number means: FFFFFFFFh for none.
+pub(crate) fn last_of(number: u32) -> Option<u32>
+    ensures { result ≡ last_of number }
+{
+    if number == 0xffff_ffff {
+        None
+    } else {
+        Some(number)
+    }
+}
+
+/// The number of a place.
+pub(crate) fn number_of(last: Option<u32>) -> u32
+    ensures { result ≡ number_of_place last }
+{
+    match last {
+        Some(at) => at,
+        None => 0xffff_ffff,
+    }
+}

@@ -1,0 +1,70 @@
+//! The calls for a run area, as a program in C makes them: `include/dfu_install_core.h` says each for a reader of C.
+ghost use Rattle.std.specs.Prelude.{◌≡◌, not, ◌==◌, pos};
+ghost use Rattle.dfu_boot.specs.install.Next.{Does};
+ghost use Rattle.dfu_boot.specs.install.Took.{TookDue};
+ghost use Rattle.dfu_boot.specs.declared.install.due.Due.{Due};
+ghost use Rattle.dfu_boot_c.specs.install.Calls.{last_of, due_of_kind};
+ghost use Rattle.dfu_boot_c.specs.install.Tells.{TellsDue};
+
+use crate::install::area::{DfuRunArea, last_of, number_of};
+use crate::install::numbers::{due_of, number_of as refusal_number};
+use dfu_boot::install::{Due, next, piece, took};
+use dfu_core::{ASKS, DfuAsk, ERASE, PROGRAM};
+
+// Tells what is due.
+fn tell(due: Due, image: &[u8], sector: u32, ask: &mut DfuAsk) -> i32
+    ensures { TellsDue image.now sector due result ask.old ask.new }
+{
+    match due {
+        Due::Refuse(refusal) => refusal_number(refusal),
+        Due::Start => 0,
+        Due::Erase(at) => {
+            ask.kind = ERASE;
+            ask.at = at;
+            ask.length = sector;
+            ASKS
+        }
+        Due::Program(at) => {
+            ask.kind = PROGRAM;
+            ask.at = at;
+            ask.length = 256;
+            piece(image, at, &mut ask.bytes);
+            ASKS
+        }
+    }
+}
+
+/// What is due next, as `next`: 0, and the run area holds the whole image; or -11, and `ask` has the operation.
+///
+/// Refused with -6 if it is no run area, -15 if the image has no bytes, -7 if it has more than the run area.
+#[unsafe(no_mangle)]
+pub extern "C" fn dfu_core_install_next(
+    area: &DfuRunArea,
+    image: &[u8],
+    run: &[u8],
+    ask: &mut DfuAsk,
+) -> i32
+    ensures outcome { (due : Due) × (Does image.now run.now area.now.sector (last_of area.now.last) due
+        × TellsDue image.now area.now.sector due result ask.old ask.new) }
+{
+    let due = next(image, run, area.sector, last_of(area.last));
+    tell(due, image, area.sector, ask)
+}
+
+/// The operation that `dfu_core_install_next` gave was carried out, or failed if `failed` is not 0; as `took`: 0, and `area` has noted it.
+#[unsafe(no_mangle)]
+pub extern "C" fn dfu_core_install_took(
+    area: &mut DfuRunArea,
+    image: &[u8],
+    run: &[u8],
+    ask: &DfuAsk,
+    failed: u32,
+) -> i32
+    ensures result { result ≡ pos 0 }
+    ensures sector { area.new.sector ≡ area.old.sector }
+    ensures noted { TookDue image.now run.now area.old.sector (due_of_kind ask.now.kind ask.now.at) (not (failed == 0))
+        (last_of area.new.last) }
+{
+    area.last = number_of(took(image, run, area.sector, due_of(ask), failed != 0));
+    0
+}

@@ -1,0 +1,5 @@
+//! A trial for programs in C, as a static library: `include/dfu_trial_core.h` has its calls.
+
+mod calls;
+mod flash;
+mod told;

@@ -1,0 +1,152 @@
+//! The calls for a trial, as a program in C makes them: `include/dfu_trial_core.h` says each for a reader of C.
+ghost use Rattle.std.specs.Prelude.{◌≡◌, ◌⊎◌, pos};
+ghost use Rattle.std.specs.List.{list_all};
+ghost use Rattle.dfu_boot.specs.trial.Marks.{is_erased};
+ghost use Rattle.dfu_boot_c.specs.trial.Told.{is_there, run_told};
+ghost use Rattle.dfu_boot_c.specs.trial.TrialCalls.{RefusesTrial, ToldStanding, ToldStart, ToldConfirm, ToldEnd, ToldUpload};
+
+use crate::trial::flash::{DfuTries, looked};
+use crate::trial::told::{DfuStanding, DfuStarting, standing_told, starting_told, tell};
+use dfu_boot::trial::Confirmation;
+use dfu_core::{DfuAsk, DfuPlace, PROGRAM};
+
+/// DFU_ELSEWHERE.
+const ELSEWHERE: i32 = -19;
+
+/// The standing of the images of the flash: 0, and `told` has it.
+///
+/// Refused, in this order: -2 if no unit has that size or there are no such sectors; -16 without sectors, -17 with fewer than two tries,
+/// -18 if a sector has no room for so many; -3 if the flash has no active image, or 2^32 bytes or more.
+#[unsafe(no_mangle)]
+pub extern "C" fn dfu_core_trial_look(tries: &DfuTries, flash: &[u8], told: &mut DfuStanding) -> i32
+    ensures outcome { ToldStanding tries.now flash.now result told.new
+        ⊎ (RefusesTrial tries.now flash.now result × (told.new ≡ told.old)) }
+{
+    match looked(tries, flash) {
+        Ok(looked) => {
+            *told = standing_told(&looked.medium, tries.tries, looked.standing);
+            0
+        }
+        Err(refusal) => refusal.number(),
+    }
+}
+
+/// What starts: 0, and `told.run` runs; or -11, and `ask` has the operation that comes before. Then `dfu_core_trial_runs` gives what runs.
+///
+/// Refused as `dfu_core_trial_look`.
+#[unsafe(no_mangle)]
+pub extern "C" fn dfu_core_trial_start(
+    tries: &DfuTries,
+    flash: &[u8],
+    ask: &mut DfuAsk,
+    told: &mut DfuStarting,
+) -> i32
+    ensures outcome { ToldStart tries.now flash.now result ask.old ask.new told.new
+        ⊎ (RefusesTrial tries.now flash.now result × (ask.new ≡ ask.old) × (told.new ≡ told.old)) }
+{
+    match looked(tries, flash) {
+        Ok(looked) => {
+            let starts = looked.standing.start(&looked.medium, tries.tries);
+            *told = starting_told(&looked.medium, starts);
+            tell(starts.operation, tries.sector, ask)
+        }
+        Err(refusal) => refusal.number(),
+    }
+}
+
+// Whether all bytes are FFh.
+fn is_blank(bytes: &[u8]) -> bool
+    ensures { result ≡ list_all is_erased bytes.now }
+{
+    bytes.iter().all(|byte| *byte == 0xff)
+}
+
+// Whether the mark that was asked for reads set.
+fn is_there(flash: &[u8], ask: &DfuAsk) -> bool
+    ensures { result ≡ is_there flash.now ask.now }
+{
+    let at = ask.at as usize;
+    let len = ask.length as usize;
+    at + len <= flash.len() && !is_blank(&flash[at..at + len])
+}
+
+/// What runs, once the operation that `dfu_core_trial_start` asked for was carried out or failed: 0, and `place` has it. A mark is read
+/// back.
+#[unsafe(no_mangle)]
+pub extern "C" fn dfu_core_trial_runs(
+    flash: &[u8],
+    ask: &DfuAsk,
+    starting: &DfuStarting,
+    place: &mut DfuPlace,
+) -> i32
+    ensures result { result ≡ pos 0 }
+    ensures place { place.new ≡ run_told flash.now ask.now starting.now }
+{
+    *place = if ask.kind == PROGRAM && !is_there(flash, ask) {
+        starting.otherwise
+    } else {
+        starting.run
+    };
+    0
+}
+
+/// How the image is confirmed whose first byte is `flash[at]`: 0 if it is confirmed; or -11, and `ask` has the operation; or -19 if no
+/// image begins there that may run.
+///
+/// Refused as `dfu_core_trial_look`.
+#[unsafe(no_mangle)]
+pub extern "C" fn dfu_core_trial_confirm(
+    tries: &DfuTries,
+    flash: &[u8],
+    at: u32,
+    ask: &mut DfuAsk,
+) -> i32
+    ensures outcome { ToldConfirm tries.now flash.now at result ask.old ask.new
+        ⊎ (RefusesTrial tries.now flash.now result × (ask.new ≡ ask.old)) }
+{
+    match looked(tries, flash) {
+        Ok(looked) => match looked.standing.confirm(&looked.medium, tries.tries, at) {
+            Confirmation::By(operation) => tell(Some(operation), tries.sector, ask),
+            Confirmation::Confirmed => 0,
+            Confirmation::Elsewhere => ELSEWHERE,
+        },
+        Err(refusal) => refusal.number(),
+    }
+}
+
+/// How a trial ends: 0 if nothing is on trial; or -11, and `ask` has the operation.
+///
+/// Refused as `dfu_core_trial_look`.
+#[unsafe(no_mangle)]
+pub extern "C" fn dfu_core_trial_end(tries: &DfuTries, flash: &[u8], ask: &mut DfuAsk) -> i32
+    ensures outcome { ToldEnd tries.now flash.now result ask.old ask.new
+        ⊎ (RefusesTrial tries.now flash.now result × (ask.new ≡ ask.old)) }
+{
+    match looked(tries, flash) {
+        Ok(looked) => tell(
+            looked.standing.end(&looked.medium, tries.tries),
+            tries.sector,
+            ask,
+        ),
+        Err(refusal) => refusal.number(),
+    }
+}
+
+/// What comes before an upload: 0 if it may begin; or -11 if the image on trial has no start left, and `ask` has the operation that ends
+/// the trial.
+///
+/// Refused as `dfu_core_trial_look`.
+#[unsafe(no_mangle)]
+pub extern "C" fn dfu_core_trial_upload(tries: &DfuTries, flash: &[u8], ask: &mut DfuAsk) -> i32
+    ensures outcome { ToldUpload tries.now flash.now result ask.old ask.new
+        ⊎ (RefusesTrial tries.now flash.now result × (ask.new ≡ ask.old)) }
+{
+    match looked(tries, flash) {
+        Ok(looked) => tell(
+            looked.standing.upload(&looked.medium, tries.tries),
+            tries.sector,
+            ask,
+        ),
+        Err(refusal) => refusal.number(),
+    }
+}

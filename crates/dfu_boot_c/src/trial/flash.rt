@@ -1,0 +1,125 @@
+//! A flash is looked at, with the unit, the sector and the number of tries that a program in C hands in; or that is refused.
+ghost use Rattle.std.specs.Prelude.{◌≡◌, ◌≤◌, ◌^◌, ℕ, List, IfSome, IfNone, IfOk, IfErr, length};
+ghost use Rattle.dfu_asks.specs.Mapped.{grain_of as mapped_grain, mapped};
+ghost use Rattle.dfu_boot.specs.trial.Marks.{AreTries};
+ghost use Rattle.dfu_boot_c.specs.trial.Numbers.{trial_number};
+ghost use Rattle.dfu_boot_c.specs.trial.Tries.{unit_sized, tries_grain, flash_state, IsTriesPart, HasStanding, IsTrialRefused};
+
+use dfu_asks::Mapped;
+use dfu_boot::trial::{Standing, TriesFault, check_tries, look};
+use dfu_slots::Unit;
+use dfu_slots::laws::active_image_is_one;
+
+/// How the flash is written, and how many tries a new image has: `struct dfu_tries`.
+#[repr(C)]
+#[derive(Drop)]
+pub struct DfuTries {
+    /// Bytes that are programmed at a time: 1, 16, 64 or 256.
+    pub unit: u32,
+    /// Bytes that are erased at a time: a multiple of 256 up to 131,072, not 0.
+    pub sector: u32,
+    /// How often a new image is started before the one before it comes back: 2 or more. In a sector
+    /// (tries + 2) units of at least 16 bytes have room.
+    pub tries: u32,
+}
+
+/// The largest unit of at most so many bytes; for 0 the byte. (Comparisons for order: of powers of two by equality LLVM makes a count of
+/// zero bits.)
+#[inline(never)]
+#[tactic(auto, unfolding(crate::specs::trial::Tries::unit_sized))]
+pub(crate) fn unit_sized(size: u32) -> Unit
+    ensures { result ≡ unit_sized size }
+{
+    if size < 16 {
+        Unit::Byte
+    } else if size < 64 {
+        Unit::U16
+    } else if size < 256 {
+        Unit::U64
+    } else {
+        Unit::U256
+    }
+}
+
+/// Why a call is refused. Nothing changed then.
+#[derive(Clone, Copy, Drop)]
+pub enum Refusal {
+    /// No unit has that size, or there are no such sectors.
+    NoConfig,
+    /// So many tries are refused: there are no sectors, or they are too few or too many.
+    Tries(TriesFault),
+    /// The flash has no active image, or 2^32 bytes or more.
+    NoMedium,
+}
+
+impl Refusal {
+    /// The number of the refusal, which is negative.
+    pub(crate) fn number(self) -> i32
+        ensures { result ≡ trial_number self }
+    {
+        match self {
+            Refusal::NoConfig => -2,
+            Refusal::Tries(TriesFault::NoSectors) => -16,
+            Refusal::Tries(TriesFault::TooFew) => -17,
+            Refusal::Tries(TriesFault::TooMany) => -18,
+            Refusal::NoMedium => -3,
+        }
+    }
+}
+
+/// A flash, and the standing of its images.
+#[derive(Drop)]
+pub(crate) struct Flash<'f> {
+    pub(crate) medium: Mapped<'f>,
+    pub(crate) standing: Standing,
+}
+
+// The flash as a medium; None if no unit has that size, if there are no such sectors, or if it has 2^32 bytes or more.
+fn medium_of<'f>(tries: &DfuTries, flash: &'f [u8]) -> Option<Mapped<'f>>
+    ensures state { IfSome result (λ m. mapped (mapped_grain m.unit m.sector) m.bytes.now ≡ flash_state tries.now flash.now) }
+    ensures part { IfSome result (λ m. IsTriesPart tries.now) }
+    ensures none { IfNone result (IsTriesPart tries.now → 2 ^ 32 ≤ length flash.now) }
+{
+    let unit = unit_sized(tries.unit);
+    if unit.size() != tries.unit {
+        return None;
+    }
+    Mapped::with_sectors(flash, unit, tries.sector)
+}
+
+// Whether the flash can have so many tries.
+fn refused(tries: &DfuTries) -> Option<Refusal>
+    ensures some { IfSome result (λ e. (flash : List ℕ) → IsTrialRefused e tries.now flash) }
+    ensures none { IfNone result (IsTriesPart tries.now × AreTries (tries_grain tries.now) tries.now.tries) }
+{
+    let Some(sizes) = medium_of(tries, &[]) else {
+        return Some(Refusal::NoConfig);
+    };
+    match check_tries(&sizes, tries.tries) {
+        Ok(()) => None,
+        Err(fault) => Some(Refusal::Tries(fault)),
+    }
+}
+
+/// The standing of the images of the flash, or why there is none: the first of the refusals, in their order.
+pub(crate) fn looked<'f>(tries: &DfuTries, flash: &'f [u8]) -> Result<Flash<'f>, Refusal>
+    ensures state { IfOk result (λ l. mapped (mapped_grain l.medium.unit l.medium.sector) l.medium.bytes.now
+        ≡ flash_state tries.now flash.now) }
+    ensures ok { IfOk result (λ l. HasStanding tries.now flash.now l.standing) }
+    ensures err { IfErr result (λ e. IsTrialRefused e tries.now flash.now) }
+{
+    if let Some(refusal) = refused(tries) {
+        return Err(refusal);
+    }
+    let Some(medium) = medium_of(tries, flash) else {
+        return Err(Refusal::NoMedium);
+    };
+    match look(&medium, tries.tries) {
+        Ok(standing) => Ok(Flash { medium, standing }),
+        Err(_) => {
+            // Called for its clause `refused`.
+            active_image_is_one();
+            Err(Refusal::NoMedium)
+        }
+    }
+}

@@ -1,0 +1,113 @@
+//! What a program in C gets to know of a trial: the standing of the images, what starts, and what it is to do.
+ghost use Rattle.std.specs.Prelude.{◌≡◌, ◌+◌, ◌≤◌, length};
+ghost use Rattle.dfu_slots.specs.Layout.{slot_size};
+ghost use Rattle.dfu_slots.specs.Image.{IsSized};
+ghost use Rattle.dfu_boot.specs.trial.Marks.{AreTries};
+ghost use Rattle.dfu_boot.specs.trial.Calls.{IsStanding};
+ghost use Rattle.dfu_boot_c.specs.trial.Told.{image_in, standing_told, starting_told, IsTrialAsked};
+
+use dfu_boot::trial::{Operation, Standing, Starting};
+use dfu_core::{ASKS, DfuAsk, DfuPlace, ERASE, PROGRAM};
+use dfu_slots::{Medium, data_at, header_of, length_in};
+
+/// The standing of the images of a flash: `struct dfu_standing`.
+#[repr(C)]
+#[derive(Drop)]
+pub struct DfuStanding {
+    /// The active image: that on trial, if there is one.
+    pub active: DfuPlace,
+    /// The confirmed image, which comes back if that on trial is not confirmed; if nothing is on trial the active one.
+    pub base: DfuPlace,
+    /// 1 if the active image is on trial, else 0.
+    pub on_trial: u32,
+    /// How many starts of the image on trial are left.
+    pub left: u32,
+    /// 1 if the active image is confirmed, else 0.
+    pub is_confirmed: u32,
+}
+
+/// Where the image of the slot that begins there has its first byte, and its length by the slot's header.
+pub(crate) fn image_in<M: Medium>(medium: &M, slot: u32) -> DfuPlace
+    requires sized { IsSized (M.state medium.now) }
+    requires within { slot + slot_size (M.state medium.now).bytes ≤ length (M.state medium.now).bytes }
+    ensures { result ≡ image_in (M.state medium.now) slot }
+{
+    DfuPlace {
+        at: data_at(medium, slot),
+        length: length_in(&header_of(medium, slot)),
+    }
+}
+
+/// The record of a standing.
+pub(crate) fn standing_told<M: Medium>(medium: &M, tries: u32, standing: Standing) -> DfuStanding
+    requires tries { AreTries (M.state medium.now).grain tries }
+    requires stands { IsStanding (M.state medium.now) tries standing }
+    ensures { result ≡ standing_told (M.state medium.now) tries standing }
+{
+    match standing {
+        Standing::Settled(settled) => {
+            let place = image_in(medium, settled.slot);
+            DfuStanding {
+                active: place,
+                base: place,
+                on_trial: 0,
+                left: 0,
+                is_confirmed: if settled.is_confirmed { 1 } else { 0 },
+            }
+        }
+        Standing::OnTrial(trial) => DfuStanding {
+            active: image_in(medium, trial.slot),
+            base: image_in(medium, trial.base),
+            on_trial: 1,
+            left: tries - trial.starts,
+            is_confirmed: 0,
+        },
+    }
+}
+
+/// What starts once the operation before it was carried out or failed: `struct dfu_starting`.
+#[repr(C)]
+#[derive(Drop)]
+pub struct DfuStarting {
+    /// What runs.
+    pub run: DfuPlace,
+    /// What runs if the operation is a mark, and it does not read set.
+    pub otherwise: DfuPlace,
+}
+
+/// The record of what starts.
+pub(crate) fn starting_told<M: Medium>(medium: &M, starting: Starting) -> DfuStarting
+    requires sized { IsSized (M.state medium.now) }
+    requires run { starting.slot + slot_size (M.state medium.now).bytes ≤ length (M.state medium.now).bytes }
+    requires otherwise { starting.otherwise + slot_size (M.state medium.now).bytes ≤ length (M.state medium.now).bytes }
+    ensures { result ≡ starting_told (M.state medium.now) starting }
+{
+    DfuStarting {
+        run: image_in(medium, starting.slot),
+        otherwise: image_in(medium, starting.otherwise),
+    }
+}
+
+/// Writes an operation, if there is one, into what is asked for.
+pub(crate) fn tell(operation: Option<Operation>, sector: u32, ask: &mut DfuAsk) -> i32
+    ensures { IsTrialAsked sector operation result ask.old ask.new }
+{
+    match operation {
+        None => 0,
+        Some(Operation::Mark(at, len)) => {
+            *ask = DfuAsk {
+                kind: PROGRAM,
+                at,
+                length: len,
+                bytes: [0; 256],
+            };
+            ASKS
+        }
+        Some(Operation::Close(at)) => {
+            ask.kind = ERASE;
+            ask.at = at;
+            ask.length = sector;
+            ASKS
+        }
+    }
+}

@@ -1,5 +1,0 @@
-use Rattle.dfu_install.proofs.Holding.{held_is_started}
-use Rattle.dfu_install.proofs.laws.held_is_started.Goals as goal
-
-pub returns : goal.returns
-returns c = held_is_started

@@ -1,5 +1,0 @@
-use Rattle.dfu_install.proofs.Fresh.{programs_only_fresh}
-use Rattle.dfu_install.proofs.laws.programs_only_fresh.Goals as goal
-
-pub returns : goal.returns
-returns c = programs_only_fresh

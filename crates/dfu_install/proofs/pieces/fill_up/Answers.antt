@@ -1,5 +1,0 @@
-use Rattle.dfu_install.proofs.Filling.{filled_up}
-use Rattle.dfu_install.proofs.pieces.fill_up.Goals as goal
-
-pub returns : goal.returns
-returns c = filled_up c.args.bytes.now c.copy_from_slice.new.self 256 c.copy_from_slice.ensures.after

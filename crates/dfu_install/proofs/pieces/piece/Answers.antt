@@ -1,6 +1,0 @@
-use Rattle.dfu_install.proofs.Filling.{piece_made}
-use Rattle.dfu_install.proofs.pieces.piece.Goals as goal
-
-pub returns : goal.returns
-returns c =
-    piece_made c.args.image.now c.fill_up.new.out c.args.at c.min.result c.min-2.result c.min.ensures c.min-2.ensures c.fill_up.ensures

@@ -1,6 +1,0 @@
-//! A trial for programs in C, as a static library: `include/dfu_trial_core.h` has its calls.
-#![tactic(auto)]
-
-mod calls;
-mod flash;
-mod told;
