@@ -4,6 +4,7 @@ ghost use Rattle.dfu_asks.specs.Jobs.{asked, IsFit};
 ghost use Rattle.dfu_asks.specs.Cuts.{step_of, IsCut};
 
 use crate::FlashOp;
+use crate::next_piece::MAX_PROGRAM;
 use crate::pending_writes::WriteInputs;
 use crate::runs::runs_of;
 use dfu_slots::{OPEN_GATE, Source};
@@ -45,7 +46,7 @@ pub(crate) fn cut_at<'a>(stock: WriteInputs<'a>, done: u32) -> Cut<'a>
 }
 
 /// Puts the bytes of a piece at the front of a buffer; of an erase at most 256, each FFh.
-pub(crate) fn fill(cut: &Cut<'_>, out: &mut [u8; 256])
+pub(crate) fn fill(cut: &Cut<'_>, out: &mut [u8; MAX_PROGRAM])
     requires { (sector : ℕ) × IsCut sector cut.now }
     ensures step { asked cut.now.piece out.new ≡ step_of cut.now }
     ensures fits { (sector : ℕ) → IsCut sector cut.now → IsFit sector cut.now.piece out.new }
@@ -53,7 +54,7 @@ pub(crate) fn fill(cut: &Cut<'_>, out: &mut [u8; 256])
     let runs = runs_of(cut, &[OPEN_GATE]);
     let middle = runs.front.len();
     let end = middle + runs.back.len();
-    let len = cut.piece.len.min(256);
+    let len = cut.piece.len.min(MAX_PROGRAM);
     out[..middle].copy_from_slice(runs.front);
     out[middle..end].copy_from_slice(runs.back);
     out[end..len].fill(runs.pad);

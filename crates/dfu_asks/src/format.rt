@@ -15,7 +15,7 @@ ghost use Rattle.dfu_asks.specs.Formats.{FormatUnderWay, AsksFormat, FormatComes
 use crate::cut::{Cut, cut_at, fill, stands};
 use crate::format_piece::{filled_len, part_piece, stock_for};
 use crate::next_and_took::is_sound;
-use crate::{FlashOp, FormatProgress, FormatStep, Formatting, Mapped, Sector};
+use crate::{FlashOp, FormatProgress, FormatStep, Formatting, MAX_PROGRAM, Mapped, Sector};
 use dfu_slots::{FormatFault, Unit, WriteFault, capacity_of, is_sized};
 use dfu_suffix::Crc;
 
@@ -139,7 +139,7 @@ impl Formatting {
     /// None if no write is due, or its range is not within the flash, or what is kept would erase less than a sector. Then `out` does
     /// not change.
     /// It is Some if `start` or `took` asked, and the pieces before this one are on the flash.
-    pub fn next(&self, flash: &[u8], image: &[u8], out: &mut [u8; 256]) -> Option<FlashOp>
+    pub fn next(&self, flash: &[u8], image: &[u8], out: &mut [u8; MAX_PROGRAM]) -> Option<FlashOp>
         ensures piece { IfSome result (λ p. IsPiece (steps_left self.now (length flash.now) image.now) self.now.done (asked p out.new)) }
         ensures most { IfSome result (λ p. IsFit self.now.sector.size p out.new) }
         ensures sector { IfSome result (λ p. ErasesWhole self.now.sector.size (asked p out.new)) }

@@ -17,7 +17,7 @@ ghost use Rattle.dfu_asks.specs.declared.pending_writes.PendingWrites.{PendingWr
 use crate::cut::{cut_at, fill};
 use crate::next_piece::next_piece;
 use crate::sector::behind_edge;
-use crate::{Asking, FlashOp, Mapped, PendingWrites, Refusal, Reply, Sector};
+use crate::{Asking, FlashOp, MAX_PROGRAM, Mapped, PendingWrites, Refusal, Reply, Sector};
 use dfu_slots::laws::active_image_is_one;
 use dfu_slots::{OPEN_GATE, Unit, WriteFault, check};
 
@@ -102,7 +102,7 @@ impl Asking {
         block: &[u8],
         held: &[u8],
         flash: &[u8],
-        out: &mut [u8; 256],
+        out: &mut [u8; MAX_PROGRAM],
     ) -> Option<FlashOp>
         ensures piece { IfSome result (λ p. (w : PendingWrites) → self.now.work ≡ Some w →
             IsPiece (steps_in (lent self.now block.now held.now) w) w.done (asked p out.new)) }

@@ -10,13 +10,10 @@ ghost use Rattle.dfu_asks.specs.OpSteps.{ops_steps, steps_at, MayCutAll};
 use crate::cut::Cut;
 use crate::sector::{Position, locate};
 use crate::{FlashOp, SlotWrite};
-use dfu_slots::{Op, Sequence, Source, VERSION, make_header};
+use dfu_slots::{MAX_OPERATIONS, Op, Sequence, Source, VERSION, make_header};
 
-// How many bytes are programmed at a time at most.
-const MOST: usize = 256;
-
-// No sequence has more operations.
-const OPERATIONS: usize = 3;
+/// How many bytes are programmed at a time at most.
+pub const MAX_PROGRAM: usize = 256;
 
 // An erase of so many bytes there is found.
 fn find_erase(at: u64, len: usize, cut: &mut Cut<'_>)
@@ -76,7 +73,7 @@ fn write_piece(at: u64, source: Source, skip: usize, len: usize, cut: &mut Cut<'
             cut.piece = FlashOp {
                 erases: false,
                 at: at + from as u64,
-                len: (len - from).min(MOST),
+                len: (len - from).min(MAX_PROGRAM),
             };
             cut.source = source;
             cut.from = skip + from;
@@ -127,7 +124,7 @@ pub(crate) fn sequence_piece(sequence: Sequence, cut: &mut Cut<'_>) -> bool
         total (step_writes (ops_steps s cut.old.front (operations (grain_for s) sequence))) + cut.new.rest ≡ cut.old.rest }
     ensures past { IsTrue (not result) → cut.old.rest ≤ cut.new.rest + 2 ^ 20 }
 {
-    for index in 0..OPERATIONS {
+    for index in 0..MAX_OPERATIONS {
         if numbered_piece(sequence, index, cut) {
             return true;
         }

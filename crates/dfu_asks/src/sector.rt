@@ -2,6 +2,8 @@
 ghost use Rattle.std.specs.Prelude.{◌≡◌, ◌+◌, ◌%◌, ◌^◌, ◌≤◌, ◌<◌, IfSome, IfNone};
 ghost use Rattle.dfu_asks.specs.Position.{LeadsToErase, LeadsTo, LeadsInto};
 
+use dfu_slots::{MAX_SECTOR, PAGE};
+
 /// How many bytes of flash are erased at a time: 0 if it is written over in place, else a multiple of 256 up to 131,072.
 #[derive(Clone, Copy, Debug, PartialEq, Eq, Drop)]
 pub struct Sector {
@@ -24,7 +26,7 @@ impl Sector {
         ensures fits { IfSome result (λ s. (size % 256 ≡ 0) × (size ≤ 2 ^ 17)) }
         ensures none { IfNone result ((size % 256 ≡ 0) → ¬ (size ≤ 2 ^ 17)) }
     {
-        if size % 256 == 0 && size <= 131_072 {
+        if size % PAGE == 0 && size <= MAX_SECTOR {
             Some(Sector { size })
         } else {
             None

@@ -14,6 +14,7 @@ use crate::numbers::Refusal;
 use crate::record::DfuRecord;
 use crate::work::{set_work, work_of};
 use dfu_asks::{Asking, Noted};
+use dfu_slots::MAX_UNIT;
 
 /// The number of a slot, by whether it is the second one.
 pub fn slot_of(second: bool) -> u32
@@ -42,7 +43,7 @@ fn asking_of(settings: Settings, kept: &DfuRecord) -> Option<Asking>
     ensures some { IfSome result (λ a. (c : Given) → IsSetUp c settings.config settings.unit settings.sector → IsKept c kept.now a) }
     ensures none { IfNone result ((c : Given) (a : Device) → ¬ IsKept c kept.now a) }
 {
-    if kept.held_length > 256 {
+    if kept.held_length > MAX_UNIT as u32 {
         return None;
     }
     let mode = mode_of(kept)?;

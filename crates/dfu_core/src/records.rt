@@ -1,5 +1,7 @@
 //! The records that several libraries hand to a program in C, with their numbers.
 
+use dfu_asks::MAX_PROGRAM;
+
 /// What a program is to do next, an operation of the flash: `struct dfu_ask`.
 #[repr(C)]
 #[derive(Drop)]
@@ -11,7 +13,7 @@ pub struct DfuAsk {
     /// How many bytes there are to write, 1 to 256, or to erase.
     pub length: u32,
     /// These bytes.
-    pub bytes: [u8; 256],
+    pub bytes: [u8; MAX_PROGRAM],
 }
 
 /// DFU_ERASE, the kind of an erase.

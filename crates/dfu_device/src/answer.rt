@@ -10,6 +10,7 @@ ghost use Rattle.dfu_device.specs.inside.View.{shown};
 
 use crate::decision::Reply;
 use crate::device_core::DeviceCore;
+use crate::device_state::status_in;
 use arrayvec::ArrayVec;
 use dfu_slots::{Medium, Slots};
 
@@ -80,13 +81,13 @@ impl<M: Medium> DeviceCore<M> {
         match pending_answer {
             PendingAnswer::Ack => Answer::Ack,
             PendingAnswer::Status { asked } => {
-                let bytes = self.status();
+                let bytes = status_in(&self.config, self.mode);
                 let _ = out.try_extend_from_slice(&bytes[..usize::from(asked).min(6)]);
                 Answer::Bytes
             }
             PendingAnswer::State { asked } => {
                 if asked > 0 {
-                    out.push(self.state().byte());
+                    out.push(self.mode.state().byte());
                 }
                 Answer::Bytes
             }

@@ -11,6 +11,7 @@ ghost use Rattle.dfu_device.specs.DeviceView.{IsInSpareSlot, powered_on};
 ghost use Rattle.dfu_device.specs.Rows.{Handles, Elapses};
 
 use crate::device_core::DeviceCore;
+use crate::device_state::DeviceState;
 use crate::{Answer, Config};
 use arrayvec::ArrayVec;
 use dfu_slots::{Faulty, Medium, OpenFault, Slots};
@@ -104,7 +105,8 @@ impl<M: Medium> Device<M> {
     pub fn restart(&mut self)
         ensures { self.new ≡ powered_on self.old.config self.old.slots.medium }
     {
-        self.core.restart();
+        self.core.slots.reopen();
+        self.core.mode = DeviceState::AppIdle;
     }
 
     /// Answers a setup with its body (USB DFU 1.1, appendix A). `out` is emptied first. If the
@@ -129,21 +131,21 @@ impl<M: Medium> Device<M> {
     pub fn usb_reset(&mut self)
         ensures { self.new ≡ record self.old { stage = reset_stage self.old.stage } }
     {
-        self.core.usb_reset();
+        self.core.mode = self.core.mode.after_reset();
     }
 
     /// The state of the standard (USB DFU 1.1, section 6.1.2, bState).
     pub fn state(&self) -> State
         ensures { result ≡ state_of self.now.stage }
     {
-        self.core.state()
+        self.core.mode.state()
     }
 
     /// The status code: that of dfuERROR, and OK in every other state (USB DFU 1.1, section 6.1.2, bStatus).
     pub fn code(&self) -> Code
         ensures { result ≡ code_of self.now.stage }
     {
-        self.core.code()
+        self.core.mode.code()
     }
 
     /// The functional descriptor (USB DFU 1.1, section 4.1.3), with version 0110h.

@@ -1,12 +1,11 @@
 //! The core of a device.
 
-ghost use Rattle.std.specs.Prelude.{◌≡◌, ◌<◌, ◌≤◌, ◌+◌, ◌↔◌, length, take, drop, nat_lt, ℕ, List, [], IsTrue, not, if◌then◌else◌};
+ghost use Rattle.std.specs.Prelude.{◌≡◌, ◌<◌, ◌≤◌, ◌+◌, length, take, drop, nat_lt, ℕ, List, [], IsTrue, if◌then◌else◌};
 ghost use Rattle.dfu_slots.specs.Seen.{image_of, spare_of, room_of};
-ghost use Rattle.dfu_device.specs.Stage.{InAppIdle, InError, state_of, code_of, status_of};
-ghost use Rattle.dfu_device.specs.Table.{reset_stage, objection_code, refuse_stage};
-ghost use Rattle.dfu_device.specs.DeviceView.{DeviceView, profile, powered_on};
+ghost use Rattle.dfu_device.specs.Stage.{InAppIdle};
+ghost use Rattle.dfu_device.specs.DeviceView.{DeviceView, profile};
 ghost use Rattle.dfu_device.specs.Parts.{is_sound};
-ghost use Rattle.dfu_device.specs.Rows.{Handles, Answers, Elapses, ClosesDownload};
+ghost use Rattle.dfu_device.specs.Rows.{Elapses};
 ghost use Rattle.dfu_device.specs.Borrowed.{answer_room};
 ghost use Rattle.dfu_device.specs.Decision.{profile_in, plan_of, HasLength, IsPossible, IsSilent};
 ghost use Rattle.dfu_device.specs.inside.PendingAnswer.{AnswersPending, DonePending, ServedPending, HandledPending};
@@ -14,13 +13,13 @@ ghost use Rattle.dfu_device.specs.inside.PendingAnswer.{AnswersPending, DonePend
 use crate::answer::{PendingAnswer, pending_answer_of};
 use crate::config::Profile;
 use crate::decision::Decision;
-use crate::device_state::{DeviceState, status_in};
-use crate::table::{asked_length, decide, goes_with, is_close};
+use crate::device_state::DeviceState;
+use crate::table::{asked_length, decide, goes_with};
 use crate::time_table::decide_time;
-use crate::{Answer, Config, Objection};
+use crate::{Answer, Config};
 use arrayvec::ArrayVec;
 use dfu_slots::{Medium, Slots};
-use dfu_wire::{Code, Request, Setup, State};
+use dfu_wire::{Request, Setup};
 
 // Replaces the bytes of the block.
 fn hold(block: &mut ArrayVec<u8, 4096>, bytes: &[u8])
@@ -57,37 +56,6 @@ impl<M: Medium> DeviceCore<M> {
             mode: DeviceState::AppIdle,
             block,
         }
-    }
-
-    /// The core starts anew in appIDLE, on its medium as it is.
-    pub(crate) fn restart(&mut self)
-        ensures { shown self.new ≡ powered_on (shown self.old).config (shown self.old).slots.medium }
-    {
-        self.slots.reopen();
-        self.mode = DeviceState::AppIdle;
-    }
-
-    /// The state of the standard.
-    pub(crate) fn state(&self) -> State
-        ensures { result ≡ state_of (shown self.now).stage }
-    {
-        self.mode.state()
-    }
-
-    /// The status code: that of dfuERROR, and OK in every other state.
-    pub(crate) fn code(&self) -> Code
-        ensures { result ≡ code_of (shown self.now).stage }
-    {
-        self.mode.code()
-    }
-
-    /// The six bytes of the status.
-    pub(crate) fn status(&self) -> [u8; 6]
-        ensures answers { (len : ℕ) →
-            Answers len (status_of (profile (shown self.now)) (shown self.now).stage) Answer.Bytes (take len result) }
-        ensures size { length result ≡ 6 }
-    {
-        status_in(&self.config, self.mode)
     }
 
     /// What the table reads of it.
@@ -195,32 +163,5 @@ impl<M: Medium> DeviceCore<M> {
     {
         let decision = decide_time(&self.profile(), self.mode, ms);
         let _ = self.carry_out(decision, 0, &[]);
-    }
-
-    /// The bus is reset.
-    pub(crate) fn usb_reset(&mut self)
-        ensures row { shown self.new ≡ record (shown self.old) { stage = reset_stage (shown self.old).stage } }
-    {
-        self.mode = self.mode.after_reset();
-    }
-
-    /// The program refuses the image that this setup closes, if it closes one.
-    pub(crate) fn refuse_close(&mut self, setup: &[u8; 8], objection: Objection) -> bool
-        ensures closes { IsTrue result ↔ ClosesDownload setup.now (shown self.old) }
-        ensures row { IsTrue result → shown self.new ≡ record (shown self.old) { stage = InError (objection_code objection) } }
-        ensures unchanged { IsTrue (not result) → shown self.new ≡ shown self.old }
-    {
-        if !self.mode.may_close(self.config.least()) || !is_close(setup) {
-            return false;
-        }
-        self.mode = DeviceState::after_refused_close(objection);
-        true
-    }
-
-    /// The program refuses the image that was closed.
-    pub(crate) fn refuse(&mut self, objection: Objection)
-        ensures row { shown self.new ≡ record (shown self.old) { stage = refuse_stage objection (shown self.old).stage } }
-    {
-        self.mode = self.mode.after_refusal(objection);
     }
 }

@@ -4,6 +4,8 @@ ghost use Rattle.std.specs.Prelude.{[], ◌≡◌, ◌↔◌, not, IsTrue};
 ghost use Rattle.dfu_device.specs.Rows.{ClosesDownload, RefusingClose, Row};
 ghost use Rattle.dfu_device.specs.Table.{objection_code, refuse_stage};
 
+use crate::device_state::DeviceState;
+use crate::table::is_close;
 use crate::{Answer, Device};
 use dfu_slots::Medium;
 use dfu_wire::Code;
@@ -40,7 +42,12 @@ impl<M: Medium> Device<M> {
         ensures row { IsTrue result → Row self.old (RefusingClose setup.now objection) Answer.Stall [] self.new }
         ensures unchanged { IsTrue (not result) → self.new ≡ self.old }
     {
-        self.core.refuse_close(setup, objection)
+        let may_close = self.core.mode.may_close(self.core.config.least());
+        if !may_close || !is_close(setup) {
+            return false;
+        }
+        self.core.mode = DeviceState::after_refused_close(objection);
+        true
     }
 
     /// The program refuses the image that was closed, for a check that takes longer than a transfer may. In dfuMANIFEST-SYNC, before it is
@@ -49,6 +56,6 @@ impl<M: Medium> Device<M> {
     pub fn refuse(&mut self, objection: Objection)
         ensures { self.new ≡ record self.old { stage = refuse_stage objection self.old.stage } }
     {
-        self.core.refuse(objection);
+        self.core.mode = self.core.mode.after_refusal(objection);
     }
 }

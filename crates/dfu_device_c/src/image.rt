@@ -30,7 +30,7 @@ pub extern "C" fn dfu_core_image(config: &DfuConfig, flash: &[u8], place: &mut D
 }
 
 // As much memory as any block needs, with those held back.
-const MOST: usize = 4096 + 256;
+const BLOCK_MEMORY: usize = 4096 + 256;
 
 /// Where the image is that was taken, as `Device::candidate`: 0, and `place` has its bytes in the flash, followed by the `held_length`
 /// ones that are held back, after the transfer size in the memory of the block.
@@ -47,7 +47,7 @@ pub extern "C" fn dfu_core_candidate(
         ⊎ ((place.new ≡ place.old) × (HasNone config.now device.now flash.now result
         ⊎ RefusesCandidate config.now device.now flash.now result)) }
 {
-    find!(asking, config, device, MOST);
+    find!(asking, config, device, BLOCK_MEMORY);
     match asking.candidate(flash) {
         Ok(Some(found)) => {
             place.at = found.at;

@@ -83,31 +83,31 @@ pub(crate) fn numbers_of(phase: Phase) -> EncodedPhase
     ensures numbers { result ≡ numbers_in phase }
 {
     match phase {
-        Phase::Find => plain(0),
-        Phase::FindAgain => plain(1),
-        Phase::Detach => plain(2),
-        Phase::Enter => plain(3),
-        Phase::Clear => plain(4),
-        Phase::Quit => plain(5),
+        Phase::Find => of(0, 0, 0),
+        Phase::FindAgain => of(1, 0, 0),
+        Phase::Detach => of(2, 0, 0),
+        Phase::Enter => of(3, 0, 0),
+        Phase::Clear => of(4, 0, 0),
+        Phase::Quit => of(5, 0, 0),
         Phase::WaitFind(poll_ms) => of(6, 0, poll_ms),
-        Phase::ResetFind => plain(7),
+        Phase::ResetFind => of(7, 0, 0),
         Phase::Block(block) => of(8, block as u64, 0),
         Phase::Ask(block) => of(9, block as u64, 0),
         Phase::Poll(block) => of(10, block as u64, 0),
         Phase::WaitPoll(block, poll_ms) => of(11, block as u64, poll_ms),
-        Phase::Close => plain(12),
-        Phase::AskLast => plain(13),
-        Phase::Manifest => plain(14),
+        Phase::Close => of(12, 0, 0),
+        Phase::AskLast => of(13, 0, 0),
+        Phase::Manifest => of(14, 0, 0),
         Phase::WaitManifest(poll_ms) => of(15, 0, poll_ms),
         Phase::WaitLast(poll_ms) => of(16, 0, poll_ms),
-        Phase::Trouble => plain(17),
+        Phase::Trouble => of(17, 0, 0),
         Phase::Fetch(part) => of(18, u64::from(part), 0),
         Phase::Compare(part) => of(19, u64::from(part), 0),
         Phase::Last(report) => reported(20, report),
-        Phase::LastUploaded => plain(21),
-        Phase::GiveUp => plain(22),
+        Phase::LastUploaded => of(21, 0, 0),
+        Phase::GiveUp => of(22, 0, 0),
         Phase::Over(report) => reported(23, report),
-        Phase::OverUploaded => plain(24),
+        Phase::OverUploaded => of(24, 0, 0),
     }
 }
 
@@ -119,12 +119,6 @@ fn of(which: u32, number: u64, more: u32) -> EncodedPhase
         number,
         more,
     }
-}
-
-fn plain(which: u32) -> EncodedPhase
-    ensures { result ≡ record { which = which; number = 0; more = 0 } }
-{
-    of(which, 0, 0)
 }
 
 fn reported(which: u32, report: Report) -> EncodedPhase

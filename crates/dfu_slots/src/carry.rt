@@ -6,14 +6,11 @@ ghost use Rattle.dfu_slots.specs.Writes.{write_some};
 ghost use Rattle.dfu_slots.specs.Operations.{source_of, range_of, op_writes, ops_writes, operations};
 
 use crate::erasing::erase;
-use crate::layout::OPEN_GATE;
+use crate::layout::{MAX_UNIT, OPEN_GATE};
 use crate::operation::{Op, Source};
-use crate::sequence::Sequence;
+use crate::sequence::{MAX_OPERATIONS, Sequence};
 use crate::writes::write_some;
 use crate::{Medium, WriteFault};
-
-// No sequence has more operations.
-const MOST: usize = 3;
 
 /// The bytes that the operations of a change take theirs from.
 #[derive(Clone, Copy)]
@@ -54,7 +51,7 @@ fn byte_of(source: Source, held: &[u8], block: &[u8], header: &[u8; 16], at: usi
 
 impl Sources<'_> {
     // Puts bytes of a source, without its first ones, at the front of a buffer.
-    fn gather(self, source: Source, skip: usize, len: usize, out: &mut [u8; 256])
+    fn gather(self, source: Source, skip: usize, len: usize, out: &mut [u8; MAX_UNIT])
         requires few { len ≤ 256 }
         requires front { skip ≤ length (source_of source self.held.now self.block.now self.header.now) }
         requires small { skip < 2 ^ 32 }
@@ -82,7 +79,7 @@ impl Sources<'_> {
             Series was (write_some was.grain.sector at
             (range_of source self.entry.held.now self.entry.block.now self.entry.header.now skip len)) result (M.state medium.new) }
     {
-        let mut unit = [0; 256];
+        let mut unit = [0; MAX_UNIT];
         self.gather(source, skip, len, &mut unit);
         write_some(medium, at, &unit[..len])
     }
@@ -151,7 +148,7 @@ impl Sources<'_> {
     {
         let unit = medium.unit();
         let sector = medium.sector();
-        for index in 0..MOST {
+        for index in 0..MAX_OPERATIONS {
             match sequence.operation(unit, sector, index) {
                 None => return Ok(()),
                 Some(op) => match self.carry_op(medium, op) {

@@ -5,6 +5,7 @@ ghost use Rattle.dfu_slots.specs.inside.Series.{Series};
 ghost use Rattle.dfu_slots.specs.Image.{IsSized};
 ghost use Rattle.dfu_slots.specs.Writes.{erases};
 
+use crate::layout::MAX_UNIT;
 use crate::read::stands_at;
 use crate::{Medium, WriteFault};
 
@@ -13,11 +14,11 @@ pub(crate) fn is_blank<M: Medium>(medium: &M, at: u32, len: u32) -> bool
     requires { at + len ≤ length (M.state medium.now).bytes }
     ensures { IsTrue result ↔ IsBlank (M.state medium.now).bytes at len }
 {
-    let blank = [0xff; 256];
+    let blank = [0xff; MAX_UNIT];
     let _end = medium.len();
     let mut done = 0;
     while done < len {
-        let size = (len - done).min(256);
+        let size = (len - done).min(MAX_UNIT as u32);
         if stands_at(medium, at + done, &blank[..size as usize]) {
             done += size;
         } else {

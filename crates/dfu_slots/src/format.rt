@@ -14,7 +14,7 @@ use crate::gates::{close_gate, open_slot};
 use crate::layout::{VERSION, fill_size, make_header};
 use crate::operation::Op;
 use crate::register::register_of_image;
-use crate::sequence::{PIECE, Sequence};
+use crate::sequence::{MAX_WRITE, Sequence};
 use crate::writes::write_some;
 use crate::{Medium, WriteFault};
 
@@ -94,7 +94,7 @@ fn write_pieces<M: Medium>(medium: &mut M, image: &[u8]) -> Result<(), WriteFaul
     while from < end {
         match write_piece(medium, image, from) {
             Err(fault) => return Err(fault),
-            Ok(()) => from += PIECE,
+            Ok(()) => from += MAX_WRITE,
         }
     }
     Ok(())

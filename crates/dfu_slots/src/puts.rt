@@ -8,6 +8,7 @@ ghost use Rattle.dfu_slots.specs.Operations.{held_from};
 ghost use Rattle.dfu_slots.specs.Writes.{put_writes, put_rest};
 
 use crate::carry::Sources;
+use crate::layout::MAX_UNIT;
 use crate::sequence::Sequence;
 use crate::{Medium, Unit, WriteFault};
 use arrayvec::ArrayVec;
@@ -16,7 +17,7 @@ use arrayvec::ArrayVec;
 #[derive(Drop)]
 pub struct Puts {
     /// The bytes held back, fewer than a unit has.
-    pub held: ArrayVec<u8, 256>,
+    pub held: ArrayVec<u8, MAX_UNIT>,
     /// Where the puts end in the spare's data.
     pub end: u32,
 }
@@ -44,7 +45,7 @@ impl Puts {
 }
 
 // Holds these bytes back too, after those that are held.
-fn hold(held: &mut ArrayVec<u8, 256>, bytes: &[u8])
+fn hold(held: &mut ArrayVec<u8, MAX_UNIT>, bytes: &[u8])
     requires { length held.old.items + length bytes.now ≤ 256 }
     ensures { held.new.items ≡ held.old.items ++ bytes.now }
 {
@@ -52,7 +53,7 @@ fn hold(held: &mut ArrayVec<u8, 256>, bytes: &[u8])
 }
 
 /// Holds back what makes no whole unit of the bytes that are held and these after them.
-pub(crate) fn hold_rest(held: &mut ArrayVec<u8, 256>, unit: Unit, bytes: &[u8])
+pub(crate) fn hold_rest(held: &mut ArrayVec<u8, MAX_UNIT>, unit: Unit, bytes: &[u8])
     requires part { length held.old.items < unit_size unit }
     requires short { length bytes.now ≤ 4096 }
     ensures { held.new.items ≡ put_rest unit held.old.items bytes.now }
@@ -71,7 +72,7 @@ pub(crate) fn hold_rest(held: &mut ArrayVec<u8, 256>, unit: Unit, bytes: &[u8])
 /// that the held bytes begin, if it is full now, and then all further whole units in one write, and holds the rest back.
 pub(crate) fn put_units<M: Medium>(
     medium: &mut M,
-    held: &mut ArrayVec<u8, 256>,
+    held: &mut ArrayVec<u8, MAX_UNIT>,
     slot: u32,
     end: u32,
     bytes: &[u8],

@@ -17,19 +17,12 @@ use dfu_wire::{Code, State, Status};
 /// How long is waited for a status that was asked for too early, in milliseconds.
 pub(crate) const TOO_EARLY_MS: u32 = 100;
 
-/// A step of clearing.
-fn clearing(work: Work, step: Step) -> Phase
-    ensures { result ≡ Phase.On (record { work = work; place = Place.Lost; step = step }) }
-{
-    stand(work, Place::Lost, step)
-}
-
 /// The device is in dfuERROR while bytes are read back.
 fn ends_comparing(work: Work, code: Code) -> Phase
     ensures { result ≡ ends_comparing work code }
 {
     match code {
-        Code::StalledPkt => clearing(work, Step::ClearStatus),
+        Code::StalledPkt => stand(work, Place::Lost, Step::ClearStatus),
         _ => Phase::Over(Report::Refused(code)),
     }
 }
@@ -39,10 +32,10 @@ fn fault_found(work: Work, code: Code) -> Phase
     ensures { result ≡ fault_found work code }
 {
     match (work, code) {
-        (Work::Erase { .. }, _) => clearing(work, Step::ClearStatus),
+        (Work::Erase { .. }, _) => stand(work, Place::Lost, Step::ClearStatus),
         (_, Code::Vendor) => Phase::Over(Report::ReadProtected),
         (Work::Compare { .. } | Work::CompareFront { .. }, _) => ends_comparing(work, code),
-        _ => clearing(work, Step::ClearStatus),
+        _ => stand(work, Place::Lost, Step::ClearStatus),
     }
 }
 
@@ -52,10 +45,10 @@ fn status_found(work: Work, status: &Status) -> Phase
 {
     match status.state() {
         State::AppIdle | State::AppDetach => Phase::Over(Report::NotDfu),
-        State::DfuIdle => clearing(work, Step::AskState),
+        State::DfuIdle => stand(work, Place::Lost, Step::AskState),
         State::DownloadIdle | State::UploadIdle => cleared(work),
         State::Error => fault_found(work, status.code()),
-        _ => clearing(work, Step::ClearWait(status.poll_ms())),
+        _ => stand(work, Place::Lost, Step::ClearWait(status.poll_ms())),
     }
 }
 
@@ -64,7 +57,7 @@ pub(crate) fn on_abort(work: Work, heard: &Heard) -> Phase
     ensures { result ≡ on_abort work heard.now }
 {
     match heard {
-        Heard::Acked | Heard::Stalled => clearing(work, Step::AskState),
+        Heard::Acked | Heard::Stalled => stand(work, Place::Lost, Step::AskState),
         _ => cleared(work),
     }
 }
@@ -75,8 +68,8 @@ pub(crate) fn on_ask_status(work: Work, heard: &Heard) -> Phase
 {
     match heard {
         Heard::Told(status) => status_found(work, status),
-        Heard::Stalled => clearing(work, Step::ClearWait(TOO_EARLY_MS)),
-        _ => clearing(work, Step::AskStatus),
+        Heard::Stalled => stand(work, Place::Lost, Step::ClearWait(TOO_EARLY_MS)),
+        _ => stand(work, Place::Lost, Step::AskStatus),
     }
 }
 
@@ -85,8 +78,8 @@ pub(crate) fn on_clear_wait(work: Work, ms: u32, heard: &Heard) -> Phase
     ensures { result ≡ on_clear_wait work ms heard.now }
 {
     match heard {
-        Heard::Waited => clearing(work, Step::AskState),
-        _ => clearing(work, Step::ClearWait(ms)),
+        Heard::Waited => stand(work, Place::Lost, Step::AskState),
+        _ => stand(work, Place::Lost, Step::ClearWait(ms)),
     }
 }
 
@@ -101,7 +94,7 @@ impl Plan<'_> {
             State::DownloadSync | State::DownloadIdle | State::ManifestSync | State::UploadIdle =>
                 cleared(work),
             State::DownloadBusy | State::Manifest | State::ManifestWaitReset | State::Error => {
-                clearing(work, Step::AskStatus)
+                stand(work, Place::Lost, Step::AskStatus)
             }
         }
     }
@@ -112,8 +105,8 @@ impl Plan<'_> {
     {
         match heard {
             Heard::StateIs(state) => self.state_found(work, *state),
-            Heard::Stalled => clearing(work, Step::AskStatus),
-            _ => clearing(work, Step::AskState),
+            Heard::Stalled => stand(work, Place::Lost, Step::AskStatus),
+            _ => stand(work, Place::Lost, Step::AskState),
         }
     }
 }

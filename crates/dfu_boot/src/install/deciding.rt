@@ -3,7 +3,7 @@ ghost use Rattle.std.specs.Prelude.{◌≡◌, ◌+◌, ◌-◌, ◌%◌, ◌<�
 ghost use Rattle.dfu_boot.specs.install.Area.{IsRunArea, start_of};
 ghost use Rattle.dfu_boot.specs.install.Next.{Does, IsNext, IsReady, MayProgram, look_from};
 
-use crate::install::area::{PIECE, are_blank, is_run_area};
+use crate::install::area::{PROGRAM, are_blank, is_run_area};
 use crate::install::compare::next_difference;
 use crate::install::due::{Due, Refusal};
 
@@ -30,7 +30,7 @@ fn may_program(run: &[u8], sector: u32, last: Option<u32>, piece: u32) -> bool
         Some(at) => {
             at <= piece
                 && at - at % sector == piece - piece % sector
-                && are_blank(run, piece, piece + PIECE)
+                && are_blank(run, piece, piece + PROGRAM)
         }
         None => false,
     }
@@ -42,7 +42,7 @@ fn mend(image: &[u8], run: &[u8], sector: u32, last: Option<u32>, at: u32) -> Du
     requires next { IsNext image.now run.now (look_from image.now last) at }
     ensures { Does image.now run.now sector last result }
 {
-    let piece = at - at % PIECE;
+    let piece = at - at % PROGRAM;
     if may_program(run, sector, last, piece) {
         Due::Program(piece)
     } else {

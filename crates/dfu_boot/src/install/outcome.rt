@@ -2,7 +2,7 @@
 ghost use Rattle.std.specs.Prelude.{◌<◌, ◌^◌, ◌↔◌, length, IsTrue};
 ghost use Rattle.dfu_boot.specs.install.Took.{TookDue, IsErasedSector, IsProgrammed};
 
-use crate::install::area::{PIECE, are_blank, is_run_area};
+use crate::install::area::{PROGRAM, are_blank, is_run_area};
 use crate::install::compare::first_difference;
 use crate::install::due::Due;
 
@@ -19,7 +19,7 @@ fn is_programmed(image: &[u8], run: &[u8], at: u32) -> bool
     requires { length run.now < 2 ^ 32 }
     ensures { IsTrue result ↔ IsProgrammed image.now run.now at }
 {
-    let end = at as u64 + PIECE as u64;
+    let end = at as u64 + PROGRAM as u64;
     if end > run.len() as u64 {
         return false;
     }

@@ -59,13 +59,6 @@ pub(crate) fn rest_after<'l>(line: &'l [u8], text: &str) -> Option<&'l [u8]>
     Some(&behind[1..])
 }
 
-/// Whether a list ends here.
-fn ends_list(line: &[u8]) -> bool
-    ensures { result ≡ starts_with nat_eq line.now (codes " events ") }
-{
-    line.starts_with(EVENTS)
-}
-
 /// How many bytes a list has: up to ` events `, or to the end.
 pub(crate) fn list_length(line: &[u8]) -> usize
     ensures value { result ≡ list_length line.now }
@@ -74,7 +67,7 @@ pub(crate) fn list_length(line: &[u8]) -> usize
     let mut count = 0usize;
     'bytes: while count < line.len() {
         let (_, rest) = line.split_at(count);
-        if ends_list(rest) {
+        if rest.starts_with(EVENTS) {
             return count;
         }
         count += 1;

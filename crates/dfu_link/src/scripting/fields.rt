@@ -11,7 +11,7 @@ ghost use Rattle.dfu_link.specs.Fields.{small_of, named_bytes, attributes_of_wor
 use crate::scripting::line::{HexText, Offered, Sector};
 use crate::scripting::words::{number, one_of, small};
 use dfu_device::Objection;
-use dfu_slots::Unit;
+use dfu_slots::{MAX_SECTOR, PAGE, Unit};
 
 #[tactic(auto, using(std::proofs::lemmas::Bool::Decides::nat_tests))]
 fn is_digit(byte: u8) -> bool
@@ -119,8 +119,8 @@ pub(crate) fn unit(word: &[u8]) -> Option<Unit>
 pub(crate) fn sector(word: &[u8]) -> Option<Sector>
     ensures { Reads (λ s. s.bytes) result (sector_of word.now) }
 {
-    let n = small(word, 131_072)?;
-    if n % 256 == 0 {
+    let n = small(word, MAX_SECTOR)?;
+    if n % PAGE == 0 {
         Some(Sector { bytes: n })
     } else {
         None

@@ -21,10 +21,10 @@ returns-in-Status g c =
     let w = shown c.args.self.now in
     let sent = c.try_extend_from_slice in
     let asked = c.in-Status.asked in
-    let bytes = c.status-bytes.result in
+    let bytes = c.status_in-bytes.result in
     let count : c.min.result ≡ min asked 6 = c.min.ensures ∙ ap (λ (n : ℕ). min n 6) c.from.ensures in
     rw c.in-Status.is (subst (λ (l : List ℕ). Answers asked (status_of (profile w) w.stage) answer.Bytes l)
     (sym (front_stands sent.result asked c.min.result bytes c.args.out.now.items sent.new.self.items count
-    c.status-bytes.ensures.size c.requires.out
+    c.status_in-bytes.ensures.size c.requires.out
     (sent.ensures.variant.1 (front_fits asked c.min.result bytes c.args.out.now.items count c.requires.out)) sent.ensures.ok))
-    (c.status-bytes.ensures.answers asked))
+    (c.status_in-bytes.ensures.answers _ _ _ asked))

@@ -2,12 +2,12 @@ use Rattle.std.proofs.Common.{arith, sym, ◌∙◌}
 use Rattle.dfu_fs.proofs.Ends.{list_ends, list_goes, list_stops}
 use Rattle.dfu_fs.proofs.json.words.list_length.Goals as goal
 
-pub returns-then-ends_list-clause-value : goal.returns-then-ends_list-clause-value
-returns-then-ends_list-clause-value c = omega (
+pub returns-then-starts_with-clause-value : goal.returns-then-starts_with-clause-value
+returns-then-starts_with-clause-value c = omega (
   arith,
   c.bytes.invariant.0,
   list_stops c.args.line.now c.bytes.count c.split_at.result.1.now
-      c.split_at.ensures.back (omega (arith, c.bytes-test.true)) (sym c.ends_list.ensures ∙ c.if-ends_list.true),
+      c.split_at.ensures.back (omega (arith, c.bytes-test.true)) (sym c.starts_with.ensures ∙ c.if-starts_with.true),
 )
 
 pub bytes-preserved : goal.bytes-preserved
@@ -16,7 +16,7 @@ bytes-preserved c = (
     arith,
     c.bytes.invariant.0,
     list_goes c.args.line.now c.bytes.count c.split_at.result.1.now
-        c.split_at.ensures.back (omega (arith, c.bytes-test.true)) (sym c.ends_list.ensures ∙ c.if-ends_list.false),
+        c.split_at.ensures.back (omega (arith, c.bytes-test.true)) (sym c.starts_with.ensures ∙ c.if-starts_with.false),
   ),
   omega (arith, c.bytes-test.true),
 )

@@ -1,6 +1,6 @@
 use Rattle.std.proofs.Common.{length}
 use Rattle.dfu_device.proofs.Carried.{filled, still_sound}
-use Rattle.dfu_device.proofs.device_core.DeviceCore.refuse.Goals as goal
+use Rattle.dfu_device.proofs.objection.Device.refuse.Goals as goal
 
 pub invariant_of-self : goal.invariant_of-self
 invariant_of-self g c =

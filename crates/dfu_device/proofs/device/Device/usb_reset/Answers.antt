@@ -1,6 +1,6 @@
 use Rattle.std.proofs.Common.{length}
 use Rattle.dfu_device.proofs.Carried.{still_sound}
-use Rattle.dfu_device.proofs.device_core.DeviceCore.usb_reset.Goals as goal
+use Rattle.dfu_device.proofs.device.Device.usb_reset.Goals as goal
 
 pub invariant_of-self : goal.invariant_of-self
 invariant_of-self g c =
