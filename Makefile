@@ -56,7 +56,7 @@ endif
 .SUFFIXES:
 .PHONY: all build everything libraries page dfu-rust check check-all install uninstall archive clean help FORCE
 
-libraries = $(BUILD)/libdfu_device.a $(BUILD)/libdfu_host.a $(BUILD)/libdfu_install.a $(BUILD)/libdfu_trial.a
+libraries = $(BUILD)/libdfu_device.a $(BUILD)/libdfu_host.a $(BUILD)/libdfu_boot.a
 programs = $(if $(has_code),$(BUILD)/dfu) $(if $(has_libusb),$(BUILD)/dfu-flash$(exe)) $(if $(has_functionfs),$(BUILD)/dfu-gadget)
 objects = $(BUILD)/objects
 
@@ -85,7 +85,7 @@ $(objects)/built: $$(programs) $(libraries)
 
 # A word for a part.
 libraries: $(libraries)
-	$(call have,4 libraries)
+	$(call have,3 libraries)
 lib libs library: libraries
 page:
 	web/build $(BUILD)/page
@@ -191,7 +191,7 @@ $(BUILD)/dfu: $(of_dfu) $(anew)
 	$(call program)
 $(BUILD)/dfu-flash$(exe): $(of_flash) $(BUILD)/libdfu_host.a $(anew)
 	$(call program,$(used_usb))
-$(BUILD)/dfu-gadget: $(of_gadget) $(BUILD)/libdfu_trial.a $(BUILD)/libdfu_device.a $(anew)
+$(BUILD)/dfu-gadget: $(of_gadget) $(BUILD)/libdfu_boot.a $(BUILD)/libdfu_device.a $(anew)
 	$(call program)
 $(libraries): $(BUILD)/lib%.a: $(objects)/dist/%.o $(anew)
 	$(archive)

@@ -3,7 +3,7 @@
  * @file dfu_trial_core.h
  * @brief The proved calls for images on trial: types, numbers and calls. A bootloader includes dfu_trial.h, which is built on this.
  *
- * The code is dfu_trial.c, in C11, for little-endian processors of 32 or 64 bits. It keeps no state, allocates nothing, and needs at most
+ * The code is dfu_boot.c, in C11, for little-endian processors of 32 or 64 bits. It keeps no state, allocates nothing, and needs at most
  * memcpy, memmove and memset of a C library. dfu_trial.h says what the program has to keep to. Each call reads the flash and asks for at
  * most one operation. Whatever flash and structs hold, a call returns, and touches only the memory that its pointers and lengths name.
  */

@@ -1,4 +1,4 @@
-# The four libraries as archives, and what `cmake --install` puts beside them; CMakeLists.txt reads it if the project is fustrelan alone.
+# The three libraries as archives, and what `cmake --install` puts beside them; CMakeLists.txt reads it if the project is fustrelan alone.
 include(GNUInstallDirs)
 get_property(has_configurations GLOBAL PROPERTY GENERATOR_IS_MULTI_CONFIG)
 if(NOT CMAKE_BUILD_TYPE AND NOT has_configurations)
@@ -41,7 +41,7 @@ function(fill file place own)
     configure_file("share/${file}" "${CMAKE_CURRENT_BINARY_DIR}/${name}" @ONLY)
     install(FILES "${CMAKE_CURRENT_BINARY_DIR}/${name}" DESTINATION "${place}")
 endfunction()
-foreach(name device host install trial)
+foreach(name device host boot install trial)
     fill(pkgconfig/dfu-${name}.pc.in "${CMAKE_INSTALL_LIBDIR}/pkgconfig" "\${pcfiledir}")
 endforeach()
 foreach(name config config-version)

@@ -168,20 +168,20 @@ digests() {
         is "$target: the host as on x86-64, $odd bytes off" as_here digest_host "$of_host" "$odd"
     done
 }
-# sizes DEVICE HOST TRIAL NEEDS: the libraries are under so many bytes, and need no other names; and how deep their calls go.
+# sizes DEVICE HOST BOOT NEEDS: the libraries are under so many bytes, and need no other names; and how deep their calls go.
 sizes() {
     echo "$target"
-    trial=${device%/*}/libdfu_trial.a
+    boot=${device%/*}/libdfu_boot.a
     is "$target: size of ${device##*/}" is_small "$device" "$1"
     is "$target: size of ${host##*/}" is_small "$host" "$2"
-    is "$target: size of ${trial##*/}" is_small "$trial" "$3"
-    for library in "$device" "$host" "$trial"; do
+    is "$target: size of ${boot##*/}" is_small "$boot" "$3"
+    for library in "$device" "$host" "$boot"; do
         is "$target: what ${library##*/} needs" needs_only "$library" "$4"
     done
     program stack "$top/tests/c/stack.c" "$device"
     is "$target: stack of the device" deepest stack 1500
     program host_stack "$top/tests/c/host_stack.c" "$host"
     is "$target: stack of the host" deepest host_stack 900
-    program trial_stack "$top/tests/c/trial_stack.c" "$trial" "$device"
+    program trial_stack "$top/tests/c/trial_stack.c" "$boot" "$device"
     is "$target: stack of trials" deepest trial_stack 1200
 }

@@ -17,7 +17,7 @@ if command -v arm-none-eabi-gcc > /dev/null; then
     says 0 CC=arm-none-eabi-gcc CFLAGS='-mcpu=cortex-m4 -mthumb' BUILD=build-m4
     said 'dfu is left out'
     said 'dfu-gadget is left out'
-    equal 'there is no program' 'libdfu_device.a libdfu_host.a libdfu_install.a libdfu_trial.a objects' "$(cd build-m4 && echo *)"
+    equal 'there is no program' 'libdfu_boot.a libdfu_device.a libdfu_host.a objects' "$(cd build-m4 && echo *)"
 fi
 if command -v aarch64-linux-gnu-gcc > /dev/null; then
     says 0 CC=aarch64-linux-gnu-gcc BUILD=build-aarch64

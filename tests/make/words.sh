@@ -22,16 +22,16 @@ parts=$(cd build && for it in dfu dfu-flash dfu-gadget; do [ ! -x "$it" ] || ech
 next=
 [ ! -x build/dfu ] || next='; next: make check'
 [ ! -x build/dfu-flash ] || next='; next: build/dfu-flash --list, or make check'
-last '' "built ${parts}4 libraries in build/$next"
+last '' "built ${parts}3 libraries in build/$next"
 said '^  CC dist/dfu_host.o$'
 said '^  AR build/libdfu_host.a$'
 equal 'each line is short' '' "$(sed '$d' "$work/said" | grep -v -e '^  [CLA][CDR] [a-z/_.-]*$' -e ' is left out: ' | head -n 2)"
 ends 0
-last '' "build/ is up to date: ${parts}4 libraries$next"
+last '' "build/ is up to date: ${parts}3 libraries$next"
 equal 'nothing to do takes one line' 1 "$(grep -c -v ' is left out: ' "$work/said")"
 for word in all build; do
     ends 0 "$word"
-    last "$word" "build/ is up to date: ${parts}4 libraries$next"
+    last "$word" "build/ is up to date: ${parts}3 libraries$next"
 done
 ends 0 -s
 equal 'make -s' '' "$(grep -v ' is left out: ' "$work/said" || :)"
@@ -53,7 +53,7 @@ rm -r other
 # Words for a part.
 for word in lib libs library libraries; do
     ends 0 "$word"
-    last "$word" 'build/ has 4 libraries'
+    last "$word" 'build/ has 3 libraries'
 done
 # programs: those that are in build/.
 programs() {

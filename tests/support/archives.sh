@@ -14,6 +14,18 @@ is_small() {
     "${compiler%gcc}size" "$1" | awk -v most="$2" 'NR > 1 { text += $1; data += $2 + $3 }
         END { print "  " text " bytes of text, " data " of data"; exit !(text > 0 && text < most && data == 0) }'
 }
+# taken LIBRARY CALL..: what a program that makes these calls takes of a library, as the object file $work/taken.o.
+taken() {
+    library=$1
+    shift
+    for call in "$@"; do
+        set -- "$@" "-Wl,-u,$call"
+        shift
+    done
+    # shellcheck disable=SC2086
+    "$compiler" ${flags-} -r -nostdlib -Wl,--gc-sections "$@" "$library" -o "$work/taken.o" &&
+        "${compiler%gcc}objcopy" --strip-unneeded "$work/taken.o"
+}
 # needs_only LIBRARY PATTERN: all that it wants of others.
 needs_only() {
     "${compiler%gcc}nm" -u "$1" | awk '$1 == "U" { print $2 }' | sort -u > "$work/undefined"

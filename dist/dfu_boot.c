@@ -1,10 +1,11 @@
 /* SPDX-License-Identifier: MIT OR Apache-2.0
  *
- * The body of dfu_trial_core.h: images on trial.
+ * The body of dfu_install_core.h and dfu_trial_core.h: a run area, to which images are linked, and images on trial.
  *
  * Made by dist/make/library of the proved crate. Nobody edits it: change the crate, and make it anew by dist/generate. Compile it as C11
  * beside its header. Memory is arrays of bytes here, laid out as on a 64-bit processor with the low byte first: a size is a uint64_t,
  * and a pointer takes 8 bytes. */
+#include "dfu_install_core.h"
 #include "dfu_trial_core.h"
 
 #include <stddef.h>
@@ -84,6 +85,10 @@ _Static_assert(offsetof(struct dfu_place, at) == 0, "another layout");
 _Static_assert(offsetof(struct dfu_place, length) == 4, "another layout");
 _Static_assert(sizeof(struct dfu_place) == 8, "another layout");
 _Static_assert(_Alignof(struct dfu_place) == 4, "another layout");
+_Static_assert(offsetof(struct dfu_run_area, sector) == 0, "another layout");
+_Static_assert(offsetof(struct dfu_run_area, last) == 4, "another layout");
+_Static_assert(sizeof(struct dfu_run_area) == 8, "another layout");
+_Static_assert(_Alignof(struct dfu_run_area) == 4, "another layout");
 _Static_assert(offsetof(struct dfu_tries, unit) == 0, "another layout");
 _Static_assert(offsetof(struct dfu_tries, sector) == 4, "another layout");
 _Static_assert(offsetof(struct dfu_tries, tries) == 8, "another layout");
@@ -102,6 +107,7 @@ _Static_assert(sizeof(struct dfu_starting) == 16, "another layout");
 _Static_assert(_Alignof(struct dfu_starting) == 4, "another layout");
 
 struct i32_i32 { uint32_t a; uint32_t b; };
+struct i8_i32 { uint8_t a; uint32_t b; };
 
 static inline uint32_t load32(const unsigned char *p) { uint32_t x = 0; memcpy(&x, ALIGNED(p, 4), 4); return x; }
 static inline uint32_t load32u(const unsigned char *p) { uint32_t x = 0; memcpy(&x, p, 4); return x; }
@@ -114,6 +120,7 @@ static inline void store64(unsigned char *p, uint64_t x) { memcpy(ALIGNED(p, 8),
 static inline void store64a4(unsigned char *p, uint64_t x) { memcpy(ALIGNED(p, 4), &x, 8); }
 static inline uint32_t umax32(uint32_t x, uint32_t y) { return x < y ? y : x; }
 static inline uint32_t umin32(uint32_t x, uint32_t y) { return x < y ? x : y; }
+static inline uint64_t umin64(uint64_t x, uint64_t y) { return x < y ? x : y; }
 
 static _Alignas(1) const uint8_t static_0[1] = {
     0
@@ -124,10 +131,10 @@ static _Alignas(4) const uint8_t static_1[64] = {
     0xe8, 0xa3, 0xd6, 0xd6, 0x8c, 0xb3, 0x61, 0xcb, 0xb0, 0xc2, 0x64, 0x9b, 0xd4, 0xd2, 0xd3, 0x86, 0x78, 0xe2, 0xa, 0xa0,
     0x1c, 0xf2, 0xbd, 0xbd
 };
-static _Alignas(8) const uint64_t switch_table_dfu_trial_c_flash_looked[4] = {
+static _Alignas(8) const uint64_t switch_table_dfu_boot_c_trial_flash_looked[4] = {
     0x10, 0x10, 0x40, 0x100
 };
-static _Alignas(4) const uint32_t switch_table_dfu_trial_c_flash_medium_of[4] = {
+static _Alignas(4) const uint32_t switch_table_dfu_boot_c_trial_flash_medium_of[4] = {
     1, 0x10, 0x40, 0x100
 };
 static _Alignas(4) const uint32_t switch_table_dfu_slots_layout_is_whole[4] = {
@@ -137,31 +144,133 @@ static _Alignas(4) const uint32_t switch_table_dfu_slots_layout_gate_of[4] = {
     0x10, 0x10, 0x40, 0x100
 };
 
-static void dfu_trial_c_flash_looked(unsigned char *a0, unsigned char *a1, unsigned char *a2, uint64_t a3);
-static void dfu_trial_c_flash_medium_of(unsigned char *a0, unsigned char *a1, unsigned char *a2, uint64_t a3);
-static uint8_t dfu_trial_c_flash_unit_sized(uint32_t a0);
+static uint8_t dfu_boot_install_area_is_run_area(uint64_t a0, uint32_t a1);
+static uint8_t dfu_boot_install_area_are_blank(unsigned char *a0, uint32_t a2, uint32_t a3);
+static struct i8_i32 dfu_boot_install_compare_first_difference(unsigned char *a0, unsigned char *a2, uint32_t a4, uint32_t a5);
+static void core_slice_edits_slice_T_copy_from_slice_i8_core_clone_U8Clone(unsigned char *a0, unsigned char *a2, uint64_t a3);
+static void dfu_boot_c_trial_flash_looked(unsigned char *a0, unsigned char *a1, unsigned char *a2, uint64_t a3);
+static void dfu_boot_c_trial_flash_medium_of(unsigned char *a0, unsigned char *a1, unsigned char *a2, uint64_t a3);
+static uint8_t dfu_boot_c_trial_flash_unit_sized(uint32_t a0);
 static uint8_t dfu_slots_read_counts(unsigned char *a0, uint32_t a1);
 static uint8_t dfu_slots_read_byte_at(unsigned char *a0, uint32_t a1);
-static void dfu_asks_mapped_MappedMedium_read(unsigned char *a0, uint32_t a1, unsigned char *a2, uint64_t a3);
 static void dfu_slots_read_header_of(unsigned char *a0, unsigned char *a1, uint32_t a2);
 static uint32_t dfu_slots_layout_capacity_of(unsigned char *a0);
 static void dfu_suffix_crc_Crc_update_small(unsigned char *a0, unsigned char *a1, uint64_t a2);
 static uint8_t dfu_slots_places_is_newest(unsigned char *a0, uint32_t a1, uint32_t a2, uint8_t a3, uint8_t a4);
 static uint8_t dfu_slots_read_generation(unsigned char *a0, uint32_t a1);
 static uint8_t dfu_slots_layout_is_formed(unsigned char *a0, uint32_t a1);
-static uint8_t dfu_trial_marks_is_set(unsigned char *a0, uint32_t a1, uint32_t a2);
+static uint8_t dfu_boot_trial_marks_is_set(unsigned char *a0, uint32_t a1, uint32_t a2);
 static uint8_t dfu_slots_read_counts_2(unsigned char *a0, uint32_t a1);
 static uint8_t dfu_slots_read_byte_at_2(unsigned char *a0, uint32_t a1);
-static void dfu_trial_closed_ClosedMedium_read(unsigned char *a0, uint32_t a1, unsigned char *a2, uint64_t a3);
+static void dfu_boot_trial_closed_ClosedMedium_read(unsigned char *a0, uint32_t a1, unsigned char *a2, uint64_t a3);
 static void dfu_slots_read_header_of_2(unsigned char *a0, unsigned char *a1, uint32_t a2);
 static uint32_t dfu_slots_layout_capacity_of_2(unsigned char *a0);
 static uint8_t dfu_slots_places_is_newest_2(unsigned char *a0, uint32_t a1, uint32_t a2, uint8_t a3, uint8_t a4);
 static uint8_t dfu_slots_read_generation_2(unsigned char *a0, uint32_t a1);
-static uint32_t dfu_trial_c_told_tell(unsigned char *a0, uint32_t a1, unsigned char *a2);
-static struct i32_i32 dfu_trial_c_told_image_in(unsigned char *a0, uint32_t a1);
+static uint32_t dfu_boot_c_trial_told_tell(unsigned char *a0, uint32_t a1, unsigned char *a2);
+static struct i32_i32 dfu_boot_c_trial_told_image_in(unsigned char *a0, uint32_t a1);
 
-/* dfu_trial_c::flash::looked */
-static void dfu_trial_c_flash_looked(unsigned char *a0, unsigned char *a1, unsigned char *a2, uint64_t a3) {
+/* dfu_boot::install::area::is_run_area */
+static uint8_t dfu_boot_install_area_is_run_area(uint64_t a0, uint32_t a1) {
+    uint8_t r1_0_in;
+    if (!((a0 < 0x100000000ULL) & (((a1 + 0xffffffffU) < 0x20000U) & ((a1 & 255) == 0)))) {
+        r1_0_in = 0;
+        goto join_12;
+    }
+    r1_0_in = ((uint32_t)a0 % a1) == 0;
+join_12:
+    return r1_0_in;
+}
+
+/* dfu_boot::install::area::are_blank */
+static uint8_t dfu_boot_install_area_are_blank(unsigned char *a0, uint32_t a2, uint32_t a3) {
+    uint64_t v1, indvars_iv;
+    uint8_t r9_not_not_not_not_not_not_not_not_not_not;
+    v1 = (uint64_t)a3;
+    indvars_iv = (uint64_t)a2;
+loop_2:
+    r9_not_not_not_not_not_not_not_not_not_not = indvars_iv >= v1;
+    if (r9_not_not_not_not_not_not_not_not_not_not) goto common_ret;
+    uint8_t r19 = a0[(size_t)indvars_iv];
+    if (r19 == 255) {
+        indvars_iv = indvars_iv + 1;
+        goto loop_2;
+    }
+common_ret:
+    return r9_not_not_not_not_not_not_not_not_not_not;
+}
+
+/* dfu_boot::install::compare::first_difference */
+static struct i8_i32 dfu_boot_install_compare_first_difference(unsigned char *a0, unsigned char *a2, uint32_t a4, uint32_t a5) {
+    uint32_t r5_0, r0_4_0;
+    uint64_t r31, v0, indvars_iv;
+    uint8_t r0_0_0_0;
+    r5_0 = a4;
+loop_2:
+    r31 = (uint64_t)r5_0;
+    if (!((r5_0 < a5) ? ((a5 - r5_0) > 3) : 0)) goto after_1;
+    uint8_t r36 = a2[(size_t)r31];
+    uint8_t r41 = a0[(size_t)r31];
+    if (r36 != r41) goto after_1;
+    uint64_t r49 = r31 + 1;
+    uint8_t r54 = a2[(size_t)r49];
+    uint8_t r61 = a0[(size_t)r49];
+    if (r54 != r61) goto after_1;
+    uint64_t r72 = r31 + 2;
+    uint8_t r77 = a2[(size_t)r72];
+    uint8_t r84 = a0[(size_t)r72];
+    if (r77 != r84) goto after_1;
+    uint64_t r95 = r31 + 3;
+    uint8_t r100 = a2[(size_t)r95];
+    uint8_t r107 = a0[(size_t)r95];
+    if (r100 == r107) {
+        r5_0 = r5_0 + 4;
+        goto loop_2;
+    }
+after_1:
+    v0 = (uint64_t)a5;
+    indvars_iv = r31;
+loop_13:
+    if (indvars_iv >= v0) {
+        r0_4_0 = 0;
+        r0_0_0_0 = 0;
+        goto return_20;
+    }
+    uint8_t r59 = a2[(size_t)indvars_iv];
+    uint8_t r66 = a0[(size_t)indvars_iv];
+    if (r59 != r66) goto return_20_split_loop_exit18;
+    indvars_iv = indvars_iv + 1;
+    goto loop_13;
+return_20_split_loop_exit18:
+    r0_4_0 = (uint32_t)indvars_iv;
+    r0_0_0_0 = 1;
+return_20:;
+    struct i8_i32 r77_half = (struct i8_i32){ 0, 0 };
+    r77_half.a = r0_0_0_0;
+    struct i8_i32 r77_2 = r77_half;
+    r77_2.b = r0_4_0;
+    return r77_2;
+}
+
+/* core::slice::edits::slice+T::copy_from_slice::<i8,20'core::clone::U8Clone{}> */
+static void core_slice_edits_slice_T_copy_from_slice_i8_core_clone_U8Clone(unsigned char *a0, unsigned char *a2, uint64_t a3) {
+    uint64_t r0_0;
+    if (((uint64_t)(uintptr_t)a0 - (uint64_t)(uintptr_t)a2) < a3) {
+        r0_0 = 0;
+        goto loop_4;
+    }
+    memmove(a0, a2, (size_t)a3);
+    return;
+loop_4:
+    if (r0_0 == a3) return;
+    uint8_t r26 = a2[(size_t)r0_0];
+    a0[(size_t)r0_0] = r26;
+    r0_0 = r0_0 + 1;
+    goto loop_4;
+}
+
+/* dfu_boot_c::trial::flash::looked */
+static void dfu_boot_c_trial_flash_looked(unsigned char *a0, unsigned char *a1, unsigned char *a2, uint64_t a3) {
     _Alignas(8) unsigned char r3[32];
     unsigned char *const r3_8 = r3;
     unsigned char *const r3_3 = r3;
@@ -176,12 +285,12 @@ static void dfu_trial_c_flash_looked(unsigned char *a0, unsigned char *a1, unsig
     uint64_t v3;
     uint8_t r17, r5_2, r11, r31, r5_3, r11_2;
     memset(r12_8, 0, 29);
-    dfu_trial_c_flash_medium_of(r3, a1, PLACE(static_0), 0);
+    dfu_boot_c_trial_flash_medium_of(r3, a1, PLACE(static_0), 0);
     uint8_t r19 = *r3;
     if (r19 != 1) {
         r6_4_0 = 0;
         r6_7_0 = 0;
-        goto dfu_trial_c_flash_refused_exit_thread;
+        goto dfu_boot_c_trial_flash_refused_exit_thread;
     }
     r1_2_0_copyload = r3[24];
     r1_38_0_copyload = load32(r3 + 28);
@@ -190,17 +299,17 @@ static void dfu_trial_c_flash_looked(unsigned char *a0, unsigned char *a1, unsig
     if (r1_38_0_copyload == 0) {
         r6_4_0 = 1;
         r6_7_0 = 0;
-        goto dfu_trial_c_flash_refused_exit_thread;
+        goto dfu_boot_c_trial_flash_refused_exit_thread;
     }
     if (r29 >= 2) goto switch_lookup;
     r6_4_0 = 1;
     r6_7_0 = 1;
-dfu_trial_c_flash_refused_exit_thread:
+dfu_boot_c_trial_flash_refused_exit_thread:
     r6_7_039 = r6_7_0;
     r6_4_038 = r6_4_0;
     goto arm_1;
 switch_lookup:;
-    uint64_t switch_load = load64(PLACE(switch_table_dfu_trial_c_flash_looked) + 8 * (size_t)r1_2_0_copyload);
+    uint64_t switch_load = load64(PLACE(switch_table_dfu_boot_c_trial_flash_looked) + 8 * (size_t)r1_2_0_copyload);
     if ((switch_load * ((uint64_t)r29 + 2)) > (uint64_t)r1_38_0_copyload) {
         r6_7_039 = 2;
         r6_4_038 = 1;
@@ -214,7 +323,7 @@ arm_1:
     memset(a0 + 8, 0, 40);
     return;
 join_4:
-    dfu_trial_c_flash_medium_of(r7, a1, a2, a3);
+    dfu_boot_c_trial_flash_medium_of(r7, a1, a2, a3);
     uint8_t r38 = *r7;
     if (r38 != 1) goto arm_6;
     r39 = r7 + 8;
@@ -323,21 +432,21 @@ dfu_slots_read_header_len_exit:;
         goto join_10;
     }
 arm_1_2:
-    r31 = dfu_trial_marks_is_set(r39, r72, 0);
+    r31 = dfu_boot_trial_marks_is_set(r39, r72, 0);
     if (r31) goto after_5;
-    uint8_t r41 = dfu_trial_marks_is_set(r39, r72_2, 0);
+    uint8_t r41 = dfu_boot_trial_marks_is_set(r39, r72_2, 0);
     if (!r41) goto after_5;
     unsigned char *v6 = r3_4 + 8;
     store64(v6, 0);
     store64(r3_4, (uint64_t)(uintptr_t)r4);
     store32(v6, r72);
     if (r17) goto join_3_2;
-    if ((r69 % r1_0_0_copyload) != 0) goto dfu_trial_looking_comes_back_exit_thread;
+    if ((r69 % r1_0_0_copyload) != 0) goto dfu_boot_trial_looking_comes_back_exit_thread;
 join_3_2:
     r5_3 = dfu_slots_read_counts_2(r3_4, 0);
     uint64_t r3_5 = load64(r2);
     r11_2 = dfu_slots_read_counts_2(r3_4, (uint32_t)r3_5 >> 1);
-    if (!(r5_3 | r11_2)) goto dfu_trial_looking_comes_back_exit_thread;
+    if (!(r5_3 | r11_2)) goto dfu_boot_trial_looking_comes_back_exit_thread;
     uint64_t r3_6 = load64(r2);
     uint8_t r15_2 = dfu_slots_places_is_newest_2(r3_4, 0, (uint32_t)r3_6 >> 1, r5_3, r11_2);
     uint64_t r3_7 = load64(r2);
@@ -347,18 +456,18 @@ join_3_2:
     if (r72_4 != 0) goto dfu_slots_places_has_newest_exit_2;
     uint8_t r24_2 = dfu_slots_places_is_newest_2(r3_4, 0, r72_5, r5_3, r11_2);
     if (r24_2) goto join_9_2;
-    goto dfu_trial_looking_comes_back_exit_thread;
+    goto dfu_boot_trial_looking_comes_back_exit_thread;
 dfu_slots_places_has_newest_exit_2:;
     uint8_t r33_2 = dfu_slots_places_is_newest_2(r3_4, r72_4, r72_5, r11_2, r5_3);
-    if (!r33_2) goto dfu_trial_looking_comes_back_exit_thread;
+    if (!r33_2) goto dfu_boot_trial_looking_comes_back_exit_thread;
 join_9_2:
     dfu_slots_read_header_of_2(r3_8, r3_4, r72_4);
     uint8_t r18_2 = r3_8[1];
-    if (r18_2 != 2) goto dfu_trial_looking_comes_back_exit;
+    if (r18_2 != 2) goto dfu_boot_trial_looking_comes_back_exit;
     goto loop_2_preheader;
-dfu_trial_looking_comes_back_exit_thread:
+dfu_boot_trial_looking_comes_back_exit_thread:
     goto after_5;
-dfu_trial_looking_comes_back_exit:;
+dfu_boot_trial_looking_comes_back_exit:;
     uint32_t r26 = dfu_slots_layout_capacity_of_2(r3_4);
     uint8_t r29_3 = dfu_slots_layout_is_formed(r3_8, r26);
     if (!r29_3) goto after_5;
@@ -372,7 +481,7 @@ loop_2:
         goto arm_8;
     }
     uint32_t r11_3 = r1_0 + 1;
-    uint8_t r13 = dfu_trial_marks_is_set(r4, r72, r11_3);
+    uint8_t r13 = dfu_boot_trial_marks_is_set(r4, r72, r11_3);
     if (r13) {
         r1_0 = r11_3;
         goto loop_2;
@@ -412,15 +521,15 @@ join_10:
     return;
 }
 
-/* dfu_trial_c::flash::medium_of */
-static void dfu_trial_c_flash_medium_of(unsigned char *a0, unsigned char *a1, unsigned char *a2, uint64_t a3) {
+/* dfu_boot_c::trial::flash::medium_of */
+static void dfu_boot_c_trial_flash_medium_of(unsigned char *a0, unsigned char *a1, unsigned char *a2, uint64_t a3) {
     _Alignas(4) unsigned char r0_10[3];
     uint8_t r9, r0_9_0;
     uint32_t r24, r0_11_0;
     uint64_t r0_0_0_0, r0_5_0, r0_8_0;
     uint32_t r7 = load32(a1);
-    r9 = dfu_trial_c_flash_unit_sized(r7);
-    uint32_t switch_load = load32(PLACE(switch_table_dfu_trial_c_flash_medium_of) + 4 * (size_t)r9);
+    r9 = dfu_boot_c_trial_flash_unit_sized(r7);
+    uint32_t switch_load = load32(PLACE(switch_table_dfu_boot_c_trial_flash_medium_of) + 4 * (size_t)r9);
     if (switch_load == r7) goto join_3;
     goto then_1;
 then_1:
@@ -462,12 +571,12 @@ dfu_asks_mapped_Mapped_with_sectors_exit:
     return;
 }
 
-/* dfu_trial_c::flash::unit_sized */
-static uint8_t dfu_trial_c_flash_unit_sized(uint32_t a0) {
+/* dfu_boot_c::trial::flash::unit_sized */
+static uint8_t dfu_boot_c_trial_flash_unit_sized(uint32_t a0) {
     return (uint8_t)((a0 < 16) ? 0 : (uint8_t)((a0 < 64) ? 1 : (uint8_t)((a0 < 256) ? 2 : 3)));
 }
 
-/* dfu_slots::read::counts::<#5c9ad03545c23a1c> */
+/* dfu_slots::read::counts::<#1e2975bbbe5176a9> */
 static uint8_t dfu_slots_read_counts(unsigned char *a0, uint32_t a1) {
     _Alignas(1) unsigned char r2_2[64];
     _Alignas(1) unsigned char r3_2[16];
@@ -507,14 +616,15 @@ static uint8_t dfu_slots_read_counts(unsigned char *a0, uint32_t a1) {
     r3_0 = 0;
 loop_2:
     if (r3_0 >= r1_5_0_copyload) goto dfu_slots_register_register_of_exit;
-    uint32_t a1_2 = umin32(r1_5_0_copyload - r3_0, 64);
-    uint64_t r28 = (uint64_t)a1_2;
+    uint32_t a1_a0 = umin32(r1_5_0_copyload - r3_0, 64);
+    uint64_t r28 = (uint64_t)a1_a0;
     uint8_t r0_0_0_copyload = *r1_2;
     uint32_t r1_0_0_copyload = load32(r2_3);
     uint32_t switch_load = load32(PLACE(switch_table_dfu_slots_layout_gate_of) + 4 * (size_t)r0_0_0_copyload);
-    dfu_asks_mapped_MappedMedium_read(a0, (r3_0 + a1) + (umax32(r1_0_0_copyload, switch_load) << 1), r2_2, r28);
+    uint64_t r5_0_0_copyload = load64(a0);
+    core_slice_edits_slice_T_copy_from_slice_i8_core_clone_U8Clone(r2_2, (unsigned char *)(uintptr_t)r5_0_0_copyload + (size_t)((r3_0 + a1) + (umax32(r1_0_0_copyload, switch_load) << 1)), r28);
     dfu_suffix_crc_Crc_update_small(r1, r2_2, r28);
-    r3_0 = a1_2 + r3_0;
+    r3_0 = a1_a0 + r3_0;
     goto loop_2;
 dfu_slots_register_register_of_exit:;
     uint32_t r0_0_0_copyload_2 = load32(r1);
@@ -525,48 +635,30 @@ join_3:
     return r1_0_in;
 }
 
-/* dfu_slots::read::byte_at::<#5c9ad03545c23a1c> */
+/* dfu_slots::read::byte_at::<#1e2975bbbe5176a9> */
 static uint8_t dfu_slots_read_byte_at(unsigned char *a0, uint32_t a1) {
     _Alignas(4) unsigned char r1[1];
     *r1 = 0;
-    dfu_asks_mapped_MappedMedium_read(a0, a1, r1, 1);
+    uint64_t r5_0_0_copyload = load64(a0);
+    core_slice_edits_slice_T_copy_from_slice_i8_core_clone_U8Clone(r1, (unsigned char *)(uintptr_t)r5_0_0_copyload + (size_t)a1, 1);
     uint8_t r15 = *r1;
     return r15;
 }
 
-/* dfu_asks::mapped::MappedMedium::read */
-static void dfu_asks_mapped_MappedMedium_read(unsigned char *a0, uint32_t a1, unsigned char *a2, uint64_t a3) {
-    unsigned char *r25;
-    uint64_t r0_0;
-    uint64_t r5_0_0_copyload = load64u(a0);
-    r25 = (unsigned char *)(uintptr_t)r5_0_0_copyload + (size_t)a1;
-    if (((uint64_t)(uintptr_t)a2 - (uint64_t)(uintptr_t)r25) < a3) {
-        r0_0 = 0;
-        goto loop_4;
-    }
-    memmove(a2, r25, (size_t)a3);
-    return;
-loop_4:
-    if (r0_0 == a3) return;
-    uint8_t r26 = r25[(size_t)r0_0];
-    a2[(size_t)r0_0] = r26;
-    r0_0 = r0_0 + 1;
-    goto loop_4;
-}
-
-/* dfu_slots::read::header_of::<#5c9ad03545c23a1c> */
+/* dfu_slots::read::header_of::<#1e2975bbbe5176a9> */
 static void dfu_slots_read_header_of(unsigned char *a0, unsigned char *a1, uint32_t a2) {
     _Alignas(1) unsigned char r1[16];
     memset(r1, 0, 16);
     uint8_t r0_0_0_copyload = a1[16];
     uint32_t r1_0_0_copyload = load32(a1 + 20);
     uint32_t switch_load = load32(PLACE(switch_table_dfu_slots_layout_gate_of) + 4 * (size_t)r0_0_0_copyload);
-    dfu_asks_mapped_MappedMedium_read(a1, umax32(r1_0_0_copyload, switch_load) + a2, r1, 16);
+    uint64_t r5_0_0_copyload = load64(a1);
+    core_slice_edits_slice_T_copy_from_slice_i8_core_clone_U8Clone(r1, (unsigned char *)(uintptr_t)r5_0_0_copyload + (size_t)(umax32(r1_0_0_copyload, switch_load) + a2), 16);
     memcpy(a0, r1, 16);
     return;
 }
 
-/* dfu_slots::layout::capacity_of::<#5c9ad03545c23a1c> */
+/* dfu_slots::layout::capacity_of::<#1e2975bbbe5176a9> */
 static uint32_t dfu_slots_layout_capacity_of(unsigned char *a0) {
     uint64_t r3 = load64(a0 + 8);
     uint8_t r0_0_0_copyload = a0[16];
@@ -597,7 +689,7 @@ dfu_suffix_small_after_bytes_exit:
     return;
 }
 
-/* dfu_slots::places::is_newest::<#5c9ad03545c23a1c> */
+/* dfu_slots::places::is_newest::<#1e2975bbbe5176a9> */
 static uint8_t dfu_slots_places_is_newest(unsigned char *a0, uint32_t a1, uint32_t a2, uint8_t a3, uint8_t a4) {
     uint8_t r1_0_in;
     if (!(a3 & a4)) {
@@ -611,7 +703,7 @@ join_3:
     return r1_0_in;
 }
 
-/* dfu_slots::read::generation::<#5c9ad03545c23a1c> */
+/* dfu_slots::read::generation::<#1e2975bbbe5176a9> */
 static uint8_t dfu_slots_read_generation(unsigned char *a0, uint32_t a1) {
     uint8_t r0_0_0_copyload = a0[16];
     uint32_t r1_0_0_copyload = load32(a0 + 20);
@@ -654,8 +746,8 @@ join_3:
     return r1_0_in;
 }
 
-/* dfu_trial::marks::is_set::<#5c9ad03545c23a1c> */
-static uint8_t dfu_trial_marks_is_set(unsigned char *a0, uint32_t a1, uint32_t a2) {
+/* dfu_boot::trial::marks::is_set::<#1e2975bbbe5176a9> */
+static uint8_t dfu_boot_trial_marks_is_set(unsigned char *a0, uint32_t a1, uint32_t a2) {
     _Alignas(1) unsigned char r1[256];
     unsigned char *r4_0_0_in;
     uint64_t r23;
@@ -665,23 +757,24 @@ static uint8_t dfu_trial_marks_is_set(unsigned char *a0, uint32_t a1, uint32_t a
     uint32_t r1_0_0_copyload = load32(a0 + 20);
     uint64_t r11 = (uint64_t)switch_load;
     memset(r1, 0, 256);
-    dfu_asks_mapped_MappedMedium_read(a0, ((switch_load + a1) + (switch_load * a2)) + umax32(r1_0_0_copyload, switch_load), r1, r11);
+    uint64_t r5_0_0_copyload = load64(a0);
+    core_slice_edits_slice_T_copy_from_slice_i8_core_clone_U8Clone(r1, (unsigned char *)(uintptr_t)r5_0_0_copyload + (size_t)(((switch_load + a1) + (switch_load * a2)) + umax32(r1_0_0_copyload, switch_load)), r11);
     r4_0_0_in = r1;
     r23 = r11;
 loop_2:
     r7_not_not_not_not_not_not_not_not_not_not_not_not_not = r23 != 0;
-    if (!r7_not_not_not_not_not_not_not_not_not_not_not_not_not) goto dfu_trial_marks_is_marked_exit;
+    if (!r7_not_not_not_not_not_not_not_not_not_not_not_not_not) goto dfu_boot_trial_marks_is_marked_exit;
     uint8_t r2 = *r4_0_0_in;
     if (r2 == 255) {
         r4_0_0_in = r4_0_0_in + 1;
         r23 = r23 + 0xffffffffffffffffULL;
         goto loop_2;
     }
-dfu_trial_marks_is_marked_exit:
+dfu_boot_trial_marks_is_marked_exit:
     return r7_not_not_not_not_not_not_not_not_not_not_not_not_not;
 }
 
-/* dfu_slots::read::counts::<#5c03c3d00696451c> */
+/* dfu_slots::read::counts::<#513f0be27ee7ff3e> */
 static uint8_t dfu_slots_read_counts_2(unsigned char *a0, uint32_t a1) {
     _Alignas(1) unsigned char r2_2[64];
     _Alignas(1) unsigned char r3_2[16];
@@ -718,16 +811,16 @@ static uint8_t dfu_slots_read_counts_2(unsigned char *a0, uint32_t a1) {
     r3_0 = 0;
 loop_2:
     if (r3_0 >= r1_5_0_copyload) goto dfu_slots_register_register_of_exit;
-    uint32_t a1_2 = umin32(r1_5_0_copyload - r3_0, 64);
-    uint64_t r28 = (uint64_t)a1_2;
+    uint32_t a1_a0 = umin32(r1_5_0_copyload - r3_0, 64);
+    uint64_t r28 = (uint64_t)a1_a0;
     uint64_t r2_wide = load64(a0);
     unsigned char *r2_3 = (unsigned char *)(uintptr_t)r2_wide;
     uint8_t r0_0_0_copyload = r2_3[16];
     uint32_t r1_0_0_copyload = load32u(r2_3 + 20);
     uint32_t switch_load = load32(PLACE(switch_table_dfu_slots_layout_gate_of) + 4 * (size_t)r0_0_0_copyload);
-    dfu_trial_closed_ClosedMedium_read(a0, (r3_0 + a1) + (umax32(r1_0_0_copyload, switch_load) << 1), r2_2, r28);
+    dfu_boot_trial_closed_ClosedMedium_read(a0, (r3_0 + a1) + (umax32(r1_0_0_copyload, switch_load) << 1), r2_2, r28);
     dfu_suffix_crc_Crc_update_small(r1, r2_2, r28);
-    r3_0 = a1_2 + r3_0;
+    r3_0 = a1_a0 + r3_0;
     goto loop_2;
 dfu_slots_register_register_of_exit:;
     uint32_t r0_0_0_copyload_2 = load32(r1);
@@ -738,21 +831,22 @@ join_3:
     return r1_0_in;
 }
 
-/* dfu_slots::read::byte_at::<#5c03c3d00696451c> */
+/* dfu_slots::read::byte_at::<#513f0be27ee7ff3e> */
 static uint8_t dfu_slots_read_byte_at_2(unsigned char *a0, uint32_t a1) {
     _Alignas(4) unsigned char r1[1];
     *r1 = 0;
-    dfu_trial_closed_ClosedMedium_read(a0, a1, r1, 1);
+    dfu_boot_trial_closed_ClosedMedium_read(a0, a1, r1, 1);
     uint8_t r15 = *r1;
     return r15;
 }
 
-/* dfu_trial::closed::ClosedMedium::read::<#5c9ad03545c23a1c> */
-static void dfu_trial_closed_ClosedMedium_read(unsigned char *a0, uint32_t a1, unsigned char *a2, uint64_t a3) {
+/* dfu_boot::trial::closed::ClosedMedium::read::<#1e2975bbbe5176a9> */
+static void dfu_boot_trial_closed_ClosedMedium_read(unsigned char *a0, uint32_t a1, unsigned char *a2, uint64_t a3) {
     uint32_t r29;
     uint64_t r40;
     uint64_t r18_wide = load64(a0);
-    dfu_asks_mapped_MappedMedium_read((unsigned char *)(uintptr_t)r18_wide, a1, a2, a3);
+    uint64_t r5_0_0_copyload = load64u((unsigned char *)(uintptr_t)r18_wide);
+    core_slice_edits_slice_T_copy_from_slice_i8_core_clone_U8Clone(a2, (unsigned char *)(uintptr_t)r5_0_0_copyload + (size_t)a1, a3);
     r29 = load32(a0 + 8);
     if (a1 > r29) return;
     r40 = (uint64_t)(r29 - a1);
@@ -761,7 +855,7 @@ static void dfu_trial_closed_ClosedMedium_read(unsigned char *a0, uint32_t a1, u
     return;
 }
 
-/* dfu_slots::read::header_of::<#5c03c3d00696451c> */
+/* dfu_slots::read::header_of::<#513f0be27ee7ff3e> */
 static void dfu_slots_read_header_of_2(unsigned char *a0, unsigned char *a1, uint32_t a2) {
     _Alignas(1) unsigned char r1[16];
     memset(r1, 0, 16);
@@ -770,12 +864,12 @@ static void dfu_slots_read_header_of_2(unsigned char *a0, unsigned char *a1, uin
     uint8_t r0_0_0_copyload = r2[16];
     uint32_t r1_0_0_copyload = load32u(r2 + 20);
     uint32_t switch_load = load32(PLACE(switch_table_dfu_slots_layout_gate_of) + 4 * (size_t)r0_0_0_copyload);
-    dfu_trial_closed_ClosedMedium_read(a1, umax32(r1_0_0_copyload, switch_load) + a2, r1, 16);
+    dfu_boot_trial_closed_ClosedMedium_read(a1, umax32(r1_0_0_copyload, switch_load) + a2, r1, 16);
     memcpy(a0, r1, 16);
     return;
 }
 
-/* dfu_slots::layout::capacity_of::<#5c03c3d00696451c> */
+/* dfu_slots::layout::capacity_of::<#513f0be27ee7ff3e> */
 static uint32_t dfu_slots_layout_capacity_of_2(unsigned char *a0) {
     uint64_t r2_wide = load64(a0);
     unsigned char *r2 = (unsigned char *)(uintptr_t)r2_wide;
@@ -786,7 +880,7 @@ static uint32_t dfu_slots_layout_capacity_of_2(unsigned char *a0) {
     return ((uint32_t)r3 >> 1) - (umax32(r1_0_0_copyload, switch_load) << 1);
 }
 
-/* dfu_slots::places::is_newest::<#5c03c3d00696451c> */
+/* dfu_slots::places::is_newest::<#513f0be27ee7ff3e> */
 static uint8_t dfu_slots_places_is_newest_2(unsigned char *a0, uint32_t a1, uint32_t a2, uint8_t a3, uint8_t a4) {
     uint8_t r1_0_in;
     if (!(a3 & a4)) {
@@ -800,7 +894,7 @@ join_3:
     return r1_0_in;
 }
 
-/* dfu_slots::read::generation::<#5c03c3d00696451c> */
+/* dfu_slots::read::generation::<#513f0be27ee7ff3e> */
 static uint8_t dfu_slots_read_generation_2(unsigned char *a0, uint32_t a1) {
     uint64_t r2_wide = load64(a0);
     unsigned char *r2 = (unsigned char *)(uintptr_t)r2_wide;
@@ -811,8 +905,8 @@ static uint8_t dfu_slots_read_generation_2(unsigned char *a0, uint32_t a1) {
     return r7;
 }
 
-/* dfu_trial_c::told::tell */
-static uint32_t dfu_trial_c_told_tell(unsigned char *a0, uint32_t a1, unsigned char *a2) {
+/* dfu_boot_c::trial::told::tell */
+static uint32_t dfu_boot_c_trial_told_tell(unsigned char *a0, uint32_t a1, unsigned char *a2) {
     uint32_t r1_5_8_copyload, r1_8_12_copyload, r15_0;
     unsigned char *r17_3_0_a2_sroa_idx, *r17_4_0_a2_sroa_idx;
     uint8_t r2 = *a0;
@@ -841,8 +935,8 @@ join_4:
     return r15_0;
 }
 
-/* dfu_trial_c::told::image_in::<#5c9ad03545c23a1c> */
-static struct i32_i32 dfu_trial_c_told_image_in(unsigned char *a0, uint32_t a1) {
+/* dfu_boot_c::trial::told::image_in::<#1e2975bbbe5176a9> */
+static struct i32_i32 dfu_boot_c_trial_told_image_in(unsigned char *a0, uint32_t a1) {
     _Alignas(1) unsigned char r3[16];
     uint8_t r0_0_0_copyload = a0[16];
     uint32_t r1_0_0_copyload = load32(a0 + 20);
@@ -869,17 +963,17 @@ int32_t dfu_core_trial_runs(const uint8_t *flash, size_t size, const struct dfu_
     uint32_t r8 = load32(a2);
     if (r8 != 2) {
         r3_0_0_in = a3;
-        goto dfu_trial_c_calls_dfu_core_trial_runs_exit;
+        goto dfu_boot_c_trial_calls_dfu_core_trial_runs_exit;
     }
     uint32_t r16 = load32(a2 + 4);
     r18 = (uint64_t)r16;
     uint32_t r20 = load32(a2 + 8);
     r22 = (uint64_t)r20;
-    if ((r22 + r18) > a1) goto dfu_trial_c_calls_is_there_exit_thread;
+    if ((r22 + r18) > a1) goto dfu_boot_c_trial_calls_is_there_exit_thread;
     r4_0_0_in = r4 + (size_t)r18;
     r4_4_0 = r22;
 loop_2:
-    if (r4_4_0 == 0) goto dfu_trial_c_calls_is_there_exit_thread;
+    if (r4_4_0 == 0) goto dfu_boot_c_trial_calls_is_there_exit_thread;
     uint8_t r2 = *r4_0_0_in;
     if (r2 == 255) {
         r4_0_0_in = r4_0_0_in + 1;
@@ -887,13 +981,165 @@ loop_2:
         goto loop_2;
     }
     r3_0_0_in = a3;
-    goto dfu_trial_c_calls_dfu_core_trial_runs_exit;
-dfu_trial_c_calls_is_there_exit_thread:
+    goto dfu_boot_c_trial_calls_dfu_core_trial_runs_exit;
+dfu_boot_c_trial_calls_is_there_exit_thread:
     r3_0_0_in = a3 + 8;
-dfu_trial_c_calls_dfu_core_trial_runs_exit:;
+dfu_boot_c_trial_calls_dfu_core_trial_runs_exit:;
     uint64_t r3_0_0 = load64a4(r3_0_0_in);
     store64a4(a4, r3_0_0);
     return signed32(0);
+}
+
+/* dfu_core_install_took */
+int32_t dfu_core_install_took(struct dfu_run_area *area, const uint8_t *image, size_t length, const uint8_t *run, size_t size, const struct dfu_ask *ask, uint32_t failed) {
+    unsigned char *a0 = (unsigned char *)(uintptr_t)area;
+    unsigned char *a1 = (unsigned char *)(uintptr_t)image;
+    uint64_t a2 = length;
+    unsigned char *a3 = (unsigned char *)(uintptr_t)run;
+    uint64_t a4 = size;
+    unsigned char *a5 = (unsigned char *)(uintptr_t)ask;
+    uint32_t a6 = failed;
+    unsigned char *r4, *r13;
+    uint32_t r10, r1_61_0, r0_0_0_0_off0;
+    uint8_t r1_0_0;
+    uint64_t r18;
+    r4 = (unsigned char *)((uintptr_t)a1 + (uintptr_t)(uint64_t)((a1 == NULL) ? 4096 : 0));
+    r13 = (unsigned char *)((uintptr_t)a3 + (uintptr_t)(uint64_t)((a3 == NULL) ? 4096 : 0));
+    r10 = load32(a0);
+    uint32_t r4_2 = load32(a5);
+    switch (r4_2) {
+    case 1: goto arm_1;
+    case 2: goto arm_2;
+    default:
+        r1_0_0 = 3;
+        r1_61_0 = 0;
+        goto dfu_boot_c_install_numbers_due_of_exit;
+    }
+arm_1:;
+    uint32_t r6 = load32(a5 + 4);
+    r1_0_0 = 1;
+    r1_61_0 = r6;
+    goto dfu_boot_c_install_numbers_due_of_exit;
+arm_2:;
+    uint32_t r10_2 = load32(a5 + 4);
+    r1_0_0 = 2;
+    r1_61_0 = r10_2;
+dfu_boot_c_install_numbers_due_of_exit:
+    if (a6 != 0) {
+        r0_0_0_0_off0 = 0xffffffffU;
+        goto dfu_boot_c_install_calls_dfu_core_install_took_exit;
+    }
+    uint8_t r25 = dfu_boot_install_area_is_run_area(a4, r10);
+    if (!r25) {
+        r0_0_0_0_off0 = 0xffffffffU;
+        goto dfu_boot_c_install_calls_dfu_core_install_took_exit;
+    }
+    switch (r1_0_0) {
+    case 1: goto arm_14;
+    case 2: goto arm_15;
+    case 3: goto after_13;
+    default: never();
+    }
+arm_14:
+    if (((uint64_t)r1_61_0 + (uint64_t)r10) > a4) goto after_13;
+    uint8_t r29 = dfu_boot_install_area_are_blank(r13, r1_61_0, r1_61_0 + r10);
+    if (r29) {
+        r0_0_0_0_off0 = r1_61_0;
+        goto dfu_boot_c_install_calls_dfu_core_install_took_exit;
+    }
+    goto after_13;
+arm_15:
+    r18 = (uint64_t)r1_61_0 + 256;
+    if (a4 < r18) goto after_13;
+    struct i8_i32 r46 = dfu_boot_install_compare_first_difference(r4, r13, r1_61_0, (uint32_t)umin64(a2, r18));
+    if (r46.a != 1) {
+        r0_0_0_0_off0 = r1_61_0;
+        goto dfu_boot_c_install_calls_dfu_core_install_took_exit;
+    }
+after_13:
+    r0_0_0_0_off0 = 0xffffffffU;
+    goto dfu_boot_c_install_calls_dfu_core_install_took_exit;
+dfu_boot_c_install_calls_dfu_core_install_took_exit:
+    store32(a0 + 4, r0_0_0_0_off0);
+    return signed32(0);
+}
+
+/* dfu_core_install_next */
+int32_t dfu_core_install_next(const struct dfu_run_area *area, const uint8_t *image, size_t length, const uint8_t *run, size_t size, struct dfu_ask *ask) {
+    unsigned char *a0 = (unsigned char *)(uintptr_t)area;
+    unsigned char *a1 = (unsigned char *)(uintptr_t)image;
+    uint64_t a2 = length;
+    unsigned char *a3 = (unsigned char *)(uintptr_t)run;
+    uint64_t a4 = size;
+    unsigned char *a5 = (unsigned char *)(uintptr_t)ask;
+    unsigned char *r4, *r13;
+    uint32_t r10, r12, a0_2, r7_0, r9_4_0, r16_2, r11_0;
+    uint8_t r3, r24;
+    struct i8_i32 r21_pn;
+    r4 = (unsigned char *)((uintptr_t)a1 + (uintptr_t)(uint64_t)((a1 == NULL) ? 4096 : 0));
+    r13 = (unsigned char *)((uintptr_t)a3 + (uintptr_t)(uint64_t)((a3 == NULL) ? 4096 : 0));
+    r10 = load32(a0);
+    r12 = load32(a0 + 4);
+    r3 = r12 != 0xffffffffU;
+    a0_2 = (uint32_t)(r3 ? r12 : 0);
+    uint8_t r23 = dfu_boot_install_area_is_run_area(a4, r10);
+    if (!r23) {
+        r11_0 = 0xfffffffaU;
+        goto dfu_boot_c_install_calls_dfu_core_install_next_exit;
+    }
+    if (a2 == 0) {
+        r11_0 = 0xfffffff1U;
+        goto dfu_boot_c_install_calls_dfu_core_install_next_exit;
+    }
+    if (a4 < a2) {
+        r11_0 = 0xfffffff9U;
+        goto dfu_boot_c_install_calls_dfu_core_install_next_exit;
+    }
+    uint32_t r16 = (uint32_t)a2;
+    r7_0 = (uint32_t)(r3 ? umin32(r16, a0_2) : 0);
+    struct i8_i32 r21 = dfu_boot_install_compare_first_difference(r4, r13, r7_0, r16);
+    if (r21.a == 1) {
+        r21_pn = r21;
+        goto arm_10;
+    }
+    struct i8_i32 r37 = dfu_boot_install_compare_first_difference(r4, r13, 0, r7_0);
+    if (r37.a != 1) {
+        r11_0 = 0;
+        goto dfu_boot_c_install_calls_dfu_core_install_next_exit;
+    }
+    r21_pn = r37;
+arm_10:
+    r9_4_0 = r21_pn.b;
+    r16_2 = r9_4_0 & 0xffffff00U;
+    r24 = r10 == 0;
+    if (!(r3 ? (a0_2 <= r16_2) : 0)) goto else_2;
+    if (r24) trap();
+    if ((r12 - (r12 % r10)) == (r16_2 - (r16_2 % r10))) goto dfu_boot_install_deciding_may_program_exit;
+    goto arm_3;
+dfu_boot_install_deciding_may_program_exit:;
+    uint8_t r47 = dfu_boot_install_area_are_blank(r13, r16_2, r16_2 + 256);
+    if (r47) goto arm_4;
+    goto arm_3;
+else_2:
+    if (!r24) goto arm_3;
+    trap();
+arm_3:
+    store32(a5, 1);
+    store32(a5 + 4, r9_4_0 - (r9_4_0 % r10));
+    store32(a5 + 8, r10);
+    r11_0 = 0xfffffff5U;
+    goto dfu_boot_c_install_calls_dfu_core_install_next_exit;
+arm_4:
+    store32(a5, 2);
+    store32(a5 + 4, r16_2);
+    store32(a5 + 8, 256);
+    unsigned char *r27 = a5 + 12;
+    uint64_t a1_a0 = umin64(a2, (uint64_t)r16_2);
+    memset(r27, 255, 256);
+    core_slice_edits_slice_T_copy_from_slice_i8_core_clone_U8Clone(r27, r4 + (size_t)a1_a0, umin64(a2 - a1_a0, 256));
+    r11_0 = 0xfffffff5U;
+dfu_boot_c_install_calls_dfu_core_install_next_exit:
+    return signed32(r11_0);
 }
 
 /* dfu_core_trial_confirm */
@@ -908,7 +1154,7 @@ int32_t dfu_core_trial_confirm(const struct dfu_tries *tries, const uint8_t *fla
     uint32_t r3_12_28_copyload, r3_14_28_copyload, switch_load, a0_a1, r5, r7_0;
     uint8_t r18_not;
     memset(r6, 0, 48);
-    dfu_trial_c_flash_looked(r6, a0, (unsigned char *)((uintptr_t)a1 + (uintptr_t)(uint64_t)((a1 == NULL) ? 4096 : 0)), a2);
+    dfu_boot_c_trial_flash_looked(r6, a0, (unsigned char *)((uintptr_t)a1 + (uintptr_t)(uint64_t)((a1 == NULL) ? 4096 : 0)), a2);
     uint8_t r19 = *r6;
     if (r19 != 0) goto arm_2;
     uint8_t r3_3_0_copyload = r6[24];
@@ -924,14 +1170,14 @@ int32_t dfu_core_trial_confirm(const struct dfu_tries *tries, const uint8_t *fla
     if (!r18_not) goto arm_7;
     if (r3_14_28_copyload & 1) {
         r7_0 = 0;
-        goto dfu_trial_c_calls_dfu_core_trial_confirm_exit;
+        goto dfu_boot_c_trial_calls_dfu_core_trial_confirm_exit;
     }
     goto arm_5;
 arm_2_2:
     if (r18_not) goto arm_5;
     if (a3 == (r5 + r3_14_28_copyload)) {
         r7_0 = 0;
-        goto dfu_trial_c_calls_dfu_core_trial_confirm_exit;
+        goto dfu_boot_c_trial_calls_dfu_core_trial_confirm_exit;
     }
     goto arm_7;
 arm_5:
@@ -940,30 +1186,30 @@ arm_5:
     store32(r13 + 8, (switch_load + r3_12_28_copyload) + a0_a1);
     store32(r13 + 12, switch_load);
     uint32_t r52 = load32(a0 + 4);
-    uint32_t r55 = dfu_trial_c_told_tell(r13, r52, a4);
+    uint32_t r55 = dfu_boot_c_trial_told_tell(r13, r52, a4);
     r7_0 = r55;
-    goto dfu_trial_c_calls_dfu_core_trial_confirm_exit;
+    goto dfu_boot_c_trial_calls_dfu_core_trial_confirm_exit;
 arm_7:
     r7_0 = 0xffffffedU;
-    goto dfu_trial_c_calls_dfu_core_trial_confirm_exit;
+    goto dfu_boot_c_trial_calls_dfu_core_trial_confirm_exit;
 arm_2:;
     uint8_t r5_0_0_copyload = r6[1];
     switch (r5_0_0_copyload) {
     case 0:
         r7_0 = 0xfffffffeU;
-        goto dfu_trial_c_calls_dfu_core_trial_confirm_exit;
+        goto dfu_boot_c_trial_calls_dfu_core_trial_confirm_exit;
     case 1: goto switch_lookup;
     case 2: goto arm_3;
     default: never();
     }
 arm_3:
     r7_0 = 0xfffffffdU;
-    goto dfu_trial_c_calls_dfu_core_trial_confirm_exit;
+    goto dfu_boot_c_trial_calls_dfu_core_trial_confirm_exit;
 switch_lookup:;
     uint8_t r5_3_1_copyload = r6[2];
     r7_0 = (uint32_t)0xfffffff0U - (uint32_t)r5_3_1_copyload;
-    goto dfu_trial_c_calls_dfu_core_trial_confirm_exit;
-dfu_trial_c_calls_dfu_core_trial_confirm_exit:
+    goto dfu_boot_c_trial_calls_dfu_core_trial_confirm_exit;
+dfu_boot_c_trial_calls_dfu_core_trial_confirm_exit:
     return signed32(r7_0);
 }
 
@@ -977,7 +1223,7 @@ int32_t dfu_core_trial_end(const struct dfu_tries *tries, const uint8_t *flash, 
     _Alignas(4) unsigned char r7[16];
     uint32_t r6_0;
     memset(r5, 0, 48);
-    dfu_trial_c_flash_looked(r5, a0, (unsigned char *)((uintptr_t)a1 + (uintptr_t)(uint64_t)((a1 == NULL) ? 4096 : 0)), a2);
+    dfu_boot_c_trial_flash_looked(r5, a0, (unsigned char *)((uintptr_t)a1 + (uintptr_t)(uint64_t)((a1 == NULL) ? 4096 : 0)), a2);
     uint8_t r16 = *r5;
     if (r16 != 0) goto arm_2;
     uint8_t r20 = r5[32];
@@ -988,27 +1234,27 @@ int32_t dfu_core_trial_end(const struct dfu_tries *tries, const uint8_t *flash, 
     store32(r7 + 8, (uint32_t)((r20 == 0) ? 0 : r3_4_28_copyload));
     store32(r7 + 12, 0);
     uint32_t r34 = load32(a0 + 4);
-    uint32_t r37 = dfu_trial_c_told_tell(r7, r34, a3);
+    uint32_t r37 = dfu_boot_c_trial_told_tell(r7, r34, a3);
     r6_0 = r37;
-    goto dfu_trial_c_calls_dfu_core_trial_end_exit;
+    goto dfu_boot_c_trial_calls_dfu_core_trial_end_exit;
 arm_2:;
     uint8_t r4_0_0_copyload = r5[1];
     switch (r4_0_0_copyload) {
     case 0:
         r6_0 = 0xfffffffeU;
-        goto dfu_trial_c_calls_dfu_core_trial_end_exit;
+        goto dfu_boot_c_trial_calls_dfu_core_trial_end_exit;
     case 1: goto switch_lookup;
     case 2: goto arm_3;
     default: never();
     }
 arm_3:
     r6_0 = 0xfffffffdU;
-    goto dfu_trial_c_calls_dfu_core_trial_end_exit;
+    goto dfu_boot_c_trial_calls_dfu_core_trial_end_exit;
 switch_lookup:;
     uint8_t r4_3_1_copyload = r5[2];
     r6_0 = (uint32_t)0xfffffff0U - (uint32_t)r4_3_1_copyload;
-    goto dfu_trial_c_calls_dfu_core_trial_end_exit;
-dfu_trial_c_calls_dfu_core_trial_end_exit:
+    goto dfu_boot_c_trial_calls_dfu_core_trial_end_exit;
+dfu_boot_c_trial_calls_dfu_core_trial_end_exit:
     return signed32(r6_0);
 }
 
@@ -1022,7 +1268,7 @@ int32_t dfu_core_trial_look(const struct dfu_tries *tries, const uint8_t *flash,
     _Alignas(8) unsigned char r3[40];
     uint32_t r10_3_4_copyload, r10_5_4_copyload, r9_0_0_0, r9_0_4_0, r9_5_0_0, r9_5_4_0, r9_8_0, r9_10_0, r9_12_0, r6_0;
     memset(r5, 0, 48);
-    dfu_trial_c_flash_looked(r5, a0, (unsigned char *)((uintptr_t)a1 + (uintptr_t)(uint64_t)((a1 == NULL) ? 4096 : 0)), a2);
+    dfu_boot_c_trial_flash_looked(r5, a0, (unsigned char *)((uintptr_t)a1 + (uintptr_t)(uint64_t)((a1 == NULL) ? 4096 : 0)), a2);
     uint8_t r14 = *r5;
     if (r14 != 0) goto arm_2;
     memcpy(r3, r5 + 8, 24);
@@ -1033,7 +1279,7 @@ int32_t dfu_core_trial_look(const struct dfu_tries *tries, const uint8_t *flash,
     r10_3_4_copyload = load32(r20);
     r10_5_4_copyload = load32(r3 + 32);
     if (r18 != 0) goto arm_2_2;
-    struct i32_i32 r31 = dfu_trial_c_told_image_in(r3, r10_3_4_copyload);
+    struct i32_i32 r31 = dfu_boot_c_trial_told_image_in(r3, r10_3_4_copyload);
     uint32_t r32 = r31.a;
     uint32_t r33 = r31.b;
     r9_0_0_0 = r32;
@@ -1043,12 +1289,12 @@ int32_t dfu_core_trial_look(const struct dfu_tries *tries, const uint8_t *flash,
     r9_8_0 = 0;
     r9_10_0 = 0;
     r9_12_0 = r10_5_4_copyload & 1;
-    goto dfu_trial_c_told_standing_told_exit;
+    goto dfu_boot_c_trial_told_standing_told_exit;
 arm_2_2:;
     uint32_t r10_6_4_copyload = load32(r3 + 36);
     uint32_t r23 = load32(a0 + 8);
-    struct i32_i32 r51 = dfu_trial_c_told_image_in(r3, r10_3_4_copyload);
-    struct i32_i32 r59 = dfu_trial_c_told_image_in(r3, r10_5_4_copyload);
+    struct i32_i32 r51 = dfu_boot_c_trial_told_image_in(r3, r10_3_4_copyload);
+    struct i32_i32 r59 = dfu_boot_c_trial_told_image_in(r3, r10_5_4_copyload);
     r9_0_0_0 = r51.a;
     r9_0_4_0 = r51.b;
     r9_5_0_0 = r59.a;
@@ -1056,32 +1302,32 @@ arm_2_2:;
     r9_8_0 = 1;
     r9_10_0 = r23 - r10_6_4_copyload;
     r9_12_0 = 0;
-dfu_trial_c_told_standing_told_exit:
+dfu_boot_c_trial_told_standing_told_exit:
     store64a4(a3, ((uint64_t)r9_0_4_0 << 32) | (uint64_t)r9_0_0_0);
     store64a4(a3 + 8, ((uint64_t)r9_5_4_0 << 32) | (uint64_t)r9_5_0_0);
     store32(a3 + 16, r9_8_0);
     store32(a3 + 20, r9_10_0);
     store32(a3 + 24, r9_12_0);
     r6_0 = 0;
-    goto dfu_trial_c_calls_dfu_core_trial_look_exit;
+    goto dfu_boot_c_trial_calls_dfu_core_trial_look_exit;
 arm_2:;
     uint8_t r4_0_0_copyload = r5[1];
     switch (r4_0_0_copyload) {
     case 0:
         r6_0 = 0xfffffffeU;
-        goto dfu_trial_c_calls_dfu_core_trial_look_exit;
+        goto dfu_boot_c_trial_calls_dfu_core_trial_look_exit;
     case 1: goto switch_lookup;
     case 2: goto arm_3;
     default: never();
     }
 arm_3:
     r6_0 = 0xfffffffdU;
-    goto dfu_trial_c_calls_dfu_core_trial_look_exit;
+    goto dfu_boot_c_trial_calls_dfu_core_trial_look_exit;
 switch_lookup:;
     uint8_t r4_3_1_copyload = r5[2];
     r6_0 = (uint32_t)0xfffffff0U - (uint32_t)r4_3_1_copyload;
-    goto dfu_trial_c_calls_dfu_core_trial_look_exit;
-dfu_trial_c_calls_dfu_core_trial_look_exit:
+    goto dfu_boot_c_trial_calls_dfu_core_trial_look_exit;
+dfu_boot_c_trial_calls_dfu_core_trial_look_exit:
     return signed32(r6_0);
 }
 
@@ -1097,7 +1343,7 @@ int32_t dfu_core_trial_start(const struct dfu_tries *tries, const uint8_t *flash
     _Alignas(4) unsigned char r13[16];
     uint32_t r8_3_4_copyload, r8_5_4_copyload, r8_6_4_copyload, r19, r9_0_0, r9_4_0, r9_6_0, r9_8_0, r9_10_0, r9_12_0, r7_0;
     memset(r6, 0, 48);
-    dfu_trial_c_flash_looked(r6, a0, (unsigned char *)((uintptr_t)a1 + (uintptr_t)(uint64_t)((a1 == NULL) ? 4096 : 0)), a2);
+    dfu_boot_c_trial_flash_looked(r6, a0, (unsigned char *)((uintptr_t)a1 + (uintptr_t)(uint64_t)((a1 == NULL) ? 4096 : 0)), a2);
     uint8_t r18 = *r6;
     if (r18 != 0) goto arm_2;
     memcpy(r3, r6 + 8, 24);
@@ -1115,7 +1361,7 @@ int32_t dfu_core_trial_start(const struct dfu_tries *tries, const uint8_t *flash
         r9_8_0 = 0;
         r9_10_0 = r8_3_4_copyload;
         r9_12_0 = r8_3_4_copyload;
-        goto dfu_trial_standing_Standing_start_exit;
+        goto dfu_boot_trial_standing_Standing_start_exit;
     }
     uint32_t r32 = load32(a0 + 8);
     if (r8_6_4_copyload >= r32) {
@@ -1125,7 +1371,7 @@ int32_t dfu_core_trial_start(const struct dfu_tries *tries, const uint8_t *flash
         r9_8_0 = 0;
         r9_10_0 = r8_5_4_copyload;
         r9_12_0 = r8_5_4_copyload;
-        goto dfu_trial_standing_Standing_start_exit;
+        goto dfu_boot_trial_standing_Standing_start_exit;
     }
     uint8_t r0_0_0_copyload = r3[16];
     uint32_t switch_load = load32(PLACE(switch_table_dfu_slots_layout_gate_of) + 4 * (size_t)r0_0_0_copyload);
@@ -1139,7 +1385,7 @@ int32_t dfu_core_trial_start(const struct dfu_tries *tries, const uint8_t *flash
         r9_8_0 = 16;
         r9_10_0 = r8_3_4_copyload;
         r9_12_0 = r8_5_4_copyload;
-        goto dfu_trial_standing_Standing_start_exit;
+        goto dfu_boot_trial_standing_Standing_start_exit;
     case 1:
         r9_0_0 = 1;
         r9_4_0 = 0;
@@ -1147,7 +1393,7 @@ int32_t dfu_core_trial_start(const struct dfu_tries *tries, const uint8_t *flash
         r9_8_0 = 16;
         r9_10_0 = r8_3_4_copyload;
         r9_12_0 = r8_5_4_copyload;
-        goto dfu_trial_standing_Standing_start_exit;
+        goto dfu_boot_trial_standing_Standing_start_exit;
     case 2: goto arm_3;
     case 3: goto arm_4;
     default: never();
@@ -1159,7 +1405,7 @@ arm_3:
     r9_8_0 = 64;
     r9_10_0 = r8_3_4_copyload;
     r9_12_0 = r8_5_4_copyload;
-    goto dfu_trial_standing_Standing_start_exit;
+    goto dfu_boot_trial_standing_Standing_start_exit;
 arm_4:
     r9_0_0 = 1;
     r9_4_0 = 0;
@@ -1167,10 +1413,10 @@ arm_4:
     r9_8_0 = 256;
     r9_10_0 = r8_3_4_copyload;
     r9_12_0 = r8_5_4_copyload;
-    goto dfu_trial_standing_Standing_start_exit;
-dfu_trial_standing_Standing_start_exit:;
-    struct i32_i32 r6_2 = dfu_trial_c_told_image_in(r3, r9_10_0);
-    struct i32_i32 r12 = dfu_trial_c_told_image_in(r3, r9_12_0);
+    goto dfu_boot_trial_standing_Standing_start_exit;
+dfu_boot_trial_standing_Standing_start_exit:;
+    struct i32_i32 r6_2 = dfu_boot_c_trial_told_image_in(r3, r9_10_0);
+    struct i32_i32 r12 = dfu_boot_c_trial_told_image_in(r3, r9_12_0);
     store32(a4, r6_2.a);
     store32(a4 + 4, r6_2.b);
     store32(a4 + 8, r12.a);
@@ -1180,27 +1426,27 @@ dfu_trial_standing_Standing_start_exit:;
     store32(r13 + 8, r9_6_0);
     store32(r13 + 12, r9_8_0);
     uint32_t r47 = load32(a0 + 4);
-    uint32_t r50 = dfu_trial_c_told_tell(r13, r47, a3);
+    uint32_t r50 = dfu_boot_c_trial_told_tell(r13, r47, a3);
     r7_0 = r50;
-    goto dfu_trial_c_calls_dfu_core_trial_start_exit;
+    goto dfu_boot_c_trial_calls_dfu_core_trial_start_exit;
 arm_2:;
     uint8_t r5_0_0_copyload = r6[1];
     switch (r5_0_0_copyload) {
     case 0:
         r7_0 = 0xfffffffeU;
-        goto dfu_trial_c_calls_dfu_core_trial_start_exit;
+        goto dfu_boot_c_trial_calls_dfu_core_trial_start_exit;
     case 1: goto switch_lookup;
     case 2: goto arm_3_2;
     default: never();
     }
 arm_3_2:
     r7_0 = 0xfffffffdU;
-    goto dfu_trial_c_calls_dfu_core_trial_start_exit;
+    goto dfu_boot_c_trial_calls_dfu_core_trial_start_exit;
 switch_lookup:;
     uint8_t r5_3_1_copyload = r6[2];
     r7_0 = (uint32_t)0xfffffff0U - (uint32_t)r5_3_1_copyload;
-    goto dfu_trial_c_calls_dfu_core_trial_start_exit;
-dfu_trial_c_calls_dfu_core_trial_start_exit:
+    goto dfu_boot_c_trial_calls_dfu_core_trial_start_exit;
+dfu_boot_c_trial_calls_dfu_core_trial_start_exit:
     return signed32(r7_0);
 }
 
@@ -1214,7 +1460,7 @@ int32_t dfu_core_trial_upload(const struct dfu_tries *tries, const uint8_t *flas
     _Alignas(4) unsigned char r7[16];
     uint32_t r6_0;
     memset(r5, 0, 48);
-    dfu_trial_c_flash_looked(r5, a0, (unsigned char *)((uintptr_t)a1 + (uintptr_t)(uint64_t)((a1 == NULL) ? 4096 : 0)), a2);
+    dfu_boot_c_trial_flash_looked(r5, a0, (unsigned char *)((uintptr_t)a1 + (uintptr_t)(uint64_t)((a1 == NULL) ? 4096 : 0)), a2);
     uint8_t r16 = *r5;
     if (r16 != 0) goto arm_2;
     uint8_t r20 = r5[32];
@@ -1228,26 +1474,26 @@ int32_t dfu_core_trial_upload(const struct dfu_tries *tries, const uint8_t *flas
     store32(r7 + 8, (uint32_t)(narrow ? r3_4_28_copyload : 0));
     store32(r7 + 12, 0);
     uint32_t r34 = load32(a0 + 4);
-    uint32_t r37 = dfu_trial_c_told_tell(r7, r34, a3);
+    uint32_t r37 = dfu_boot_c_trial_told_tell(r7, r34, a3);
     r6_0 = r37;
-    goto dfu_trial_c_calls_dfu_core_trial_upload_exit;
+    goto dfu_boot_c_trial_calls_dfu_core_trial_upload_exit;
 arm_2:;
     uint8_t r4_0_0_copyload = r5[1];
     switch (r4_0_0_copyload) {
     case 0:
         r6_0 = 0xfffffffeU;
-        goto dfu_trial_c_calls_dfu_core_trial_upload_exit;
+        goto dfu_boot_c_trial_calls_dfu_core_trial_upload_exit;
     case 1: goto switch_lookup;
     case 2: goto arm_3;
     default: never();
     }
 arm_3:
     r6_0 = 0xfffffffdU;
-    goto dfu_trial_c_calls_dfu_core_trial_upload_exit;
+    goto dfu_boot_c_trial_calls_dfu_core_trial_upload_exit;
 switch_lookup:;
     uint8_t r4_3_1_copyload = r5[2];
     r6_0 = (uint32_t)0xfffffff0U - (uint32_t)r4_3_1_copyload;
-    goto dfu_trial_c_calls_dfu_core_trial_upload_exit;
-dfu_trial_c_calls_dfu_core_trial_upload_exit:
+    goto dfu_boot_c_trial_calls_dfu_core_trial_upload_exit;
+dfu_boot_c_trial_calls_dfu_core_trial_upload_exit:
     return signed32(r6_0);
 }
