@@ -2,14 +2,13 @@
 
 Loads, stores and calls keep that order, one on a line. A sum that is read once, in its own block, is written where it is read; every
 other value is a local."""
-import re
-
 import stack
 from blocks import Ways, reached
+from ends import is_declaration
 from expressions import c_type
+from flow import Flow, Label
 from idle import variables, without_idle
 from names import Names
-from statements import Statements
 
 
 def declared(type, name):
@@ -21,14 +20,15 @@ class Body:
 
     def __init__(self, function, program, export):
         self.function, self.program, self.export = function, program, export
+        self.result = "size" if export is None and program.sizes.gives_size(function) else function.result
         blocks = reached(function)
         self.types = variables(blocks)
         self.uses = without_idle(blocks, self.types)
         self.ways = Ways(blocks)
         self.names = Names([*program.functions.taken, *(export.names if export else [])])
         self.parameter_names = [name for _, name in function.parameters]
-        # Locals of more than one block; arrays; the labels that a goto names, and those that the block before leads to.
-        self.across, self.arrays, self.wanted, self.entered = {}, {}, set(), {blocks[0].label}
+        # Locals of more than one block; arrays; the labels that a goto names.
+        self.across, self.arrays, self.wanted = {}, {}, set()
         self.read_in = {}
         for block in self.ways.blocks:
             for line in block.lines:
@@ -45,19 +45,19 @@ class Body:
             self.names.of(name)
         for name in self.types:
             self.names.of(name)
-        blocks, kept = [], self.ways.kept()
-        for block, after in zip(kept, [*kept[1:], None]):
-            statements = Statements(self, block, after and after.label)
-            blocks.append((block.label, statements.write()))
+        lines = Flow(self).write()
         text = [*self.of_parameters(), *self.of_arrays(), *self.of_locals()]
-        for label, statements in blocks:
-            if label not in self.wanted | self.entered:
-                continue
-            if label in self.wanted:
-                is_bare = not statements or re.match(r"(uint[0-9]+_t|unsigned char|struct) ", statements[0])
-                text.append(f"{self.name_of_label(label)}:{';' if is_bare else ''}")
-            text += [f"    {it}" for it in statements]
+        for k, (depth, it) in enumerate(lines):
+            if not isinstance(it, Label):
+                text.append("    " * (depth + 1) + it)
+            elif it.label in self.wanted:
+                follows = next((that for _, that in lines[k + 1:] if not isinstance(that, Label)), "}")
+                text.append(f"{self.name_of_label(it.label)}:{';' * (follows == '}' or is_declaration(follows))}")
         return [f"{self.head()} {{", *text, "}"]
+
+    def type_of(self, type, value):
+        """The type of a value, and `size` for an i64 that is a size_t."""
+        return "size" if type == "i64" and value[0] == "%" and self.program.sizes.is_size(self.function.name, value) else type
 
     def aligned(self, place):
         """What a place is a multiple of, as alignment.py finds it."""
@@ -69,8 +69,8 @@ class Body:
     def head(self):
         if self.export:
             return f"{self.export.result} {self.function.name}({', '.join(self.export.parameters) or 'void'})"
-        them = ", ".join(declared(type, self.names.of(name)) for type, name in self.function.parameters) or "void"
-        result = self.function.result
+        them = ", ".join(declared(self.type_of(type, name), self.names.of(name)) for type, name in self.function.parameters) or "void"
+        result = self.result
         name = self.program.functions.named[self.function.name]
         return f"static {'void ' + name if result == 'void' else declared(result, name)}({them})"
 
@@ -83,7 +83,8 @@ class Body:
             if name not in self.uses:
                 lines.append(f"    (void){written};")
             else:
-                cast = "(unsigned char *)(uintptr_t)" * (type == "ptr")
+                type = self.type_of(type, name)
+                cast = {"ptr": "(unsigned char *)(uintptr_t)", "size": "(size_t)"}.get(type, "")
                 lines.append(f"    {declared(type, self.names.of(name))} = {cast}{written};")
         return lines
 

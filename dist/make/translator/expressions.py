@@ -26,8 +26,9 @@ class Expression(NamedTuple):
 
 
 def c_type(type):
-    if type == "ptr":
-        return "unsigned char *"
+    """The type of C for a type of the module. `size` is that of an i64 that is a size_t."""
+    if type in ("ptr", "size"):
+        return "unsigned char *" if type == "ptr" else "size_t"
     return "struct " + "_".join(type[2:-2].split(", ")) if type[0] == "{" else f"uint{width(type)}_t"
 
 
@@ -101,8 +102,9 @@ def byte_at(place):
 
 
 def size_of(it):
-    """A number of bytes, as C counts them."""
-    return Expression(f"(size_t){it.text[10:] if it.text.startswith('(uint64_t)') else it.part()}", CAST)
+    """A number of 64 bits as a size_t."""
+    is_cast = it.rank == CAST and it.text.startswith("(uint64_t)")
+    return Expression(f"(size_t){it.text[10:] if is_cast else it.part()}", CAST)
 
 
 def access(type, align):

@@ -6,8 +6,8 @@ WHAT_IT_IS = """/* SPDX-License-Identifier: MIT OR Apache-2.0
  * The body of {names}: {what}
  *
  * Made by dist/make/library of the proved crate. Nobody edits it: change the crate, and make it anew by dist/generate. Compile it as C11
- * beside its header. Memory is arrays of bytes here, laid out as on a 64-bit processor with the low byte first: a size is a uint64_t,
- * and a pointer takes 8 bytes. */
+ * beside its header. Memory is arrays of bytes here, laid out as on a 64-bit processor with the low byte first: a size takes
+ * 8 bytes there, and so does a pointer. */
 {includes}
 
 #include <stddef.h>
@@ -49,6 +49,7 @@ void *memset(void *to, int byte, size_t count);
 #endif
 
 _Static_assert((unsigned char)-1 == 255 && sizeof(int) == 4 && sizeof(void *) <= 8, "a processor that this file is not for");
+_Static_assert(sizeof(size_t) >= 4 && sizeof(size_t) <= 8 && sizeof(size_t) == sizeof(void *), "a processor that this file is not for");
 """
 # By the beginning of their names: NAME is the whole one, T the type of C for its bits, SIZE their bytes, and AT where they are.
 HELPERS = {
@@ -59,6 +60,7 @@ HELPERS = {
     "usub_sat": "T NAME(T x, T y) { return x < y ? 0 : (T)(x - y); }",
     "uadd_sat": "T NAME(T x, T y) { return (T)(x + y) < x ? (T)-1 : (T)(x + y); }",
     "product": "struct PAIR NAME(T x, T y) { return (struct PAIR){ x * y, x != 0 && x * y / x != y }; }",
+    "wide": "uint64_t NAME(size_t x) { return x; }",
     "signed": "intT NAME(T x) { intT y; memcpy(&y, &x, SIZE); return y; }",
 }
 
@@ -66,6 +68,8 @@ HELPERS = {
 def helper(name):
     """One of them, for the bits that its name says, and for places that are multiples of so many bytes: 64 of 8, 64a4 of 4, and 64u
     of 1. Of 24, 40, 48 or 56 bits the first bytes are kept, as the low byte comes first."""
+    if name.endswith("_size") or name == "wide":
+        return "static inline " + re.sub(r"\b(?:NAME|T)\b", lambda it: {"NAME": name, "T": "size_t"}[it[0]], HELPERS[name.replace("_size", "")])
     kind, bits, align = re.fullmatch(r"([a-z_]+)([0-9]+)(u|a[0-9]+|)", name).groups()
     size, wide = int(bits) // 8, min(it for it in (8, 16, 32, 64) if it >= int(bits))
     words = {"NAME": name, "T": f"uint{wide}_t", "intT": f"int{wide}_t", "SIZE": str(size), "PAIR": f"i{bits}_i1",
@@ -78,7 +82,7 @@ def head(header, bodies):
     names = " and ".join(header.names)
     includes = "\n".join(f'#include "{it}"' for it in header.names)
     pairs = sorted(set(re.findall(r"struct ((?:i[0-9]+|ptr)_(?:i[0-9]+|ptr))\b", bodies)))
-    used = sorted(set(re.findall(rf"\b((?:{'|'.join(HELPERS)})[0-9]+(?:u|a[0-9]+|))\(", bodies)))
+    used = sorted(set(re.findall(rf"\b((?:{'|'.join(HELPERS)})(?:[0-9]+(?:u|a[0-9]+|)|_size|(?<=\bwide)))\(", bodies)))
     return "\n".join([
         WHAT_IT_IS.format(names=names, what=WHAT.get(names, ""), includes=includes) + OF_C,
         *(f'_Static_assert({it}, "another layout");' for it in header.layouts), "",

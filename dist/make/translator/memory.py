@@ -1,5 +1,5 @@
 """The statements for memory: arrays, loads, stores, copies, and places."""
-from expressions import CAST, SUM, Expression, access, byte_at, moved, size_of
+from expressions import CAST, SUM, Expression, access, byte_at, c_type, moved
 from refusals import refuse
 from text import bits, bytes_of, constant
 
@@ -20,13 +20,13 @@ class Memory:
     def load(self, line):
         type, place = line["type"], line["place"]
         if place in self.body.types:
-            return self.keep(line, type, Expression(self.name_of(place)))
+            return self.keep(line, type, self.as_made(line, type, Expression(self.name_of(place))))
         at = self.value("ptr", place)
         if bits(type) == 8:
             return self.keep(line, type, Expression(byte_at(at)))
         if bits(type) < 8 or type == "ptr":
             return refuse(line.number, "a load of no whole bytes, or of a pointer", line.written)
-        self.keep(line, type, Expression(f"load{access(type, self.align_of(line))}({at.text})"))
+        self.keep(line, type, self.as_made(line, type, Expression(f"load{access(type, self.align_of(line))}({at.text})")))
 
     def store(self, line):
         type, place = line["type"], line["place"]
@@ -58,9 +58,9 @@ class Memory:
 
     def count(self, line):
         """How many bytes are copied or filled."""
-        count = self.value("i64", line["length"])
         if line["length"][0] == "%":
-            return size_of(count).text
+            return self.size(line["length"]).text
+        count = self.value("i64", line["length"])
         if constant("i64", line["length"]) is None or constant("i64", line["length"]) >= LARGEST:
             refuse(line.number, "a copy of so much", line.written)
         return count.text
@@ -69,18 +69,19 @@ class Memory:
         base, by = self.value("ptr", line["base"]), line["by"]
         if by[0] != "%":
             return self.set(line, "ptr", moved(base, int(by)))
-        count = self.value("i64", by)
+        count = self.size(by)
         if self.body.export and line["base"] in self.body.parameter_names:
             # C may hand in NULL, which becomes another place here: C has no sums with NULL.
             return self.set(line, "ptr", Expression(f"(unsigned char *)((uintptr_t){base.part()} + (uintptr_t){count.part()})", CAST))
-        self.set(line, "ptr", Expression(f"{base.part()} + {size_of(count).text}", SUM))
+        self.set(line, "ptr", Expression(f"{base.part()} + {count.part()}", SUM))
 
     def row(self, line):
-        base, by, size = self.value("ptr", line["base"]), self.value("i64", line["by"]), bytes_of(line["type"])
-        self.set(line, "ptr", Expression(f"{base.part()} + {size} * {size_of(by).text}", SUM))
+        base, by, size = self.value("ptr", line["base"]), self.size(line["by"]), bytes_of(line["type"])
+        self.set(line, "ptr", Expression(f"{base.part()} + {size} * {by.part()}", SUM))
 
     def address(self, line):
-        self.set(line, "i64", Expression(f"(uint64_t)(uintptr_t){self.value('ptr', line['value']).part()}", CAST))
+        type = c_type(self.body.type_of("i64", line["made"]))
+        self.set(line, "i64", Expression(f"({type})(uintptr_t){self.value('ptr', line['value']).part()}", CAST))
 
     to_number = address
 

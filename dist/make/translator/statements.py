@@ -1,25 +1,25 @@
 """The statements of a block: what each kind of line becomes."""
 from ends import Ends
-from expressions import CAST, Expression, c_type, number
+from expressions import CAST, Expression, c_type, cast, number, size_of
 from memory import Memory
+from ranges import SIZE
 from refusals import refuse
 from sums import Sums
 from text import constant
 
 
 class Statements(Memory, Sums, Ends):
-    """Writes the statements of one block; `next` is the label of the one that follows in C. There is a function for each kind of line."""
+    """Writes the statements of one block. There is a function for each kind of line, and `end` for what comes next."""
 
-    def __init__(self, body, block, next):
-        self.body, self.block, self.next = body, block, next
+    def __init__(self, body, block):
+        self.body, self.block = body, block
         self.statements, self.waiting = [], {}
         self.name_of = body.names.of
 
     def write(self):
         for line in self.block.lines:
-            getattr(self, line.kind)(line)
-        if self.waiting:
-            refuse(self.block.lines[-1].number, f"values that nobody took: {', '.join(self.waiting)}")
+            if line.kind not in ("jump", "branch", "switch"):
+                getattr(self, line.kind)(line)
         return self.statements
 
     def emit(self, text):
@@ -44,6 +44,25 @@ class Statements(Memory, Sums, Ends):
             return Expression(f"(uint64_t)(uintptr_t){self.body.program.tables.named[written.split()[2]]}", CAST)
         return number(constant(type, written))
 
+    def is_size(self, type, written):
+        """Whether a value is a size_t, or a number that is one on each processor."""
+        known = constant(type, written)
+        return type == "i64" and (self.body.type_of(type, written) == "size" if written[0] == "%" else known is not None and known <= SIZE)
+
+    def size(self, written):
+        """A value of 64 bits as a size_t."""
+        it = self.value("i64", written)
+        return it if self.is_size("i64", written) else size_of(it)
+
+    def whole(self, type, written):
+        """A value in the type that has all its bits."""
+        it = self.value(type, written)
+        return cast(type, it) if self.body.type_of(type, written) == "size" else it
+
+    def like(self, type, name, written):
+        """A value in the type of a name."""
+        return self.size(written) if self.body.type_of(type, name) == "size" else self.value(type, written)
+
     def set(self, line, type, made):
         """A value that reads no memory: it waits for its reader, if there is one and it is in this block."""
         name = line["made"]
@@ -55,6 +74,7 @@ class Statements(Memory, Sums, Ends):
     def keep(self, line, type, made):
         """A local of its own."""
         name = line["made"]
+        type = self.body.type_of(type, name)
         is_here = self.body.read_in[name] == {self.block.label}
         if not is_here:
             self.body.across[self.name_of(name)] = (type, True)

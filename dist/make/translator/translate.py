@@ -14,6 +14,7 @@ from header import Header
 from module import Module
 from names import Names
 from refusals import end_if_any, refuse
+from sizes import Sizes
 
 
 class Program:
@@ -51,7 +52,7 @@ def main():
     module = Module(open(sys.argv[1], encoding="latin-1").read(), lines.OPTIMISED)
     program = Program(module, header)
     end_if_any()
-    program.alignments = Alignments(module, header)
+    program.alignments, program.sizes = Alignments(module, header), Sizes(module, header)
     bodies = [Body(it, program, header.exports.get(it.name) if it.is_export else None) for it in module.functions]
     texts = [f"/* {body.function.name} */\n" + "\n".join(body.write()) for body in bodies]
     end_if_any()
