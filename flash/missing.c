@@ -1,6 +1,7 @@
 /* SPDX-License-Identifier: MIT OR Apache-2.0 */
 /* Why no device is the wanted one: one by one, what was asked for is compared with the devices that are left, and the first thing that
    none of them has is named. */
+#include "advice.h"
 #include "say.h"
 #include "standard.h"
 #include "status.h"
@@ -90,6 +91,7 @@ int say_missing(libusb_context *usb, const struct wanted *wanted)
             break;
         left = fitting;
     }
+    advice_is("choose one of those that are there, or plug in the one that is meant");
     fputs("dfu-flash: no device is the one that is asked for: ", stderr);
     if (failed == CRITERIA) /* it came just now */
         fputs("none was there in time", stderr);

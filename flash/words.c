@@ -1,43 +1,21 @@
 /* SPDX-License-Identifier: MIT OR Apache-2.0 */
 /* The command line: what each word means, and which words go together. */
 #include "words.h"
+#include "advice.h"
 #include "dfu_util.h"
+#include "next.h"
+#include "options.h"
 #include "say.h"
 #include "values.h"
 
-#include <getopt.h>
 #include <stdio.h>
 #include <string.h>
-
-/* clang-format off */
-enum option_code {
-    DEVICE = 256, PATH, SERIAL, INTERFACE, ALTERNATE, NO_VERIFY, RAW, UPLOAD, FORCE, DETACH, WAIT, TIMEOUT, LIMITS, TRANSFER_SIZE, DRY_RUN,
-    QUIET, VERBOSE, JSON, LIST, ALL, LOG, ADDRESS, LENGTH, NO_LEAVE, HELP, VERSION
-};
-
-static const struct option options[] = {
-    {"device", required_argument, NULL, DEVICE},   {"path", required_argument, NULL, PATH},
-    {"serial", required_argument, NULL, SERIAL},   {"interface", required_argument, NULL, INTERFACE},
-    {"alt", required_argument, NULL, ALTERNATE},   {"no-verify", no_argument, NULL, NO_VERIFY},
-    {"raw", no_argument, NULL, RAW},
-    {"upload", required_argument, NULL, UPLOAD},   {"force", no_argument, NULL, FORCE},
-    {"detach", no_argument, NULL, DETACH},         {"wait", optional_argument, NULL, WAIT},
-    {"timeout", required_argument, NULL, TIMEOUT}, {"limits", required_argument, NULL, LIMITS},
-    {"transfer-size", required_argument, NULL, TRANSFER_SIZE},
-    {"dry-run", no_argument, NULL, DRY_RUN},       {"quiet", no_argument, NULL, QUIET},
-    {"verbose", optional_argument, NULL, VERBOSE}, {"json", no_argument, NULL, JSON},
-    {"all", no_argument, NULL, ALL},               {"log", required_argument, NULL, LOG},
-    {"address", required_argument, NULL, ADDRESS}, {"length", required_argument, NULL, LENGTH},
-    {"no-leave", no_argument, NULL, NO_LEAVE},
-    {"list", no_argument, NULL, LIST},             {"help", no_argument, NULL, HELP},
-    {"version", no_argument, NULL, VERSION},       {NULL, 0, NULL, 0},
-};
-/* clang-format on */
 
 bool words_refuse(const char *what, const char *word)
 {
     fprintf(stderr, "dfu-flash: %s", what);
     say_text(stderr, *word != '\0' ? ": " : "", word, "\nSee dfu-flash --help.\n");
+    next_say(advice_or(NULL));
     return false;
 }
 
@@ -74,6 +52,16 @@ static bool is_wait(struct words *words, const char *seconds, int count, char **
     if (seconds == NULL && optind < count && value_is_seconds(texts[optind]))
         seconds = texts[optind++];
     return value_wait(seconds, words);
+}
+
+/* getopt_long has said which word is none of the options. Of "-list", say, it took the letters one by one. */
+static bool is_no_option(char **texts)
+{
+    fputs("See dfu-flash --help.\n", stderr);
+    if (strncmp(texts[optind - 1], "--", 2) == 0)
+        advise_word(texts[optind - 1]);
+    next_say(advice_or(NULL));
+    return false;
 }
 
 static bool take_option(struct words *words, int code, int count, char **texts)
@@ -120,7 +108,7 @@ static bool take_option(struct words *words, int code, int count, char **texts)
     case HELP: words->job = JOB_HELP; return true;
     case 'V':
     case VERSION: words->job = JOB_VERSION; return true;
-    default: fputs("See dfu-flash --help.\n", stderr); return false;
+    default: return is_no_option(texts);
     }
 }
 
@@ -185,8 +173,12 @@ static bool is_whole(struct words *words, const struct plain *plain)
     int at = 0;
     if (words->job == JOB_DOWNLOAD && words->file == NULL && plain->count > 0)
         words->file = plain->texts[at++];
-    if (at < plain->count)
+    if (at < plain->count) {
+        advice_is("name one FILE; what a shell makes of * may be several");
         return words_refuse("a word too many", plain->texts[at]);
+    }
+    if (words->job == JOB_DOWNLOAD && words->file == NULL)
+        advice_is("name the file, or - for standard input; dfu-flash --list shows which devices are there");
     if (words->job == JOB_DOWNLOAD && words->file == NULL)
         return words_refuse(words->patience == 0 ? "no FILE was given" : "no FILE was given; a number after --wait is its seconds", "");
     if (has_file && words->file[0] == '\0')
@@ -228,11 +220,15 @@ bool words_read(struct words *words, int count, char **texts)
     words->verify = true;
     words->interface = words->alternate = -1;
     while (is_option_next(&plain, count, texts)) {
+        advice_forget();
+        if (texts[optind][1] != '-')
+            advise_name(texts[optind] + 1);
         code = next_option(count, texts);
         if (!dfu_util_is_same(code, optarg) || !take_option(words, code, count, texts))
             return false;
         if (words->job == JOB_HELP || words->job == JOB_VERSION)
             return true;
     }
+    advice_forget();
     return is_whole(words, &plain);
 }
