@@ -16,7 +16,8 @@ struct wanted wanted_of(const struct words *words)
 {
     /* clang-format off */
     struct wanted wanted = {.has_ids = words->has_ids, .vendor = words->vendor, .product = words->product,
-                            .path = words->path, .serial = words->serial,
+                            .path = words->path, .serial = words->serial, .dfu_serial = words->dfu_serial,
+                            .is_upgrade = words->is_upgrade,
                             .place = {words->interface, words->alternate, words->setting},
                             .has_dfu_ids = words->has_dfu_ids, .dfu_vendor = words->dfu_vendor, .dfu_product = words->dfu_product};
     /* clang-format on */
@@ -148,6 +149,7 @@ int device_choose(struct device *device, const struct wanted *wanted)
     memcpy(device->path, list[0].path, sizeof device->path);
     /* One that was asked for at its path is found again nowhere else. */
     device->serial = wanted->path != NULL && has_ports(device->path) ? NULL : wanted->serial;
+    device->dfu_serial = wanted->dfu_serial;
     device->bus = wanted->path;
     return is_usable(device) ? STATUS_DONE : say_unusable(device);
 }

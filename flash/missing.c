@@ -17,6 +17,7 @@ static struct wanted up_to(const struct wanted *wanted, enum criterion last)
     struct wanted part = *wanted;
     part.path = last >= PATH ? part.path : NULL;
     part.serial = last >= SERIAL ? part.serial : NULL;
+    part.dfu_serial = last >= SERIAL ? part.dfu_serial : NULL;
     part.place.interface = last >= INTERFACE ? part.place.interface : -1;
     if (last < SETTING) {
         part.place.alternate = -1;
@@ -43,12 +44,16 @@ static void say_criterion(const struct wanted *wanted, enum criterion failed)
 {
     switch (failed) {
     case IDENTIFIERS:
-        fprintf(stderr, "%s vendor %04x, product %04x%s (ffff is any), and none has them",
+        fprintf(stderr, "%s vendor %04x, product %04x%s (ffff is any), and none has them%s",
                 wanted->is_of_file ? "the file is for" : "--device names", wanted->vendor, wanted->product,
-                wanted->has_dfu_ids ? " and others for DFU mode" : "");
+                wanted->has_dfu_ids ? " and others for DFU mode" : "", wanted->is_upgrade ? " in DFU mode" : "");
         break;
     case PATH: say_text(stderr, "none of these is at --path ", wanted->path, ""); break;
-    case SERIAL: say_text(stderr, "none of these has --serial ", wanted->serial, ""); break;
+    case SERIAL:
+        say_text(stderr, "none of these has --serial ", wanted->serial, "");
+        if (wanted->dfu_serial != NULL)
+            say_text(stderr, ", or in DFU mode ", wanted->dfu_serial, "");
+        break;
     case INTERFACE: fprintf(stderr, "none of these has --interface %d", wanted->place.interface); break;
     default:
         if (wanted->place.name == NULL)

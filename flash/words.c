@@ -67,11 +67,11 @@ static bool is_no_option(char **texts)
 static bool take_option(struct words *words, int code, int count, char **texts)
 {
     switch (code) {
-    case 'd':
+    case 'd': return dfu_util_device(optarg, words);
     case DEVICE: return value_device(optarg, words);
     case 'p':
     case PATH: return value_path(optarg, words);
-    case 'S':
+    case 'S': return dfu_util_serial(optarg, words);
     case SERIAL: return value_serial(optarg, words);
     case 'i':
     case INTERFACE: return value_interface(optarg, words);
@@ -93,6 +93,7 @@ static bool take_option(struct words *words, int code, int count, char **texts)
     case LIMITS: return value_limits(optarg, optind < count ? texts[optind++] : NULL, words);
     case DRY_RUN: words->dry_run = true; return true;
     case QUIET: words->quiet = true; return true;
+    case 'v':
     case VERBOSE: return value_verbose(optarg, words);
     case JSON: words->json = true; return true;
     case ALL: words->all = true; return true;
@@ -100,9 +101,12 @@ static bool take_option(struct words *words, int code, int count, char **texts)
     case ADDRESS: return value_address(optarg, words);
     case LENGTH: return value_length(optarg, words);
     case NO_LEAVE: words->stays = true; return true;
-    case 's': return value_dfuse(optarg, words);
+    case 's': return dfu_util_address(optarg, words);
     case 'l':
     case LIST: return is_job(words, JOB_LIST);
+    case 'c':
+    case 'E':
+    case 'Z':              /* noted */
     case 'R': return true; /* each session ends with a reset */
     case 'h':
     case HELP: words->job = JOB_HELP; return true;
@@ -136,7 +140,7 @@ static bool is_fit_for_dfuse(const struct words *words)
         return words_refuse("--transfer-size doesn't go with --address: a DfuSe device counts in blocks of its own size", "");
     if (words->length != 0 && (!is_upload || !words->has_address))
         return words_refuse("--length goes with --upload and --address", "");
-    if (is_upload && words->has_address && words->length == 0)
+    if (is_upload && words->has_address && words->length == 0 && !words->is_to_end)
         return words_refuse("--upload with --address takes --length", "");
     /* -s of an upload says to stay too; what a download has is seen when its file is read. */
     return !words->stays || words->has_address || is_download || words_refuse("--no-leave goes with --address, or with a DfuSe file", "");
@@ -221,6 +225,7 @@ bool words_read(struct words *words, int count, char **texts)
     words->interface = words->alternate = -1;
     while (is_option_next(&plain, count, texts)) {
         advice_forget();
+        texts[optind] = dfu_util_short(texts[optind]);
         if (texts[optind][1] != '-')
             advise_name(texts[optind] + 1);
         code = next_option(count, texts);
@@ -230,5 +235,7 @@ bool words_read(struct words *words, int count, char **texts)
             return true;
     }
     advice_forget();
+    if (!words->quiet)
+        dfu_util_notes();
     return is_whole(words, &plain);
 }
