@@ -2,6 +2,7 @@
 /* Which device is taken. More than one is a refusal: to write to the wrong one is harm. */
 #include "clock.h"
 #include "device.h"
+#include "one.h"
 #include "say.h"
 #include "status.h"
 
@@ -10,6 +11,21 @@
 
 #define LOOK_MS 100
 #define SETTLE_MS 2000 /* by then udev has settled who may open a device that came */
+
+struct wanted wanted_of(const struct words *words)
+{
+    /* clang-format off */
+    struct wanted wanted = {.has_ids = words->has_ids, .vendor = words->vendor, .product = words->product,
+                            .path = words->path, .serial = words->serial, .dfu_serial = words->dfu_serial,
+                            .is_upgrade = words->is_upgrade,
+                            .place = {words->interface, words->alternate, words->setting},
+                            .has_dfu_ids = words->has_dfu_ids, .dfu_vendor = words->dfu_vendor, .dfu_product = words->dfu_product};
+    /* clang-format on */
+    /* A device of DfuSe has a setting for each of its memories: the first is that of programs. */
+    if (words->has_address && words->alternate < 0 && words->setting == NULL)
+        wanted.place.alternate = 0;
+    return wanted;
+}
 
 /* One DFU interface may be there in several alternate settings, each for another part of the memory. */
 static void ask_for_one(const struct found *list, int count)
@@ -103,6 +119,15 @@ static int look(const struct device *device, const struct wanted *wanted, struct
     }
 }
 
+/* That it was waited for is said too. */
+static int say_none(const struct device *device, const struct wanted *wanted)
+{
+    int status = say_missing(device->usb, wanted);
+    if (device->patience.is_asked && device->patience.seconds > 0 && !device->patience.is_quiet && !*device->is_stop)
+        fprintf(stderr, "dfu-flash: none came within %u s\n", (unsigned)device->patience.seconds);
+    return status;
+}
+
 int device_choose(struct device *device, const struct wanted *wanted)
 {
     struct found list[FOUND_ROOM];
@@ -112,7 +137,7 @@ int device_choose(struct device *device, const struct wanted *wanted)
         return STATUS_NO_DEVICE;
     }
     if (count == 0)
-        return say_missing(device->usb, wanted);
+        return say_none(device, wanted);
     if (count > 1 && !is_unread(wanted, list, count)) {
         ask_for_one(list, count);
         found_drop(list, count);
@@ -124,6 +149,7 @@ int device_choose(struct device *device, const struct wanted *wanted)
     memcpy(device->path, list[0].path, sizeof device->path);
     /* One that was asked for at its path is found again nowhere else. */
     device->serial = wanted->path != NULL && has_ports(device->path) ? NULL : wanted->serial;
+    device->dfu_serial = wanted->dfu_serial;
     device->bus = wanted->path;
     return is_usable(device) ? STATUS_DONE : say_unusable(device);
 }

@@ -81,7 +81,7 @@ static int keep_one(struct device *device, const struct wanted *wanted)
 static int look_for(struct device *device)
 {
     const struct wanted here = {.path = device->path, .place = device->place};
-    const struct wanted named = {.path = device->bus, .serial = device->serial, .place = device->place};
+    const struct wanted named = {.path = device->bus, .serial = device->serial, .dfu_serial = device->dfu_serial, .place = device->place};
     int same = has_ports(device->path) ? keep_one(device, &here) : 0;
     if (same > 0 || device->serial == NULL || (has_ports(device->path) && !is_free(device->usb, device->path)))
         return same;
@@ -142,7 +142,7 @@ bool device_reopen(struct device *device)
 /* Whether one with the serial number that was asked for is there. */
 static bool is_elsewhere(const struct device *device)
 {
-    const struct wanted named = {.path = device->bus, .serial = device->serial, .place = ANYWHERE};
+    const struct wanted named = {.path = device->bus, .serial = device->serial, .dfu_serial = device->dfu_serial, .place = ANYWHERE};
     struct found list[FOUND_ROOM];
     int count = device->serial == NULL ? 0 : find_all(device->usb, &named, list, FOUND_ROOM);
     bool is = false;

@@ -23,6 +23,7 @@ struct device {
     struct found is;                      /* as it was found last */
     char path[PATH_ROOM];                 /* by this it is found again, */
     const char *serial;                   /* or by the serial number that was asked for; NULL if none was, */
+    const char *dfu_serial;               /* or, in DFU mode, this one, NULL if it is the same, */
     const char *bus;                      /* at this path, if one was asked for that names no ports; else NULL */
     struct place place;                   /* the interface and setting that were asked for */
     bool is_many;                         /* it came back with more than one setting */

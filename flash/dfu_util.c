@@ -1,22 +1,67 @@
 /* SPDX-License-Identifier: MIT OR Apache-2.0 */
-/* What of dfu-util's short options isn't taken, since it is something else here or isn't needed, and what is there in its place. */
+/* Which options of dfu-util are taken, which are passed over, since they aren't needed here, and which are refused. */
 #include "dfu_util.h"
-#include "words.h"
 
 #include <ctype.h>
 #include <stddef.h>
+#include <stdio.h>
+#include <stdlib.h>
 #include <string.h>
 
+/* clang-format off */
+/* Those that this program hasn't, or that mean something else here. */
 static const struct {
-    int option;
-    const char *answer;
-} answers[] = {
-    {'Z', "-Z of dfu-util isn't needed: an upload ends by itself"},
-    {'n', "-n of dfu-util is --path PATH here, which stays the same when the device is plugged in again"},
-    {'c', "-c of dfu-util isn't here: a device is used in the configuration that it is in"},
-    {'E', "-E of dfu-util is --wait=SECONDS here: a device that left is asked for until it is back, 10 seconds or longer"},
-    {'v', "-v of dfu-util is --verbose here, once"},
+    const char *name;
+    char option;
+    bool has_value;
+} longs[] = {
+    {"download", 'D', true},     {"upload-size", 'Z', true},   {"reset", 'R', false},
+    {"intf", 'i', true},         {"altsetting", 'a', true},    {"dfuse-address", 's', true},
+    {"cfg", 'c', true},          {"configuration", 'c', true}, {"devnum", 'n', true},
+    {"detach-delay", 'E', true},
 };
+
+/* What is passed over, with what is so here. */
+static struct {
+    int option;
+    const char *note;
+    bool was_given;
+} notes[] = {
+    {'Z', "-Z of dfu-util isn't needed: an upload ends by itself", false},
+    {'c', "-c of dfu-util isn't needed: a device is used in the configuration that it is in", false},
+    {'E', "-E of dfu-util isn't needed: a device that left is asked for until it is back, 10 seconds or those of --wait", false},
+};
+/* clang-format on */
+
+#define COUNT(table) (sizeof(table) / sizeof *(table))
+
+/* The short option, with its value in the same word; NULL if there is no memory. */
+static char *join(char option, const char *value)
+{
+    size_t room = strlen(value) + 3;
+    char *word = malloc(room);
+    if (word != NULL)
+        snprintf(word, room, "-%c%s", option, value);
+    return word;
+}
+
+char *dfu_util_short(char *word)
+{
+    if (strncmp(word, "--", 2) != 0)
+        return word;
+    for (size_t at = 0; at < COUNT(longs); at++) {
+        size_t length = strlen(longs[at].name);
+        const char *rest = word + 2 + length;
+        char *joined;
+        if (strncmp(word + 2, longs[at].name, length) != 0)
+            continue;
+        if (*rest != '\0' && !(longs[at].has_value && rest[0] == '=' && rest[1] != '\0'))
+            continue;
+        joined = join(longs[at].option, *rest == '=' ? rest + 1 : "");
+        return joined != NULL ? joined : word;
+    }
+    return word;
+}
 
 /* A number as C writes it, which dfu-util reads: with a 0 in front it is octal or hexadecimal. */
 static bool has_base(const char *value)
@@ -24,14 +69,36 @@ static bool has_base(const char *value)
     return value[0] == '0' && (isdigit((unsigned char)value[1]) || value[1] == 'x' || value[1] == 'X');
 }
 
+static bool is_number(const char *value)
+{
+    size_t base = value[0] == '0' && (value[1] == 'x' || value[1] == 'X') ? 2 : 0;
+    return value[base] != '\0' && value[base + strspn(value + base, base > 0 ? "0123456789abcdefABCDEF" : "0123456789")] == '\0';
+}
+
+/* Notes an option that isn't needed. True if it is none of these. */
+static bool is_passed(int option, const char *value)
+{
+    for (size_t at = 0; at < COUNT(notes); at++) {
+        if (notes[at].option != option)
+            continue;
+        notes[at].was_given = true;
+        return is_number(value) || words_refuse("-Z, -c and -E of dfu-util take a number", value);
+    }
+    return true;
+}
+
 bool dfu_util_is_same(int option, const char *value)
 {
-    for (size_t at = 0; at < sizeof answers / sizeof *answers; at++)
-        if (answers[at].option == option)
-            return words_refuse(answers[at].answer, "");
-    if (option == 'S' && strchr(value, ',') != NULL)
-        return words_refuse("-S takes one serial number, which is for both modes; with a comma in it, it is --serial's", value);
+    if (option == 'n')
+        return words_refuse("-n of dfu-util is --path PATH here, which stays the same when the device is plugged in again", "");
     if ((option == 'a' || option == 'i' || option == 't') && has_base(value))
         return words_refuse("-a, -i and -t take decimal numbers, with no 0 in front", value);
-    return true;
+    return is_passed(option, value);
+}
+
+void dfu_util_notes(void)
+{
+    for (size_t at = 0; at < COUNT(notes); at++)
+        if (notes[at].was_given)
+            fprintf(stderr, "dfu-flash: %s\n", notes[at].note);
 }

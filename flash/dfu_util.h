@@ -1,15 +1,29 @@
 /* SPDX-License-Identifier: MIT OR Apache-2.0 */
-/* The short options of dfu-util. */
+/* The options of dfu-util 0.11, so that a line for it works here, or is answered with its new form. */
 #ifndef DFU_FLASH_DFU_UTIL_H
 #define DFU_FLASH_DFU_UTIL_H
+
+#include "words.h"
 
 #include <stdbool.h>
 
 /* For getopt: all that dfu-util 0.11 has, but for -h and -V. */
 #define DFU_UTIL_OPTIONS "D:U:ld:p:S:i:a:t:weRZ:n:c:E:vs:"
 
-/* Whether the option, with its value, means here what it means in dfu-util. If not, what does that here is said. An option that
-   dfu-util doesn't have is none of its. */
+/* A long option that dfu-util has and this program hasn't, as the short one that it is there: `--intf=0` as `-i0`. Any other word is handed
+   back as it is. What is handed back isn't to be freed. */
+char *dfu_util_short(char *word);
+
+/* Whether the option, with its value, means here what it means in dfu-util, or is one that isn't needed here. If not, what does that here
+   is said. An option that dfu-util doesn't have is none of its. */
 bool dfu_util_is_same(int option, const char *value);
+
+/* Says which options were given that aren't needed here. */
+void dfu_util_notes(void);
+
+/* The values of -d, -S and -s, read as dfu-util reads them. False if they aren't understood, or aren't taken, which is then said. */
+bool dfu_util_device(const char *text, struct words *words);
+bool dfu_util_serial(char *text, struct words *words);
+bool dfu_util_address(const char *text, struct words *words);
 
 #endif

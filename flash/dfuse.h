@@ -86,6 +86,15 @@ void dfuse_print_json(const struct found *found);
 /* Whether each address of a part of the memory can be read: 0, DFUSE_OUTSIDE, DFUSE_NOT_READABLE, or why the string is no map. */
 int32_t dfuse_may_read(const uint8_t *map, size_t map_length, uint64_t start, uint64_t end);
 
+/* The first range of a map that takes images, or that can be read. False if there is none. */
+bool dfuse_first(const uint8_t *map, size_t map_length, bool is_upload, struct dfuse_range *range);
+
+/* Whether an address of a part of the memory is on no range: then which is the first, and where the memory below it ends, or 0. */
+bool dfuse_missing(const uint8_t *map, size_t map_length, uint64_t start, uint64_t end, uint64_t *missing, uint64_t *past);
+
+/* Where the range ends that has this address. False if there is none. */
+bool dfuse_end_of(const uint8_t *map, size_t map_length, uint64_t address, uint64_t *end);
+
 /* How many pages have an address of a part of the memory. */
 uint64_t dfuse_pages(const uint8_t *map, size_t map_length, uint64_t start, uint64_t end);
 

@@ -41,9 +41,21 @@ static uint64_t pages_of(const struct dfuse *dfuse, uint64_t address, uint64_t l
     return dfuse_pages(dfuse->map, dfuse->map_length, address, address + length);
 }
 
+/* Without a length it goes to the end of the range that has the address, as with dfu-util; off the map it is one byte, which is refused. */
+static void take_length(struct dfuse *dfuse)
+{
+    uint64_t end;
+    if (dfuse->length != 0)
+        return;
+    dfuse->length = 1;
+    if (dfuse_end_of(dfuse->map, dfuse->map_length, dfuse->address, &end))
+        dfuse->length = end - dfuse->address > UINT32_MAX ? UINT32_MAX : (uint32_t)(end - dfuse->address);
+}
+
 static int32_t begin_upload(struct session *session)
 {
     struct dfuse *dfuse = &session->dfuse;
+    take_length(dfuse);
     if (dfuse->plan.transfer == 0)
         return DFUSE_NO_TRANSFER;
     session->payload_length = dfuse->length;

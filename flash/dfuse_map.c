@@ -100,6 +100,49 @@ int32_t dfuse_may_read(const uint8_t *map, size_t map_length, uint64_t start, ui
     return is_readable ? 0 : DFUSE_NOT_READABLE;
 }
 
+bool dfuse_first(const uint8_t *map, size_t map_length, bool is_upload, struct dfuse_range *range)
+{
+    uint32_t wanted = is_upload ? DFUSE_READABLE : DFUSE_READABLE | DFUSE_ERASABLE | DFUSE_WRITABLE;
+    for (uint32_t number = 0; dfuse_read_range(map, map_length, number, range) == 0; number++)
+        if ((range->access & wanted) == wanted)
+            return true;
+    return false;
+}
+
+/* How far the memory goes that ends below this address, or 0. */
+static uint64_t end_below(const uint8_t *map, size_t map_length, uint64_t address)
+{
+    struct dfuse_range range;
+    uint64_t end = 0;
+    for (uint32_t number = 0; dfuse_read_range(map, map_length, number, &range) == 0; number++)
+        if (end_of(&range) <= address && end_of(&range) > end)
+            end = end_of(&range);
+    return end;
+}
+
+bool dfuse_missing(const uint8_t *map, size_t map_length, uint64_t start, uint64_t end, uint64_t *missing, uint64_t *past)
+{
+    struct dfuse_range range;
+    while (start < end) {
+        if (range_at(map, map_length, start, &range) != 0) {
+            *missing = start;
+            *past = end_below(map, map_length, start);
+            return true;
+        }
+        start = end_of(&range);
+    }
+    return false;
+}
+
+bool dfuse_end_of(const uint8_t *map, size_t map_length, uint64_t address, uint64_t *end)
+{
+    struct dfuse_range range;
+    if (range_at(map, map_length, address, &range) != 0)
+        return false;
+    *end = end_of(&range);
+    return true;
+}
+
 uint64_t dfuse_pages(const uint8_t *map, size_t map_length, uint64_t start, uint64_t end)
 {
     struct dfuse_range range;

@@ -1,5 +1,6 @@
 /* SPDX-License-Identifier: MIT OR Apache-2.0 */
 /* The loop of a download with DfuSe: what the host asks for is carried out, and what came of that is reported to it. */
+#include "compare.h"
 #include "session.h"
 #include "standard.h"
 #include "stop.h"
@@ -95,9 +96,10 @@ static void show(struct session *session)
         progress_at(&session->progress, PROGRESS_COMPARING, session->payload_length);
 }
 
-static bool tell(struct session *session, const struct answer *answer)
+static bool tell(struct session *session, const struct dfuse_action *action, const struct answer *answer)
 {
     struct dfuse *dfuse = &session->dfuse;
+    compare_memory(session, action, answer);
     session->taken++;
     session->restarted += answer->seen == DFU_SEEN_RESTART;
     if (dfuse_take(&dfuse->host, dfuse->map, dfuse->map_length, dfuse->image, (size_t)dfuse->elements, answer->seen, answer->bytes,
@@ -131,7 +133,7 @@ static bool step(struct session *session, const struct dfuse_action *action, con
         return true;
     if (course == DFU_GOES_RESTARTED)
         answer.seen = DFU_SEEN_RESTART;
-    return course == DFU_GOES_ON || course == DFU_GOES_RESTARTED ? tell(session, &answer) : dfuse_end(session, course);
+    return course == DFU_GOES_ON || course == DFU_GOES_RESTARTED ? tell(session, action, &answer) : dfuse_end(session, course);
 }
 
 /* A stop ends it: what was brought and not started is dropped. Once all was read back that is what is reported. */

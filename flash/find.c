@@ -89,9 +89,10 @@ bool is_placed(const struct place *place, const struct found *found)
 
 bool is_wanted(const struct wanted *wanted, const struct found *found)
 {
+    const char *serial = found->is_upgrade && wanted->dfu_serial != NULL ? wanted->dfu_serial : wanted->serial;
     /* A serial number that may not be read may be the one: who chooses sees that it can't be opened. */
-    bool is_serial = wanted->serial == NULL || found->access != 0 || strcmp(wanted->serial, found->serial) == 0;
-    return may_be(wanted, found) && is_serial && is_placed(&wanted->place, found);
+    bool is_serial = serial == NULL || *serial == '\0' || found->access != 0 || strcmp(serial, found->serial) == 0;
+    return may_be(wanted, found) && is_serial && is_placed(&wanted->place, found) && (found->is_upgrade || !wanted->is_upgrade);
 }
 
 static bool is_same_text(const char *first, const char *now)

@@ -42,6 +42,8 @@ struct wanted {
     bool is_of_file;           /* they are those of the file's suffix, and not of --device */
     uint16_t vendor, product;  /* FFFFh is any */
     const char *path, *serial; /* NULL is any */
+    const char *dfu_serial;    /* if it is in DFU mode, in place of `serial`; NULL: the same; "" in either is any */
+    bool is_upgrade;           /* it has to be in DFU mode */
     struct place place;
     bool has_dfu_ids; /* it may have these identifiers too, as in DFU mode */
     uint16_t dfu_vendor, dfu_product;

@@ -16,16 +16,16 @@ static const char usage[] =
     "       dfu-flash [OPTIONS] --detach\n"
     "       dfu-flash --list\n"
     "\n"
-    "Coming from dfu-util: its short options are taken if they mean the same here\n"
+    "Coming from dfu-util: its options are taken, the long ones too, and what isn't the same is said\n"
     "  -D FILE              FILE; one without a suffix, a raw image, needs -d VID:PID\n"
     "  -U OUT, -t SIZE      --upload OUT, --transfer-size SIZE\n"
-    "  -l, -w, -e, -V       --list, --wait, --detach, --version\n"
-    "  -d, -p, -S, -i, -a   --device, --path, --serial, --interface, --alt\n"
-    "  -s A:leave, -s A     --address A, and with no leave --no-leave too; -s A:N -U OUT is --length N\n"
+    "  -l, -w, -e, -v, -V   --list, --wait, --detach, --verbose, --version\n"
+    "  -d, -p, -S, -i, -a   --device, --path, --serial, --interface, --alt; -d 0x1209:1,:2 and -S A,B too\n"
+    "  -s A:leave, -s A     --address A, and with no leave --no-leave too\n"
+    "  -s A:N -U OUT        --length N; without N up to the end of the segment\n"
     "  -s :leave            nothing: after a DfuSe file the device leaves; see --no-leave\n"
-    "  -R                   nothing: a whole session ends with a reset, but with DfuSe there is none\n"
-    "  -v, -E, -Z           not taken: see --verbose, --wait=SECONDS; an upload ends by itself\n"
-    "  -n, -c               not taken: there is --path; no other configuration is set\n"
+    "  -R, -E, -Z, -c       nothing: they aren't needed\n"
+    "  -n                   not taken: there is --path; nor mass-erase, unprotect, will-reset and force of -s\n"
     "\n";
 
 static const char options[] =

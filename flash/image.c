@@ -2,6 +2,7 @@
 /* Reads the file of a download. A DfuSe file is known by its front, or by its suffix. The suffix that a raw image gets here (USB DFU 1.1,
    appendix B) is read by the host like any other, so a mistake in it is a refusal and no other image. What is raw, looks.c has. */
 #include "image.h"
+#include "advice.h"
 #include "files.h"
 #include "looks.h"
 #include "say.h"
@@ -58,12 +59,19 @@ static void add_suffix(struct image *image, uint16_t vendor, uint16_t product)
 }
 
 /* Whether the words say for which device a raw image is, since nothing else does. */
-static bool has_target(const struct words *words)
+static bool has_target(const struct words *words, bool is_empty)
 {
     if (words->has_address || (words->has_ids && words->vendor != ANY_ID && words->product != ANY_ID))
         return true;
-    fputs("dfu-flash: an image without a suffix is taken with --device VID:PID, both not ffff\n", stderr);
+    if (!is_empty)
+        fputs("dfu-flash: an image without a suffix is taken with --device VID:PID, both not ffff\n", stderr);
     return false;
+}
+
+static void say_empty(void)
+{
+    fputs("dfu-flash: the file is empty: it has no bytes\n", stderr);
+    advice_is("build it anew: it is empty");
 }
 
 /* A file with a suffix is sent, since it says for which device. But `dfu add` without --format takes a build's text for the image. */
@@ -128,12 +136,14 @@ static int32_t read_raw(struct image *image, const struct words *words, const st
 {
     if (look->looks != DFU_LOOKS_RAW && !words->raw)
         return looks_refuse(look, image->bytes, image->length, words->file);
-    if (!has_target(words))
+    if (image->length == 0)
+        say_empty();
+    if (!has_target(words, image->length == 0))
         return refusal;
-    if (!words->quiet && words->has_address)
+    if (!words->quiet && words->has_address && image->length > 0)
         fprintf(stderr, "dfu-flash: there is no suffix: all %zu bytes are written, from %08lx on\n", image->length,
                 (unsigned long)words->address);
-    else if (!words->quiet)
+    else if (!words->quiet && image->length > 0)
         fprintf(stderr, "dfu-flash: there is no suffix: all %zu bytes are sent, to %04x:%04x\n", image->length, words->vendor,
                 words->product);
     add_suffix(image, words->has_ids ? words->vendor : ANY_ID, words->has_ids ? words->product : ANY_ID);

@@ -65,9 +65,12 @@ void json_setting(const struct found *found)
     json_version(found);
 }
 
+void json_hex(const char *name, uint32_t number, int digits)
+{
+    printf(",\"%s\":\"%0*" PRIx32 "\"", name, digits, number);
+}
+
 void json_address(uint32_t address)
 {
-    char digits[9];
-    snprintf(digits, sizeof digits, "%08" PRIx32, address);
-    json_text("address", digits);
+    json_hex("address", address, 8);
 }

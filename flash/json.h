@@ -13,6 +13,9 @@ void json_text(const char *name, const char *text);
 void json_number(const char *name, uint64_t number);
 void json_truth(const char *name, bool is);
 
+/* The same as so many hexadecimal digits, in quotes. */
+void json_hex(const char *name, uint32_t number, int digits);
+
 /* The fields of a setting: interface, alternate setting and name. */
 void json_setting(const struct found *found);
 

@@ -2,6 +2,7 @@
 /* What is printed of --list and of --dry-run. */
 #include "list.h"
 #include "json.h"
+#include "next.h"
 #include "record.h"
 #include "say.h"
 #include "standard.h"
@@ -67,8 +68,10 @@ int list_devices(libusb_context *usb, const struct wanted *wanted, bool is_json)
                 dfuse_print_map(&list[at]);
         }
     found_drop(list, count);
-    if (count == 0)
+    if (count == 0) {
         say_missing(usb, wanted);
+        next_say(next_of_end("none"));
+    }
     if (count == FOUND_ROOM)
         fputs("dfu-flash: more than these may be there; choose by --device, --path or --serial\n", stderr);
     return record_out() ? STATUS_DONE : STATUS_FILE;

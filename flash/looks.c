@@ -42,36 +42,15 @@ const char *looks_text_format(const uint8_t *bytes, size_t length)
     return looks == DFU_LOOKS_IHEX || looks == DFU_LOOKS_SREC ? formats[looks].format : NULL;
 }
 
-/* Whether a person can type the name: no byte of it would have to be escaped. */
-static bool can_be_typed(const char *name)
-{
-    while (*name != '\0') {
-        uint32_t character = 0;
-        size_t length = text_character(name, &character);
-        if (length == 0 || text_is_control(character))
-            return false;
-        name += length;
-    }
-    return true;
-}
-
 /* The name as one word of a shell's line, behind which a blank follows. One that can't be typed is FILE. */
 static void say_file(const char *name)
 {
-    static const char safe[] = "ABCDEFGHIJKLMNOPQRSTUVWXYZabcdefghijklmnopqrstuvwxyz0123456789_./+,:=@%-";
-    bool is_safe = name[strspn(name, safe)] == '\0';
-    if (strcmp(name, "-") == 0 || !can_be_typed(name)) {
-        fputs("FILE ", stderr);
-        return;
-    }
-    fputs(is_safe ? "" : "'", stderr);
-    fputs(*name == '-' ? "./" : "", stderr);
-    for (; *name != '\0'; name++)
-        if (*name == '\'')
-            fputs("'\\''", stderr);
-        else
-            fputc(*name, stderr);
-    fputs(is_safe ? " " : "' ", stderr);
+    char word[1024];
+    bool can = strcmp(name, "-") != 0 && text_word(name, word, sizeof word);
+    if (can && *name == '-')
+        fprintf(stderr, *word == '\'' ? "'./%s " : "./%s ", word + (*word == '\''));
+    else
+        fprintf(stderr, "%s ", can ? word : "FILE");
 }
 
 /* Where a line begins, from 1 on; `length` if it isn't in the file. A byte order mark is before the first. */

@@ -2,7 +2,9 @@
 /* dfu-flash: brings a DFU file to a device over USB, or fetches the image that it has. What comes next, and what a session comes to,
    is decided by the proved host (dfu_host.h); this program finds the device, carries out what the host asks for and reports to it what
    came of it. share/man/dfu-flash.1 says how it is used, and flash/README.md what is this program's own. */
+#include "advice.h"
 #include "all.h"
+#include "next.h"
 #include "one.h"
 #include "platform.h"
 #include "record.h"
@@ -16,8 +18,11 @@ int main(int count, char **texts)
     streams_keep();
     if (!platform_words(&count, &texts))
         return STATUS_FILE;
+    advice_keep(count, texts);
     if (!words_read(&words, count, texts))
         return STATUS_WORDS;
+    if (words.quiet)
+        next_hush();
     if (words.job != JOB_HELP && words.job != JOB_VERSION)
         return words.all ? all_run(&words) : one_run(&words, &image, progress_style(words.quiet, words.verbose));
     if (words.job == JOB_HELP)

@@ -1,6 +1,7 @@
 /* SPDX-License-Identifier: MIT OR Apache-2.0 */
 /* Why no device is the wanted one: one by one, what was asked for is compared with the devices that are left, and the first thing that
    none of them has is named. */
+#include "advice.h"
 #include "say.h"
 #include "standard.h"
 #include "status.h"
@@ -16,6 +17,7 @@ static struct wanted up_to(const struct wanted *wanted, enum criterion last)
     struct wanted part = *wanted;
     part.path = last >= PATH ? part.path : NULL;
     part.serial = last >= SERIAL ? part.serial : NULL;
+    part.dfu_serial = last >= SERIAL ? part.dfu_serial : NULL;
     part.place.interface = last >= INTERFACE ? part.place.interface : -1;
     if (last < SETTING) {
         part.place.alternate = -1;
@@ -42,12 +44,16 @@ static void say_criterion(const struct wanted *wanted, enum criterion failed)
 {
     switch (failed) {
     case IDENTIFIERS:
-        fprintf(stderr, "%s vendor %04x, product %04x%s (ffff is any), and none has them",
+        fprintf(stderr, "%s vendor %04x, product %04x%s (ffff is any), and none has them%s",
                 wanted->is_of_file ? "the file is for" : "--device names", wanted->vendor, wanted->product,
-                wanted->has_dfu_ids ? " and others for DFU mode" : "");
+                wanted->has_dfu_ids ? " and others for DFU mode" : "", wanted->is_upgrade ? " in DFU mode" : "");
         break;
     case PATH: say_text(stderr, "none of these is at --path ", wanted->path, ""); break;
-    case SERIAL: say_text(stderr, "none of these has --serial ", wanted->serial, ""); break;
+    case SERIAL:
+        say_text(stderr, "none of these has --serial ", wanted->serial, "");
+        if (wanted->dfu_serial != NULL)
+            say_text(stderr, ", or in DFU mode ", wanted->dfu_serial, "");
+        break;
     case INTERFACE: fprintf(stderr, "none of these has --interface %d", wanted->place.interface); break;
     default:
         if (wanted->place.name == NULL)
@@ -90,6 +96,7 @@ int say_missing(libusb_context *usb, const struct wanted *wanted)
             break;
         left = fitting;
     }
+    advice_is("choose one of those that are there, or plug in the one that is meant");
     fputs("dfu-flash: no device is the one that is asked for: ", stderr);
     if (failed == CRITERIA) /* it came just now */
         fputs("none was there in time", stderr);

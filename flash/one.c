@@ -2,12 +2,14 @@
 /* One device, or a list: the order of what is done, with what is said if it ends early. */
 #define _POSIX_C_SOURCE 200809L
 #include "one.h"
+#include "advice.h"
 #include "bays.h"
 #include "clock.h"
 #include "device.h"
 #include "dfu_mode.h"
 #include "files.h"
 #include "list.h"
+#include "next.h"
 #include "record.h"
 #include "say.h"
 #include "session.h"
@@ -25,6 +27,7 @@ static uint8_t no_file[1], no_room[1]; /* the host's library wants pointers also
 
 static int say_refused(const struct words *words, int32_t refusal)
 {
+    advise_refused(&session, refusal);
     return record_refused(refusal, words->json) ? STATUS_REFUSED : STATUS_FILE;
 }
 
@@ -47,10 +50,14 @@ static int take_file(const struct words *words, struct image *image, struct want
     int32_t refusal = image->bytes != NULL ? 0 : image_read(image, words);
     if (image->bytes != NULL)
         session.file = image->bytes;
-    if (refusal == IMAGE_UNREAD)
+    if (refusal == IMAGE_UNREAD) {
+        advise_name(words->file);
         return say_none(words, STATUS_FILE);
+    }
     if (refusal == IMAGE_WORDS)
         return STATUS_WORDS;
+    if (refusal == DFU_FILE_NO_SIGNATURE || (refusal == DFU_FILE_TOO_SHORT && image->length > 0))
+        advise_raw(device.usb, words);
     if (refusal < 0)
         return say_refused(words, refusal);
     session.file_length = image->length;
@@ -116,6 +123,8 @@ static int print_verdict(const struct words *words, const struct verdict *verdic
     bool is_out = record_print(&session, verdict, words->json);
     if (verdict->code != 0 && !words->json && !words->quiet)
         fprintf(stderr, "dfu-flash: %s: %s\n", code_name(verdict->code), code_words(verdict->code));
+    if (!words->json)
+        next_say(next_of_end(verdict->name));
     return is_out ? verdict->status : STATUS_FILE;
 }
 
@@ -197,20 +206,6 @@ static int flash(const struct words *words, struct image *image, struct wanted *
         return run_session(words, style);
     list_plan(&session, words->json);
     return record_out() ? STATUS_DONE : STATUS_FILE;
-}
-
-struct wanted wanted_of(const struct words *words)
-{
-    /* clang-format off */
-    struct wanted wanted = {.has_ids = words->has_ids, .vendor = words->vendor, .product = words->product,
-                            .path = words->path, .serial = words->serial,
-                            .place = {words->interface, words->alternate, words->setting},
-                            .has_dfu_ids = words->has_dfu_ids, .dfu_vendor = words->dfu_vendor, .dfu_product = words->dfu_product};
-    /* clang-format on */
-    /* A device of DfuSe has a setting for each of its memories: the first is that of programs. */
-    if (words->has_address && words->alternate < 0 && words->setting == NULL)
-        wanted.place.alternate = 0;
-    return wanted;
 }
 
 /* By which the next device there is known to be another one. */

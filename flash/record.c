@@ -1,8 +1,10 @@
 /* SPDX-License-Identifier: MIT OR Apache-2.0 */
 /* The last line of standard output, or that of one of several devices. */
 #include "record.h"
+#include "advice.h"
 #include "clock.h"
 #include "json.h"
+#include "next.h"
 #include "standard.h"
 #include "status.h"
 
@@ -41,8 +43,10 @@ static void begin(int status, const char *report)
     json_text("report", report);
 }
 
-static void end(void)
+static void end(const char *step)
 {
+    if (step != NULL)
+        json_text("next", step);
     if (each.path != NULL && each.log->name != NULL)
         json_text("log", each.log->name);
     if (each.path != NULL)
@@ -80,7 +84,21 @@ void record_begin(const struct session *session, int status, const char *report,
     print_device(session);
 }
 
-static void print_record(const struct session *session, const struct verdict *verdict)
+/* Where the device gave back another byte than the image's. */
+static void print_odd(const struct session *session)
+{
+    const struct odd *odd = &session->odd_byte;
+    if (session->dfuse.is)
+        json_hex("place", (uint32_t)odd->at, 8);
+    else
+        json_number("place", odd->at);
+    if (odd->wanted >= 0)
+        json_hex("wanted", (uint32_t)odd->wanted, 2);
+    if (odd->found >= 0)
+        json_hex("found", (uint32_t)odd->found, 2);
+}
+
+static void print_record(const struct session *session, const struct verdict *verdict, const char *step)
 {
     begin(verdict->status, verdict->name);
     if (verdict->code != 0)
@@ -98,13 +116,18 @@ static void print_record(const struct session *session, const struct verdict *ve
     json_number("transfers", session->wire.transfers);
     json_number("restarts", session->restarted);
     json_number("milliseconds", (uint64_t)(clock_ms() - session->began_ms));
-    end();
+    if (verdict->status == STATUS_DIFFERENT && session->odd_byte.is)
+        print_odd(session);
+    end(step);
 }
 
 bool record_print(const struct session *session, const struct verdict *verdict, bool is_json)
 {
+    const char *step;
+    advise_ended(session, verdict->name);
+    step = next_of_end(verdict->name);
     if (is_json) {
-        print_record(session, verdict);
+        print_record(session, verdict, step);
         return record_out();
     }
     begin_line();
@@ -113,7 +136,7 @@ bool record_print(const struct session *session, const struct verdict *verdict, 
     return record_out();
 }
 
-static void print_short(int status, const char *name, const char *words)
+static void print_short(int status, const char *name, const char *words, const char *step)
 {
     begin(status, name);
     json_text("words", words);
@@ -121,23 +144,33 @@ static void print_short(int status, const char *name, const char *words)
         json_text("path", each.path);
     if (each.path != NULL && each.is->serial[0] != '\0')
         json_text("serial", each.is->serial);
-    end();
+    end(step);
 }
 
-bool record_short(int status, const char *report, const char *words, bool is_json)
+/* The step comes behind the line that it is for. */
+static bool end_short(int status, const char *report, const char *words, const char *step, bool is_json)
 {
+    bool is_out;
     if (is_json)
-        print_short(status, report, words);
+        print_short(status, report, words, step);
     else {
         begin_line();
         printf("%s: %s\n", report, words);
     }
-    return record_out();
+    is_out = record_out();
+    if (!is_json)
+        next_say(step);
+    return is_out;
+}
+
+bool record_short(int status, const char *report, const char *words, bool is_json)
+{
+    return end_short(status, report, words, next_of_end(report), is_json);
 }
 
 bool record_refused(int32_t refusal, bool is_json)
 {
-    return record_short(STATUS_REFUSED, refusal_name(refusal), refusal_words(refusal), is_json);
+    return end_short(STATUS_REFUSED, refusal_name(refusal), refusal_words(refusal), next_of_refusal(refusal), is_json);
 }
 
 /* Why there is no session, by the status. */
@@ -155,9 +188,13 @@ int record_none(int status, bool is_json)
 {
     const struct verdict broken = verdict_broken();
     bool is_silent = !is_json && each.path == NULL;
-    for (size_t at = 0; at < sizeof nones / sizeof *nones; at++)
-        if (nones[at].status == status)
-            return (is_silent || record_short(status, nones[at].name, nones[at].words, is_json)) ? status : STATUS_FILE;
+    for (size_t at = 0; at < sizeof nones / sizeof *nones; at++) {
+        if (nones[at].status != status)
+            continue;
+        if (is_silent)
+            next_say(next_of_end(nones[at].name));
+        return (is_silent || record_short(status, nones[at].name, nones[at].words, is_json)) ? status : STATUS_FILE;
+    }
     return record_short(broken.status, broken.name, broken.words, is_json) ? broken.status : STATUS_FILE;
 }
 

@@ -1,6 +1,7 @@
 /* SPDX-License-Identifier: MIT OR Apache-2.0 */
 /* Lines about devices. */
 #include "say.h"
+#include "advice.h"
 #include "platform.h"
 #include "standard.h"
 #include "status.h"
@@ -64,5 +65,6 @@ int say_no_access(const struct found *found)
         fputs("may not be opened", stderr);
     fprintf(stderr, ": %s\n", libusb_error_name(found->access));
     platform_help(found);
+    advise_access(found->access);
     return found->access == LIBUSB_ERROR_NO_DEVICE ? STATUS_NO_DEVICE : STATUS_NO_ACCESS;
 }

@@ -1,6 +1,7 @@
 /* SPDX-License-Identifier: MIT OR Apache-2.0 */
 /* The loop: what the host asks for is carried out, and what came of that is reported to it. Nothing else is sent, but for the DETACH of
    stalls.c. */
+#include "compare.h"
 #include "facts.h"
 #include "session.h"
 #include "stalls.h"
@@ -71,6 +72,8 @@ static struct answer send_request(struct session *session, const struct dfu_acti
     answer = answer_send(&session->wire, action, session->file + action->from);
     if (is_download(action))
         session->is_whole = action->length == 0 && answer.seen == DFU_SEEN_ACK;
+    if (is_upload(action))
+        compare_blocks(session, action, &answer);
     if (is_upload(action))
         session->is_fetched = answer.seen == DFU_SEEN_BYTES && answer.count < setup_length(action->setup);
     show(session, action, &answer);

@@ -29,6 +29,13 @@ enum end {
     END_UNRESET    /* a reset is asked for that the system doesn't make, and nobody pulled the plug */
 };
 
+/* The first byte that came back and isn't the image's. */
+struct odd {
+    bool is;
+    uint64_t at;       /* its place in the image, from 0 on; with DfuSe its address */
+    int wanted, found; /* the image's byte and the device's; -1 if the image, or what the device gave, has ended there */
+};
+
 struct session {
     bool is_upload, wants_verified; /* what was asked for, */
     enum goal goal;                 /* and what it is with the device's functional descriptor */
@@ -48,8 +55,9 @@ struct session {
     struct dfu_session host; /* the host's record */
     uint8_t known[9];        /* the device's functional descriptor when it was begun */
     size_t known_size;
-    int32_t odd;        /* why the host refuses the functional descriptor of the run-time mode, or 0; */
-    uint8_t another[9]; /* then another one in its place */
+    int32_t odd;         /* why the host refuses the functional descriptor of the run-time mode, or 0; */
+    uint8_t another[9];  /* then another one in its place */
+    struct odd odd_byte; /* of what was compared last */
     bool is_aborted;
     bool is_whole;          /* the device acknowledged the image's last block and its end, and no block was sent since */
     bool is_fetched;        /* the last part of an upload came, and none was asked for since */

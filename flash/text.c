@@ -43,6 +43,40 @@ void text_print(FILE *out, const char *text)
     }
 }
 
+bool text_is_typed(const char *text)
+{
+    while (*text != '\0') {
+        uint32_t character = 0;
+        size_t length = text_character(text, &character);
+        if (length == 0 || text_is_control(character))
+            return false;
+        text += length;
+    }
+    return true;
+}
+
+bool text_word(const char *text, char *word, size_t room)
+{
+    static const char safe[] = "ABCDEFGHIJKLMNOPQRSTUVWXYZabcdefghijklmnopqrstuvwxyz0123456789_./+,:=@%-";
+    bool is_safe = text[0] != '\0' && text[strspn(text, safe)] == '\0';
+    size_t at = 0;
+    /* A quote takes four bytes: what stood before it is closed, and opened again. */
+    if (!text_is_typed(text) || 4 * strlen(text) + 3 > room)
+        return false;
+    if (!is_safe)
+        word[at++] = '\'';
+    for (; *text != '\0'; text++)
+        if (*text == '\'') {
+            memcpy(word + at, "'\\''", 4);
+            at += 4;
+        } else
+            word[at++] = *text;
+    if (!is_safe)
+        word[at++] = '\'';
+    word[at] = '\0';
+    return true;
+}
+
 /* A half of a pair that has no other half becomes three bytes that are no UTF-8, and so are escaped when they are printed. */
 static size_t put_point(uint32_t point, char bytes[4])
 {

@@ -17,6 +17,12 @@ bool text_is_control(uint32_t character);
 /* Prints it as it is, but for bytes of control characters and of what isn't UTF-8, which are written as \xNN. */
 void text_print(FILE *out, const char *text);
 
+/* Whether a person can type it: no byte of it would have to be escaped. */
+bool text_is_typed(const char *text);
+
+/* Writes it as one word of a shell's line. False if it can't be typed, or there is no room. */
+bool text_word(const char *text, char *word, size_t room);
+
 /* Prints bytes as hexadecimal digits. */
 void text_hex(FILE *out, const uint8_t *bytes, size_t count);
 

@@ -138,8 +138,7 @@ bool value_transfer(const char *text, struct words *words)
     return is;
 }
 
-/* A hexadecimal number after 0x, up to 32 bits, at the front of `text`; what follows it is in `rest`. */
-static bool is_hexadecimal(const char *text, uint32_t *number, const char **rest)
+bool value_is_hexadecimal(const char *text, uint32_t *number, const char **rest)
 {
     size_t digits;
     if (text[0] != '0' || (text[1] != 'x' && text[1] != 'X'))
@@ -155,17 +154,16 @@ static bool is_hexadecimal(const char *text, uint32_t *number, const char **rest
 bool value_address(const char *text, struct words *words)
 {
     const char *rest;
-    words->has_address = is_hexadecimal(text, &words->address, &rest) && *rest == '\0';
+    words->has_address = value_is_hexadecimal(text, &words->address, &rest) && *rest == '\0';
     return words->has_address || words_refuse("--address takes an address as 0x08000000", text);
 }
 
-/* A count of bytes, decimal or hexadecimal, at the front of `text`. */
-static bool is_length(const char *text, uint32_t *length, const char **rest)
+bool value_is_length(const char *text, uint32_t *length, const char **rest)
 {
     char digits[11] = {0};
     size_t count = strspn(text, DIGITS);
     unsigned long number;
-    if (is_hexadecimal(text, length, rest))
+    if (value_is_hexadecimal(text, length, rest))
         return *length > 0;
     if (count < 1 || count > 10)
         return false;
@@ -180,26 +178,6 @@ static bool is_length(const char *text, uint32_t *length, const char **rest)
 bool value_length(const char *text, struct words *words)
 {
     const char *rest;
-    return (is_length(text, &words->length, &rest) && *rest == '\0')
+    return (value_is_length(text, &words->length, &rest) && *rest == '\0')
            || words_refuse("--length takes bytes, from 1 to 4294967295, or as 0x1000", text);
-}
-
-/* dfu-util stays in DFU mode unless `leave` is said. Of its words that destroy more than an image none is taken. Without an address it goes
-   with a DfuSe file, after which the device leaves here anyhow. */
-bool value_dfuse(const char *text, struct words *words)
-{
-    const char *rest;
-    if (strcmp(text, ":leave") == 0)
-        return true;
-    if (!is_hexadecimal(text, &words->address, &rest))
-        return words_refuse("-s takes an address as 0x08000000, which may have :leave or a length after it", text);
-    words->has_address = words->stays = true;
-    while (*rest == ':') {
-        if (strncmp(rest, ":leave", 6) == 0) {
-            words->stays = false;
-            rest += 6;
-        } else if (!is_length(rest + 1, &words->length, &rest))
-            return words_refuse("-s takes :leave or a length after the address; nothing else of dfu-util's is here", text);
-    }
-    return *rest == '\0' || words_refuse("-s takes :leave or a length after the address", text);
 }

@@ -17,8 +17,10 @@ bool value_transfer(const char *text, struct words *words);
 bool value_address(const char *text, struct words *words);
 bool value_length(const char *text, struct words *words);
 
-/* What -s of dfu-util says: an address, and after colons how many bytes, or `leave`. */
-bool value_dfuse(const char *text, struct words *words);
+/* A hexadecimal number after 0x, up to 32 bits, at the front of `text`; and a count of bytes from 1 on, decimal or hexadecimal. What
+   follows it is in `rest`. */
+bool value_is_hexadecimal(const char *text, uint32_t *number, const char **rest);
+bool value_is_length(const char *text, uint32_t *length, const char **rest);
 
 /* --verbose, or --verbose=FILE: NULL if there is none. */
 bool value_verbose(const char *text, struct words *words);

@@ -1,43 +1,21 @@
 /* SPDX-License-Identifier: MIT OR Apache-2.0 */
 /* The command line: what each word means, and which words go together. */
 #include "words.h"
+#include "advice.h"
 #include "dfu_util.h"
+#include "next.h"
+#include "options.h"
 #include "say.h"
 #include "values.h"
 
-#include <getopt.h>
 #include <stdio.h>
 #include <string.h>
-
-/* clang-format off */
-enum option_code {
-    DEVICE = 256, PATH, SERIAL, INTERFACE, ALTERNATE, NO_VERIFY, RAW, UPLOAD, FORCE, DETACH, WAIT, TIMEOUT, LIMITS, TRANSFER_SIZE, DRY_RUN,
-    QUIET, VERBOSE, JSON, LIST, ALL, LOG, ADDRESS, LENGTH, NO_LEAVE, HELP, VERSION
-};
-
-static const struct option options[] = {
-    {"device", required_argument, NULL, DEVICE},   {"path", required_argument, NULL, PATH},
-    {"serial", required_argument, NULL, SERIAL},   {"interface", required_argument, NULL, INTERFACE},
-    {"alt", required_argument, NULL, ALTERNATE},   {"no-verify", no_argument, NULL, NO_VERIFY},
-    {"raw", no_argument, NULL, RAW},
-    {"upload", required_argument, NULL, UPLOAD},   {"force", no_argument, NULL, FORCE},
-    {"detach", no_argument, NULL, DETACH},         {"wait", optional_argument, NULL, WAIT},
-    {"timeout", required_argument, NULL, TIMEOUT}, {"limits", required_argument, NULL, LIMITS},
-    {"transfer-size", required_argument, NULL, TRANSFER_SIZE},
-    {"dry-run", no_argument, NULL, DRY_RUN},       {"quiet", no_argument, NULL, QUIET},
-    {"verbose", optional_argument, NULL, VERBOSE}, {"json", no_argument, NULL, JSON},
-    {"all", no_argument, NULL, ALL},               {"log", required_argument, NULL, LOG},
-    {"address", required_argument, NULL, ADDRESS}, {"length", required_argument, NULL, LENGTH},
-    {"no-leave", no_argument, NULL, NO_LEAVE},
-    {"list", no_argument, NULL, LIST},             {"help", no_argument, NULL, HELP},
-    {"version", no_argument, NULL, VERSION},       {NULL, 0, NULL, 0},
-};
-/* clang-format on */
 
 bool words_refuse(const char *what, const char *word)
 {
     fprintf(stderr, "dfu-flash: %s", what);
     say_text(stderr, *word != '\0' ? ": " : "", word, "\nSee dfu-flash --help.\n");
+    next_say(advice_or(NULL));
     return false;
 }
 
@@ -76,14 +54,24 @@ static bool is_wait(struct words *words, const char *seconds, int count, char **
     return value_wait(seconds, words);
 }
 
+/* getopt_long has said which word is none of the options. Of "-list", say, it took the letters one by one. */
+static bool is_no_option(char **texts)
+{
+    fputs("See dfu-flash --help.\n", stderr);
+    if (strncmp(texts[optind - 1], "--", 2) == 0)
+        advise_word(texts[optind - 1]);
+    next_say(advice_or(NULL));
+    return false;
+}
+
 static bool take_option(struct words *words, int code, int count, char **texts)
 {
     switch (code) {
-    case 'd':
+    case 'd': return dfu_util_device(optarg, words);
     case DEVICE: return value_device(optarg, words);
     case 'p':
     case PATH: return value_path(optarg, words);
-    case 'S':
+    case 'S': return dfu_util_serial(optarg, words);
     case SERIAL: return value_serial(optarg, words);
     case 'i':
     case INTERFACE: return value_interface(optarg, words);
@@ -105,6 +93,7 @@ static bool take_option(struct words *words, int code, int count, char **texts)
     case LIMITS: return value_limits(optarg, optind < count ? texts[optind++] : NULL, words);
     case DRY_RUN: words->dry_run = true; return true;
     case QUIET: words->quiet = true; return true;
+    case 'v':
     case VERBOSE: return value_verbose(optarg, words);
     case JSON: words->json = true; return true;
     case ALL: words->all = true; return true;
@@ -112,15 +101,18 @@ static bool take_option(struct words *words, int code, int count, char **texts)
     case ADDRESS: return value_address(optarg, words);
     case LENGTH: return value_length(optarg, words);
     case NO_LEAVE: words->stays = true; return true;
-    case 's': return value_dfuse(optarg, words);
+    case 's': return dfu_util_address(optarg, words);
     case 'l':
     case LIST: return is_job(words, JOB_LIST);
+    case 'c':
+    case 'E':
+    case 'Z':              /* noted */
     case 'R': return true; /* each session ends with a reset */
     case 'h':
     case HELP: words->job = JOB_HELP; return true;
     case 'V':
     case VERSION: words->job = JOB_VERSION; return true;
-    default: fputs("See dfu-flash --help.\n", stderr); return false;
+    default: return is_no_option(texts);
     }
 }
 
@@ -148,7 +140,7 @@ static bool is_fit_for_dfuse(const struct words *words)
         return words_refuse("--transfer-size doesn't go with --address: a DfuSe device counts in blocks of its own size", "");
     if (words->length != 0 && (!is_upload || !words->has_address))
         return words_refuse("--length goes with --upload and --address", "");
-    if (is_upload && words->has_address && words->length == 0)
+    if (is_upload && words->has_address && words->length == 0 && !words->is_to_end)
         return words_refuse("--upload with --address takes --length", "");
     /* -s of an upload says to stay too; what a download has is seen when its file is read. */
     return !words->stays || words->has_address || is_download || words_refuse("--no-leave goes with --address, or with a DfuSe file", "");
@@ -185,8 +177,12 @@ static bool is_whole(struct words *words, const struct plain *plain)
     int at = 0;
     if (words->job == JOB_DOWNLOAD && words->file == NULL && plain->count > 0)
         words->file = plain->texts[at++];
-    if (at < plain->count)
+    if (at < plain->count) {
+        advice_is("name one FILE; what a shell makes of * may be several");
         return words_refuse("a word too many", plain->texts[at]);
+    }
+    if (words->job == JOB_DOWNLOAD && words->file == NULL)
+        advice_is("name the file, or - for standard input; dfu-flash --list shows which devices are there");
     if (words->job == JOB_DOWNLOAD && words->file == NULL)
         return words_refuse(words->patience == 0 ? "no FILE was given" : "no FILE was given; a number after --wait is its seconds", "");
     if (has_file && words->file[0] == '\0')
@@ -228,11 +224,18 @@ bool words_read(struct words *words, int count, char **texts)
     words->verify = true;
     words->interface = words->alternate = -1;
     while (is_option_next(&plain, count, texts)) {
+        advice_forget();
+        texts[optind] = dfu_util_short(texts[optind]);
+        if (texts[optind][1] != '-')
+            advise_name(texts[optind] + 1);
         code = next_option(count, texts);
         if (!dfu_util_is_same(code, optarg) || !take_option(words, code, count, texts))
             return false;
         if (words->job == JOB_HELP || words->job == JOB_VERSION)
             return true;
     }
+    advice_forget();
+    if (!words->quiet)
+        dfu_util_notes();
     return is_whole(words, &plain);
 }

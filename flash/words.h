@@ -18,7 +18,9 @@ struct words {
     uint16_t vendor, product;
     bool has_dfu_ids; /* as RUN,DFU: in DFU mode it may have these */
     uint16_t dfu_vendor, dfu_product;
+    bool is_upgrade;           /* as -d ,DFU: it has to be in DFU mode */
     const char *path, *serial; /* NULL if they weren't given */
+    const char *dfu_serial;    /* as -S A,B: in DFU mode it is this one; NULL: the same; "" in either is any */
     const char *log;           /* the file of --verbose=FILE, or NULL */
     int interface, alternate;  /* -1 if they weren't given */
     const char *setting;       /* the name of --alt, NULL if it is a number or wasn't given */
@@ -30,7 +32,8 @@ struct words {
     bool wait;                /* --wait was given, */
     uint32_t patience;        /* and for so many seconds; 0 is for ever */
     bool has_address;         /* --address was given: DfuSe */
-    uint32_t address, length; /* and --length, 0 if it wasn't */
+    uint32_t address, length; /* and --length, 0 if it wasn't; */
+    bool is_to_end;           /* then an upload has all up to the end of the segment, as with -s */
     bool stays;               /* --no-leave was given */
     bool raw;                 /* --raw was given */
     bool all;                 /* --all was given, */

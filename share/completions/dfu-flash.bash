@@ -1,10 +1,24 @@
 # Completion of dfu-flash for bash: source this file, or put it as `dfu-flash` into a folder of bash-completion.
 
-# Those that are there. readline takes a word apart at each colon and each =, so that what stands before the last of these isn't offered.
-_dfu_flash_devices() {
-    local line=${COMP_LINE:0:COMP_POINT} typed
+# What --list has of the boards that are there: identifiers, paths, serial numbers or alternate settings. One with a byte that can't be typed
+# is escaped there, and left out.
+_dfu_flash_cut() {
+    case $1 in
+    device) sed -n 's/^\([^ ]*\) path .*/\1/p' ;;
+    path) sed -n 's/^[^ ]* path \([^ ]*\) .*/\1/p' ;;
+    serial) sed -n 's/^[^ ]* path [^ ]* serial \([^\\]*\) interface [0-9]* alt .*/\1/p' ;;
+    alt) sed -n 's/^[^ ]* path .* interface [0-9]* alt \([0-9]*\) .*/\1/p' ;;
+    esac
+}
+
+# readline takes a word apart at each colon and each =, so that what stands before the last of these isn't offered.
+_dfu_flash_there() {
+    local line=${COMP_LINE:0:COMP_POINT} typed one
     typed=${line##*[[:blank:]=]}
-    COMPREPLY=($(compgen -W "$("$1" --list 2> /dev/null | cut -d ' ' -f 1 | sort -u)" -- "$typed"))
+    COMPREPLY=()
+    while IFS= read -r one; do
+        [[ $one != "$typed"* ]] || COMPREPLY+=("$(printf %q "$one")")
+    done < <("$1" --list 2> /dev/null | _dfu_flash_cut "$2" | sort -u)
     case $typed in
     *:*) COMPREPLY=("${COMPREPLY[@]#"${typed%"${typed##*:}"}"}") ;;
     esac
@@ -21,7 +35,19 @@ _dfu_flash() {
     COMPREPLY=()
     case $before in
     --device | -d)
-        _dfu_flash_devices "${1:-dfu-flash}"
+        _dfu_flash_there "${1:-dfu-flash}" device
+        return
+        ;;
+    --path | -p)
+        _dfu_flash_there "${1:-dfu-flash}" path
+        return
+        ;;
+    --serial | -S)
+        _dfu_flash_there "${1:-dfu-flash}" serial
+        return
+        ;;
+    --alt | -a)
+        _dfu_flash_there "${1:-dfu-flash}" alt
         return
         ;;
     --log)
@@ -33,7 +59,7 @@ _dfu_flash() {
         compopt -o default
         return
         ;;
-    --path | --serial | --interface | --alt | --timeout | --limits | --transfer-size | --address | --length | -p | -S | -i | -a | -t | -s) return ;;
+    --interface | --timeout | --limits | --transfer-size | --address | --length | -i | -t | -s) return ;;
     esac
     case $word in
     -*)

@@ -1,18 +1,29 @@
 # Completion of dfu-flash for fish: put this file into a folder of fish_complete_path.
 
-# Those that are there.
-function __dfu_flash_devices
+# What --list has of the boards that are there; one with a byte that can't be typed is left out.
+function __dfu_flash_there
     set -l words (commandline -poc)
-    command $words[1] --list 2> /dev/null | string replace -r ' .*' '' | sort -u
+    set -l cut
+    switch $argv[1]
+        case device
+            set cut 's/^\([^ ]*\) path .*/\1/p'
+        case path
+            set cut 's/^[^ ]* path \([^ ]*\) .*/\1/p'
+        case serial
+            set cut 's/^[^ ]* path [^ ]* serial \([^\\\\]*\) interface [0-9]* alt .*/\1/p'
+        case alt
+            set cut 's/^[^ ]* path .* interface [0-9]* alt \([0-9]*\) .*/\1/p'
+    end
+    command $words[1] --list 2> /dev/null | sed -n $cut | sort -u
 end
 
 complete -c dfu-flash -F
 complete -c dfu-flash -r -F -s D -d 'The file, as with dfu-util'
-complete -c dfu-flash -x -s d -l device -d 'Take this device, four hexadecimal digits each' -a '(__dfu_flash_devices)'
-complete -c dfu-flash -x -s p -l path -d 'Take the device at this path, as 1-2.3'
-complete -c dfu-flash -x -s S -l serial -d 'Take the device with this serial number'
+complete -c dfu-flash -x -s d -l device -d 'Take this device, four hexadecimal digits each' -a '(__dfu_flash_there device)'
+complete -c dfu-flash -x -s p -l path -d 'Take the device at this path, as 1-2.3' -a '(__dfu_flash_there path)'
+complete -c dfu-flash -x -s S -l serial -d 'Take the device with this serial number' -a '(__dfu_flash_there serial)'
 complete -c dfu-flash -x -s i -l interface -d 'Take the interface of this number'
-complete -c dfu-flash -x -s a -l alt -d 'Take the alternate setting of this number or name'
+complete -c dfu-flash -x -s a -l alt -d 'Take the alternate setting of this number or name' -a '(__dfu_flash_there alt)'
 complete -c dfu-flash -l no-verify -d 'Don\'t upload the image after the download to compare it'
 complete -c dfu-flash -l raw -d 'Send the bytes of FILE as they are, whatever they look like'
 complete -c dfu-flash -r -F -s U -l upload -d 'Fetch the active image into a new file'

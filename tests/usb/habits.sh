@@ -13,7 +13,7 @@ expect 'an upload' cmp old habit
 row 0 old 'detached: ' USB_START=app -e
 row 0 - '1209:0001 path 1-1 serial F1' '' -l
 for words in '-D new.dfu new.dfu' '-D new.dfu -D new.dfu' '-D new.dfu -U never' '-U never -D new.dfu' '-l -D new.dfu' '-D new.dfu -l' \
-    '-e -D new.dfu' '-D new.dfu -e' '-D' '-d 0x1209:0001 -D new.dfu' '-t 4097 -D new.dfu' '-x new.dfu'; do
+    '-e -D new.dfu' '-D new.dfu -e' '-D' '-t 4097 -D new.dfu' '-x new.dfu'; do
     # shellcheck disable=SC2086
     row 2 - '' '' $words
 done
@@ -25,13 +25,8 @@ answer() {
     row 2 - '' '' "$@"
     says "$text"
 }
-answer '-Z of dfu-util isn'\''t needed' -Z 26 -U never
 answer '--path PATH' -n 5 -D new.dfu
-answer '-c of dfu-util' -c 1 -D new.dfu
-answer '--wait=SECONDS' -E 5 -D new.dfu
-answer '--verbose' -v -D new.dfu
 row 1 old 'NotDfuSe: ' '' -s 0x08000000:leave -D new.dfu
-answer '--serial' -S F1,F2 -D new.dfu
 answer 'decimal' -a 010 -D new.dfu
 answer 'decimal' -a 0x1 -D new.dfu
 

@@ -23,7 +23,7 @@ refused() {
         found=$(grep -c -e --device -e --raw -e 'format raw' err) || :
         expect "$it $words: no hint leads to sending it" test "$found" -eq 0
     done
-    row 1 old "{\"status\":1,\"report\":\"NoSignature\",\"words\":\"${refusal#*: }\"}" '' --json --device 1209:0001 "$it"
+    row 1 old "{\"status\":1,\"report\":\"NoSignature\",\"words\":\"${refusal#*: }\",\"next\":\"" '' --json --device 1209:0001 "$it"
     for words in '--raw --device 1209:0001' '--device 1209:0001 --raw --json' '-d 1209:0001 --raw --dry-run'; do
         # shellcheck disable=SC2086
         flash USB_CAPACITY=5000 $words "$it"

@@ -64,7 +64,7 @@ expect 'a dry run: nothing is sent' is_silent
 row 0 old '{"status":0,"report":"dry-run","words":"bring it to DFU mode, and ' 'USB_START=app USB_DESCRIPTOR=0' --json --dry-run new.dfu
 row 12 old '{"status":12,"report":"several","words":"more than one device, interface or setting; choose by --device, ' USB_DEVICES=2 \
     --json new.dfu
-row 4 - '{"status":4,"report":"none","words":"there is no such device"}' USB_DEVICES=0 --json new.dfu
+row 4 - '{"status":4,"report":"none","words":"there is no such device","next":"plug it in ' USB_DEVICES=0 --json new.dfu
 if command -v python3 > /dev/null; then
     flash 'USB_ALTERNATES=3 USB_DENIED=3' --list --json
     expect 'records' python3 -c 'import json

@@ -1,0 +1,71 @@
+/* SPDX-License-Identifier: MIT OR Apache-2.0 */
+/* What is known better than the tables of next.c, and the line to type, which has the words of the command line. */
+#include "advice.h"
+#include "text.h"
+
+#include <stdio.h>
+#include <string.h>
+
+#define LINE_ROOM 4096
+
+static struct {
+    int count;
+    char **texts;
+    char step[LINE_ROOM], seen[512], both[LINE_ROOM + 520];
+} known;
+
+void advice_keep(int count, char **texts)
+{
+    known.count = count;
+    known.texts = texts;
+}
+
+void advice_is(const char *step)
+{
+    snprintf(known.step, sizeof known.step, "%s", step);
+}
+
+void advice_first(const char *seen)
+{
+    snprintf(known.seen, sizeof known.seen, "%s", seen);
+}
+
+void advice_forget(void)
+{
+    known.step[0] = known.seen[0] = '\0';
+}
+
+const char *advice_or(const char *step)
+{
+    const char *best = known.step[0] != '\0' ? known.step : step;
+    if (known.seen[0] == '\0' || best == NULL)
+        return best;
+    snprintf(known.both, sizeof known.both, "%s: %s", known.seen, best);
+    return known.both;
+}
+
+/* The words as a shell reads them, behind `length` bytes of the line. False if one can't be typed, or there is no room. */
+static bool add_words(char *line, size_t length)
+{
+    for (int at = 1; at < known.count; at++) {
+        if (length + 2 >= LINE_ROOM)
+            return false;
+        line[length++] = ' ';
+        line[length] = '\0';
+        if (!text_word(known.texts[at], line + length, LINE_ROOM - length))
+            return false;
+        length += strlen(line + length);
+    }
+    return true;
+}
+
+void advice_run(const char *more)
+{
+    char line[LINE_ROOM];
+    int length = snprintf(line, sizeof line, "run: dfu-flash %s", more);
+    if (length < 0 || length >= LINE_ROOM)
+        return;
+    if (known.count < 2 || !add_words(line, (size_t)length))
+        snprintf(line, sizeof line, "run it again with %s before the other words", more);
+    advice_is(line);
+}

@@ -1,0 +1,124 @@
+/* SPDX-License-Identifier: MIT OR Apache-2.0 */
+/* What is seen of boards, files and memories makes the next step a line to type, or says where something is wrong. */
+#include "advice.h"
+#include "one.h"
+#include "session.h"
+#include "standard.h"
+
+#include <inttypes.h>
+#include <stdio.h>
+#include <string.h>
+
+/* The blocks of which every device has room: the smallest packet of a control endpoint (USB 2.0, section 5.5.3). */
+#define SMALLEST_BLOCK 8
+
+/* Where an image begins as a rule: at the first address that a device's map has for images; and, of an upload, all of that range. */
+static bool name_memory(const struct found *found, bool is_upload, char *words, size_t room)
+{
+    struct dfuse_range range;
+    if (!dfuse_first((const uint8_t *)found->name, strlen(found->name), is_upload, &range))
+        return false;
+    if (is_upload)
+        snprintf(words, room, "--address 0x%08" PRIx64 " --length %" PRIu64, range.start, range.size * range.count);
+    else
+        snprintf(words, room, "--address 0x%08" PRIx64, range.start);
+    return true;
+}
+
+/* The one board among those that are listed, by its first setting; NULL if there are several, or it can't be used. */
+static const struct found *only_one(const struct found *list, int count)
+{
+    for (int at = 1; at < count; at++)
+        if (strcmp(list[at].path, list[0].path) != 0)
+            return NULL;
+    return count > 0 && list[0].access == 0 ? &list[0] : NULL;
+}
+
+void advise_raw(libusb_context *usb, const struct words *words)
+{
+    struct wanted wanted = wanted_of(words);
+    struct found list[FOUND_ROOM];
+    const struct found *one;
+    char more[80];
+    int count;
+    if (words->has_ids)
+        return;
+    count = find_all(usb, &wanted, list, FOUND_ROOM);
+    if (count < 0)
+        return;
+    one = only_one(list, count);
+    snprintf(more, sizeof more, "--device %04x:%04x", one == NULL ? 0 : one->vendor, one == NULL ? 0 : one->product);
+    if (one != NULL && (!is_dfuse(one) || !one->is_upgrade || name_memory(one, false, more, sizeof more)))
+        advice_run(more);
+    found_drop(list, count);
+}
+
+/* The first byte that no range of the map has, and where the memory before it ends. */
+static void say_outside(const struct session *session)
+{
+    const struct dfuse *dfuse = &session->dfuse;
+    const struct dfuse_element whole = {.address = dfuse->address, .length = dfuse->length};
+    const struct dfuse_element *parts = session->is_upload ? &whole : dfuse->image;
+    uint64_t count = session->is_upload ? 1 : dfuse->elements;
+    for (uint64_t at = 0; at < count; at++) {
+        uint64_t past = (uint64_t)parts[at].address + parts[at].length, end = 0, missing;
+        char seen[200];
+        if (!dfuse_missing(dfuse->map, dfuse->map_length, parts[at].address, past, &missing, &end))
+            continue;
+        if (end == 0)
+            snprintf(seen, sizeof seen, "the map has no byte at %08" PRIx64 "; the image is from %08" PRIx32 " to %08" PRIx64, missing,
+                     parts[at].address, past - 1);
+        else
+            snprintf(seen, sizeof seen,
+                     "the byte at %08" PRIx64 " is past the end of the memory at %08" PRIx64 "; the image is to %08" PRIx64, missing,
+                     end - 1, past - 1);
+        advice_first(seen);
+        return;
+    }
+}
+
+void advise_refused(const struct session *session, int32_t refusal)
+{
+    const struct found *is = &session->wire.device->is;
+    char more[80];
+    if (refusal == DFU_BAD_DESCRIPTOR && session->transfer == 0) {
+        snprintf(more, sizeof more, "--transfer-size %d", SMALLEST_BLOCK);
+        advice_run(more);
+    } else if (refusal == REFUSED_NO_ADDRESS && name_memory(is, session->is_upload, more, sizeof more))
+        advice_run(more);
+    else if (refusal == DFUSE_OUTSIDE)
+        say_outside(session);
+}
+
+/* Where the first byte is that isn't the image's. */
+static void say_odd(const struct session *session)
+{
+    const struct odd *odd = &session->odd_byte;
+    char place[40], seen[160];
+    if (!odd->is)
+        return;
+    snprintf(place, sizeof place, session->dfuse.is ? "%08" PRIx64 : "byte %" PRIu64, odd->at);
+    if (odd->wanted >= 0 && odd->found >= 0)
+        snprintf(seen, sizeof seen, "at %s is %02x, and %02x in the file", place, (unsigned)odd->found, (unsigned)odd->wanted);
+    else if (odd->wanted >= 0)
+        snprintf(seen, sizeof seen, "at %s what the device gave ends, and the file has %02x", place, (unsigned)odd->wanted);
+    else
+        snprintf(seen, sizeof seen, "at %s is %02x, and the image in the file has ended", place, (unsigned)odd->found);
+    advice_first(seen);
+}
+
+void advise_ended(const struct session *session, const char *name)
+{
+    if (strcmp(name, "different") == 0)
+        say_odd(session);
+    else if (strcmp(name, "gave-up") == 0 && !session->wire.device->is.is_upgrade)
+        advice_is("it stays in run-time mode: bring it to DFU mode by its button, and run it again");
+}
+
+void advise_access(int access)
+{
+    if (access == LIBUSB_ERROR_BUSY)
+        advice_is("end the program that has it, or take the driver away from it, and run it again");
+    else if (access == LIBUSB_ERROR_NOT_SUPPORTED)
+        advice_is("give it a driver that libusb can use, on Windows WinUSB, as by Zadig (see WINDOWS), and run it again");
+}

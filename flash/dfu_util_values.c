@@ -1,0 +1,132 @@
+/* SPDX-License-Identifier: MIT OR Apache-2.0 */
+/* Values as dfu-util 0.11 reads them: identifiers with fewer digits or none, a serial number for each mode, and an address with what is to be
+   done there. */
+#include "dfu_util.h"
+#include "standard.h"
+#include "values.h"
+
+#include <ctype.h>
+#include <stdlib.h>
+#include <string.h>
+
+#define MOST_DIGITS 4
+
+/* One identifier at the front of `text`: up to four hexadecimal digits, with or without 0x, or * for any. What isn't there stays as it is.
+   Where it ends; NULL if it has more digits. */
+static const char *take_id(const char *text, uint16_t *id)
+{
+    char digits[MOST_DIGITS + 1] = {0};
+    size_t count = 0;
+    if (*text == '*') {
+        *id = ANY_ID;
+        return text + 1;
+    }
+    if (text[0] == '0' && (text[1] == 'x' || text[1] == 'X') && isxdigit((unsigned char)text[2]))
+        text += 2;
+    while (isxdigit((unsigned char)text[count]))
+        count++;
+    if (count > MOST_DIGITS)
+        return NULL;
+    memcpy(digits, text, count);
+    if (count > 0)
+        *id = (uint16_t)strtoul(digits, NULL, 16);
+    return text + count;
+}
+
+/* VENDOR:PRODUCT, of which either may be left out. Where it ends; NULL if it is none. */
+static const char *take_ids(const char *text, uint16_t *vendor, uint16_t *product)
+{
+    const char *end = take_id(text, vendor);
+    if (end != NULL && *end == ':')
+        end = take_id(end + 1, product);
+    return end;
+}
+
+/* Behind a comma are the identifiers of DFU mode, which are those of run-time mode if they are left out; with nothing before the comma
+   the device has to be in DFU mode. */
+bool dfu_util_device(const char *text, struct words *words)
+{
+    const char *end = text, *rest;
+    bool has_any = strpbrk(text, "0123456789abcdefABCDEF*") != NULL;
+    words->has_ids = true;
+    words->has_dfu_ids = words->is_upgrade = false;
+    words->vendor = words->product = ANY_ID;
+    if (*text == ',')
+        words->is_upgrade = true;
+    else
+        end = take_ids(text, &words->vendor, &words->product);
+    words->dfu_vendor = words->vendor;
+    words->dfu_product = words->product;
+    rest = end;
+    if (end != NULL && *end == ',')
+        rest = take_ids(end + 1, &words->dfu_vendor, &words->dfu_product);
+    if (rest == NULL || *rest != '\0' || !has_any)
+        return words_refuse("-d takes VID:PID, or VID:PID,VID:PID for both modes, hexadecimal digits", text);
+    words->has_dfu_ids = *end == ',' && !words->is_upgrade;
+    if (words->is_upgrade) {
+        words->vendor = words->dfu_vendor;
+        words->product = words->dfu_product;
+    }
+    return true;
+}
+
+bool dfu_util_serial(char *text, struct words *words)
+{
+    char *comma = strchr(text, ',');
+    words->serial = text;
+    words->dfu_serial = NULL;
+    if (comma != NULL) {
+        *comma = '\0';
+        words->dfu_serial = comma + 1;
+    }
+    return *text != '\0' || (comma != NULL && comma[1] != '\0')
+           || words_refuse("-S takes a serial number, as --list shows it, or one for each mode with a comma between them", "");
+}
+
+/* What dfu-util does at an address, and what is so here. */
+static const struct {
+    const char *word, *answer;
+} modifiers[] = {
+    {"mass-erase", "-s of dfu-util has mass-erase; here the pages of the image are erased before they are written, and nothing erases all"},
+    {"unprotect", "-s of dfu-util has unprotect, which erases all; here nothing takes protection away, and ST's tools do"},
+    {"will-reset", "-s of dfu-util has will-reset, for option bytes; here they are never written, and ST's tools do it"},
+    {"force", "-s of dfu-util has force; here nothing is written that the device's map doesn't have"},
+};
+
+static bool is_modifier(const char *text, const char *word)
+{
+    size_t length = strlen(word);
+    return strncmp(text, word, length) == 0 && (text[length] == '\0' || text[length] == ':');
+}
+
+/* Whether none of those is among the words behind colons. */
+static bool is_harmless(const char *text)
+{
+    for (const char *at = strchr(text, ':'); at != NULL; at = strchr(at + 1, ':'))
+        for (size_t number = 0; number < sizeof modifiers / sizeof *modifiers; number++)
+            if (is_modifier(at + 1, modifiers[number].word))
+                return words_refuse(modifiers[number].answer, text);
+    return true;
+}
+
+/* dfu-util stays in DFU mode unless `leave` is said, and reads to the end of the segment if no length is. Without an address it goes with a
+   DfuSe file, after which the device leaves here anyhow. */
+bool dfu_util_address(const char *text, struct words *words)
+{
+    const char *rest;
+    if (!is_harmless(text))
+        return false;
+    if (strcmp(text, ":leave") == 0)
+        return true;
+    if (!value_is_hexadecimal(text, &words->address, &rest))
+        return words_refuse("-s takes an address as 0x08000000, which may have :leave or a length after it", text);
+    words->has_address = words->stays = words->is_to_end = true;
+    while (*rest == ':') {
+        if (is_modifier(rest + 1, "leave")) {
+            words->stays = false;
+            rest += 6;
+        } else if (!value_is_length(rest + 1, &words->length, &rest))
+            return words_refuse("-s takes :leave or a length after the address; nothing else of dfu-util's is here", text);
+    }
+    return *rest == '\0' || words_refuse("-s takes :leave or a length after the address", text);
+}

@@ -1,0 +1,21 @@
+/* SPDX-License-Identifier: MIT OR Apache-2.0 */
+/* What to do once a run has ended otherwise than it was meant to: a line `next:` on standard error, or a member of a record in JSON. The
+   manual has the same steps, in NEXT STEPS and in REFUSALS; tests/flash compares them. */
+#ifndef DFU_FLASH_NEXT_H
+#define DFU_FLASH_NEXT_H
+
+#include <stdbool.h>
+#include <stdint.h>
+
+/* The step of an end by the name of its report, or that of a refusal; NULL if there is none. One that advice.h knows better takes its
+   place. */
+const char *next_of_end(const char *name);
+const char *next_of_refusal(int32_t refusal);
+
+/* Prints the line, unless there is no step or --quiet was given. */
+void next_say(const char *step);
+
+/* From here on no line is printed, as with --quiet. */
+void next_hush(void);
+
+#endif

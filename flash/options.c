@@ -1,0 +1,124 @@
+/* SPDX-License-Identifier: MIT OR Apache-2.0 */
+/* The long options, and which of them a word is like that is none. */
+#include "options.h"
+#include "advice.h"
+#include "dfu_util.h"
+
+#include <stdio.h>
+#include <string.h>
+
+/* clang-format off */
+const struct option options[] = {
+    {"device", required_argument, NULL, DEVICE},   {"path", required_argument, NULL, PATH},
+    {"serial", required_argument, NULL, SERIAL},   {"interface", required_argument, NULL, INTERFACE},
+    {"alt", required_argument, NULL, ALTERNATE},   {"no-verify", no_argument, NULL, NO_VERIFY},
+    {"raw", no_argument, NULL, RAW},
+    {"upload", required_argument, NULL, UPLOAD},   {"force", no_argument, NULL, FORCE},
+    {"detach", no_argument, NULL, DETACH},         {"wait", optional_argument, NULL, WAIT},
+    {"timeout", required_argument, NULL, TIMEOUT}, {"limits", required_argument, NULL, LIMITS},
+    {"transfer-size", required_argument, NULL, TRANSFER_SIZE},
+    {"dry-run", no_argument, NULL, DRY_RUN},       {"quiet", no_argument, NULL, QUIET},
+    {"verbose", optional_argument, NULL, VERBOSE}, {"json", no_argument, NULL, JSON},
+    {"all", no_argument, NULL, ALL},               {"log", required_argument, NULL, LOG},
+    {"address", required_argument, NULL, ADDRESS}, {"length", required_argument, NULL, LENGTH},
+    {"no-leave", no_argument, NULL, NO_LEAVE},
+    {"list", no_argument, NULL, LIST},             {"help", no_argument, NULL, HELP},
+    {"version", no_argument, NULL, VERSION},       {NULL, 0, NULL, 0},
+};
+/* clang-format on */
+
+/* Words that people try, and what is there in their place. */
+static const struct {
+    const char *word, *step;
+} tried[] = {
+    {"verify", "leave it out: a download is compared unless --no-verify is given"},
+    {"mass-erase", "leave it out: the pages of the image are erased, and no option erases all; ST's tools do"},
+    {"erase", "leave it out: the pages of the image are erased, and no option erases all; ST's tools do"},
+    {"unprotect", "leave it out: no option takes protection away; ST's tools do, and erase all"},
+    {"flash", "leave it out: dfu-flash FILE flashes it"},
+    {"write", "leave it out: dfu-flash FILE flashes it"},
+    {"file", "leave it out: dfu-flash FILE flashes it"},
+    {"read", "did you mean --upload?"},
+    {"output", "did you mean --upload?"},
+    {"leave", "leave it out: a device leaves DFU mode once all is compared; see --no-leave"},
+    {"vid", "did you mean --device?"},
+    {"pid", "did you mean --device?"},
+    {"port", "did you mean --path?"},
+};
+/* clang-format on */
+
+#define COUNT(table) (sizeof(table) / sizeof *(table))
+#define LONGEST 31
+
+static size_t least(size_t one, size_t other)
+{
+    return one < other ? one : other;
+}
+
+/* How many letters have to be put in, taken out, changed, or swapped with the next one to make one word of the other. */
+static size_t distance(const char *one, const char *other)
+{
+    size_t rows[3][LONGEST + 1], width = strlen(other);
+    for (size_t at = 0; at <= width; at++)
+        rows[0][at] = at;
+    for (size_t line = 1; line <= strlen(one); line++) {
+        size_t *row = rows[line % 3], *last = rows[(line + 2) % 3], *before = rows[(line + 1) % 3];
+        row[0] = line;
+        for (size_t at = 1; at <= width; at++) {
+            row[at] = least(least(row[at - 1], last[at]) + 1, last[at - 1] + (one[line - 1] != other[at - 1]));
+            if (line > 1 && at > 1 && one[line - 1] == other[at - 2] && one[line - 2] == other[at - 1])
+                row[at] = least(row[at], before[at - 2] + 1);
+        }
+    }
+    return rows[strlen(one) % 3][width];
+}
+
+/* The option that a word is like; NULL if none is, or two are. */
+static const char *nearest(const char *word)
+{
+    const char *best = NULL;
+    size_t best_far = strlen(word) / 3 + 1;
+    bool is_one = false;
+    for (const struct option *option = options; option->name != NULL; option++) {
+        size_t far = distance(word, option->name);
+        if (far > best_far || (far == best_far && best != NULL && !is_one))
+            continue;
+        is_one = best == NULL || far < best_far;
+        best = option->name;
+        best_far = far;
+    }
+    return is_one ? best : NULL;
+}
+
+void advise_word(const char *word)
+{
+    char name[LONGEST + 1], step[80];
+    const char *is;
+    size_t length;
+    word += strspn(word, "-");
+    length = strcspn(word, "=");
+    if (length == 0 || length > LONGEST)
+        return;
+    memcpy(name, word, length);
+    name[length] = '\0';
+    for (size_t at = 0; at < COUNT(tried); at++)
+        if (strcmp(tried[at].word, name) == 0) {
+            advice_is(tried[at].step);
+            return;
+        }
+    is = nearest(name);
+    if (is == NULL)
+        return;
+    snprintf(step, sizeof step, "did you mean --%s?", is);
+    advice_is(step);
+}
+
+void advise_name(const char *word)
+{
+    char step[80];
+    for (const struct option *option = options; option->name != NULL; option++)
+        if (strcmp(option->name, word) == 0) {
+            snprintf(step, sizeof step, "did you mean --%s?", word);
+            advice_is(step);
+        }
+}

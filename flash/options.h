@@ -1,0 +1,18 @@
+/* SPDX-License-Identifier: MIT OR Apache-2.0 */
+/* The long options, each with the code by which words.c takes it. */
+#ifndef DFU_FLASH_OPTIONS_H
+#define DFU_FLASH_OPTIONS_H
+
+#include <getopt.h>
+
+/* clang-format off */
+enum option_code {
+    DEVICE = 256, PATH, SERIAL, INTERFACE, ALTERNATE, NO_VERIFY, RAW, UPLOAD, FORCE, DETACH, WAIT, TIMEOUT, LIMITS, TRANSFER_SIZE, DRY_RUN,
+    QUIET, VERBOSE, JSON, LIST, ALL, LOG, ADDRESS, LENGTH, NO_LEAVE, HELP, VERSION
+};
+/* clang-format on */
+
+/* For getopt_long; the last one has no name. */
+extern const struct option options[];
+
+#endif

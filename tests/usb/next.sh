@@ -1,0 +1,183 @@
+# Rows of tests/flash: the line `next:` behind each end that isn't what was meant, the same in a record, and that the manual's steps are
+# those of flash/next.c.
+# shellcheck shell=sh disable=SC2016,SC2034,SC2154
+
+# next TEXT: the last line of standard error is this step.
+next() {
+    if [ "$(tail -n 1 err)" = "next: $1" ]; then right; else wrong "wanted 'next: $1', found: $(cat err)"; fi
+}
+# steps STATUS SETTINGS STEP WORDS..: the step behind a run in text, in a record, and not with --quiet.
+steps() {
+    status=$1 settings=$2 step=$3
+    shift 3
+    row "$status" - '' "$settings" "$@"
+    next "$step"
+    flash "$settings" --json "$@"
+    case $(sed 's/ --json / /' out) in
+    *",\"next\":\"$step\""*) right ;;
+    *) wrong "--json $*: '$step' isn't in: $(cat out)" ;;
+    esac
+    expect "--json $*: not on standard error" test "$(grep -c '^next: ' err)" -eq 0
+    flash "$settings" --quiet "$@"
+    expect "--quiet $*" test "$(grep -c '^next: ' err)" -eq 0
+}
+plug='plug it in with a cable that has data lines, bring it to DFU mode by its button, and run it again; --wait waits for it'
+steps 4 USB_DEVICES=0 "$plug" new.dfu
+row 4 - '' USB_DEVICES=0 --wait=1 new.dfu
+says 'dfu-flash: none came within 1 s'
+next "$plug"
+row 0 - '' USB_DEVICES=0 --list
+next "$plug"
+steps 4 '' 'choose one of those that are there, or plug in the one that is meant' other.dfu
+steps 12 USB_DEVICES=2 'choose one of those that are listed, by --path, --serial, --interface or --alt; --all takes each' new.dfu
+steps 5 USB_DENIED=3 \
+    'get the right to open it, and plug it in again, or end the program that has it (see ACCESS); then run it again' new.dfu
+steps 5 USB_DENIED=12 'give it a driver that libusb can use, on Windows WinUSB, as by Zadig (see WINDOWS), and run it again' new.dfu
+steps 5 USB_CLAIMED=6 'end the program that has it, or take the driver away from it, and run it again' new.dfu
+steps 3 '' 'see to what standard error names, and run it again' nowhere.dfu
+for reset in '' --no-verify; do
+    # shellcheck disable=SC2086
+    flash USB_ATTRIBUTES=07 $reset new.dfu
+    expect 'a success has no next step' test "$code-$(grep -c '^next: ' err)" = 0-0
+    # shellcheck disable=SC2086
+    flash USB_ATTRIBUTES=07 --json $reset new.dfu
+    expect 'nor in a record' test "$code-$(grep -c '"next"' out)" = 0-0
+done
+steps 8 USB_ATTRIBUTES=01 'look whether it runs the new image; some boards give no better report (see REPORTS)' new.dfu
+steps 6 USB_CAPACITY=13 'go by the code (see CODES), and check that the file is for this board' new.dfu
+fate='leave 3'
+row 7 - 'restarts-spent: ' '' --limits 1000 0 new.dfu
+next 'check power and cable, and run it again'
+fate=
+row 7 - 'gave-up: ' '' --limits 3 0 new.dfu
+next 'check cable and device, and run it again; if it stays so, allow more actions by --limits'
+steps 7 'USB_START=app USB_RESETS=nothing' 'it stays in run-time mode: bring it to DFU mode by its button, and run it again' new.dfu
+
+# A raw image: with one board there is a line to type, which then works; with two, or with --device, there is none.
+named='name the device by --device VID:PID, or for a DfuSe device give --address; `dfu add` makes a file that needs neither'
+steps 1 '' 'run: dfu-flash --device 1209:0001 new' new
+row 0 new 'verified: ' '' --device 1209:0001 new
+steps 1 USB_START=app 'run: dfu-flash --device 1209:0001 new' new
+steps 1 USB_ALTERNATES=3 'run: dfu-flash --device 1209:0001 new' new
+for settings in USB_DEVICES=2 USB_DEVICES=0 USB_DENIED=3; do
+    steps 1 "$settings" "$named" new
+done
+row 1 old 'NoSignature: ' '' --device 1209:ffff new
+next "$named"
+cp new "it's mine"
+row 1 old 'NoSignature: ' '' --limits 1000 3 "it's mine"
+next "run: dfu-flash --device 1209:0001 --limits 1000 3 'it'\\''s mine'"
+name=$(printf 'a\033b')
+cp new "$name"
+row 1 old 'NoSignature: ' '' "$name"
+next 'run it again with --device 1209:0001 before the other words'
+row 1 old 'TooShort: ' '' short
+next 'run: dfu-flash --device 1209:0001 short'
+steps 1 USB_DEVICE=dfuse 'run: dfu-flash --address 0x08000000 new' new
+steps 1 USB_DEVICE=dfuse 'run: dfu-flash --address 0x08000000 new.dfu' new.dfu
+steps 1 USB_DEVICE=dfuse 'run: dfu-flash --address 0x08000000 --length 16384 --upload up' --upload up
+steps 1 'USB_DEVICE=dfuse USB_MAPS=@F/0x08000000/1*1Ka,0x1Kg USB_PAGES=@F/0x08000000/2*1Kg' "$named" new
+steps 1 'USB_DEVICE=dfuse USB_MAPS=@F/0x08000000/4*1Ka,4*1Kg USB_PAGES=@F/0x08000000/8*1Kg' 'run: dfu-flash --address 0x08001000 new' new
+
+# Where something is wrong.
+steps 1 'USB_DEVICE=uboot USB_SAID=0' 'run: dfu-flash --transfer-size 8 new.dfu' new.dfu
+row 0 new 'verified: ' 'USB_SAID=0' --transfer-size 8 new.dfu
+steps 1 USB_DESCRIPTOR=0 'tell the maker of the device' new.dfu
+memory='use the image for this memory, or another address or setting; see --list'
+ends='is past the end of the memory at 08003fff; the image is to'
+row 1 - 'OutsideTheMap: ' USB_DEVICE=dfuse --address 0x08003fff new
+next "the byte at 08004000 $ends 08004018: $memory"
+row 1 - 'OutsideTheMap: ' USB_DEVICE=dfuse --address 0x08003fff --length 2 --upload never
+next "the byte at 08004000 $ends 08004000: $memory"
+row 1 - 'OutsideTheMap: ' USB_DEVICE=dfuse --address 0x07000000 new
+next "the map has no byte at 07000000; the image is from 07000000 to 07000019: $memory"
+again='run it again; if it stays so: see DEVICES, or with DfuSe suspect map or memory'
+row 9 - 'different: ' 'USB_DEVICE=dfuse USB_LIES=08000002' --address 0x08000000 new
+next "at 08000002 is ff, and 6e in the file: $again"
+row 9 - '{"status":9,' 'USB_DEVICE=dfuse USB_LIES=08000002' --json --address 0x08000000 new
+expect 'a record has the place' grep -q '"place":"08000002","wanted":"6e","found":"ff","next":"at 08000002 is ff' out
+{ printf '\1'; head -c 99 /dev/zero | tr '\0' x; } > hundred
+row 9 - 'different: ' 'USB_DEVICE=dfuse USB_LIES=08000030' --address 0x08000000 hundred
+next "at 08000030 is ff, and 78 in the file: $again"
+flash '' new.dfu
+fate="short $(sed -n 's/^\([0-9]*\) UPLOAD .*/\1/p' log | head -n 1) 3"
+row 9 - 'different: ' '' new.dfu
+next "at byte 3 what the device gave ends, and the file has 65: $again"
+fate=
+row 9 - 'different: ' 'USB_DEVICE=uboot USB_STORE=raw' new.dfu
+case $(tail -n 1 err) in
+"next: at byte 26 is "*", and the image in the file has ended: $again") right ;;
+*) wrong "more than the image: $(cat out err)" ;;
+esac
+
+# An empty file.
+for words in empty '--device 1209:0001 empty' '--address 0x08000000 empty'; do
+    # shellcheck disable=SC2086
+    row 1 old '' '' $words
+    says 'dfu-flash: the file is empty: it has no bytes'
+    expect 'no word of a suffix' test "$(grep -c suffix err)" -eq 0
+    [ "$words" != empty ] || next 'build it anew: it is empty'
+done
+
+# Words that are none of the options.
+# typed WORDS.. -- STEP
+typed() {
+    words=
+    while [ "$1" != -- ]; do
+        words="$words $1"
+        shift
+    done
+    # shellcheck disable=SC2086
+    row 2 - '' '' $words
+    next "$2"
+}
+typed --what new.dfu -- 'did you mean --wait?'
+typed --verison -- 'did you mean --version?'
+typed --lst -- 'did you mean --list?'
+typed --hlep -- 'did you mean --help?'
+typed --adress=0x08000000 new -- 'did you mean --address?'
+typed --serail F1 new.dfu -- 'did you mean --serial?'
+typed --no-veryfy new.dfu -- 'did you mean --no-verify?'
+typed --verify new.dfu -- 'leave it out: a download is compared unless --no-verify is given'
+typed --mass-erase new.dfu -- "leave it out: the pages of the image are erased, and no option erases all; ST's tools do"
+typed --unprotect -- "leave it out: no option takes protection away; ST's tools do, and erase all"
+typed --flash new.dfu -- 'leave it out: dfu-flash FILE flashes it'
+typed --read up -- 'did you mean --upload?'
+typed -list -- 'did you mean --list?'
+typed new.dfu any.dfu -- 'name one FILE; what a shell makes of * may be several'
+typed --json -- 'name the file, or - for standard input; dfu-flash --list shows which devices are there'
+for words in --xylophone '--=5' "--$(head -c 300 /dev/zero | tr '\0' v)" '--limits 1 new.dfu'; do
+    # shellcheck disable=SC2086
+    row 2 - '' '' $words
+    expect "$words: no guess" test "$(grep -c '^next: ' err)" -eq 0
+done
+row 3 - '' '' version
+next 'did you mean --version?'
+row 3 - '' '' detach
+next 'did you mean --detach?'
+
+# The tables, as `NAME STEP`: those of flash/next.c, and those of the manual's NEXT STEPS and REFUSALS.
+sed -n 's/^#define \([A-Z_]*\) "\(.*\)"$/\1\t\2/p' "$top/flash/next.c" > texts
+sed -n 's/^    {\([A-Z0-9_]*\), "\([A-Za-z]*\)", ".*"},$/\1\t\2/p' "$top/flash/refusals.c" > names
+awk -F '\t' -v OFS=' ' '
+    FILENAME == "texts" { text[$1] = $2; next }
+    FILENAME == "names" { name[$1] = $2; next }
+    match($0, /^    \{"[a-z-]*", ".*"\},$/) { split($0, part, "\""); print part[2], part[4] }
+    match($0, /^    \{[A-Z0-9_]*, ("[^"]*"|[A-Z_]*)\},$/) {
+        number = $0; sub(/^    \{/, "", number); sub(/,.*/, "", number)
+        step = $0; sub(/^[^,]*, /, "", step); sub(/\},$/, "", step)
+        print name[number], step ~ /^"/ ? substr(step, 2, length(step) - 2) : text[step]
+    }' texts names "$top/flash/next.c" | LC_ALL=C sort -u > steps
+sed 's/\\-/-/g; s/\\(aq/'\''/g' "$top/share/man/dfu-flash.1" | awk '
+    /^\.(SH|TP)/ { if (step) print row, text; step = 0 }
+    /^\.SH/ { section = $0 }
+    section == ".SH NEXT STEPS" && match($0, /^[a-z-]*@[0-9]*@/) { row = $0; sub(/@.*/, "", row) }
+    section == ".SH NEXT STEPS" && /^T\}/ { if ($0 == "T}") print row, text; open = 0 }
+    section == ".SH NEXT STEPS" && open { text = text (text == "" ? "" : " ") $0 }
+    section == ".SH NEXT STEPS" && /T\{$/ { open = 1; text = "" }
+    section == ".SH REFUSALS" && after == ".TP" && /^\.B / { row = $2 }
+    section == ".SH REFUSALS" && step { text = text " " $0 }
+    section == ".SH REFUSALS" && sub(/^Next: /, "") { step = 1; text = $0 }
+    { after = $0 }' | grep -v ' none$' | LC_ALL=C sort -u > told
+expect "the manual's next steps are those of flash/next.c" diff steps told
+expect 'each has one' test "$(wc -l < steps)" -ge 80
