@@ -2,6 +2,7 @@
 #
 #   make              the programs and the libraries, in build/; what is left out is named, with the reason
 #   make check        the tests that need gcc, make and a shell, as make test; make check-all: each test whose commands are there
+#   make compare      dfu-util and dfu-flash over the same simulated board with the same faults, as a table; it needs dfu-util
 #   make dfu          one program, as make dfu-flash and make dfu-gadget
 #   make install      to PREFIX (/usr/local), or below DESTDIR; with UDEVDIR=/etc/udev/rules.d the rule for devices with DFU too
 #   make uninstall    takes away what make install puts there, and nothing else
@@ -54,7 +55,7 @@ endif
 .SECONDEXPANSION:
 .DELETE_ON_ERROR:
 .SUFFIXES:
-.PHONY: all build everything libraries page dfu-rust check check-all install uninstall archive clean help FORCE
+.PHONY: all build everything libraries page dfu-rust check check-all compare install uninstall archive clean help FORCE
 
 libraries = $(BUILD)/libdfu_device.a $(BUILD)/libdfu_host.a $(BUILD)/libdfu_boot.a
 programs = $(if $(has_code),$(BUILD)/dfu) $(if $(has_libusb),$(BUILD)/dfu-flash$(exe)) $(if $(has_functionfs),$(BUILD)/dfu-gadget)
@@ -212,12 +213,14 @@ $(objects)/words: export WORDS = $(CC) $(AR) $(CPPFLAGS) $(CFLAGS) $(LDFLAGS) $(
 $(objects)/words:
 	@mkdir -p $(@D)
 	@printf '%s\n' "$$WORDS" | cmp -s - $@ || { printf '%s\n' "$$WORDS" > $@.$$$$ && mv -f $@.$$$$ $@; }
-ifeq ($(filter check check-all test tests install,$(MAKECMDGOALS)),)
+ifeq ($(filter check check-all compare test tests install,$(MAKECMDGOALS)),)
 $(objects)/words: FORCE
 endif
 
 check check-all: everything
 	@BUILD=$(BUILD) tests/run $@
+compare: everything
+	@BUILD=$(BUILD) tests/compare
 
 # The script reads these from its environment, so that a path may have any sign.
 places = PREFIX BINDIR LIBDIR INCLUDEDIR DATADIR MANDIR DOCDIR PKGCONFIGDIR CMAKEDIR UDEVDIR DESTDIR BUILD

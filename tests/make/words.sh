@@ -84,6 +84,14 @@ for word in check test tests; do
     said 'tests/run check$'
 done
 
+# make compare runs two programs beside each other, and stops where one of them is missing.
+ends 0 compare -n
+said 'tests/compare$'
+code=0
+DFU_UTIL=no-such-program BUILD="$build" "$top/tests/compare" > "$work/said" 2>&1 || code=$?
+equal 'make compare without dfu-util' \
+    "1 make compare needs no-such-program, which isn't there (Debian: apt install dfu-util)" "$code $(cat "$work/said")"
+
 # Words for what make doesn't build: each names what to type.
 refused() {
     ends 2 "$1"
