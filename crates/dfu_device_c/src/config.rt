@@ -1,5 +1,5 @@
 //! What a program gets to know of its configuration and of the library.
-ghost use Rattle.std.specs.Prelude.{◌≡◌, ◌⊎◌, IsTrue, not, pos};
+ghost use Rattle.std.specs.Prelude.{◌≡◌, ◌⊎◌, ◌<◌, IsTrue, not, pos, slice_index};
 ghost use Rattle.dfu_wire.specs.Functional.{IsFunctional};
 ghost use Rattle.dfu_core.specs.Config.{version, setting_of, IsConfig};
 ghost use Rattle.dfu_core.specs.Numbers.{NO_CONFIG};
@@ -17,11 +17,13 @@ fn is_allowed(config: &DfuConfig) -> bool
     }
 }
 
-/// The functional descriptor, 9 bytes, at the front of `out`: 9. Refused with -2 if the configuration is not allowed.
+/// The functional descriptor, 9 bytes, at the front of `out`: 9. Bits 4 to 7 of bmAttributes are 0 (USB DFU 1.1, section 4.1.3). Refused
+/// with -2 if the configuration is not allowed.
 #[unsafe(no_mangle)]
 pub extern "C" fn dfu_core_functional(config: &DfuConfig, out: &mut [u8; 9]) -> i32
     ensures outcome { ((result ≡ pos 9) × IsConfig config.now × IsFunctional (setting_of config.now).functional out.new)
         ⊎ ((result ≡ NO_CONFIG) × (¬ IsConfig config.now) × (out.new ≡ out.old)) }
+    ensures reserved { result ≡ pos 9 → slice_index out.new 2 < 16 }
 {
     if !is_allowed(config) {
         return -2;

@@ -1,6 +1,6 @@
 //! `dfu add`: a file with a suffix, and the line for it.
 
-ghost use Rattle.std.specs.Prelude.{◌≡◌, IfOk};
+ghost use Rattle.std.specs.Prelude.{◌≡◌, IfOk, None};
 ghost use Rattle.std.specs.String.{string_bytes};
 ghost use Rattle.dfu_output.specs.AddText.{HasAddFault, WritesAdd, wrote_line};
 
@@ -58,6 +58,7 @@ pub fn add_with_fault<R: Read + Drop, F: Write, W: Write>(
     ensures line { WritesAdd (R.remaining reader) ids (F.contents file.old) (F.contents file.new) (W.contents out.old)
         (W.contents out.new) result.0 }
     ensures fault { HasAddFault (R.remaining reader) ids (F.contents file.old) (F.contents file.new) result.1 }
+    ensures done { result.0 ≡ Exit.Done → result.1 ≡ None }
 {
     match add(alloc, reader, ids, file) {
         Ok(count) => match wrote_line(alloc, count) {

@@ -1,6 +1,6 @@
 //! `dfu check`: the line for a file.
 
-ghost use Rattle.std.specs.Prelude.{◌≡◌, IfOk};
+ghost use Rattle.std.specs.Prelude.{◌≡◌, IfOk, None};
 ghost use Rattle.std.specs.String.{string_bytes};
 ghost use Rattle.dfu_output.specs.AnswerLines.{ok_line};
 ghost use Rattle.dfu_output.specs.CheckText.{HasCheckFault, HasFindings, WritesCheck};
@@ -53,6 +53,7 @@ pub fn check_with_fault<R: Read + Drop, W: Write>(
     ensures line { WritesCheck (R.remaining reader) (W.contents writer.old) (W.contents writer.new) result.0 }
     ensures fault { HasCheckFault (R.remaining reader) result.1 }
     ensures findings { HasFindings (R.remaining reader) result.1 findings.new }
+    ensures done { result.0 ≡ Exit.Done → result.1 ≡ None }
 {
     match check_with(reader, findings) {
         Ok(summary) => match ok_line(alloc, &summary) {

@@ -1,6 +1,7 @@
 -- What becomes of the images of a medium when an operation is carried out, whatever becomes of the operation.
-use Rattle.std.specs.Prelude.{◌≡◌, ◌⊎◌, ℕ, ◌+◌, ◌≤◌, ◌<◌, true, false, List, slice_range, Option, Some, None}
-use Rattle.dfu_slots.specs.Medium.{MediumState, KeepsOutside}
+use Rattle.std.specs.Prelude.{◌≡◌, ◌⊎◌, ℕ, ◌+◌, ◌≤◌, ◌<◌, true, false, List, slice_range, replicate, Option, Some, None}
+use Rattle.dfu_slots.specs.declared.fault.WriteFault.TheVariants.{Failed}
+use Rattle.dfu_slots.specs.Medium.{MediumState, KeepsOutside, WroteOrLied, FailedWrite}
 use Rattle.dfu_boot.specs.trial.Marks.{is_marked}
 use Rattle.dfu_boot.specs.trial.Trial.{image_at}
 use Rattle.dfu_boot.specs.trial.Calls.{IsSettled, IsStanding, upload_of, upload_slot}
@@ -15,6 +16,16 @@ use Rattle.dfu_boot.specs.declared.trial.standing.Standing.TheVariants.{OnTrial}
 abbrev pub Carried : MediumState → Operation → MediumState → Type 0
 Carried m (Mark at len) now = KeepsOutside at (at + len) m.bytes now.bytes × (now.grain ≡ m.grain)
 Carried m (Close at) now = KeepsOutside at (at + m.grain.sector) m.bytes now.bytes × (now.grain ≡ m.grain)
+
+-- An operation answered that it worked: its bytes are there, or the medium lied.
+abbrev pub HasWorked : MediumState → Operation → MediumState → Type 0
+HasWorked m (Mark at len) now = WroteOrLied m at (replicate len 0) now
+HasWorked m (Close at) now = WroteOrLied m at (replicate m.grain.sector 255) now
+
+-- An operation answered that it failed: the medium did.
+abbrev pub HasFailed : MediumState → Operation → MediumState → Type 0
+HasFailed m (Mark at len) now = FailedWrite Failed m at (replicate len 0) now
+HasFailed m (Close at) now = FailedWrite Failed m at (replicate m.grain.sector 255) now
 
 -- Both images of a trial are as they were.
 pub record KeepsImages (m : MediumState) (t : Trial) (now : MediumState) : Type 0 where

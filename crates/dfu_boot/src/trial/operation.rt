@@ -1,6 +1,7 @@
 //! What the calls ask of their caller.
+ghost use Rattle.std.specs.Prelude.{OnOk, OnErr};
 ghost use Rattle.dfu_boot.specs.trial.Calls.{MediumTakes, MarkIsWithin};
-ghost use Rattle.dfu_boot.specs.trial.Laws.{Carried};
+ghost use Rattle.dfu_boot.specs.trial.Laws.{Carried, HasWorked, HasFailed};
 
 use dfu_slots::{Failed, Medium};
 
@@ -22,7 +23,9 @@ impl Operation {
     pub fn carry_out<M: Medium>(self, medium: &mut M) -> Result<(), Failed>
         requires taken { MediumTakes (M.state medium.old) self }
         requires within { MarkIsWithin (M.state medium.old) self }
-        ensures { Carried (M.state medium.old) self (M.state medium.new) }
+        ensures carried { Carried (M.state medium.old) self (M.state medium.new) }
+        ensures worked { OnOk result (HasWorked (M.state medium.old) self (M.state medium.new)) }
+        ensures failed { OnErr result (HasFailed (M.state medium.old) self (M.state medium.new)) }
     {
         match self {
             Operation::Mark(at, len) => medium.write(at, &[0; 256][..len as usize]),

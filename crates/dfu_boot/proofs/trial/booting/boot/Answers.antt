@@ -21,7 +21,7 @@ runs-requires g c =
     let m = g.M.Medium.state c.args.medium.now in
     let now = g.M.Medium.state c.carry_out.new.medium in
     subst (λ (o : Option Operation). IfSome o (λ op. MarkIsWithin now op)) (sym c.in-Some.is)
-    (within_kept m now c.in-Some.operation c.carry_out.ensures
+    (within_kept m now c.in-Some.operation c.carry_out.ensures.carried
     (subst (λ (o : Option Operation). IfSome o (λ op. MarkIsWithin m op)) c.in-Some.is c.start-starting.ensures.within))
 
 pub returns-in-Some-clause-booted : goal.returns-in-Some-clause-booted
@@ -30,7 +30,7 @@ returns-in-Some-clause-booted g c =
     let now = g.M.Medium.state c.carry_out.new.medium in
     let s = c.in_ok-standing.standing in
     let carried : CarriedIf m c.start-starting.result.operation now =
-    subst (λ (o : Option Operation). CarriedIf m o now) (sym c.in-Some.is) c.carry_out.ensures in
+    subst (λ (o : Option Operation). CarriedIf m o now) (sym c.in-Some.is) c.carry_out.ensures.carried in
     record {
       standing = s;
       stands = c.in_ok-standing.ensures.standing;
