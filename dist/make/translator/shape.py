@@ -89,7 +89,7 @@ class Shape:
         above, ends_loop = self.above[label], None
         at = above
         while True:
-            if at in self.loops and label not in self.loops[at]:
+            if at in self.loops and above in self.loops[at] and label not in self.loops[at]:
                 ends_loop = at
             if at == self.first:
                 break

@@ -2,7 +2,7 @@
 """translate.py WIDE.ll HEADER.h.. > FILE.c: portable C11 of a module that widen.py made, as it is or as LLVM's optimiser leaves it.
 
 A line that is not known, or an export that is not the header's, is refused: then nothing is written, and the status is 1."""
-import re
+import os
 import sys
 
 import lines
@@ -15,6 +15,7 @@ from module import Module
 from names import Names
 from refusals import end_if_any, refuse
 from sizes import Sizes
+from sources import Sources, comment
 
 
 class Program:
@@ -54,7 +55,8 @@ def main():
     end_if_any()
     program.alignments, program.sizes = Alignments(module, header), Sizes(module, header)
     bodies = [Body(it, program, header.exports.get(it.name) if it.is_export else None) for it in module.functions]
-    texts = [f"/* {body.function.name} */\n" + "\n".join(body.write()) for body in bodies]
+    sources = Sources(os.path.join(os.path.dirname(os.path.abspath(sys.argv[2])), "..", "crates"))
+    texts = ["\n".join([comment(it.function.name, sources.of(it.function.name)), *it.write()]) for it in bodies]
     end_if_any()
     functions = "\n\n".join(texts)
     tables = "\n".join(of_table(it, program.tables.of(it.name)) for it in module.tables)
