@@ -190,7 +190,7 @@ of_libraries = $(patsubst $(BUILD)/lib%.a,$(objects)/dist/%.o,$(libraries))
 
 $(BUILD)/dfu: $(of_dfu) $(anew)
 	$(call program)
-$(BUILD)/dfu-flash$(exe): $(of_flash) $(BUILD)/libdfu_host.a $(anew)
+$(BUILD)/dfu-flash$(exe): $(of_flash) $(BUILD)/libdfu_host.a $(BUILD)/libdfu_device.a $(anew)
 	$(call program,$(used_usb))
 $(BUILD)/dfu-gadget: $(of_gadget) $(BUILD)/libdfu_boot.a $(BUILD)/libdfu_device.a $(anew)
 	$(call program)

@@ -49,6 +49,7 @@
 #include "present.h"
 #include "properties.h"
 #include "standard.h"
+#include "transport.h"
 
 #include <string.h>
 
@@ -89,8 +90,8 @@ static int transfer(struct wire *wire, const uint8_t setup[8], uint16_t length)
 {
     uint16_t value = setup_value(setup);
     wire->transfers++;
-    return libusb_control_transfer(wire->device->handle, setup[0], setup[1], value, wire->device->is.interface, wire->bytes, length,
-                                   *wire->device->is_stop ? STOPPED_MS : TRANSFER_MS);
+    return transport->transfer(wire->device->handle, setup[0], setup[1], value, wire->device->is.interface, wire->bytes, length,
+                               *wire->device->is_stop ? STOPPED_MS : TRANSFER_MS);
 }
 
 static struct answer answer_of(struct wire *wire, bool is_in, uint16_t length, int result)
@@ -168,7 +169,7 @@ struct answer answer_wait(struct wire *wire, uint32_t ms)
    that, since a block that goes to another setting is harm. */
 static int reset(struct device *device)
 {
-    int error = libusb_reset_device(device->handle);
+    int error = transport->reset(device->handle);
     return error == 0 && device->is.alternate != 0 ? device_set(device) : error;
 }
 

@@ -5,6 +5,7 @@
 #include "one.h"
 #include "say.h"
 #include "status.h"
+#include "transport.h"
 
 #include <stdio.h>
 #include <string.h>
@@ -57,7 +58,7 @@ static int drop_unread(const struct wanted *wanted, struct found *list, int coun
         if (list[at].access == 0)
             list[read++] = list[at];
         else
-            libusb_unref_device(list[at].device);
+            transport->drop(list[at].device);
     return read;
 }
 

@@ -4,6 +4,7 @@
 #include "find.h"
 #include "standard.h"
 #include "text.h"
+#include "transport.h"
 
 #include <string.h>
 
@@ -36,7 +37,7 @@ void descriptor_find(struct found *found, libusb_device_handle *handle, const st
     if (is_in(configuration->extra, configuration->extra_length, found))
         return;
     if (handle != NULL) {
-        int length = libusb_get_descriptor(handle, FUNCTIONAL_TYPE, 0, bytes, (int)sizeof bytes);
+        int length = transport_descriptor(handle, FUNCTIONAL_TYPE, 0, 0, bytes, sizeof bytes);
         is_in(bytes, length, found);
     }
 }
@@ -49,10 +50,10 @@ void string_find(libusb_device_handle *handle, uint8_t index, char text[TEXT_ROO
     if (index == 0)
         return;
     /* String 0 has the languages that there are; the first of them is asked for. */
-    length = libusb_get_string_descriptor(handle, 0, 0, bytes, (int)sizeof bytes);
+    length = transport_descriptor(handle, LIBUSB_DT_STRING, 0, 0, bytes, sizeof bytes);
     if (length < 4)
         return;
-    length = libusb_get_string_descriptor(handle, index, two_bytes(bytes + 2), bytes, (int)sizeof bytes);
+    length = transport_descriptor(handle, LIBUSB_DT_STRING, index, two_bytes(bytes + 2), bytes, sizeof bytes);
     if (length > bytes[0])
         length = bytes[0];
     if (length > 2)

@@ -7,6 +7,7 @@
 #include "clock.h"
 #include "say.h"
 #include "terminal.h"
+#include "transport.h"
 
 #include <stdio.h>
 #include <string.h>
@@ -16,21 +17,21 @@
 
 int device_set(struct device *device)
 {
-    int error = libusb_set_interface_alt_setting(device->handle, device->is.interface, device->is.alternate);
+    int error = transport->set(device->handle, device->is.interface, device->is.alternate);
     /* If there is one setting a device may stall the request, and is in it all the same. */
     return error == LIBUSB_ERROR_PIPE && device->is.alternate == 0 ? 0 : error;
 }
 
 int device_open(struct device *device)
 {
-    int error = libusb_open(device->is.device, &device->handle);
+    int error = transport->open(device->is.device, &device->handle);
     if (error != 0) {
         device->handle = NULL;
         return error;
     }
-    error = libusb_claim_interface(device->handle, device->is.interface);
+    error = transport->claim(device->handle, device->is.interface);
     if (error != 0) {
-        libusb_close(device->handle);
+        transport->close(device->handle);
         device->handle = NULL;
         return error;
     }
@@ -46,8 +47,8 @@ void device_close(struct device *device)
 {
     if (device->handle == NULL)
         return;
-    libusb_release_interface(device->handle, device->is.interface);
-    libusb_close(device->handle);
+    transport->release(device->handle, device->is.interface);
+    transport->close(device->handle);
     device->handle = NULL;
 }
 
@@ -55,7 +56,7 @@ void device_drop(struct device *device)
 {
     device_close(device);
     if (device->is.device != NULL)
-        libusb_unref_device(device->is.device);
+        transport->drop(device->is.device);
     device->is.device = NULL;
 }
 
@@ -70,7 +71,7 @@ static int keep_one(struct device *device, const struct wanted *wanted)
         open++;
         device_drop(device);
         device->is = list[at];
-        libusb_ref_device(device->is.device);
+        transport->hold(device->is.device);
     }
     found_drop(list, count);
     return open;
@@ -105,8 +106,9 @@ static void say_why(struct device *device, int error)
 static bool is_awaited(const struct device *device, int64_t began_ms, bool *is_said)
 {
     int64_t most_ms = (int64_t)device->patience.seconds * 1000;
+    int64_t least_ms = device->patience.away_ms != 0 ? device->patience.away_ms : AWAY_MS;
     int64_t away_ms = clock_ms() - began_ms;
-    if (*device->is_stop || away_ms >= (most_ms > AWAY_MS ? most_ms : AWAY_MS))
+    if (*device->is_stop || away_ms >= (most_ms > least_ms ? most_ms : least_ms))
         return false;
     if (away_ms >= AWAY_MS && !*is_said && !device->patience.is_quiet)
         fprintf(stderr, "%sdfu-flash: the device is away; it is waited for up to %u s\n", terminal_is(stderr) ? "\n" : "",

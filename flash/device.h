@@ -11,6 +11,7 @@
 
 /* What --wait and --quiet say of a wait for a device. */
 struct patience {
+    uint32_t away_ms; /* how long one that left is waited for at least; 0: 10 seconds */
     bool is_asked;    /* a device that isn't there yet is waited for, */
     uint32_t seconds; /* for so long; 0 is for ever */
     bool is_quiet;

@@ -3,6 +3,7 @@
    that the device is in. Protocol 02h is DFU mode, any other one is taken as run-time mode. */
 #include "find.h"
 #include "standard.h"
+#include "transport.h"
 
 #include <stdio.h>
 #include <string.h>
@@ -10,8 +11,8 @@
 void path_of(libusb_device *device, char path[PATH_ROOM])
 {
     uint8_t ports[7];
-    int depth = libusb_get_port_numbers(device, ports, (int)sizeof ports);
-    int at = snprintf(path, PATH_ROOM, "%d", libusb_get_bus_number(device));
+    int depth = transport->ports(device, ports, (int)sizeof ports);
+    int at = snprintf(path, PATH_ROOM, "%d", transport->bus(device));
     for (int port = 0; port < depth; port++)
         at += snprintf(path + at, (size_t)(PATH_ROOM - at), "%c%d", port == 0 ? '-' : '.', ports[port]);
 }
@@ -27,14 +28,14 @@ static int count_at(libusb_context *usb, const char *path)
     libusb_device **devices;
     char here[PATH_ROOM];
     int found = 0;
-    ssize_t count = libusb_get_device_list(usb, &devices);
+    ssize_t count = transport->list(usb, &devices);
     if (count < 0)
         return -1;
     for (ssize_t at = 0; at < count; at++) {
         path_of(devices[at], here);
         found += strcmp(here, path) == 0;
     }
-    libusb_free_device_list(devices, 1);
+    transport->free_list(devices, 1);
     return found;
 }
 
@@ -147,7 +148,7 @@ static void add_setting(struct look *look, const struct found *base, libusb_devi
     if (look->count == look->room || !is_wanted(look->wanted, &found))
         return;
     descriptor_find(&found, handle, configuration, interface, at);
-    libusb_ref_device(found.device);
+    transport->hold(found.device);
     look->list[look->count++] = found;
 }
 
@@ -175,7 +176,7 @@ static void add_configuration(struct look *look, struct found *base, uint8_t ser
     libusb_device_handle *handle = NULL;
     if (!has_dfu(configuration))
         return;
-    base->access = libusb_open(base->device, &handle);
+    base->access = transport->open(base->device, &handle);
     if (base->access == 0)
         string_find(handle, serial, base->serial);
     else
@@ -183,7 +184,7 @@ static void add_configuration(struct look *look, struct found *base, uint8_t ser
     for (int at = 0; at < configuration->bNumInterfaces; at++)
         add_interface(look, base, handle, configuration, &configuration->interface[at]);
     if (handle != NULL)
-        libusb_close(handle);
+        transport->close(handle);
 }
 
 static void add_device(struct look *look, libusb_device *device)
@@ -192,7 +193,7 @@ static void add_device(struct look *look, libusb_device *device)
     struct libusb_config_descriptor *configuration;
     struct found base;
     memset(&base, 0, sizeof base);
-    if (libusb_get_device_descriptor(device, &fields) != 0)
+    if (transport->fields(device, &fields) != 0)
         return;
     base.device = device;
     base.vendor = fields.idVendor;
@@ -201,27 +202,27 @@ static void add_device(struct look *look, libusb_device *device)
     path_of(device, base.path);
     if (!may_be(look->wanted, &base))
         return;
-    if (libusb_get_active_config_descriptor(device, &configuration) != 0)
+    if (transport->active(device, &configuration) != 0)
         return;
     add_configuration(look, &base, fields.iSerialNumber, configuration);
-    libusb_free_config_descriptor(configuration);
+    transport->free_active(configuration);
 }
 
 int find_all(libusb_context *usb, const struct wanted *wanted, struct found *list, int room)
 {
     struct look look = {wanted, list, room, 0};
     libusb_device **devices;
-    ssize_t count = libusb_get_device_list(usb, &devices);
+    ssize_t count = transport->list(usb, &devices);
     if (count < 0)
         return (int)count;
     for (ssize_t at = 0; at < count; at++)
         add_device(&look, devices[at]);
-    libusb_free_device_list(devices, 1);
+    transport->free_list(devices, 1);
     return look.count;
 }
 
 void found_drop(struct found *list, int count)
 {
     for (int at = 0; at < count; at++)
-        libusb_unref_device(list[at].device);
+        transport->drop(list[at].device);
 }

@@ -15,6 +15,7 @@ static const char usage[] =
     "       dfu-flash [OPTIONS] --address A --length N --upload OUT\n"
     "       dfu-flash [OPTIONS] --detach\n"
     "       dfu-flash --list\n"
+    "       dfu-flash --demo [FILE]\n"
     "\n"
     "Coming from dfu-util: its options are taken, the long ones too, and what isn't the same is said\n"
     "  -D FILE              FILE; one without a suffix, a raw image, needs -d VID:PID\n"
@@ -54,6 +55,7 @@ static const char options[] =
     "  --all                Flash every device that the file is for, with --wait also those that come\n"
     "  --log <FOLDER>       Make a log of each device of --all in this folder\n"
     "  --list               List the devices that are there\n"
+    "  --demo               Show with a simulated board what this program does; no USB is touched\n"
     "  -h, --help           Print help\n"
     "  -V, --version        Print the version\n";
 

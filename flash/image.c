@@ -11,6 +11,7 @@
 
 #include <dfu_host.h>
 #include <stdio.h>
+#include <stdlib.h>
 #include <string.h>
 
 #define SUFFIX_BYTES 16
@@ -95,6 +96,18 @@ static int32_t take_suffix(struct image *image)
     image->vendor = file.vendor;
     image->product = file.product;
     return 0;
+}
+
+int32_t image_make(struct image *image, const uint8_t *bytes, size_t length, uint16_t vendor, uint16_t product)
+{
+    memset(image, 0, sizeof *image);
+    image->bytes = malloc(length + SUFFIX_BYTES);
+    if (image->bytes == NULL)
+        return IMAGE_UNREAD;
+    memcpy(image->bytes, bytes, length);
+    image->length = length;
+    add_suffix(image, vendor, product);
+    return take_suffix(image);
 }
 
 /* Whether --raw goes with what the file is: it is for bytes that nobody has said anything of. */

@@ -24,6 +24,9 @@ struct image {
    error. */
 int32_t image_read(struct image *image, const struct words *words);
 
+/* Makes one of these bytes, with a suffix for a device. 0; a refusal of the host; or IMAGE_UNREAD if there is no memory. */
+int32_t image_make(struct image *image, const uint8_t *bytes, size_t length, uint16_t vendor, uint16_t product);
+
 #define IMAGE_UNREAD (-100)
 #define IMAGE_WORDS (-101)
 #define IMAGE_FORMAT (-109)  /* it is HEX, S-records, UF2 or ELF */

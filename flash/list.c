@@ -38,7 +38,8 @@ static void print_descriptor(const struct found *found)
 
 static void print_record(const struct found *found)
 {
-    printf("{\"vendor\":\"%04x\",\"product\":\"%04x\",\"release\":\"%04x\"", found->vendor, found->product, found->release);
+    printf("{%s\"vendor\":\"%04x\",\"product\":\"%04x\",\"release\":\"%04x\"", *say_mark != '\0' ? "\"simulated\":true," : "",
+           found->vendor, found->product, found->release);
     json_text("path", found->path);
     if (found->serial[0] != '\0')
         json_text("serial", found->serial);

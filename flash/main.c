@@ -4,6 +4,7 @@
    came of it. share/man/dfu-flash.1 says how it is used, and flash/README.md what is this program's own. */
 #include "advice.h"
 #include "all.h"
+#include "demo.h"
 #include "next.h"
 #include "one.h"
 #include "platform.h"
@@ -23,6 +24,8 @@ int main(int count, char **texts)
         return STATUS_WORDS;
     if (words.quiet)
         next_hush();
+    if (words.job == JOB_DEMO)
+        return demo_run(&words);
     if (words.job != JOB_HELP && words.job != JOB_VERSION)
         return words.all ? all_run(&words) : one_run(&words, &image, progress_style(words.quiet, words.verbose));
     if (words.job == JOB_HELP)

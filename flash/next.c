@@ -147,5 +147,5 @@ void next_hush(void)
 void next_say(const char *step)
 {
     if (step != NULL && !is_hushed)
-        say_text(stderr, "next: ", step, "\n");
+        say_text(stderr, *say_mark != '\0' ? "simulated: next: " : "next: ", step, "\n");
 }

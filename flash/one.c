@@ -17,9 +17,11 @@
 #include "status.h"
 #include "stop.h"
 #include "worker.h"
+#include "transport.h"
 
 #include <stdio.h>
 #include <stdlib.h>
+#include <string.h>
 
 static struct device device;
 static struct session session;
@@ -219,8 +221,10 @@ static void print_serials(void)
 int one_run(const struct words *words, struct image *image, enum progress_style style)
 {
     struct wanted wanted = wanted_of(words);
-    int error = libusb_init(&device.usb);
-    int status;
+    int error, status;
+    memset(&device, 0, sizeof device);
+    memset(&session, 0, sizeof session);
+    error = transport->begin(&device.usb);
     session.wire.device = &device;
     if (words->bay != NULL)
         record_each(words->path, &device.is, &session.wire.trace.log);
@@ -231,7 +235,7 @@ int one_run(const struct words *words, struct image *image, enum progress_style 
     session.file = no_file;
     session.kept = no_room;
     device.is_stop = &stop_cause;
-    device.patience = (struct patience){words->wait, words->patience, words->quiet || words->bay != NULL};
+    device.patience = (struct patience){words->away_ms, words->wait, words->patience, words->quiet || words->bay != NULL};
     if (words->job == JOB_LIST)
         status = list_devices(device.usb, &wanted, words->json);
     else
@@ -240,6 +244,6 @@ int one_run(const struct words *words, struct image *image, enum progress_style 
         print_serials();
     log_close(&session.wire.trace.log);
     device_drop(&device);
-    libusb_exit(device.usb);
+    transport->end(device.usb);
     return status;
 }

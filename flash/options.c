@@ -22,7 +22,7 @@ const struct option options[] = {
     {"all", no_argument, NULL, ALL},               {"log", required_argument, NULL, LOG},
     {"address", required_argument, NULL, ADDRESS}, {"length", required_argument, NULL, LENGTH},
     {"no-leave", no_argument, NULL, NO_LEAVE},
-    {"list", no_argument, NULL, LIST},             {"help", no_argument, NULL, HELP},
+    {"list", no_argument, NULL, LIST},             {"demo", no_argument, NULL, DEMO},             {"help", no_argument, NULL, HELP},
     {"version", no_argument, NULL, VERSION},       {NULL, 0, NULL, 0},
 };
 /* clang-format on */

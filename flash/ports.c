@@ -2,6 +2,7 @@
 /* A look at the bus. libusb is begun for it and ended after it: a process that has it open may not be forked, since threads and
    descriptors of libusb would be left half in the new one. */
 #include "ports.h"
+#include "transport.h"
 
 #include <string.h>
 
@@ -14,29 +15,29 @@ static void add(struct port *port, libusb_device *device, const struct wanted *w
     path_of(device, found.path);
     memcpy(port->path, found.path, sizeof port->path);
     port->is_wanted = false;
-    if (libusb_get_device_descriptor(device, &fields) != 0)
+    if (transport->fields(device, &fields) != 0)
         return;
     found.vendor = fields.idVendor;
     found.product = fields.idProduct;
-    if (!may_be(wanted, &found) || libusb_get_active_config_descriptor(device, &configuration) != 0)
+    if (!may_be(wanted, &found) || transport->active(device, &configuration) != 0)
         return;
     port->is_wanted = has_dfu(configuration);
-    libusb_free_config_descriptor(configuration);
+    transport->free_active(configuration);
 }
 
 int ports_look(const struct wanted *wanted, struct port *ports)
 {
     libusb_context *usb;
     libusb_device **devices;
-    int error = libusb_init(&usb), count = 0;
+    int error = transport->begin(&usb), count = 0;
     ssize_t length;
     if (error != 0)
         return error;
-    length = libusb_get_device_list(usb, &devices);
+    length = transport->list(usb, &devices);
     for (ssize_t at = 0; at < length && count < PORTS_ROOM; at++)
         add(&ports[count++], devices[at], wanted);
     if (length >= 0)
-        libusb_free_device_list(devices, 1);
-    libusb_exit(usb);
+        transport->free_list(devices, 1);
+    transport->end(usb);
     return length < 0 ? (int)length : count;
 }

@@ -5,6 +5,7 @@
 #include "properties.h"
 #include "standard.h"
 #include "terminal.h"
+#include "transport.h"
 
 #include <stdio.h>
 
@@ -16,14 +17,12 @@ bool present_is(const struct device *device)
 {
     libusb_device *opened = device->is.device, **devices;
     bool is = false;
-    ssize_t count = opened == NULL ? 0 : libusb_get_device_list(device->usb, &devices);
+    ssize_t count = opened == NULL ? 0 : transport->list(device->usb, &devices);
     if (opened == NULL || count < 0)
         return opened != NULL;
     for (ssize_t at = 0; at < count; at++)
-        is = is
-             || (libusb_get_bus_number(devices[at]) == libusb_get_bus_number(opened)
-                 && libusb_get_device_address(devices[at]) == libusb_get_device_address(opened));
-    libusb_free_device_list(devices, 1);
+        is = is || (transport->bus(devices[at]) == transport->bus(opened) && transport->address(devices[at]) == transport->address(opened));
+    transport->free_list(devices, 1);
     return is;
 }
 
@@ -32,7 +31,7 @@ bool present_is_lost(const struct device *device, int answer)
     unsigned char status[2];
     if (platform_tells_left() || answer >= 0 || answer == LIBUSB_ERROR_TIMEOUT)
         return false;
-    answer = libusb_control_transfer(device->handle, KIND_IS_IN, GET_STATUS, 0, 0, status, sizeof status, STATUS_MS);
+    answer = transport->transfer(device->handle, KIND_IS_IN, GET_STATUS, 0, 0, status, sizeof status, STATUS_MS);
     return answer < 0 && answer != LIBUSB_ERROR_TIMEOUT;
 }
 

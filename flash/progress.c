@@ -4,6 +4,7 @@
 #include "progress.h"
 #include "bar.h"
 #include "clock.h"
+#include "say.h"
 #include "terminal.h"
 
 #include <inttypes.h>
@@ -32,7 +33,7 @@ void progress_begin(struct progress *progress, enum progress_style style, uint64
 static void show_bar(struct progress *progress, const char *line)
 {
     int length = (int)strlen(line);
-    fprintf(stderr, "\r%s%*s", line, progress->shown > length ? progress->shown - length : 0, "");
+    fprintf(stderr, "\r%s%s%*s", say_mark, line, progress->shown > length ? progress->shown - length : 0, "");
     fflush(stderr);
     progress->shown = length;
     progress->is_open = true;
@@ -48,7 +49,7 @@ static void draw(struct progress *progress, uint64_t bytes)
         return;
     progress->shown_ms = now;
     bar_line(line, names[progress->part], bytes, progress->total, now - progress->began_ms, is_row ? ROW_BAR_MOST : BAR_MOST,
-             is_row ? BAR_ROOM : bar_columns());
+             is_row ? BAR_ROOM : bar_columns() - (int)strlen(say_mark));
     if (!is_row) {
         show_bar(progress, line);
         return;
@@ -64,7 +65,7 @@ static void tell(struct progress *progress, uint64_t bytes)
         return;
     progress->told = tenths;
     if (progress->total > 0)
-        fprintf(stderr, "%s: %" PRIu64 "%%, %" PRIu64 " of %" PRIu64 " bytes\n", names[progress->part], 10 * tenths, bytes,
+        fprintf(stderr, "%s%s: %" PRIu64 "%%, %" PRIu64 " of %" PRIu64 " bytes\n", say_mark, names[progress->part], 10 * tenths, bytes,
                 progress->total);
     else
         fprintf(stderr, "%s: %" PRIu64 " bytes\n", names[progress->part], bytes);

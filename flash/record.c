@@ -37,10 +37,14 @@ static double each_seconds(void)
     return (double)(clock_ms() - each.began_ms) / 1000;
 }
 
+/* A simulated board's report has another name too, so that who looks at nothing else isn't deceived. */
 static void begin(int status, const char *report)
 {
-    printf("{\"status\":%d", status);
-    json_text("report", report);
+    char name[48];
+    printf("{%s\"status\":%d", *say_mark != '\0' ? "\"simulated\":true," : "", status);
+    if (*say_mark != '\0')
+        snprintf(name, sizeof name, "simulated %s", report);
+    json_text("report", *say_mark != '\0' ? name : report);
 }
 
 static void end(const char *step)
@@ -57,6 +61,7 @@ static void end(const char *step)
 /* What a line begins with that is no JSON. */
 static void begin_line(void)
 {
+    fputs(say_mark, stdout);
     if (each.path == NULL)
         return;
     printf("%s ", each.path);

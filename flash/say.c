@@ -9,6 +9,8 @@
 
 #include <string.h>
 
+const char *say_mark = "";
+
 static void say_descriptor(FILE *out, const struct found *found)
 {
     const uint8_t *bytes = found->descriptor;
@@ -39,7 +41,7 @@ void say_text(FILE *out, const char *before, const char *text, const char *after
 
 void say_found(FILE *out, const struct found *found)
 {
-    fprintf(out, "%04x:%04x path %s", found->vendor, found->product, found->path);
+    fprintf(out, "%s%04x:%04x path %s", say_mark, found->vendor, found->product, found->path);
     if (found->serial[0] != '\0')
         say_text(out, " serial ", found->serial, "");
     fprintf(out, " interface %u alt %u", found->interface, found->alternate);

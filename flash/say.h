@@ -8,6 +8,9 @@
 #include <stdint.h>
 #include <stdio.h>
 
+/* What a line begins with that is of a simulated board; empty for a real one. */
+extern const char *say_mark;
+
 /* A line for a device, as --list prints it. */
 void say_found(FILE *out, const struct found *found);
 

@@ -108,6 +108,7 @@ static bool take_option(struct words *words, int code, int count, char **texts)
     case 'E':
     case 'Z':              /* noted */
     case 'R': return true; /* each session ends with a reset */
+    case DEMO: return is_job(words, JOB_DEMO);
     case 'h':
     case HELP: words->job = JOB_HELP; return true;
     case 'V':
@@ -151,6 +152,8 @@ static bool is_fit(const struct words *words)
 {
     bool has_session = words->has_limits || words->dry_run || words->transfer != 0;
     bool has_trace = words->verbose || words->log != NULL;
+    bool has_choice = words->has_ids || words->path != NULL || words->serial != NULL || words->interface >= 0 || words->alternate >= 0
+                      || words->setting != NULL;
     if (words->force && words->job != JOB_UPLOAD)
         return words_refuse("--force goes with --upload alone", "");
     if (!words->verify && words->job != JOB_DOWNLOAD)
@@ -159,6 +162,8 @@ static bool is_fit(const struct words *words)
         return words_refuse("--raw goes with a FILE that is downloaded", "");
     if (words->job == JOB_LIST && (has_session || words->quiet || has_trace || words->wait || words->timeout != 0))
         return words_refuse("--list goes with what chooses devices, and with --json, alone", "");
+    if (words->job == JOB_DEMO && (has_session || has_choice || has_trace || words->wait || words->timeout != 0 || words->all))
+        return words_refuse("--demo goes with a FILE, --json and --quiet alone: its board is simulated", "");
     if (words->job == JOB_DETACH && has_session)
         return words_refuse("--detach goes with no --limits, --dry-run or --transfer-size", "");
     return is_fit_for_dfuse(words) && is_fit_for_all(words);
@@ -173,9 +178,9 @@ struct plain {
 /* Whether the words go together. */
 static bool is_whole(struct words *words, const struct plain *plain)
 {
-    bool has_file = words->job == JOB_DOWNLOAD || words->job == JOB_UPLOAD;
+    bool has_file = words->job == JOB_DOWNLOAD || words->job == JOB_UPLOAD || (words->job == JOB_DEMO && words->file != NULL);
     int at = 0;
-    if (words->job == JOB_DOWNLOAD && words->file == NULL && plain->count > 0)
+    if ((words->job == JOB_DOWNLOAD || words->job == JOB_DEMO) && words->file == NULL && plain->count > 0)
         words->file = plain->texts[at++];
     if (at < plain->count) {
         advice_is("name one FILE; what a shell makes of * may be several");

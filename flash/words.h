@@ -8,7 +8,7 @@
 
 struct bay;
 
-enum job { JOB_DOWNLOAD, JOB_UPLOAD, JOB_DETACH, JOB_LIST, JOB_HELP, JOB_VERSION };
+enum job { JOB_DOWNLOAD, JOB_UPLOAD, JOB_DETACH, JOB_LIST, JOB_DEMO, JOB_HELP, JOB_VERSION };
 
 struct words {
     enum job job;
@@ -30,6 +30,7 @@ struct words {
     uint16_t transfer;        /* --transfer-size, 0 if it wasn't given */
     uint32_t timeout;         /* seconds of --timeout, 0 if it wasn't given */
     bool wait;                /* --wait was given, */
+    uint32_t away_ms;         /* how long a device that left is waited for; 0: as ever */
     uint32_t patience;        /* and for so many seconds; 0 is for ever */
     bool has_address;         /* --address was given: DfuSe */
     uint32_t address, length; /* and --length, 0 if it wasn't; */

@@ -12,6 +12,7 @@
 #include "../standard.h"
 #include "../status.h"
 #include "../stop.h"
+#include "../transport.h"
 
 #include <stdio.h>
 #include <sys/stat.h>
@@ -125,9 +126,9 @@ static int say_none(void)
     libusb_context *usb;
     if (all.is_stopped)
         return STATUS_ABORTED;
-    if (libusb_init(&usb) == 0) {
+    if (transport->begin(&usb) == 0) {
         say_missing(usb, &all.wanted);
-        libusb_exit(usb);
+        transport->end(usb);
     }
     return record_none(STATUS_NO_DEVICE, all.words->json);
 }

@@ -64,7 +64,7 @@ _dfu_flash() {
     case $word in
     -*)
         COMPREPLY=($(compgen -W '--device --path --serial --interface --alt --no-verify --raw --upload --force --detach
-            --wait --timeout --limits --transfer-size --address --length --no-leave --dry-run --quiet --verbose --json --all --log --list -h --help -V --version' -- "$word"))
+            --wait --timeout --limits --transfer-size --address --length --no-leave --dry-run --quiet --verbose --json --all --log --list --demo -h --help -V --version' -- "$word"))
         ;;
     *) compopt -o default ;;
     esac
