@@ -41,6 +41,7 @@ pub use image::ImagePlace;
 pub use interface::addressed;
 pub use long::mode_after_long;
 pub use mapped::Mapped;
+pub use next_piece::MAX_PROGRAM;
 pub use noted::Noted;
 pub use pending_writes::{PendingWrites, SlotWrite};
 pub use reply::{FlashOp, Refusal, Reply};

@@ -27,14 +27,15 @@ mod writes;
 // For a caller that reads a medium by itself, and knows which slot is active.
 pub use fault::{FormatFault, OpenFault, PutFault, WriteFault};
 pub use layout::{
-    OPEN_GATE, Unit, VERSION, capacity_of, gate_of, is_sized, length_in, make_header,
+    MAX_SECTOR, MAX_UNIT, OPEN_GATE, PAGE, Unit, VERSION, capacity_of, gate_of, is_sized,
+    length_in, make_header,
 };
 pub use medium::{Failed, Faulty, Medium};
 pub use noted::{LastWrites, WriteEnd, WriteNote};
 pub use operation::{Op, Source};
 pub use places::{Places, check};
 pub use read::{data_at, generation, header_of, is_open, read_data};
-pub use sequence::Sequence;
+pub use sequence::{MAX_OPERATIONS, Sequence};
 #[cfg(feature = "std")]
 pub use sim::{NoMemory, SimMedium};
 pub use slots::Slots;

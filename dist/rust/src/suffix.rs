@@ -33,7 +33,7 @@ pub use adding::add;
 pub use checking::{check, check_with};
 pub use crc::Crc;
 pub use fault::SuffixFault;
-pub use file::File;
+pub use file::{File, READ_BYTES};
 pub use findings::Findings;
 #[cfg(feature = "std")]
 pub use gathering::{GatherFault, gather};

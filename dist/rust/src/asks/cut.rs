@@ -3,6 +3,7 @@
 //! The piece that is found, and its bytes in place.
 
 use crate::asks::FlashOp;
+use crate::asks::next_piece::MAX_PROGRAM;
 use crate::asks::pending_writes::WriteInputs;
 use crate::asks::runs::runs_of;
 use crate::slots::{OPEN_GATE, Source};
@@ -41,11 +42,11 @@ pub(crate) fn cut_at<'a>(stock: WriteInputs<'a>, done: u32) -> Cut<'a> {
 }
 
 /// Puts the bytes of a piece at the front of a buffer; of an erase at most 256, each FFh.
-pub(crate) fn fill(cut: &Cut<'_>, out: &mut [u8; 256]) {
+pub(crate) fn fill(cut: &Cut<'_>, out: &mut [u8; MAX_PROGRAM]) {
     let runs = runs_of(cut, &[OPEN_GATE]);
     let middle = runs.front.len();
     let end = middle + runs.back.len();
-    let len = cut.piece.len.min(256);
+    let len = cut.piece.len.min(MAX_PROGRAM);
     out[..middle].copy_from_slice(runs.front);
     out[middle..end].copy_from_slice(runs.back);
     out[end..len].fill(runs.pad);

@@ -5,7 +5,7 @@
 use crate::asks::cut::{Cut, cut_at, fill, stands};
 use crate::asks::format_piece::{filled_len, part_piece, stock_for};
 use crate::asks::next_and_took::is_sound;
-use crate::asks::{FlashOp, FormatProgress, FormatStep, Formatting, Mapped, Sector};
+use crate::asks::{FlashOp, FormatProgress, FormatStep, Formatting, MAX_PROGRAM, Mapped, Sector};
 use crate::slots::{FormatFault, Unit, WriteFault, capacity_of, is_sized};
 use crate::suffix::Crc;
 
@@ -102,7 +102,7 @@ impl Formatting {
     /// None if no write is due, or its range is not within the flash, or what is kept would erase less than a sector. Then `out` does
     /// not change.
     /// It is Some if `start` or `took` asked, and the pieces before this one are on the flash.
-    pub fn next(&self, flash: &[u8], image: &[u8], out: &mut [u8; 256]) -> Option<FlashOp> {
+    pub fn next(&self, flash: &[u8], image: &[u8], out: &mut [u8; MAX_PROGRAM]) -> Option<FlashOp> {
         let mut cut = cut_at(stock_for(self, image), self.done);
         if !self.due(flash, &mut cut) {
             return None;

@@ -5,7 +5,7 @@
 use crate::asks::cut::{cut_at, fill};
 use crate::asks::next_piece::next_piece;
 use crate::asks::sector::behind_edge;
-use crate::asks::{Asking, FlashOp, Mapped, PendingWrites, Refusal, Reply, Sector};
+use crate::asks::{Asking, FlashOp, MAX_PROGRAM, Mapped, PendingWrites, Refusal, Reply, Sector};
 use crate::slots::{OPEN_GATE, Unit, WriteFault, check};
 
 // Where the slot begins that a place lies in, of two slots of this size.
@@ -70,7 +70,7 @@ impl Asking {
         block: &[u8],
         held: &[u8],
         flash: &[u8],
-        out: &mut [u8; 256],
+        out: &mut [u8; MAX_PROGRAM],
     ) -> Option<FlashOp> {
         let work = self.work?;
         let mut cut = cut_at(self.stock(block, held), work.done);

@@ -5,13 +5,10 @@
 use crate::asks::cut::Cut;
 use crate::asks::sector::{Position, locate};
 use crate::asks::{FlashOp, SlotWrite};
-use crate::slots::{Op, Sequence, Source, VERSION, make_header};
+use crate::slots::{MAX_OPERATIONS, Op, Sequence, Source, VERSION, make_header};
 
-// How many bytes are programmed at a time at most.
-const MOST: usize = 256;
-
-// No sequence has more operations.
-const OPERATIONS: usize = 3;
+/// How many bytes are programmed at a time at most.
+pub const MAX_PROGRAM: usize = 256;
 
 // An erase of so many bytes there is found.
 fn find_erase(at: u64, len: usize, cut: &mut Cut<'_>) {
@@ -45,7 +42,7 @@ fn write_piece(at: u64, source: Source, skip: usize, len: usize, cut: &mut Cut<'
             cut.piece = FlashOp {
                 erases: false,
                 at: at + from as u64,
-                len: (len - from).min(MOST),
+                len: (len - from).min(MAX_PROGRAM),
             };
             cut.source = source;
             cut.from = skip + from;
@@ -76,7 +73,7 @@ pub(crate) fn numbered_piece(sequence: Sequence, index: usize, cut: &mut Cut<'_>
 
 /// Whether the next piece is one of the operations of a sequence. Then it is found; else the search goes on after them.
 pub(crate) fn sequence_piece(sequence: Sequence, cut: &mut Cut<'_>) -> bool {
-    for index in 0..OPERATIONS {
+    for index in 0..MAX_OPERATIONS {
         if numbered_piece(sequence, index, cut) {
             return true;
         }

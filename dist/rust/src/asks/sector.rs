@@ -2,6 +2,8 @@
 
 //! The sectors of a flash, and how far a write has come with the erases before it.
 
+use crate::slots::{MAX_SECTOR, PAGE};
+
 /// How many bytes of flash are erased at a time: 0 if it is written over in place, else a multiple of 256 up to 131,072.
 #[derive(Clone, Copy, Debug, PartialEq, Eq)]
 pub struct Sector {
@@ -16,7 +18,7 @@ impl Sector {
 
     /// Sectors of so many bytes; None if that is not a multiple of 256, or more than 131,072.
     pub fn new(size: u32) -> Option<Sector> {
-        if size % 256 == 0 && size <= 131_072 {
+        if size % PAGE == 0 && size <= MAX_SECTOR {
             Some(Sector { size })
         } else {
             None

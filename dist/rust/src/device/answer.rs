@@ -4,6 +4,7 @@
 
 use crate::device::decision::Reply;
 use crate::device::device_core::DeviceCore;
+use crate::device::device_state::status_in;
 use arrayvec::ArrayVec;
 use crate::slots::{Medium, Slots};
 
@@ -66,13 +67,13 @@ impl<M: Medium> DeviceCore<M> {
         match pending_answer {
             PendingAnswer::Ack => Answer::Ack,
             PendingAnswer::Status { asked } => {
-                let bytes = self.status();
+                let bytes = status_in(&self.config, self.mode);
                 let _ = out.try_extend_from_slice(&bytes[..usize::from(asked).min(6)]);
                 Answer::Bytes
             }
             PendingAnswer::State { asked } => {
                 if asked > 0 {
-                    out.push(self.state().byte());
+                    out.push(self.mode.state().byte());
                 }
                 Answer::Bytes
             }

@@ -3,6 +3,7 @@
 //! A device, as a bootloader would run it.
 
 use crate::device::device_core::DeviceCore;
+use crate::device::device_state::DeviceState;
 use crate::device::{Answer, Config};
 use arrayvec::ArrayVec;
 use crate::slots::{Faulty, Medium, OpenFault, Slots};
@@ -76,7 +77,8 @@ impl<M: Medium> Device<M> {
     /// The power goes and comes back: the device starts anew on its medium as it is, in place, as
     /// `power_on` starts one on what `into_medium` gives back. That is never refused.
     pub fn restart(&mut self) {
-        self.core.restart();
+        self.core.slots.reopen();
+        self.core.mode = DeviceState::AppIdle;
     }
 
     /// Answers a setup with its body (USB DFU 1.1, appendix A). `out` is emptied first. If the
@@ -95,17 +97,17 @@ impl<M: Medium> Device<M> {
 
     /// The bus is reset: appDETACH goes to dfuIDLE, every other state to appIDLE (USB DFU 1.1, appendix A).
     pub fn usb_reset(&mut self) {
-        self.core.usb_reset();
+        self.core.mode = self.core.mode.after_reset();
     }
 
     /// The state of the standard (USB DFU 1.1, section 6.1.2, bState).
     pub fn state(&self) -> State {
-        self.core.state()
+        self.core.mode.state()
     }
 
     /// The status code: that of dfuERROR, and OK in every other state (USB DFU 1.1, section 6.1.2, bStatus).
     pub fn code(&self) -> Code {
-        self.core.code()
+        self.core.mode.code()
     }
 
     /// The functional descriptor (USB DFU 1.1, section 4.1.3), with version 0110h.

@@ -5,13 +5,13 @@
 use crate::device::answer::{PendingAnswer, pending_answer_of};
 use crate::device::config::Profile;
 use crate::device::decision::Decision;
-use crate::device::device_state::{DeviceState, status_in};
-use crate::device::table::{asked_length, decide, goes_with, is_close};
+use crate::device::device_state::DeviceState;
+use crate::device::table::{asked_length, decide, goes_with};
 use crate::device::time_table::decide_time;
-use crate::device::{Config, Objection};
+use crate::device::Config;
 use arrayvec::ArrayVec;
 use crate::slots::{Medium, Slots};
-use crate::wire::{Code, Request, Setup, State};
+use crate::wire::{Request, Setup};
 
 // Replaces the bytes of the block.
 fn hold(block: &mut ArrayVec<u8, 4096>, bytes: &[u8]) {
@@ -39,27 +39,6 @@ impl<M: Medium> DeviceCore<M> {
             mode: DeviceState::AppIdle,
             block,
         }
-    }
-
-    /// The core starts anew in appIDLE, on its medium as it is.
-    pub(crate) fn restart(&mut self) {
-        self.slots.reopen();
-        self.mode = DeviceState::AppIdle;
-    }
-
-    /// The state of the standard.
-    pub(crate) fn state(&self) -> State {
-        self.mode.state()
-    }
-
-    /// The status code: that of dfuERROR, and OK in every other state.
-    pub(crate) fn code(&self) -> Code {
-        self.mode.code()
-    }
-
-    /// The six bytes of the status.
-    pub(crate) fn status(&self) -> [u8; 6] {
-        status_in(&self.config, self.mode)
     }
 
     /// What the table reads of it.
@@ -145,24 +124,5 @@ impl<M: Medium> DeviceCore<M> {
     pub(crate) fn elapse(&mut self, ms: u32) {
         let decision = decide_time(&self.profile(), self.mode, ms);
         let _ = self.carry_out(decision, 0, &[]);
-    }
-
-    /// The bus is reset.
-    pub(crate) fn usb_reset(&mut self) {
-        self.mode = self.mode.after_reset();
-    }
-
-    /// The program refuses the image that this setup closes, if it closes one.
-    pub(crate) fn refuse_close(&mut self, setup: &[u8; 8], objection: Objection) -> bool {
-        if !self.mode.may_close(self.config.least()) || !is_close(setup) {
-            return false;
-        }
-        self.mode = DeviceState::after_refused_close(objection);
-        true
-    }
-
-    /// The program refuses the image that was closed.
-    pub(crate) fn refuse(&mut self, objection: Objection) {
-        self.mode = self.mode.after_refusal(objection);
     }
 }

@@ -2,6 +2,8 @@
 
 //! The program of a device refuses an image.
 
+use crate::device::device_state::DeviceState;
+use crate::device::table::is_close;
 use crate::device::Device;
 use crate::slots::Medium;
 use crate::wire::Code;
@@ -32,13 +34,18 @@ impl<M: Medium> Device<M> {
     /// False, with nothing changed, if it is no such setup; then the caller hands it in by `handle`, as one that the program does not
     /// refuse.
     pub fn refuse_close(&mut self, setup: &[u8; 8], objection: Objection) -> bool {
-        self.core.refuse_close(setup, objection)
+        let may_close = self.core.mode.may_close(self.core.config.least());
+        if !may_close || !is_close(setup) {
+            return false;
+        }
+        self.core.mode = DeviceState::after_refused_close(objection);
+        true
     }
 
     /// The program refuses the image that was closed, for a check that takes longer than a transfer may. In dfuMANIFEST-SYNC, before it is
     /// complete, and in dfuMANIFEST the device enters dfuERROR with errTARGET or errFILE, and nothing is put in place. In every other state
     /// nothing changes.
     pub fn refuse(&mut self, objection: Objection) {
-        self.core.refuse(objection);
+        self.core.mode = self.core.mode.after_refusal(objection);
     }
 }

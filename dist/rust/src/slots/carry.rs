@@ -3,14 +3,11 @@
 //! Carrying out the operations of a change on a medium.
 
 use crate::slots::erasing::erase;
-use crate::slots::layout::OPEN_GATE;
+use crate::slots::layout::{MAX_UNIT, OPEN_GATE};
 use crate::slots::operation::{Op, Source};
-use crate::slots::sequence::Sequence;
+use crate::slots::sequence::{MAX_OPERATIONS, Sequence};
 use crate::slots::writes::write_some;
 use crate::slots::{Medium, WriteFault};
-
-// No sequence has more operations.
-const MOST: usize = 3;
 
 /// The bytes that the operations of a change take theirs from.
 #[derive(Clone, Copy)]
@@ -45,7 +42,7 @@ fn byte_of(source: Source, held: &[u8], block: &[u8], header: &[u8; 16], at: usi
 
 impl Sources<'_> {
     // Puts bytes of a source, without its first ones, at the front of a buffer.
-    fn gather(self, source: Source, skip: usize, len: usize, out: &mut [u8; 256]) {
+    fn gather(self, source: Source, skip: usize, len: usize, out: &mut [u8; MAX_UNIT]) {
         for i in 0..len {
             out[i] = byte_of(source, self.held, self.block, self.header, skip + i);
         }
@@ -60,7 +57,7 @@ impl Sources<'_> {
         skip: usize,
         len: usize,
     ) -> Result<(), WriteFault> {
-        let mut unit = [0; 256];
+        let mut unit = [0; MAX_UNIT];
         self.gather(source, skip, len, &mut unit);
         write_some(medium, at, &unit[..len])
     }
@@ -111,7 +108,7 @@ impl Sources<'_> {
     ) -> Result<(), WriteFault> {
         let unit = medium.unit();
         let sector = medium.sector();
-        for index in 0..MOST {
+        for index in 0..MAX_OPERATIONS {
             match sequence.operation(unit, sector, index) {
                 None => return Ok(()),
                 Some(op) => match self.carry_op(medium, op) {

@@ -2,16 +2,17 @@
 
 //! Erasing sectors.
 
+use crate::slots::layout::MAX_UNIT;
 use crate::slots::read::stands_at;
 use crate::slots::{Medium, WriteFault};
 
 /// Whether so many bytes from there on are FFh.
 pub(crate) fn is_blank<M: Medium>(medium: &M, at: u32, len: u32) -> bool {
-    let blank = [0xff; 256];
+    let blank = [0xff; MAX_UNIT];
     let _end = medium.len();
     let mut done = 0;
     while done < len {
-        let size = (len - done).min(256);
+        let size = (len - done).min(MAX_UNIT as u32);
         if stands_at(medium, at + done, &blank[..size as usize]) {
             done += size;
         } else {

@@ -6,7 +6,7 @@ use crate::slots::gates::{close_gate, open_slot};
 use crate::slots::layout::{VERSION, fill_size, make_header};
 use crate::slots::operation::Op;
 use crate::slots::register::register_of_image;
-use crate::slots::sequence::{PIECE, Sequence};
+use crate::slots::sequence::{MAX_WRITE, Sequence};
 use crate::slots::writes::write_some;
 use crate::slots::{Medium, WriteFault};
 
@@ -64,7 +64,7 @@ fn write_pieces<M: Medium>(medium: &mut M, image: &[u8]) -> Result<(), WriteFaul
     while from < end {
         match write_piece(medium, image, from) {
             Err(fault) => return Err(fault),
-            Ok(()) => from += PIECE,
+            Ok(()) => from += MAX_WRITE,
         }
     }
     Ok(())

@@ -7,6 +7,12 @@ use crate::slots::Medium;
 /// How many bytes the header has, and how many the gate unit and the header unit have at least.
 const HEADER_SIZE: u32 = 16;
 
+/// How many bytes the largest unit has.
+pub const MAX_UNIT: usize = 256;
+
+/// How many bytes a sector has at least, and of how many it is a multiple.
+pub const PAGE: u32 = 256;
+
 /// How many bytes a sector may have at most.
 pub const MAX_SECTOR: u32 = 1 << 17;
 
@@ -36,7 +42,7 @@ impl Unit {
             Unit::Byte => 1,
             Unit::U16 => 16,
             Unit::U64 => 64,
-            Unit::U256 => 256,
+            Unit::U256 => MAX_UNIT as u32,
         }
     }
 }
@@ -74,7 +80,7 @@ pub fn capacity_of<M: Medium>(medium: &M) -> u32 {
 
 // Whether the store takes sectors of so many bytes: 0, or a multiple of 256 up to 131,072.
 fn is_sector(sector: u32) -> bool {
-    sector % 256 == 0 && sector <= MAX_SECTOR
+    sector % PAGE == 0 && sector <= MAX_SECTOR
 }
 
 // Whether a length is a multiple of the unit's size, and of the sector's.

@@ -3,6 +3,7 @@
 //! What was put since `begin`: whole units go to the medium as they come, and the rest is held back.
 
 use crate::slots::carry::Sources;
+use crate::slots::layout::MAX_UNIT;
 use crate::slots::sequence::Sequence;
 use crate::slots::{Medium, Unit, WriteFault};
 use arrayvec::ArrayVec;
@@ -10,7 +11,7 @@ use arrayvec::ArrayVec;
 /// The puts since `begin`. Their whole units are written, and the rest is held back.
 pub struct Puts {
     /// The bytes held back, fewer than a unit has.
-    pub held: ArrayVec<u8, 256>,
+    pub held: ArrayVec<u8, MAX_UNIT>,
     /// Where the puts end in the spare's data.
     pub end: u32,
 }
@@ -32,12 +33,12 @@ impl Puts {
 }
 
 // Holds these bytes back too, after those that are held.
-fn hold(held: &mut ArrayVec<u8, 256>, bytes: &[u8]) {
+fn hold(held: &mut ArrayVec<u8, MAX_UNIT>, bytes: &[u8]) {
     let _ = held.try_extend_from_slice(bytes);
 }
 
 /// Holds back what makes no whole unit of the bytes that are held and these after them.
-pub(crate) fn hold_rest(held: &mut ArrayVec<u8, 256>, unit: Unit, bytes: &[u8]) {
+pub(crate) fn hold_rest(held: &mut ArrayVec<u8, MAX_UNIT>, unit: Unit, bytes: &[u8]) {
     let all = held.len() + bytes.len();
     let rest = all % unit.size() as usize;
     if rest == all {
@@ -52,7 +53,7 @@ pub(crate) fn hold_rest(held: &mut ArrayVec<u8, 256>, unit: Unit, bytes: &[u8]) 
 /// that the held bytes begin, if it is full now, and then all further whole units in one write, and holds the rest back.
 pub(crate) fn put_units<M: Medium>(
     medium: &mut M,
-    held: &mut ArrayVec<u8, 256>,
+    held: &mut ArrayVec<u8, MAX_UNIT>,
     slot: u32,
     end: u32,
     bytes: &[u8],

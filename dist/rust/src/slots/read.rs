@@ -9,7 +9,7 @@ use crate::slots::layout::{
 use crate::slots::register::register_of;
 
 // How many bytes are read back at a time.
-const PIECE: usize = 256;
+const READ_BACK_BYTES: usize = 256;
 
 /// The byte at this place.
 pub(crate) fn byte_at<M: Medium>(medium: &M, at: u32) -> u8 {
@@ -32,11 +32,11 @@ fn are_same(read: &[u8], piece: &[u8]) -> bool {
 
 /// Whether exactly these bytes are there. It reads them in pieces.
 pub(crate) fn stands_at<M: Medium>(medium: &M, at: u32, bytes: &[u8]) -> bool {
-    let mut buffer = [0; PIECE];
+    let mut buffer = [0; READ_BACK_BYTES];
     let mut ahead = medium.len() - at;
     let mut rest = bytes;
     while !rest.is_empty() {
-        let size = PIECE.min(rest.len());
+        let size = READ_BACK_BYTES.min(rest.len());
         let read = &mut buffer[..size];
         medium.read(medium.len() - ahead, read);
         let (piece, next) = rest.split_at(size);

@@ -7,7 +7,7 @@ use crate::slots::read::read_data;
 use crate::suffix::Crc;
 
 // How many bytes are read at a time.
-const PIECE: u32 = 64;
+const REGISTER_BYTES: u32 = 64;
 
 // Takes more bytes of an image, by the tables that the medium has chosen.
 fn take_piece<M: Medium>(medium: &M, crc: &mut Crc, piece: &[u8]) {
@@ -21,10 +21,10 @@ fn take_piece<M: Medium>(medium: &M, crc: &mut Crc, piece: &[u8]) {
 // The register over the first `len` bytes of the data of the slot that begins there, to go on from.
 fn crc_of<M: Medium>(medium: &M, slot_at: u32, len: u32) -> Crc {
     let mut crc = Crc::new();
-    let mut buffer = [0; PIECE as usize];
+    let mut buffer = [0; REGISTER_BYTES as usize];
     let mut at = 0;
     while at < len {
-        let size = PIECE.min(len - at);
+        let size = REGISTER_BYTES.min(len - at);
         let piece = &mut buffer[..size as usize];
         read_data(medium, slot_at, at, piece);
         take_piece(medium, &mut crc, piece);

@@ -6,8 +6,11 @@ use crate::slots::Unit;
 use crate::slots::layout::{fill_size, gate_room, gate_size};
 use crate::slots::operation::{Op, Source};
 
-/// How many bytes of an image are written at a time: whole units, whatever the unit is.
-pub(crate) const PIECE: u32 = 4096;
+/// How many bytes of an image a format writes at a time: whole units, whatever the unit is.
+pub(crate) const MAX_WRITE: u32 = 4096;
+
+/// How many operations the longest change has.
+pub const MAX_OPERATIONS: usize = 3;
 
 /// A change of a medium, by the numbers that its operations depend on.
 #[derive(Clone, Copy, Debug, PartialEq, Eq)]
@@ -128,7 +131,7 @@ fn image_op(unit: Unit, sector: u32, from: u32, image: u32, index: usize) -> Opt
         at: 2 * u64::from(gate_room(unit, sector)) + u64::from(from),
         source: Source::Joined,
         skip: skip as u32,
-        len: (size - skip).min(u64::from(PIECE)) as u32,
+        len: (size - skip).min(u64::from(MAX_WRITE)) as u32,
     })
 }
 

@@ -4,7 +4,7 @@
 
 use crate::suffix::crc::Crc;
 use crate::suffix::fault::SuffixFault;
-use crate::suffix::file::{MAX_FILE, MAX_READS, PIECE};
+use crate::suffix::file::{MAX_FILE, MAX_READS, READ_BYTES};
 use crate::suffix::findings::{Findings, findings_of};
 use crate::suffix::summary::{Summary, check_register};
 use std::io::Read;
@@ -35,7 +35,7 @@ pub fn check_with<R: Read>(
     let mut crc = Crc::new();
     let mut count: u32 = 0;
     let mut window = [0u8; 16];
-    let mut buffer = [0u8; PIECE];
+    let mut buffer = [0u8; READ_BYTES];
     for _turn in 0..MAX_READS {
         match reader.read(&mut buffer) {
             Ok(0) => {

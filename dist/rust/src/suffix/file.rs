@@ -10,8 +10,8 @@ pub(crate) const MAX_FILE: usize = 16_777_216;
 /// The most reads that a file is worth: each but the last gives a byte.
 pub(crate) const MAX_READS: usize = MAX_FILE + 1;
 
-/// The most bytes that are read at a time.
-pub(crate) const PIECE: usize = 65_536;
+/// How many bytes a reader is asked for at a time.
+pub const READ_BYTES: usize = 65_536;
 
 /// The fewest bytes that a suffix has.
 pub(crate) const MIN_SUFFIX: u32 = 16;

@@ -10,7 +10,7 @@
 use crate::suffix::crc;
 
 /// How many bytes at least are worth folding; as many are folded at a time.
-const PIECE: usize = 4096;
+const FOLDED_BYTES: usize = 4096;
 
 /// The bytes of a residue, 1,968, and of a piece after it.
 const ROOM: usize = 6064;
@@ -51,8 +51,8 @@ fn register_of(room: &[u8; ROOM]) -> u32 {
 fn after_many(start: u32, bytes: &[u8]) -> u32 {
     let mut room = residue_for(start);
     let mut rest = bytes;
-    while rest.len() > PIECE {
-        let (front, more) = rest.split_at(PIECE);
+    while rest.len() > FOLDED_BYTES {
+        let (front, more) = rest.split_at(FOLDED_BYTES);
         fold(&mut room, front);
         rest = more;
     }
@@ -62,7 +62,7 @@ fn after_many(start: u32, bytes: &[u8]) -> u32 {
 
 /// The register after more bytes, folded if there are many.
 pub(crate) fn after_bytes(start: u32, bytes: &[u8]) -> u32 {
-    if bytes.len() < PIECE {
+    if bytes.len() < FOLDED_BYTES {
         crc::after_bytes(start, bytes)
     } else {
         after_many(start, bytes)

@@ -2,7 +2,7 @@
 
 //! All that a reader gives, up to a limit.
 
-use crate::suffix::file::{MAX_READS, PIECE};
+use crate::suffix::file::{MAX_READS, READ_BYTES};
 use crate::memory::{Global, Vec};
 use std::io::Read;
 
@@ -34,7 +34,7 @@ pub fn gather<R: Read>(
 ) -> Result<Vec<u8>, GatherFault> {
     debug_assert!(limit <= 16_777_216);
     let mut bytes = Vec::new(alloc);
-    let mut buffer = [0u8; PIECE];
+    let mut buffer = [0u8; READ_BYTES];
     for _turn in 0..MAX_READS {
         match reader.read(&mut buffer) {
             Ok(0) => return Ok(bytes),

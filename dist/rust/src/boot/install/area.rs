@@ -2,17 +2,16 @@
 
 //! The sizes of a run area, and its blank parts.
 
-/// How many bytes are programmed at a time.
-pub(crate) const PIECE: u32 = 256;
+use crate::slots::{MAX_SECTOR, PAGE};
 
-// The largest sector, bytes.
-const MOST: u32 = 131_072;
+/// How many bytes are programmed at a time.
+pub(crate) const PROGRAM: u32 = 256;
 
 /// Whether a run area of so many bytes may have sectors of so many.
 pub(crate) fn is_run_area(len: usize, sector: u32) -> bool {
     sector > 0
-        && sector % 256 == 0
-        && sector <= MOST
+        && sector % PAGE == 0
+        && sector <= MAX_SECTOR
         && len <= 0xffff_ffff
         && len % sector as usize == 0
 }

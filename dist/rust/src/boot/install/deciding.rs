@@ -2,7 +2,7 @@
 
 //! What is due next.
 
-use crate::boot::install::area::{PIECE, are_blank, is_run_area};
+use crate::boot::install::area::{PROGRAM, are_blank, is_run_area};
 use crate::boot::install::compare::next_difference;
 use crate::boot::install::due::{Due, Refusal};
 
@@ -20,7 +20,7 @@ fn may_program(run: &[u8], sector: u32, last: Option<u32>, piece: u32) -> bool {
         Some(at) => {
             at <= piece
                 && at - at % sector == piece - piece % sector
-                && are_blank(run, piece, piece + PIECE)
+                && are_blank(run, piece, piece + PROGRAM)
         }
         None => false,
     }
@@ -28,7 +28,7 @@ fn may_program(run: &[u8], sector: u32, last: Option<u32>, piece: u32) -> bool {
 
 // What is due of the sector in which that byte differs.
 fn mend(_image: &[u8], run: &[u8], sector: u32, last: Option<u32>, at: u32) -> Due {
-    let piece = at - at % PIECE;
+    let piece = at - at % PROGRAM;
     if may_program(run, sector, last, piece) {
         Due::Program(piece)
     } else {

@@ -2,7 +2,7 @@
 
 //! How an operation went.
 
-use crate::boot::install::area::{PIECE, are_blank, is_run_area};
+use crate::boot::install::area::{PROGRAM, are_blank, is_run_area};
 use crate::boot::install::compare::first_difference;
 use crate::boot::install::due::Due;
 
@@ -13,7 +13,7 @@ fn is_erased(run: &[u8], sector: u32, at: u32) -> bool {
 
 // Whether the piece that begins there reads as the image, as far as the image goes.
 fn is_programmed(image: &[u8], run: &[u8], at: u32) -> bool {
-    let end = at as u64 + PIECE as u64;
+    let end = at as u64 + PROGRAM as u64;
     if end > run.len() as u64 {
         return false;
     }

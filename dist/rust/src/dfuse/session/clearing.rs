@@ -16,15 +16,10 @@ use crate::wire::{Code, State, Status};
 /// How long is waited for a status that was asked for too early, in milliseconds.
 pub(crate) const TOO_EARLY_MS: u32 = 100;
 
-/// A step of clearing.
-fn clearing(work: Work, step: Step) -> Phase {
-    stand(work, Place::Lost, step)
-}
-
 /// The device is in dfuERROR while bytes are read back.
 fn ends_comparing(work: Work, code: Code) -> Phase {
     match code {
-        Code::StalledPkt => clearing(work, Step::ClearStatus),
+        Code::StalledPkt => stand(work, Place::Lost, Step::ClearStatus),
         _ => Phase::Over(Report::Refused(code)),
     }
 }
@@ -32,10 +27,10 @@ fn ends_comparing(work: Work, code: Code) -> Phase {
 /// The device is in dfuERROR.
 fn fault_found(work: Work, code: Code) -> Phase {
     match (work, code) {
-        (Work::Erase { .. }, _) => clearing(work, Step::ClearStatus),
+        (Work::Erase { .. }, _) => stand(work, Place::Lost, Step::ClearStatus),
         (_, Code::Vendor) => Phase::Over(Report::ReadProtected),
         (Work::Compare { .. } | Work::CompareFront { .. }, _) => ends_comparing(work, code),
-        _ => clearing(work, Step::ClearStatus),
+        _ => stand(work, Place::Lost, Step::ClearStatus),
     }
 }
 
@@ -43,17 +38,17 @@ fn fault_found(work: Work, code: Code) -> Phase {
 fn status_found(work: Work, status: &Status) -> Phase {
     match status.state() {
         State::AppIdle | State::AppDetach => Phase::Over(Report::NotDfu),
-        State::DfuIdle => clearing(work, Step::AskState),
+        State::DfuIdle => stand(work, Place::Lost, Step::AskState),
         State::DownloadIdle | State::UploadIdle => cleared(work),
         State::Error => fault_found(work, status.code()),
-        _ => clearing(work, Step::ClearWait(status.poll_ms())),
+        _ => stand(work, Place::Lost, Step::ClearWait(status.poll_ms())),
     }
 }
 
 /// ABORT.
 pub(crate) fn on_abort(work: Work, heard: &Heard) -> Phase {
     match heard {
-        Heard::Acked | Heard::Stalled => clearing(work, Step::AskState),
+        Heard::Acked | Heard::Stalled => stand(work, Place::Lost, Step::AskState),
         _ => cleared(work),
     }
 }
@@ -62,16 +57,16 @@ pub(crate) fn on_abort(work: Work, heard: &Heard) -> Phase {
 pub(crate) fn on_ask_status(work: Work, heard: &Heard) -> Phase {
     match heard {
         Heard::Told(status) => status_found(work, status),
-        Heard::Stalled => clearing(work, Step::ClearWait(TOO_EARLY_MS)),
-        _ => clearing(work, Step::AskStatus),
+        Heard::Stalled => stand(work, Place::Lost, Step::ClearWait(TOO_EARLY_MS)),
+        _ => stand(work, Place::Lost, Step::AskStatus),
     }
 }
 
 /// A wait, while the device is cleared.
 pub(crate) fn on_clear_wait(work: Work, ms: u32, heard: &Heard) -> Phase {
     match heard {
-        Heard::Waited => clearing(work, Step::AskState),
-        _ => clearing(work, Step::ClearWait(ms)),
+        Heard::Waited => stand(work, Place::Lost, Step::AskState),
+        _ => stand(work, Place::Lost, Step::ClearWait(ms)),
     }
 }
 
@@ -84,7 +79,7 @@ impl Plan<'_> {
             State::DownloadSync | State::DownloadIdle | State::ManifestSync | State::UploadIdle =>
                 cleared(work),
             State::DownloadBusy | State::Manifest | State::ManifestWaitReset | State::Error => {
-                clearing(work, Step::AskStatus)
+                stand(work, Place::Lost, Step::AskStatus)
             }
         }
     }
@@ -93,8 +88,8 @@ impl Plan<'_> {
     pub(crate) fn on_ask_state(&self, work: Work, heard: &Heard) -> Phase {
         match heard {
             Heard::StateIs(state) => self.state_found(work, *state),
-            Heard::Stalled => clearing(work, Step::AskStatus),
-            _ => clearing(work, Step::AskState),
+            Heard::Stalled => stand(work, Place::Lost, Step::AskStatus),
+            _ => stand(work, Place::Lost, Step::AskState),
         }
     }
 }
