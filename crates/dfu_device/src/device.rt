@@ -105,8 +105,8 @@ impl<M: Medium> Device<M> {
     pub fn restart(&mut self)
         ensures { self.new ≡ powered_on self.old.config self.old.slots.medium }
     {
-        self.core.slots.reopen();
         self.core.mode = DeviceState::AppIdle;
+        self.core.slots.reopen();
     }
 
     /// Answers a setup with its body (USB DFU 1.1, appendix A). `out` is emptied first. If the

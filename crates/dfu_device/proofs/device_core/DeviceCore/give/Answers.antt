@@ -1,5 +1,5 @@
 use Rattle.std.proofs.Common.{◌≡◌, List, ℕ, min, refl, sym, ◌∙◌, ap, subst, arith, take, drop}
-use Rattle.dfu_slots.specs.Seen.{image_of}
+use Rattle.dfu_slots.specs.Seen.{image_of, spare_of, room_of}
 use Rattle.dfu_device.specs.declared.answer.Answer.TheVariants as answer
 use Rattle.dfu_device.specs.Stage.{status_of}
 use Rattle.dfu_device.specs.DeviceView.{profile}
@@ -27,4 +27,4 @@ returns-in-Status g c =
     (sym (front_stands sent.result asked c.min.result bytes c.args.out.now.items sent.new.self.items count
     c.status_in-bytes.ensures.size c.requires.out
     (sent.ensures.variant.1 (front_fits asked c.min.result bytes c.args.out.now.items count c.requires.out)) sent.ensures.ok))
-    (c.status_in-bytes.ensures.answers _ _ _ asked))
+    (c.status_in-bytes.ensures.answers (room_of w.slots) (spare_of w.slots) c.args.self.now.block.items asked))

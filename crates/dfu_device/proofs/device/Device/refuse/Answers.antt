@@ -1,0 +1,12 @@
+use Rattle.std.proofs.Common.{length}
+use Rattle.dfu_device.proofs.Carried.{filled, still_sound}
+use Rattle.dfu_device.proofs.device.Device.refuse.Goals as goal
+
+pub invariant_of-self-inside : goal.invariant_of-self-inside
+invariant_of-self-inside g c =
+    let d = c.self.inside.core in
+    let n = length d.block.items in
+    record {
+      sound = still_sound d.mode c.after_refusal-self-inside.result n d.slots d.sound
+          (c.after_refusal-self-inside.ensures.filled n d.slots (filled d.mode n d.slots d.sound));
+    }
