@@ -14,6 +14,7 @@ struct crew {
     int64_t came_ms;          /* when the last device came or ended */
     int worst;                /* the highest exit status so far, */
     unsigned flashed, failed; /* of so many devices */
+    uint16_t vendor, product; /* which they are for */
     bool is_json, is_out;     /* whether all records came to standard output */
 };
 

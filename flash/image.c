@@ -98,6 +98,11 @@ static int32_t take_suffix(struct image *image)
     return 0;
 }
 
+uint32_t image_crc(const struct image *image)
+{
+    return ~crc_of(image->bytes, image->is_dfuse ? image->length : image->payload);
+}
+
 int32_t image_make(struct image *image, const uint8_t *bytes, size_t length, uint16_t vendor, uint16_t product)
 {
     memset(image, 0, sizeof *image);

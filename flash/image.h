@@ -24,6 +24,9 @@ struct image {
    error. */
 int32_t image_read(struct image *image, const struct words *words);
 
+/* The CRC-32 of the payload, as zlib and gzip have it; with a DfuSe file of the whole file. */
+uint32_t image_crc(const struct image *image);
+
 /* Makes one of these bytes, with a suffix for a device. 0; a refusal of the host; or IMAGE_UNREAD if there is no memory. */
 int32_t image_make(struct image *image, const uint8_t *bytes, size_t length, uint16_t vendor, uint16_t product);
 

@@ -9,6 +9,7 @@
 #include "one.h"
 #include "platform.h"
 #include "record.h"
+#include "station.h"
 #include "status.h"
 #include "streams.h"
 
@@ -24,6 +25,8 @@ int main(int count, char **texts)
         return STATUS_WORDS;
     if (words.quiet)
         next_hush();
+    if (!station_begin(&words))
+        return record_none(STATUS_FILE, words.json);
     if (words.job == JOB_DEMO)
         return demo_run(&words);
     if (words.job != JOB_HELP && words.job != JOB_VERSION)

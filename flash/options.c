@@ -23,6 +23,8 @@ const struct option options[] = {
     {"address", required_argument, NULL, ADDRESS}, {"length", required_argument, NULL, LENGTH},
     {"no-leave", no_argument, NULL, NO_LEAVE},
     {"list", no_argument, NULL, LIST},             {"demo", no_argument, NULL, DEMO},             {"help", no_argument, NULL, HELP},
+    {"report", required_argument, NULL, REPORT},   {"ports", required_argument, NULL, PORTS},
+    {"count", required_argument, NULL, BOARDS},    {"retry", required_argument, NULL, RETRY},
     {"version", no_argument, NULL, VERSION},       {NULL, 0, NULL, 0},
 };
 /* clang-format on */

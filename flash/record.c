@@ -6,6 +6,7 @@
 #include "json.h"
 #include "next.h"
 #include "standard.h"
+#include "station.h"
 #include "status.h"
 
 #include <stddef.h>
@@ -32,6 +33,23 @@ void record_since(int64_t ms)
     each.began_ms = ms;
 }
 
+void record_of(const struct found *is)
+{
+    each.is = is;
+    each.began_ms = each.path == NULL ? clock_ms() : each.began_ms;
+}
+
+/* Whether it is known which device it is, and at which path. */
+static bool is_known(void)
+{
+    return each.is != NULL && (each.is->vendor != 0 || each.is->product != 0);
+}
+
+static const char *path_known(void)
+{
+    return each.path != NULL ? each.path : is_known() && each.is->path[0] != '\0' ? each.is->path : NULL;
+}
+
 static double each_seconds(void)
 {
     return (double)(clock_ms() - each.began_ms) / 1000;
@@ -47,10 +65,12 @@ static void begin(int status, const char *report)
     json_text("report", *say_mark != '\0' ? name : report);
 }
 
-static void end(const char *step)
+static void end(const char *path, const char *step)
 {
     if (step != NULL)
         json_text("next", step);
+    if (*say_mark == '\0')
+        station_json(path);
     if (each.path != NULL && each.log->name != NULL)
         json_text("log", each.log->name);
     if (each.path != NULL)
@@ -65,6 +85,8 @@ static void begin_line(void)
     if (each.path == NULL)
         return;
     printf("%s ", each.path);
+    if (station_port(each.path) != NULL)
+        say_text(stdout, "", station_port(each.path), " ");
     if (each.is->serial[0] != '\0')
         say_text(stdout, "serial ", each.is->serial, " ");
     printf("%.1f s ", each_seconds());
@@ -123,46 +145,50 @@ static void print_record(const struct session *session, const struct verdict *ve
     json_number("milliseconds", (uint64_t)(clock_ms() - session->began_ms));
     if (verdict->status == STATUS_DIFFERENT && session->odd_byte.is)
         print_odd(session);
-    end(step);
+    end(session->wire.device->path, step);
 }
 
 bool record_print(const struct session *session, const struct verdict *verdict, bool is_json)
 {
     const char *step;
+    bool is_added =
+        station_add(verdict->status, verdict->name, verdict->words, session->wire.device->path, &session->wire.device->is, each_seconds());
     advise_ended(session, verdict->name);
     step = next_of_end(verdict->name);
     if (is_json) {
         print_record(session, verdict, step);
-        return record_out();
+        return record_out() && is_added;
     }
     begin_line();
     printf("%s%s%s: %s\n", verdict->name, verdict->code != 0 ? " " : "", verdict->code != 0 ? code_name(verdict->code) : "",
            verdict->words);
-    return record_out();
+    return record_out() && is_added;
 }
 
 static void print_short(int status, const char *name, const char *words, const char *step)
 {
     begin(status, name);
     json_text("words", words);
-    if (each.path != NULL)
-        json_text("path", each.path);
-    if (each.path != NULL && each.is->serial[0] != '\0')
+    if (is_known())
+        printf(",\"vendor\":\"%04x\",\"product\":\"%04x\",\"release\":\"%04x\"", each.is->vendor, each.is->product, each.is->release);
+    if (path_known() != NULL)
+        json_text("path", path_known());
+    if (is_known() && each.is->serial[0] != '\0')
         json_text("serial", each.is->serial);
-    end(step);
+    end(path_known(), step);
 }
 
 /* The step comes behind the line that it is for. */
 static bool end_short(int status, const char *report, const char *words, const char *step, bool is_json)
 {
-    bool is_out;
+    bool is_out = station_add(status, report, words, path_known(), each.is, each_seconds());
     if (is_json)
         print_short(status, report, words, step);
     else {
         begin_line();
         printf("%s: %s\n", report, words);
     }
-    is_out = record_out();
+    is_out = record_out() && is_out;
     if (!is_json)
         next_say(step);
     return is_out;
@@ -196,6 +222,8 @@ int record_none(int status, bool is_json)
     for (size_t at = 0; at < sizeof nones / sizeof *nones; at++) {
         if (nones[at].status != status)
             continue;
+        if (is_silent && !station_add(status, nones[at].name, nones[at].words, path_known(), each.is, each_seconds()))
+            return STATUS_FILE;
         if (is_silent)
             next_say(next_of_end(nones[at].name));
         return (is_silent || record_short(status, nones[at].name, nones[at].words, is_json)) ? status : STATUS_FILE;

@@ -12,6 +12,9 @@
    begins with them. */
 void record_each(const char *path, const struct found *is, const struct log *log);
 
+/* Of one device: records of no session have what is known of it. */
+void record_of(const struct found *is);
+
 /* The seconds count from that moment (clock.h). */
 void record_since(int64_t ms);
 

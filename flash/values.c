@@ -110,6 +110,16 @@ bool value_timeout(const char *text, struct words *words)
     return is_count("--timeout takes seconds, from 1 to 1000000", text, MOST_SECONDS, &words->timeout);
 }
 
+bool value_boards(const char *text, struct words *words)
+{
+    return is_count("--count takes boards, from 1 to 1000000", text, MOST_SECONDS, &words->boards);
+}
+
+bool value_retry(const char *text, struct words *words)
+{
+    return is_count("--retry takes how often, from 1 to 100", text, 100, &words->retry);
+}
+
 bool value_wait(const char *text, struct words *words)
 {
     words->wait = true;

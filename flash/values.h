@@ -13,6 +13,8 @@ bool value_serial(const char *text, struct words *words);
 bool value_interface(const char *text, struct words *words);
 bool value_setting(const char *text, struct words *words);
 bool value_timeout(const char *text, struct words *words);
+bool value_boards(const char *text, struct words *words);
+bool value_retry(const char *text, struct words *words);
 bool value_transfer(const char *text, struct words *words);
 bool value_address(const char *text, struct words *words);
 bool value_length(const char *text, struct words *words);

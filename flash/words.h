@@ -27,23 +27,28 @@ struct words {
     bool has_limits;           /* --limits was given */
     uint32_t actions;
     uint16_t restarts;
-    uint16_t transfer;        /* --transfer-size, 0 if it wasn't given */
-    uint32_t timeout;         /* seconds of --timeout, 0 if it wasn't given */
-    bool wait;                /* --wait was given, */
-    uint32_t away_ms;         /* how long a device that left is waited for; 0: as ever */
-    uint32_t patience;        /* and for so many seconds; 0 is for ever */
-    bool has_address;         /* --address was given: DfuSe */
-    uint32_t address, length; /* and --length, 0 if it wasn't; */
-    bool is_to_end;           /* then an upload has all up to the end of the segment, as with -s */
-    bool stays;               /* --no-leave was given */
-    bool raw;                 /* --raw was given */
-    bool all;                 /* --all was given, */
-    const char *folder;       /* and --log; or NULL */
-    const struct bay *bay;    /* of one of several devices: where it is; else NULL */
+    uint16_t transfer;          /* --transfer-size, 0 if it wasn't given */
+    uint32_t timeout;           /* seconds of --timeout, 0 if it wasn't given */
+    bool wait;                  /* --wait was given, */
+    uint32_t away_ms;           /* how long a device that left is waited for; 0: as ever */
+    uint32_t patience;          /* and for so many seconds; 0 is for ever */
+    bool has_address;           /* --address was given: DfuSe */
+    uint32_t address, length;   /* and --length, 0 if it wasn't; */
+    bool is_to_end;             /* then an upload has all up to the end of the segment, as with -s */
+    bool stays;                 /* --no-leave was given */
+    bool raw;                   /* --raw was given */
+    bool all;                   /* --all was given, */
+    const char *folder;         /* and --log; or NULL */
+    const char *report, *ports; /* --report and --ports, or NULL */
+    uint32_t boards, retry;     /* --count and --retry, 0 if they weren't given */
+    const struct bay *bay;      /* of one of several devices: where it is; else NULL */
 };
 
 /* Reads the words into `words`. False if they aren't understood, which is then said on standard error. */
 bool words_read(struct words *words, int count, char **texts);
+
+/* Whether the options go together and with what is to be done; if not, why is said. */
+bool words_fit(const struct words *words);
 
 /* Says what isn't understood, and the word that it is about, which may be empty. Always false. */
 bool words_refuse(const char *what, const char *word);

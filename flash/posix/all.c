@@ -5,11 +5,13 @@
 #include "../bays.h"
 #include "../clock.h"
 #include "../crew.h"
+#include "../json.h"
 #include "../one.h"
 #include "../record.h"
 #include "../say.h"
 #include "../session.h"
 #include "../standard.h"
+#include "../station.h"
 #include "../status.h"
 #include "../stop.h"
 #include "../transport.h"
@@ -55,6 +57,8 @@ static int take_file(void)
         return say_file();
     if (refusal == IMAGE_WORDS)
         return STATUS_WORDS;
+    if (refusal == 0)
+        station_image(all.words, &all.image);
     if (refusal == 0 && !all.wanted.has_ids) {
         all.wanted.has_ids = all.wanted.is_of_file = true;
         all.wanted.vendor = all.image.vendor;
@@ -65,6 +69,12 @@ static int take_file(void)
     if (refusal != 0)
         return record_refused(refusal, all.words->json) ? STATUS_REFUSED : STATUS_FILE;
     return STATUS_DONE;
+}
+
+/* With --count: whether as many are flashed, or at work, as there are to be. */
+static bool is_enough(void)
+{
+    return all.words->boards != 0 && all.crew.flashed + (unsigned)all.crew.count >= all.words->boards;
 }
 
 /* Looks at the bus, and begins with those that are another device than before. 0, or an error of libusb, which is then said. */
@@ -80,7 +90,7 @@ static int look(void)
     bays_miss(&all.bays, ports, count, now_ms);
     for (int at = 0; at < count; at++) {
         struct bay *bay = bays_see(&all.bays, &ports[at], now_ms);
-        if (bay != NULL)
+        if (bay != NULL && !is_enough())
             crew_begin(&all.crew, all.words, &all.image, bay);
     }
     return 0;
@@ -92,7 +102,7 @@ static bool goes_on(void)
     int64_t patience_ms = (int64_t)all.words->patience * 1000;
     if (all.crew.count > 0)
         return true;
-    if (all.is_stopped || !all.words->wait)
+    if (all.is_stopped || !all.words->wait || is_enough())
         return false;
     return patience_ms == 0 || clock_ms() - all.crew.came_ms < patience_ms;
 }
@@ -133,8 +143,30 @@ static int say_none(void)
     return record_none(STATUS_NO_DEVICE, all.words->json);
 }
 
+/* With --report or --count: a record of all of them. */
+static void print_summary(int64_t began_ms)
+{
+    char words[64];
+    double seconds = (double)(clock_ms() - began_ms) / 1000;
+    if (all.words->report == NULL && all.words->boards == 0)
+        return;
+    snprintf(words, sizeof words, "%u flashed, %u not", all.crew.flashed, all.crew.failed);
+    if (!station_add(all.crew.worst, "summary", words, NULL, NULL, seconds))
+        all.crew.is_out = false;
+    if (!all.words->json)
+        return;
+    printf("{\"status\":%d,\"report\":\"summary\"", all.crew.worst);
+    json_text("words", words);
+    json_number("flashed", all.crew.flashed);
+    json_number("failed", all.crew.failed);
+    station_json(NULL);
+    printf(",\"seconds\":%.3f}\n", seconds);
+    all.crew.is_out = record_out() && all.crew.is_out;
+}
+
 int all_run(const struct words *words)
 {
+    int64_t began_ms = clock_ms();
     int status;
     all.words = words;
     status = has_folder() ? take_file() : say_file();
@@ -142,6 +174,8 @@ int all_run(const struct words *words)
         return status;
     stop_catch(0);
     crew_make(&all.crew, words);
+    all.crew.vendor = all.wanted.vendor;
+    all.crew.product = all.wanted.product;
     if (look() != 0)
         return record_none(STATUS_NO_DEVICE, words->json);
     if (words->wait && !words->quiet)
@@ -149,6 +183,7 @@ int all_run(const struct words *words)
     loop();
     if (all.crew.flashed + all.crew.failed == 0)
         return say_none();
+    print_summary(began_ms);
     if (!words->quiet)
         fprintf(stderr, "dfu-flash: %u flashed, %u not\n", all.crew.flashed, all.crew.failed);
     return all.crew.is_out ? all.crew.worst : STATUS_FILE;

@@ -57,13 +57,15 @@ void crew_begin(struct crew *crew, const struct words *words, struct image *imag
 }
 
 /* The record of one that could print none. */
-static void print_lost(const struct worker *worker, int status, const char *why, bool is_json)
+static void print_lost(const struct crew *crew, const struct worker *worker, int status, const char *why)
 {
-    static const struct found unread;
+    static struct found unread;
     static const struct log none;
+    unread.vendor = crew->vendor;
+    unread.product = crew->product;
     record_each(worker->bay->path, &unread, &none);
     record_since(worker->began_ms);
-    record_short(status, status == STATUS_GONE ? "silent" : "broken", why, is_json);
+    record_short(status, status == STATUS_GONE ? "silent" : "broken", why, crew->is_json);
 }
 
 static void end(struct crew *crew, struct worker *worker, int status, const char *why)
@@ -71,7 +73,7 @@ static void end(struct crew *crew, struct worker *worker, int status, const char
     bool is_same = status == BAY_SAME;
     rows_clear(&rows);
     if (why != NULL)
-        print_lost(worker, status, why, crew->is_json);
+        print_lost(crew, worker, status, why);
     else if (!is_same)
         puts(worker->record);
     else if (worker->bay->is_late)

@@ -1,0 +1,16 @@
+/* SPDX-License-Identifier: MIT OR Apache-2.0 */
+/* A file to which whole lines are added, by several processes too. */
+#ifndef DFU_FLASH_APPEND_H
+#define DFU_FLASH_APPEND_H
+
+#include <stdbool.h>
+#include <stddef.h>
+
+/* Opens a regular file, or makes it, to be added to; no link is followed. The front of what it has is written to `front`, with a NUL. A
+   descriptor that a process gets that is begun from here on; -1 for the reason that is in `why`. */
+int append_open(const char *name, char *front, size_t room, const char **why);
+
+/* Adds a line, whole, in one call of the system. */
+bool append_line(int file, const char *line, size_t length);
+
+#endif

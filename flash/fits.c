@@ -1,0 +1,69 @@
+/* SPDX-License-Identifier: MIT OR Apache-2.0 */
+/* Which options go together. */
+#include "words.h"
+
+#include <stddef.h>
+
+/* Whether the options go with --all; each device is at work by itself, so that none is named. */
+static bool is_fit_for_all(const struct words *words)
+{
+    if (words->folder != NULL && !words->all)
+        return words_refuse("--log goes with --all alone; of one device --verbose=FILE makes a log", "");
+    if (!words->all)
+        return true;
+    if (words->job != JOB_DOWNLOAD || words->dry_run || words->path != NULL || words->serial != NULL)
+        return words_refuse("--all goes with a FILE, and with no --path, --serial or --dry-run", "");
+    return (!words->verbose && words->log == NULL) || words_refuse("--all makes logs by --log FOLDER, and not by --verbose", "");
+}
+
+/* Whether what is for DfuSe goes with the rest. */
+static bool is_fit_for_dfuse(const struct words *words)
+{
+    bool is_upload = words->job == JOB_UPLOAD, is_download = words->job == JOB_DOWNLOAD;
+    if (words->has_address && !is_upload && !is_download)
+        return words_refuse("--address goes with a FILE or with --upload", "");
+    if (words->has_address && !words->verify)
+        return words_refuse("--no-verify doesn't go with --address: what is written there is read back", "");
+    if (words->has_address && words->transfer != 0)
+        return words_refuse("--transfer-size doesn't go with --address: a DfuSe device counts in blocks of its own size", "");
+    if (words->length != 0 && (!is_upload || !words->has_address))
+        return words_refuse("--length goes with --upload and --address", "");
+    if (is_upload && words->has_address && words->length == 0 && !words->is_to_end)
+        return words_refuse("--upload with --address takes --length", "");
+    /* -s of an upload says to stay too; what a download has is seen when its file is read. */
+    return !words->stays || words->has_address || is_download || words_refuse("--no-leave goes with --address, or with a DfuSe file", "");
+}
+
+/* Whether what is for a station goes with the rest. */
+static bool is_fit_for_station(const struct words *words)
+{
+    bool is_session = words->job == JOB_DOWNLOAD || words->job == JOB_UPLOAD || words->job == JOB_DETACH;
+    if ((words->report != NULL || words->ports != NULL) && (!is_session || words->dry_run))
+        return words_refuse("--report and --ports go with a FILE, --upload or --detach, and with no --dry-run", "");
+    if (words->boards != 0 && !words->all)
+        return words_refuse("--count goes with --all", "");
+    return words->retry == 0 || (words->job == JOB_DOWNLOAD && !words->dry_run)
+           || words_refuse("--retry goes with a FILE that is flashed", "");
+}
+
+/* Whether the options go with what is to be done. */
+bool words_fit(const struct words *words)
+{
+    bool has_session = words->has_limits || words->dry_run || words->transfer != 0;
+    bool has_trace = words->verbose || words->log != NULL;
+    bool has_choice = words->has_ids || words->path != NULL || words->serial != NULL || words->interface >= 0 || words->alternate >= 0
+                      || words->setting != NULL;
+    if (words->force && words->job != JOB_UPLOAD)
+        return words_refuse("--force goes with --upload alone", "");
+    if (!words->verify && words->job != JOB_DOWNLOAD)
+        return words_refuse("--no-verify goes with a download alone", "");
+    if (words->raw && words->job != JOB_DOWNLOAD)
+        return words_refuse("--raw goes with a FILE that is downloaded", "");
+    if (words->job == JOB_LIST && (has_session || words->quiet || has_trace || words->wait || words->timeout != 0))
+        return words_refuse("--list goes with what chooses devices, and with --json, alone", "");
+    if (words->job == JOB_DEMO && (has_session || has_choice || has_trace || words->wait || words->timeout != 0 || words->all))
+        return words_refuse("--demo goes with a FILE, --json and --quiet alone: its board is simulated", "");
+    if (words->job == JOB_DETACH && has_session)
+        return words_refuse("--detach goes with no --limits, --dry-run or --transfer-size", "");
+    return is_fit_for_station(words) && is_fit_for_dfuse(words) && is_fit_for_all(words);
+}

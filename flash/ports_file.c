@@ -1,0 +1,90 @@
+/* SPDX-License-Identifier: MIT OR Apache-2.0 */
+/* A line is a path as --list shows it, = and a name, as `3-1.4 = bay 7`, with blanks around each if you like. A line that is empty or begins
+   with # is none. */
+#include "ports_file.h"
+#include "files.h"
+#include "find.h"
+#include "say.h"
+
+#include <stdio.h>
+#include <stdlib.h>
+#include <string.h>
+
+#define BLANKS " \t\r"
+
+static struct {
+    char *path, *name;
+} * ports;
+static size_t count;
+
+/* Takes the blanks away from both ends. */
+static char *trim(char *text)
+{
+    size_t length;
+    text += strspn(text, BLANKS);
+    for (length = strlen(text); length > 0 && strchr(BLANKS, text[length - 1]) != NULL; length--)
+        text[length - 1] = '\0';
+    return text;
+}
+
+static bool fail(const char *file, size_t line, const char *why)
+{
+    say_text(stderr, "dfu-flash: ", file, "");
+    fprintf(stderr, ", line %zu: %s\n", line, why);
+    return false;
+}
+
+static bool take_line(const char *file, size_t number, char *line)
+{
+    char *sign = strchr(line, '='), *path;
+    void *more;
+    line = trim(line);
+    if (*line == '\0' || *line == '#')
+        return true;
+    if (sign == NULL)
+        return fail(file, number, "a line is a path, = and a name, as 3-1.4 = bay 7");
+    *sign = '\0';
+    path = trim(line);
+    if (!has_ports(path) || path[strspn(path, "0123456789-.")] != '\0' || strlen(path) >= PATH_ROOM)
+        return fail(file, number, "what is before = is no path, as 3-1.4");
+    if (*trim(sign + 1) == '\0')
+        return fail(file, number, "there is no name after =");
+    if (ports_file_name(path) != NULL)
+        return fail(file, number, "this path has a name already");
+    more = realloc(ports, (count + 1) * sizeof *ports);
+    if (more == NULL)
+        return fail(file, number, "there is no memory");
+    ports = more;
+    ports[count].path = path;
+    ports[count++].name = trim(sign + 1);
+    return true;
+}
+
+bool ports_file_read(const char *file)
+{
+    uint8_t *bytes;
+    size_t length, number = 1;
+    char *line;
+    if (!file_read(file, &bytes, &length))
+        return false;
+    bytes[length] = '\0'; /* there is room behind a file (files.h) */
+    if (strlen((const char *)bytes) != length)
+        return fail(file, 1, "there is a NUL in it");
+    for (line = (char *)bytes; line != NULL; number++) {
+        char *end = strchr(line, '\n');
+        if (end != NULL)
+            *end++ = '\0';
+        if (!take_line(file, number, line))
+            return false;
+        line = end;
+    }
+    return true;
+}
+
+const char *ports_file_name(const char *path)
+{
+    for (size_t at = 0; at < count; at++)
+        if (strcmp(ports[at].path, path) == 0)
+            return ports[at].name;
+    return NULL;
+}

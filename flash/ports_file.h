@@ -1,0 +1,14 @@
+/* SPDX-License-Identifier: MIT OR Apache-2.0 */
+/* Names for paths, of the file of --ports. */
+#ifndef DFU_FLASH_PORTS_FILE_H
+#define DFU_FLASH_PORTS_FILE_H
+
+#include <stdbool.h>
+
+/* Reads the file. False if it can't be read, or a line isn't understood, which is then said. */
+bool ports_file_read(const char *file);
+
+/* The name of a path; NULL if the file has none. */
+const char *ports_file_name(const char *path);
+
+#endif

@@ -1,0 +1,47 @@
+/* SPDX-License-Identifier: MIT OR Apache-2.0 */
+/* O_APPEND has the system put each write at the end, whoever else writes; a line is one write, so that lines don't mix. */
+#define _POSIX_C_SOURCE 200809L
+#include "../append.h"
+
+#include <errno.h>
+#include <fcntl.h>
+#include <string.h>
+#include <sys/stat.h>
+#include <unistd.h>
+
+/* A line that a loss of power has broken off is ended, so that the next one begins anew. */
+static bool end_last(int file, off_t size)
+{
+    char last = '\n';
+    return size == 0 || (pread(file, &last, 1, size - 1) == 1 && (last == '\n' || append_line(file, "\n", 1)));
+}
+
+int append_open(const char *name, char *front, size_t room, const char **why)
+{
+    struct stat is;
+    int file = open(name, O_RDWR | O_APPEND | O_CREAT | O_NOFOLLOW | O_NOCTTY | O_NONBLOCK, 0666);
+    ssize_t count = -1;
+    *why = strerror(errno);
+    if (file < 0)
+        return -1;
+    if (fstat(file, &is) == 0 && !S_ISREG(is.st_mode))
+        *why = "what is there is no regular file";
+    else {
+        count = pread(file, front, room - 1, 0);
+        *why = strerror(errno);
+    }
+    if (count < 0) {
+        close(file);
+        return -1;
+    }
+    front[count] = '\0';
+    return file;
+}
+
+bool append_line(int file, const char *line, size_t length)
+{
+    struct stat is;
+    if (length > 1 && (fstat(file, &is) != 0 || !end_last(file, is.st_size)))
+        return false;
+    return write(file, line, length) == (ssize_t)length;
+}

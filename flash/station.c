@@ -1,0 +1,185 @@
+/* SPDX-License-Identifier: MIT OR Apache-2.0 */
+/* Lines of the report: JSON, or CSV (RFC 4180) if the file's name ends in .csv. One that would be no line of such a report isn't added to:
+   a file that is something else stays as it is. */
+#include "station.h"
+#include "append.h"
+#include "json.h"
+#include "ports_file.h"
+#include "say.h"
+#include "text.h"
+
+#include <inttypes.h>
+#include <stdio.h>
+#include <string.h>
+#include <time.h>
+
+#define LINE_ROOM 16384
+
+static const char header[] = "time,status,report,words,image,crc32,vendor,product,release,serial,path,port,seconds\n";
+static const char json_front[] = "{\"time\":\"";
+
+static struct {
+    int file;
+    bool is_open, is_csv, has_image, has_failed;
+    const char *image;
+    uint32_t crc;
+} station;
+
+/* A line as it grows; one that has no more room is cut, and isn't written. */
+struct line {
+    char text[LINE_ROOM];
+    size_t length;
+    bool is_full;
+};
+
+static void put(struct line *line, const char *bytes, size_t length)
+{
+    line->is_full = line->is_full || length >= sizeof line->text - line->length;
+    if (line->is_full)
+        return;
+    memcpy(line->text + line->length, bytes, length);
+    line->length += length;
+}
+
+/* A byte that has no place in a line, as \xNN; in JSON the backslash is escaped once more. */
+static void put_escaped(struct line *line, unsigned char byte)
+{
+    char digits[8];
+    int length = snprintf(digits, sizeof digits, station.is_csv ? "\\x%02x" : "\\\\x%02x", byte);
+    put(line, digits, (size_t)length);
+}
+
+static void put_text(struct line *line, const char *text)
+{
+    put(line, "\"", 1);
+    while (*text != '\0') {
+        uint32_t character = 0;
+        size_t length = text_character(text, &character);
+        if (length == 0 || text_is_control(character))
+            for (size_t at = 0; at < (length > 0 ? length : 1); at++)
+                put_escaped(line, (unsigned char)text[at]);
+        else if (*text == '"')
+            put(line, station.is_csv ? "\"\"" : "\\\"", 2);
+        else if (*text == '\\' && !station.is_csv)
+            put(line, "\\\\", 2);
+        else
+            put(line, text, length);
+        text += length > 0 ? length : 1;
+    }
+    put(line, "\"", 1);
+}
+
+/* One member, after a comma but for the first; with CSV one that isn't known is an empty column. */
+static void put_member(struct line *line, const char *name, const char *text, bool is_number)
+{
+    bool is_first = line->length == 0 || line->text[line->length - 1] == '{';
+    if (text == NULL && !station.is_csv)
+        return;
+    if (!is_first)
+        put(line, ",", 1);
+    if (!station.is_csv) {
+        put_text(line, name);
+        put(line, ":", 1);
+    }
+    if (text != NULL && is_number)
+        put(line, text, strlen(text));
+    else if (text != NULL)
+        put_text(line, text);
+}
+
+static void now(char text[32])
+{
+    time_t seconds = time(NULL);
+    const struct tm *utc = gmtime(&seconds);
+    if (utc == NULL || strftime(text, 32, "%Y-%m-%dT%H:%M:%SZ", utc) == 0)
+        text[0] = '\0';
+}
+
+/* Whether the report is one that is added to: it is new, or its front is that of one. */
+static bool open_report(const char *name)
+{
+    char front[sizeof header];
+    const char *why, *end = strrchr(name, '.');
+    station.is_csv = end != NULL && (strcmp(end, ".csv") == 0 || strcmp(end, ".CSV") == 0);
+    station.file = append_open(name, front, sizeof front, &why);
+    if (station.file >= 0 && front[0] != '\0'
+        && strncmp(front, station.is_csv ? header : json_front, strlen(station.is_csv ? header : json_front)) != 0) {
+        station.file = -1;
+        why = "what is there is no report of this program, and stays as it is";
+    }
+    if (station.file < 0) {
+        say_text(stderr, "dfu-flash: ", name, " can't be the report: ");
+        fprintf(stderr, "%s\n", why);
+        return false;
+    }
+    station.is_open = true;
+    return front[0] != '\0' || !station.is_csv || append_line(station.file, header, strlen(header));
+}
+
+bool station_begin(const struct words *words)
+{
+    return (words->ports == NULL || ports_file_read(words->ports)) && (words->report == NULL || open_report(words->report));
+}
+
+void station_image(const struct words *words, const struct image *image)
+{
+    station.has_image = true;
+    station.image = words->file;
+    station.crc = image_crc(image);
+}
+
+const char *station_port(const char *path)
+{
+    return path == NULL ? NULL : ports_file_name(path);
+}
+
+void station_json(const char *path)
+{
+    char time[32];
+    now(time);
+    json_text("time", time);
+    if (station_port(path) != NULL)
+        json_text("port", station_port(path));
+    if (!station.has_image)
+        return;
+    if (station.image != NULL)
+        json_text("image", station.image);
+    json_hex("crc32", station.crc, 8);
+}
+
+bool station_add(int status, const char *report, const char *words, const char *path, const struct found *is, double seconds)
+{
+    struct line line = {.length = 0};
+    char time[32], number[16], crc[9], ids[3][8] = {"", "", ""}, took[32];
+    bool is_known = is != NULL && (is->vendor != 0 || is->product != 0);
+    if (!station.is_open)
+        return true;
+    now(time);
+    snprintf(number, sizeof number, "%d", status);
+    snprintf(crc, sizeof crc, "%08" PRIx32, station.crc);
+    snprintf(took, sizeof took, "%.3f", seconds);
+    for (int at = 0; is_known && at < 3; at++)
+        snprintf(ids[at], sizeof ids[at], "%04x", at == 0 ? is->vendor : at == 1 ? is->product : is->release);
+    if (!station.is_csv)
+        put(&line, "{", 1);
+    put_member(&line, "time", time, false);
+    put_member(&line, "status", number, true);
+    put_member(&line, "report", report, false);
+    put_member(&line, "words", words, false);
+    put_member(&line, "image", station.has_image ? station.image : NULL, false);
+    put_member(&line, "crc32", station.has_image ? crc : NULL, false);
+    put_member(&line, "vendor", is_known ? ids[0] : NULL, false);
+    put_member(&line, "product", is_known ? ids[1] : NULL, false);
+    put_member(&line, "release", is_known ? ids[2] : NULL, false);
+    put_member(&line, "serial", is != NULL && is->serial[0] != '\0' ? is->serial : NULL, false);
+    put_member(&line, "path", path, false);
+    put_member(&line, "port", station_port(path), false);
+    put_member(&line, "seconds", took, true);
+    put(&line, station.is_csv ? "\n" : "}\n", station.is_csv ? 1 : 2);
+    if (!line.is_full && append_line(station.file, line.text, line.length))
+        return true;
+    if (!station.has_failed)
+        fputs("dfu-flash: the report can't be written\n", stderr);
+    station.has_failed = true;
+    return false;
+}

@@ -1,0 +1,29 @@
+/* SPDX-License-Identifier: MIT OR Apache-2.0 */
+/* What a record has for an audit: when, which file with which check sum, and at which bay; and the report of --report, a line for each
+   board. */
+#ifndef DFU_FLASH_STATION_H
+#define DFU_FLASH_STATION_H
+
+#include "find.h"
+#include "image.h"
+#include "words.h"
+
+#include <stdbool.h>
+#include <stdint.h>
+
+/* Opens what --report and --ports name. False if one can't be used, which is then said. */
+bool station_begin(const struct words *words);
+
+/* The image of the records from here on. */
+void station_image(const struct words *words, const struct image *image);
+
+/* The name of a path by --ports; NULL if it has none. */
+const char *station_port(const char *path);
+
+/* Prints these as members of a record in JSON. */
+void station_json(const char *path);
+
+/* A line of the report: how a board ended. A path or a device that isn't known is NULL. False if it can't be written, which is said. */
+bool station_add(int status, const char *report, const char *words, const char *path, const struct found *is, double seconds);
+
+#endif

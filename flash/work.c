@@ -1,0 +1,123 @@
+/* SPDX-License-Identifier: MIT OR Apache-2.0 */
+/* The session of a device that was found: what the words ask of it, its beginning, its run and what is said of its end. */
+#include "work.h"
+#include "advice.h"
+#include "clock.h"
+#include "device.h"
+#include "files.h"
+#include "next.h"
+#include "record.h"
+#include "say.h"
+#include "standard.h"
+#include "status.h"
+#include "stop.h"
+
+#include <stdio.h>
+
+int work_refused(const struct session *session, const struct words *words, int32_t refusal)
+{
+    advise_refused(session, refusal);
+    return record_refused(refusal, words->json) ? STATUS_REFUSED : STATUS_FILE;
+}
+
+/* For which device the file has to be: the one that was found; or, if the identifiers of both modes were given, that of run-time
+   mode. */
+static struct dfu_ids target(const struct session *session, const struct words *words)
+{
+    struct dfu_ids ids = {session->wire.device->is.release, session->wire.device->is.product, session->wire.device->is.vendor};
+    if (words->has_dfu_ids && words->vendor != ANY_ID)
+        ids.vendor = words->vendor;
+    if (words->has_dfu_ids && words->product != ANY_ID)
+        ids.product = words->product;
+    return ids;
+}
+
+void work_ask(struct session *session, const struct words *words)
+{
+    session->is_upload = words->job == JOB_UPLOAD;
+    session->wants_verified = words->verify;
+    session->ids = target(session, words);
+    session->has_limits = words->has_limits;
+    session->actions = words->actions;
+    session->restarts = words->restarts;
+    session->transfer = words->transfer;
+    session->dfuse.has_address = words->has_address;
+    session->dfuse.stays = words->stays;
+    session->dfuse.address = words->address;
+    session->dfuse.length = words->length;
+    session->wire.trace.is_on = words->verbose || words->log != NULL;
+}
+
+/* Opens the device; from here on signals and --timeout end what is done with it. */
+int work_begin(struct session *session, const struct words *words)
+{
+    int error;
+    if (session->wire.trace.log.file == NULL && !log_open(&session->wire.trace.log, words->log))
+        return record_none(STATUS_FILE, words->json);
+    error = device_open(session->wire.device);
+    if (error != 0) {
+        session->wire.device->is.access = error;
+        return record_none(say_no_access(&session->wire.device->is), words->json);
+    }
+    stop_catch(words->timeout);
+    session->began_ms = clock_ms();
+    return STATUS_DONE;
+}
+
+int work_print(const struct session *session, const struct words *words, const struct verdict *verdict)
+{
+    bool is_out = record_print(session, verdict, words->json);
+    if (verdict->code != 0 && !words->json && !words->quiet)
+        fprintf(stderr, "dfu-flash: %s: %s\n", code_name(verdict->code), code_words(verdict->code));
+    if (!words->json)
+        next_say(next_of_end(verdict->name));
+    return is_out ? verdict->status : STATUS_FILE;
+}
+
+/* Makes the file of an upload. */
+static bool make_file(struct session *session, const struct words *words)
+{
+    if (!file_make(words->file, words->force, session->kept, (size_t)session->host.kept))
+        return false;
+    session->made = words->file;
+    if (!words->quiet) {
+        say_text(stderr, "dfu-flash: ", words->file, "");
+        fprintf(stderr, " has its %llu bytes\n", (unsigned long long)session->host.kept);
+    }
+    return true;
+}
+
+/* With --retry a device that went or fell silent has another session, and one record of the last. */
+static bool is_tried_again(struct session *session, const struct words *words, const struct verdict *verdict)
+{
+    bool is_lost = session->end == END_GONE || session->end == END_SILENT;
+    if (!is_lost || session->tries >= words->retry || stop_cause != STOP_NONE)
+        return false;
+    session->tries++;
+    if (!words->quiet)
+        fprintf(stderr, "%sdfu-flash: %s: %s; it is tried again, %u of %u\n", say_mark, verdict->name, verdict->words,
+                (unsigned)session->tries, (unsigned)words->retry);
+    return true;
+}
+
+int work_run(struct session *session, const struct words *words, enum progress_style style)
+{
+    struct verdict verdict;
+    bool is_whole;
+    int status = work_begin(session, words);
+    if (status != STATUS_DONE)
+        return status;
+    progress_begin(&session->progress, style, session->payload_length);
+    session_run(session);
+    stop_no_more();
+    progress_end(&session->progress);
+    if (session->end == END_REFUSED)
+        return work_refused(session, words, session->refusal);
+    verdict = verdict_of(session);
+    is_whole = verdict.status == STATUS_DONE || (verdict.status == STATUS_UNRESET && session->is_fetched);
+    if (is_tried_again(session, words, &verdict))
+        return WORK_AGAIN;
+    if (session->goal == GOAL_UPLOAD && is_whole && !make_file(session, words))
+        return record_none(STATUS_FILE, words->json);
+    return work_print(session, words, &verdict);
+}

@@ -1,0 +1,89 @@
+# Rows of tests/flash: what a station needs: records with time, file and check sum, --report, --ports, --retry and --count.
+# shellcheck shell=sh disable=SC2034,SC2154
+
+# Records have when, which file, and its CRC-32, as gzip has it behind a file.
+crc=$(gzip -c new | tail -c 8 | od -An -tx4 -N4 | tr -d ' ')
+time='20[0-9][0-9]-[01][0-9]-[0-3][0-9]T[0-2][0-9]:[0-5][0-9]:[0-6][0-9]Z'
+row 0 new '{"status":0,"report":"verified",' '' --json new.dfu
+expect 'a record' grep -q "\"time\":\"$time\",\"image\":\"new.dfu\",\"crc32\":\"$crc\"}\$" out
+row 0 new '{"status":0,"report":"verified",' '' --json --device 1209:0001 new
+expect 'a raw image has the same' grep -q "\"image\":\"new\",\"crc32\":\"$crc\"}\$" out
+row 5 old '{"status":5,"report":"no-access",' USB_DENIED=3 --json new.dfu
+expect 'no access: which device' grep -q '"vendor":"1209","product":"0001","release":"0100","path":"1-1",.*"crc32":' out
+row 4 old '{"status":4,' USB_DEVICES=0 --json new.dfu
+expect 'no device: none is named' test "$(grep -c '"vendor"' out)" -eq 0
+
+# The report: made with its header, and added to.
+header=time,status,report,words,image,crc32,vendor,product,release,serial,path,port,seconds
+row 0 new 'verified: ' '' --report report.csv new.dfu
+row 9 - 'different: ' 'USB_DEVICE=uboot USB_STORE=raw' --report report.csv new.dfu
+row 4 - '' USB_DEVICES=0 --report report.csv new.dfu
+row 1 - 'BadCrc: ' '' --report report.csv damaged.dfu
+row 0 old 'uploaded: ' 'USB_SERIAL=a\u0022,b\u0007' --report report.csv --upload reported
+expect 'one header' test "$(head -n 1 report.csv)-$(grep -c '^time,' report.csv)-$(wc -l < report.csv)" = "$header-1-6"
+expect 'a line' grep -q "^\"$time\",0,\"verified\",\"after a reset .*\",\"new.dfu\",\"$crc\",\"1209\",\"0001\",\"0100\",\"F1\",\"1-1\",,[0-9.]*\$" \
+    report.csv
+expect 'the rest' test "$(cut -d , -f 2,3 report.csv | tail -n +2 | tr '\n' ' ')" = '0,"verified" 9,"different" 4,"none" 1,"BadCrc" 0,"uploaded" '
+expect 'a serial number that others chose' grep -qF ',"a"",b\x07","1-1",' report.csv
+row 0 new 'verified: ' '' --report report.json new.dfu
+row 5 - '' USB_DENIED=3 --report report.json new.dfu
+if command -v python3 > /dev/null; then
+    expect 'records' python3 -c 'import json
+r = [json.loads(line) for line in open("report.json")]
+assert [x["status"] for x in r] == [0, 5] and all(x["vendor"] == "1209" and x["image"] == "new.dfu" for x in r), r
+assert r[0]["serial"] == "F1" and "serial" not in r[1] and isinstance(r[0]["seconds"], float), r'
+    expect 'columns' python3 -c 'import csv
+r = list(csv.DictReader(open("report.csv", newline="")))
+assert len(r) == 5 and r[4]["serial"] == "a\",b\\x07" and r[0]["port"] == "", r'
+fi
+printf '{"time":"broken off' > torn.json
+row 0 new 'verified: ' '' --report torn.json new.dfu
+expect 'a line that was broken off is ended' test "$(wc -l < torn.json)-$(tail -n 1 torn.json | cut -c 1-9)" = '2-{"time":"'
+# What is no report stays as it is, and nothing is sent.
+printf 'mine\n' > mine.csv
+cp mine.csv mine.json
+ln -s report.csv link.csv
+ln -s nothing dangling.csv
+mkdir folder.csv
+mkfifo pipe.json
+for name in mine.csv mine.json link.csv dangling.csv folder.csv pipe.json /dev/null /dev/full nowhere/report.csv new.dfu; do
+    row 3 - '' '' --report "$name" new.dfu
+    says "dfu-flash: $name can't be the report: "
+    expect "--report $name: nothing is sent" is_silent
+done
+expect 'mine' test "$(cat mine.csv mine.json | tr '\n' ' ')" = 'mine mine '
+expect 'no file behind a link' test ! -e nothing
+row 3 - '' '' --report report.json.csv --ports nowhere new.dfu
+for words in '--report= new.dfu' '--ports= new.dfu' '--list --report r' '--list --ports p' '--dry-run --report r new.dfu' '--count 2 new.dfu' \
+    '--count 0 --all new.dfu' '--count x --all new.dfu' '--retry 0 new.dfu' '--retry 101 new.dfu' '--retry -1 new.dfu' '--retry 2 --list' \
+    '--retry 2 --upload never' '--retry 1 --detach' '--demo --report r'; do
+    # shellcheck disable=SC2086
+    row 2 - '' '' $words
+done
+expect 'no report' test ! -e r
+
+# Names for ports.
+printf '# the bench\n\n 1-1 = bay 7 \r\n1-2=left\n' > ports
+row 0 new '{"status":0,' '' --json --ports ports new.dfu
+expect 'a record has it' grep -q '"port":"bay 7",' out
+row 0 new 'verified: ' '' --ports ports --report ports.csv new.dfu
+expect 'so has the report' grep -q ',"1-1","bay 7",' ports.csv
+for line in '1-1' 'bay 7 = 1-1' '1 = bus' '1-1 =' '= x' '1-1 = a|1-1 = b' '1-x = a' "$(head -c 80 /dev/zero | tr '\0' 1)-1 = a"; do
+    printf '%s\n' "$line" | tr '|' '\n' > wrong-ports
+    row 3 - '' '' --ports wrong-ports new.dfu
+    says 'wrong-ports, line '
+    expect "$line: nothing is sent" is_silent
+done
+
+# A board that left and is back later is tried again; one that stays away is given up, with one record.
+fate='leave 5'
+row 10 - 'gone: ' 'USB_AWAY=220' new.dfu
+row 0 new 'verified: ' 'USB_AWAY=220' --retry 2 --report retry.csv new.dfu
+says 'dfu-flash: gone: the device left and did not come back; it may have the old image, the new one or neither; it is tried again, 1 of 2'
+expect 'one record' test "$(wc -l < retry.csv)-$(wc -l < out)" = 2-1
+fate=
+row 1 old 'WrongTarget: ' USB_START=app --retry 3 --device 1209:0001 other.dfu
+expect 'what is refused is not tried again' test "$(grep -c 'tried again' err)" -eq 0
+
+# Several boards, with a report in which no two lines mix, and an end after so many.
+[ -n "${NO_ALL-}" ] || . "$top/tests/usb/station_all.sh"

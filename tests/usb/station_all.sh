@@ -1,0 +1,41 @@
+# Rows of tests/flash: a station with several boards. It has read station.sh.
+# shellcheck shell=sh disable=SC2034,SC2154
+# shellcheck source=tests/usb/all_boards.sh
+. "$top/tests/usb/all_boards.sh"
+no_boards
+for port in 1 2 3 4 5 6 7 8; do
+    board "1-$port" "USB_SERIAL=F$port"
+done
+board 1-9 USB_DENIED=3
+board 1-10 'USB_FATE=kill 6' USB_SERIAL=F10
+printf '1-3 = bay 3\n' > ports
+all --json --ports ports --report all.csv new.dfu
+expect "the highest status: $code" test "$code" -eq 14
+expect 'a line for each, one for all, and the header' test "$(wc -l < all.csv)" -eq 12
+expect 'each line is whole' test "$(grep -c "^\"$time\",[0-9]*,\"[a-z-]*\",\".*,[0-9.]*\$" all.csv)" -eq 11
+expect 'one that was killed has its identifiers' grep -q ',14,"broken",.*,"1209","0001",.*,"1-10",,' all.csv
+expect 'so has one without access' grep -q ',5,"no-access",.*,"1209","0001","0100",,"1-9",,' all.csv
+expect 'the name of its port' grep -q ',"F3","1-3","bay 3",' all.csv
+expect 'a summary' grep -q ',14,"summary","8 flashed, 2 not","new.dfu",' all.csv
+expect 'a record of all' grep -q '^{"status":14,"report":"summary","words":"8 flashed, 2 not","flashed":8,"failed":2,' out
+expect 'broken has its device' grep -q '^{"status":14,"report":"broken",.*"vendor":"1209","product":"0001"' out
+if command -v python3 > /dev/null; then
+    expect 'records' python3 -c 'import json
+r = [json.loads(line) for line in open("out")]
+assert len(r) == 11 and all(x["time"] and x["crc32"] and x["image"] == "new.dfu" for x in r), r'
+fi
+all --ports ports new.dfu
+expect 'a line has the name' grep -q '^1-3 bay 3 serial F3 [0-9.]* s verified: ' out
+expect 'no summary that nobody asked for' test "$(grep -c summary out)" -eq 0
+no_boards
+for port in 1 2 3 4 5; do
+    board "1-$port" "USB_SERIAL=F$port"
+done
+all --count 3 --json --wait new.dfu
+expect "an end after so many: $code" test "$code-$(grep -c '"report":"verified"' out)" = 0-3
+expect 'a record of all' grep -q '"report":"summary","words":"3 flashed, 0 not","flashed":3,"failed":0,' out
+no_boards
+board 1-1 'USB_FATE=leave 5' USB_AWAY=220
+all --retry 1 new.dfu
+expect "one of several is tried again: $(cat out err)" test "$code" -eq 0
+expect 'it says so' grep -q '^1-1: dfu-flash: gone: .*; it is tried again, 1 of 1$' err
