@@ -7,7 +7,7 @@ returns-then-starts_with-clause-value c = omega (
   arith,
   c.bytes.invariant.0,
   list_stops c.args.line.now c.bytes.count c.split_at.result.1.now
-      c.split_at.ensures.back (omega (arith, c.bytes-test.true)) (sym c.starts_with.ensures ∙ c.if-starts_with.true),
+      c.split_at.ensures.back (omega (arith, c.bytes-test.true)) (sym c.starts_with.ensures.value ∙ c.if-starts_with.true),
 )
 
 pub bytes-preserved : goal.bytes-preserved
@@ -16,7 +16,7 @@ bytes-preserved c = (
     arith,
     c.bytes.invariant.0,
     list_goes c.args.line.now c.bytes.count c.split_at.result.1.now
-        c.split_at.ensures.back (omega (arith, c.bytes-test.true)) (sym c.starts_with.ensures ∙ c.if-starts_with.false),
+        c.split_at.ensures.back (omega (arith, c.bytes-test.true)) (sym c.starts_with.ensures.value ∙ c.if-starts_with.false),
   ),
   omega (arith, c.bytes-test.true),
 )
