@@ -43,7 +43,7 @@ fn asking_of(settings: Settings, kept: &DfuRecord) -> Option<Asking>
     ensures some { IfSome result (λ a. (c : Given) → IsSetUp c settings.config settings.unit settings.sector → IsKept c kept.now a) }
     ensures none { IfNone result ((c : Given) (a : Device) → ¬ IsKept c kept.now a) }
 {
-    if kept.held_length > MAX_UNIT as u32 {
+    if kept.held_length > MAX_UNIT as u16 {
         return None;
     }
     let mode = mode_of(kept)?;
