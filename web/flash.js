@@ -1,19 +1,20 @@
 // SPDX-License-Identifier: MIT OR Apache-2.0
 // The view that flashes a board: the file, the device, the session, and its report.
 import { Asking } from './asking.js'
-import { canCompare, canUpload, cannotDetach, isDfuse } from './begin.js'
+import { cannotDetach, isDfuse } from './begin.js'
 import { Board, FILTERS, peek } from './board.js'
 import { ChosenFile } from './chosen.js'
 import { Clock } from './clock.js'
+import { describe } from './described.js'
 import { settingsOf } from './descriptors.js'
 import { DfuseWords } from './dfuse_words.js'
-import { by, download, make, plain, say } from './elements.js'
+import { by, plain, say } from './elements.js'
 import { REFUSAL } from './host.js'
 import { Memories } from './memories.js'
-import { FUNCTIONAL, digits, transferOf } from './names.js'
+import { Outcome } from './outcome.js'
 import { prepare } from './prepared.js'
 import { refusalOf } from './refusals.js'
-import { lineOf } from './reports.js'
+import { SimulatedUsb, exampleFile } from './simulated.js'
 import { Trace } from './trace.js'
 import { noAccess } from './access.js'
 import { Wire } from './wire.js'
@@ -23,11 +24,11 @@ const NONE_CHOSEN = 'None was chosen. A board that was not in the list may have 
 const ANY = 0xffff
 const CANCELLING = 'Cancelling, which may take some seconds.'
 
-const idsOf = ({ vendor, product }) => `${digits(vendor, 4)}:${digits(product, 4)}`
-
 export class FlashView {
-  constructor(modules, usb) {
-    Object.assign(this, { modules, usb, board: null, clock: null, isGoing: false, log: '', opening: Promise.resolve() })
+  // own: navigator.usb, or undefined where a browser has none. usb: that, or a simulated board's.
+  constructor(modules, own) {
+    Object.assign(this, { modules, own, usb: own, board: null, clock: null, isGoing: false, simulated: 0, opening: Promise.resolve() })
+    this.outcome = new Outcome()
     this.file = new ChosenFile(modules.host, () => this.lookAnew(), () => (this.board?.isOpen() ? this.board.is : null))
     this.memories = new Memories(modules.host, place => this.open(this.memories.device, place).catch(error => this.sayNoAccess(error)))
     this.words = new DfuseWords(() => this.look())
@@ -36,13 +37,18 @@ export class FlashView {
   }
 
   listen() {
-    by('connect').onclick = () => this.connect()
+    by('connect').onclick = () => this.connect(this.own)
+    for (const id of ['simulate', 'simulate-here']) by(id).onclick = () => this.simulate()
+    by('next').onclick = () => this.next()
     by('sure').onchange = () => this.look()
     by('begin').onclick = () => this.flash()
     by('stop').onclick = () => this.cancel()
-    by('log').onclick = () => download('dfu-session.log', this.log, 'text/plain')
     window.addEventListener('beforeunload', event => { if (this.isGoing) event.preventDefault() })
-    this.usb?.addEventListener('disconnect', ({ device }) => {
+    this.hear(this.own)
+  }
+
+  hear(usb) {
+    usb?.addEventListener('disconnect', ({ device }) => {
       if (!this.isGoing && this.board !== null && (this.board.hasLeft || this.board.handle === device)) this.forget(`It left. ${NOBODY}`)
     })
   }
@@ -51,9 +57,10 @@ export class FlashView {
     const isReady = this.file.isGood() && this.board?.isOpen() && !this.refused
     by('begin').disabled = this.isGoing || !isReady
     by('stop').disabled = !this.isGoing || this.clock.isStopped
-    by('connect').disabled = this.isGoing || this.usb === undefined
+    by('connect').disabled = this.isGoing || this.own === undefined
+    by('simulate').disabled = by('next').disabled = this.isGoing
     by('hint').textContent = this.isGoing ? this.clock.isStopped ? CANCELLING : 'Leave the device plugged in, and this page open.'
-      : isReady || by('report').firstChild !== null ? '' : this.file.bytes === null ? 'A file is missing.'
+      : isReady || this.outcome.isShown() ? '' : this.file.bytes === null ? 'A file is missing.'
       : this.board === null ? 'A device is missing.' : ''
     for (const id of ['verify', 'sure', 'settings']) by(id).disabled = this.isGoing
     this.file.lock(this.isGoing)
@@ -72,8 +79,30 @@ export class FlashView {
     this.refresh()
   }
 
-  async connect() {
-    by('report').replaceChildren()
+  // A simulated board, and if no file is chosen, one that it takes. Without WebUSB the steps come with it.
+  async simulate() {
+    by('flash').classList.remove('no-usb')
+    by('no-usb').hidden = true
+    if (this.file.bytes === null) this.file.take(exampleFile(), 'example.dfu')
+    await this.connect(this.newSimulated())
+    by('begin').focus()
+  }
+
+  newSimulated() {
+    const usb = new SimulatedUsb(this.modules.device, ++this.simulated)
+    this.hear(usb)
+    return usb
+  }
+
+  // The same file onto another board, which is chosen and flashed at once if nothing is left to say.
+  async next() {
+    await this.connect(this.usb === this.own ? this.own : this.newSimulated())
+    if (!by('begin').disabled) await this.flash()
+  }
+
+  async connect(usb) {
+    this.usb = usb
+    this.outcome.clear()
     this.forget()
     say('device-refused', '')
     const device = await this.usb.requestDevice({ filters: FILTERS }).catch(error => {
@@ -133,20 +162,8 @@ export class FlashView {
     const board = new Board(this.usb, clock, asking, { interface: place.interface, alternate: place.alternate })
     await board.choose(device).catch(error => { board.done(); throw error })
     this.board = board
-    this.describe(board.is)
+    describe(board.is)
     this.look()
-  }
-
-  describe(is) {
-    const serial = is.serial === '' ? '' : `serial number ${is.serial}`
-    const mode = is.isUpgrade ? 'in DFU mode' : 'in run-time mode'
-    const words = [is.title, idsOf(is), serial, mode, isDfuse(is) ? 'DfuSe' : '']
-    by('device').textContent = words.filter(word => word !== '').map(plain).join(', ')
-    const transfer = is.descriptor.length >= FUNCTIONAL.BYTES_1_0 ? `, in blocks of ${transferOf(is.descriptor)} bytes` : ''
-    by('device').title = `interface ${is.interface}, setting ${is.alternate}${transfer}`
-    say('no-verify', canCompare(is) || isDfuse(is) ? '' : canUpload(is)
-      ? 'On this system the image of this device can\'t be read back: that takes a reset of the bus.'
-      : 'This device can\'t give its image back, so it can\'t be compared.')
   }
 
   // A session of this file and this device, which has begun, or was refused. Nothing is sent.
@@ -161,7 +178,7 @@ export class FlashView {
     const made = prepare(this.modules.host, wire, file.forSession(),
       { ids, wantsVerified: by('verify').checked, address: words.address(), leaves: words.leaves(), isChosen: this.memories.isChosen })
     if (made.refusal === 0) {
-      const progress = made.progressOf(() => clock.now(), how => this.show(how))
+      const progress = made.progressOf(() => clock.now(), how => this.outcome.going(how))
       made.session.onStep = (...step) => progress.step(...step)
     }
     return { ...made, trace }
@@ -178,7 +195,7 @@ export class FlashView {
     this.refused = false
     if (isOther) {
       by('sure').checked = false
-      by('report').replaceChildren()
+      this.outcome.clear()
     }
     say('device-refused', '')
     by('sure-row').hidden = !by('sure').checked
@@ -209,18 +226,11 @@ export class FlashView {
     this.refresh()
   }
 
-  show({ phase, part, left }) {
-    by('phase').textContent = phase
-    by('left').textContent = left
-    if (part === null) by('progress').removeAttribute('value')
-    else by('progress').value = part
-  }
-
   async flash() {
     const { session, trace, refusal, verdictOf } = this.prepare()
     if (refusal !== 0) return this.refuse(refusal)
     this.isGoing = true
-    by('report').replaceChildren()
+    this.outcome.clear()
     by('going').hidden = false
     this.refresh()
     const ended = await session.run().catch(error => ({ end: 'broken', error }))
@@ -228,22 +238,9 @@ export class FlashView {
     this.isGoing = false
     by('going').hidden = true
     this.asking.end()
+    const isReal = this.usb === this.own
     this.forget('Connect it again for another session.')
-    return ended.end === 'refusal' ? this.report(refusalOf(ended.refusal), trace) : this.report(verdictOf(ended, session), trace)
-  }
-
-  // The report, in large plain words.
-  report(verdict, trace) {
-    const { title = 'Refused', means = '', not = '', words, advice = '', status, code, name, says = '' } = verdict
-    const kind = status === 0 ? 'good' : name === 'unconfirmed' ? 'unsure' : 'bad'
-    const parts = [means === '' ? `${words}. ${advice}` : means, code === '' ? '' : `It says ${code}.`,
-      says === '' ? '' : `In its own words: ${plain(says)}`, not]
-    const rows = parts.filter(text => text !== '').map(text => make('p', {}, text))
-    by('report').replaceChildren(make('h3', { className: kind }, title), ...rows,
-      make('p', { className: 'small' }, make('code', {}, lineOf({ name, code, words }))))
-    by('report').focus()
-    this.refresh()
-    this.log = `${[...trace.lines, `# ${lineOf({ name, code, words })}`].join('\n')}\n`
-    by('log-row').hidden = false
+    this.outcome.show(ended.end === 'refusal' ? refusalOf(ended.refusal) : verdictOf(ended, session), trace, isReal)
+    return this.refresh()
   }
 }

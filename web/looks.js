@@ -13,11 +13,14 @@ export const WORDS = {
   CUT: "the file's name ends in .dfu, and it has no DFU suffix: it was cut short or changed; get it anew",
 }
 
+const ofFormat = format => `\`dfu add --format ${format} IN OUT --vid 1209 --pid 0001\` makes a DFU file of its image, ` +
+  "with your board's identifiers."
+
 const OTHERS = {
-  [LOOKS.IHEX]: ['FORMAT', 'Intel HEX', '`objcopy -I ihex -O binary IN OUT` makes a raw image of it.'],
-  [LOOKS.SREC]: ['FORMAT', 'Motorola S-records', '`objcopy -I srec -O binary IN OUT` makes a raw image of it.'],
-  [LOOKS.ELF]: ['FORMAT', 'an ELF file', '`objcopy -O binary IN OUT` makes a raw image of it.'],
-  [LOOKS.UF2]: ['FORMAT', 'UF2', 'It is for a bootloader that shows itself as a disk.'],
+  [LOOKS.IHEX]: ['FORMAT', 'Intel HEX', ofFormat('ihex')],
+  [LOOKS.SREC]: ['FORMAT', 'Motorola S-records', ofFormat('srec')],
+  [LOOKS.ELF]: ['FORMAT', 'an ELF file', ofFormat('elf')],
+  [LOOKS.UF2]: ['FORMAT', 'UF2', `It is for a bootloader that shows itself as a disk. ${ofFormat('uf2')}`],
   [LOOKS.ZIP]: ['ARCHIVE', 'a zip archive', 'Unpack it first.'],
   [LOOKS.GZIP]: ['ARCHIVE', 'a gzip archive', 'Unpack it first.'],
   [LOOKS.TEXT]: ['TEXT', 'text', 'A page of a server may have come in place of the file.'],

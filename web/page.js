@@ -3,13 +3,12 @@
 import { by, say } from './elements.js'
 import { FlashView } from './flash.js'
 import { load, runsWasm64 } from './library.js'
+import { keepOffline } from './offline.js'
 import { PlayView } from './play.js'
 
 const VIEWS = ['flash', 'play']
 const NO_WASM = 'This browser does not run WebAssembly with addresses of 64 bits, which the proved host is built for. Chromium, Chrome ' +
   'and Edge do from version 133 on.'
-const NO_USB = 'This browser has no WebUSB, so it can\'t flash: Chromium, Chrome and Edge have it, on https pages and on localhost. ' +
-  'Firefox and Safari have none. You can play without a board.'
 
 function showView() {
   const view = VIEWS.find(name => location.hash === `#${name}`) ?? 'flash'
@@ -17,11 +16,12 @@ function showView() {
   for (const link of document.querySelectorAll('nav a'))
     if (link.hash === `#${view}`) link.setAttribute('aria-current', 'page')
     else link.removeAttribute('aria-current')
+  by('no-usb').hidden = view !== 'flash' || !by('flash').classList.contains('no-usb')
 }
 
 async function begin() {
   if (!runsWasm64()) return say('lacks', NO_WASM)
-  if (navigator.usb === undefined) say('lacks', NO_USB)
+  by('flash').classList.toggle('no-usb', navigator.usb === undefined)
   const [host, device] = await Promise.all([load('dfu_host_c'), load('dfu_device_c')])
   const examples = await (await fetch(new URL('examples.json', import.meta.url))).json()
   new FlashView({ host, device }, navigator.usb)
@@ -29,6 +29,7 @@ async function begin() {
   window.addEventListener('hashchange', showView)
   showView()
   document.body.dataset.ready = 'yes'
+  keepOffline()
   return undefined
 }
 

@@ -10,6 +10,8 @@ import { bytesOf, lineOf, linesOf } from './script.js'
 import { fileOf } from './suffix.js'
 import { ScriptEnd, World } from './world.js'
 
+const OPENS_ON = 'clean-run'
+const OPENS_AFTER = 6 // actions
 const MOST_ROWS = 500
 const MOST_AT_ONCE = 10000
 const MOST_PASSES = 1000000 // of a line
@@ -20,7 +22,25 @@ export class PlayView {
     by('example').replaceChildren(make('option', { value: '' }, 'nothing: the device alone'),
       ...examples.map(({ name }) => make('option', { value: name }, name.replaceAll('-', ' '))))
     this.listen()
+    this.open()
+  }
+
+  // The view opens in the midst of a session in which nothing goes wrong.
+  open() {
+    if (this.examples.some(({ name }) => name === OPENS_ON)) by('example').value = OPENS_ON
     this.restart()
+    while (this.lines.length > 0 && this.world.host === null) this.next()
+    for (let turn = 0; turn < OPENS_AFTER && this.lines.length > 0; turn++) this.one()
+    this.refresh()
+  }
+
+  // One action of the next line, which stays with one less; a line of another kind is played whole.
+  one() {
+    while (this.lines[0]?.startsWith('#')) this.next()
+    const passes = Number(/^go pass ([0-9]+)$/.exec(this.lines[0] ?? '')?.[1] ?? 0)
+    if (passes < 2) return this.next()
+    this.lines[0] = `go pass ${passes - 1}`
+    return this.play('go pass 1')
   }
 
   listen() {
@@ -131,6 +151,7 @@ export class PlayView {
   showDevice() {
     const { device, printed } = this.world
     this.diagram.show(device.state())
+    by('now').textContent = `The device: ${STATES[device.state()]}, ${CODES[device.code()]}`
     by('state').textContent = `It is in ${STATES[device.state()]}, with the status ${CODES[device.code()]}.`
     this.before = showMedium(by('medium'), device, this.before)
     const image = device.image()

@@ -65,10 +65,18 @@ return { stop: Number(it.dataset.stop ?? -1), left: first.left, top: first.top +
   isSeen: style.outlineStyle !== 'none' && parseFloat(style.outlineWidth) >= 2 }"""
 
 
+# What a finger aims at and is under 24 pixels high or wide (WCAG 2.5.8); a link within a sentence may be.
+SMALL = """
+return Array.from(document.querySelectorAll('button, .button, select, input, nav a')).filter(it => it.offsetParent !== null)
+  .map(it => [it.id || it.textContent, it.getBoundingClientRect()]).filter(([, at]) => at.width < 24 || at.height < 24)
+  .map(([name, at]) => `${name}: ${at.width} by ${at.height}`)"""
+
+
 def fits(browser, view):
-    """From a phone to a desk nothing is cut off."""
+    """From a phone to a desk nothing is cut off, and nothing is too small for a finger."""
     for width in (320, 400, 768, 961, 1280):
         browser.size(width, 760)
+        check(f'{view}, {width} pixels wide: what is too small', browser.run(SMALL), [])
         check(f'{view}, {width} pixels wide: what is cut off', browser.run(CUT_OFF), [])
         if width == 400:
             shot(browser, f'{view}-narrow')

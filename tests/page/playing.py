@@ -106,15 +106,18 @@ def folded(browser):
     browser.size(1100, 1400)
 
 
+PAGES = {'page': 'web/README.md', 'project': 'README.md'}
+
+
 def links(browser):
     """The documents that it links to are there."""
-    paths = browser.run('return Array.from(new Set(Array.from(document.querySelectorAll("main a, footer a"), it => it.href)))')
-    check_that('there are links', len(paths) == 4, paths)
+    paths = browser.run('return Array.from(new Set(Array.from(document.querySelectorAll("#what a, main a, footer a"), it => it.href)))')
+    check_that('there are links', len(paths) == 5, paths)
     for path in paths:
         with urllib.request.urlopen(path) as answer:
             text, kind = answer.read().decode(), answer.headers['Content-Type']
         name = path.rsplit('/', 1)[1].removesuffix('.txt')
-        check(f'{path}: what it has', text, (TOP / ('web/README.md' if name == 'page' else f'docs/{name}.md')).read_text())
+        check(f'{path}: what it has', text, (TOP / PAGES.get(name, f'docs/{name}.md')).read_text())
         check_that(f'{path}: a browser shows it', kind.startswith('text/plain'), kind)
 
 
@@ -134,8 +137,25 @@ def refusals(browser, address):
     check_that('it is the policy that refuses it', any('Content Security Policy' in line for line in browser.console()))
 
 
+def opens(browser):
+    """The view opens in the midst of the clean run, and its next line ends that."""
+    check('it opens on the clean run', browser.run('return document.getElementById("example").value'), 'clean-run')
+    check('with so many actions', browser.run('return document.querySelectorAll("#transfers tbody tr").length'), 6)
+    check_that('the host wants more', 'The host wants: wait' in shown(browser, '#wanted'), shown(browser, '#wanted'))
+    check('the next line', shown(browser, '#line'), 'Next line: go pass 7')
+    browser.click('#line')
+    wanted = next(wanted for name, _, wanted in examples() if name == 'clean-run.script')
+    check('and its end', browser.run(PRINTED), wanted)
+    browser.size(400, 760)
+    browser.run('document.querySelector("[data-line=time]").scrollIntoView({ block: "end" })')
+    at = browser.run('return document.getElementById("now").getBoundingClientRect().top')
+    check('on a phone the state stays in sight', (at, shown(browser, '#now')), (0, 'The device: appIDLE, OK'))
+    browser.size(1100, 1400)
+
+
 def run(browser, address):
     open_page(browser, address, view='play')
+    opens(browser)
     menu(browser)
     for seed in range(6):
         at_random(browser, seed)

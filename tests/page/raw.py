@@ -1,5 +1,6 @@
 """The file that is chosen. Of a raw image the page asks which device it is for, and adds the suffix; files of other formats are none,
 unless a person says that their bytes are to be sent as they are."""
+import json
 import os
 import pathlib
 import subprocess
@@ -19,8 +20,9 @@ OTHERS = {'Intel HEX': HEX, 'Motorola S-records': b'S00600004844521B\nS113000028
           'a zip archive': b'PK\x03\x04' + bytes(26), 'a gzip archive': b'\x1f\x8b\x08' + bytes(20), 'text': b'Sensible text\n'}
 # By their names: the bytes, how the refusal begins, and what it ends in.
 DAMAGED, OF_NAME = 'the file is HEX or S-records with a mistake', "the file isn't of the format that its name says"
-ODD = {'mark.bin': (b'\xef\xbb\xbf' + HEX, 'the file is HEX, S-records, UF2 or ELF; `dfu add --format auto`', 'makes a raw image of it.'),
-       'line.hex': (b'\r\n' + HEX, 'the file is HEX, S-records, UF2 or ELF; `dfu add --format auto`', 'makes a raw image of it.'),
+OF_FORMAT = 'the file is HEX, S-records, UF2 or ELF; `dfu add --format auto`'
+ODD = {'mark.bin': (b'\xef\xbb\xbf' + HEX, OF_FORMAT, "with your board's identifiers."),
+       'line.hex': (b'\r\n' + HEX, OF_FORMAT, "with your board's identifiers."),
        'letter.hex': (b':1O0000000C9434000C943E000C943E000C943E0082\n', DAMAGED, "line 1, column 3 is 'O'."),
        'byte.mot': (b'S1130000285F245F\r\nS9\x01\n', DAMAGED, 'line 2, column 3 is the byte 01.'),
        'marked.hex': (b'\xef\xbb\xbf' + HEX[:-2] + b'~\n', DAMAGED, "line 2, column 11 is '~'."),
@@ -140,7 +142,9 @@ def others(browser, address, work):
         is_shut(browser, name)
     for name, (payload, words, end) in ODD.items():
         give_file(browser, work, payload, name)
-        browser.wait(f'document.getElementById("file-refused").textContent.startsWith("NoSignature: {words}")')
+        # (the words of the file before may begin so too)
+        browser.wait(f'document.getElementById("file-refused").textContent.startsWith("NoSignature: {words}")'
+                     f' && document.getElementById("file-refused").textContent.endsWith({json.dumps(end)})')
         check_that(f'{name}: what to do', shown(browser, '#file-refused').endswith(end), shown(browser, '#file-refused'))
         is_shut(browser, name)
     for name, payload in (('one byte', b'\1'), ('what only begins so', b':1\1'), ('the text of a suffix', b'UFD' + bytes(30)),

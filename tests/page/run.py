@@ -17,6 +17,7 @@ import raw
 import scripts
 import sessions
 import texts
+import trying
 import versions
 from browser import Browser, Handler, serve
 from counting import check
@@ -48,6 +49,7 @@ def main(page, flash):
             timed('raw images', raw.run, browser, address, work)
             timed('the view with DfuSe', dfuse_view.run, browser, address, work)
             timed('the view to play with', playing.run, browser, address)
+            timed('a simulated board, and no server', trying.run, browser, address, work, page)
             timed('the pictures of docs', pictures.run, browser)
             timed('another version', versions.run, browser, page)
             check('requests', [path for path in Handler.asked if not path.startswith('/')], [])

@@ -1,0 +1,65 @@
+// SPDX-License-Identifier: MIT OR Apache-2.0
+// What came of a session, where a person sees it: the report in large plain words, the title and the icon of the tab, and how many boards
+// were flashed since the page was opened. Nothing makes a sound.
+import { by, download, make, plain } from './elements.js'
+import { lineOf } from './reports.js'
+
+const ICONS = { good: 'icon-good.svg', bad: 'icon-bad.svg', unsure: 'icon-bad.svg', none: 'icon.svg' }
+const SIGNS = { good: '✓', bad: '✗', unsure: '?' }
+
+const count = (number, one, more) => `${number} ${number === 1 ? one : more}`
+
+export class Outcome {
+  constructor() {
+    Object.assign(this, { title: document.title, log: '', good: 0, other: 0 })
+    by('log').onclick = () => download('dfu-session.log', this.log, 'text/plain')
+  }
+
+  isShown() {
+    return by('report').firstChild !== null
+  }
+
+  mark(text, icon = 'none') {
+    document.title = text === '' ? this.title : `${text} · Fustrelan`
+    by('icon').href = ICONS[icon]
+  }
+
+  clear() {
+    by('report').replaceChildren()
+    this.mark('')
+  }
+
+  // How far a session is; part is of 1, or null.
+  going({ phase, part, left }) {
+    by('phase').textContent = phase
+    by('left').textContent = left
+    if (part === null) by('progress').removeAttribute('value')
+    else by('progress').value = part
+    this.mark(part === null ? '…' : `${Math.floor(100 * part)} %`)
+  }
+
+  // The report. isReal: it is of a board, and not of a simulated one.
+  show(verdict, trace, isReal) {
+    const { title = 'Refused', means = '', not = '', words, advice = '', status, code, name, says = '' } = verdict
+    const kind = status === 0 ? 'good' : name === 'unconfirmed' ? 'unsure' : 'bad'
+    const parts = [means === '' ? `${words}. ${advice}` : means, code === '' ? '' : `It says ${code}.`,
+      says === '' ? '' : `In its own words: ${plain(says)}`, not, isReal ? '' : 'This was a simulated board: no hardware was touched.']
+    const rows = parts.filter(text => text !== '').map(text => make('p', {}, text))
+    by('report').className = kind
+    by('report').replaceChildren(make('h3', { className: kind }, title), ...rows,
+      make('p', { className: 'small' }, make('code', {}, lineOf({ name, code, words }))))
+    by('report').focus()
+    this.mark(`${SIGNS[kind]} ${title}`, kind)
+    this.log = `${[...trace.lines, `# ${lineOf({ name, code, words })}`].join('\n')}\n`
+    by('log-row').hidden = false
+    this.tally(status === 0)
+  }
+
+  tally(isGood) {
+    if (isGood) this.good++
+    else this.other++
+    const others = this.other === 0 ? '' : `, ${this.other} not`
+    by('tally').textContent = `${count(this.good, 'board is', 'boards are')} flashed${others}.`
+    by('next-row').hidden = false
+  }
+}

@@ -1,0 +1,115 @@
+// SPDX-License-Identifier: MIT OR Apache-2.0
+// A simulated board for the view that flashes: the proved device behind those calls of WebUSB that the page makes. It takes the times that
+// a small board takes, and gives the image that it was sent. Each one has a serial number of its own.
+import { Device } from './device.js'
+import { INTERFACE, KIND, REQUEST } from './names.js'
+import { fileOf } from './suffix.js'
+
+const IDS = { vendor: 0x1209, product: 0x0001, device: 0x0100 }
+const CONFIG = { ...IDS, detach_ms: 1000, transfer: 64, attributes: 0x0f, busy_ms: 12, manifest_ms: 60, least: 1 }
+const CAPACITY = 1048576
+const BYTES = 3000
+const OLD = new TextEncoder().encode('the image that the board came with')
+const NONE = new Uint8Array(0)
+const DETACH = new Uint8Array([KIND.OUT, REQUEST.DETACH, 0, 0, 0, 0, 0, 0])
+const LEAVES_MS = 30 // behind a DETACH it leaves by itself, unasked
+
+const viewOf = bytes => new DataView(bytes.buffer, bytes.byteOffset, bytes.byteLength)
+
+// A file that the board takes, for who has none at hand.
+export const exampleFile = () =>
+  fileOf(Uint8Array.from({ length: BYTES }, (_, at) => (at * 31 + (at >> 3)) & 255), { ...IDS, device: 0xffff })
+
+// A board as it was enumerated once. It leaves with what leads to its other mode, a DETACH or a reset, and comes back as another one.
+class SimulatedDevice {
+  constructor(usb) {
+    const isApp = usb.device.state() <= 1
+    const number = { alternateSetting: 0, interfaceClass: INTERFACE.CLASS, interfaceSubclass: INTERFACE.SUBCLASS,
+      interfaceProtocol: isApp ? INTERFACE.RUNTIME : INTERFACE.DFU_MODE }
+    Object.assign(this, { usb, isApp, vendorId: IDS.vendor, productId: IDS.product, serialNumber: usb.serial,
+      productName: 'a simulated board', deviceVersionMajor: 1, deviceVersionMinor: 0, deviceVersionSubminor: 0 })
+    this.configuration = { configurationValue: 1, interfaces: [{ interfaceNumber: 0, alternates: [number] }] }
+    this.configurations = [this.configuration]
+    const said = [9, 4, 0, 0, 0, INTERFACE.CLASS, INTERFACE.SUBCLASS, number.interfaceProtocol, 0, ...usb.device.functional()]
+    this.bytes = new Uint8Array([9, 2, 9 + said.length, 0, 1, 1, 0, 0x80, 50, ...said])
+  }
+
+  async open() { this.usb.catchUp() }
+  async close() { this.usb.catchUp() }
+  async selectConfiguration() {}
+  async claimInterface() {}
+  async selectAlternateInterface() {}
+
+  // A transfer to a board that came back as another one fails.
+  isHere() {
+    this.usb.catchUp()
+    if (this.usb.current !== this) throw new DOMException('The device was disconnected.', 'NotFoundError')
+  }
+
+  async controlTransferIn(fields, length) {
+    this.isHere()
+    if (fields.requestType === 'standard') return this.describe(fields, length)
+    const bytes = this.usb.handle(KIND.IN, fields, length, NONE)
+    return bytes === null ? { status: 'stall' } : { status: 'ok', data: viewOf(bytes) }
+  }
+
+  // It has its configuration to give, and no strings.
+  describe({ value }, length) {
+    return value === 0x0200 ? { status: 'ok', data: viewOf(this.bytes.slice(0, length)) } : { status: 'stall' }
+  }
+
+  async controlTransferOut(fields, data = NONE) {
+    this.isHere()
+    const bytes = this.usb.handle(KIND.OUT, fields, data.length, data)
+    return bytes === null ? { status: 'stall', bytesWritten: 0 } : { status: 'ok', bytesWritten: data.length }
+  }
+
+  async reset() {
+    this.isHere()
+    this.usb.reset()
+  }
+}
+
+export class SimulatedUsb extends EventTarget {
+  constructor(module, number) {
+    super()
+    Object.assign(this, { serial: `SIMULATED-${number}`, told: performance.now(), device: new Device(module, CONFIG, CAPACITY, OLD) })
+    this.device.handle(DETACH)
+    this.device.elapse(1)
+    this.current = new SimulatedDevice(this)
+  }
+
+  async requestDevice() { return this.current }
+  async getDevices() { return [this.current] }
+
+  // The time that passed.
+  catchUp() {
+    const ms = Math.floor(performance.now() - this.told)
+    if (ms <= 0) return
+    this.told += ms
+    this.device.elapse(ms)
+    this.look()
+  }
+
+  handle(kind, { request, value, index }, length, body) {
+    const two = number => [number & 255, number >> 8]
+    const bytes = this.device.handle(new Uint8Array([kind, request, ...two(value), ...two(index), ...two(length)]), body.slice())
+    this.look()
+    if (request === REQUEST.DETACH) setTimeout(() => this.catchUp(), LEAVES_MS)
+    return bytes
+  }
+
+  reset() {
+    this.device.reset()
+    this.look()
+  }
+
+  // In another mode it is another device.
+  look() {
+    const before = this.current
+    if (before.isApp === (this.device.state() <= 1)) return
+    this.current = new SimulatedDevice(this)
+    for (const [what, device] of [['disconnect', before], ['connect', this.current]])
+      this.dispatchEvent(Object.assign(new Event(what), { device }))
+  }
+}
