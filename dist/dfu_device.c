@@ -3,8 +3,8 @@
  * The body of dfu_core.h: a device of USB DFU 1.1.
  *
  * Made by dist/make/library of the proved crate. Nobody edits it: change the crate, and make it anew by dist/generate. Compile it as C11
- * beside its header. Memory is arrays of bytes here, laid out as on a 64-bit processor with the low byte first: a size is a uint64_t,
- * and a pointer takes 8 bytes. */
+ * beside its header. Memory is arrays of bytes here, laid out as on a 64-bit processor with the low byte first: a size takes
+ * 8 bytes there, and so does a pointer. */
 #include "dfu_core.h"
 
 #include <stddef.h>
@@ -39,6 +39,7 @@ void *memset(void *to, int byte, size_t count);
 #endif
 
 _Static_assert((unsigned char)-1 == 255 && sizeof(int) == 4 && sizeof(void *) <= 8, "a processor that this file is not for");
+_Static_assert(sizeof(size_t) >= 4 && sizeof(size_t) <= 8 && sizeof(size_t) == sizeof(void *), "a processor that this file is not for");
 
 _Static_assert(offsetof(struct dfu_config, version) == 0, "another layout");
 _Static_assert(offsetof(struct dfu_config, device) == 4, "another layout");
@@ -107,8 +108,10 @@ static inline uint32_t umax32(uint32_t x, uint32_t y) { return x < y ? y : x; }
 static inline uint16_t umin16(uint16_t x, uint16_t y) { return x < y ? x : y; }
 static inline uint32_t umin32(uint32_t x, uint32_t y) { return x < y ? x : y; }
 static inline uint64_t umin64(uint64_t x, uint64_t y) { return x < y ? x : y; }
+static inline size_t umin_size(size_t x, size_t y) { return x < y ? x : y; }
 static inline uint32_t usub_sat32(uint32_t x, uint32_t y) { return x < y ? 0 : (uint32_t)(x - y); }
 static inline uint64_t usub_sat64(uint64_t x, uint64_t y) { return x < y ? 0 : (uint64_t)(x - y); }
+static inline uint64_t wide(size_t x) { return x; }
 
 static _Alignas(1) const uint8_t static_0[1] = {
     0
@@ -162,30 +165,30 @@ static void dfu_device_c_config_settings_of(unsigned char *a0, unsigned char *a1
 static struct i8_i32 dfu_asks_sector_Sector_new(uint32_t a0);
 static void dfu_device_c_config_functional_of(unsigned char *a0, unsigned char *a1);
 static void dfu_device_c_format_formatting_of(unsigned char *a0, unsigned char *a1, unsigned char *a2);
-static uint8_t dfu_asks_formatting_Formatting_due(unsigned char *a0, uint64_t a2, unsigned char *a3);
-static uint8_t dfu_asks_format_piece_part_piece(unsigned char *a0, uint64_t a1, unsigned char *a2);
+static uint8_t dfu_asks_formatting_Formatting_due(unsigned char *a0, size_t a2, unsigned char *a3);
+static uint8_t dfu_asks_format_piece_part_piece(unsigned char *a0, size_t a1, unsigned char *a2);
 static uint8_t dfu_asks_next_piece_sequence_piece(unsigned char *a0, unsigned char *a1);
-static uint8_t dfu_asks_next_piece_numbered_piece(unsigned char *a0, uint64_t a1, unsigned char *a2);
-static void dfu_asks_sector_locate(unsigned char *a0, uint32_t a1, uint64_t a2, uint64_t a3, uint64_t a4);
-static uint8_t dfu_asks_format_piece_open_piece(uint64_t a0, uint32_t a1, unsigned char *a2);
+static uint8_t dfu_asks_next_piece_numbered_piece(unsigned char *a0, size_t a1, unsigned char *a2);
+static void dfu_asks_sector_locate(unsigned char *a0, uint32_t a1, uint64_t a2, size_t a3, uint64_t a4);
+static uint8_t dfu_asks_format_piece_open_piece(size_t a0, uint32_t a1, unsigned char *a2);
 static uint8_t dfu_asks_next_and_took_is_sound(uint32_t a0, unsigned char *a1);
 static void dfu_asks_cut_fill(unsigned char *a0, unsigned char *a1);
 static uint8_t dfu_asks_cut_byte_of(unsigned char *a0, uint64_t a1);
 static uint8_t dfu_slots_layout_is_sized(unsigned char *a0);
 static uint32_t dfu_slots_layout_capacity_of(unsigned char *a0);
 static void dfu_suffix_crc_Crc_update_small(unsigned char *a0, unsigned char *a1, uint64_t a2);
-static uint8_t dfu_asks_cut_stands(unsigned char *a0, uint64_t a1, unsigned char *a2);
+static uint8_t dfu_asks_cut_stands(unsigned char *a0, size_t a1, unsigned char *a2);
 static void dfu_asks_noted_Noted_find(unsigned char *a0, unsigned char *a1, uint64_t a2, uint8_t a3, uint32_t a4);
 static void dfu_slots_places_check(unsigned char *a0, unsigned char *a1);
 static uint8_t dfu_slots_read_counts(unsigned char *a0, uint32_t a1);
 static uint8_t dfu_slots_read_is_open(unsigned char *a0, uint32_t a1);
 static uint8_t dfu_slots_read_byte_at(unsigned char *a0, uint32_t a1);
-static void core_slice_edits_slice_T_copy_from_slice_i8_core_clone_U8Clone(unsigned char *a0, unsigned char *a2, uint64_t a3);
-static void dfu_slots_read_read_data(unsigned char *a0, uint32_t a1, uint32_t a2, unsigned char *a3, uint64_t a4);
+static void core_slice_edits_slice_T_copy_from_slice_i8_core_clone_U8Clone(unsigned char *a0, unsigned char *a2, size_t a3);
+static void dfu_slots_read_read_data(unsigned char *a0, uint32_t a1, uint32_t a2, unsigned char *a3, size_t a4);
 static uint8_t dfu_slots_places_is_newest(unsigned char *a0, uint32_t a1, uint32_t a2, uint8_t a3, uint8_t a4);
 static uint8_t dfu_slots_read_generation(unsigned char *a0, uint32_t a1);
 static void dfu_slots_read_header_of(unsigned char *a0, unsigned char *a1, uint32_t a2);
-static uint8_t dfu_asks_blank_is_erased(unsigned char *a0, uint64_t a2, uint64_t a3);
+static uint8_t dfu_asks_blank_is_erased(unsigned char *a0, size_t a2, uint64_t a3);
 static void dfu_wire_bytes_two_bytes(unsigned char *a0, uint16_t a1);
 static void dfu_device_c_mode_mode_in(unsigned char *a0, unsigned char *a1, unsigned char *a2);
 static void dfu_device_c_mode_idle_mode(unsigned char *a0, unsigned char *a1, unsigned char *a2);
@@ -195,22 +198,22 @@ static void dfu_device_c_mode_set_mode(unsigned char *a0, unsigned char *a1);
 static void dfu_device_table_decide(unsigned char *a0, unsigned char *a1, unsigned char *a2, unsigned char *a3);
 static void dfu_device_plans_block(unsigned char *a0, unsigned char *a1, uint32_t a2, uint16_t a3, uint16_t a4, uint16_t a5);
 static void dfu_device_plans_upload(unsigned char *a0, unsigned char *a1, uint32_t a2, uint16_t a3, uint16_t a4, uint16_t a5);
-static uint32_t dfu_device_c_power_start(unsigned char *a0, unsigned char *a1, unsigned char *a2, uint64_t a3, uint32_t a4);
-static void dfu_device_c_keeping_found(unsigned char *a0, unsigned char *a1, uint64_t a2, unsigned char *a3);
+static uint32_t dfu_device_c_power_start(unsigned char *a0, unsigned char *a1, unsigned char *a2, size_t a3, uint32_t a4);
+static void dfu_device_c_keeping_found(unsigned char *a0, unsigned char *a1, size_t a2, unsigned char *a3);
 static void dfu_asks_noted_look(unsigned char *a0, unsigned char *a1, unsigned char *a2);
-static void dfu_asks_asking_Asking_see(unsigned char *a0, unsigned char *a1, uint64_t a2, unsigned char *a3, uint64_t a4);
-static uint8_t dfu_asks_asking_Asking_is_fit(unsigned char *a0, uint64_t a1, unsigned char *a2, unsigned char *a3);
-static void dfu_asks_asking_Asking_carry_out(unsigned char *a0, unsigned char *a1, unsigned char *a2, uint8_t a3, uint16_t a4, unsigned char *a5, uint64_t a6, unsigned char *a7, uint64_t a8, unsigned char *a9, uint64_t a10, unsigned char *a11, unsigned char *a12, unsigned char *a13, uint64_t a14);
+static void dfu_asks_asking_Asking_see(unsigned char *a0, unsigned char *a1, size_t a2, unsigned char *a3, size_t a4);
+static uint8_t dfu_asks_asking_Asking_is_fit(unsigned char *a0, size_t a1, unsigned char *a2, unsigned char *a3);
+static void dfu_asks_asking_Asking_carry_out(unsigned char *a0, unsigned char *a1, unsigned char *a2, uint8_t a3, uint16_t a4, unsigned char *a5, size_t a6, unsigned char *a7, size_t a8, unsigned char *a9, uint64_t a10, unsigned char *a11, unsigned char *a12, unsigned char *a13, size_t a14);
 static struct i8_i64 dfu_asks_asking_Asking_give(unsigned char *a0, uint8_t a1, uint16_t a2, unsigned char *a3);
 static void dfu_asks_asking_Asking_block_job(unsigned char *a0, unsigned char *a1, uint32_t a2, unsigned char *a3, unsigned char *a4);
-static void dfu_asks_asking_Asking_advance(unsigned char *a0, unsigned char *a1, unsigned char *a2, uint64_t a3, unsigned char *a4, uint64_t a5, unsigned char *a6, uint64_t a7, unsigned char *a8);
-static struct i64_i8 dfu_asks_asking_Asking_look_at(unsigned char *a0, unsigned char *a1, unsigned char *a2, uint64_t a3, unsigned char *a4, uint64_t a5, unsigned char *a6, uint64_t a7);
+static void dfu_asks_asking_Asking_advance(unsigned char *a0, unsigned char *a1, unsigned char *a2, size_t a3, unsigned char *a4, uint64_t a5, unsigned char *a6, uint64_t a7, unsigned char *a8);
+static struct i64_i8 dfu_asks_asking_Asking_look_at(unsigned char *a0, unsigned char *a1, unsigned char *a2, size_t a3, unsigned char *a4, uint64_t a5, unsigned char *a6, size_t a7);
 static uint8_t dfu_asks_next_piece_next_piece(unsigned char *a0, unsigned char *a1);
 static void dfu_asks_finish_note(unsigned char *a0, unsigned char *a1, unsigned char *a2, uint64_t a3, uint8_t a4, uint32_t a5);
 static struct i8_i64 dfu_asks_asking_Asking_answer(unsigned char *a0, uint8_t a1, uint16_t a2, unsigned char *a3);
 static void dfu_device_c_keeping_keep(unsigned char *a0, unsigned char *a1);
 
-/* dfu_device_c::mode::has_mode */
+/* dfu_device_c::mode::has_mode: crates/dfu_device_c/src/mode.rt */
 static uint8_t dfu_device_c_mode_has_mode(unsigned char *a0) {
     _Alignas(4) unsigned char r1[20];
     dfu_device_c_mode_mode_of(r1, a0);
@@ -218,23 +221,21 @@ static uint8_t dfu_device_c_mode_has_mode(unsigned char *a0) {
     return r3 == 1;
 }
 
-/* dfu_device_c::mode::mode_of */
+/* dfu_device_c::mode::mode_of: crates/dfu_device_c/src/mode.rt */
 static void dfu_device_c_mode_mode_of(unsigned char *a0, unsigned char *a1) {
     uint32_t r35, r37, r11_172_0, r11_27_10_0_0, r11_36_0;
     uint16_t r39, r11_27_0_0;
     uint8_t r11_0_0, r11_15_0;
     uint32_t r16 = load32(a1);
-    if (r16 == 300) goto join_3;
-    goto then_1;
-then_1:
-    store32(a0, 0);
-    a0[4] = 0;
-    a0[5] = 0;
-    store32(a0 + 8, 0);
-    store32(a0 + 12, 0);
-    store32(a0 + 16, 0);
-    return;
-join_3:
+    if (r16 != 300) {
+        store32(a0, 0);
+        a0[4] = 0;
+        a0[5] = 0;
+        store32(a0 + 8, 0);
+        store32(a0 + 12, 0);
+        store32(a0 + 16, 0);
+        return;
+    }
     r35 = load32(a1 + 8);
     r37 = load32(a1 + 12);
     r39 = load16(a1 + 24);
@@ -247,135 +248,121 @@ join_3:
         r11_27_0_0 = 0;
         r11_27_10_0_0 = r44;
         r11_36_0 = r44;
-        goto join_18;
-    case 1: goto arm_5;
-    case 2: goto arm_6;
-    case 3: goto arm_7;
-    case 4: goto arm_8;
-    case 5: goto arm_9;
-    case 6: goto arm_10;
-    case 7: goto arm_11;
-    case 8: goto arm_12;
-    case 9: goto arm_13;
-    case 10: goto arm_14;
-    case 11: goto arm_15;
-    case 12: goto arm_16;
-    default: goto default_17;
-    }
-arm_5:
-    r11_0_0 = 1;
-    r11_15_0 = 0;
-    r11_172_0 = r35;
-    r11_27_0_0 = (uint16_t)r37;
-    r11_27_10_0_0 = r37 & 0xffff0000U;
-    r11_36_0 = 0;
-    goto join_18;
-arm_6:
-    r11_0_0 = 2;
-    r11_15_0 = 0;
-    r11_172_0 = 0;
-    r11_27_0_0 = 0;
-    r11_27_10_0_0 = 0;
-    r11_36_0 = 0;
-    goto join_18;
-arm_7:
-    r11_0_0 = 3;
-    r11_15_0 = 0;
-    r11_172_0 = r35;
-    r11_27_0_0 = r39;
-    r11_27_10_0_0 = 0;
-    r11_36_0 = 0;
-    goto join_18;
-arm_8:
-    r11_0_0 = 4;
-    r11_15_0 = 0;
-    r11_172_0 = r35;
-    r11_27_0_0 = r39;
-    r11_27_10_0_0 = 0;
-    r11_36_0 = 0;
-    goto join_18;
-arm_9:
-    r11_0_0 = 5;
-    r11_15_0 = 0;
-    r11_172_0 = r35;
-    r11_27_0_0 = r39;
-    r11_27_10_0_0 = 0;
-    r11_36_0 = r37;
-    goto join_18;
-arm_10:
-    r11_0_0 = 6;
-    r11_15_0 = 0;
-    r11_172_0 = r35;
-    r11_27_0_0 = r39;
-    r11_27_10_0_0 = 0;
-    r11_36_0 = 0;
-    goto join_18;
-arm_11:
-    r11_0_0 = 7;
-    r11_15_0 = 0;
-    r11_172_0 = r35;
-    r11_27_0_0 = 0;
-    r11_27_10_0_0 = 0;
-    r11_36_0 = 0;
-    goto join_18;
-arm_12:
-    r11_0_0 = 8;
-    r11_15_0 = 0;
-    r11_172_0 = 0;
-    r11_27_0_0 = 0;
-    r11_27_10_0_0 = 0;
-    r11_36_0 = 0;
-    goto join_18;
-arm_13:
-    r11_0_0 = 9;
-    r11_15_0 = 0;
-    r11_172_0 = r35;
-    r11_27_0_0 = (uint16_t)r37;
-    r11_27_10_0_0 = r37 & 0xffff0000U;
-    r11_36_0 = 0;
-    goto join_18;
-arm_14:
-    r11_0_0 = 10;
-    r11_15_0 = 0;
-    r11_172_0 = 0;
-    r11_27_0_0 = 0;
-    r11_27_10_0_0 = 0;
-    r11_36_0 = 0;
-    goto join_18;
-arm_15:
-    r11_0_0 = 11;
-    r11_15_0 = 0;
-    r11_172_0 = r35;
-    r11_27_0_0 = r39;
-    r11_27_10_0_0 = 0;
-    r11_36_0 = 0;
-    goto join_18;
-arm_16:
-    if (r39 < 16) {
+        break;
+    case 1:
+        r11_0_0 = 1;
+        r11_15_0 = 0;
+        r11_172_0 = r35;
+        r11_27_0_0 = (uint16_t)r37;
+        r11_27_10_0_0 = r37 & 0xffff0000U;
+        r11_36_0 = 0;
+        break;
+    case 2:
+        r11_0_0 = 2;
+        r11_15_0 = 0;
+        r11_172_0 = 0;
+        r11_27_0_0 = 0;
+        r11_27_10_0_0 = 0;
+        r11_36_0 = 0;
+        break;
+    case 3:
+        r11_0_0 = 3;
+        r11_15_0 = 0;
+        r11_172_0 = r35;
+        r11_27_0_0 = r39;
+        r11_27_10_0_0 = 0;
+        r11_36_0 = 0;
+        break;
+    case 4:
+        r11_0_0 = 4;
+        r11_15_0 = 0;
+        r11_172_0 = r35;
+        r11_27_0_0 = r39;
+        r11_27_10_0_0 = 0;
+        r11_36_0 = 0;
+        break;
+    case 5:
+        r11_0_0 = 5;
+        r11_15_0 = 0;
+        r11_172_0 = r35;
+        r11_27_0_0 = r39;
+        r11_27_10_0_0 = 0;
+        r11_36_0 = r37;
+        break;
+    case 6:
+        r11_0_0 = 6;
+        r11_15_0 = 0;
+        r11_172_0 = r35;
+        r11_27_0_0 = r39;
+        r11_27_10_0_0 = 0;
+        r11_36_0 = 0;
+        break;
+    case 7:
+        r11_0_0 = 7;
+        r11_15_0 = 0;
+        r11_172_0 = r35;
+        r11_27_0_0 = 0;
+        r11_27_10_0_0 = 0;
+        r11_36_0 = 0;
+        break;
+    case 8:
+        r11_0_0 = 8;
+        r11_15_0 = 0;
+        r11_172_0 = 0;
+        r11_27_0_0 = 0;
+        r11_27_10_0_0 = 0;
+        r11_36_0 = 0;
+        break;
+    case 9:
+        r11_0_0 = 9;
+        r11_15_0 = 0;
+        r11_172_0 = r35;
+        r11_27_0_0 = (uint16_t)r37;
+        r11_27_10_0_0 = r37 & 0xffff0000U;
+        r11_36_0 = 0;
+        break;
+    case 10:
+        r11_0_0 = 10;
+        r11_15_0 = 0;
+        r11_172_0 = 0;
+        r11_27_0_0 = 0;
+        r11_27_10_0_0 = 0;
+        r11_36_0 = 0;
+        break;
+    case 11:
+        r11_0_0 = 11;
+        r11_15_0 = 0;
+        r11_172_0 = r35;
+        r11_27_0_0 = r39;
+        r11_27_10_0_0 = 0;
+        r11_36_0 = 0;
+        break;
+    case 12:
+        if (r39 >= 16) {
+            store32(a0, 0);
+            a0[4] = 0;
+            a0[5] = 0;
+            store32(a0 + 8, 0);
+            store32(a0 + 12, 0);
+            store32(a0 + 16, 0);
+            return;
+        }
         r11_0_0 = 12;
         r11_15_0 = (uint8_t)r39;
         r11_172_0 = 0;
         r11_27_0_0 = 0;
         r11_27_10_0_0 = 0;
         r11_36_0 = 0;
-        goto join_18;
+        break;
+    default:
+        store32(a0, 0);
+        a0[4] = 0;
+        a0[5] = 0;
+        store32(a0 + 8, 0);
+        store32(a0 + 12, 0);
+        store32(a0 + 16, 0);
+        return;
     }
-    store32(a0, 0);
-    a0[4] = 0;
-    a0[5] = 0;
-    store32(a0 + 8, 0);
-    store32(a0 + 12, 0);
-    store32(a0 + 16, 0);
-    return;
-default_17:
-    store32(a0, 0);
-    a0[4] = 0;
-    a0[5] = 0;
-    store32(a0 + 8, 0);
-    store32(a0 + 12, 0);
-    store32(a0 + 16, 0);
-    return;
-join_18:
     store32(a0, 1);
     a0[4] = r11_0_0;
     a0[5] = r11_15_0;
@@ -385,7 +372,7 @@ join_18:
     return;
 }
 
-/* dfu_device_c::config::settings_of */
+/* dfu_device_c::config::settings_of: crates/dfu_device_c/src/config.rt */
 static void dfu_device_c_config_settings_of(unsigned char *a0, unsigned char *a1) {
     _Alignas(4) unsigned char r6[10];
     uint32_t r11, r53, r82, r84, r86, r22_4_0_10_0, r22_4_0_11_0, r22_4_0_12_0, r22_4_5_0, r22_0_0_0;
@@ -396,112 +383,109 @@ static void dfu_device_c_config_settings_of(unsigned char *a0, unsigned char *a1
     switch (r11) {
     case 16:
         r3_0_0 = 1;
-        goto dfu_device_c_config_unit_of_exit;
-    case 64: goto join_6;
-    case 256: goto join_9;
-    default: goto else_8;
+        break;
+    case 64:
+        r3_0_0 = 2;
+        break;
+    case 256:
+        r3_0_0 = 3;
+        break;
+    default:
+        r3_0_0 = 0;
+        break;
     }
-else_8:
-    r3_0_0 = 0;
-    goto dfu_device_c_config_unit_of_exit;
-join_9:
-    r3_0_0 = 3;
-    goto dfu_device_c_config_unit_of_exit;
-join_6:
-    r3_0_0 = 2;
-dfu_device_c_config_unit_of_exit:;
     uint32_t r25 = load32(a1);
-    if (r25 != 300) goto join_5;
-    uint32_t switch_load = load32(PLACE(switch_table_dfu_slots_layout_fill_size) + 4 * (size_t)r3_0_0);
-    if (switch_load == r11) goto after_1;
-    goto join_5;
-join_5:
-    memset(a0, 0, 40);
-    return;
-after_1:;
-    uint32_t r49 = load32(a1 + 32);
-    struct i8_i32 r51 = dfu_asks_sector_Sector_new(r49);
-    r53 = r51.b;
-    if (!(r51.a & 1)) goto arm_12;
-    uint16_t r71 = load16(a1 + 4);
-    uint32_t r73 = load32a2(a1 + 6);
-    dfu_device_c_config_functional_of(r6, a1);
-    r82 = load32(a1 + 24);
-    r84 = load32(a1 + 16);
-    r86 = load32(a1 + 20);
-    r5_0_0 = (((uint64_t)r73 << 16) & 0xffffffffffffULL) | (uint64_t)r71;
-    r2_0_0_copyload = *r6;
-    r2_3_0_copyload = r6[1];
-    r2_4_0_copyload = r6[2];
-    r2_6_0_copyload = r6[3];
-    r2_7_0_copyload = load16(r6 + 4);
-    r2_8_0_copyload = load16(r6 + 6);
-    if ((uint16_t)(r2_8_0_copyload + 0xefffU) < 0xf000U) {
-        r22_4_0_0_0 = 0;
-        r22_4_0_3_0 = 0;
-        r22_4_0_4_0 = 0;
-        r22_4_0_5_0 = 0;
-        r22_4_0_6_0 = 0;
-        r22_4_0_7_0 = 0;
-        r22_4_0_8_0 = 0;
-        r22_4_0_9_0 = 0;
-        r22_4_0_10_0 = 0;
-        r22_4_0_11_0 = 0;
-        r22_4_0_12_0 = 0;
-        r22_4_3_0 = 0;
-        r22_4_5_0 = 0;
-        r22_0_0_0 = 0;
-        goto join_17;
+    if (r25 == 300) {
+        uint32_t switch_load = load32(PLACE(switch_table_dfu_slots_layout_fill_size) + 4 * (size_t)r3_0_0);
+        if (switch_load == r11) {
+            uint32_t r49 = load32(a1 + 32);
+            struct i8_i32 r51 = dfu_asks_sector_Sector_new(r49);
+            r53 = r51.b;
+            if (!(r51.a & 1)) {
+                memset(a0, 0, 40);
+                return;
+            }
+            uint16_t r71 = load16(a1 + 4);
+            uint32_t r73 = load32a2(a1 + 6);
+            dfu_device_c_config_functional_of(r6, a1);
+            r82 = load32(a1 + 24);
+            r84 = load32(a1 + 16);
+            r86 = load32(a1 + 20);
+            r5_0_0 = (((uint64_t)r73 << 16) & 0xffffffffffffULL) | (uint64_t)r71;
+            r2_0_0_copyload = *r6;
+            r2_3_0_copyload = r6[1];
+            r2_4_0_copyload = r6[2];
+            r2_6_0_copyload = r6[3];
+            r2_7_0_copyload = load16(r6 + 4);
+            r2_8_0_copyload = load16(r6 + 6);
+            if ((uint16_t)(r2_8_0_copyload + 0xefffU) < 0xf000U) {
+                r22_4_0_0_0 = 0;
+                r22_4_0_3_0 = 0;
+                r22_4_0_4_0 = 0;
+                r22_4_0_5_0 = 0;
+                r22_4_0_6_0 = 0;
+                r22_4_0_7_0 = 0;
+                r22_4_0_8_0 = 0;
+                r22_4_0_9_0 = 0;
+                r22_4_0_10_0 = 0;
+                r22_4_0_11_0 = 0;
+                r22_4_0_12_0 = 0;
+                r22_4_3_0 = 0;
+                r22_4_5_0 = 0;
+                r22_0_0_0 = 0;
+            }
+            else {
+                if ((((r84 | (r82 - 1)) | r86) < 0x1000000U) ? ((r86 != 0) | (r2_4_0_copyload & 1)) : 0) {
+                    r22_4_0_0_0 = r5_0_0;
+                    r22_4_0_3_0 = r2_0_0_copyload & 1;
+                    r22_4_0_4_0 = r2_3_0_copyload & 1;
+                    r22_4_0_5_0 = r2_4_0_copyload & 1;
+                    r22_4_0_6_0 = r2_6_0_copyload & 1;
+                    r22_4_0_7_0 = r2_7_0_copyload;
+                    r22_4_0_8_0 = r2_8_0_copyload;
+                    r22_4_0_9_0 = 272;
+                    r22_4_0_10_0 = r82;
+                    r22_4_0_11_0 = r84;
+                    r22_4_0_12_0 = r86;
+                    r22_4_3_0 = r3_0_0;
+                    r22_4_5_0 = r53;
+                    r22_0_0_0 = 1;
+                }
+                else {
+                    r22_4_0_0_0 = 0;
+                    r22_4_0_3_0 = 0;
+                    r22_4_0_4_0 = 0;
+                    r22_4_0_5_0 = 0;
+                    r22_4_0_6_0 = 0;
+                    r22_4_0_7_0 = 0;
+                    r22_4_0_8_0 = 0;
+                    r22_4_0_9_0 = 0;
+                    r22_4_0_10_0 = 0;
+                    r22_4_0_11_0 = 0;
+                    r22_4_0_12_0 = 0;
+                    r22_4_3_0 = 0;
+                    r22_4_5_0 = 0;
+                    r22_0_0_0 = 0;
+                }
+            }
+            store32(a0, r22_0_0_0);
+            store48a4(a0 + 4, r22_4_0_0_0);
+            a0[10] = r22_4_0_3_0;
+            a0[11] = r22_4_0_4_0;
+            a0[12] = r22_4_0_5_0;
+            a0[13] = r22_4_0_6_0;
+            store16(a0 + 14, r22_4_0_7_0);
+            store16(a0 + 16, r22_4_0_8_0);
+            store16(a0 + 18, r22_4_0_9_0);
+            store32(a0 + 20, r22_4_0_10_0);
+            store32(a0 + 24, r22_4_0_11_0);
+            store32(a0 + 28, r22_4_0_12_0);
+            a0[32] = r22_4_3_0;
+            store32(a0 + 36, r22_4_5_0);
+            return;
+        }
     }
-    if ((((r84 | (r82 + 0xffffffffU)) | r86) < 0x1000000U) ? ((r86 != 0) | (r2_4_0_copyload & 1)) : 0) goto arm_15;
-    r22_4_0_0_0 = 0;
-    r22_4_0_3_0 = 0;
-    r22_4_0_4_0 = 0;
-    r22_4_0_5_0 = 0;
-    r22_4_0_6_0 = 0;
-    r22_4_0_7_0 = 0;
-    r22_4_0_8_0 = 0;
-    r22_4_0_9_0 = 0;
-    r22_4_0_10_0 = 0;
-    r22_4_0_11_0 = 0;
-    r22_4_0_12_0 = 0;
-    r22_4_3_0 = 0;
-    r22_4_5_0 = 0;
-    r22_0_0_0 = 0;
-    goto join_17;
-arm_12:
     memset(a0, 0, 40);
-    return;
-arm_15:
-    r22_4_0_0_0 = r5_0_0;
-    r22_4_0_3_0 = r2_0_0_copyload & 1;
-    r22_4_0_4_0 = r2_3_0_copyload & 1;
-    r22_4_0_5_0 = r2_4_0_copyload & 1;
-    r22_4_0_6_0 = r2_6_0_copyload & 1;
-    r22_4_0_7_0 = r2_7_0_copyload;
-    r22_4_0_8_0 = r2_8_0_copyload;
-    r22_4_0_9_0 = 272;
-    r22_4_0_10_0 = r82;
-    r22_4_0_11_0 = r84;
-    r22_4_0_12_0 = r86;
-    r22_4_3_0 = r3_0_0;
-    r22_4_5_0 = r53;
-    r22_0_0_0 = 1;
-join_17:
-    store32(a0, r22_0_0_0);
-    store48a4(a0 + 4, r22_4_0_0_0);
-    a0[10] = r22_4_0_3_0;
-    a0[11] = r22_4_0_4_0;
-    a0[12] = r22_4_0_5_0;
-    a0[13] = r22_4_0_6_0;
-    store16(a0 + 14, r22_4_0_7_0);
-    store16(a0 + 16, r22_4_0_8_0);
-    store16(a0 + 18, r22_4_0_9_0);
-    store32(a0 + 20, r22_4_0_10_0);
-    store32(a0 + 24, r22_4_0_11_0);
-    store32(a0 + 28, r22_4_0_12_0);
-    a0[32] = r22_4_3_0;
-    store32(a0 + 36, r22_4_5_0);
     return;
 }
 
@@ -515,7 +499,7 @@ static struct i8_i32 dfu_asks_sector_Sector_new(uint32_t a0) {
     return r24;
 }
 
-/* dfu_device_c::config::functional_of */
+/* dfu_device_c::config::functional_of: crates/dfu_device_c/src/config.rt */
 static void dfu_device_c_config_functional_of(unsigned char *a0, unsigned char *a1) {
     uint8_t r5 = a1[14];
     uint16_t r7 = load16(a1 + 10);
@@ -530,77 +514,63 @@ static void dfu_device_c_config_functional_of(unsigned char *a0, unsigned char *
     return;
 }
 
-/* dfu_device_c::format::formatting_of */
+/* dfu_device_c::format::formatting_of: crates/dfu_device_c/src/format.rt */
 static void dfu_device_c_format_formatting_of(unsigned char *a0, unsigned char *a1, unsigned char *a2) {
     uint8_t r26;
     uint32_t r1_16_0;
     uint32_t r15 = load32(a2 + 44);
-    if (r15 == 3) goto join_3;
-    goto then_1;
-then_1:
-    memset(a0, 0, 28);
-    return;
-join_3:
+    if (r15 != 3) {
+        memset(a0, 0, 28);
+        return;
+    }
     r26 = a2[64];
     switch (r26) {
     case 0:
-        r1_16_0 = 0;
-        goto arm_4;
     case 1:
-        r1_16_0 = 0;
-        goto arm_4;
-    case 2: goto arm_3;
     case 3:
-        r1_16_0 = 0;
-        goto arm_4;
     case 4:
-        r1_16_0 = 0;
-        goto arm_4;
     case 5:
         r1_16_0 = 0;
-        goto arm_4;
-    default: goto arm_5;
+        break;
+    case 2: {
+        uint32_t r28 = load32(a2 + 48);
+        r1_16_0 = r28;
+        break;
     }
-arm_3:;
-    uint32_t r28 = load32(a2 + 48);
-    r1_16_0 = r28;
-arm_4:;
+    default:
+        memset(a0, 0, 28);
+        return;
+    }
     uint8_t r10_0_0_copyload = a1[28];
     uint32_t r11_0_0_copyload = load32(a1 + 32);
     uint32_t r53 = load32(a2 + 52);
     uint32_t r55 = load32(a2 + 56);
     store32(a0, 1);
-    store64a4(a0 + 4, ((uint64_t)r11_0_0_copyload << 32) | (uint64_t)r10_0_0_copyload);
+    store64a4(a0 + 4, ((uint64_t)(size_t)r11_0_0_copyload << 32) | (uint64_t)(size_t)r10_0_0_copyload);
     store32(a0 + 12, r53);
     store32(a0 + 16, (uint32_t)r26);
     store32(a0 + 20, r1_16_0);
     store32(a0 + 24, r55);
     return;
-arm_5:
-    memset(a0, 0, 28);
-    return;
 }
 
 /* dfu_asks::formatting::Formatting::due */
-static uint8_t dfu_asks_formatting_Formatting_due(unsigned char *a0, uint64_t a2, unsigned char *a3) {
+static uint8_t dfu_asks_formatting_Formatting_due(unsigned char *a0, size_t a2, unsigned char *a3) {
     uint8_t common_ret_op;
-    if (a2 > 0xffffffffU) {
-        common_ret_op = 0;
-        goto common_ret;
+    if (wide(a2) > 0xffffffffU) common_ret_op = 0;
+    else {
+        uint64_t r17 = load64(a3 + 40);
+        if (r17 > 0x1000000U) common_ret_op = 0;
+        else {
+            uint8_t r33 = dfu_asks_format_piece_part_piece(a0, a2, a3);
+            common_ret_op = r33;
+        }
     }
-    uint64_t r17 = load64(a3 + 40);
-    if (r17 <= 0x1000000U) goto after_1;
-    common_ret_op = 0;
-common_ret:
     return common_ret_op;
-after_1:;
-    uint8_t r33 = dfu_asks_format_piece_part_piece(a0, a2, a3);
-    common_ret_op = r33;
-    goto common_ret;
 }
 
-/* dfu_asks::format_piece::part_piece */
-static uint8_t dfu_asks_format_piece_part_piece(unsigned char *a0, uint64_t a1, unsigned char *a2) {
+/* dfu_asks::format_piece::part_piece: crates/dfu_asks/src/format_piece.rt */
+static uint8_t dfu_asks_format_piece_part_piece(unsigned char *a0, size_t a1, unsigned char *a2) {
     _Alignas(4) unsigned char r6[16];
     _Alignas(4) unsigned char r8[16];
     _Alignas(4) unsigned char r11[16];
@@ -610,54 +580,54 @@ static uint8_t dfu_asks_format_piece_part_piece(unsigned char *a0, uint64_t a1, 
     store32(r11 + 12, 0);
     uint8_t r18 = a0[12];
     switch (r18) {
-    case 0: goto arm_1;
-    case 1: goto arm_2;
-    case 2: goto arm_3;
-    case 3: goto arm_4;
-    case 4: goto arm_5;
+    case 0: {
+        store32(r6, 0);
+        store32(r6 + 4, (uint32_t)(a1 >> 1));
+        uint8_t r25 = dfu_asks_next_piece_sequence_piece(r6, a2);
+        r3_0_shrunk = r25;
+        break;
+    }
+    case 1: {
+        store32(r8, 0);
+        store32(r8 + 4, 0);
+        uint8_t r29 = dfu_asks_next_piece_sequence_piece(r8, a2);
+        r3_0_shrunk = r29;
+        break;
+    }
+    case 2: {
+        uint32_t r33 = load32(a0 + 16);
+        size_t r36 = (size_t)load64(a2 + 40);
+        store32(r11, 3);
+        store32(r11 + 4, r33);
+        store32(r11 + 8, (uint32_t)r36);
+        uint8_t r44 = dfu_asks_next_piece_sequence_piece(r11, a2);
+        r3_0_shrunk = r44;
+        break;
+    }
+    case 3: {
+        uint32_t r47 = load32(a0 + 8);
+        uint8_t r50 = dfu_asks_format_piece_open_piece(1, r47, a2);
+        r3_0_shrunk = r50;
+        break;
+    }
+    case 4: {
+        uint32_t r53 = load32(a0 + 8);
+        uint8_t r56 = dfu_asks_format_piece_open_piece(2, r53, a2);
+        r3_0_shrunk = r56;
+        break;
+    }
     case 5:
         r3_0_shrunk = 0;
-        goto join_8;
+        break;
     default: never();
     }
-arm_1:
-    store32(r6, 0);
-    store32(r6 + 4, (uint32_t)(a1 >> 1));
-    uint8_t r25 = dfu_asks_next_piece_sequence_piece(r6, a2);
-    r3_0_shrunk = r25;
-    goto join_8;
-arm_2:
-    store32(r8, 0);
-    store32(r8 + 4, 0);
-    uint8_t r29 = dfu_asks_next_piece_sequence_piece(r8, a2);
-    r3_0_shrunk = r29;
-    goto join_8;
-arm_3:;
-    uint32_t r33 = load32(a0 + 16);
-    uint64_t r36 = load64(a2 + 40);
-    store32(r11, 3);
-    store32(r11 + 4, r33);
-    store32(r11 + 8, (uint32_t)r36);
-    uint8_t r44 = dfu_asks_next_piece_sequence_piece(r11, a2);
-    r3_0_shrunk = r44;
-    goto join_8;
-arm_4:;
-    uint32_t r47 = load32(a0 + 8);
-    uint8_t r50 = dfu_asks_format_piece_open_piece(1, r47, a2);
-    r3_0_shrunk = r50;
-    goto join_8;
-arm_5:;
-    uint32_t r53 = load32(a0 + 8);
-    uint8_t r56 = dfu_asks_format_piece_open_piece(2, r53, a2);
-    r3_0_shrunk = r56;
-join_8:
     return r3_0_shrunk;
 }
 
-/* dfu_asks::next_piece::sequence_piece */
+/* dfu_asks::next_piece::sequence_piece: crates/dfu_asks/src/next_piece.rt */
 static uint8_t dfu_asks_next_piece_sequence_piece(unsigned char *a0, unsigned char *a1) {
     _Alignas(4) unsigned char r1[16];
-    uint64_t r12_0;
+    size_t r12_0;
     uint8_t r2 = *a0;
     store32(r1, (uint32_t)r2);
     uint32_t v0 = load32(a0 + 4);
@@ -669,25 +639,23 @@ static uint8_t dfu_asks_next_piece_sequence_piece(unsigned char *a0, unsigned ch
     uint16_t v3 = load16(a0 + 14);
     store16(r1 + 14, v3);
     r12_0 = 0;
-loop_2:
-    if (r12_0 == 3) goto common_ret;
-    uint8_t r23 = dfu_asks_next_piece_numbered_piece(r1, r12_0, a1);
-    if (!r23) {
+    while (r12_0 != 3) {
+        uint8_t r23 = dfu_asks_next_piece_numbered_piece(r1, r12_0, a1);
+        if (r23) break;
         r12_0 = r12_0 + 1;
-        goto loop_2;
     }
-common_ret:
     return r12_0 < 3;
 }
 
-/* dfu_asks::next_piece::numbered_piece */
-static uint8_t dfu_asks_next_piece_numbered_piece(unsigned char *a0, uint64_t a1, unsigned char *a2) {
+/* dfu_asks::next_piece::numbered_piece: crates/dfu_asks/src/next_piece.rt */
+static uint8_t dfu_asks_next_piece_numbered_piece(unsigned char *a0, size_t a1, unsigned char *a2) {
     _Alignas(8) unsigned char r6[24];
     uint32_t v0, v1, r20_0_0_copyload, r31, spec_select, r25_2737_0, r25_35_0;
     uint16_t v2;
     uint8_t r18_0_0_copyload, r25_21_0;
-    uint64_t r1, r26, r1_4, r1_5, r17, r19, r25_15_0, r56, r23;
+    size_t r1, r17, r1_4, r1_5, r56;
     unsigned char *r18, *r17_2;
+    uint64_t r19, r26, r25_15_0, r23;
     uint8_t r9_0_off0, r21_0_shrunk;
     uint8_t r2 = *a0;
     v0 = load32(a0 + 4);
@@ -696,255 +664,232 @@ static uint8_t dfu_asks_next_piece_numbered_piece(unsigned char *a0, uint64_t a1
     r18_0_0_copyload = *a2;
     r20_0_0_copyload = load32(a2 + 4);
     switch (r2) {
-    case 0: goto arm_1;
-    case 1: goto arm_2;
-    case 2: goto arm_3;
-    case 3: goto arm_4;
-    default: never();
-    }
-arm_1:
-    if (a1 != 0) {
-        r21_0_shrunk = 0;
-        goto join_4;
-    }
-    r1 = (uint64_t)v0;
-    if (r20_0_0_copyload != 0) goto arm_5;
-    switch (r18_0_0_copyload) {
     case 0:
-        r25_15_0 = r1;
-        r25_21_0 = 4;
-        r25_2737_0 = 0;
-        r25_35_0 = 16;
-        goto arm_6;
-    case 1:
-        r25_15_0 = r1;
-        r25_21_0 = 4;
-        r25_2737_0 = 0;
-        r25_35_0 = 16;
-        goto arm_6;
-    case 2: goto arm_3_2;
-    case 3: goto arm_4_2;
-    default: never();
+        if (a1 != 0) {
+            r21_0_shrunk = 0;
+            goto join_4;
+        }
+        r1 = (size_t)v0;
+        if (r20_0_0_copyload != 0) {
+            r17 = (size_t)r20_0_0_copyload;
+            r18 = a2 + 48;
+            r19 = load64(r18);
+            if (r19 >= (uint64_t)r17) {
+                store64(r18, r19 - (uint64_t)r17);
+                r21_0_shrunk = 0;
+                goto join_4;
+            }
+            a2[72] = 1;
+            memset(a2 + 73, 0, 7);
+            store64(a2 + 80, r19 + (uint64_t)r1);
+            store64(a2 + 88, r17 - (size_t)r19);
+            r21_0_shrunk = 1;
+            goto join_4;
+        }
+        switch (r18_0_0_copyload) {
+        case 0:
+        case 1:
+            r25_15_0 = r1;
+            r25_21_0 = 4;
+            r25_2737_0 = 0;
+            r25_35_0 = 16;
+            break;
+        case 2:
+            r25_15_0 = r1;
+            r25_21_0 = 4;
+            r25_2737_0 = 0;
+            r25_35_0 = 64;
+            break;
+        case 3:
+            r25_15_0 = r1;
+            r25_21_0 = 4;
+            r25_2737_0 = 0;
+            r25_35_0 = 256;
+            break;
+        default: never();
+        }
+        break;
+    case 1: {
+        uint16_t v3 = load16(a0 + 14);
+        size_t v4 = (size_t)r18_0_0_copyload;
+        uint32_t switch_load = load32(PLACE(switch_table_dfu_core_would_stall) + 4 * v4);
+        uint32_t r1_2 = (uint32_t)v2;
+        r26 = ((uint64_t)(size_t)usub_sat32(v1, r1_2) + (uint64_t)(size_t)v0) + ((uint64_t)(size_t)umax32(r20_0_0_copyload, switch_load) << 1);
+        uint32_t switch_load_2 = load32(PLACE(switch_table_dfu_slots_layout_fill_size) + 4 * v4);
+        r31 = ((uint32_t)v3 + r1_2) & ((uint32_t)0 - switch_load_2);
+        spec_select = (uint32_t)((v2 == 0) ? 0 : umin32(r31, switch_load_2));
+        switch (a1) {
+        case 0:
+            r25_15_0 = r26;
+            r25_21_0 = 0;
+            r25_2737_0 = 0;
+            r25_35_0 = spec_select;
+            break;
+        case 1:
+            r25_15_0 = r26 + (uint64_t)(size_t)spec_select;
+            r25_21_0 = 0;
+            r25_2737_0 = spec_select;
+            r25_35_0 = r31 - spec_select;
+            break;
+        default:
+            r21_0_shrunk = 0;
+            goto join_4;
+        }
+        break;
     }
-arm_3_2:
-    r25_15_0 = r1;
-    r25_21_0 = 4;
-    r25_2737_0 = 0;
-    r25_35_0 = 64;
-    goto arm_6;
-arm_4_2:
-    r25_15_0 = r1;
-    r25_21_0 = 4;
-    r25_2737_0 = 0;
-    r25_35_0 = 256;
-    goto arm_6;
-arm_2:;
-    uint16_t v3 = load16(a0 + 14);
-    uint64_t v4 = (uint64_t)r18_0_0_copyload;
-    uint32_t switch_load = load32(PLACE(switch_table_dfu_core_would_stall) + 4 * (size_t)v4);
-    uint32_t r1_2 = (uint32_t)v2;
-    r26 = ((uint64_t)usub_sat32(v1, r1_2) + (uint64_t)v0) + ((uint64_t)umax32(r20_0_0_copyload, switch_load) << 1);
-    uint32_t switch_load_2 = load32(PLACE(switch_table_dfu_slots_layout_fill_size) + 4 * (size_t)v4);
-    r31 = ((uint32_t)v3 + r1_2) & ((uint32_t)0 - switch_load_2);
-    spec_select = (uint32_t)((v2 == 0) ? 0 : umin32(r31, switch_load_2));
-    switch (a1) {
-    case 0:
-        r25_15_0 = r26;
+    case 2:
+        switch (a1) {
+        case 0: {
+            size_t v5 = (size_t)r18_0_0_copyload;
+            uint32_t switch_load_3 = load32(PLACE(switch_table_dfu_core_would_stall) + 4 * v5);
+            uint32_t r1_3 = (uint32_t)v2;
+            uint32_t switch_load_4 = load32(PLACE(switch_table_dfu_slots_layout_fill_size) + 4 * v5);
+            uint32_t v6 = switch_load_4 - 1;
+            r25_15_0 = ((uint64_t)(size_t)usub_sat32(v1, r1_3) + (uint64_t)(size_t)v0) + ((uint64_t)(size_t)umax32(r20_0_0_copyload, switch_load_3) << 1);
+            r25_21_0 = 1;
+            r25_2737_0 = 0;
+            r25_35_0 = ((switch_load_4 - (v6 & r1_3)) & v6) + r1_3;
+            break;
+        }
+        case 1:
+            r1_4 = (size_t)v0;
+            switch (r18_0_0_copyload) {
+            case 0:
+            case 1:
+                r25_15_0 = (uint64_t)(size_t)umax32(r20_0_0_copyload, 16) + (uint64_t)r1_4;
+                r25_21_0 = 2;
+                r25_2737_0 = 0;
+                r25_35_0 = 16;
+                break;
+            case 2:
+                r25_15_0 = (uint64_t)(size_t)umax32(r20_0_0_copyload, 64) + (uint64_t)r1_4;
+                r25_21_0 = 2;
+                r25_2737_0 = 0;
+                r25_35_0 = 64;
+                break;
+            case 3:
+                r25_15_0 = (uint64_t)(size_t)umax32(r20_0_0_copyload, 256) + (uint64_t)r1_4;
+                r25_21_0 = 2;
+                r25_2737_0 = 0;
+                r25_35_0 = 256;
+                break;
+            default: never();
+            }
+            break;
+        case 2:
+            r1_5 = (size_t)v0;
+            switch (r18_0_0_copyload) {
+            case 0:
+            case 1:
+                r25_15_0 = r1_5;
+                r25_21_0 = 3;
+                r25_2737_0 = 0;
+                r25_35_0 = 16;
+                break;
+            case 2:
+                r25_15_0 = r1_5;
+                r25_21_0 = 3;
+                r25_2737_0 = 0;
+                r25_35_0 = 64;
+                break;
+            case 3:
+                r25_15_0 = r1_5;
+                r25_21_0 = 3;
+                r25_2737_0 = 0;
+                r25_35_0 = 256;
+                break;
+            default: never();
+            }
+            break;
+        default: never();
+        }
+        break;
+    case 3: {
+        if (a1 != 0) {
+            r21_0_shrunk = 0;
+            goto join_4;
+        }
+        size_t v7 = (size_t)r18_0_0_copyload;
+        uint32_t switch_load_5 = load32(PLACE(switch_table_dfu_slots_layout_fill_size) + 4 * v7);
+        uint32_t v8 = switch_load_5 - 1;
+        uint64_t r42 = (uint64_t)(size_t)((switch_load_5 - (v8 & v1)) & v8) + (uint64_t)(size_t)v1;
+        size_t r1_6 = (size_t)v0;
+        size_t a1_a0 = (size_t)umin64(r42, r1_6);
+        uint32_t switch_load37 = load32(PLACE(switch_table_dfu_core_would_stall) + 4 * v7);
+        r25_15_0 = ((uint64_t)(size_t)umax32(r20_0_0_copyload, switch_load37) << 1) + (uint64_t)r1_6;
         r25_21_0 = 0;
-        r25_2737_0 = 0;
-        r25_35_0 = spec_select;
-        goto arm_6;
-    case 1: goto arm_7;
-    default:
-        r21_0_shrunk = 0;
-        goto join_4;
+        r25_2737_0 = (uint32_t)a1_a0;
+        r25_35_0 = (uint32_t)(size_t)umin64(r42 - (uint64_t)a1_a0, 4096);
+        break;
     }
-arm_7:
-    r25_15_0 = r26 + (uint64_t)spec_select;
-    r25_21_0 = 0;
-    r25_2737_0 = spec_select;
-    r25_35_0 = r31 - spec_select;
-    goto arm_6;
-arm_3:
-    switch (a1) {
-    case 0: goto arm_1_2;
-    case 1: goto arm_2_2;
-    case 2: goto arm_3_3;
     default: never();
     }
-arm_1_2:;
-    uint64_t v5 = (uint64_t)r18_0_0_copyload;
-    uint32_t switch_load_3 = load32(PLACE(switch_table_dfu_core_would_stall) + 4 * (size_t)v5);
-    uint32_t r1_3 = (uint32_t)v2;
-    uint32_t switch_load_4 = load32(PLACE(switch_table_dfu_slots_layout_fill_size) + 4 * (size_t)v5);
-    uint32_t v6 = switch_load_4 + 0xffffffffU;
-    r25_15_0 = ((uint64_t)usub_sat32(v1, r1_3) + (uint64_t)v0) + ((uint64_t)umax32(r20_0_0_copyload, switch_load_3) << 1);
-    r25_21_0 = 1;
-    r25_2737_0 = 0;
-    r25_35_0 = ((switch_load_4 - (v6 & r1_3)) & v6) + r1_3;
-    goto arm_6;
-arm_2_2:
-    r1_4 = (uint64_t)v0;
-    switch (r18_0_0_copyload) {
-    case 0: goto dfu_slots_layout_gate_room_exit;
-    case 1: goto dfu_slots_layout_gate_room_exit;
-    case 2: goto dfu_slots_layout_gate_room_exit_thread;
-    case 3: goto dfu_slots_layout_gate_room_exit_thread33;
-    default: never();
-    }
-dfu_slots_layout_gate_room_exit_thread:
-    r25_15_0 = (uint64_t)umax32(r20_0_0_copyload, 64) + r1_4;
-    r25_21_0 = 2;
-    r25_2737_0 = 0;
-    r25_35_0 = 64;
-    goto arm_6;
-dfu_slots_layout_gate_room_exit_thread33:
-    r25_15_0 = (uint64_t)umax32(r20_0_0_copyload, 256) + r1_4;
-    r25_21_0 = 2;
-    r25_2737_0 = 0;
-    r25_35_0 = 256;
-    goto arm_6;
-dfu_slots_layout_gate_room_exit:
-    r25_15_0 = (uint64_t)umax32(r20_0_0_copyload, 16) + r1_4;
-    r25_21_0 = 2;
-    r25_2737_0 = 0;
-    r25_35_0 = 16;
-    goto arm_6;
-arm_3_3:
-    r1_5 = (uint64_t)v0;
-    switch (r18_0_0_copyload) {
-    case 0:
-        r25_15_0 = r1_5;
-        r25_21_0 = 3;
-        r25_2737_0 = 0;
-        r25_35_0 = 16;
-        goto arm_6;
-    case 1:
-        r25_15_0 = r1_5;
-        r25_21_0 = 3;
-        r25_2737_0 = 0;
-        r25_35_0 = 16;
-        goto arm_6;
-    case 2: goto arm_3_4;
-    case 3: goto arm_4_3;
-    default: never();
-    }
-arm_3_4:
-    r25_15_0 = r1_5;
-    r25_21_0 = 3;
-    r25_2737_0 = 0;
-    r25_35_0 = 64;
-    goto arm_6;
-arm_4_3:
-    r25_15_0 = r1_5;
-    r25_21_0 = 3;
-    r25_2737_0 = 0;
-    r25_35_0 = 256;
-    goto arm_6;
-arm_4:
-    if (a1 != 0) {
-        r21_0_shrunk = 0;
-        goto join_4;
-    }
-    uint64_t v7 = (uint64_t)r18_0_0_copyload;
-    uint32_t switch_load_5 = load32(PLACE(switch_table_dfu_slots_layout_fill_size) + 4 * (size_t)v7);
-    uint32_t v8 = switch_load_5 + 0xffffffffU;
-    uint64_t r42 = (uint64_t)((switch_load_5 - (v8 & v1)) & v8) + (uint64_t)v1;
-    uint64_t r1_6 = (uint64_t)v0;
-    uint64_t a1_a0 = umin64(r42, r1_6);
-    uint32_t switch_load37 = load32(PLACE(switch_table_dfu_core_would_stall) + 4 * (size_t)v7);
-    r25_15_0 = ((uint64_t)umax32(r20_0_0_copyload, switch_load37) << 1) + r1_6;
-    r25_21_0 = 0;
-    r25_2737_0 = (uint32_t)a1_a0;
-    r25_35_0 = (uint32_t)umin64(r42 - a1_a0, 4096);
-    goto arm_6;
-arm_5:
-    r17 = (uint64_t)r20_0_0_copyload;
-    r18 = a2 + 48;
-    r19 = load64(r18);
-    if (r19 >= r17) goto join_3;
-    a2[72] = 1;
-    memset(a2 + 73, 0, 7);
-    store64(a2 + 80, r19 + r1);
-    store64(a2 + 88, r17 - r19);
-    r21_0_shrunk = 1;
-    goto join_4;
-join_3:
-    store64(r18, r19 - r17);
-    r21_0_shrunk = 0;
-    goto join_4;
-arm_6:
-    r56 = (uint64_t)r25_35_0;
+    r56 = (size_t)r25_35_0;
     r17_2 = a2 + 48;
     uint64_t r18_2 = load64(r17_2);
     dfu_asks_sector_locate(r6, r20_0_0_copyload, r25_15_0, r56, r18_2);
     uint8_t r21 = *r6;
     r23 = load64(r6 + 8);
     switch (r21) {
-    case 0: goto arm_1_3;
-    case 1: goto arm_2_3;
-    case 2: goto arm_3_5;
+    case 0: {
+        uint64_t r25 = load64(r6 + 16);
+        a2[72] = 1;
+        memset(a2 + 73, 0, 7);
+        store64(a2 + 80, r23);
+        store64(a2 + 88, r25);
+        r9_0_off0 = 1;
+        break;
+    }
+    case 1:
+        store64(a2 + 72, 0);
+        store64(a2 + 80, r23 + r25_15_0);
+        store64(a2 + 88, (size_t)umin64((uint64_t)r56 - r23, 256));
+        a2[96] = r25_21_0;
+        store64(a2 + 104, r23 + (uint64_t)(size_t)r25_2737_0);
+        r9_0_off0 = 1;
+        break;
+    case 2:
+        store64(r17_2, r23);
+        r9_0_off0 = 0;
+        break;
     default: never();
     }
-arm_1_3:;
-    uint64_t r25 = load64(r6 + 16);
-    a2[72] = 1;
-    memset(a2 + 73, 0, 7);
-    store64(a2 + 80, r23);
-    store64(a2 + 88, r25);
-    r9_0_off0 = 1;
-    goto dfu_asks_next_piece_write_piece_exit;
-arm_2_3:
-    store64(a2 + 72, 0);
-    store64(a2 + 80, r23 + r25_15_0);
-    store64(a2 + 88, umin64(r56 - r23, 256));
-    a2[96] = r25_21_0;
-    store64(a2 + 104, r23 + (uint64_t)r25_2737_0);
-    r9_0_off0 = 1;
-    goto dfu_asks_next_piece_write_piece_exit;
-arm_3_5:
-    store64(r17_2, r23);
-    r9_0_off0 = 0;
-    goto dfu_asks_next_piece_write_piece_exit;
-dfu_asks_next_piece_write_piece_exit:
     r21_0_shrunk = r9_0_off0;
 join_4:
     return r21_0_shrunk;
 }
 
-/* dfu_asks::sector::locate */
-static void dfu_asks_sector_locate(unsigned char *a0, uint32_t a1, uint64_t a2, uint64_t a3, uint64_t a4) {
-    uint64_t r1, r18, r5_0, r4_0, r7_0_0_0, r7_4_0, r7_7_0;
-    if (a1 == 0) goto then_1;
-    goto join_3;
-then_1:;
-    uint8_t r4 = a4 < a3;
-    store64(a0, (uint64_t)(r4 ? 1 : 2));
-    store64(a0 + 8, a4 - (uint64_t)(r4 ? 0 : a3));
-    store64(a0 + 16, 0);
-    return;
-join_3:
-    r1 = (uint64_t)a1;
-    r18 = a3 + a2;
-    uint32_t r22 = ((((uint32_t)(a2 >> 15) % a1) << 15) | ((uint32_t)a2 & 32767)) % a1;
+/* dfu_asks::sector::locate: crates/dfu_asks/src/sector.rt */
+static void dfu_asks_sector_locate(unsigned char *a0, uint32_t a1, uint64_t a2, size_t a3, uint64_t a4) {
+    size_t r1, r7_0_0_0, r7_7_0;
+    uint64_t r18, r5_0, r4_0, r7_4_0;
+    if (a1 == 0) {
+        uint8_t r4 = a4 < (uint64_t)a3;
+        store64(a0, (size_t)(r4 ? 1 : 2));
+        store64(a0 + 8, a4 - (uint64_t)(size_t)(r4 ? 0 : a3));
+        store64(a0 + 16, 0);
+        return;
+    }
+    r1 = (size_t)a1;
+    r18 = (uint64_t)a3 + a2;
+    uint32_t r22 = ((((uint32_t)(size_t)(a2 >> 15) % a1) << 15) | ((uint32_t)a2 & 32767)) % a1;
     r5_0 = a4;
-    r4_0 = (uint64_t)((r22 == 0) ? 0 : (r1 - (uint64_t)r22)) + a2;
-loop_5:
-    if (r4_0 >= r18) goto arm_4;
-    if (r5_0 < r1) goto arm_5;
-    r5_0 = r5_0 - r1;
-    r4_0 = r4_0 + r1;
-    goto loop_5;
-arm_4:;
-    uint8_t r4_2 = r5_0 < a3;
-    r7_0_0_0 = (uint64_t)(r4_2 ? 1 : 2);
-    r7_4_0 = r5_0 - (uint64_t)(r4_2 ? 0 : a3);
-    r7_7_0 = 0;
-    goto join_7;
-arm_5:
+    r4_0 = (uint64_t)((r22 == 0) ? 0 : ((uint64_t)r1 - (uint64_t)(size_t)r22)) + a2;
+    for (;;) {
+        if (r4_0 >= r18) goto arm_4;
+        if (r5_0 < (uint64_t)r1) break;
+        r5_0 = r5_0 - (uint64_t)r1;
+        r4_0 = r4_0 + (uint64_t)r1;
+    }
     r7_0_0_0 = 0;
     r7_4_0 = r4_0 + r5_0;
-    r7_7_0 = r1 - r5_0;
+    r7_7_0 = r1 - (size_t)r5_0;
+    goto join_7;
+arm_4:;
+    uint8_t r4_2 = r5_0 < (uint64_t)a3;
+    r7_0_0_0 = (size_t)(r4_2 ? 1 : 2);
+    r7_4_0 = r5_0 - (uint64_t)(size_t)(r4_2 ? 0 : a3);
+    r7_7_0 = 0;
 join_7:
     store64(a0, r7_0_0_0);
     store64(a0 + 8, r7_4_0);
@@ -952,11 +897,11 @@ join_7:
     return;
 }
 
-/* dfu_asks::format_piece::open_piece */
-static uint8_t dfu_asks_format_piece_open_piece(uint64_t a0, uint32_t a1, unsigned char *a2) {
+/* dfu_asks::format_piece::open_piece: crates/dfu_asks/src/format_piece.rt */
+static uint8_t dfu_asks_format_piece_open_piece(size_t a0, uint32_t a1, unsigned char *a2) {
     _Alignas(4) unsigned char r1[16];
     store32(r1 + 12, 0);
-    uint64_t r8 = load64(a2 + 40);
+    size_t r8 = (size_t)load64(a2 + 40);
     a2[56] = 0;
     a2[57] = 2;
     a2[58] = 0;
@@ -971,202 +916,183 @@ static uint8_t dfu_asks_format_piece_open_piece(uint64_t a0, uint32_t a1, unsign
     return r17;
 }
 
-/* dfu_asks::next_and_took::is_sound */
+/* dfu_asks::next_and_took::is_sound: crates/dfu_asks/src/next_and_took.rt */
 static uint8_t dfu_asks_next_and_took_is_sound(uint32_t a0, unsigned char *a1) {
     uint64_t r2_35_0_copyload;
     uint8_t common_ret_op;
     uint8_t r2_0_0_copyload = *a1;
     r2_35_0_copyload = load64(a1 + 8);
-    if (r2_0_0_copyload & 1) goto join_3;
-    common_ret_op = 1;
-common_ret:
-    return common_ret_op;
-join_3:;
-    uint64_t r2_4_0_copyload = load64(a1 + 16);
-    if (!((a0 != 0) ? (r2_4_0_copyload == (uint64_t)a0) : 0)) {
-        common_ret_op = 0;
-        goto common_ret;
+    if (!(r2_0_0_copyload & 1)) common_ret_op = 1;
+    else {
+        uint64_t r2_4_0_copyload = load64(a1 + 16);
+        if ((a0 != 0) ? (r2_4_0_copyload == (uint64_t)(size_t)a0) : 0) common_ret_op = (((((uint32_t)(size_t)(r2_35_0_copyload >> 15) % a0) << 15) | ((uint32_t)r2_35_0_copyload & 32767)) % a0) == 0;
+        else {
+            common_ret_op = 0;
+        }
     }
-    common_ret_op = (((((uint32_t)(r2_35_0_copyload >> 15) % a0) << 15) | ((uint32_t)r2_35_0_copyload & 32767)) % a0) == 0;
-    goto common_ret;
+    return common_ret_op;
 }
 
-/* dfu_asks::cut::fill */
+/* dfu_asks::cut::fill: crates/dfu_asks/src/cut.rt */
 static void dfu_asks_cut_fill(unsigned char *a0, unsigned char *a1) {
-    uint64_t a1_a0, r1_0;
+    size_t a1_a0, r1_0;
     uint64_t r9 = load64(a0 + 88);
-    a1_a0 = umin64(r9, 256);
+    a1_a0 = (size_t)umin64(r9, 256);
     r1_0 = 0;
-loop_2:
-    if (r1_0 == a1_a0) return;
-    uint8_t r19 = dfu_asks_cut_byte_of(a0, r1_0);
-    a1[(size_t)r1_0] = r19;
-    r1_0 = r1_0 + 1;
-    goto loop_2;
+    for (;;) {
+        if (r1_0 == a1_a0) return;
+        uint8_t r19 = dfu_asks_cut_byte_of(a0, r1_0);
+        a1[r1_0] = r19;
+        r1_0 = r1_0 + 1;
+    }
 }
 
-/* dfu_asks::cut::byte_of */
+/* dfu_asks::cut::byte_of: crates/dfu_asks/src/cut.rt */
 static uint8_t dfu_asks_cut_byte_of(unsigned char *a0, uint64_t a1) {
-    uint8_t common_ret_op;
     uint64_t r4_3_0_copyload, r5_3_0_copyload, r25, r29;
     unsigned char *r21, *r27, *r30;
+    uint8_t common_ret_op;
     uint8_t r10 = a0[72];
-    if (!(r10 & 1)) goto join_3;
-    common_ret_op = 255;
-common_ret:
+    if (r10 & 1) common_ret_op = 255;
+    else {
+        uint8_t r3_0_0_copyload = a0[96];
+        size_t r4_0_0_copyload = (size_t)load64(a0 + 16);
+        r4_3_0_copyload = load64(a0 + 24);
+        size_t r5_0_0_copyload = (size_t)load64(a0 + 32);
+        r5_3_0_copyload = load64(a0 + 40);
+        r21 = a0 + 56;
+        uint64_t r23 = load64(a0 + 104);
+        r25 = r23 + a1;
+        r27 = (unsigned char *)(uintptr_t)r4_0_0_copyload;
+        r30 = (unsigned char *)(uintptr_t)r5_0_0_copyload;
+        switch (r3_0_0_copyload) {
+        case 0:
+            if (r25 < r4_3_0_copyload) {
+                uint8_t r23_2 = r27[(size_t)r25];
+                common_ret_op = r23_2;
+            }
+            else {
+                r29 = r25 - r4_3_0_copyload;
+                if (r29 >= r5_3_0_copyload) common_ret_op = 0;
+                else {
+                    uint8_t r42 = r30[(size_t)r29];
+                    common_ret_op = r42;
+                }
+            }
+            break;
+        case 1:
+            if (r25 >= r4_3_0_copyload) common_ret_op = 0;
+            else {
+                uint8_t r23_3 = r27[(size_t)r25];
+                common_ret_op = r23_3;
+            }
+            break;
+        case 2:
+            if (r25 >= 16) common_ret_op = 0;
+            else {
+                uint8_t r23_4 = r21[(size_t)r25];
+                common_ret_op = r23_4;
+            }
+            break;
+        case 3:
+            common_ret_op = (uint8_t)((r25 == 0) ? 165 : 0);
+            break;
+        case 4:
+            common_ret_op = 0;
+            break;
+        default: never();
+        }
+    }
     return common_ret_op;
-join_3:;
-    uint8_t r3_0_0_copyload = a0[96];
-    uint64_t r4_0_0_copyload = load64(a0 + 16);
-    r4_3_0_copyload = load64(a0 + 24);
-    uint64_t r5_0_0_copyload = load64(a0 + 32);
-    r5_3_0_copyload = load64(a0 + 40);
-    r21 = a0 + 56;
-    uint64_t r23 = load64(a0 + 104);
-    r25 = r23 + a1;
-    r27 = (unsigned char *)(uintptr_t)r4_0_0_copyload;
-    r30 = (unsigned char *)(uintptr_t)r5_0_0_copyload;
-    switch (r3_0_0_copyload) {
-    case 0: goto arm_1;
-    case 1: goto arm_2;
-    case 2: goto arm_3;
-    case 3: goto arm_4;
-    case 4:
-        common_ret_op = 0;
-        goto common_ret;
-    default: never();
-    }
-arm_1:
-    if (r25 >= r4_3_0_copyload) goto join_3_2;
-    uint8_t r23_2 = r27[(size_t)r25];
-    common_ret_op = r23_2;
-    goto common_ret;
-join_3_2:
-    r29 = r25 - r4_3_0_copyload;
-    if (r29 >= r5_3_0_copyload) {
-        common_ret_op = 0;
-        goto common_ret;
-    }
-    uint8_t r42 = r30[(size_t)r29];
-    common_ret_op = r42;
-    goto common_ret;
-arm_2:
-    if (r25 >= r4_3_0_copyload) {
-        common_ret_op = 0;
-        goto common_ret;
-    }
-    uint8_t r23_3 = r27[(size_t)r25];
-    common_ret_op = r23_3;
-    goto common_ret;
-arm_3:
-    if (r25 >= 16) {
-        common_ret_op = 0;
-        goto common_ret;
-    }
-    uint8_t r23_4 = r21[(size_t)r25];
-    common_ret_op = r23_4;
-    goto common_ret;
-arm_4:
-    common_ret_op = (uint8_t)((r25 == 0) ? 165 : 0);
-    goto common_ret;
 }
 
-/* dfu_slots::layout::is_sized::<#c4c4734aca759fff> */
+/* dfu_slots::layout::is_sized::<#c4c4734aca759fff>: crates/dfu_slots/src/layout.rt */
 static uint8_t dfu_slots_layout_is_sized(unsigned char *a0) {
     uint32_t r1_0_0_copyload, a0_a1, r5, r69;
+    size_t v0;
     uint8_t common_ret_op;
-    uint64_t v0;
     r1_0_0_copyload = load32(a0 + 20);
-    if ((r1_0_0_copyload < 0x20001U) & ((r1_0_0_copyload & 255) == 0)) goto join_3;
-    common_ret_op = 0;
-common_ret:
+    if (!((r1_0_0_copyload < 0x20001U) & ((r1_0_0_copyload & 255) == 0))) common_ret_op = 0;
+    else {
+        uint8_t r0_0_0_copyload = a0[16];
+        v0 = (size_t)r0_0_0_copyload;
+        uint32_t switch_load = load32(PLACE(switch_table_dfu_core_would_stall) + 4 * v0);
+        a0_a1 = umax32(r1_0_0_copyload, switch_load);
+        size_t r3 = (size_t)load64(a0 + 8);
+        r5 = (uint32_t)r3;
+        uint32_t pre = a0_a1 << 2;
+        if (!(((pre + 0x2000000U) >= r5) & (((r5 & 1) == 0) ? (pre < r5) : !(r3 & 1)))) common_ret_op = 0;
+        else {
+            r69 = (r5 >> 1) - (a0_a1 << 1);
+            uint32_t switch_load_2 = load32(PLACE(switch_table_dfu_asks_asking_Asking_is_fit) + 4 * v0);
+            if ((switch_load_2 & r69) != 0) common_ret_op = 0;
+            else {
+                if (r1_0_0_copyload == 0) common_ret_op = 1;
+                else {
+                    common_ret_op = (r69 % r1_0_0_copyload) == 0;
+                }
+            }
+        }
+    }
     return common_ret_op;
-join_3:;
-    uint8_t r0_0_0_copyload = a0[16];
-    v0 = (uint64_t)r0_0_0_copyload;
-    uint32_t switch_load = load32(PLACE(switch_table_dfu_core_would_stall) + 4 * (size_t)v0);
-    a0_a1 = umax32(r1_0_0_copyload, switch_load);
-    uint64_t r3 = load64(a0 + 8);
-    r5 = (uint32_t)r3;
-    uint32_t pre = a0_a1 << 2;
-    if (!(((pre + 0x2000000U) >= r5) & (((r5 & 1) == 0) ? (pre < r5) : !(r3 & 1)))) {
-        common_ret_op = 0;
-        goto common_ret;
-    }
-    r69 = (r5 >> 1) - (a0_a1 << 1);
-    uint32_t switch_load_2 = load32(PLACE(switch_table_dfu_asks_asking_Asking_is_fit) + 4 * (size_t)v0);
-    if ((switch_load_2 & r69) != 0) {
-        common_ret_op = 0;
-        goto common_ret;
-    }
-    if (r1_0_0_copyload == 0) {
-        common_ret_op = 1;
-        goto common_ret;
-    }
-    common_ret_op = (r69 % r1_0_0_copyload) == 0;
-    goto common_ret;
 }
 
-/* dfu_slots::layout::capacity_of::<#c4c4734aca759fff> */
+/* dfu_slots::layout::capacity_of::<#c4c4734aca759fff>: crates/dfu_slots/src/layout.rt */
 static uint32_t dfu_slots_layout_capacity_of(unsigned char *a0) {
-    uint64_t r3 = load64(a0 + 8);
+    size_t r3 = (size_t)load64(a0 + 8);
     uint8_t r0_0_0_copyload = a0[16];
     uint32_t r1_0_0_copyload = load32(a0 + 20);
     uint32_t switch_load = load32(PLACE(switch_table_dfu_core_would_stall) + 4 * (size_t)r0_0_0_copyload);
     return ((uint32_t)r3 >> 1) - (umax32(r1_0_0_copyload, switch_load) << 1);
 }
 
-/* dfu_suffix::crc::Crc::update_small */
+/* dfu_suffix::crc::Crc::update_small: crates/dfu_suffix/src/crc.rt */
 static void dfu_suffix_crc_Crc_update_small(unsigned char *a0, unsigned char *a1, uint64_t a2) {
     uint64_t r4_0;
     uint32_t r3_0;
     uint32_t r5 = load32(a0);
     r4_0 = 0;
     r3_0 = r5;
-loop_3:
-    if (r4_0 == a2) goto dfu_suffix_small_after_bytes_exit;
-    uint8_t r23 = a1[(size_t)r4_0];
-    uint32_t r6 = r3_0 ^ (uint32_t)r23;
-    uint32_t r20 = load32(PLACE(static_2) + (size_t)((r6 << 2) & 60));
-    uint32_t r23_2 = (r6 >> 4) ^ r20;
-    uint32_t r20_2 = load32(PLACE(static_2) + (size_t)((r23_2 << 2) & 60));
-    r4_0 = r4_0 + 1;
-    r3_0 = (r23_2 >> 4) ^ r20_2;
-    goto loop_3;
-dfu_suffix_small_after_bytes_exit:
+    while (r4_0 != a2) {
+        uint8_t r23 = a1[(size_t)r4_0];
+        uint32_t r6 = r3_0 ^ (uint32_t)r23;
+        uint32_t r20 = load32(PLACE(static_2) + (size_t)((r6 << 2) & 60));
+        uint32_t r23_2 = (r6 >> 4) ^ r20;
+        uint32_t r20_2 = load32(PLACE(static_2) + (size_t)((r23_2 << 2) & 60));
+        r4_0 = r4_0 + 1;
+        r3_0 = (r23_2 >> 4) ^ r20_2;
+    }
     store32(a0, r3_0);
     return;
 }
 
-/* dfu_asks::cut::stands */
-static uint8_t dfu_asks_cut_stands(unsigned char *a0, uint64_t a1, unsigned char *a2) {
+/* dfu_asks::cut::stands: crates/dfu_asks/src/cut.rt */
+static uint8_t dfu_asks_cut_stands(unsigned char *a0, size_t a1, unsigned char *a2) {
     uint64_t r3_2_0_copyload, r3_4_0_copyload, r3_0, r3_0_lcssa;
-    uint8_t common_ret_op;
     unsigned char *r41;
+    uint8_t common_ret_op;
     r3_2_0_copyload = load64(a2 + 80);
     r3_4_0_copyload = load64(a2 + 88);
-    if (a1 >= (r3_4_0_copyload + r3_2_0_copyload)) goto join_3;
-    common_ret_op = 0;
-common_ret:
+    if ((uint64_t)a1 < (r3_4_0_copyload + r3_2_0_copyload)) common_ret_op = 0;
+    else {
+        r41 = a0 + (size_t)r3_2_0_copyload;
+        r3_0 = 0;
+        for (;;) {
+            if (r3_0 == r3_4_0_copyload) {
+                r3_0_lcssa = r3_4_0_copyload;
+                break;
+            }
+            uint8_t r21 = r41[(size_t)r3_0];
+            uint8_t r23 = dfu_asks_cut_byte_of(a2, r3_0);
+            if (r21 != r23) {
+                r3_0_lcssa = r3_0;
+                break;
+            }
+            r3_0 = r3_0 + 1;
+        }
+        common_ret_op = r3_0_lcssa >= r3_4_0_copyload;
+    }
     return common_ret_op;
-join_3:
-    r41 = a0 + (size_t)r3_2_0_copyload;
-    r3_0 = 0;
-loop_2:
-    if (r3_0 == r3_4_0_copyload) {
-        r3_0_lcssa = r3_4_0_copyload;
-        goto dfu_asks_cut_are_those_exit;
-    }
-    uint8_t r21 = r41[(size_t)r3_0];
-    uint8_t r23 = dfu_asks_cut_byte_of(a2, r3_0);
-    if (r21 == r23) {
-        r3_0 = r3_0 + 1;
-        goto loop_2;
-    }
-    r3_0_lcssa = r3_0;
-dfu_asks_cut_are_those_exit:
-    common_ret_op = r3_0_lcssa >= r3_4_0_copyload;
-    goto common_ret;
 }
 
 /* dfu_asks::noted::Noted::find */
@@ -1176,33 +1102,33 @@ static void dfu_asks_noted_Noted_find(unsigned char *a0, unsigned char *a1, uint
     _Alignas(4) unsigned char r12[12];
     uint8_t r14_0_0, r14_4_0;
     memset(r14_6, 0, 16);
-    if (a2 >= 0x100000000ULL) goto arm_2;
-    store64(r5, (uint64_t)(uintptr_t)a1);
+    if (a2 >= 0x100000000ULL) {
+        memset(a0, 0, 18);
+        return;
+    }
+    store64(r5, (size_t)(uintptr_t)a1);
     store64(r5 + 8, a2);
     r5[16] = a3;
     store32(r5 + 20, a4);
     dfu_slots_places_check(r12, r5);
     uint8_t r30 = *r12;
-    if (r30 == 0) goto arm_5;
-    r14_0_0 = 0;
-    r14_4_0 = 0;
-    goto join_7;
-arm_2:
-    memset(a0, 0, 18);
-    return;
-arm_5:;
-    uint32_t r8_0_0_copyload = load32(r12 + 4);
-    dfu_slots_read_header_of(r14_6, r5, r8_0_0_copyload);
-    r14_0_0 = 1;
-    r14_4_0 = r8_0_0_copyload != 0;
-join_7:
+    if (r30 != 0) {
+        r14_0_0 = 0;
+        r14_4_0 = 0;
+    }
+    else {
+        uint32_t r8_0_0_copyload = load32(r12 + 4);
+        dfu_slots_read_header_of(r14_6, r5, r8_0_0_copyload);
+        r14_0_0 = 1;
+        r14_4_0 = r8_0_0_copyload != 0;
+    }
     *a0 = r14_0_0;
     a0[1] = r14_4_0;
     memcpy(a0 + 2, r14_6, 16);
     return;
 }
 
-/* dfu_slots::places::check::<#c4c4734aca759fff> */
+/* dfu_slots::places::check::<#c4c4734aca759fff>: crates/dfu_slots/src/places.rt */
 static void dfu_slots_places_check(unsigned char *a0, unsigned char *a1) {
     _Alignas(1) unsigned char r3_4[16];
     uint8_t r5, r11;
@@ -1210,85 +1136,82 @@ static void dfu_slots_places_check(unsigned char *a0, unsigned char *a1) {
     uint32_t r72_2, r72_3, r1_9_0_copyload, v3, v4;
     uint8_t r1_2_0_copyload, v50, v5;
     uint8_t r12 = dfu_slots_layout_is_sized(a1);
-    if (r12) goto join_3;
-    goto then_1;
-then_1:
-    *a0 = 1;
-    a0[1] = 0;
-    store32(a0 + 4, 0);
-    store32(a0 + 8, 0);
-    return;
-join_3:
+    if (!r12) {
+        *a0 = 1;
+        a0[1] = 0;
+        store32(a0 + 4, 0);
+        store32(a0 + 8, 0);
+        return;
+    }
     r5 = dfu_slots_read_counts(a1, 0);
     r2 = a1 + 8;
-    uint64_t r3 = load64(r2);
+    size_t r3 = (size_t)load64(r2);
     r11 = dfu_slots_read_counts(a1, (uint32_t)r3 >> 1);
-    if (r5 | r11) goto join_6;
-    *a0 = 1;
-    a0[1] = 1;
-    store32(a0 + 4, 0);
-    store32(a0 + 8, 0);
-    return;
-join_6:;
-    uint64_t r3_2 = load64(r2);
+    if (!(r5 | r11)) {
+        *a0 = 1;
+        a0[1] = 1;
+        store32(a0 + 4, 0);
+        store32(a0 + 8, 0);
+        return;
+    }
+    size_t r3_2 = (size_t)load64(r2);
     uint8_t r15 = dfu_slots_places_is_newest(a1, 0, (uint32_t)r3_2 >> 1, r5, r11);
-    uint64_t r3_3 = load64(r2);
+    size_t r3_3 = (size_t)load64(r2);
     uint32_t r72 = (uint32_t)r3_3 >> 1;
     r72_2 = (uint32_t)(r15 ? 0 : r72);
     r72_3 = (uint32_t)(r15 ? r72 : 0);
-    if (r72_2 != 0) goto dfu_slots_places_has_newest_exit;
-    uint8_t r24 = dfu_slots_places_is_newest(a1, 0, r72_3, r5, r11);
-    if (r24) goto join_9;
-    goto then_7;
-dfu_slots_places_has_newest_exit:;
-    uint8_t r33 = dfu_slots_places_is_newest(a1, r72_2, r72_3, r11, r5);
-    if (r33) goto join_9;
-then_7:
-    *a0 = 1;
-    a0[1] = 2;
-    store32(a0 + 4, 0);
-    store32(a0 + 8, 0);
-    return;
-join_9:
+    if (r72_2 == 0) {
+        uint8_t r24 = dfu_slots_places_is_newest(a1, 0, r72_3, r5, r11);
+        if (!r24) goto then_7;
+    }
+    else {
+        uint8_t r33 = dfu_slots_places_is_newest(a1, r72_2, r72_3, r11, r5);
+        if (!r33) goto then_7;
+    }
     dfu_slots_read_header_of(r3_4, a1, r72_2);
     r1_2_0_copyload = r3_4[1];
     r1_9_0_copyload = load32u(r3_4 + 12);
-    if (r1_2_0_copyload != 2) goto join_3_2;
-    v50 = 0;
-    v3 = r72_3;
-    v4 = r72_2;
-    v5 = 0;
-    goto v2;
-join_3_2:;
-    uint32_t r1_6_0_copyload = load32u(r3_4 + 4);
-    uint32_t r1_8_0_copyload = load32u(r3_4 + 8);
-    uint8_t r1_5_0_copyload = r3_4[3];
-    uint8_t r1_4_0_copyload = r3_4[2];
-    uint32_t r26 = dfu_slots_layout_capacity_of(a1);
-    if (((((r1_2_0_copyload == 1) & (r1_6_0_copyload <= r26)) ? (r1_4_0_copyload == 0) : 0) ? (r1_5_0_copyload == 0) : 0) ? (r1_8_0_copyload == 0) : 0) goto dfu_slots_read_header_len_exit;
-    goto v1;
-dfu_slots_read_header_len_exit:
-    if (r1_9_0_copyload == 0) {
+    if (r1_2_0_copyload == 2) {
         v50 = 0;
         v3 = r72_3;
         v4 = r72_2;
         v5 = 0;
-        goto v2;
     }
-v1:
-    v50 = 1;
-    v3 = 0;
-    v4 = 0;
-    v5 = 3;
+    else {
+        uint32_t r1_6_0_copyload = load32u(r3_4 + 4);
+        uint32_t r1_8_0_copyload = load32u(r3_4 + 8);
+        uint8_t r1_5_0_copyload = r3_4[3];
+        uint8_t r1_4_0_copyload = r3_4[2];
+        uint32_t r26 = dfu_slots_layout_capacity_of(a1);
+        if (((((r1_2_0_copyload == 1) & (r1_6_0_copyload <= r26)) ? (r1_4_0_copyload == 0) : 0) ? (r1_5_0_copyload == 0) : 0) ? (r1_8_0_copyload == 0) : 0) {
+            if (r1_9_0_copyload == 0) {
+                v50 = 0;
+                v3 = r72_3;
+                v4 = r72_2;
+                v5 = 0;
+                goto v2;
+            }
+        }
+        v50 = 1;
+        v3 = 0;
+        v4 = 0;
+        v5 = 3;
+    }
 v2:
     *a0 = v50;
     a0[1] = v5;
     store32(a0 + 4, v4);
     store32(a0 + 8, v3);
     return;
+then_7:
+    *a0 = 1;
+    a0[1] = 2;
+    store32(a0 + 4, 0);
+    store32(a0 + 8, 0);
+    return;
 }
 
-/* dfu_slots::read::counts::<#c4c4734aca759fff> */
+/* dfu_slots::read::counts::<#c4c4734aca759fff>: crates/dfu_slots/src/read.rt */
 static uint8_t dfu_slots_read_counts(unsigned char *a0, uint32_t a1) {
     _Alignas(1) unsigned char r2[64];
     _Alignas(1) unsigned char r3_2[16];
@@ -1298,106 +1221,96 @@ static uint8_t dfu_slots_read_counts(unsigned char *a0, uint32_t a1) {
     uint32_t r1_5_0_copyload, r1_6_0_copyload, r1_7_0_copyload, r3_0;
     uint8_t common_ret_op, r1_0_in;
     uint8_t r8 = dfu_slots_read_is_open(a0, a1);
-    if (!r8) {
-        r1_0_in = 0;
-        goto join_3;
+    if (!r8) r1_0_in = 0;
+    else {
+        dfu_slots_read_header_of(r3, a0, a1);
+        uint8_t r4_2_0_copyload = r3[1];
+        if (r4_2_0_copyload != 2) r1_0_in = 1;
+        else {
+            dfu_slots_read_header_of(r3_2, a0, a1);
+            r1_2_0_copyload = r3_2[1];
+            r1_3_0_copyload = r3_2[2];
+            r1_4_0_copyload = r3_2[3];
+            r1_5_0_copyload = load32u(r3_2 + 4);
+            r1_6_0_copyload = load32u(r3_2 + 8);
+            r1_7_0_copyload = load32u(r3_2 + 12);
+            uint32_t r10 = dfu_slots_layout_capacity_of(a0);
+            if (r10 < r1_5_0_copyload) common_ret_op = 0;
+            else {
+                store32(r1, 0xffffffffU);
+                memset(r2, 0, 64);
+                r3_0 = 0;
+                while (r3_0 < r1_5_0_copyload) {
+                    uint32_t a1_a0 = umin32(r1_5_0_copyload - r3_0, 64);
+                    size_t r28 = (size_t)a1_a0;
+                    dfu_slots_read_read_data(a0, a1, r3_0, r2, r28);
+                    dfu_suffix_crc_Crc_update_small(r1, r2, r28);
+                    r3_0 = a1_a0 + r3_0;
+                }
+                uint32_t r0_0_0_copyload = load32(r1);
+                common_ret_op = ((((r1_2_0_copyload == 2) ? (r1_3_0_copyload == 0) : 0) ? (r1_4_0_copyload == 0) : 0) ? (r1_6_0_copyload == r0_0_0_copyload) : 0) ? (r1_7_0_copyload == 0) : 0;
+            }
+            r1_0_in = common_ret_op;
+        }
     }
-    dfu_slots_read_header_of(r3, a0, a1);
-    uint8_t r4_2_0_copyload = r3[1];
-    if (r4_2_0_copyload != 2) {
-        r1_0_in = 1;
-        goto join_3;
-    }
-    dfu_slots_read_header_of(r3_2, a0, a1);
-    r1_2_0_copyload = r3_2[1];
-    r1_3_0_copyload = r3_2[2];
-    r1_4_0_copyload = r3_2[3];
-    r1_5_0_copyload = load32u(r3_2 + 4);
-    r1_6_0_copyload = load32u(r3_2 + 8);
-    r1_7_0_copyload = load32u(r3_2 + 12);
-    uint32_t r10 = dfu_slots_layout_capacity_of(a0);
-    if (r10 < r1_5_0_copyload) {
-        common_ret_op = 0;
-        goto dfu_slots_read_is_intact_exit;
-    }
-    store32(r1, 0xffffffffU);
-    memset(r2, 0, 64);
-    r3_0 = 0;
-loop_2:
-    if (r3_0 >= r1_5_0_copyload) goto dfu_slots_register_register_of_exit;
-    uint32_t a1_a0 = umin32(r1_5_0_copyload - r3_0, 64);
-    uint64_t r28 = (uint64_t)a1_a0;
-    dfu_slots_read_read_data(a0, a1, r3_0, r2, r28);
-    dfu_suffix_crc_Crc_update_small(r1, r2, r28);
-    r3_0 = a1_a0 + r3_0;
-    goto loop_2;
-dfu_slots_register_register_of_exit:;
-    uint32_t r0_0_0_copyload = load32(r1);
-    common_ret_op = ((((r1_2_0_copyload == 2) ? (r1_3_0_copyload == 0) : 0) ? (r1_4_0_copyload == 0) : 0) ? (r1_6_0_copyload == r0_0_0_copyload) : 0) ? (r1_7_0_copyload == 0) : 0;
-dfu_slots_read_is_intact_exit:
-    r1_0_in = common_ret_op;
-join_3:
     return r1_0_in;
 }
 
-/* dfu_slots::read::is_open::<#c4c4734aca759fff> */
+/* dfu_slots::read::is_open::<#c4c4734aca759fff>: crates/dfu_slots/src/read.rt */
 static uint8_t dfu_slots_read_is_open(unsigned char *a0, uint32_t a1) {
     uint8_t r2 = dfu_slots_read_byte_at(a0, a1);
     return r2 == 165;
 }
 
-/* dfu_slots::read::byte_at::<#c4c4734aca759fff> */
+/* dfu_slots::read::byte_at::<#c4c4734aca759fff>: crates/dfu_slots/src/read.rt */
 static uint8_t dfu_slots_read_byte_at(unsigned char *a0, uint32_t a1) {
     _Alignas(4) unsigned char r1[1];
     *r1 = 0;
-    uint64_t r5_0_0_copyload = load64(a0);
+    size_t r5_0_0_copyload = (size_t)load64(a0);
     core_slice_edits_slice_T_copy_from_slice_i8_core_clone_U8Clone(r1, (unsigned char *)(uintptr_t)r5_0_0_copyload + (size_t)a1, 1);
     uint8_t r15 = *r1;
     return r15;
 }
 
 /* core::slice::edits::slice+T::copy_from_slice::<i8,20'core::clone::U8Clone{}> */
-static void core_slice_edits_slice_T_copy_from_slice_i8_core_clone_U8Clone(unsigned char *a0, unsigned char *a2, uint64_t a3) {
-    uint64_t r0_0;
-    if (((uint64_t)(uintptr_t)a0 - (uint64_t)(uintptr_t)a2) < a3) {
-        r0_0 = 0;
-        goto loop_4;
+static void core_slice_edits_slice_T_copy_from_slice_i8_core_clone_U8Clone(unsigned char *a0, unsigned char *a2, size_t a3) {
+    size_t r0_0;
+    if (((uint64_t)(size_t)(uintptr_t)a0 - (uint64_t)(size_t)(uintptr_t)a2) >= (uint64_t)a3) {
+        memmove(a0, a2, a3);
+        return;
     }
-    memmove(a0, a2, (size_t)a3);
-    return;
-loop_4:
-    if (r0_0 == a3) return;
-    uint8_t r26 = a2[(size_t)r0_0];
-    a0[(size_t)r0_0] = r26;
-    r0_0 = r0_0 + 1;
-    goto loop_4;
+    r0_0 = 0;
+    for (;;) {
+        if (r0_0 == a3) return;
+        uint8_t r26 = a2[r0_0];
+        a0[r0_0] = r26;
+        r0_0 = r0_0 + 1;
+    }
 }
 
-/* dfu_slots::read::read_data::<#c4c4734aca759fff> */
-static void dfu_slots_read_read_data(unsigned char *a0, uint32_t a1, uint32_t a2, unsigned char *a3, uint64_t a4) {
+/* dfu_slots::read::read_data::<#c4c4734aca759fff>: crates/dfu_slots/src/read.rt */
+static void dfu_slots_read_read_data(unsigned char *a0, uint32_t a1, uint32_t a2, unsigned char *a3, size_t a4) {
     uint8_t r0_0_0_copyload = a0[16];
     uint32_t r1_0_0_copyload = load32(a0 + 20);
     uint32_t switch_load = load32(PLACE(switch_table_dfu_core_would_stall) + 4 * (size_t)r0_0_0_copyload);
-    uint64_t r5_0_0_copyload = load64(a0);
+    size_t r5_0_0_copyload = (size_t)load64(a0);
     core_slice_edits_slice_T_copy_from_slice_i8_core_clone_U8Clone(a3, (unsigned char *)(uintptr_t)r5_0_0_copyload + (size_t)((a2 + a1) + (umax32(r1_0_0_copyload, switch_load) << 1)), a4);
     return;
 }
 
-/* dfu_slots::places::is_newest::<#c4c4734aca759fff> */
+/* dfu_slots::places::is_newest::<#c4c4734aca759fff>: crates/dfu_slots/src/places.rt */
 static uint8_t dfu_slots_places_is_newest(unsigned char *a0, uint32_t a1, uint32_t a2, uint8_t a3, uint8_t a4) {
     uint8_t r1_0_in;
-    if (!(a3 & a4)) {
-        r1_0_in = a3;
-        goto join_3;
+    if (!(a3 & a4)) r1_0_in = a3;
+    else {
+        uint8_t r13 = dfu_slots_read_generation(a0, a1);
+        uint8_t r14 = dfu_slots_read_generation(a0, a2);
+        r1_0_in = r13 == (uint8_t)(r14 + 1);
     }
-    uint8_t r13 = dfu_slots_read_generation(a0, a1);
-    uint8_t r14 = dfu_slots_read_generation(a0, a2);
-    r1_0_in = r13 == (uint8_t)(r14 + 1);
-join_3:
     return r1_0_in;
 }
 
-/* dfu_slots::read::generation::<#c4c4734aca759fff> */
+/* dfu_slots::read::generation::<#c4c4734aca759fff>: crates/dfu_slots/src/read.rt */
 static uint8_t dfu_slots_read_generation(unsigned char *a0, uint32_t a1) {
     uint8_t r0_0_0_copyload = a0[16];
     uint32_t r1_0_0_copyload = load32(a0 + 20);
@@ -1406,40 +1319,38 @@ static uint8_t dfu_slots_read_generation(unsigned char *a0, uint32_t a1) {
     return r7;
 }
 
-/* dfu_slots::read::header_of::<#c4c4734aca759fff> */
+/* dfu_slots::read::header_of::<#c4c4734aca759fff>: crates/dfu_slots/src/read.rt */
 static void dfu_slots_read_header_of(unsigned char *a0, unsigned char *a1, uint32_t a2) {
     _Alignas(1) unsigned char r1[16];
     memset(r1, 0, 16);
     uint8_t r0_0_0_copyload = a1[16];
     uint32_t r1_0_0_copyload = load32(a1 + 20);
     uint32_t switch_load = load32(PLACE(switch_table_dfu_core_would_stall) + 4 * (size_t)r0_0_0_copyload);
-    uint64_t r5_0_0_copyload = load64(a1);
+    size_t r5_0_0_copyload = (size_t)load64(a1);
     core_slice_edits_slice_T_copy_from_slice_i8_core_clone_U8Clone(r1, (unsigned char *)(uintptr_t)r5_0_0_copyload + (size_t)(umax32(r1_0_0_copyload, switch_load) + a2), 16);
     memcpy(a0, r1, 16);
     return;
 }
 
-/* dfu_asks::blank::is_erased */
-static uint8_t dfu_asks_blank_is_erased(unsigned char *a0, uint64_t a2, uint64_t a3) {
+/* dfu_asks::blank::is_erased: crates/dfu_asks/src/blank.rt */
+static uint8_t dfu_asks_blank_is_erased(unsigned char *a0, size_t a2, uint64_t a3) {
     unsigned char *r9_0_0_in;
     uint64_t r23;
     uint8_t r7;
-    r9_0_0_in = a0 + (size_t)a2;
+    r9_0_0_in = a0 + a2;
     r23 = a3;
-loop_2:
-    r7 = r23 == 0;
-    if (r7) goto core_iter_base_Iterator_all_exit;
-    uint8_t r2 = *r9_0_0_in;
-    if (r2 == 255) {
+    for (;;) {
+        r7 = r23 == 0;
+        if (r7) break;
+        uint8_t r2 = *r9_0_0_in;
+        if (r2 != 255) break;
         r9_0_0_in = r9_0_0_in + 1;
-        r23 = r23 + 0xffffffffffffffffULL;
-        goto loop_2;
+        r23 = r23 - 1;
     }
-core_iter_base_Iterator_all_exit:
     return r7;
 }
 
-/* dfu_wire::bytes::two_bytes */
+/* dfu_wire::bytes::two_bytes: crates/dfu_wire/src/bytes.rt */
 static void dfu_wire_bytes_two_bytes(unsigned char *a0, uint16_t a1) {
     _Alignas(4) unsigned char r5[2];
     _Alignas(4) unsigned char r1[2];
@@ -1451,7 +1362,7 @@ static void dfu_wire_bytes_two_bytes(unsigned char *a0, uint16_t a1) {
     return;
 }
 
-/* dfu_device_c::mode::mode_in */
+/* dfu_device_c::mode::mode_in: crates/dfu_device_c/src/mode.rt */
 static void dfu_device_c_mode_mode_in(unsigned char *a0, unsigned char *a1, unsigned char *a2) {
     _Alignas(4) unsigned char r3[40];
     _Alignas(2) unsigned char r6_6_0[38];
@@ -1461,38 +1372,38 @@ static void dfu_device_c_mode_mode_in(unsigned char *a0, unsigned char *a1, unsi
     memset(r6_6_0, 0, 38);
     dfu_device_c_config_settings_of(r3, a1);
     uint8_t r9 = *r3;
-    if (r9 != 1) goto arm_2;
+    if (r9 != 1) {
+        *a0 = 1;
+        a0[1] = 0;
+        memset(a0 + 4, 0, 52);
+        return;
+    }
     dfu_device_c_mode_mode_of(r5, a2);
     uint8_t r16 = *r5;
-    if (r16 == 1) goto arm_5;
-    r6_6_3_0 = 0;
-    r6_6_4_0 = 0;
-    r6_6_6_0 = 0;
-    r6_6_7_0 = 0;
-    r6_6_8_0 = 0;
-    r6_0_0 = 1;
-    r6_4_0 = 4;
-    goto join_7;
-arm_2:
-    *a0 = 1;
-    a0[1] = 0;
-    memset(a0 + 4, 0, 52);
-    return;
-arm_5:;
-    uint8_t v2 = r5[4];
-    uint8_t v3 = r5[5];
-    uint32_t v4 = load32(r5 + 8);
-    uint32_t v5 = load32(r5 + 12);
-    uint32_t v6 = load32(r5 + 16);
-    memcpy(r6_6_0 + 2, r3 + 4, 36);
-    r6_6_3_0 = v2;
-    r6_6_4_0 = v3;
-    r6_6_6_0 = v4;
-    r6_6_7_0 = v5;
-    r6_6_8_0 = v6;
-    r6_0_0 = 0;
-    r6_4_0 = 0;
-join_7:
+    if (r16 != 1) {
+        r6_6_3_0 = 0;
+        r6_6_4_0 = 0;
+        r6_6_6_0 = 0;
+        r6_6_7_0 = 0;
+        r6_6_8_0 = 0;
+        r6_0_0 = 1;
+        r6_4_0 = 4;
+    }
+    else {
+        uint8_t v2 = r5[4];
+        uint8_t v3 = r5[5];
+        uint32_t v4 = load32(r5 + 8);
+        uint32_t v5 = load32(r5 + 12);
+        uint32_t v6 = load32(r5 + 16);
+        memcpy(r6_6_0 + 2, r3 + 4, 36);
+        r6_6_3_0 = v2;
+        r6_6_4_0 = v3;
+        r6_6_6_0 = v4;
+        r6_6_7_0 = v5;
+        r6_6_8_0 = v6;
+        r6_0_0 = 0;
+        r6_4_0 = 0;
+    }
     *a0 = r6_0_0;
     a0[1] = r6_4_0;
     memcpy(a0 + 4, r6_6_0 + 2, 36);
@@ -1505,30 +1416,28 @@ join_7:
     return;
 }
 
-/* dfu_device_c::mode::idle_mode */
+/* dfu_device_c::mode::idle_mode: crates/dfu_device_c/src/mode.rt */
 static void dfu_device_c_mode_idle_mode(unsigned char *a0, unsigned char *a1, unsigned char *a2) {
     _Alignas(4) unsigned char r7[56];
     unsigned char *r52, *r54;
     dfu_device_c_mode_mode_in(r7, a1, a2);
     uint8_t r1_0_0_copyload = *r7;
     r52 = a0 + 1;
-    if (r1_0_0_copyload != 0) goto arm_2;
+    if (r1_0_0_copyload != 0) {
+        uint8_t r1_3_1_copyload = r7[1];
+        *a0 = 1;
+        *r52 = r1_3_1_copyload;
+        memset(a0 + 4, 0, 52);
+        return;
+    }
     uint32_t r31 = load32(a2 + 44);
     r54 = a0 + 4;
-    if (r31 == 0) goto join_7;
-    goto then_5;
-arm_2:;
-    uint8_t r1_3_1_copyload = r7[1];
-    *a0 = 1;
-    *r52 = r1_3_1_copyload;
-    memset(a0 + 4, 0, 52);
-    return;
-then_5:
-    *a0 = 1;
-    *r52 = 2;
-    memset(r54, 0, 52);
-    return;
-join_7:;
+    if (r31 != 0) {
+        *a0 = 1;
+        *r52 = 2;
+        memset(r54, 0, 52);
+        return;
+    }
     uint32_t r8_6_10_2_copyload = load32(r7 + 52);
     uint32_t r8_6_9_2_copyload = load32(r7 + 48);
     uint32_t r8_6_8_2_copyload = load32(r7 + 44);
@@ -1546,7 +1455,7 @@ join_7:;
     return;
 }
 
-/* dfu_asks::closes::mode_closes */
+/* dfu_asks::closes::mode_closes: crates/dfu_asks/src/closes.rt */
 static uint8_t dfu_asks_closes_mode_closes(unsigned char *a0, unsigned char *a1, unsigned char *a2) {
     _Alignas(4) unsigned char r3[8];
     _Alignas(4) unsigned char r1[6];
@@ -1554,118 +1463,110 @@ static uint8_t dfu_asks_closes_mode_closes(unsigned char *a0, unsigned char *a1,
     uint8_t v0 = *a1;
     uint32_t v1 = load32(a1 + 4);
     uint32_t r2 = load32(a0 + 16);
-    if ((v0 == 6) ? (r2 <= v1) : 0) goto join_3;
-    common_ret_op = 0;
-common_ret:
+    if (!((v0 == 6) ? (r2 <= v1) : 0)) common_ret_op = 0;
+    else {
+        uint8_t r28 = *a2;
+        uint8_t r32 = a2[1];
+        uint8_t r11 = a2[2];
+        uint8_t r15 = a2[3];
+        uint8_t r11_2 = a2[4];
+        uint8_t r15_2 = a2[5];
+        uint8_t r11_3 = a2[6];
+        uint8_t r15_3 = a2[7];
+        *r3 = r28;
+        r3[1] = r32;
+        store16(r3 + 2, (uint16_t)((uint32_t)r15 << 8) | r11);
+        store16(r3 + 4, (uint16_t)((uint32_t)r15_2 << 8) | r11_2);
+        store16(r3 + 6, (uint16_t)((uint32_t)r15_3 << 8) | r11_3);
+        dfu_wire_setups_Setup_request(r1, r3);
+        uint8_t r2_2 = *r1;
+        uint16_t r1_4_4_copyload = load16(r1 + 4);
+        common_ret_op = (r2_2 == 1) ? (r1_4_4_copyload == 0) : 0;
+    }
     return common_ret_op;
-join_3:;
-    uint8_t r28 = *a2;
-    uint8_t r32 = a2[1];
-    uint8_t r11 = a2[2];
-    uint8_t r15 = a2[3];
-    uint8_t r11_2 = a2[4];
-    uint8_t r15_2 = a2[5];
-    uint8_t r11_3 = a2[6];
-    uint8_t r15_3 = a2[7];
-    *r3 = r28;
-    r3[1] = r32;
-    store16(r3 + 2, (uint16_t)((uint32_t)r15 << 8) | r11);
-    store16(r3 + 4, (uint16_t)((uint32_t)r15_2 << 8) | r11_2);
-    store16(r3 + 6, (uint16_t)((uint32_t)r15_3 << 8) | r11_3);
-    dfu_wire_setups_Setup_request(r1, r3);
-    uint8_t r2_2 = *r1;
-    uint16_t r1_4_4_copyload = load16(r1 + 4);
-    common_ret_op = (r2_2 == 1) ? (r1_4_4_copyload == 0) : 0;
-    goto common_ret;
 }
 
-/* dfu_wire::setups::Setup::request */
+/* dfu_wire::setups::Setup::request: crates/dfu_wire/src/setups.rt */
 static void dfu_wire_setups_Setup_request(unsigned char *a0, unsigned char *a1) {
     uint8_t r15, r52, r11_0_0_0;
     uint16_t r47, r49, r11_10_0, r11_16_0;
     r15 = *a1;
-    if ((r15 & 127) != 33) goto join_8;
-    uint16_t r31 = load16(a1 + 4);
-    if (r31 == 0) goto after_1;
-    goto join_8;
-join_8:
+    if ((r15 & 127) == 33) {
+        uint16_t r31 = load16(a1 + 4);
+        if (r31 == 0) {
+            r47 = load16(a1 + 2);
+            r49 = load16(a1 + 6);
+            r52 = a1[1];
+            switch (r15) {
+            case 33:
+                switch (r52) {
+                case 0:
+                    if (r49 == 0) {
+                        r11_0_0_0 = 0;
+                        r11_10_0 = r47;
+                        r11_16_0 = 0;
+                        goto after_14;
+                    }
+                    break;
+                case 1:
+                    r11_0_0_0 = r52;
+                    r11_10_0 = r47;
+                    r11_16_0 = r49;
+                    goto after_14;
+                case 4:
+                    if (r49 == 0) {
+                        r11_0_0_0 = 4;
+                        r11_10_0 = 0;
+                        r11_16_0 = 0;
+                        goto after_14;
+                    }
+                    break;
+                case 6:
+                    if (r49 == 0) {
+                        r11_0_0_0 = 6;
+                        r11_10_0 = 0;
+                        r11_16_0 = 0;
+                        goto after_14;
+                    }
+                    break;
+                default: break;
+                }
+                break;
+            case 161:
+                switch (r52) {
+                case 2:
+                    r11_0_0_0 = r52;
+                    r11_10_0 = r47;
+                    r11_16_0 = r49;
+                    goto after_14;
+                case 3:
+                case 5:
+                    r11_0_0_0 = r52;
+                    r11_10_0 = r49;
+                    r11_16_0 = 0;
+                    goto after_14;
+                default: break;
+                }
+                break;
+            default: break;
+            }
+            r11_0_0_0 = 7;
+            r11_10_0 = 0;
+            r11_16_0 = 0;
+after_14:
+            store16(a0, r11_0_0_0);
+            store16(a0 + 2, r11_10_0);
+            store16(a0 + 4, r11_16_0);
+            return;
+        }
+    }
     store16(a0, 8);
     store16(a0 + 2, 0);
     store16(a0 + 4, 0);
     return;
-after_1:
-    r47 = load16(a1 + 2);
-    r49 = load16(a1 + 6);
-    r52 = a1[1];
-    switch (r15) {
-    case 33: goto arm_16;
-    case 161: goto arm_17;
-    default: goto after_15;
-    }
-arm_16:
-    switch (r52) {
-    case 0: goto arm_20;
-    case 1:
-        r11_0_0_0 = r52;
-        r11_10_0 = r47;
-        r11_16_0 = r49;
-        goto after_14;
-    case 4: goto arm_22;
-    case 6: goto arm_23;
-    default: goto after_15;
-    }
-arm_20:
-    if (r49 == 0) {
-        r11_0_0_0 = 0;
-        r11_10_0 = r47;
-        r11_16_0 = 0;
-        goto after_14;
-    }
-    goto after_15;
-arm_22:
-    if (r49 == 0) {
-        r11_0_0_0 = 4;
-        r11_10_0 = 0;
-        r11_16_0 = 0;
-        goto after_14;
-    }
-    goto after_15;
-arm_23:
-    if (r49 == 0) {
-        r11_0_0_0 = 6;
-        r11_10_0 = 0;
-        r11_16_0 = 0;
-        goto after_14;
-    }
-    goto after_15;
-arm_17:
-    switch (r52) {
-    case 2:
-        r11_0_0_0 = r52;
-        r11_10_0 = r47;
-        r11_16_0 = r49;
-        goto after_14;
-    case 3: goto arm_36;
-    case 5: goto arm_36;
-    default: goto after_15;
-    }
-arm_36:
-    r11_0_0_0 = r52;
-    r11_10_0 = r49;
-    r11_16_0 = 0;
-    goto after_14;
-after_15:
-    r11_0_0_0 = 7;
-    r11_10_0 = 0;
-    r11_16_0 = 0;
-after_14:
-    store16(a0, r11_0_0_0);
-    store16(a0 + 2, r11_10_0);
-    store16(a0 + 4, r11_16_0);
-    return;
 }
 
-/* dfu_device_c::mode::set_mode */
+/* dfu_device_c::mode::set_mode: crates/dfu_device_c/src/mode.rt */
 static void dfu_device_c_mode_set_mode(unsigned char *a0, unsigned char *a1) {
     uint32_t v1, v2, r27_0_0, r27_15_0, r27_28_0;
     uint16_t r1_14_0_0_extract_trunc, r27_41_0;
@@ -1679,96 +1580,85 @@ static void dfu_device_c_mode_set_mode(unsigned char *a0, unsigned char *a1) {
         r27_15_0 = 0;
         r27_28_0 = 0;
         r27_41_0 = 0;
-        goto dfu_device_c_mode_numbers_of_exit;
-    case 1: goto arm_2;
-    case 2: goto arm_3;
-    case 3: goto arm_4;
-    case 4: goto arm_5;
-    case 5: goto arm_6;
-    case 6: goto arm_7;
-    case 7: goto arm_8;
-    case 8: goto arm_9;
-    case 9: goto arm_10;
-    case 10: goto arm_11;
-    case 11: goto arm_12;
-    case 12: goto arm_13;
+        break;
+    case 1:
+        r27_0_0 = 1;
+        r27_15_0 = v1;
+        r27_28_0 = v2;
+        r27_41_0 = 0;
+        break;
+    case 2:
+        r27_0_0 = 2;
+        r27_15_0 = 0;
+        r27_28_0 = 0;
+        r27_41_0 = 0;
+        break;
+    case 3:
+        r27_0_0 = 3;
+        r27_15_0 = v1;
+        r27_28_0 = 0;
+        r27_41_0 = r1_14_0_0_extract_trunc;
+        break;
+    case 4:
+        r27_0_0 = 4;
+        r27_15_0 = v1;
+        r27_28_0 = 0;
+        r27_41_0 = r1_14_0_0_extract_trunc;
+        break;
+    case 5: {
+        uint32_t v3 = load32(a1 + 12);
+        r27_0_0 = 5;
+        r27_15_0 = v1;
+        r27_28_0 = v3;
+        r27_41_0 = r1_14_0_0_extract_trunc;
+        break;
+    }
+    case 6:
+        r27_0_0 = 6;
+        r27_15_0 = v1;
+        r27_28_0 = 0;
+        r27_41_0 = r1_14_0_0_extract_trunc;
+        break;
+    case 7:
+        r27_0_0 = 7;
+        r27_15_0 = v1;
+        r27_28_0 = 0;
+        r27_41_0 = 0;
+        break;
+    case 8:
+        r27_0_0 = 8;
+        r27_15_0 = 0;
+        r27_28_0 = 0;
+        r27_41_0 = 0;
+        break;
+    case 9:
+        r27_0_0 = 9;
+        r27_15_0 = v1;
+        r27_28_0 = v2;
+        r27_41_0 = 0;
+        break;
+    case 10:
+        r27_0_0 = 10;
+        r27_15_0 = 0;
+        r27_28_0 = 0;
+        r27_41_0 = 0;
+        break;
+    case 11:
+        r27_0_0 = 11;
+        r27_15_0 = v1;
+        r27_28_0 = 0;
+        r27_41_0 = r1_14_0_0_extract_trunc;
+        break;
+    case 12: {
+        uint8_t v4 = a1[1];
+        r27_0_0 = 12;
+        r27_15_0 = 0;
+        r27_28_0 = 0;
+        r27_41_0 = v4;
+        break;
+    }
     default: never();
     }
-arm_2:
-    r27_0_0 = 1;
-    r27_15_0 = v1;
-    r27_28_0 = v2;
-    r27_41_0 = 0;
-    goto dfu_device_c_mode_numbers_of_exit;
-arm_3:
-    r27_0_0 = 2;
-    r27_15_0 = 0;
-    r27_28_0 = 0;
-    r27_41_0 = 0;
-    goto dfu_device_c_mode_numbers_of_exit;
-arm_4:
-    r27_0_0 = 3;
-    r27_15_0 = v1;
-    r27_28_0 = 0;
-    r27_41_0 = r1_14_0_0_extract_trunc;
-    goto dfu_device_c_mode_numbers_of_exit;
-arm_5:
-    r27_0_0 = 4;
-    r27_15_0 = v1;
-    r27_28_0 = 0;
-    r27_41_0 = r1_14_0_0_extract_trunc;
-    goto dfu_device_c_mode_numbers_of_exit;
-arm_6:;
-    uint32_t v3 = load32(a1 + 12);
-    r27_0_0 = 5;
-    r27_15_0 = v1;
-    r27_28_0 = v3;
-    r27_41_0 = r1_14_0_0_extract_trunc;
-    goto dfu_device_c_mode_numbers_of_exit;
-arm_7:
-    r27_0_0 = 6;
-    r27_15_0 = v1;
-    r27_28_0 = 0;
-    r27_41_0 = r1_14_0_0_extract_trunc;
-    goto dfu_device_c_mode_numbers_of_exit;
-arm_8:
-    r27_0_0 = 7;
-    r27_15_0 = v1;
-    r27_28_0 = 0;
-    r27_41_0 = 0;
-    goto dfu_device_c_mode_numbers_of_exit;
-arm_9:
-    r27_0_0 = 8;
-    r27_15_0 = 0;
-    r27_28_0 = 0;
-    r27_41_0 = 0;
-    goto dfu_device_c_mode_numbers_of_exit;
-arm_10:
-    r27_0_0 = 9;
-    r27_15_0 = v1;
-    r27_28_0 = v2;
-    r27_41_0 = 0;
-    goto dfu_device_c_mode_numbers_of_exit;
-arm_11:
-    r27_0_0 = 10;
-    r27_15_0 = 0;
-    r27_28_0 = 0;
-    r27_41_0 = 0;
-    goto dfu_device_c_mode_numbers_of_exit;
-arm_12:
-    r27_0_0 = 11;
-    r27_15_0 = v1;
-    r27_28_0 = 0;
-    r27_41_0 = r1_14_0_0_extract_trunc;
-    goto dfu_device_c_mode_numbers_of_exit;
-arm_13:;
-    uint8_t v4 = a1[1];
-    r27_0_0 = 12;
-    r27_15_0 = 0;
-    r27_28_0 = 0;
-    r27_41_0 = v4;
-    goto dfu_device_c_mode_numbers_of_exit;
-dfu_device_c_mode_numbers_of_exit:
     store32(a0, 300);
     store32(a0 + 4, r27_0_0);
     store32(a0 + 8, r27_15_0);
@@ -1777,7 +1667,7 @@ dfu_device_c_mode_numbers_of_exit:
     return;
 }
 
-/* dfu_device::table::decide */
+/* dfu_device::table::decide: crates/dfu_device/src/table.rt */
 static void dfu_device_table_decide(unsigned char *a0, unsigned char *a1, unsigned char *a2, unsigned char *a3) {
     _Alignas(4) unsigned char r10[24];
     unsigned char *const r0_2 = r10;
@@ -1799,23 +1689,305 @@ static void dfu_device_table_decide(unsigned char *a0, unsigned char *a1, unsign
     v0 = load16(a3 + 2);
     v1 = load16(a3 + 4);
     switch (r1_0_0_copyload) {
-    case 0: goto arm_1;
-    case 1: goto arm_2;
-    case 2: goto arm_3;
-    case 3: goto arm_4;
-    case 4: goto arm_5;
-    case 5:
-        r29_0_0 = 0;
-        r29_15_0 = 3;
-        r29_29117_0 = 3852;
-        r29_43_0 = 0;
-        r29_57_0 = 0;
+    case 0:
+        switch (r11) {
+        case 0: {
+            uint16_t r21 = load16(a1 + 4);
+            r29_0_0 = 0;
+            r29_15_0 = 0;
+            r29_29117_0 = 1;
+            r29_43_0 = (uint32_t)umin16(v0, r21);
+            r29_57_0 = 0;
+            r29_67_0 = 0;
+            r29_77_0 = 0;
+            break;
+        }
+        case 3:
+            r29_0_0 = 0;
+            r29_15_0 = 1;
+            r29_29117_0 = 0;
+            r29_43_0 = 0;
+            r29_57_0 = 0;
+            r29_67_0 = 0;
+            r29_77_0 = 0;
+            break;
+        case 5:
+            r29_0_0 = 0;
+            r29_15_0 = 2;
+            r29_29117_0 = 0;
+            r29_43_0 = 0;
+            r29_57_0 = 0;
+            r29_67_0 = 0;
+            r29_77_0 = 0;
+            break;
+        case 1:
+        case 2:
+        case 4:
+        case 6:
+        case 7:
+        case 8:
+            r29_0_0 = 0;
+            r29_15_0 = 3;
+            r29_29117_0 = 0;
+            r29_43_0 = 0;
+            r29_57_0 = 0;
+            r29_67_0 = 0;
+            r29_77_0 = 0;
+            break;
+        default: never();
+        }
+        break;
+    case 1:
+        switch (r11) {
+        case 3:
+            r29_0_0 = 0;
+            r29_15_0 = 1;
+            r29_29117_0 = 1;
+            r29_43_0 = r1_51_4_copyload;
+            r29_57_0 = r1_12_8_copyload;
+            r29_67_0 = 0;
+            r29_77_0 = 0;
+            break;
+        case 5:
+            r29_0_0 = 0;
+            r29_15_0 = 2;
+            r29_29117_0 = 1;
+            r29_43_0 = r1_51_4_copyload;
+            r29_57_0 = r1_12_8_copyload;
+            r29_67_0 = 0;
+            r29_77_0 = 0;
+            break;
+        case 0:
+        case 1:
+        case 2:
+        case 4:
+        case 6:
+        case 7:
+        case 8:
+            r29_0_0 = 0;
+            r29_15_0 = 3;
+            r29_29117_0 = 0;
+            r29_43_0 = 0;
+            r29_57_0 = 0;
+            r29_67_0 = 0;
+            r29_77_0 = 0;
+            break;
+        default: never();
+        }
+        break;
+    case 2:
+        switch (r11) {
+        case 1: {
+            uint8_t r5 = *a1;
+            if (!((v1 != 0) & (r5 & 1))) {
+                sink7 = 0;
+                sink6 = 3;
+                sink5 = 3852;
+                sink4 = 0;
+                sink3 = 0;
+                sink2 = 0;
+                sink = 0;
+            }
+            else {
+                dfu_device_plans_block(r0, a1, 0, 0, v0, v1);
+                uint8_t v2 = *r0;
+                uint8_t v3 = r0[1];
+                uint32_t v4 = load32(r0 + 4);
+                uint32_t v5 = load32(r0 + 8);
+                uint32_t v6 = load32(r0 + 12);
+                uint32_t v7 = load32(r0 + 16);
+                uint32_t v8 = load32(r0 + 20);
+                sink7 = v2;
+                sink6 = v3;
+                sink5 = v4;
+                sink4 = v5;
+                sink3 = v6;
+                sink2 = v7;
+                sink = v8;
+            }
+            v9 = sink;
+            v10 = sink2;
+            v11 = sink3;
+            v12 = sink4;
+            v13 = sink5;
+            v14 = sink6;
+            v15 = sink7;
+            break;
+        }
+        case 2: {
+            uint8_t r30 = a1[1];
+            if (!(r30 & 1)) {
+                v9 = 0;
+                v10 = 0;
+                v11 = 0;
+                v12 = 0;
+                v13 = 3852;
+                v14 = 3;
+                v15 = 0;
+            }
+            else {
+                dfu_device_plans_upload(r12, a1, 0, 0, v0, v1);
+                uint8_t pre = *r12;
+                uint8_t pre43 = r12[1];
+                uint32_t pre44 = load32(r12 + 4);
+                uint32_t pre45 = load32(r12 + 8);
+                uint32_t pre46 = load32(r12 + 12);
+                uint32_t pre47 = load32(r12 + 16);
+                uint32_t pre48 = load32(r12 + 20);
+                v9 = pre48;
+                v10 = pre47;
+                v11 = pre46;
+                v12 = pre45;
+                v13 = pre44;
+                v14 = pre43;
+                v15 = pre;
+            }
+            break;
+        }
+        case 6:
+            v9 = 0;
+            v10 = 0;
+            v11 = 0;
+            v12 = 0;
+            v13 = 2;
+            v14 = 0;
+            v15 = 0;
+            break;
+        case 3:
+            v9 = 0;
+            v10 = 0;
+            v11 = 0;
+            v12 = 0;
+            v13 = 2;
+            v14 = 1;
+            v15 = 0;
+            break;
+        case 5:
+            v9 = 0;
+            v10 = 0;
+            v11 = 0;
+            v12 = 0;
+            v13 = 2;
+            v14 = 2;
+            v15 = 0;
+            break;
+        case 0:
+        case 4:
+        case 7:
+        case 8:
+            v9 = 0;
+            v10 = 0;
+            v11 = 0;
+            v12 = 0;
+            v13 = 3852;
+            v14 = 3;
+            v15 = 0;
+            break;
+        default: never();
+        }
+        r29_0_0 = v15;
+        r29_15_0 = v14;
+        r29_29117_0 = v13;
+        r29_43_0 = v12;
+        r29_57_0 = v11;
+        r29_67_0 = v10;
+        r29_77_0 = v9;
+        break;
+    case 3:
+        switch (r11) {
+        case 3: {
+            uint32_t r17 = load32(a1 + 16);
+            if (r17 == 0) {
+                r8_0_0 = 3;
+                r8_6_0 = 1;
+                r8_1120_0 = r1_51_4_copyload;
+                r8_16_0_0 = r1_12_8_copyload;
+                r8_16_6_0 = 0;
+                r8_16_7_0_0 = 0;
+                r8_22_0_shrunk = 0;
+            }
+            else {
+                r8_0_0 = 0;
+                r8_6_0 = 1;
+                r8_1120_0 = 5;
+                r8_16_0_0 = r1_51_4_copyload;
+                r8_16_6_0 = r1_51_4_copyload;
+                r8_16_7_0_0 = r1_51_4_copyload & 0xff000000U;
+                r8_22_0_shrunk = r1_12_8_copyload;
+            }
+            break;
+        }
+        case 5:
+            r8_0_0 = 0;
+            r8_6_0 = 2;
+            r8_1120_0 = 3;
+            r8_16_0_0 = r1_51_4_copyload;
+            r8_16_6_0 = r1_51_4_copyload;
+            r8_16_7_0_0 = r1_51_4_copyload & 0xff000000U;
+            r8_22_0_shrunk = r1_12_8_copyload;
+            break;
+        case 0:
+        case 1:
+        case 2:
+        case 4:
+        case 6:
+        case 7:
+        case 8:
+            r8_0_0 = 0;
+            r8_6_0 = 3;
+            r8_1120_0 = 3852;
+            r8_16_0_0 = 0;
+            r8_16_6_0 = 0;
+            r8_16_7_0_0 = 0;
+            r8_22_0_shrunk = 0;
+            break;
+        default: never();
+        }
+        r29_0_0 = r8_0_0;
+        r29_15_0 = r8_6_0;
+        r29_29117_0 = r8_1120_0;
+        r29_43_0 = ((r8_16_6_0 & 0xff0000U) | (r8_16_0_0 & 0xffffU)) | r8_16_7_0_0;
+        r29_57_0 = r8_22_0_shrunk & 0xffffU;
         r29_67_0 = 0;
         r29_77_0 = 0;
-        goto join_15;
-    case 6: goto arm_7;
-    case 7: goto arm_8;
-    case 8: goto switch_lookup;
+        break;
+    case 4:
+        switch (r11) {
+        case 3:
+            r8_5_0 = 1;
+            r8_920_0 = 6;
+            r8_13_0 = r1_51_4_copyload;
+            r8_17_0_shrunk = r1_12_8_copyload;
+            break;
+        case 5:
+            r8_5_0 = 2;
+            r8_920_0 = 4;
+            r8_13_0 = r1_51_4_copyload;
+            r8_17_0_shrunk = r1_12_8_copyload;
+            break;
+        case 0:
+        case 1:
+        case 2:
+        case 4:
+        case 6:
+        case 7:
+        case 8:
+            r8_5_0 = 3;
+            r8_920_0 = 3852;
+            r8_13_0 = 0;
+            r8_17_0_shrunk = 0;
+            break;
+        default: never();
+        }
+        r29_0_0 = 0;
+        r29_15_0 = r8_5_0;
+        r29_29117_0 = r8_920_0;
+        r29_43_0 = r8_13_0;
+        r29_57_0 = r8_17_0_shrunk & 0xffffU;
+        r29_67_0 = 0;
+        r29_77_0 = 0;
+        break;
+    case 5:
     case 9:
         r29_0_0 = 0;
         r29_15_0 = 3;
@@ -1824,787 +1996,293 @@ static void dfu_device_table_decide(unsigned char *a0, unsigned char *a1, unsign
         r29_57_0 = 0;
         r29_67_0 = 0;
         r29_77_0 = 0;
-        goto join_15;
-    case 10: goto arm_11;
-    case 11: goto arm_12;
-    case 12: goto arm_13;
-    default: never();
-    }
-arm_1:
-    switch (r11) {
-    case 0: goto arm_1_2;
-    case 3:
+        break;
+    case 6:
+        switch (r11) {
+        case 1:
+            if (v1 != 0) {
+                dfu_device_plans_block(r0_2, a1, r1_51_4_copyload, r1_12_0_0_extract_trunc, v0, v1);
+                uint8_t v16 = *r0_2;
+                uint8_t v17 = r0_2[1];
+                uint32_t v18 = load32(r0_2 + 4);
+                uint32_t v19 = load32(r0_2 + 8);
+                uint32_t v20 = load32(r0_2 + 12);
+                uint32_t v21 = load32(r0_2 + 16);
+                uint32_t v22 = load32(r0_2 + 20);
+                r10_24_1 = v19;
+                r10_32_1 = v20;
+                r10_38_1 = v21;
+                r10_44_1 = v22;
+                r10_1642_1 = v18;
+                r10_8_1 = v17;
+                r10_0_1 = v16;
+            }
+            else {
+                uint32_t r22 = load32(a1 + 12);
+                if (r1_51_4_copyload < r22) {
+                    r10_24_1 = 0;
+                    r10_32_1 = 0;
+                    r10_38_1 = 0;
+                    r10_44_1 = 0;
+                    r10_1642_1 = 2316;
+                    r10_8_1 = 3;
+                    r10_0_1 = 0;
+                }
+                else {
+                    r10_24_1 = r1_51_4_copyload;
+                    r10_32_1 = 0;
+                    r10_38_1 = 0;
+                    r10_44_1 = 0;
+                    r10_1642_1 = 7;
+                    r10_8_1 = 0;
+                    r10_0_1 = 0;
+                }
+            }
+            r29_0_0 = r10_0_1;
+            r29_15_0 = r10_8_1;
+            r29_29117_0 = r10_1642_1;
+            r29_43_0 = r10_24_1;
+            r29_57_0 = r10_32_1;
+            r29_67_0 = r10_38_1;
+            r29_77_0 = r10_44_1;
+            break;
+        case 6:
+            r29_0_0 = 0;
+            r29_15_0 = 0;
+            r29_29117_0 = 2;
+            r29_43_0 = 0;
+            r29_57_0 = 0;
+            r29_67_0 = 0;
+            r29_77_0 = 0;
+            break;
+        case 3:
+            r29_0_0 = 0;
+            r29_15_0 = 1;
+            r29_29117_0 = 6;
+            r29_43_0 = r1_51_4_copyload;
+            r29_57_0 = r1_12_8_copyload & 0xffffU;
+            r29_67_0 = 0;
+            r29_77_0 = 0;
+            break;
+        case 5:
+            r29_0_0 = 0;
+            r29_15_0 = 2;
+            r29_29117_0 = 6;
+            r29_43_0 = r1_51_4_copyload;
+            r29_57_0 = r1_12_8_copyload & 0xffffU;
+            r29_67_0 = 0;
+            r29_77_0 = 0;
+            break;
+        case 0:
+        case 2:
+        case 4:
+        case 7:
+        case 8:
+            r29_0_0 = 0;
+            r29_15_0 = 3;
+            r29_29117_0 = 3852;
+            r29_43_0 = 0;
+            r29_57_0 = 0;
+            r29_67_0 = 0;
+            r29_77_0 = 0;
+            break;
+        default: never();
+        }
+        break;
+    case 7:
+        switch (r11) {
+        case 3: {
+            uint32_t r18 = load32(a1 + 20);
+            if (r18 == 0) {
+                r8_0_0_2 = 4;
+                r8_6_0_2 = 1;
+                r8_1120_0_2 = r1_51_4_copyload;
+                r8_16_0_0_2 = 2;
+                r8_16_6_0_2 = 0;
+                r8_16_7_0_0_2 = 0;
+            }
+            else {
+                r8_0_0_2 = 0;
+                r8_6_0_2 = 1;
+                r8_1120_0_2 = 9;
+                r8_16_0_0_2 = r1_51_4_copyload;
+                r8_16_6_0_2 = r1_51_4_copyload;
+                r8_16_7_0_0_2 = r1_51_4_copyload & 0xffff0000U;
+            }
+            break;
+        }
+        case 5:
+            r8_0_0_2 = 0;
+            r8_6_0_2 = 2;
+            r8_1120_0_2 = 7;
+            r8_16_0_0_2 = r1_51_4_copyload;
+            r8_16_6_0_2 = r1_51_4_copyload;
+            r8_16_7_0_0_2 = r1_51_4_copyload & 0xffff0000U;
+            break;
+        case 0:
+        case 1:
+        case 2:
+        case 4:
+        case 6:
+        case 7:
+        case 8:
+            r8_0_0_2 = 0;
+            r8_6_0_2 = 3;
+            r8_1120_0_2 = 3852;
+            r8_16_0_0_2 = 0;
+            r8_16_6_0_2 = 0;
+            r8_16_7_0_0_2 = 0;
+            break;
+        default: never();
+        }
+        r29_0_0 = r8_0_0_2;
+        r29_15_0 = r8_6_0_2;
+        r29_29117_0 = r8_1120_0_2;
+        r29_43_0 = ((r8_16_6_0_2 & 0xff00U) | (r8_16_0_0_2 & 255)) | r8_16_7_0_0_2;
+        r29_57_0 = 0;
+        r29_67_0 = 0;
+        r29_77_0 = 0;
+        break;
+    case 8: {
+        size_t v30 = (size_t)r11;
+        uint8_t switch_load = *(PLACE(switch_table_dfu_device_table_decide) + v30);
+        uint32_t switch_load149 = load32(PLACE(switch_table_dfu_device_table_decide_2) + 4 * v30);
         r29_0_0 = 0;
-        r29_15_0 = 1;
-        r29_29117_0 = 0;
+        r29_15_0 = switch_load;
+        r29_29117_0 = switch_load149;
         r29_43_0 = 0;
         r29_57_0 = 0;
         r29_67_0 = 0;
         r29_77_0 = 0;
-        goto join_15;
-    case 5: goto arm_3_2;
-    case 1: goto arm_4_2;
-    case 2: goto arm_4_2;
-    case 4: goto arm_4_2;
-    case 6: goto arm_4_2;
-    case 7: goto arm_4_2;
-    case 8: goto arm_4_2;
-    default: never();
+        break;
     }
-arm_1_2:;
-    uint16_t r21 = load16(a1 + 4);
-    r29_0_0 = 0;
-    r29_15_0 = 0;
-    r29_29117_0 = 1;
-    r29_43_0 = (uint32_t)umin16(v0, r21);
-    r29_57_0 = 0;
-    r29_67_0 = 0;
-    r29_77_0 = 0;
-    goto join_15;
-arm_3_2:
-    r29_0_0 = 0;
-    r29_15_0 = 2;
-    r29_29117_0 = 0;
-    r29_43_0 = 0;
-    r29_57_0 = 0;
-    r29_67_0 = 0;
-    r29_77_0 = 0;
-    goto join_15;
-arm_4_2:
-    r29_0_0 = 0;
-    r29_15_0 = 3;
-    r29_29117_0 = 0;
-    r29_43_0 = 0;
-    r29_57_0 = 0;
-    r29_67_0 = 0;
-    r29_77_0 = 0;
-    goto join_15;
-arm_2:
-    switch (r11) {
-    case 3:
+    case 10:
         r29_0_0 = 0;
-        r29_15_0 = 1;
-        r29_29117_0 = 1;
-        r29_43_0 = r1_51_4_copyload;
-        r29_57_0 = r1_12_8_copyload;
-        r29_67_0 = 0;
-        r29_77_0 = 0;
-        goto join_15;
-    case 5: goto arm_2_2;
-    case 0: goto arm_3_3;
-    case 1: goto arm_3_3;
-    case 2: goto arm_3_3;
-    case 4: goto arm_3_3;
-    case 6: goto arm_3_3;
-    case 7: goto arm_3_3;
-    case 8: goto arm_3_3;
-    default: never();
-    }
-arm_2_2:
-    r29_0_0 = 0;
-    r29_15_0 = 2;
-    r29_29117_0 = 1;
-    r29_43_0 = r1_51_4_copyload;
-    r29_57_0 = r1_12_8_copyload;
-    r29_67_0 = 0;
-    r29_77_0 = 0;
-    goto join_15;
-arm_3_3:
-    r29_0_0 = 0;
-    r29_15_0 = 3;
-    r29_29117_0 = 0;
-    r29_43_0 = 0;
-    r29_57_0 = 0;
-    r29_67_0 = 0;
-    r29_77_0 = 0;
-    goto join_15;
-arm_3:
-    switch (r11) {
-    case 1: goto arm_3_4;
-    case 2: goto arm_4_3;
-    case 6: goto arm_5_2;
-    case 3: goto arm_6;
-    case 5: goto arm_7_2;
-    case 0:
-        v9 = 0;
-        v10 = 0;
-        v11 = 0;
-        v12 = 0;
-        v13 = 3852;
-        v14 = 3;
-        v15 = 0;
-        goto dfu_device_table_in_dfu_idle_exit;
-    case 4:
-        v9 = 0;
-        v10 = 0;
-        v11 = 0;
-        v12 = 0;
-        v13 = 3852;
-        v14 = 3;
-        v15 = 0;
-        goto dfu_device_table_in_dfu_idle_exit;
-    case 7:
-        v9 = 0;
-        v10 = 0;
-        v11 = 0;
-        v12 = 0;
-        v13 = 3852;
-        v14 = 3;
-        v15 = 0;
-        goto dfu_device_table_in_dfu_idle_exit;
-    case 8:
-        v9 = 0;
-        v10 = 0;
-        v11 = 0;
-        v12 = 0;
-        v13 = 3852;
-        v14 = 3;
-        v15 = 0;
-        goto dfu_device_table_in_dfu_idle_exit;
-    default: never();
-    }
-arm_3_4:;
-    uint8_t r5 = *a1;
-    if (!((v1 != 0) & (r5 & 1))) {
-        sink7 = 0;
-        sink6 = 3;
-        sink5 = 3852;
-        sink4 = 0;
-        sink3 = 0;
-        sink2 = 0;
-        sink = 0;
-        goto dfu_device_plans_first_exit;
-    }
-    dfu_device_plans_block(r0, a1, 0, 0, v0, v1);
-    uint8_t v2 = *r0;
-    uint8_t v3 = r0[1];
-    uint32_t v4 = load32(r0 + 4);
-    uint32_t v5 = load32(r0 + 8);
-    uint32_t v6 = load32(r0 + 12);
-    uint32_t v7 = load32(r0 + 16);
-    uint32_t v8 = load32(r0 + 20);
-    sink7 = v2;
-    sink6 = v3;
-    sink5 = v4;
-    sink4 = v5;
-    sink3 = v6;
-    sink2 = v7;
-    sink = v8;
-dfu_device_plans_first_exit:
-    v9 = sink;
-    v10 = sink2;
-    v11 = sink3;
-    v12 = sink4;
-    v13 = sink5;
-    v14 = sink6;
-    v15 = sink7;
-    goto dfu_device_table_in_dfu_idle_exit;
-arm_4_3:;
-    uint8_t r30 = a1[1];
-    if (!(r30 & 1)) {
-        v9 = 0;
-        v10 = 0;
-        v11 = 0;
-        v12 = 0;
-        v13 = 3852;
-        v14 = 3;
-        v15 = 0;
-        goto dfu_device_table_in_dfu_idle_exit;
-    }
-    dfu_device_plans_upload(r12, a1, 0, 0, v0, v1);
-    uint8_t pre = *r12;
-    uint8_t pre43 = r12[1];
-    uint32_t pre44 = load32(r12 + 4);
-    uint32_t pre45 = load32(r12 + 8);
-    uint32_t pre46 = load32(r12 + 12);
-    uint32_t pre47 = load32(r12 + 16);
-    uint32_t pre48 = load32(r12 + 20);
-    v9 = pre48;
-    v10 = pre47;
-    v11 = pre46;
-    v12 = pre45;
-    v13 = pre44;
-    v14 = pre43;
-    v15 = pre;
-    goto dfu_device_table_in_dfu_idle_exit;
-arm_5_2:
-    v9 = 0;
-    v10 = 0;
-    v11 = 0;
-    v12 = 0;
-    v13 = 2;
-    v14 = 0;
-    v15 = 0;
-    goto dfu_device_table_in_dfu_idle_exit;
-arm_6:
-    v9 = 0;
-    v10 = 0;
-    v11 = 0;
-    v12 = 0;
-    v13 = 2;
-    v14 = 1;
-    v15 = 0;
-    goto dfu_device_table_in_dfu_idle_exit;
-arm_7_2:
-    v9 = 0;
-    v10 = 0;
-    v11 = 0;
-    v12 = 0;
-    v13 = 2;
-    v14 = 2;
-    v15 = 0;
-    goto dfu_device_table_in_dfu_idle_exit;
-dfu_device_table_in_dfu_idle_exit:
-    r29_0_0 = v15;
-    r29_15_0 = v14;
-    r29_29117_0 = v13;
-    r29_43_0 = v12;
-    r29_57_0 = v11;
-    r29_67_0 = v10;
-    r29_77_0 = v9;
-    goto join_15;
-arm_4:
-    switch (r11) {
-    case 3: goto arm_1_3;
-    case 5: goto arm_2_3;
-    case 0:
-        r8_0_0 = 0;
-        r8_6_0 = 3;
-        r8_1120_0 = 3852;
-        r8_16_0_0 = 0;
-        r8_16_6_0 = 0;
-        r8_16_7_0_0 = 0;
-        r8_22_0_shrunk = 0;
-        goto dfu_device_table_in_download_sync_exit;
-    case 1:
-        r8_0_0 = 0;
-        r8_6_0 = 3;
-        r8_1120_0 = 3852;
-        r8_16_0_0 = 0;
-        r8_16_6_0 = 0;
-        r8_16_7_0_0 = 0;
-        r8_22_0_shrunk = 0;
-        goto dfu_device_table_in_download_sync_exit;
-    case 2:
-        r8_0_0 = 0;
-        r8_6_0 = 3;
-        r8_1120_0 = 3852;
-        r8_16_0_0 = 0;
-        r8_16_6_0 = 0;
-        r8_16_7_0_0 = 0;
-        r8_22_0_shrunk = 0;
-        goto dfu_device_table_in_download_sync_exit;
-    case 4:
-        r8_0_0 = 0;
-        r8_6_0 = 3;
-        r8_1120_0 = 3852;
-        r8_16_0_0 = 0;
-        r8_16_6_0 = 0;
-        r8_16_7_0_0 = 0;
-        r8_22_0_shrunk = 0;
-        goto dfu_device_table_in_download_sync_exit;
-    case 6:
-        r8_0_0 = 0;
-        r8_6_0 = 3;
-        r8_1120_0 = 3852;
-        r8_16_0_0 = 0;
-        r8_16_6_0 = 0;
-        r8_16_7_0_0 = 0;
-        r8_22_0_shrunk = 0;
-        goto dfu_device_table_in_download_sync_exit;
-    case 7:
-        r8_0_0 = 0;
-        r8_6_0 = 3;
-        r8_1120_0 = 3852;
-        r8_16_0_0 = 0;
-        r8_16_6_0 = 0;
-        r8_16_7_0_0 = 0;
-        r8_22_0_shrunk = 0;
-        goto dfu_device_table_in_download_sync_exit;
-    case 8:
-        r8_0_0 = 0;
-        r8_6_0 = 3;
-        r8_1120_0 = 3852;
-        r8_16_0_0 = 0;
-        r8_16_6_0 = 0;
-        r8_16_7_0_0 = 0;
-        r8_22_0_shrunk = 0;
-        goto dfu_device_table_in_download_sync_exit;
-    default: never();
-    }
-arm_1_3:;
-    uint32_t r17 = load32(a1 + 16);
-    if (r17 == 0) {
-        r8_0_0 = 3;
-        r8_6_0 = 1;
-        r8_1120_0 = r1_51_4_copyload;
-        r8_16_0_0 = r1_12_8_copyload;
-        r8_16_6_0 = 0;
-        r8_16_7_0_0 = 0;
-        r8_22_0_shrunk = 0;
-        goto dfu_device_table_in_download_sync_exit;
-    }
-    r8_0_0 = 0;
-    r8_6_0 = 1;
-    r8_1120_0 = 5;
-    r8_16_0_0 = r1_51_4_copyload;
-    r8_16_6_0 = r1_51_4_copyload;
-    r8_16_7_0_0 = r1_51_4_copyload & 0xff000000U;
-    r8_22_0_shrunk = r1_12_8_copyload;
-    goto dfu_device_table_in_download_sync_exit;
-arm_2_3:
-    r8_0_0 = 0;
-    r8_6_0 = 2;
-    r8_1120_0 = 3;
-    r8_16_0_0 = r1_51_4_copyload;
-    r8_16_6_0 = r1_51_4_copyload;
-    r8_16_7_0_0 = r1_51_4_copyload & 0xff000000U;
-    r8_22_0_shrunk = r1_12_8_copyload;
-    goto dfu_device_table_in_download_sync_exit;
-dfu_device_table_in_download_sync_exit:
-    r29_0_0 = r8_0_0;
-    r29_15_0 = r8_6_0;
-    r29_29117_0 = r8_1120_0;
-    r29_43_0 = ((r8_16_6_0 & 0xff0000U) | (r8_16_0_0 & 0xffffU)) | r8_16_7_0_0;
-    r29_57_0 = r8_22_0_shrunk & 0xffffU;
-    r29_67_0 = 0;
-    r29_77_0 = 0;
-    goto join_15;
-arm_5:
-    switch (r11) {
-    case 3: goto arm_1_4;
-    case 5: goto arm_2_4;
-    case 0:
-        r8_5_0 = 3;
-        r8_920_0 = 3852;
-        r8_13_0 = 0;
-        r8_17_0_shrunk = 0;
-        goto dfu_device_table_in_download_sync_written_exit;
-    case 1:
-        r8_5_0 = 3;
-        r8_920_0 = 3852;
-        r8_13_0 = 0;
-        r8_17_0_shrunk = 0;
-        goto dfu_device_table_in_download_sync_written_exit;
-    case 2:
-        r8_5_0 = 3;
-        r8_920_0 = 3852;
-        r8_13_0 = 0;
-        r8_17_0_shrunk = 0;
-        goto dfu_device_table_in_download_sync_written_exit;
-    case 4:
-        r8_5_0 = 3;
-        r8_920_0 = 3852;
-        r8_13_0 = 0;
-        r8_17_0_shrunk = 0;
-        goto dfu_device_table_in_download_sync_written_exit;
-    case 6:
-        r8_5_0 = 3;
-        r8_920_0 = 3852;
-        r8_13_0 = 0;
-        r8_17_0_shrunk = 0;
-        goto dfu_device_table_in_download_sync_written_exit;
-    case 7:
-        r8_5_0 = 3;
-        r8_920_0 = 3852;
-        r8_13_0 = 0;
-        r8_17_0_shrunk = 0;
-        goto dfu_device_table_in_download_sync_written_exit;
-    case 8:
-        r8_5_0 = 3;
-        r8_920_0 = 3852;
-        r8_13_0 = 0;
-        r8_17_0_shrunk = 0;
-        goto dfu_device_table_in_download_sync_written_exit;
-    default: never();
-    }
-arm_1_4:
-    r8_5_0 = 1;
-    r8_920_0 = 6;
-    r8_13_0 = r1_51_4_copyload;
-    r8_17_0_shrunk = r1_12_8_copyload;
-    goto dfu_device_table_in_download_sync_written_exit;
-arm_2_4:
-    r8_5_0 = 2;
-    r8_920_0 = 4;
-    r8_13_0 = r1_51_4_copyload;
-    r8_17_0_shrunk = r1_12_8_copyload;
-    goto dfu_device_table_in_download_sync_written_exit;
-dfu_device_table_in_download_sync_written_exit:
-    r29_0_0 = 0;
-    r29_15_0 = r8_5_0;
-    r29_29117_0 = r8_920_0;
-    r29_43_0 = r8_13_0;
-    r29_57_0 = r8_17_0_shrunk & 0xffffU;
-    r29_67_0 = 0;
-    r29_77_0 = 0;
-    goto join_15;
-arm_7:
-    switch (r11) {
-    case 1: goto arm_1_5;
-    case 6:
-        r29_0_0 = 0;
-        r29_15_0 = 0;
-        r29_29117_0 = 2;
+        r29_15_0 = 3;
+        r29_29117_0 = 10;
         r29_43_0 = 0;
         r29_57_0 = 0;
         r29_67_0 = 0;
         r29_77_0 = 0;
-        goto join_15;
-    case 3: goto arm_3_5;
-    case 5: goto arm_4_4;
-    case 0: goto arm_5_3;
-    case 2: goto arm_5_3;
-    case 4: goto arm_5_3;
-    case 7: goto arm_5_3;
-    case 8: goto arm_5_3;
+        break;
+    case 11:
+        switch (r11) {
+        case 2: {
+            dfu_device_plans_upload(r10, a1, r1_51_4_copyload, r1_12_0_0_extract_trunc, v0, v1);
+            uint8_t pre_2 = *r10;
+            uint8_t pre39 = r10[1];
+            uint32_t pre40 = load32(r10 + 4);
+            uint32_t pre41 = load32(r10 + 8);
+            uint32_t pre42 = load32(r10 + 12);
+            uint32_t pre43_2 = load32(r10 + 16);
+            uint32_t pre44_2 = load32(r10 + 20);
+            v23 = pre44_2;
+            v24 = pre43_2;
+            v25 = pre42;
+            v26 = pre41;
+            v27 = pre40;
+            v28 = pre39;
+            v29 = pre_2;
+            break;
+        }
+        case 6:
+            v23 = 0;
+            v24 = 0;
+            v25 = 0;
+            v26 = 0;
+            v27 = 2;
+            v28 = 0;
+            v29 = 0;
+            break;
+        case 3:
+            v23 = 0;
+            v24 = 0;
+            v25 = r1_12_8_copyload & 0xffffU;
+            v26 = r1_51_4_copyload;
+            v27 = 11;
+            v28 = 1;
+            v29 = 0;
+            break;
+        case 5:
+            v23 = 0;
+            v24 = 0;
+            v25 = r1_12_8_copyload & 0xffffU;
+            v26 = r1_51_4_copyload;
+            v27 = 11;
+            v28 = 2;
+            v29 = 0;
+            break;
+        case 0:
+        case 1:
+        case 4:
+        case 7:
+        case 8:
+            v23 = 0;
+            v24 = 0;
+            v25 = 0;
+            v26 = 0;
+            v27 = 3852;
+            v28 = 3;
+            v29 = 0;
+            break;
+        default: never();
+        }
+        r29_0_0 = v29;
+        r29_15_0 = v28;
+        r29_29117_0 = v27;
+        r29_43_0 = v26;
+        r29_57_0 = v25;
+        r29_67_0 = v24;
+        r29_77_0 = v23;
+        break;
+    case 12:
+        switch (r11) {
+        case 4:
+            r29_0_0 = 0;
+            r29_15_0 = 0;
+            r29_29117_0 = 2;
+            r29_43_0 = 0;
+            r29_57_0 = 0;
+            r29_67_0 = 0;
+            r29_77_0 = 0;
+            break;
+        case 3:
+            r29_0_0 = 0;
+            r29_15_0 = 1;
+            r29_29117_0 = ((uint32_t)r1_3_1_copyload << 8) | 12;
+            r29_43_0 = 0;
+            r29_57_0 = 0;
+            r29_67_0 = 0;
+            r29_77_0 = 0;
+            break;
+        case 5:
+            r29_0_0 = 0;
+            r29_15_0 = 2;
+            r29_29117_0 = ((uint32_t)r1_3_1_copyload << 8) | 12;
+            r29_43_0 = 0;
+            r29_57_0 = 0;
+            r29_67_0 = 0;
+            r29_77_0 = 0;
+            break;
+        case 0:
+        case 1:
+        case 2:
+        case 6:
+        case 7:
+        case 8:
+            r29_0_0 = 0;
+            r29_15_0 = 3;
+            r29_29117_0 = ((uint32_t)r1_3_1_copyload << 8) | 12;
+            r29_43_0 = 0;
+            r29_57_0 = 0;
+            r29_67_0 = 0;
+            r29_77_0 = 0;
+            break;
+        default: never();
+        }
+        break;
     default: never();
     }
-arm_1_5:
-    if (v1 == 0) goto join_3;
-    dfu_device_plans_block(r0_2, a1, r1_51_4_copyload, r1_12_0_0_extract_trunc, v0, v1);
-    uint8_t v16 = *r0_2;
-    uint8_t v17 = r0_2[1];
-    uint32_t v18 = load32(r0_2 + 4);
-    uint32_t v19 = load32(r0_2 + 8);
-    uint32_t v20 = load32(r0_2 + 12);
-    uint32_t v21 = load32(r0_2 + 16);
-    uint32_t v22 = load32(r0_2 + 20);
-    r10_24_1 = v19;
-    r10_32_1 = v20;
-    r10_38_1 = v21;
-    r10_44_1 = v22;
-    r10_1642_1 = v18;
-    r10_8_1 = v17;
-    r10_0_1 = v16;
-    goto dfu_device_plans_further_exit;
-join_3:;
-    uint32_t r22 = load32(a1 + 12);
-    if (r1_51_4_copyload < r22) {
-        r10_24_1 = 0;
-        r10_32_1 = 0;
-        r10_38_1 = 0;
-        r10_44_1 = 0;
-        r10_1642_1 = 2316;
-        r10_8_1 = 3;
-        r10_0_1 = 0;
-        goto dfu_device_plans_further_exit;
-    }
-    r10_24_1 = r1_51_4_copyload;
-    r10_32_1 = 0;
-    r10_38_1 = 0;
-    r10_44_1 = 0;
-    r10_1642_1 = 7;
-    r10_8_1 = 0;
-    r10_0_1 = 0;
-dfu_device_plans_further_exit:
-    r29_0_0 = r10_0_1;
-    r29_15_0 = r10_8_1;
-    r29_29117_0 = r10_1642_1;
-    r29_43_0 = r10_24_1;
-    r29_57_0 = r10_32_1;
-    r29_67_0 = r10_38_1;
-    r29_77_0 = r10_44_1;
-    goto join_15;
-arm_3_5:
-    r29_0_0 = 0;
-    r29_15_0 = 1;
-    r29_29117_0 = 6;
-    r29_43_0 = r1_51_4_copyload;
-    r29_57_0 = r1_12_8_copyload & 0xffffU;
-    r29_67_0 = 0;
-    r29_77_0 = 0;
-    goto join_15;
-arm_4_4:
-    r29_0_0 = 0;
-    r29_15_0 = 2;
-    r29_29117_0 = 6;
-    r29_43_0 = r1_51_4_copyload;
-    r29_57_0 = r1_12_8_copyload & 0xffffU;
-    r29_67_0 = 0;
-    r29_77_0 = 0;
-    goto join_15;
-arm_5_3:
-    r29_0_0 = 0;
-    r29_15_0 = 3;
-    r29_29117_0 = 3852;
-    r29_43_0 = 0;
-    r29_57_0 = 0;
-    r29_67_0 = 0;
-    r29_77_0 = 0;
-    goto join_15;
-arm_8:
-    switch (r11) {
-    case 3: goto arm_1_6;
-    case 5: goto arm_2_5;
-    case 0:
-        r8_0_0_2 = 0;
-        r8_6_0_2 = 3;
-        r8_1120_0_2 = 3852;
-        r8_16_0_0_2 = 0;
-        r8_16_6_0_2 = 0;
-        r8_16_7_0_0_2 = 0;
-        goto dfu_device_table_in_manifest_sync_exit;
-    case 1:
-        r8_0_0_2 = 0;
-        r8_6_0_2 = 3;
-        r8_1120_0_2 = 3852;
-        r8_16_0_0_2 = 0;
-        r8_16_6_0_2 = 0;
-        r8_16_7_0_0_2 = 0;
-        goto dfu_device_table_in_manifest_sync_exit;
-    case 2:
-        r8_0_0_2 = 0;
-        r8_6_0_2 = 3;
-        r8_1120_0_2 = 3852;
-        r8_16_0_0_2 = 0;
-        r8_16_6_0_2 = 0;
-        r8_16_7_0_0_2 = 0;
-        goto dfu_device_table_in_manifest_sync_exit;
-    case 4:
-        r8_0_0_2 = 0;
-        r8_6_0_2 = 3;
-        r8_1120_0_2 = 3852;
-        r8_16_0_0_2 = 0;
-        r8_16_6_0_2 = 0;
-        r8_16_7_0_0_2 = 0;
-        goto dfu_device_table_in_manifest_sync_exit;
-    case 6:
-        r8_0_0_2 = 0;
-        r8_6_0_2 = 3;
-        r8_1120_0_2 = 3852;
-        r8_16_0_0_2 = 0;
-        r8_16_6_0_2 = 0;
-        r8_16_7_0_0_2 = 0;
-        goto dfu_device_table_in_manifest_sync_exit;
-    case 7:
-        r8_0_0_2 = 0;
-        r8_6_0_2 = 3;
-        r8_1120_0_2 = 3852;
-        r8_16_0_0_2 = 0;
-        r8_16_6_0_2 = 0;
-        r8_16_7_0_0_2 = 0;
-        goto dfu_device_table_in_manifest_sync_exit;
-    case 8:
-        r8_0_0_2 = 0;
-        r8_6_0_2 = 3;
-        r8_1120_0_2 = 3852;
-        r8_16_0_0_2 = 0;
-        r8_16_6_0_2 = 0;
-        r8_16_7_0_0_2 = 0;
-        goto dfu_device_table_in_manifest_sync_exit;
-    default: never();
-    }
-arm_1_6:;
-    uint32_t r18 = load32(a1 + 20);
-    if (r18 == 0) {
-        r8_0_0_2 = 4;
-        r8_6_0_2 = 1;
-        r8_1120_0_2 = r1_51_4_copyload;
-        r8_16_0_0_2 = 2;
-        r8_16_6_0_2 = 0;
-        r8_16_7_0_0_2 = 0;
-        goto dfu_device_table_in_manifest_sync_exit;
-    }
-    r8_0_0_2 = 0;
-    r8_6_0_2 = 1;
-    r8_1120_0_2 = 9;
-    r8_16_0_0_2 = r1_51_4_copyload;
-    r8_16_6_0_2 = r1_51_4_copyload;
-    r8_16_7_0_0_2 = r1_51_4_copyload & 0xffff0000U;
-    goto dfu_device_table_in_manifest_sync_exit;
-arm_2_5:
-    r8_0_0_2 = 0;
-    r8_6_0_2 = 2;
-    r8_1120_0_2 = 7;
-    r8_16_0_0_2 = r1_51_4_copyload;
-    r8_16_6_0_2 = r1_51_4_copyload;
-    r8_16_7_0_0_2 = r1_51_4_copyload & 0xffff0000U;
-    goto dfu_device_table_in_manifest_sync_exit;
-dfu_device_table_in_manifest_sync_exit:
-    r29_0_0 = r8_0_0_2;
-    r29_15_0 = r8_6_0_2;
-    r29_29117_0 = r8_1120_0_2;
-    r29_43_0 = ((r8_16_6_0_2 & 0xff00U) | (r8_16_0_0_2 & 255)) | r8_16_7_0_0_2;
-    r29_57_0 = 0;
-    r29_67_0 = 0;
-    r29_77_0 = 0;
-    goto join_15;
-arm_11:
-    r29_0_0 = 0;
-    r29_15_0 = 3;
-    r29_29117_0 = 10;
-    r29_43_0 = 0;
-    r29_57_0 = 0;
-    r29_67_0 = 0;
-    r29_77_0 = 0;
-    goto join_15;
-arm_12:
-    switch (r11) {
-    case 2: goto arm_1_7;
-    case 6: goto arm_2_6;
-    case 3: goto arm_3_6;
-    case 5: goto arm_4_5;
-    case 0:
-        v23 = 0;
-        v24 = 0;
-        v25 = 0;
-        v26 = 0;
-        v27 = 3852;
-        v28 = 3;
-        v29 = 0;
-        goto dfu_device_table_in_upload_idle_exit;
-    case 1:
-        v23 = 0;
-        v24 = 0;
-        v25 = 0;
-        v26 = 0;
-        v27 = 3852;
-        v28 = 3;
-        v29 = 0;
-        goto dfu_device_table_in_upload_idle_exit;
-    case 4:
-        v23 = 0;
-        v24 = 0;
-        v25 = 0;
-        v26 = 0;
-        v27 = 3852;
-        v28 = 3;
-        v29 = 0;
-        goto dfu_device_table_in_upload_idle_exit;
-    case 7:
-        v23 = 0;
-        v24 = 0;
-        v25 = 0;
-        v26 = 0;
-        v27 = 3852;
-        v28 = 3;
-        v29 = 0;
-        goto dfu_device_table_in_upload_idle_exit;
-    case 8:
-        v23 = 0;
-        v24 = 0;
-        v25 = 0;
-        v26 = 0;
-        v27 = 3852;
-        v28 = 3;
-        v29 = 0;
-        goto dfu_device_table_in_upload_idle_exit;
-    default: never();
-    }
-arm_1_7:
-    dfu_device_plans_upload(r10, a1, r1_51_4_copyload, r1_12_0_0_extract_trunc, v0, v1);
-    uint8_t pre_2 = *r10;
-    uint8_t pre39 = r10[1];
-    uint32_t pre40 = load32(r10 + 4);
-    uint32_t pre41 = load32(r10 + 8);
-    uint32_t pre42 = load32(r10 + 12);
-    uint32_t pre43_2 = load32(r10 + 16);
-    uint32_t pre44_2 = load32(r10 + 20);
-    v23 = pre44_2;
-    v24 = pre43_2;
-    v25 = pre42;
-    v26 = pre41;
-    v27 = pre40;
-    v28 = pre39;
-    v29 = pre_2;
-    goto dfu_device_table_in_upload_idle_exit;
-arm_2_6:
-    v23 = 0;
-    v24 = 0;
-    v25 = 0;
-    v26 = 0;
-    v27 = 2;
-    v28 = 0;
-    v29 = 0;
-    goto dfu_device_table_in_upload_idle_exit;
-arm_3_6:
-    v23 = 0;
-    v24 = 0;
-    v25 = r1_12_8_copyload & 0xffffU;
-    v26 = r1_51_4_copyload;
-    v27 = 11;
-    v28 = 1;
-    v29 = 0;
-    goto dfu_device_table_in_upload_idle_exit;
-arm_4_5:
-    v23 = 0;
-    v24 = 0;
-    v25 = r1_12_8_copyload & 0xffffU;
-    v26 = r1_51_4_copyload;
-    v27 = 11;
-    v28 = 2;
-    v29 = 0;
-    goto dfu_device_table_in_upload_idle_exit;
-dfu_device_table_in_upload_idle_exit:
-    r29_0_0 = v29;
-    r29_15_0 = v28;
-    r29_29117_0 = v27;
-    r29_43_0 = v26;
-    r29_57_0 = v25;
-    r29_67_0 = v24;
-    r29_77_0 = v23;
-    goto join_15;
-arm_13:
-    switch (r11) {
-    case 4:
-        r29_0_0 = 0;
-        r29_15_0 = 0;
-        r29_29117_0 = 2;
-        r29_43_0 = 0;
-        r29_57_0 = 0;
-        r29_67_0 = 0;
-        r29_77_0 = 0;
-        goto join_15;
-    case 3: goto arm_2_7;
-    case 5: goto arm_3_7;
-    case 0: goto arm_4_6;
-    case 1: goto arm_4_6;
-    case 2: goto arm_4_6;
-    case 6: goto arm_4_6;
-    case 7: goto arm_4_6;
-    case 8: goto arm_4_6;
-    default: never();
-    }
-arm_2_7:
-    r29_0_0 = 0;
-    r29_15_0 = 1;
-    r29_29117_0 = ((uint32_t)r1_3_1_copyload << 8) | 12;
-    r29_43_0 = 0;
-    r29_57_0 = 0;
-    r29_67_0 = 0;
-    r29_77_0 = 0;
-    goto join_15;
-arm_3_7:
-    r29_0_0 = 0;
-    r29_15_0 = 2;
-    r29_29117_0 = ((uint32_t)r1_3_1_copyload << 8) | 12;
-    r29_43_0 = 0;
-    r29_57_0 = 0;
-    r29_67_0 = 0;
-    r29_77_0 = 0;
-    goto join_15;
-arm_4_6:
-    r29_0_0 = 0;
-    r29_15_0 = 3;
-    r29_29117_0 = ((uint32_t)r1_3_1_copyload << 8) | 12;
-    r29_43_0 = 0;
-    r29_57_0 = 0;
-    r29_67_0 = 0;
-    r29_77_0 = 0;
-    goto join_15;
-switch_lookup:;
-    uint64_t v30 = (uint64_t)r11;
-    uint8_t switch_load = *(PLACE(switch_table_dfu_device_table_decide) + (size_t)v30);
-    uint32_t switch_load149 = load32(PLACE(switch_table_dfu_device_table_decide_2) + 4 * (size_t)v30);
-    r29_0_0 = 0;
-    r29_15_0 = switch_load;
-    r29_29117_0 = switch_load149;
-    r29_43_0 = 0;
-    r29_57_0 = 0;
-    r29_67_0 = 0;
-    r29_77_0 = 0;
-join_15:
     *a0 = r29_0_0;
     a0[1] = r29_15_0;
     store32(a0 + 4, r29_29117_0);
@@ -2615,33 +2293,31 @@ join_15:
     return;
 }
 
-/* dfu_device::plans::block */
+/* dfu_device::plans::block: crates/dfu_device/src/plans.rt */
 static void dfu_device_plans_block(unsigned char *a0, unsigned char *a1, uint32_t a2, uint16_t a3, uint16_t a4, uint16_t a5) {
     uint16_t r12 = load16(a1 + 6);
-    if (r12 < a5) goto then_1;
-    goto join_3;
-then_1:
-    *a0 = 0;
-    a0[1] = 3;
-    store32(a0 + 4, 3852);
-    memset(a0 + 8, 0, 16);
-    return;
-join_3:
-    if (a4 == a3) goto join_6;
-    *a0 = 0;
-    a0[1] = 3;
-    store32(a0 + 4, 2060);
-    memset(a0 + 8, 0, 16);
-    return;
-join_6:;
+    if (r12 < a5) {
+        *a0 = 0;
+        a0[1] = 3;
+        store32(a0 + 4, 3852);
+        memset(a0 + 8, 0, 16);
+        return;
+    }
+    if (a4 != a3) {
+        *a0 = 0;
+        a0[1] = 3;
+        store32(a0 + 4, 2060);
+        memset(a0 + 8, 0, 16);
+        return;
+    }
     uint64_t r54 = load64(a1 + 24);
-    if (r54 >= ((uint64_t)a5 + (uint64_t)a2)) goto join_9;
-    *a0 = 0;
-    a0[1] = 3;
-    store32(a0 + 4, 2060);
-    memset(a0 + 8, 0, 16);
-    return;
-join_9:
+    if (r54 < ((uint64_t)(size_t)a5 + (uint64_t)(size_t)a2)) {
+        *a0 = 0;
+        a0[1] = 3;
+        store32(a0 + 4, 2060);
+        memset(a0 + 8, 0, 16);
+        return;
+    }
     *a0 = 1;
     a0[1] = 0;
     store32(a0 + 4, 3);
@@ -2652,68 +2328,64 @@ join_9:
     return;
 }
 
-/* dfu_device::plans::upload */
+/* dfu_device::plans::upload: crates/dfu_device/src/plans.rt */
 static void dfu_device_plans_upload(unsigned char *a0, unsigned char *a1, uint32_t a2, uint16_t a3, uint16_t a4, uint16_t a5) {
-    if (a5 == 0) goto join_5;
-    uint16_t r13 = load16(a1 + 6);
-    if (r13 < a5) goto join_5;
-    goto after_1;
-join_5:
+    if (a5 != 0) {
+        uint16_t r13 = load16(a1 + 6);
+        if (r13 >= a5) {
+            if (a4 != a3) {
+                *a0 = 0;
+                a0[1] = 3;
+                store32(a0 + 4, 2060);
+                memset(a0 + 8, 0, 16);
+                return;
+            }
+            *a0 = 2;
+            a0[1] = 0;
+            store32(a0 + 4, a2);
+            store32(a0 + 8, ((uint32_t)(uint16_t)(a4 + 1) << 16) | (uint32_t)a5);
+            store32(a0 + 12, 0);
+            store32(a0 + 16, 0);
+            store32(a0 + 20, 0);
+            return;
+        }
+    }
     *a0 = 0;
     a0[1] = 3;
     store32(a0 + 4, 3852);
     memset(a0 + 8, 0, 16);
     return;
-after_1:
-    if (a4 == a3) goto join_13;
-    *a0 = 0;
-    a0[1] = 3;
-    store32(a0 + 4, 2060);
-    memset(a0 + 8, 0, 16);
-    return;
-join_13:
-    *a0 = 2;
-    a0[1] = 0;
-    store32(a0 + 4, a2);
-    store32(a0 + 8, ((uint32_t)(uint16_t)(a4 + 1) << 16) | (uint32_t)a5);
-    store32(a0 + 12, 0);
-    store32(a0 + 16, 0);
-    store32(a0 + 20, 0);
-    return;
 }
 
-/* dfu_device_c::power::start */
-static uint32_t dfu_device_c_power_start(unsigned char *a0, unsigned char *a1, unsigned char *a2, uint64_t a3, uint32_t a4) {
+/* dfu_device_c::power::start: crates/dfu_device_c/src/power.rt */
+static uint32_t dfu_device_c_power_start(unsigned char *a0, unsigned char *a1, unsigned char *a2, size_t a3, uint32_t a4) {
     _Alignas(4) unsigned char r7[40];
     _Alignas(4) unsigned char r8[18];
     uint32_t common_ret_op;
     dfu_device_c_config_settings_of(r7, a0);
     uint8_t r14 = *r7;
-    if (r14 != 1) {
-        common_ret_op = 0xfffffffeU;
-        goto common_ret;
+    if (r14 != 1) common_ret_op = 0xfffffffeU;
+    else {
+        uint8_t r3_2_0_copyload = r7[32];
+        uint32_t r3_31_0_copyload = load32(r7 + 36);
+        dfu_asks_noted_Noted_find(r8, a2, a3, r3_2_0_copyload, r3_31_0_copyload);
+        uint8_t r24 = *r8;
+        if (r24 != 1) common_ret_op = 0xfffffffdU;
+        else {
+            uint8_t r4_0_0_copyload = r8[1];
+            store32(a1, 300);
+            memset(a1 + 8, 0, 60);
+            store32(a1 + 4, a4);
+            store32(a1 + 20, (uint32_t)(r4_0_0_copyload & 1));
+            memcpy(a1 + 28, r8 + 2, 16);
+            common_ret_op = 0;
+        }
     }
-    uint8_t r3_2_0_copyload = r7[32];
-    uint32_t r3_31_0_copyload = load32(r7 + 36);
-    dfu_asks_noted_Noted_find(r8, a2, a3, r3_2_0_copyload, r3_31_0_copyload);
-    uint8_t r24 = *r8;
-    if (r24 == 1) goto arm_5;
-    common_ret_op = 0xfffffffdU;
-common_ret:
     return common_ret_op;
-arm_5:;
-    uint8_t r4_0_0_copyload = r8[1];
-    store32(a1, 300);
-    memset(a1 + 8, 0, 60);
-    store32(a1 + 4, a4);
-    store32(a1 + 20, (uint32_t)(r4_0_0_copyload & 1));
-    memcpy(a1 + 28, r8 + 2, 16);
-    common_ret_op = 0;
-    goto common_ret;
 }
 
-/* dfu_device_c::keeping::found */
-static void dfu_device_c_keeping_found(unsigned char *a0, unsigned char *a1, uint64_t a2, unsigned char *a3) {
+/* dfu_device_c::keeping::found: crates/dfu_device_c/src/keeping.rt */
+static void dfu_device_c_keeping_found(unsigned char *a0, unsigned char *a1, size_t a2, unsigned char *a3) {
     _Alignas(4) unsigned char r6[40];
     _Alignas(4) unsigned char r14[20];
     _Alignas(4) unsigned char r22_4_17[16];
@@ -2724,143 +2396,140 @@ static void dfu_device_c_keeping_found(unsigned char *a0, unsigned char *a1, uin
     uint8_t r0_3_0_copyload, r1_3_4_copyload, r1_5_5_copyload, r18, r8_11_0, r1_5_0_0, r20_12_0;
     uint16_t r43, r65, r31, r1_8_0, r20_15_0, r20_16_0;
     r24 = load32(a1 + 44);
-    if (r24 == 3) goto then_1;
-    goto join_3;
-then_1:
-    *a3 = 1;
-    a3[1] = 2;
-    memset(a3 + 8, 0, 128);
-    return;
-join_3:
+    if (r24 == 3) {
+        *a3 = 1;
+        a3[1] = 2;
+        memset(a3 + 8, 0, 128);
+        return;
+    }
     dfu_device_c_config_settings_of(r6, a0);
     uint8_t r35 = *r6;
-    if (r35 != 1) goto arm_5;
+    if (r35 != 1) {
+        *a3 = 1;
+        a3[1] = 0;
+        memset(a3 + 8, 0, 128);
+        return;
+    }
     r36 = r6 + 4;
     r0_3_0_copyload = r6[32];
     r0_5108_0_copyload = load32(r6 + 36);
     r43 = load16(a0 + 12);
     uint64_t switch_load = load64(PLACE(switch_table_dfu_core_format_took) + 8 * (size_t)r0_3_0_copyload);
-    if (a2 < (switch_load + (uint64_t)r43)) goto then_8;
-    goto join_10;
-arm_5:
-    *a3 = 1;
-    a3[1] = 0;
-    memset(a3 + 8, 0, 128);
-    return;
-then_8:
-    *a3 = 1;
-    a3[1] = 1;
-    memset(a3 + 8, 0, 128);
-    return;
-join_10:
+    if ((uint64_t)a2 < (switch_load + (uint64_t)(size_t)r43)) {
+        *a3 = 1;
+        a3[1] = 1;
+        memset(a3 + 8, 0, 128);
+        return;
+    }
     r65 = load16(a1 + 26);
-    if (r43 >= r65) goto join_13;
-    *a3 = 1;
-    a3[1] = 4;
-    memset(a3 + 8, 0, 128);
-    return;
-join_13:
+    if (r43 < r65) {
+        *a3 = 1;
+        a3[1] = 4;
+        memset(a3 + 8, 0, 128);
+        return;
+    }
     r31 = load16(a1 + 66);
-    if (r31 > 256) goto arm_15;
-    dfu_device_c_mode_mode_of(r14, a1);
-    uint8_t r2 = *r14;
-    r1_3_4_copyload = r14[4];
-    r1_5_5_copyload = r14[5];
-    v3 = load32(r14 + 8);
-    r1_9_12_copyload = load32(r14 + 12);
-    r1_11_16_copyload = load32(r14 + 16);
-    if (r2 != 1) goto arm_15;
-    r6_2 = load32(a1 + 20);
-    if (r6_2 > 1) goto arm_15;
-    r18 = r6_2 == 1;
-    r19 = a1 + 28;
-    if (r24 != 0) goto join_3_2;
-    memset(r20_13, 0, 3);
-    r20_6_0_0 = 0;
-    r20_9_0 = 0;
-    r20_11_0 = 0;
-    r20_12_0 = 0;
-    r20_14_0 = 0;
-    r20_15_0 = 0;
-    r20_16_0 = 0;
-    r20_17_0 = 0;
-    goto arm_14;
-join_3_2:
-    r15 = load32(a1 + 48);
-    switch (r24) {
-    case 1: goto arm_1;
-    case 2: goto arm_2;
-    default: goto arm_15;
+    if (r31 <= 256) {
+        dfu_device_c_mode_mode_of(r14, a1);
+        uint8_t r2 = *r14;
+        r1_3_4_copyload = r14[4];
+        r1_5_5_copyload = r14[5];
+        v3 = load32(r14 + 8);
+        r1_9_12_copyload = load32(r14 + 12);
+        r1_11_16_copyload = load32(r14 + 16);
+        if (r2 == 1) {
+            r6_2 = load32(a1 + 20);
+            if (r6_2 <= 1) {
+                r18 = r6_2 == 1;
+                r19 = a1 + 28;
+                if (r24 == 0) {
+                    memset(r20_13, 0, 3);
+                    r20_6_0_0 = 0;
+                    r20_9_0 = 0;
+                    r20_11_0 = 0;
+                    r20_12_0 = 0;
+                    r20_14_0 = 0;
+                    r20_15_0 = 0;
+                    r20_16_0 = 0;
+                    r20_17_0 = 0;
+                }
+                else {
+                    r15 = load32(a1 + 48);
+                    switch (r24) {
+                    case 1: {
+                        uint8_t r26 = a1[65];
+                        if (r26 >= 2) goto arm_15;
+                        r8_5_0_0 = 0;
+                        r8_11_0 = r26;
+                        r8_142_0 = 0;
+                        break;
+                    }
+                    case 2: {
+                        uint32_t r19_2 = load32(a1 + 52);
+                        uint8_t r17 = a1[64];
+                        r8_5_0_0 = 1;
+                        r8_11_0 = r17;
+                        r8_142_0 = r19_2;
+                        break;
+                    }
+                    default: goto arm_15;
+                    }
+                    r74 = load32(a1 + 60);
+                    if (r74 == 0) {
+                        r1_5_0_0 = 0;
+                        r1_8_0 = 0;
+                    }
+                    else {
+                        if (r74 >= 0x10001U) goto arm_15;
+                        r1_5_0_0 = 1;
+                        r1_8_0 = (uint16_t)((uint16_t)r74 + 0xffffU);
+                    }
+                    uint32_t r100 = load32(a1 + 56);
+                    memset(r20_13, 0, 3);
+                    r20_6_0_0 = 1;
+                    r20_9_0 = r8_5_0_0;
+                    r20_11_0 = r15;
+                    r20_12_0 = r8_11_0;
+                    r20_14_0 = r8_142_0;
+                    r20_15_0 = r1_5_0_0;
+                    r20_16_0 = r1_8_0;
+                    r20_17_0 = r100;
+                }
+                uint32_t r109 = load32(a1 + 16);
+                memcpy(r22_4_17, r19, 16);
+                *a3 = 0;
+                a3[1] = 0;
+                memcpy(a3 + 8, r36, 28);
+                a3[36] = r0_3_0_copyload;
+                memset(a3 + 37, 0, 3);
+                store32(a3 + 40, r0_5108_0_copyload);
+                a3[44] = r1_3_4_copyload;
+                a3[45] = r1_5_5_copyload;
+                store16(a3 + 46, 0);
+                store32(a3 + 48, v3);
+                store32(a3 + 52, r1_9_12_copyload);
+                store32(a3 + 56, r1_11_16_copyload);
+                store32(a3 + 60, 0);
+                store64(a3 + 64, (size_t)r65);
+                store64(a3 + 72, (size_t)r31);
+                store32(a3 + 80, r109);
+                a3[84] = r18;
+                memcpy(a3 + 85, r22_4_17, 16);
+                memset(a3 + 101, 0, 3);
+                store32(a3 + 104, r20_6_0_0);
+                store32(a3 + 108, r20_9_0);
+                store32(a3 + 112, r20_11_0);
+                a3[116] = r20_12_0;
+                memcpy(a3 + 117, r20_13, 3);
+                store32(a3 + 120, r20_14_0);
+                store16(a3 + 124, r20_15_0);
+                store16(a3 + 126, r20_16_0);
+                store32(a3 + 128, r20_17_0);
+                store32(a3 + 132, 0);
+                return;
+            }
+        }
     }
-arm_1:;
-    uint8_t r26 = a1[65];
-    if (r26 < 2) {
-        r8_5_0_0 = 0;
-        r8_11_0 = r26;
-        r8_142_0 = 0;
-        goto arm_4;
-    }
-    goto arm_15;
-arm_2:;
-    uint32_t r19_2 = load32(a1 + 52);
-    uint8_t r17 = a1[64];
-    r8_5_0_0 = 1;
-    r8_11_0 = r17;
-    r8_142_0 = r19_2;
-arm_4:
-    r74 = load32(a1 + 60);
-    if (r74 == 0) {
-        r1_5_0_0 = 0;
-        r1_8_0 = 0;
-        goto arm_8;
-    }
-    if (r74 >= 0x10001U) goto arm_15;
-    r1_5_0_0 = 1;
-    r1_8_0 = (uint16_t)((uint16_t)r74 + 0xffffU);
-arm_8:;
-    uint32_t r100 = load32(a1 + 56);
-    memset(r20_13, 0, 3);
-    r20_6_0_0 = 1;
-    r20_9_0 = r8_5_0_0;
-    r20_11_0 = r15;
-    r20_12_0 = r8_11_0;
-    r20_14_0 = r8_142_0;
-    r20_15_0 = r1_5_0_0;
-    r20_16_0 = r1_8_0;
-    r20_17_0 = r100;
-arm_14:;
-    uint32_t r109 = load32(a1 + 16);
-    memcpy(r22_4_17, r19, 16);
-    *a3 = 0;
-    a3[1] = 0;
-    memcpy(a3 + 8, r36, 28);
-    a3[36] = r0_3_0_copyload;
-    memset(a3 + 37, 0, 3);
-    store32(a3 + 40, r0_5108_0_copyload);
-    a3[44] = r1_3_4_copyload;
-    a3[45] = r1_5_5_copyload;
-    store16(a3 + 46, 0);
-    store32(a3 + 48, v3);
-    store32(a3 + 52, r1_9_12_copyload);
-    store32(a3 + 56, r1_11_16_copyload);
-    store32(a3 + 60, 0);
-    store64(a3 + 64, (uint64_t)r65);
-    store64(a3 + 72, (uint64_t)r31);
-    store32(a3 + 80, r109);
-    a3[84] = r18;
-    memcpy(a3 + 85, r22_4_17, 16);
-    memset(a3 + 101, 0, 3);
-    store32(a3 + 104, r20_6_0_0);
-    store32(a3 + 108, r20_9_0);
-    store32(a3 + 112, r20_11_0);
-    a3[116] = r20_12_0;
-    memcpy(a3 + 117, r20_13, 3);
-    store32(a3 + 120, r20_14_0);
-    store16(a3 + 124, r20_15_0);
-    store16(a3 + 126, r20_16_0);
-    store32(a3 + 128, r20_17_0);
-    store32(a3 + 132, 0);
-    return;
 arm_15:
     *a3 = 1;
     a3[1] = 4;
@@ -2868,99 +2537,91 @@ arm_15:
     return;
 }
 
-/* dfu_asks::noted::look */
+/* dfu_asks::noted::look: crates/dfu_asks/src/noted.rt */
 static void dfu_asks_noted_look(unsigned char *a0, unsigned char *a1, unsigned char *a2) {
     uint32_t r3847_2, r3847_3, r99, r17;
     unsigned char *r74, *r82;
-    uint64_t r3_0;
+    size_t r3_0;
     uint8_t r24 = dfu_slots_layout_is_sized(a1);
-    if (r24) goto join_3;
-    goto then_1;
-then_1:
-    memset(a0, 0, 20);
-    return;
-join_3:;
-    uint64_t r3 = load64(a1 + 8);
+    if (!r24) {
+        memset(a0, 0, 20);
+        return;
+    }
+    size_t r3 = (size_t)load64(a1 + 8);
     uint32_t r3847 = (uint32_t)r3 >> 1;
     uint8_t r39 = *a2;
     uint8_t r40 = r39 & 1;
     r3847_2 = (uint32_t)(r40 ? r3847 : 0);
     r3847_3 = (uint32_t)(r40 ? 0 : r3847);
     uint8_t r52 = dfu_slots_read_is_open(a1, r3847_2);
-    if (r52) goto join_9;
-    memset(a0, 0, 20);
-    return;
-join_9:;
+    if (!r52) {
+        memset(a0, 0, 20);
+        return;
+    }
     uint8_t r0_0_0_copyload = a1[16];
     uint32_t r1_0_0_copyload = load32(a1 + 20);
     uint32_t switch_load = load32(PLACE(switch_table_dfu_core_would_stall) + 4 * (size_t)r0_0_0_copyload);
-    uint64_t r13_0_0_copyload = load64(a1);
+    size_t r13_0_0_copyload = (size_t)load64(a1);
     r74 = (unsigned char *)(uintptr_t)r13_0_0_copyload + (size_t)(umax32(r1_0_0_copyload, switch_load) + r3847_2);
     r82 = a2 + 1;
     r3_0 = 0;
-loop_2:
-    if (r3_0 == 16) goto join_12;
-    uint8_t r19 = r74[(size_t)r3_0];
-    uint8_t r24_2 = r82[(size_t)r3_0];
-    if (r19 == r24_2) {
+    while (r3_0 != 16) {
+        uint8_t r19 = r74[r3_0];
+        uint8_t r24_2 = r82[r3_0];
+        if (r19 != r24_2) goto then_10;
         r3_0 = r3_0 + 1;
-        goto loop_2;
     }
-    memset(a0, 0, 20);
-    return;
-join_12:
     r99 = dfu_slots_layout_capacity_of(a1);
     r17 = load32u(a2 + 5);
-    if (r99 >= r17) goto join_15;
-    memset(a0, 0, 20);
-    return;
-join_15:
+    if (r99 < r17) {
+        memset(a0, 0, 20);
+        return;
+    }
     store32(a0, 1);
     store32(a0 + 4, r3847_2);
     store32(a0 + 8, r3847_3);
     store32(a0 + 12, r99);
     store32(a0 + 16, r17);
     return;
+then_10:
+    memset(a0, 0, 20);
+    return;
 }
 
-/* dfu_asks::asking::Asking::see */
-static void dfu_asks_asking_Asking_see(unsigned char *a0, unsigned char *a1, uint64_t a2, unsigned char *a3, uint64_t a4) {
+/* dfu_asks::asking::Asking::see: crates/dfu_asks/src/calls.rt */
+static void dfu_asks_asking_Asking_see(unsigned char *a0, unsigned char *a1, size_t a2, unsigned char *a3, size_t a4) {
     _Alignas(8) unsigned char r20[40];
     _Alignas(8) unsigned char r3[24];
     _Alignas(4) unsigned char r9[20];
     unsigned char *r39;
-    if (a4 > 0xffffffffU) goto arm_2;
+    if (wide(a4) > 0xffffffffU) {
+        *a0 = 1;
+        a0[1] = 1;
+        memset(a0 + 8, 0, 40);
+        return;
+    }
     uint32_t r7_0_0_copyload = load32(a1 + 32);
     uint8_t r6_0_0_copyload = a1[28];
-    store64(r3, (uint64_t)(uintptr_t)a3);
+    store64(r3, (size_t)(uintptr_t)a3);
     store64(r3 + 8, a4);
     r3[16] = r6_0_0_copyload;
     store32(r3 + 20, r7_0_0_copyload);
     dfu_asks_noted_look(r9, r3, a1 + 76);
     uint8_t r38 = *r9;
-    if (r38 == 1) goto arm_5;
-    goto arm_6;
-arm_2:
-    *a0 = 1;
-    a0[1] = 1;
-    memset(a0 + 8, 0, 40);
-    return;
-arm_5:
+    if (r38 != 1) {
+        *a0 = 1;
+        a0[1] = 1;
+        memset(a0 + 8, 0, 40);
+        return;
+    }
     r39 = r9 + 4;
     uint8_t r47 = dfu_asks_asking_Asking_is_fit(a1, a2, r3, r39);
-    if (r47) goto join_10;
-    goto then_8;
-arm_6:
-    *a0 = 1;
-    a0[1] = 1;
-    memset(a0 + 8, 0, 40);
-    return;
-then_8:
-    *a0 = 1;
-    a0[1] = 2;
-    memset(a0 + 8, 0, 40);
-    return;
-join_10:
+    if (!r47) {
+        *a0 = 1;
+        a0[1] = 2;
+        memset(a0 + 8, 0, 40);
+        return;
+    }
     memcpy(r20, r3, 24);
     memcpy(r20 + 24, r39, 16);
     *a0 = 0;
@@ -2969,126 +2630,106 @@ join_10:
     return;
 }
 
-/* dfu_asks::asking::Asking::is_fit */
-static uint8_t dfu_asks_asking_Asking_is_fit(unsigned char *a0, uint64_t a1, unsigned char *a2, unsigned char *a3) {
+/* dfu_asks::asking::Asking::is_fit: crates/dfu_asks/src/noted.rt */
+static uint8_t dfu_asks_asking_Asking_is_fit(unsigned char *a0, size_t a1, unsigned char *a2, unsigned char *a3) {
     unsigned char *r15, *r41, *r43;
-    uint8_t common_ret_op, r68;
-    uint64_t r40, v0;
+    uint64_t r40;
     uint32_t r42, r44, r1_0_0_copyload, r5, r3_0, r62, r60, r71, v2;
+    size_t v0;
+    uint8_t r68, common_ret_op;
     r15 = a0 + 56;
     uint64_t r16 = load64(r15);
-    if (a1 < r16) {
-        common_ret_op = 0;
-        goto common_ret;
+    if ((uint64_t)a1 < r16) common_ret_op = 0;
+    else {
+        uint16_t r5_2_0_copyload = load16(a0 + 12);
+        if (umin_size(a1, 4096) < (size_t)r5_2_0_copyload) common_ret_op = 0;
+        else {
+            r40 = load64(a0 + 64);
+            r41 = a0 + 72;
+            r42 = load32(r41);
+            r43 = a3 + 4;
+            r44 = load32(r43);
+            uint32_t r11 = dfu_slots_layout_capacity_of(a2);
+            if (r11 < r42) common_ret_op = 0;
+            else {
+                uint8_t r0_0_0_copyload = a2[16];
+                v0 = (size_t)r0_0_0_copyload;
+                uint32_t switch_load = load32(PLACE(switch_table_dfu_asks_asking_Asking_is_fit) + 4 * v0);
+                if (r40 != (uint64_t)(size_t)(switch_load & r42)) common_ret_op = 0;
+                else {
+                    r1_0_0_copyload = load32(a2 + 20);
+                    if (r1_0_0_copyload == 0) r62 = r44;
+                    else {
+                        uint32_t switch_load_2 = load32(PLACE(switch_table_dfu_core_would_stall) + 4 * v0);
+                        size_t r3 = (size_t)load64(a2 + 8);
+                        r5 = (uint32_t)r3;
+                        r3_0 = ((r42 - (uint32_t)r40) + r44) + (umax32(r1_0_0_copyload, switch_load_2) << 1);
+                        while (r3_0 < r5) {
+                            if ((r3_0 % r1_0_0_copyload) == 0) break;
+                            uint8_t r37 = dfu_slots_read_byte_at(a2, r3_0);
+                            if (r37 != 255) {
+                                common_ret_op = 0;
+                                goto common_ret;
+                            }
+                            r3_0 = r3_0 + 1;
+                        }
+                        uint32_t r62_pre = load32(r43);
+                        r62 = r62_pre;
+                    }
+                    r60 = load32(a3 + 8);
+                    uint8_t r64 = dfu_slots_read_is_open(a2, r62);
+                    r68 = !r64;
+                    r71 = load32(r41);
+                    uint8_t v1 = a0[36];
+                    v2 = load32(a0 + 40);
+                    switch (v1) {
+                    case 3:
+                    case 5: {
+                        uint64_t r89 = load64(r15);
+                        if (!((r89 != 0) ? ((r89 + (uint64_t)(size_t)v2) <= (uint64_t)(size_t)r60) : 0)) common_ret_op = 0;
+                        else {
+                            if (v2 == 0) common_ret_op = 1;
+                            else {
+                                common_ret_op = r68 ? (r71 == v2) : 0;
+                            }
+                        }
+                        break;
+                    }
+                    case 4:
+                    case 6:
+                    case 7:
+                    case 9:
+                        common_ret_op = (((v2 - 1) < r60) & r68) ? (r71 == v2) : 0;
+                        break;
+                    case 0:
+                    case 1:
+                    case 2:
+                    case 8:
+                    case 10:
+                    case 11:
+                    case 12:
+                        common_ret_op = 1;
+                        break;
+                    default: never();
+                    }
+                }
+            }
+        }
     }
-    uint16_t r5_2_0_copyload = load16(a0 + 12);
-    if (umin64(a1, 4096) >= (uint64_t)r5_2_0_copyload) goto after_1;
-    common_ret_op = 0;
 common_ret:
     return common_ret_op;
-after_1:
-    r40 = load64(a0 + 64);
-    r41 = a0 + 72;
-    r42 = load32(r41);
-    r43 = a3 + 4;
-    r44 = load32(r43);
-    uint32_t r11 = dfu_slots_layout_capacity_of(a2);
-    if (r11 < r42) {
-        common_ret_op = 0;
-        goto common_ret;
-    }
-    uint8_t r0_0_0_copyload = a2[16];
-    v0 = (uint64_t)r0_0_0_copyload;
-    uint32_t switch_load = load32(PLACE(switch_table_dfu_asks_asking_Asking_is_fit) + 4 * (size_t)v0);
-    if (r40 != (uint64_t)(switch_load & r42)) {
-        common_ret_op = 0;
-        goto common_ret;
-    }
-    r1_0_0_copyload = load32(a2 + 20);
-    if (r1_0_0_copyload == 0) {
-        r62 = r44;
-        goto join_13;
-    }
-    uint32_t switch_load_2 = load32(PLACE(switch_table_dfu_core_would_stall) + 4 * (size_t)v0);
-    uint64_t r3 = load64(a2 + 8);
-    r5 = (uint32_t)r3;
-    r3_0 = ((r42 - (uint32_t)r40) + r44) + (umax32(r1_0_0_copyload, switch_load_2) << 1);
-loop_5:
-    if (r3_0 >= r5) goto join_13_loopexit;
-    if ((r3_0 % r1_0_0_copyload) == 0) goto join_13_loopexit;
-    uint8_t r37 = dfu_slots_read_byte_at(a2, r3_0);
-    if (r37 == 255) {
-        r3_0 = r3_0 + 1;
-        goto loop_5;
-    }
-    common_ret_op = 0;
-    goto common_ret;
-join_13_loopexit:;
-    uint32_t r62_pre = load32(r43);
-    r62 = r62_pre;
-join_13:
-    r60 = load32(a3 + 8);
-    uint8_t r64 = dfu_slots_read_is_open(a2, r62);
-    r68 = !r64;
-    r71 = load32(r41);
-    uint8_t v1 = a0[36];
-    v2 = load32(a0 + 40);
-    switch (v1) {
-    case 3: goto after_2;
-    case 5: goto after_2;
-    case 4: goto after_3;
-    case 6: goto after_3;
-    case 7: goto after_3;
-    case 9: goto after_3;
-    case 0:
-        common_ret_op = 1;
-        goto common_ret;
-    case 1:
-        common_ret_op = 1;
-        goto common_ret;
-    case 2:
-        common_ret_op = 1;
-        goto common_ret;
-    case 8:
-        common_ret_op = 1;
-        goto common_ret;
-    case 10:
-        common_ret_op = 1;
-        goto common_ret;
-    case 11:
-        common_ret_op = 1;
-        goto common_ret;
-    case 12:
-        common_ret_op = 1;
-        goto common_ret;
-    default: never();
-    }
-after_3:
-    common_ret_op = (((v2 + 0xffffffffU) < r60) & r68) ? (r71 == v2) : 0;
-    goto common_ret;
-after_2:;
-    uint64_t r89 = load64(r15);
-    if (!((r89 != 0) ? ((r89 + (uint64_t)v2) <= (uint64_t)r60) : 0)) {
-        common_ret_op = 0;
-        goto common_ret;
-    }
-    if (v2 == 0) {
-        common_ret_op = 1;
-        goto common_ret;
-    }
-    common_ret_op = r68 ? (r71 == v2) : 0;
-    goto common_ret;
 }
 
-/* dfu_asks::asking::Asking::carry_out */
-static void dfu_asks_asking_Asking_carry_out(unsigned char *a0, unsigned char *a1, unsigned char *a2, uint8_t a3, uint16_t a4, unsigned char *a5, uint64_t a6, unsigned char *a7, uint64_t a8, unsigned char *a9, uint64_t a10, unsigned char *a11, unsigned char *a12, unsigned char *a13, uint64_t a14) {
+/* dfu_asks::asking::Asking::carry_out: crates/dfu_asks/src/carry.rt */
+static void dfu_asks_asking_Asking_carry_out(unsigned char *a0, unsigned char *a1, unsigned char *a2, uint8_t a3, uint16_t a4, unsigned char *a5, size_t a6, unsigned char *a7, size_t a8, unsigned char *a9, uint64_t a10, unsigned char *a11, unsigned char *a12, unsigned char *a13, size_t a14) {
     _Alignas(8) unsigned char r5[32];
     _Alignas(8) unsigned char r0[16];
     _Alignas(4) unsigned char r5_2[4];
     uint32_t r1_517_4_copyload, r1_16_12_copyload, r1_19_16_copyload;
     uint16_t r1_11_8_copyload, r1_15_8_copyload;
-    uint64_t r1, a1_a0_3, r35_1142_0;
+    size_t r1, a1_a0_3;
     uint8_t r35_0_0, r35_6_0;
+    uint64_t r35_1142_0;
     uint8_t r1_0_0_copyload = *a2;
     r1_517_4_copyload = load32(a2 + 4);
     r1_11_8_copyload = load16(a2 + 8);
@@ -3096,141 +2737,140 @@ static void dfu_asks_asking_Asking_carry_out(unsigned char *a0, unsigned char *a
     r1_16_12_copyload = load32(a2 + 12);
     r1_19_16_copyload = load32(a2 + 16);
     switch (r1_0_0_copyload) {
-    case 0: goto arm_1;
-    case 1: goto arm_2;
-    case 2: goto arm_3;
-    case 3: goto arm_4;
-    case 4: goto arm_4;
+    case 0: {
+        uint8_t r1_3_1_copyload = a2[1];
+        a1[36] = (uint8_t)r1_517_4_copyload;
+        a1[37] = (uint8_t)(r1_517_4_copyload >> 8);
+        store16(a1 + 40, r1_11_8_copyload);
+        store16(a1 + 42, r1_15_8_copyload);
+        store32(a1 + 44, r1_16_12_copyload);
+        store32(a1 + 48, r1_19_16_copyload);
+        struct i8_i64 r99 = dfu_asks_asking_Asking_give(a1, r1_3_1_copyload, (uint16_t)((a3 & 1) ? a4 : 0), a13);
+        r35_0_0 = 1;
+        r35_6_0 = r99.a;
+        r35_1142_0 = (size_t)r99.b;
+        break;
+    }
+    case 1: {
+        size_t a1_a0 = umin_size(umin_size(a8, a6), 4096);
+        core_slice_edits_slice_T_copy_from_slice_i8_core_clone_U8Clone(a7, a5, a1_a0);
+        store64(a1 + 56, a1_a0);
+        a1[36] = (uint8_t)r1_517_4_copyload;
+        a1[37] = (uint8_t)(r1_517_4_copyload >> 8);
+        store16(a1 + 40, r1_11_8_copyload);
+        store16(a1 + 42, r1_15_8_copyload);
+        store32(a1 + 44, r1_16_12_copyload);
+        store32(a1 + 48, r1_19_16_copyload);
+        r35_0_0 = 1;
+        r35_6_0 = 0;
+        r35_1142_0 = 0;
+        break;
+    }
+    case 2: {
+        uint32_t r15 = load32(a12 + 12);
+        r1 = (size_t)r1_11_8_copyload;
+        size_t a1_a0_2 = umin_size(r1, (size_t)usub_sat32(r15, r1_517_4_copyload));
+        a1_a0_3 = umin_size(a14, a1_a0_2);
+        if (a1_a0_2 != 0) {
+            uint32_t r34 = load32(a12);
+            dfu_slots_read_read_data(a11, r34, r1_517_4_copyload, a13, a1_a0_3);
+        }
+        uint8_t r174 = a1_a0_3 < r1;
+        a1[36] = (uint8_t)(r174 ? 2 : 11);
+        a1[37] = 0;
+        store32(a1 + 40, (uint32_t)(r174 ? 0 : (r1_517_4_copyload + (uint32_t)r1_11_8_copyload)));
+        store16(a1 + 44, (uint16_t)(r174 ? 0 : r1_15_8_copyload));
+        store16(a1 + 46, 0);
+        store32(a1 + 48, 0);
+        r35_0_0 = 1;
+        r35_6_0 = 1;
+        r35_1142_0 = a1_a0_3;
+        break;
+    }
+    case 3:
+    case 4: {
+        uint8_t r10 = a1[36];
+        switch (r10) {
+        case 3: {
+            uint32_t r13 = load32(a1 + 40);
+            dfu_asks_asking_Asking_block_job(r5, a1, r13, a11, a12);
+            break;
+        }
+        case 5: {
+            uint32_t r17 = load32(a1 + 40);
+            dfu_asks_asking_Asking_block_job(r5, a1, r17, a11, a12);
+            break;
+        }
+        case 0:
+        case 1:
+        case 2:
+        case 4:
+        case 6:
+        case 7:
+        case 8:
+        case 9:
+        case 10:
+        case 11:
+        case 12: {
+            uint32_t r16 = load32(a12 + 4);
+            uint8_t r0_0_0_copyload = a11[16];
+            uint32_t r1_0_0_copyload_2 = load32(a11 + 20);
+            uint32_t switch_load = load32(PLACE(switch_table_dfu_core_would_stall) + 4 * (size_t)r0_0_0_copyload);
+            uint32_t r22 = load32(a1 + 72);
+            uint64_t r26 = load64(a1 + 64);
+            uint8_t r37 = a1[77];
+            size_t r13_0_0_copyload = (size_t)load64(a11);
+            store32(r5_2, 0xffffffffU);
+            dfu_suffix_crc_Crc_update_small(r5_2, (unsigned char *)(uintptr_t)r13_0_0_copyload + (size_t)((umax32(r1_0_0_copyload_2, switch_load) << 1) + r16), (uint64_t)(size_t)r22 - r26);
+            dfu_suffix_crc_Crc_update_small(r5_2, a9, umin64(a10, r26));
+            uint32_t r1_2 = load32(r5_2);
+            store32(r5, 1);
+            store32(r5 + 4, r16);
+            r5[8] = (uint8_t)(r37 + 1);
+            store32(r5 + 12, r1_2);
+            store64(r5 + 16, r26);
+            store32(r5 + 24, r22);
+            break;
+        }
+        default: never();
+        }
+        uint8_t r14_0_0_copyload = *r5;
+        uint32_t r14_33_0_copyload = load32(r5 + 4);
+        uint8_t r14_4_0_copyload = r5[8];
+        uint32_t r14_54_0_copyload = load32(r5 + 12);
+        uint64_t r14_6_0_copyload = load64(r5 + 16);
+        uint32_t r14_7_0_copyload = load32(r5 + 24);
+        store64(a1 + 64, r14_6_0_copyload);
+        store32(a1 + 72, r14_7_0_copyload);
+        store32(a1 + 96, 1);
+        store32(a1 + 100, (uint32_t)r14_0_0_copyload);
+        store32(a1 + 104, r14_33_0_copyload);
+        a1[108] = r14_4_0_copyload;
+        memset(a1 + 109, 0, 3);
+        store32(a1 + 112, r14_54_0_copyload);
+        store16(a1 + 116, a3);
+        store16(a1 + 118, a4);
+        store32(a1 + 120, 0);
+        size_t r22_0_0_copyload = (size_t)load64(a11);
+        uint64_t r22_3_0_copyload = load64(a11 + 8);
+        dfu_asks_asking_Asking_advance(r0, a1, a7, a8, a9, a10, (unsigned char *)(uintptr_t)r22_0_0_copyload, r22_3_0_copyload, a13);
+        uint8_t v1 = *r0;
+        uint8_t v2 = r0[1];
+        uint64_t v3 = load64(r0 + 8);
+        r35_0_0 = v1;
+        r35_6_0 = v2;
+        r35_1142_0 = v3;
+        break;
+    }
     default: never();
     }
-arm_1:;
-    uint8_t r1_3_1_copyload = a2[1];
-    a1[36] = (uint8_t)r1_517_4_copyload;
-    a1[37] = (uint8_t)(r1_517_4_copyload >> 8);
-    store16(a1 + 40, r1_11_8_copyload);
-    store16(a1 + 42, r1_15_8_copyload);
-    store32(a1 + 44, r1_16_12_copyload);
-    store32(a1 + 48, r1_19_16_copyload);
-    struct i8_i64 r99 = dfu_asks_asking_Asking_give(a1, r1_3_1_copyload, (uint16_t)((a3 & 1) ? a4 : 0), a13);
-    r35_0_0 = 1;
-    r35_6_0 = r99.a;
-    r35_1142_0 = r99.b;
-    goto join_6;
-arm_2:;
-    uint64_t a1_a0 = umin64(umin64(a8, a6), 4096);
-    core_slice_edits_slice_T_copy_from_slice_i8_core_clone_U8Clone(a7, a5, a1_a0);
-    store64(a1 + 56, a1_a0);
-    a1[36] = (uint8_t)r1_517_4_copyload;
-    a1[37] = (uint8_t)(r1_517_4_copyload >> 8);
-    store16(a1 + 40, r1_11_8_copyload);
-    store16(a1 + 42, r1_15_8_copyload);
-    store32(a1 + 44, r1_16_12_copyload);
-    store32(a1 + 48, r1_19_16_copyload);
-    r35_0_0 = 1;
-    r35_6_0 = 0;
-    r35_1142_0 = 0;
-    goto join_6;
-arm_3:;
-    uint32_t r15 = load32(a12 + 12);
-    r1 = (uint64_t)r1_11_8_copyload;
-    uint64_t a1_a0_2 = umin64(r1, (uint64_t)usub_sat32(r15, r1_517_4_copyload));
-    a1_a0_3 = umin64(a14, a1_a0_2);
-    if (a1_a0_2 == 0) goto dfu_asks_carry_put_image_exit;
-    uint32_t r34 = load32(a12);
-    dfu_slots_read_read_data(a11, r34, r1_517_4_copyload, a13, a1_a0_3);
-dfu_asks_carry_put_image_exit:;
-    uint8_t r174 = a1_a0_3 < r1;
-    a1[36] = (uint8_t)(r174 ? 2 : 11);
-    a1[37] = 0;
-    store32(a1 + 40, (uint32_t)(r174 ? 0 : (r1_517_4_copyload + (uint32_t)r1_11_8_copyload)));
-    store16(a1 + 44, (uint16_t)(r174 ? 0 : r1_15_8_copyload));
-    store16(a1 + 46, 0);
-    store32(a1 + 48, 0);
-    r35_0_0 = 1;
-    r35_6_0 = 1;
-    r35_1142_0 = a1_a0_3;
-    goto join_6;
-arm_4:;
-    uint8_t r10 = a1[36];
-    switch (r10) {
-    case 3: goto arm_1_2;
-    case 5: goto arm_2_2;
-    case 0: goto arm_3_2;
-    case 1: goto arm_3_2;
-    case 2: goto arm_3_2;
-    case 4: goto arm_3_2;
-    case 6: goto arm_3_2;
-    case 7: goto arm_3_2;
-    case 8: goto arm_3_2;
-    case 9: goto arm_3_2;
-    case 10: goto arm_3_2;
-    case 11: goto arm_3_2;
-    case 12: goto arm_3_2;
-    default: never();
-    }
-arm_1_2:;
-    uint32_t r13 = load32(a1 + 40);
-    dfu_asks_asking_Asking_block_job(r5, a1, r13, a11, a12);
-    goto dfu_asks_asking_Asking_start_exit;
-arm_2_2:;
-    uint32_t r17 = load32(a1 + 40);
-    dfu_asks_asking_Asking_block_job(r5, a1, r17, a11, a12);
-    goto dfu_asks_asking_Asking_start_exit;
-arm_3_2:;
-    uint32_t r16 = load32(a12 + 4);
-    uint8_t r0_0_0_copyload = a11[16];
-    uint32_t r1_0_0_copyload_2 = load32(a11 + 20);
-    uint32_t switch_load = load32(PLACE(switch_table_dfu_core_would_stall) + 4 * (size_t)r0_0_0_copyload);
-    uint32_t r22 = load32(a1 + 72);
-    uint64_t r26 = load64(a1 + 64);
-    uint8_t r37 = a1[77];
-    uint64_t r13_0_0_copyload = load64(a11);
-    store32(r5_2, 0xffffffffU);
-    dfu_suffix_crc_Crc_update_small(r5_2, (unsigned char *)(uintptr_t)r13_0_0_copyload + (size_t)((umax32(r1_0_0_copyload_2, switch_load) << 1) + r16), (uint64_t)r22 - r26);
-    dfu_suffix_crc_Crc_update_small(r5_2, a9, umin64(a10, r26));
-    uint32_t r1_2 = load32(r5_2);
-    store32(r5, 1);
-    store32(r5 + 4, r16);
-    r5[8] = (uint8_t)(r37 + 1);
-    store32(r5 + 12, r1_2);
-    store64(r5 + 16, r26);
-    store32(r5 + 24, r22);
-    goto dfu_asks_asking_Asking_start_exit;
-dfu_asks_asking_Asking_start_exit:;
-    uint8_t r14_0_0_copyload = *r5;
-    uint32_t r14_33_0_copyload = load32(r5 + 4);
-    uint8_t r14_4_0_copyload = r5[8];
-    uint32_t r14_54_0_copyload = load32(r5 + 12);
-    uint64_t r14_6_0_copyload = load64(r5 + 16);
-    uint32_t r14_7_0_copyload = load32(r5 + 24);
-    store64(a1 + 64, r14_6_0_copyload);
-    store32(a1 + 72, r14_7_0_copyload);
-    store32(a1 + 96, 1);
-    store32(a1 + 100, (uint32_t)r14_0_0_copyload);
-    store32(a1 + 104, r14_33_0_copyload);
-    a1[108] = r14_4_0_copyload;
-    memset(a1 + 109, 0, 3);
-    store32(a1 + 112, r14_54_0_copyload);
-    store16(a1 + 116, a3);
-    store16(a1 + 118, a4);
-    store32(a1 + 120, 0);
-    uint64_t r22_0_0_copyload = load64(a11);
-    uint64_t r22_3_0_copyload = load64(a11 + 8);
-    dfu_asks_asking_Asking_advance(r0, a1, a7, a8, a9, a10, (unsigned char *)(uintptr_t)r22_0_0_copyload, r22_3_0_copyload, a13);
-    uint8_t v1 = *r0;
-    uint8_t v2 = r0[1];
-    uint64_t v3 = load64(r0 + 8);
-    r35_0_0 = v1;
-    r35_6_0 = v2;
-    r35_1142_0 = v3;
-join_6:
     *a0 = r35_0_0;
     a0[1] = r35_6_0;
     store64(a0 + 8, r35_1142_0);
     return;
 }
 
-/* dfu_asks::asking::Asking::give */
+/* dfu_asks::asking::Asking::give: crates/dfu_asks/src/carry.rt */
 static struct i8_i64 dfu_asks_asking_Asking_give(unsigned char *a0, uint8_t a1, uint16_t a2, unsigned char *a3) {
     _Alignas(8) unsigned char r5[8];
     _Alignas(4) unsigned char r1[6];
@@ -3239,84 +2879,76 @@ static struct i8_i64 dfu_asks_asking_Asking_give(unsigned char *a0, uint8_t a1, 
     uint8_t v0, r11_0_0, r6_0_0;
     unsigned char *r10_0_in;
     uint32_t r10_0;
-    uint64_t r6_61_0;
+    size_t r6_61_0;
     switch (a1) {
     case 0:
         r6_61_0 = 0;
         r6_0_0 = a1;
-        goto join_6;
-    case 3: goto arm_2;
-    case 1: goto arm_3;
-    case 2: goto arm_4;
-    default: never();
-    }
-arm_2:
-    r6_61_0 = 0;
-    r6_0_0 = 2;
-    goto join_6;
-arm_3:
-    v0 = a0[36];
-    uint8_t v1 = a0[37];
-    switch (v0) {
-    case 12:
-        r10_0 = 0;
-        r11_0_0 = v1;
-        goto dfu_device_device_state_status_in_exit;
-    case 5: goto arm_1;
-    case 9: goto arm_2_2;
-    case 0: goto dfu_device_device_state_poll_ms_exit_fold_split;
-    case 1: goto dfu_device_device_state_poll_ms_exit_fold_split;
-    case 2: goto dfu_device_device_state_poll_ms_exit_fold_split;
-    case 3: goto dfu_device_device_state_poll_ms_exit_fold_split;
-    case 4: goto dfu_device_device_state_poll_ms_exit_fold_split;
-    case 6: goto dfu_device_device_state_poll_ms_exit_fold_split;
-    case 7: goto dfu_device_device_state_poll_ms_exit_fold_split;
-    case 8: goto dfu_device_device_state_poll_ms_exit_fold_split;
-    case 10: goto dfu_device_device_state_poll_ms_exit_fold_split;
-    case 11: goto dfu_device_device_state_poll_ms_exit_fold_split;
-    default: never();
-    }
-arm_1:
-    r10_0_in = a0 + 20;
-    goto dfu_device_device_state_poll_ms_exit;
-arm_2_2:
-    r10_0_in = a0 + 24;
-    goto dfu_device_device_state_poll_ms_exit;
-dfu_device_device_state_poll_ms_exit_fold_split:
-    r10_0 = 0;
-    r11_0_0 = 0;
-    goto dfu_device_device_state_status_in_exit;
-dfu_device_device_state_poll_ms_exit:;
-    uint32_t r10_0_2 = load32(r10_0_in);
-    if (r10_0_2 <= 0xffffffU) {
+        break;
+    case 3:
+        r6_61_0 = 0;
+        r6_0_0 = 2;
+        break;
+    case 1: {
+        v0 = a0[36];
+        uint8_t v1 = a0[37];
+        switch (v0) {
+        case 12:
+            r10_0 = 0;
+            r11_0_0 = v1;
+            goto dfu_device_device_state_status_in_exit;
+        case 5:
+            r10_0_in = a0 + 20;
+            break;
+        case 9:
+            r10_0_in = a0 + 24;
+            break;
+        case 0:
+        case 1:
+        case 2:
+        case 3:
+        case 4:
+        case 6:
+        case 7:
+        case 8:
+        case 10:
+        case 11:
+            r10_0 = 0;
+            r11_0_0 = 0;
+            goto dfu_device_device_state_status_in_exit;
+        default: never();
+        }
+        uint32_t r10_0_2 = load32(r10_0_in);
+        if (r10_0_2 > 0xffffffU) trap();
         r10_0 = r10_0_2;
         r11_0_0 = 0;
-        goto dfu_device_device_state_status_in_exit;
-    }
-    trap();
 dfu_device_device_state_status_in_exit:;
-    uint8_t switch_load = *(PLACE(switch_table_dfu_device_device_state_DeviceState_state) + (size_t)v0);
-    unsigned char *v3 = r1 + 1;
-    memset(v3, 0, 5);
-    *r1 = r11_0_0;
-    store64(r5, (uint64_t)r10_0);
-    core_slice_edits_slice_T_copy_from_slice_i8_core_clone_U8Clone(v3, r5, 3);
-    r1[4] = switch_load;
-    memcpy(r4, r1, 6);
-    uint64_t a1_a0 = (uint64_t)umin16(a2, 6);
-    core_slice_edits_slice_T_copy_from_slice_i8_core_clone_U8Clone(a3, r4, a1_a0);
-    r6_61_0 = a1_a0;
-    r6_0_0 = 1;
-    goto join_6;
-arm_4:;
-    uint8_t v5 = a0[36];
-    uint8_t switch_load_2 = *(PLACE(switch_table_dfu_device_device_state_DeviceState_state) + (size_t)v5);
-    *r5_2 = switch_load_2;
-    uint64_t a1_a0_2 = (uint64_t)(a2 != 0);
-    core_slice_edits_slice_T_copy_from_slice_i8_core_clone_U8Clone(a3, r5_2, a1_a0_2);
-    r6_61_0 = a1_a0_2;
-    r6_0_0 = 1;
-join_6:;
+        uint8_t switch_load = *(PLACE(switch_table_dfu_device_device_state_DeviceState_state) + (size_t)v0);
+        unsigned char *v3 = r1 + 1;
+        memset(v3, 0, 5);
+        *r1 = r11_0_0;
+        store64(r5, (size_t)r10_0);
+        core_slice_edits_slice_T_copy_from_slice_i8_core_clone_U8Clone(v3, r5, 3);
+        r1[4] = switch_load;
+        memcpy(r4, r1, 6);
+        size_t a1_a0 = (size_t)umin16(a2, 6);
+        core_slice_edits_slice_T_copy_from_slice_i8_core_clone_U8Clone(a3, r4, a1_a0);
+        r6_61_0 = a1_a0;
+        r6_0_0 = 1;
+        break;
+    }
+    case 2: {
+        uint8_t v5 = a0[36];
+        uint8_t switch_load_2 = *(PLACE(switch_table_dfu_device_device_state_DeviceState_state) + (size_t)v5);
+        *r5_2 = switch_load_2;
+        size_t a1_a0_2 = (size_t)(a2 != 0);
+        core_slice_edits_slice_T_copy_from_slice_i8_core_clone_U8Clone(a3, r5_2, a1_a0_2);
+        r6_61_0 = a1_a0_2;
+        r6_0_0 = 1;
+        break;
+    }
+    default: never();
+    }
     struct i8_i64 r85_half = (struct i8_i64){ 0, 0 };
     r85_half.a = r6_0_0;
     struct i8_i64 r85 = r85_half;
@@ -3324,15 +2956,27 @@ join_6:;
     return r85;
 }
 
-/* dfu_asks::asking::Asking::block_job */
+/* dfu_asks::asking::Asking::block_job: crates/dfu_asks/src/start.rt */
 static void dfu_asks_asking_Asking_block_job(unsigned char *a0, unsigned char *a1, uint32_t a2, unsigned char *a3, unsigned char *a4) {
     uint32_t r14, r45_sink;
     uint8_t sink;
     uint64_t r43_sink;
     r14 = load32(a4 + 4);
-    if (a2 == 0) goto then_1;
-    goto join_3;
-common_ret:
+    if (a2 == 0) {
+        uint8_t r18 = dfu_slots_read_is_open(a3, r14);
+        memset(a0 + 9, 0, 3);
+        sink = r18;
+        r43_sink = 0;
+        r45_sink = 0;
+    }
+    else {
+        uint64_t r43 = load64(a1 + 64);
+        uint32_t r45 = load32(a1 + 72);
+        memset(a0 + 9, 0, 3);
+        sink = 0;
+        r43_sink = r43;
+        r45_sink = r45;
+    }
     store32(a0, 0);
     store32(a0 + 4, r14);
     a0[8] = sink;
@@ -3341,49 +2985,33 @@ common_ret:
     store32(a0 + 24, r45_sink);
     store32(a0 + 28, 0);
     return;
-then_1:;
-    uint8_t r18 = dfu_slots_read_is_open(a3, r14);
-    memset(a0 + 9, 0, 3);
-    sink = r18;
-    r43_sink = 0;
-    r45_sink = 0;
-    goto common_ret;
-join_3:;
-    uint64_t r43 = load64(a1 + 64);
-    uint32_t r45 = load32(a1 + 72);
-    memset(a0 + 9, 0, 3);
-    sink = 0;
-    r43_sink = r43;
-    r45_sink = r45;
-    goto common_ret;
 }
 
 /* dfu_asks::asking::Asking::advance */
-static void dfu_asks_asking_Asking_advance(unsigned char *a0, unsigned char *a1, unsigned char *a2, uint64_t a3, unsigned char *a4, uint64_t a5, unsigned char *a6, uint64_t a7, unsigned char *a8) {
+static void dfu_asks_asking_Asking_advance(unsigned char *a0, unsigned char *a1, unsigned char *a2, size_t a3, unsigned char *a4, uint64_t a5, unsigned char *a6, uint64_t a7, unsigned char *a8) {
     _Alignas(4) unsigned char r9[24];
     _Alignas(4) unsigned char r10[16];
     unsigned char *r32, *r24, *r26, *r28, *r30, *r32_2, *r33_2;
-    uint64_t a1_a0, a1_a0_2, r52, r57, r10_0, r0_0_0;
+    size_t a1_a0;
+    uint64_t a1_a0_2, r52, r57, r10_0, r0_0_0;
     uint8_t v8, r17_0_0, r17_7_0;
     uint32_t r0_4_0, v9, v10, r81, r17_103_0, r17_15_0_0, r17_15_6_0_0, r17_20_0;
     r32 = a1 + 96;
     uint8_t r33 = *r32;
-    if (r33 != 1) goto arm_2;
+    if (r33 != 1) {
+        *a0 = 1;
+        a0[1] = 0;
+        store64(a0 + 8, 0);
+        return;
+    }
     memcpy(r9, a1 + 100, 24);
     struct i64_i8 r61 = dfu_asks_asking_Asking_look_at(a1, r9, a2, a3, a4, a5, PLACE(static_0), 0);
-    if (r61.a == 0) goto join_7;
-    goto then_5;
-arm_2:
-    *a0 = 1;
-    a0[1] = 0;
-    store64(a0 + 8, 0);
-    return;
-then_5:
-    *a0 = 0;
-    a0[1] = 0;
-    store64(a0 + 8, 0);
-    return;
-join_7:
+    if (r61.a != 0) {
+        *a0 = 0;
+        a0[1] = 0;
+        store64(a0 + 8, 0);
+        return;
+    }
     store32(r10, 0);
     r24 = a1 + 36;
     uint8_t v1 = *r24;
@@ -3406,99 +3034,71 @@ join_7:
     dfu_asks_finish_note(a1 + 76, r10, a6, a7, r11_0_0_copyload, r12_0_0_copyload);
     uint8_t v6 = *r24;
     switch (v6) {
-    case 3: goto join_3;
-    case 5: goto join_3;
+    case 3:
+    case 5: {
+        uint64_t r40 = load64(a1 + 56);
+        a1_a0 = (size_t)umin64(a3, r40);
+        uint64_t r47 = load64(a1 + 64);
+        a1_a0_2 = umin64(a5, r47);
+        uint8_t r13_0_0_copyload = *r33_2;
+        uint64_t switch_load = load64(PLACE(switch_table_dfu_asks_asking_Asking_advance) + 8 * (size_t)r13_0_0_copyload);
+        uint64_t r46 = a1_a0_2 + (uint64_t)a1_a0;
+        r52 = switch_load & r46;
+        r57 = r46 - r52;
+        r10_0 = 0;
+        while (r10_0 != r52) {
+            uint64_t r68 = r10_0 + r57;
+            uint8_t r27_0 = *((r68 < a1_a0_2) ? (a4 + (size_t)r68) : (a2 + ((size_t)r68 - (size_t)a1_a0_2)));
+            a4[(size_t)r10_0] = r27_0;
+            r10_0 = r10_0 + 1;
+        }
+        uint32_t r73 = load32(a1 + 72);
+        uint8_t pre = *r24;
+        v8 = pre;
+        r0_4_0 = uadd_sat32((uint32_t)a1_a0, r73);
+        r0_0_0 = r52;
+        break;
+    }
     case 0:
-        v8 = v6;
-        r0_4_0 = 0;
-        r0_0_0 = 0;
-        goto dfu_asks_asking_Asking_rest_after_exit;
     case 1:
-        v8 = v6;
-        r0_4_0 = 0;
-        r0_0_0 = 0;
-        goto dfu_asks_asking_Asking_rest_after_exit;
     case 2:
-        v8 = v6;
-        r0_4_0 = 0;
-        r0_0_0 = 0;
-        goto dfu_asks_asking_Asking_rest_after_exit;
     case 4:
-        v8 = v6;
-        r0_4_0 = 0;
-        r0_0_0 = 0;
-        goto dfu_asks_asking_Asking_rest_after_exit;
     case 6:
-        v8 = v6;
-        r0_4_0 = 0;
-        r0_0_0 = 0;
-        goto dfu_asks_asking_Asking_rest_after_exit;
     case 7:
-        v8 = v6;
-        r0_4_0 = 0;
-        r0_0_0 = 0;
-        goto dfu_asks_asking_Asking_rest_after_exit;
     case 8:
-        v8 = v6;
-        r0_4_0 = 0;
-        r0_0_0 = 0;
-        goto dfu_asks_asking_Asking_rest_after_exit;
     case 9:
-        v8 = v6;
-        r0_4_0 = 0;
-        r0_0_0 = 0;
-        goto dfu_asks_asking_Asking_rest_after_exit;
     case 10:
-        v8 = v6;
-        r0_4_0 = 0;
-        r0_0_0 = 0;
-        goto dfu_asks_asking_Asking_rest_after_exit;
     case 11:
-        v8 = v6;
-        r0_4_0 = 0;
-        r0_0_0 = 0;
-        goto dfu_asks_asking_Asking_rest_after_exit;
     case 12:
         v8 = v6;
         r0_4_0 = 0;
         r0_0_0 = 0;
-        goto dfu_asks_asking_Asking_rest_after_exit;
+        break;
     default: never();
     }
-join_3:;
-    uint64_t r40 = load64(a1 + 56);
-    a1_a0 = umin64(a3, r40);
-    uint64_t r47 = load64(a1 + 64);
-    a1_a0_2 = umin64(a5, r47);
-    uint8_t r13_0_0_copyload = *r33_2;
-    uint64_t switch_load = load64(PLACE(switch_table_dfu_asks_asking_Asking_advance) + 8 * (size_t)r13_0_0_copyload);
-    uint64_t r46 = a1_a0_2 + a1_a0;
-    r52 = switch_load & r46;
-    r57 = r46 - r52;
-    r10_0 = 0;
-loop_4:
-    if (r10_0 == r52) goto dfu_asks_finish_keep_rest_exit;
-    uint64_t r68 = r10_0 + r57;
-    uint8_t r27_0 = *((r68 < a1_a0_2) ? (a4 + (size_t)r68) : (a2 + (size_t)(r68 - a1_a0_2)));
-    a4[(size_t)r10_0] = r27_0;
-    r10_0 = r10_0 + 1;
-    goto loop_4;
-dfu_asks_finish_keep_rest_exit:;
-    uint32_t r73 = load32(a1 + 72);
-    uint8_t pre = *r24;
-    v8 = pre;
-    r0_4_0 = uadd_sat32((uint32_t)a1_a0, r73);
-    r0_0_0 = r52;
-dfu_asks_asking_Asking_rest_after_exit:
     store64(a1 + 64, r0_0_0);
     store32(a1 + 72, r0_4_0);
     uint64_t r65 = load64(a1 + 56);
     v9 = load32(r28);
     v10 = load32(r30);
-    r81 = (uint32_t)umin64(a3, r65);
+    r81 = (uint32_t)(size_t)umin64(a3, r65);
     switch (v8) {
-    case 3: goto arm_1;
-    case 5: goto arm_2_2;
+    case 3:
+        r17_0_0 = 6;
+        r17_7_0 = 0;
+        r17_103_0 = uadd_sat32(r81, v9);
+        r17_15_0_0 = v10;
+        r17_15_6_0_0 = 0;
+        r17_20_0 = 0;
+        break;
+    case 5:
+        r17_0_0 = 4;
+        r17_7_0 = 0;
+        r17_103_0 = uadd_sat32(r81, v9);
+        r17_15_0_0 = v10;
+        r17_15_6_0_0 = 0;
+        r17_20_0 = 0;
+        break;
     case 7:
         r17_0_0 = 2;
         r17_7_0 = 0;
@@ -3506,55 +3106,38 @@ dfu_asks_asking_Asking_rest_after_exit:
         r17_15_0_0 = 0;
         r17_15_6_0_0 = 0;
         r17_20_0 = 0;
-        goto dfu_asks_asking_Asking_finish_exit;
-    case 9: goto arm_4;
-    case 0: goto arm_5;
-    case 1: goto arm_5;
-    case 2: goto arm_5;
-    case 4: goto arm_5;
-    case 6: goto arm_5;
-    case 8: goto arm_5;
-    case 10: goto arm_5;
-    case 11: goto arm_5;
-    case 12: goto arm_5;
+        break;
+    case 9: {
+        uint8_t r19_2_0_copyload = a1[8];
+        r17_0_0 = (uint8_t)((r19_2_0_copyload & 1) ? 8 : 10);
+        r17_7_0 = 0;
+        r17_103_0 = 0;
+        r17_15_0_0 = 0;
+        r17_15_6_0_0 = 0;
+        r17_20_0 = 0;
+        break;
+    }
+    case 0:
+    case 1:
+    case 2:
+    case 4:
+    case 6:
+    case 8:
+    case 10:
+    case 11:
+    case 12: {
+        uint32_t v11 = load32(r32_2);
+        uint8_t v12 = *r26;
+        r17_0_0 = v8;
+        r17_7_0 = v12;
+        r17_103_0 = v9;
+        r17_15_0_0 = v10;
+        r17_15_6_0_0 = v10 & 0xffff0000U;
+        r17_20_0 = v11;
+        break;
+    }
     default: never();
     }
-arm_1:
-    r17_0_0 = 6;
-    r17_7_0 = 0;
-    r17_103_0 = uadd_sat32(r81, v9);
-    r17_15_0_0 = v10;
-    r17_15_6_0_0 = 0;
-    r17_20_0 = 0;
-    goto dfu_asks_asking_Asking_finish_exit;
-arm_2_2:
-    r17_0_0 = 4;
-    r17_7_0 = 0;
-    r17_103_0 = uadd_sat32(r81, v9);
-    r17_15_0_0 = v10;
-    r17_15_6_0_0 = 0;
-    r17_20_0 = 0;
-    goto dfu_asks_asking_Asking_finish_exit;
-arm_4:;
-    uint8_t r19_2_0_copyload = a1[8];
-    r17_0_0 = (uint8_t)((r19_2_0_copyload & 1) ? 8 : 10);
-    r17_7_0 = 0;
-    r17_103_0 = 0;
-    r17_15_0_0 = 0;
-    r17_15_6_0_0 = 0;
-    r17_20_0 = 0;
-    goto dfu_asks_asking_Asking_finish_exit;
-arm_5:;
-    uint32_t v11 = load32(r32_2);
-    uint8_t v12 = *r26;
-    r17_0_0 = v8;
-    r17_7_0 = v12;
-    r17_103_0 = v9;
-    r17_15_0_0 = v10;
-    r17_15_6_0_0 = v10 & 0xffff0000U;
-    r17_20_0 = v11;
-    goto dfu_asks_asking_Asking_finish_exit;
-dfu_asks_asking_Asking_finish_exit:
     *r24 = r17_0_0;
     *r26 = r17_7_0;
     store32(r28, r17_103_0);
@@ -3566,12 +3149,12 @@ dfu_asks_asking_Asking_finish_exit:
     struct i8_i64 r107 = dfu_asks_asking_Asking_answer(a1, r91, r29_3_2_copyload, a8);
     *a0 = 1;
     a0[1] = r107.a;
-    store64(a0 + 8, r107.b);
+    store64(a0 + 8, (size_t)r107.b);
     return;
 }
 
-/* dfu_asks::asking::Asking::look_at */
-static struct i64_i8 dfu_asks_asking_Asking_look_at(unsigned char *a0, unsigned char *a1, unsigned char *a2, uint64_t a3, unsigned char *a4, uint64_t a5, unsigned char *a6, uint64_t a7) {
+/* dfu_asks::asking::Asking::look_at: crates/dfu_asks/src/advance.rt */
+static struct i64_i8 dfu_asks_asking_Asking_look_at(unsigned char *a0, unsigned char *a1, unsigned char *a2, size_t a3, unsigned char *a4, uint64_t a5, unsigned char *a6, size_t a7) {
     _Alignas(8) unsigned char r7[112];
     _Alignas(4) unsigned char r12[16];
     uint8_t r0_4_0;
@@ -3589,11 +3172,11 @@ static struct i64_i8 dfu_asks_asking_Asking_look_at(unsigned char *a0, unsigned 
     store32(r7 + 4, r6_0_0_copyload);
     store32(r7 + 8, r17);
     store32(r7 + 12, 0);
-    store64(r7 + 16, (uint64_t)(uintptr_t)a4);
+    store64(r7 + 16, (size_t)(uintptr_t)a4);
     store64(r7 + 24, umin64(a5, r8));
-    store64(r7 + 32, (uint64_t)(uintptr_t)a2);
-    store64(r7 + 40, umin64(a3, r26));
-    store64(r7 + 48, (uint64_t)r24);
+    store64(r7 + 32, (size_t)(uintptr_t)a2);
+    store64(r7 + 40, (size_t)umin64(a3, r26));
+    store64(r7 + 48, (size_t)r24);
     memset(r7 + 56, 0, 40);
     r7[96] = 4;
     memset(r7 + 97, 0, 15);
@@ -3609,13 +3192,13 @@ static struct i64_i8 dfu_asks_asking_Asking_look_at(unsigned char *a0, unsigned 
     if (!r35) {
         r0_4_0 = 0;
         r0_0_0 = 0;
-        goto return_4;
     }
-    uint64_t r47 = load64(r7 + 88);
-    uint8_t r52 = dfu_asks_cut_stands(a6, a7, r7);
-    r0_4_0 = r52;
-    r0_0_0 = r47;
-return_4:;
+    else {
+        uint64_t r47 = load64(r7 + 88);
+        uint8_t r52 = dfu_asks_cut_stands(a6, a7, r7);
+        r0_4_0 = r52;
+        r0_0_0 = r47;
+    }
     struct i64_i8 r59_half = (struct i64_i8){ 0, 0 };
     r59_half.a = r0_0_0;
     struct i64_i8 r59 = r59_half;
@@ -3623,7 +3206,7 @@ return_4:;
     return r59;
 }
 
-/* dfu_asks::next_piece::next_piece */
+/* dfu_asks::next_piece::next_piece: crates/dfu_asks/src/next_piece.rt */
 static uint8_t dfu_asks_next_piece_next_piece(unsigned char *a0, unsigned char *a1) {
     _Alignas(4) unsigned char r2_3[16];
     unsigned char *const r2_2 = r2_3;
@@ -3634,97 +3217,93 @@ static uint8_t dfu_asks_next_piece_next_piece(unsigned char *a0, unsigned char *
     uint8_t r2 = *a0;
     r1_3_4_copyload = load32(a0 + 4);
     r1_6_8_copyload = a0[8];
-    if (r2 != 0) goto arm_2;
-    store64a4(r2_2 + 8, 0);
-    if (r1_6_8_copyload & 1) goto dfu_asks_next_piece_shut_piece_exit;
-    goto join_3;
-dfu_asks_next_piece_shut_piece_exit:
-    store32(r2_2, 0);
-    store32(r2_2 + 4, r1_3_4_copyload);
-    uint8_t r9 = dfu_asks_next_piece_sequence_piece(r2_2, a1);
-    if (r9) {
-        common_ret_op = 1;
-        goto dfu_asks_next_piece_block_piece_exit;
+    if (r2 != 0) {
+        uint32_t r1_91_12_copyload = load32(a0 + 12);
+        unsigned char *v2 = r2_3 + 12;
+        store32(v2, 0);
+        uint32_t r8 = load32(a1 + 8);
+        a1[56] = r1_6_8_copyload;
+        a1[57] = 2;
+        a1[58] = 0;
+        a1[59] = 0;
+        store32(a1 + 60, r8);
+        store32(a1 + 64, r1_91_12_copyload);
+        store32(a1 + 68, 0);
+        size_t r13 = (size_t)load64(a1 + 24);
+        store32(r2_3, 2);
+        store32(r2_3 + 4, r1_3_4_copyload);
+        store32(r2_3 + 8, r8);
+        store16(v2, (uint16_t)r13);
+        uint8_t r22_2 = dfu_asks_next_piece_sequence_piece(r2_3, a1);
+        r15_0_in = r22_2;
     }
-join_3:;
-    uint32_t r19 = load32(a1 + 8);
-    uint64_t r22 = load64(a1 + 24);
-    uint64_t r27 = load64(a1 + 40);
-    store32(r1, 1);
-    store32(r1 + 4, r1_3_4_copyload);
-    store32(r1 + 8, r19);
-    store16(r1 + 12, (uint16_t)r22);
-    store16(r1 + 14, (uint16_t)r27);
-    uint8_t r38 = dfu_asks_next_piece_sequence_piece(r1, a1);
-    common_ret_op = r38;
+    else {
+        store64a4(r2_2 + 8, 0);
+        if (r1_6_8_copyload & 1) {
+            store32(r2_2, 0);
+            store32(r2_2 + 4, r1_3_4_copyload);
+            uint8_t r9 = dfu_asks_next_piece_sequence_piece(r2_2, a1);
+            if (r9) {
+                common_ret_op = 1;
+                goto dfu_asks_next_piece_block_piece_exit;
+            }
+        }
+        uint32_t r19 = load32(a1 + 8);
+        size_t r22 = (size_t)load64(a1 + 24);
+        size_t r27 = (size_t)load64(a1 + 40);
+        store32(r1, 1);
+        store32(r1 + 4, r1_3_4_copyload);
+        store32(r1 + 8, r19);
+        store16(r1 + 12, (uint16_t)r22);
+        store16(r1 + 14, (uint16_t)r27);
+        uint8_t r38 = dfu_asks_next_piece_sequence_piece(r1, a1);
+        common_ret_op = r38;
 dfu_asks_next_piece_block_piece_exit:
-    r15_0_in = common_ret_op;
-    goto join_4;
-arm_2:;
-    uint32_t r1_91_12_copyload = load32(a0 + 12);
-    unsigned char *v2 = r2_3 + 12;
-    store32(v2, 0);
-    uint32_t r8 = load32(a1 + 8);
-    a1[56] = r1_6_8_copyload;
-    a1[57] = 2;
-    a1[58] = 0;
-    a1[59] = 0;
-    store32(a1 + 60, r8);
-    store32(a1 + 64, r1_91_12_copyload);
-    store32(a1 + 68, 0);
-    uint64_t r13 = load64(a1 + 24);
-    store32(r2_3, 2);
-    store32(r2_3 + 4, r1_3_4_copyload);
-    store32(r2_3 + 8, r8);
-    store16(v2, (uint16_t)r13);
-    uint8_t r22_2 = dfu_asks_next_piece_sequence_piece(r2_3, a1);
-    r15_0_in = r22_2;
-join_4:
+        r15_0_in = common_ret_op;
+    }
     return r15_0_in;
 }
 
-/* dfu_asks::finish::note */
+/* dfu_asks::finish::note: crates/dfu_asks/src/finish.rt */
 static void dfu_asks_finish_note(unsigned char *a0, unsigned char *a1, unsigned char *a2, uint64_t a3, uint8_t a4, uint32_t a5) {
     _Alignas(4) unsigned char r15[18];
     uint8_t v0 = *a1;
     switch (v0) {
-    case 3: return;
+    case 3:
     case 5: return;
-    case 0: goto join_3;
-    case 1: goto join_3;
-    case 2: goto join_3;
-    case 4: goto join_3;
-    case 6: goto join_3;
-    case 7: goto join_3;
-    case 8: goto join_3;
-    case 9: goto join_3;
-    case 10: goto join_3;
-    case 11: goto join_3;
-    case 12: goto join_3;
+    case 0:
+    case 1:
+    case 2:
+    case 4:
+    case 6:
+    case 7:
+    case 8:
+    case 9:
+    case 10:
+    case 11:
+    case 12: {
+        dfu_asks_noted_Noted_find(r15, a2, a3, a4, a5);
+        uint8_t r25 = *r15;
+        if (r25 != 1) return;
+        memcpy(a0, r15 + 1, 17);
+        return;
+    }
     default: never();
     }
-join_3:
-    dfu_asks_noted_Noted_find(r15, a2, a3, a4, a5);
-    uint8_t r25 = *r15;
-    if (r25 != 1) return;
-    memcpy(a0, r15 + 1, 17);
-    return;
 }
 
-/* dfu_asks::asking::Asking::answer */
+/* dfu_asks::asking::Asking::answer: crates/dfu_asks/src/finish.rt */
 static struct i8_i64 dfu_asks_asking_Asking_answer(unsigned char *a0, uint8_t a1, uint16_t a2, unsigned char *a3) {
     struct i8_i64 r24_pn;
-    if (a1 == 0) {
-        r24_pn = (struct i8_i64){ 0, 0 };
-        goto join_4;
+    if (a1 == 0) r24_pn = (struct i8_i64){ 0, 0 };
+    else {
+        struct i8_i64 r40 = dfu_asks_asking_Asking_give(a0, 1, a2, a3);
+        r24_pn = r40;
     }
-    struct i8_i64 r40 = dfu_asks_asking_Asking_give(a0, 1, a2, a3);
-    r24_pn = r40;
-join_4:
     return r24_pn;
 }
 
-/* dfu_device_c::keeping::keep */
+/* dfu_device_c::keeping::keep: crates/dfu_device_c/src/keeping.rt */
 static void dfu_device_c_keeping_keep(unsigned char *a0, unsigned char *a1) {
     _Alignas(4) unsigned char r1[16];
     uint32_t r3_54_4_copyload, r3_75_4_copyload, r3_10_4_copyload;
@@ -3750,33 +3329,30 @@ static void dfu_device_c_keeping_keep(unsigned char *a0, unsigned char *a1) {
     r3_8_4_copyload = a0[116];
     r3_96_4_copyload = load16(a0 + 118);
     r3_10_4_copyload = load32(a0 + 120);
-    if (r20 != 0) goto arm_2;
-    store32(a1 + 44, 0);
-    goto dfu_device_c_work_set_work_exit;
-arm_2:;
-    uint8_t r3_3_4_copyload = a0[100];
-    if (r3_3_4_copyload != 0) goto arm_2_2;
-    store32(a1 + 44, 1);
-    store32(a1 + 48, r3_54_4_copyload);
-    r27 = a1 + 65;
-    if (!(r3_6_4_copyload & 1)) goto else_6;
-    *r27 = 1;
-    goto dfu_device_c_work_set_job_exit;
-else_6:
-    *r27 = 0;
-    goto dfu_device_c_work_set_job_exit;
-arm_2_2:
-    store32(a1 + 44, 2);
-    store32(a1 + 48, r3_54_4_copyload);
-    a1[64] = r3_6_4_copyload;
-    store32(a1 + 52, r3_75_4_copyload);
-dfu_device_c_work_set_job_exit:
-    store32(a1 + 56, r3_10_4_copyload);
-    store32(a1 + 60, (uint32_t)((r3_8_4_copyload == 0) ? 0 : ((uint32_t)r3_96_4_copyload + 1)));
-dfu_device_c_work_set_work_exit:;
-    uint64_t r26 = load64(a0 + 56);
+    if (r20 == 0) store32(a1 + 44, 0);
+    else {
+        uint8_t r3_3_4_copyload = a0[100];
+        if (r3_3_4_copyload != 0) {
+            store32(a1 + 44, 2);
+            store32(a1 + 48, r3_54_4_copyload);
+            a1[64] = r3_6_4_copyload;
+            store32(a1 + 52, r3_75_4_copyload);
+        }
+        else {
+            store32(a1 + 44, 1);
+            store32(a1 + 48, r3_54_4_copyload);
+            r27 = a1 + 65;
+            if (r3_6_4_copyload & 1) *r27 = 1;
+            else {
+                *r27 = 0;
+            }
+        }
+        store32(a1 + 56, r3_10_4_copyload);
+        store32(a1 + 60, (uint32_t)((r3_8_4_copyload == 0) ? 0 : ((uint32_t)r3_96_4_copyload + 1)));
+    }
+    size_t r26 = (size_t)load64(a0 + 56);
     store16(a1 + 26, (uint16_t)r26);
-    uint64_t r32 = load64(a0 + 64);
+    size_t r32 = (size_t)load64(a0 + 64);
     store16(a1 + 66, (uint16_t)r32);
     uint32_t r38 = load32(a0 + 72);
     store32(a1 + 16, r38);
@@ -3786,59 +3362,53 @@ dfu_device_c_work_set_work_exit:;
     return;
 }
 
-/* dfu_core_version */
+/* dfu_core_version: crates/dfu_device_c/src/config.rt */
 int32_t dfu_core_version(void) {
     return signed32(300);
 }
 
-/* dfu_core_code */
+/* dfu_core_code: crates/dfu_device_c/src/tells.rt */
 int32_t dfu_core_code(const struct dfu_record *record) {
     unsigned char *a0 = (unsigned char *)(uintptr_t)record;
     uint32_t common_ret_op;
     uint8_t r7 = dfu_device_c_mode_has_mode(a0);
-    if (!r7) {
-        common_ret_op = 0xfffffffcU;
-        goto dfu_device_c_tells_dfu_core_code_exit;
+    if (!r7) common_ret_op = 0xfffffffcU;
+    else {
+        uint32_t r17 = load32(a0 + 4);
+        if (r17 < 12) common_ret_op = 0;
+        else {
+            uint16_t r24 = load16(a0 + 24);
+            common_ret_op = (uint32_t)r24;
+        }
     }
-    uint32_t r17 = load32(a0 + 4);
-    if (r17 < 12) {
-        common_ret_op = 0;
-        goto dfu_device_c_tells_dfu_core_code_exit;
-    }
-    uint16_t r24 = load16(a0 + 24);
-    common_ret_op = (uint32_t)r24;
-dfu_device_c_tells_dfu_core_code_exit:
     return signed32(common_ret_op);
 }
 
-/* dfu_core_state */
+/* dfu_core_state: crates/dfu_device_c/src/tells.rt */
 int32_t dfu_core_state(const struct dfu_record *record) {
     unsigned char *a0 = (unsigned char *)(uintptr_t)record;
     uint32_t r14, common_ret_op;
     uint8_t r4 = dfu_device_c_mode_has_mode(a0);
-    if (!r4) {
-        common_ret_op = 0xfffffffcU;
-        goto dfu_device_c_tells_dfu_core_state_exit;
+    if (!r4) common_ret_op = 0xfffffffcU;
+    else {
+        r14 = load32(a0 + 4);
+        if (r14 >= 12) common_ret_op = 10;
+        else {
+            uint32_t switch_load = load32(PLACE(switch_table_dfu_core_state) + 4 * (size_t)r14);
+            common_ret_op = switch_load;
+        }
     }
-    r14 = load32(a0 + 4);
-    if (r14 >= 12) {
-        common_ret_op = 10;
-        goto dfu_device_c_tells_dfu_core_state_exit;
-    }
-    uint32_t switch_load = load32(PLACE(switch_table_dfu_core_state) + 4 * (size_t)r14);
-    common_ret_op = switch_load;
-dfu_device_c_tells_dfu_core_state_exit:
     return signed32(common_ret_op);
 }
 
-/* dfu_core_format_next */
+/* dfu_core_format_next: crates/dfu_device_c/src/format.rt */
 int32_t dfu_core_format_next(const struct dfu_config *config, const struct dfu_record *record, const uint8_t *flash, size_t size, const uint8_t *image, size_t length, struct dfu_ask *ask) {
     unsigned char *a0 = (unsigned char *)(uintptr_t)config;
     unsigned char *a1 = (unsigned char *)(uintptr_t)record;
     (void)flash;
-    uint64_t a3 = size;
+    size_t a3 = (size_t)size;
     unsigned char *a4 = (unsigned char *)(uintptr_t)image;
-    uint64_t a5 = length;
+    size_t a5 = (size_t)length;
     unsigned char *a6 = (unsigned char *)(uintptr_t)ask;
     _Alignas(8) unsigned char r5[112];
     _Alignas(4) unsigned char r8[40];
@@ -3846,123 +3416,116 @@ int32_t dfu_core_format_next(const struct dfu_config *config, const struct dfu_r
     unsigned char *r13, *r22, *r42;
     uint32_t r6_41_0_copyload, common_ret_op;
     uint64_t r6_4_0_copyload, r6_5_0_copyload;
-    r13 = (unsigned char *)((uintptr_t)a4 + (uintptr_t)(uint64_t)((a4 == NULL) ? 4096 : 0));
+    r13 = (unsigned char *)((uintptr_t)a4 + (uintptr_t)(size_t)((a4 == NULL) ? 4096 : 0));
     store64a4(r8 + 32, 0);
     dfu_device_c_config_settings_of(r8, a0);
     uint8_t r15 = *r8;
-    if (r15 != 1) {
-        common_ret_op = 0xfffffffeU;
-        goto dfu_device_c_format_dfu_core_format_next_exit;
+    if (r15 != 1) common_ret_op = 0xfffffffeU;
+    else {
+        dfu_device_c_format_formatting_of(r9, r8 + 4, a1);
+        uint8_t r19 = *r9;
+        if (r19 != 1) common_ret_op = 0xfffffffcU;
+        else {
+            unsigned char *r20 = r9 + 4;
+            uint8_t r6_0_0_copyload = *r20;
+            r6_41_0_copyload = load32(r9 + 8);
+            uint32_t r6_52_0_copyload = load32(r9 + 24);
+            r22 = a6 + 12;
+            *r5 = r6_0_0_copyload;
+            memset(r5 + 1, 0, 3);
+            store32(r5 + 4, r6_41_0_copyload);
+            store32(r5 + 8, 0);
+            store32(r5 + 12, 0);
+            store64(r5 + 16, (uint64_t)(uintptr_t)static_0);
+            store64(r5 + 24, 0);
+            store64(r5 + 32, (size_t)(uintptr_t)r13);
+            store64(r5 + 40, a5);
+            store64(r5 + 48, (size_t)r6_52_0_copyload);
+            memset(r5 + 56, 0, 40);
+            r5[96] = 4;
+            memset(r5 + 97, 0, 15);
+            uint8_t r30 = dfu_asks_formatting_Formatting_due(r20, a3, r5);
+            if (r30) {
+                r42 = r5 + 72;
+                r6_4_0_copyload = load64(r5 + 80);
+                r6_5_0_copyload = load64(r5 + 88);
+                uint8_t r45 = dfu_asks_next_and_took_is_sound(r6_41_0_copyload, r42);
+                if (r45 ? ((uint64_t)a3 >= (r6_5_0_copyload + r6_4_0_copyload)) : 0) {
+                    dfu_asks_cut_fill(r5, r22);
+                    uint8_t r11_6_8_copyload = *r42;
+                    store32(a6, (uint32_t)((r11_6_8_copyload & 1) ? 1 : 2));
+                    store32(a6 + 4, (uint32_t)r6_4_0_copyload);
+                    store32(a6 + 8, (uint32_t)r6_5_0_copyload);
+                    common_ret_op = 0;
+                    goto dfu_device_c_format_dfu_core_format_next_exit;
+                }
+            }
+            common_ret_op = 0xfffffffcU;
+        }
     }
-    dfu_device_c_format_formatting_of(r9, r8 + 4, a1);
-    uint8_t r19 = *r9;
-    if (r19 != 1) {
-        common_ret_op = 0xfffffffcU;
-        goto dfu_device_c_format_dfu_core_format_next_exit;
-    }
-    unsigned char *r20 = r9 + 4;
-    uint8_t r6_0_0_copyload = *r20;
-    r6_41_0_copyload = load32(r9 + 8);
-    uint32_t r6_52_0_copyload = load32(r9 + 24);
-    r22 = a6 + 12;
-    *r5 = r6_0_0_copyload;
-    memset(r5 + 1, 0, 3);
-    store32(r5 + 4, r6_41_0_copyload);
-    store32(r5 + 8, 0);
-    store32(r5 + 12, 0);
-    store64(r5 + 16, (uint64_t)(uintptr_t)static_0);
-    store64(r5 + 24, 0);
-    store64(r5 + 32, (uint64_t)(uintptr_t)r13);
-    store64(r5 + 40, a5);
-    store64(r5 + 48, (uint64_t)r6_52_0_copyload);
-    memset(r5 + 56, 0, 40);
-    r5[96] = 4;
-    memset(r5 + 97, 0, 15);
-    uint8_t r30 = dfu_asks_formatting_Formatting_due(r20, a3, r5);
-    if (!r30) goto dfu_asks_formatting_Formatting_next_exit_thread;
-    r42 = r5 + 72;
-    r6_4_0_copyload = load64(r5 + 80);
-    r6_5_0_copyload = load64(r5 + 88);
-    uint8_t r45 = dfu_asks_next_and_took_is_sound(r6_41_0_copyload, r42);
-    if (r45 ? (a3 >= (r6_5_0_copyload + r6_4_0_copyload)) : 0) goto arm_8;
-dfu_asks_formatting_Formatting_next_exit_thread:
-    common_ret_op = 0xfffffffcU;
-    goto dfu_device_c_format_dfu_core_format_next_exit;
-arm_8:
-    dfu_asks_cut_fill(r5, r22);
-    uint8_t r11_6_8_copyload = *r42;
-    store32(a6, (uint32_t)((r11_6_8_copyload & 1) ? 1 : 2));
-    store32(a6 + 4, (uint32_t)r6_4_0_copyload);
-    store32(a6 + 8, (uint32_t)r6_5_0_copyload);
-    common_ret_op = 0;
 dfu_device_c_format_dfu_core_format_next_exit:
     return signed32(common_ret_op);
 }
 
-/* dfu_core_format_start */
+/* dfu_core_format_start: crates/dfu_device_c/src/format.rt */
 int32_t dfu_core_format_start(const struct dfu_config *config, struct dfu_record *record, const uint8_t *flash, size_t size, const uint8_t *image, size_t length) {
     unsigned char *a0 = (unsigned char *)(uintptr_t)config;
     unsigned char *a1 = (unsigned char *)(uintptr_t)record;
     unsigned char *a2 = (unsigned char *)(uintptr_t)flash;
-    uint64_t a3 = size;
+    size_t a3 = (size_t)size;
     unsigned char *a4 = (unsigned char *)(uintptr_t)image;
-    uint64_t a5 = length;
+    size_t a5 = (size_t)length;
     _Alignas(4) unsigned char r8[40];
     _Alignas(8) unsigned char r7[24];
     unsigned char *const r3 = r7;
     unsigned char *r4, *r13;
     uint32_t r5_31_0_copyload, common_ret_op;
     uint8_t r5_2_0_copyload;
-    r4 = (unsigned char *)((uintptr_t)a2 + (uintptr_t)(uint64_t)((a2 == NULL) ? 4096 : 0));
-    r13 = (unsigned char *)((uintptr_t)a4 + (uintptr_t)(uint64_t)((a4 == NULL) ? 4096 : 0));
+    r4 = (unsigned char *)((uintptr_t)a2 + (uintptr_t)(size_t)((a2 == NULL) ? 4096 : 0));
+    r13 = (unsigned char *)((uintptr_t)a4 + (uintptr_t)(size_t)((a4 == NULL) ? 4096 : 0));
     store64a4(r8 + 32, 0);
     dfu_device_c_config_settings_of(r8, a0);
     uint8_t r18 = *r8;
-    if (r18 != 1) {
-        common_ret_op = 0xfffffffeU;
-        goto dfu_device_c_format_dfu_core_format_start_exit;
+    if (r18 != 1) common_ret_op = 0xfffffffeU;
+    else {
+        if (wide(a3) > 0xffffffffU) common_ret_op = 0xfffffffdU;
+        else {
+            r5_31_0_copyload = load32(r8 + 36);
+            r5_2_0_copyload = r8[32];
+            store64(r7, (size_t)(uintptr_t)r4);
+            store64(r7 + 8, a3);
+            r7[16] = r5_2_0_copyload;
+            memset(r7 + 17, 0, 3);
+            store32(r7 + 20, r5_31_0_copyload);
+            uint8_t r28 = dfu_slots_layout_is_sized(r7);
+            if (!r28) common_ret_op = 0xfffffffaU;
+            else {
+                uint32_t switch_load = load32(PLACE(switch_table_dfu_core_would_stall) + 4 * (size_t)r5_2_0_copyload);
+                if (a5 > (size_t)(((uint32_t)a3 >> 1) - (umax32(r5_31_0_copyload, switch_load) << 1))) common_ret_op = 0xfffffff9U;
+                else {
+                    store32(r3, 0xffffffffU);
+                    dfu_suffix_crc_Crc_update_small(r3, r13, a5);
+                    uint32_t r1 = load32(r3);
+                    store32(a1, 300);
+                    memset(a1 + 4, 0, 64);
+                    store32(a1 + 44, 3);
+                    store32(a1 + 52, r1);
+                    common_ret_op = 0xfffffff5U;
+                }
+            }
+        }
     }
-    if (a3 > 0xffffffffU) {
-        common_ret_op = 0xfffffffdU;
-        goto dfu_device_c_format_dfu_core_format_start_exit;
-    }
-    r5_31_0_copyload = load32(r8 + 36);
-    r5_2_0_copyload = r8[32];
-    store64(r7, (uint64_t)(uintptr_t)r4);
-    store64(r7 + 8, a3);
-    r7[16] = r5_2_0_copyload;
-    memset(r7 + 17, 0, 3);
-    store32(r7 + 20, r5_31_0_copyload);
-    uint8_t r28 = dfu_slots_layout_is_sized(r7);
-    if (r28) goto dfu_asks_format_fault_of_exit;
-    common_ret_op = 0xfffffffaU;
-    goto dfu_device_c_format_dfu_core_format_start_exit;
-dfu_asks_format_fault_of_exit:;
-    uint32_t switch_load = load32(PLACE(switch_table_dfu_core_would_stall) + 4 * (size_t)r5_2_0_copyload);
-    if (a5 > (uint64_t)(((uint32_t)a3 >> 1) - (umax32(r5_31_0_copyload, switch_load) << 1))) {
-        common_ret_op = 0xfffffff9U;
-        goto dfu_device_c_format_dfu_core_format_start_exit;
-    }
-    store32(r3, 0xffffffffU);
-    dfu_suffix_crc_Crc_update_small(r3, r13, a5);
-    uint32_t r1 = load32(r3);
-    store32(a1, 300);
-    memset(a1 + 4, 0, 64);
-    store32(a1 + 44, 3);
-    store32(a1 + 52, r1);
-    common_ret_op = 0xfffffff5U;
-dfu_device_c_format_dfu_core_format_start_exit:
     return signed32(common_ret_op);
 }
 
-/* dfu_core_format_took */
+/* dfu_core_format_took: crates/dfu_device_c/src/format.rt */
 int32_t dfu_core_format_took(const struct dfu_config *config, struct dfu_record *record, const uint8_t *flash, size_t size, const uint8_t *image, size_t length, uint32_t failed) {
     unsigned char *a0 = (unsigned char *)(uintptr_t)config;
     unsigned char *a1 = (unsigned char *)(uintptr_t)record;
     unsigned char *a2 = (unsigned char *)(uintptr_t)flash;
-    uint64_t a3 = size;
+    size_t a3 = (size_t)size;
     unsigned char *a4 = (unsigned char *)(uintptr_t)image;
-    uint64_t a5 = length;
+    size_t a5 = (size_t)length;
     uint32_t a6 = failed;
     _Alignas(8) unsigned char r3[112];
     _Alignas(8) unsigned char r5[112];
@@ -3970,136 +3533,130 @@ int32_t dfu_core_format_took(const struct dfu_config *config, struct dfu_record 
     _Alignas(4) unsigned char r8[28];
     _Alignas(4) unsigned char r6[24];
     unsigned char *r4, *r13, *r30;
-    uint64_t wide_2395;
+    size_t wide_2395;
     uint8_t r3_0_0_copyload, r7_0_0_0, r6_2;
     uint32_t r4_0_0_copyload, r31, r100, r7_8_0, r26, r3_3_4_copyload, common_ret_op;
-    r4 = (unsigned char *)((uintptr_t)a2 + (uintptr_t)(uint64_t)((a2 == NULL) ? 4096 : 0));
-    r13 = (unsigned char *)((uintptr_t)a4 + (uintptr_t)(uint64_t)((a4 == NULL) ? 4096 : 0));
+    r4 = (unsigned char *)((uintptr_t)a2 + (uintptr_t)(size_t)((a2 == NULL) ? 4096 : 0));
+    r13 = (unsigned char *)((uintptr_t)a4 + (uintptr_t)(size_t)((a4 == NULL) ? 4096 : 0));
     store64a4(r7 + 32, 0);
     dfu_device_c_config_settings_of(r7, a0);
     uint8_t r18 = *r7;
-    if (r18 != 1) {
-        common_ret_op = 0xfffffffeU;
-        goto dfu_device_c_format_dfu_core_format_took_exit;
+    if (r18 != 1) common_ret_op = 0xfffffffeU;
+    else {
+        dfu_device_c_format_formatting_of(r8, r7 + 4, a1);
+        uint8_t r23 = *r8;
+        if (r23 != 1) common_ret_op = 0xfffffffcU;
+        else {
+            unsigned char *r24 = r8 + 4;
+            memcpy(r6, r24, 24);
+            wide_2395 = (size_t)(uintptr_t)r13;
+            r3_0_0_copyload = *r6;
+            r4_0_0_copyload = load32(r6 + 4);
+            r30 = r6 + 20;
+            r31 = load32(r30);
+            *r5 = r3_0_0_copyload;
+            memset(r5 + 1, 0, 3);
+            store32(r5 + 4, r4_0_0_copyload);
+            store32(r5 + 8, 0);
+            store32(r5 + 12, 0);
+            store64(r5 + 16, (uint64_t)(uintptr_t)static_0);
+            store64(r5 + 24, 0);
+            store64(r5 + 32, wide_2395);
+            store64(r5 + 40, a5);
+            store64(r5 + 48, (size_t)r31);
+            memset(r5 + 56, 0, 40);
+            r5[96] = 4;
+            memset(r5 + 97, 0, 15);
+            uint8_t r38 = dfu_asks_formatting_Formatting_due(r24, a3, r5);
+            if (!r38) common_ret_op = 0xfffffffcU;
+            else {
+                if (a6 == 0) {
+                    uint8_t r70 = dfu_asks_cut_stands(r4, a3, r5);
+                    if (r70) {
+                        size_t r93 = (size_t)load64(r5 + 88);
+                        r100 = r31 + (uint32_t)r93;
+                        store32(r30, r100);
+                        *r3 = r3_0_0_copyload;
+                        memset(r3 + 1, 0, 3);
+                        store32(r3 + 4, r4_0_0_copyload);
+                        store32(r3 + 8, 0);
+                        store32(r3 + 12, 0);
+                        store64(r3 + 16, (uint64_t)(uintptr_t)static_0);
+                        store64(r3 + 24, 0);
+                        store64(r3 + 32, wide_2395);
+                        store64(r3 + 40, a5);
+                        store64(r3 + 48, (size_t)r100);
+                        memset(r3 + 56, 0, 40);
+                        r3[96] = 4;
+                        memset(r3 + 97, 0, 15);
+                        uint8_t r21 = dfu_asks_format_piece_part_piece(r6, a3, r3);
+                        if (r21) {
+                            uint8_t r6_pre = r6[12];
+                            uint32_t r3_3_4_copyload_pre = load32(r6 + 16);
+                            r26 = r100;
+                            r3_3_4_copyload = r3_3_4_copyload_pre;
+                            r6_2 = r6_pre;
+                        }
+                        else {
+                            uint8_t r9 = r6[12];
+                            switch (r9) {
+                            case 0:
+                                r7_0_0_0 = 1;
+                                r7_8_0 = 0;
+                                break;
+                            case 1:
+                                r7_0_0_0 = (uint8_t)((a5 == 0) ? 3 : 2);
+                                r7_8_0 = 0;
+                                break;
+                            case 2: {
+                                uint32_t r4_3_4_copyload = load32(r6 + 16);
+                                uint64_t r32 = (uint64_t)(size_t)r4_3_4_copyload + 4096;
+                                uint64_t switch_load = load64(PLACE(switch_table_dfu_core_format_took) + 8 * (size_t)r3_0_0_copyload);
+                                uint64_t v4 = switch_load - 1;
+                                uint8_t r38_fr = r32 < (((switch_load - (uint64_t)((size_t)v4 & a5)) & v4) + (uint64_t)a5);
+                                r7_0_0_0 = (uint8_t)(r38_fr ? 2 : 3);
+                                r7_8_0 = (uint32_t)(r38_fr ? (uint32_t)r32 : 0);
+                                break;
+                            }
+                            case 3:
+                                r7_0_0_0 = 4;
+                                r7_8_0 = 0;
+                                break;
+                            case 4:
+                            case 5:
+                                store32(a1 + 44, 0);
+                                common_ret_op = 0;
+                                goto dfu_device_c_format_dfu_core_format_took_exit;
+                            default: never();
+                            }
+                            r26 = 0;
+                            r3_3_4_copyload = r7_8_0;
+                            r6_2 = r7_0_0_0;
+                        }
+                        store32(a1 + 44, 3);
+                        uint32_t r22 = load32(r6 + 8);
+                        store32(a1 + 52, r22);
+                        store32(a1 + 56, r26);
+                        a1[64] = r6_2;
+                        store32(a1 + 48, (uint32_t)((r6_2 == 2) ? r3_3_4_copyload : 0));
+                        common_ret_op = 0xfffffff5U;
+                        goto dfu_device_c_format_dfu_core_format_took_exit;
+                    }
+                }
+                store32(a1 + 44, 0);
+                common_ret_op = 0xfffffff8U;
+            }
+        }
     }
-    dfu_device_c_format_formatting_of(r8, r7 + 4, a1);
-    uint8_t r23 = *r8;
-    if (r23 != 1) {
-        common_ret_op = 0xfffffffcU;
-        goto dfu_device_c_format_dfu_core_format_took_exit;
-    }
-    unsigned char *r24 = r8 + 4;
-    memcpy(r6, r24, 24);
-    wide_2395 = (uint64_t)(uintptr_t)r13;
-    r3_0_0_copyload = *r6;
-    r4_0_0_copyload = load32(r6 + 4);
-    r30 = r6 + 20;
-    r31 = load32(r30);
-    *r5 = r3_0_0_copyload;
-    memset(r5 + 1, 0, 3);
-    store32(r5 + 4, r4_0_0_copyload);
-    store32(r5 + 8, 0);
-    store32(r5 + 12, 0);
-    store64(r5 + 16, (uint64_t)(uintptr_t)static_0);
-    store64(r5 + 24, 0);
-    store64(r5 + 32, wide_2395);
-    store64(r5 + 40, a5);
-    store64(r5 + 48, (uint64_t)r31);
-    memset(r5 + 56, 0, 40);
-    r5[96] = 4;
-    memset(r5 + 97, 0, 15);
-    uint8_t r38 = dfu_asks_formatting_Formatting_due(r24, a3, r5);
-    if (!r38) goto dfu_asks_formatting_Formatting_took_exit;
-    if (a6 != 0) goto arm_13;
-    uint8_t r70 = dfu_asks_cut_stands(r4, a3, r5);
-    if (!r70) goto arm_13;
-    uint64_t r93 = load64(r5 + 88);
-    r100 = r31 + (uint32_t)r93;
-    store32(r30, r100);
-    *r3 = r3_0_0_copyload;
-    memset(r3 + 1, 0, 3);
-    store32(r3 + 4, r4_0_0_copyload);
-    store32(r3 + 8, 0);
-    store32(r3 + 12, 0);
-    store64(r3 + 16, (uint64_t)(uintptr_t)static_0);
-    store64(r3 + 24, 0);
-    store64(r3 + 32, wide_2395);
-    store64(r3 + 40, a5);
-    store64(r3 + 48, (uint64_t)r100);
-    memset(r3 + 56, 0, 40);
-    r3[96] = 4;
-    memset(r3 + 97, 0, 15);
-    uint8_t r21 = dfu_asks_format_piece_part_piece(r6, a3, r3);
-    if (!r21) goto join_3;
-    uint8_t r6_pre = r6[12];
-    uint32_t r3_3_4_copyload_pre = load32(r6 + 16);
-    r26 = r100;
-    r3_3_4_copyload = r3_3_4_copyload_pre;
-    r6_2 = r6_pre;
-    goto arm_11;
-join_3:;
-    uint8_t r9 = r6[12];
-    switch (r9) {
-    case 0:
-        r7_0_0_0 = 1;
-        r7_8_0 = 0;
-        goto arm_9_thread12;
-    case 1: goto arm_2;
-    case 2: goto arm_3;
-    case 3: goto arm_4;
-    case 4: goto arm_12;
-    case 5: goto arm_12;
-    default: never();
-    }
-arm_2:
-    r7_0_0_0 = (uint8_t)((a5 == 0) ? 3 : 2);
-    r7_8_0 = 0;
-    goto arm_9_thread12;
-arm_3:;
-    uint32_t r4_3_4_copyload = load32(r6 + 16);
-    uint64_t r32 = (uint64_t)r4_3_4_copyload + 4096;
-    uint64_t switch_load = load64(PLACE(switch_table_dfu_core_format_took) + 8 * (size_t)r3_0_0_copyload);
-    uint64_t v4 = switch_load + 0xffffffffffffffffULL;
-    uint8_t r38_fr = r32 < (((switch_load - (v4 & a5)) & v4) + a5);
-    r7_0_0_0 = (uint8_t)(r38_fr ? 2 : 3);
-    r7_8_0 = (uint32_t)(r38_fr ? (uint32_t)r32 : 0);
-    goto arm_9_thread12;
-arm_4:
-    r7_0_0_0 = 4;
-    r7_8_0 = 0;
-    goto arm_9_thread12;
-dfu_asks_formatting_Formatting_took_exit:
-    common_ret_op = 0xfffffffcU;
-    goto dfu_device_c_format_dfu_core_format_took_exit;
-arm_9_thread12:
-    r26 = 0;
-    r3_3_4_copyload = r7_8_0;
-    r6_2 = r7_0_0_0;
-arm_11:
-    store32(a1 + 44, 3);
-    uint32_t r22 = load32(r6 + 8);
-    store32(a1 + 52, r22);
-    store32(a1 + 56, r26);
-    a1[64] = r6_2;
-    store32(a1 + 48, (uint32_t)((r6_2 == 2) ? r3_3_4_copyload : 0));
-    common_ret_op = 0xfffffff5U;
-    goto dfu_device_c_format_dfu_core_format_took_exit;
-arm_12:
-    store32(a1 + 44, 0);
-    common_ret_op = 0;
-    goto dfu_device_c_format_dfu_core_format_took_exit;
-arm_13:
-    store32(a1 + 44, 0);
-    common_ret_op = 0xfffffff8U;
 dfu_device_c_format_dfu_core_format_took_exit:
     return signed32(common_ret_op);
 }
 
-/* dfu_core_image */
+/* dfu_core_image: crates/dfu_device_c/src/image.rt */
 int32_t dfu_core_image(const struct dfu_config *config, const uint8_t *flash, size_t size, struct dfu_place *place) {
     unsigned char *a0 = (unsigned char *)(uintptr_t)config;
     unsigned char *a1 = (unsigned char *)(uintptr_t)flash;
-    uint64_t a2 = size;
+    size_t a2 = (size_t)size;
     unsigned char *a3 = (unsigned char *)(uintptr_t)place;
     _Alignas(4) unsigned char r5[40];
     _Alignas(4) unsigned char r10[18];
@@ -4108,79 +3665,71 @@ int32_t dfu_core_image(const struct dfu_config *config, const uint8_t *flash, si
     store64a4(r5 + 32, 0);
     dfu_device_c_config_settings_of(r5, a0);
     uint8_t r12 = *r5;
-    if (r12 != 1) {
-        common_ret_op = 0xfffffffeU;
-        goto dfu_device_c_image_dfu_core_image_exit;
+    if (r12 != 1) common_ret_op = 0xfffffffeU;
+    else {
+        r3_2_0_copyload = r5[32];
+        r3_31_0_copyload = load32(r5 + 36);
+        dfu_asks_noted_Noted_find(r10, (unsigned char *)((uintptr_t)a1 + (uintptr_t)(size_t)((a1 == NULL) ? 4096 : 0)), a2, r3_2_0_copyload, r3_31_0_copyload);
+        uint8_t r1_0_0_copyload = *r10;
+        if (r1_0_0_copyload != 1) common_ret_op = 0xfffffffdU;
+        else {
+            uint8_t r5_4_0_0_copyload = r10[1];
+            uint32_t r5_4_6_0_copyload = load32a2(r10 + 6);
+            uint32_t switch_load = load32(PLACE(switch_table_dfu_core_would_stall) + 4 * (size_t)r3_2_0_copyload);
+            store32(a3, (umax32(r3_31_0_copyload, switch_load) << 1) + (uint32_t)((r5_4_0_0_copyload & 1) ? (uint32_t)(a2 >> 1) : 0));
+            store32(a3 + 4, r5_4_6_0_copyload);
+            common_ret_op = 0;
+        }
     }
-    r3_2_0_copyload = r5[32];
-    r3_31_0_copyload = load32(r5 + 36);
-    dfu_asks_noted_Noted_find(r10, (unsigned char *)((uintptr_t)a1 + (uintptr_t)(uint64_t)((a1 == NULL) ? 4096 : 0)), a2, r3_2_0_copyload, r3_31_0_copyload);
-    uint8_t r1_0_0_copyload = *r10;
-    if (r1_0_0_copyload != 1) goto dfu_asks_image_ImagePlace_find_exit;
-    uint8_t r5_4_0_0_copyload = r10[1];
-    uint32_t r5_4_6_0_copyload = load32a2(r10 + 6);
-    uint32_t switch_load = load32(PLACE(switch_table_dfu_core_would_stall) + 4 * (size_t)r3_2_0_copyload);
-    store32(a3, (umax32(r3_31_0_copyload, switch_load) << 1) + (uint32_t)((r5_4_0_0_copyload & 1) ? (uint32_t)(a2 >> 1) : 0));
-    store32(a3 + 4, r5_4_6_0_copyload);
-    common_ret_op = 0;
-    goto dfu_device_c_image_dfu_core_image_exit;
-dfu_asks_image_ImagePlace_find_exit:
-    common_ret_op = 0xfffffffdU;
-dfu_device_c_image_dfu_core_image_exit:
     return signed32(common_ret_op);
 }
 
-/* dfu_core_is_blank */
+/* dfu_core_is_blank: crates/dfu_device_c/src/blank.rt */
 int32_t dfu_core_is_blank(const struct dfu_config *config, const uint8_t *flash, size_t size) {
     unsigned char *a0 = (unsigned char *)(uintptr_t)config;
     unsigned char *a1 = (unsigned char *)(uintptr_t)flash;
-    uint64_t a2 = size;
+    size_t a2 = (size_t)size;
     _Alignas(4) unsigned char r7[40];
     _Alignas(8) unsigned char r5[24];
     unsigned char *r4;
     uint8_t r3_2_0_copyload;
     uint32_t r17, common_ret_op;
     uint64_t r26;
-    r4 = (unsigned char *)((uintptr_t)a1 + (uintptr_t)(uint64_t)((a1 == NULL) ? 4096 : 0));
+    r4 = (unsigned char *)((uintptr_t)a1 + (uintptr_t)(size_t)((a1 == NULL) ? 4096 : 0));
     store64a4(r7 + 32, 0);
     dfu_device_c_config_settings_of(r7, a0);
     uint8_t r14 = *r7;
-    if (r14 != 1) {
-        common_ret_op = 0xfffffffeU;
-        goto dfu_device_c_blank_dfu_core_is_blank_exit;
+    if (r14 != 1) common_ret_op = 0xfffffffeU;
+    else {
+        r3_2_0_copyload = r7[32];
+        uint32_t r3_31_0_copyload = load32(r7 + 36);
+        struct i8_i32 r15 = dfu_asks_sector_Sector_new(r3_31_0_copyload);
+        r17 = r15.b;
+        if (!((wide(a2) < 0x100000000ULL) & (r15.a & 1))) common_ret_op = 0xfffffffdU;
+        else {
+            store64(r5, (size_t)(uintptr_t)r4);
+            store64(r5 + 8, a2);
+            r5[16] = r3_2_0_copyload;
+            memset(r5 + 17, 0, 3);
+            store32(r5 + 20, r17);
+            uint8_t r10 = dfu_slots_layout_is_sized(r5);
+            if (!r10) common_ret_op = 0xfffffffaU;
+            else {
+                uint32_t switch_load = load32(PLACE(switch_table_dfu_core_would_stall) + 4 * (size_t)r3_2_0_copyload);
+                r26 = (uint64_t)(size_t)umax32(r17, switch_load) << 1;
+                uint8_t r31 = dfu_asks_blank_is_erased(r4, 0, r26);
+                if (!r31) common_ret_op = 0;
+                else {
+                    uint8_t r50 = dfu_asks_blank_is_erased(r4, a2 >> 1, r26);
+                    common_ret_op = (uint32_t)r50;
+                }
+            }
+        }
     }
-    r3_2_0_copyload = r7[32];
-    uint32_t r3_31_0_copyload = load32(r7 + 36);
-    struct i8_i32 r15 = dfu_asks_sector_Sector_new(r3_31_0_copyload);
-    r17 = r15.b;
-    if (!((a2 < 0x100000000ULL) & (r15.a & 1))) {
-        common_ret_op = 0xfffffffdU;
-        goto dfu_device_c_blank_dfu_core_is_blank_exit;
-    }
-    store64(r5, (uint64_t)(uintptr_t)r4);
-    store64(r5 + 8, a2);
-    r5[16] = r3_2_0_copyload;
-    memset(r5 + 17, 0, 3);
-    store32(r5 + 20, r17);
-    uint8_t r10 = dfu_slots_layout_is_sized(r5);
-    if (!r10) {
-        common_ret_op = 0xfffffffaU;
-        goto dfu_device_c_blank_dfu_core_is_blank_exit;
-    }
-    uint32_t switch_load = load32(PLACE(switch_table_dfu_core_would_stall) + 4 * (size_t)r3_2_0_copyload);
-    r26 = (uint64_t)umax32(r17, switch_load) << 1;
-    uint8_t r31 = dfu_asks_blank_is_erased(r4, 0, r26);
-    if (!r31) {
-        common_ret_op = 0;
-        goto dfu_device_c_blank_dfu_core_is_blank_exit;
-    }
-    uint8_t r50 = dfu_asks_blank_is_erased(r4, a2 >> 1, r26);
-    common_ret_op = (uint32_t)r50;
-dfu_device_c_blank_dfu_core_is_blank_exit:
     return signed32(common_ret_op);
 }
 
-/* dfu_core_functional */
+/* dfu_core_functional: crates/dfu_device_c/src/config.rt */
 int32_t dfu_core_functional(const struct dfu_config *config, uint8_t out[9]) {
     unsigned char *a0 = (unsigned char *)(uintptr_t)config;
     unsigned char *a1 = (unsigned char *)(uintptr_t)out;
@@ -4192,39 +3741,37 @@ int32_t dfu_core_functional(const struct dfu_config *config, uint8_t out[9]) {
     uint32_t common_ret_op;
     dfu_device_c_config_settings_of(r1, a0);
     uint8_t r3 = *r1;
-    if (r3 != 1) {
-        common_ret_op = 0xfffffffeU;
-        goto dfu_device_c_config_dfu_core_functional_exit;
+    if (r3 != 1) common_ret_op = 0xfffffffeU;
+    else {
+        dfu_device_c_config_functional_of(r4, a0);
+        uint8_t r5_0_0_copyload = *r4;
+        uint8_t r5_3_0_copyload = r4[1];
+        uint8_t r5_4_0_copyload = r4[2];
+        uint8_t r5_5_0_copyload = r4[3];
+        uint16_t r5_6_0_copyload = load16(r4 + 4);
+        uint16_t r5_7_0_copyload = load16(r4 + 6);
+        uint16_t r5_8_0_copyload = load16(r4 + 8);
+        dfu_wire_bytes_two_bytes(r15, r5_6_0_copyload);
+        uint16_t v1 = load16(r15);
+        dfu_wire_bytes_two_bytes(r21, r5_7_0_copyload);
+        uint16_t v2 = load16(r21);
+        dfu_wire_bytes_two_bytes(r27, r5_8_0_copyload);
+        uint16_t v3 = load16(r27);
+        *a1 = 9;
+        a1[1] = 33;
+        a1[2] = (((uint8_t)((uint32_t)r5_3_0_copyload << 1) | r5_0_0_copyload) | (uint8_t)((uint32_t)r5_4_0_copyload << 2)) | (uint8_t)((uint32_t)r5_5_0_copyload << 3);
+        a1[3] = (uint8_t)v1;
+        a1[4] = (uint8_t)(uint16_t)(v1 >> 8);
+        a1[5] = (uint8_t)v2;
+        a1[6] = (uint8_t)(uint16_t)(v2 >> 8);
+        a1[7] = (uint8_t)v3;
+        a1[8] = (uint8_t)(uint16_t)(v3 >> 8);
+        common_ret_op = 9;
     }
-    dfu_device_c_config_functional_of(r4, a0);
-    uint8_t r5_0_0_copyload = *r4;
-    uint8_t r5_3_0_copyload = r4[1];
-    uint8_t r5_4_0_copyload = r4[2];
-    uint8_t r5_5_0_copyload = r4[3];
-    uint16_t r5_6_0_copyload = load16(r4 + 4);
-    uint16_t r5_7_0_copyload = load16(r4 + 6);
-    uint16_t r5_8_0_copyload = load16(r4 + 8);
-    dfu_wire_bytes_two_bytes(r15, r5_6_0_copyload);
-    uint16_t v1 = load16(r15);
-    dfu_wire_bytes_two_bytes(r21, r5_7_0_copyload);
-    uint16_t v2 = load16(r21);
-    dfu_wire_bytes_two_bytes(r27, r5_8_0_copyload);
-    uint16_t v3 = load16(r27);
-    *a1 = 9;
-    a1[1] = 33;
-    a1[2] = (((uint8_t)((uint32_t)r5_3_0_copyload << 1) | r5_0_0_copyload) | (uint8_t)((uint32_t)r5_4_0_copyload << 2)) | (uint8_t)((uint32_t)r5_5_0_copyload << 3);
-    a1[3] = (uint8_t)v1;
-    a1[4] = (uint8_t)(uint16_t)(v1 >> 8);
-    a1[5] = (uint8_t)v2;
-    a1[6] = (uint8_t)(uint16_t)(v2 >> 8);
-    a1[7] = (uint8_t)v3;
-    a1[8] = (uint8_t)(uint16_t)(v3 >> 8);
-    common_ret_op = 9;
-dfu_device_c_config_dfu_core_functional_exit:
     return signed32(common_ret_op);
 }
 
-/* dfu_core_due */
+/* dfu_core_due: crates/dfu_device_c/src/tells.rt */
 int32_t dfu_core_due(const struct dfu_config *config, const struct dfu_record *record) {
     unsigned char *a0 = (unsigned char *)(uintptr_t)config;
     unsigned char *a1 = (unsigned char *)(uintptr_t)record;
@@ -4233,75 +3780,56 @@ int32_t dfu_core_due(const struct dfu_config *config, const struct dfu_record *r
     memset(r6, 0, 56);
     dfu_device_c_mode_mode_in(r6, a0, a1);
     uint8_t r10 = *r6;
-    if (r10 != 0) goto arm_2;
-    uint8_t r3_3_0_copyload = r6[40];
-    r3_6_0_copyload = load32(r6 + 44);
-    r3_7_0_copyload = load32(r6 + 48);
-    switch (r3_3_0_copyload) {
-    case 1: goto arm_1;
-    case 5: goto arm_2_2;
-    case 9: goto arm_3;
-    case 0:
-        common_ret_op = 0;
-        goto dfu_device_c_tells_dfu_core_due_exit;
-    case 2:
-        common_ret_op = 0;
-        goto dfu_device_c_tells_dfu_core_due_exit;
-    case 3:
-        common_ret_op = 0;
-        goto dfu_device_c_tells_dfu_core_due_exit;
-    case 4:
-        common_ret_op = 0;
-        goto dfu_device_c_tells_dfu_core_due_exit;
-    case 6:
-        common_ret_op = 0;
-        goto dfu_device_c_tells_dfu_core_due_exit;
-    case 7:
-        common_ret_op = 0;
-        goto dfu_device_c_tells_dfu_core_due_exit;
-    case 8:
-        common_ret_op = 0;
-        goto dfu_device_c_tells_dfu_core_due_exit;
-    case 10:
-        common_ret_op = 0;
-        goto dfu_device_c_tells_dfu_core_due_exit;
-    case 11:
-        common_ret_op = 0;
-        goto dfu_device_c_tells_dfu_core_due_exit;
-    case 12:
-        common_ret_op = 0;
-        goto dfu_device_c_tells_dfu_core_due_exit;
-    default: never();
+    if (r10 != 0) {
+        uint8_t r4_0_0_copyload = r6[1];
+        uint32_t switch_load = load32(PLACE(switch_table_dfu_device_c_numbers_Refusal_number) + 4 * (size_t)r4_0_0_copyload);
+        common_ret_op = switch_load;
     }
-arm_1:;
-    uint8_t r3_0_3_0_copyload = r6[13];
-    if (r3_0_3_0_copyload & 1) {
-        r0_4_0 = 1;
-        goto v1;
+    else {
+        uint8_t r3_3_0_copyload = r6[40];
+        r3_6_0_copyload = load32(r6 + 44);
+        r3_7_0_copyload = load32(r6 + 48);
+        switch (r3_3_0_copyload) {
+        case 1: {
+            uint8_t r3_0_3_0_copyload = r6[13];
+            if (r3_0_3_0_copyload & 1) r0_4_0 = 1;
+            else {
+                r0_4_0 = umax32(usub_sat32(r3_6_0_copyload, r3_7_0_copyload), 1);
+            }
+            break;
+        }
+        case 5: {
+            uint32_t r3_8_0_copyload = load32(r6 + 52);
+            uint32_t r3_0_5_0_copyload = load32(r6 + 24);
+            r0_4_0 = umax32(usub_sat32(r3_0_5_0_copyload, r3_8_0_copyload), 1);
+            break;
+        }
+        case 9: {
+            uint32_t r3_0_6_0_copyload = load32(r6 + 28);
+            r0_4_0 = umax32(usub_sat32(r3_0_6_0_copyload, r3_7_0_copyload), 1);
+            break;
+        }
+        case 0:
+        case 2:
+        case 3:
+        case 4:
+        case 6:
+        case 7:
+        case 8:
+        case 10:
+        case 11:
+        case 12:
+            common_ret_op = 0;
+            goto dfu_device_c_tells_dfu_core_due_exit;
+        default: never();
+        }
+        common_ret_op = umin32(r0_4_0, 0x7fffffffU);
     }
-    r0_4_0 = umax32(usub_sat32(r3_6_0_copyload, r3_7_0_copyload), 1);
-    goto v1;
-arm_2_2:;
-    uint32_t r3_8_0_copyload = load32(r6 + 52);
-    uint32_t r3_0_5_0_copyload = load32(r6 + 24);
-    r0_4_0 = umax32(usub_sat32(r3_0_5_0_copyload, r3_8_0_copyload), 1);
-    goto v1;
-arm_3:;
-    uint32_t r3_0_6_0_copyload = load32(r6 + 28);
-    r0_4_0 = umax32(usub_sat32(r3_0_6_0_copyload, r3_7_0_copyload), 1);
-    goto v1;
-v1:
-    common_ret_op = umin32(r0_4_0, 0x7fffffffU);
-    goto dfu_device_c_tells_dfu_core_due_exit;
-arm_2:;
-    uint8_t r4_0_0_copyload = r6[1];
-    uint32_t switch_load = load32(PLACE(switch_table_dfu_device_c_numbers_Refusal_number) + 4 * (size_t)r4_0_0_copyload);
-    common_ret_op = switch_load;
 dfu_device_c_tells_dfu_core_due_exit:
     return signed32(common_ret_op);
 }
 
-/* dfu_core_closes */
+/* dfu_core_closes: crates/dfu_device_c/src/closes.rt */
 int32_t dfu_core_closes(const struct dfu_config *config, const struct dfu_record *record, const uint8_t setup[8]) {
     unsigned char *a0 = (unsigned char *)(uintptr_t)config;
     unsigned char *a1 = (unsigned char *)(uintptr_t)record;
@@ -4314,32 +3842,32 @@ int32_t dfu_core_closes(const struct dfu_config *config, const struct dfu_record
     memset(r7, 0, 56);
     dfu_device_c_mode_idle_mode(r7, a0, a1);
     uint8_t r14 = *r7;
-    if (r14 != 0) goto arm_2;
-    uint8_t r3_3_0_copyload = r7[40];
-    uint8_t r3_4_0_copyload = r7[41];
-    uint32_t r3_6_0_copyload = load32(r7 + 44);
-    uint32_t r3_7_0_copyload = load32(r7 + 48);
-    uint32_t r3_8_0_copyload = load32(r7 + 52);
-    *r2 = r3_3_0_copyload;
-    r2[1] = r3_4_0_copyload;
-    store32(r2 + 4, r3_6_0_copyload);
-    store32(r2 + 8, r3_7_0_copyload);
-    store32(r2 + 12, r3_8_0_copyload);
-    uint8_t r30 = a0[15];
-    uint64_t r2_0_0_copyload = load64u(a2);
-    store64(r5, (uint64_t)((r30 == (uint8_t)(r2_0_0_copyload >> 32)) ? 0 : 0x100000000ULL) | (r2_0_0_copyload & 0xffffff00ffffffffULL));
-    uint8_t r34 = dfu_asks_closes_mode_closes(r7 + 4, r2, r5);
-    common_ret_op = (uint32_t)r34;
-    goto dfu_device_c_closes_dfu_core_closes_exit;
-arm_2:;
-    uint8_t r4_0_0_copyload = r7[1];
-    uint32_t switch_load = load32(PLACE(switch_table_dfu_device_c_numbers_Refusal_number) + 4 * (size_t)r4_0_0_copyload);
-    common_ret_op = switch_load;
-dfu_device_c_closes_dfu_core_closes_exit:
+    if (r14 != 0) {
+        uint8_t r4_0_0_copyload = r7[1];
+        uint32_t switch_load = load32(PLACE(switch_table_dfu_device_c_numbers_Refusal_number) + 4 * (size_t)r4_0_0_copyload);
+        common_ret_op = switch_load;
+    }
+    else {
+        uint8_t r3_3_0_copyload = r7[40];
+        uint8_t r3_4_0_copyload = r7[41];
+        uint32_t r3_6_0_copyload = load32(r7 + 44);
+        uint32_t r3_7_0_copyload = load32(r7 + 48);
+        uint32_t r3_8_0_copyload = load32(r7 + 52);
+        *r2 = r3_3_0_copyload;
+        r2[1] = r3_4_0_copyload;
+        store32(r2 + 4, r3_6_0_copyload);
+        store32(r2 + 8, r3_7_0_copyload);
+        store32(r2 + 12, r3_8_0_copyload);
+        uint8_t r30 = a0[15];
+        uint64_t r2_0_0_copyload = load64u(a2);
+        store64(r5, (uint64_t)((r30 == (uint8_t)(size_t)(r2_0_0_copyload >> 32)) ? 0 : 0x100000000ULL) | (r2_0_0_copyload & 0xffffff00ffffffffULL));
+        uint8_t r34 = dfu_asks_closes_mode_closes(r7 + 4, r2, r5);
+        common_ret_op = (uint32_t)r34;
+    }
     return signed32(common_ret_op);
 }
 
-/* dfu_core_refuse */
+/* dfu_core_refuse: crates/dfu_device_c/src/refuse.rt */
 int32_t dfu_core_refuse(const struct dfu_config *config, struct dfu_record *record, uint32_t status) {
     unsigned char *a0 = (unsigned char *)(uintptr_t)config;
     unsigned char *a1 = (unsigned char *)(uintptr_t)record;
@@ -4352,132 +3880,69 @@ int32_t dfu_core_refuse(const struct dfu_config *config, struct dfu_record *reco
     store32(r11, 0);
     dfu_device_c_mode_idle_mode(r6, a0, a1);
     uint8_t r13 = *r6;
-    if (r13 != 0) goto arm_2;
-    r2_3_0_copyload = r6[40];
-    r2_4_0_copyload = r6[41];
-    r2_6_0_copyload = load32(r6 + 44);
-    r2_7_0_copyload = load32(r6 + 48);
-    r2_8_0_copyload = load32(r6 + 52);
-    switch (a2) {
-    case 1:
-        r1_5_0 = 1;
-        goto arm_5;
-    case 2: goto arm_2_2;
-    default:
-        common_ret_op = 0xfffffff2U;
-        goto dfu_device_c_refuse_dfu_core_refuse_exit;
+    if (r13 != 0) {
+        uint8_t r3_0_0_copyload = r6[1];
+        uint32_t switch_load = load32(PLACE(switch_table_dfu_device_c_numbers_Refusal_number) + 4 * (size_t)r3_0_0_copyload);
+        common_ret_op = switch_load;
     }
-arm_2_2:
-    r1_5_0 = 2;
-    goto arm_5;
-arm_2:;
-    uint8_t r3_0_0_copyload = r6[1];
-    uint32_t switch_load = load32(PLACE(switch_table_dfu_device_c_numbers_Refusal_number) + 4 * (size_t)r3_0_0_copyload);
-    common_ret_op = switch_load;
-    goto dfu_device_c_refuse_dfu_core_refuse_exit;
-arm_5:
-    switch (r2_3_0_copyload) {
-    case 7: goto arm_1;
-    case 9: goto arm_1;
-    case 0:
-        r12_0_0 = r2_3_0_copyload;
-        r12_4_0 = r2_4_0_copyload;
-        r12_76_0 = r2_6_0_copyload;
-        r12_10_0 = r2_7_0_copyload;
-        r12_13_0 = r2_8_0_copyload;
-        goto dfu_device_device_state_DeviceState_after_refusal_exit;
-    case 1:
-        r12_0_0 = r2_3_0_copyload;
-        r12_4_0 = r2_4_0_copyload;
-        r12_76_0 = r2_6_0_copyload;
-        r12_10_0 = r2_7_0_copyload;
-        r12_13_0 = r2_8_0_copyload;
-        goto dfu_device_device_state_DeviceState_after_refusal_exit;
-    case 2:
-        r12_0_0 = r2_3_0_copyload;
-        r12_4_0 = r2_4_0_copyload;
-        r12_76_0 = r2_6_0_copyload;
-        r12_10_0 = r2_7_0_copyload;
-        r12_13_0 = r2_8_0_copyload;
-        goto dfu_device_device_state_DeviceState_after_refusal_exit;
-    case 3:
-        r12_0_0 = r2_3_0_copyload;
-        r12_4_0 = r2_4_0_copyload;
-        r12_76_0 = r2_6_0_copyload;
-        r12_10_0 = r2_7_0_copyload;
-        r12_13_0 = r2_8_0_copyload;
-        goto dfu_device_device_state_DeviceState_after_refusal_exit;
-    case 4:
-        r12_0_0 = r2_3_0_copyload;
-        r12_4_0 = r2_4_0_copyload;
-        r12_76_0 = r2_6_0_copyload;
-        r12_10_0 = r2_7_0_copyload;
-        r12_13_0 = r2_8_0_copyload;
-        goto dfu_device_device_state_DeviceState_after_refusal_exit;
-    case 5:
-        r12_0_0 = r2_3_0_copyload;
-        r12_4_0 = r2_4_0_copyload;
-        r12_76_0 = r2_6_0_copyload;
-        r12_10_0 = r2_7_0_copyload;
-        r12_13_0 = r2_8_0_copyload;
-        goto dfu_device_device_state_DeviceState_after_refusal_exit;
-    case 6:
-        r12_0_0 = r2_3_0_copyload;
-        r12_4_0 = r2_4_0_copyload;
-        r12_76_0 = r2_6_0_copyload;
-        r12_10_0 = r2_7_0_copyload;
-        r12_13_0 = r2_8_0_copyload;
-        goto dfu_device_device_state_DeviceState_after_refusal_exit;
-    case 8:
-        r12_0_0 = r2_3_0_copyload;
-        r12_4_0 = r2_4_0_copyload;
-        r12_76_0 = r2_6_0_copyload;
-        r12_10_0 = r2_7_0_copyload;
-        r12_13_0 = r2_8_0_copyload;
-        goto dfu_device_device_state_DeviceState_after_refusal_exit;
-    case 10:
-        r12_0_0 = r2_3_0_copyload;
-        r12_4_0 = r2_4_0_copyload;
-        r12_76_0 = r2_6_0_copyload;
-        r12_10_0 = r2_7_0_copyload;
-        r12_13_0 = r2_8_0_copyload;
-        goto dfu_device_device_state_DeviceState_after_refusal_exit;
-    case 11:
-        r12_0_0 = r2_3_0_copyload;
-        r12_4_0 = r2_4_0_copyload;
-        r12_76_0 = r2_6_0_copyload;
-        r12_10_0 = r2_7_0_copyload;
-        r12_13_0 = r2_8_0_copyload;
-        goto dfu_device_device_state_DeviceState_after_refusal_exit;
-    case 12:
-        r12_0_0 = r2_3_0_copyload;
-        r12_4_0 = r2_4_0_copyload;
-        r12_76_0 = r2_6_0_copyload;
-        r12_10_0 = r2_7_0_copyload;
-        r12_13_0 = r2_8_0_copyload;
-        goto dfu_device_device_state_DeviceState_after_refusal_exit;
-    default: never();
+    else {
+        r2_3_0_copyload = r6[40];
+        r2_4_0_copyload = r6[41];
+        r2_6_0_copyload = load32(r6 + 44);
+        r2_7_0_copyload = load32(r6 + 48);
+        r2_8_0_copyload = load32(r6 + 52);
+        switch (a2) {
+        case 1:
+            r1_5_0 = 1;
+            break;
+        case 2:
+            r1_5_0 = 2;
+            break;
+        default:
+            common_ret_op = 0xfffffff2U;
+            goto dfu_device_c_refuse_dfu_core_refuse_exit;
+        }
+        switch (r2_3_0_copyload) {
+        case 7:
+        case 9:
+            r12_0_0 = 12;
+            r12_4_0 = r1_5_0;
+            r12_76_0 = 0;
+            r12_10_0 = 0;
+            r12_13_0 = 0;
+            break;
+        case 0:
+        case 1:
+        case 2:
+        case 3:
+        case 4:
+        case 5:
+        case 6:
+        case 8:
+        case 10:
+        case 11:
+        case 12:
+            r12_0_0 = r2_3_0_copyload;
+            r12_4_0 = r2_4_0_copyload;
+            r12_76_0 = r2_6_0_copyload;
+            r12_10_0 = r2_7_0_copyload;
+            r12_13_0 = r2_8_0_copyload;
+            break;
+        default: never();
+        }
+        *r11 = r12_0_0;
+        r11[1] = r12_4_0;
+        store32(r11 + 4, r12_76_0);
+        store32(r11 + 8, r12_10_0);
+        store32(r11 + 12, r12_13_0);
+        dfu_device_c_mode_set_mode(a1, r11);
+        common_ret_op = 0;
     }
-arm_1:
-    r12_0_0 = 12;
-    r12_4_0 = r1_5_0;
-    r12_76_0 = 0;
-    r12_10_0 = 0;
-    r12_13_0 = 0;
-    goto dfu_device_device_state_DeviceState_after_refusal_exit;
-dfu_device_device_state_DeviceState_after_refusal_exit:
-    *r11 = r12_0_0;
-    r11[1] = r12_4_0;
-    store32(r11 + 4, r12_76_0);
-    store32(r11 + 8, r12_10_0);
-    store32(r11 + 12, r12_13_0);
-    dfu_device_c_mode_set_mode(a1, r11);
-    common_ret_op = 0;
 dfu_device_c_refuse_dfu_core_refuse_exit:
     return signed32(common_ret_op);
 }
 
-/* dfu_core_refuse_close */
+/* dfu_core_refuse_close: crates/dfu_device_c/src/refuse.rt */
 int32_t dfu_core_refuse_close(const struct dfu_config *config, struct dfu_record *record, const uint8_t setup[8], uint32_t status) {
     unsigned char *a0 = (unsigned char *)(uintptr_t)config;
     unsigned char *a1 = (unsigned char *)(uintptr_t)record;
@@ -4495,55 +3960,53 @@ int32_t dfu_core_refuse_close(const struct dfu_config *config, struct dfu_record
     store32(r19, 12);
     dfu_device_c_mode_idle_mode(r8, a0, a1);
     uint8_t r21 = *r8;
-    if (r21 != 0) goto arm_2;
-    r22 = r8 + 4;
-    uint8_t r3_3_0_copyload = r8[40];
-    uint8_t r3_4_0_copyload = r8[41];
-    uint32_t r3_6_0_copyload = load32(r8 + 44);
-    uint32_t r3_7_0_copyload = load32(r8 + 48);
-    uint32_t r3_8_0_copyload = load32(r8 + 52);
-    *r2 = r3_3_0_copyload;
-    r2[1] = r3_4_0_copyload;
-    store32(r2 + 4, r3_6_0_copyload);
-    store32(r2 + 8, r3_7_0_copyload);
-    store32(r2 + 12, r3_8_0_copyload);
-    switch (a3) {
-    case 1:
-        r1_5_0 = 1;
-        goto arm_5;
-    case 2: goto arm_2_2;
-    default:
-        common_ret_op = 0xfffffff2U;
-        goto dfu_device_c_refuse_dfu_core_refuse_close_exit;
+    if (r21 != 0) {
+        uint8_t r4_0_0_copyload = r8[1];
+        uint32_t switch_load = load32(PLACE(switch_table_dfu_device_c_numbers_Refusal_number) + 4 * (size_t)r4_0_0_copyload);
+        common_ret_op = switch_load;
     }
-arm_2_2:
-    r1_5_0 = 2;
-    goto arm_5;
-arm_2:;
-    uint8_t r4_0_0_copyload = r8[1];
-    uint32_t switch_load = load32(PLACE(switch_table_dfu_device_c_numbers_Refusal_number) + 4 * (size_t)r4_0_0_copyload);
-    common_ret_op = switch_load;
-    goto dfu_device_c_refuse_dfu_core_refuse_close_exit;
-arm_5:;
-    uint8_t r44 = a0[15];
-    uint64_t r2_0_0_copyload = load64u(a2);
-    store64(r6, (uint64_t)((r44 == (uint8_t)(r2_0_0_copyload >> 32)) ? 0 : 0x100000000ULL) | (r2_0_0_copyload & 0xffffff00ffffffffULL));
-    uint8_t r48 = dfu_asks_closes_mode_closes(r22, r2, r6);
-    if (!r48) {
-        common_ret_op = 0xfffffff3U;
-        goto dfu_device_c_refuse_dfu_core_refuse_close_exit;
+    else {
+        r22 = r8 + 4;
+        uint8_t r3_3_0_copyload = r8[40];
+        uint8_t r3_4_0_copyload = r8[41];
+        uint32_t r3_6_0_copyload = load32(r8 + 44);
+        uint32_t r3_7_0_copyload = load32(r8 + 48);
+        uint32_t r3_8_0_copyload = load32(r8 + 52);
+        *r2 = r3_3_0_copyload;
+        r2[1] = r3_4_0_copyload;
+        store32(r2 + 4, r3_6_0_copyload);
+        store32(r2 + 8, r3_7_0_copyload);
+        store32(r2 + 12, r3_8_0_copyload);
+        switch (a3) {
+        case 1:
+            r1_5_0 = 1;
+            break;
+        case 2:
+            r1_5_0 = 2;
+            break;
+        default:
+            common_ret_op = 0xfffffff2U;
+            goto dfu_device_c_refuse_dfu_core_refuse_close_exit;
+        }
+        uint8_t r44 = a0[15];
+        uint64_t r2_0_0_copyload = load64u(a2);
+        store64(r6, (uint64_t)((r44 == (uint8_t)(size_t)(r2_0_0_copyload >> 32)) ? 0 : 0x100000000ULL) | (r2_0_0_copyload & 0xffffff00ffffffffULL));
+        uint8_t r48 = dfu_asks_closes_mode_closes(r22, r2, r6);
+        if (!r48) common_ret_op = 0xfffffff3U;
+        else {
+            r19[1] = r1_5_0;
+            store32(r19 + 4, 0);
+            store32(r19 + 8, 0);
+            store32(r19 + 12, 0);
+            dfu_device_c_mode_set_mode(a1, r19);
+            common_ret_op = 0xffffffffU;
+        }
     }
-    r19[1] = r1_5_0;
-    store32(r19 + 4, 0);
-    store32(r19 + 8, 0);
-    store32(r19 + 12, 0);
-    dfu_device_c_mode_set_mode(a1, r19);
-    common_ret_op = 0xffffffffU;
 dfu_device_c_refuse_dfu_core_refuse_close_exit:
     return signed32(common_ret_op);
 }
 
-/* dfu_core_too_long */
+/* dfu_core_too_long: crates/dfu_device_c/src/long.rt */
 int32_t dfu_core_too_long(const struct dfu_config *config, struct dfu_record *record, const uint8_t setup[8]) {
     unsigned char *a0 = (unsigned char *)(uintptr_t)config;
     unsigned char *a1 = (unsigned char *)(uintptr_t)record;
@@ -4557,98 +4020,88 @@ int32_t dfu_core_too_long(const struct dfu_config *config, struct dfu_record *re
     memset(r8, 0, 56);
     dfu_device_c_mode_idle_mode(r8, a0, a1);
     uint8_t r18 = *r8;
-    if (r18 != 0) goto arm_2;
-    uint16_t r3_0_3_0_copyload = load16(r8 + 16);
-    r3_3_0_copyload = r8[40];
-    r3_4_0_copyload = r8[41];
-    r2_0_0_copyload = load64u(a2);
-    if (!(((r2_0_0_copyload & 255) == 33) ? (r3_0_3_0_copyload < (uint16_t)(r2_0_0_copyload >> 48)) : 0)) {
-        common_ret_op = 0xfffffff7U;
-        goto dfu_device_c_long_dfu_core_too_long_exit;
+    if (r18 != 0) {
+        uint8_t r4_0_0_copyload = r8[1];
+        uint32_t switch_load = load32(PLACE(switch_table_dfu_device_c_numbers_Refusal_number) + 4 * (size_t)r4_0_0_copyload);
+        common_ret_op = switch_load;
     }
-    uint8_t r34 = a0[15];
-    uint32_t r3_8_0_copyload = load32(r8 + 52);
-    uint32_t r3_7_0_copyload = load32(r8 + 48);
-    uint32_t r3_6_0_copyload = load32(r8 + 44);
-    if (!(((r2_0_0_copyload & 0xff0000000000ULL) == 0) & (r34 == (uint8_t)(r2_0_0_copyload >> 32)))) {
-        r13_4_0 = r3_3_0_copyload;
-        r13_7_0 = r3_4_0_copyload;
-        r13_107_0 = r3_6_0_copyload;
-        r13_13_0 = r3_7_0_copyload;
-        r13_16_0 = r3_8_0_copyload;
-        goto arm_5;
+    else {
+        uint16_t r3_0_3_0_copyload = load16(r8 + 16);
+        r3_3_0_copyload = r8[40];
+        r3_4_0_copyload = r8[41];
+        r2_0_0_copyload = load64u(a2);
+        if (!((((size_t)r2_0_0_copyload & 255) == 33) ? (r3_0_3_0_copyload < (uint16_t)(size_t)(r2_0_0_copyload >> 48)) : 0)) common_ret_op = 0xfffffff7U;
+        else {
+            uint8_t r34 = a0[15];
+            uint32_t r3_8_0_copyload = load32(r8 + 52);
+            uint32_t r3_7_0_copyload = load32(r8 + 48);
+            uint32_t r3_6_0_copyload = load32(r8 + 44);
+            if (!(((r2_0_0_copyload & 0xff0000000000ULL) == 0) & (r34 == (uint8_t)(size_t)(r2_0_0_copyload >> 32)))) {
+                r13_4_0 = r3_3_0_copyload;
+                r13_7_0 = r3_4_0_copyload;
+                r13_107_0 = r3_6_0_copyload;
+                r13_13_0 = r3_7_0_copyload;
+                r13_16_0 = r3_8_0_copyload;
+            }
+            else {
+                switch (r3_3_0_copyload) {
+                case 0:
+                case 1:
+                    r13_4_0 = 0;
+                    r13_7_0 = 0;
+                    r13_107_0 = 0;
+                    r13_13_0 = 0;
+                    r13_16_0 = 0;
+                    break;
+                case 10:
+                    r13_4_0 = r3_3_0_copyload;
+                    r13_7_0 = 0;
+                    r13_107_0 = 0;
+                    r13_13_0 = 0;
+                    r13_16_0 = 0;
+                    break;
+                case 12:
+                    r13_4_0 = r3_3_0_copyload;
+                    r13_7_0 = r3_4_0_copyload;
+                    r13_107_0 = 0;
+                    r13_13_0 = 0;
+                    r13_16_0 = 0;
+                    break;
+                case 2:
+                case 3:
+                case 4:
+                case 5:
+                case 6:
+                case 7:
+                case 8:
+                case 9:
+                case 11:
+                    r13_4_0 = 12;
+                    r13_7_0 = 15;
+                    r13_107_0 = 0;
+                    r13_13_0 = 0;
+                    r13_16_0 = 0;
+                    break;
+                default: never();
+                }
+            }
+            *r6 = r13_4_0;
+            r6[1] = r13_7_0;
+            store32(r6 + 4, r13_107_0);
+            store32(r6 + 8, r13_13_0);
+            store32(r6 + 12, r13_16_0);
+            dfu_device_c_mode_set_mode(a1, r6);
+            common_ret_op = 0xffffffffU;
+        }
     }
-    switch (r3_3_0_copyload) {
-    case 0:
-        r13_4_0 = 0;
-        r13_7_0 = 0;
-        r13_107_0 = 0;
-        r13_13_0 = 0;
-        r13_16_0 = 0;
-        goto arm_5;
-    case 1:
-        r13_4_0 = 0;
-        r13_7_0 = 0;
-        r13_107_0 = 0;
-        r13_13_0 = 0;
-        r13_16_0 = 0;
-        goto arm_5;
-    case 10: goto arm_2_2;
-    case 12: goto arm_3;
-    case 2: goto arm_4;
-    case 3: goto arm_4;
-    case 4: goto arm_4;
-    case 5: goto arm_4;
-    case 6: goto arm_4;
-    case 7: goto arm_4;
-    case 8: goto arm_4;
-    case 9: goto arm_4;
-    case 11: goto arm_4;
-    default: never();
-    }
-arm_2_2:
-    r13_4_0 = r3_3_0_copyload;
-    r13_7_0 = 0;
-    r13_107_0 = 0;
-    r13_13_0 = 0;
-    r13_16_0 = 0;
-    goto arm_5;
-arm_3:
-    r13_4_0 = r3_3_0_copyload;
-    r13_7_0 = r3_4_0_copyload;
-    r13_107_0 = 0;
-    r13_13_0 = 0;
-    r13_16_0 = 0;
-    goto arm_5;
-arm_4:
-    r13_4_0 = 12;
-    r13_7_0 = 15;
-    r13_107_0 = 0;
-    r13_13_0 = 0;
-    r13_16_0 = 0;
-    goto arm_5;
-arm_2:;
-    uint8_t r4_0_0_copyload = r8[1];
-    uint32_t switch_load = load32(PLACE(switch_table_dfu_device_c_numbers_Refusal_number) + 4 * (size_t)r4_0_0_copyload);
-    common_ret_op = switch_load;
-    goto dfu_device_c_long_dfu_core_too_long_exit;
-arm_5:
-    *r6 = r13_4_0;
-    r6[1] = r13_7_0;
-    store32(r6 + 4, r13_107_0);
-    store32(r6 + 8, r13_13_0);
-    store32(r6 + 12, r13_16_0);
-    dfu_device_c_mode_set_mode(a1, r6);
-    common_ret_op = 0xffffffffU;
-dfu_device_c_long_dfu_core_too_long_exit:
     return signed32(common_ret_op);
 }
 
-/* dfu_core_would_stall */
+/* dfu_core_would_stall: crates/dfu_device_c/src/stalls.rt */
 int32_t dfu_core_would_stall(const struct dfu_config *config, const struct dfu_record *record, size_t size, const uint8_t setup[8]) {
     unsigned char *a0 = (unsigned char *)(uintptr_t)config;
     unsigned char *a1 = (unsigned char *)(uintptr_t)record;
-    uint64_t a2 = size;
+    size_t a2 = (size_t)size;
     unsigned char *a3 = (unsigned char *)(uintptr_t)setup;
     _Alignas(4) unsigned char r7[56];
     _Alignas(8) unsigned char r12[32];
@@ -4661,80 +4114,80 @@ int32_t dfu_core_would_stall(const struct dfu_config *config, const struct dfu_r
     memset(r7, 0, 56);
     dfu_device_c_mode_idle_mode(r7, a0, a1);
     uint8_t r16 = *r7;
-    if (r16 != 0) goto arm_2;
-    uint32_t r3_0_3_0_copyload = load32(r7 + 20);
-    uint32_t r3_0_4_0_copyload = load32(r7 + 24);
-    uint32_t r3_0_5_0_copyload = load32(r7 + 28);
-    uint8_t r3_0_6_0_copyload = r7[32];
-    uint32_t r3_0_8_0_copyload = load32(r7 + 36);
-    uint8_t r3_3_0_copyload = r7[40];
-    uint8_t r3_4_0_copyload = r7[41];
-    uint32_t r3_6_0_copyload = load32(r7 + 44);
-    uint32_t r3_7_0_copyload = load32(r7 + 48);
-    uint32_t r3_8_0_copyload = load32(r7 + 52);
-    uint8_t r32 = a0[15];
-    uint64_t r2_0_0_copyload = load64u(a3);
-    uint32_t switch_load = load32(PLACE(switch_table_dfu_core_would_stall) + 4 * (size_t)r3_0_6_0_copyload);
-    memcpy(r12, r7 + 10, 10);
-    store16(r12 + 10, 0);
-    store32(r12 + 12, r3_0_3_0_copyload);
-    store32(r12 + 16, r3_0_4_0_copyload);
-    store32(r12 + 20, r3_0_5_0_copyload);
-    store64(r12 + 24, usub_sat64(a2 >> 1, (uint64_t)umax32(r3_0_8_0_copyload, switch_load) << 1));
-    store64(r18, (uint64_t)((r32 == (uint8_t)(r2_0_0_copyload >> 32)) ? 0 : 0x100000000ULL) | (r2_0_0_copyload & 0xffffff00ffffffffULL));
-    dfu_wire_setups_Setup_request(r16_2, r18);
-    store32(r1, 0);
-    *r1 = r3_3_0_copyload;
-    r1[1] = r3_4_0_copyload;
-    store32(r1 + 4, r3_6_0_copyload);
-    store32(r1 + 8, r3_7_0_copyload);
-    store32(r1 + 12, r3_8_0_copyload);
-    uint8_t r11 = *r16_2;
-    store16(r10, r11);
-    uint16_t v6 = load16(r16_2 + 2);
-    store16(r10 + 2, v6);
-    uint16_t v7 = load16(r16_2 + 4);
-    store16(r10 + 4, v7);
-    memset(r17, 0, 24);
-    dfu_device_table_decide(r17, r12, r1, r10);
-    uint8_t r1_0_0_copyload = *r17;
-    uint8_t r1_3_1_copyload = r17[1];
-    common_ret_op = (uint32_t)(((uint8_t)(r1_0_0_copyload + 253) < 254) ? (r1_3_1_copyload == 3) : 0);
-    goto dfu_device_c_stalls_dfu_core_would_stall_exit;
-arm_2:;
-    uint8_t r4_0_0_copyload = r7[1];
-    uint32_t switch_load_2 = load32(PLACE(switch_table_dfu_device_c_numbers_Refusal_number) + 4 * (size_t)r4_0_0_copyload);
-    common_ret_op = switch_load_2;
-dfu_device_c_stalls_dfu_core_would_stall_exit:
+    if (r16 != 0) {
+        uint8_t r4_0_0_copyload = r7[1];
+        uint32_t switch_load_2 = load32(PLACE(switch_table_dfu_device_c_numbers_Refusal_number) + 4 * (size_t)r4_0_0_copyload);
+        common_ret_op = switch_load_2;
+    }
+    else {
+        uint32_t r3_0_3_0_copyload = load32(r7 + 20);
+        uint32_t r3_0_4_0_copyload = load32(r7 + 24);
+        uint32_t r3_0_5_0_copyload = load32(r7 + 28);
+        uint8_t r3_0_6_0_copyload = r7[32];
+        uint32_t r3_0_8_0_copyload = load32(r7 + 36);
+        uint8_t r3_3_0_copyload = r7[40];
+        uint8_t r3_4_0_copyload = r7[41];
+        uint32_t r3_6_0_copyload = load32(r7 + 44);
+        uint32_t r3_7_0_copyload = load32(r7 + 48);
+        uint32_t r3_8_0_copyload = load32(r7 + 52);
+        uint8_t r32 = a0[15];
+        uint64_t r2_0_0_copyload = load64u(a3);
+        uint32_t switch_load = load32(PLACE(switch_table_dfu_core_would_stall) + 4 * (size_t)r3_0_6_0_copyload);
+        memcpy(r12, r7 + 10, 10);
+        store16(r12 + 10, 0);
+        store32(r12 + 12, r3_0_3_0_copyload);
+        store32(r12 + 16, r3_0_4_0_copyload);
+        store32(r12 + 20, r3_0_5_0_copyload);
+        store64(r12 + 24, (size_t)usub_sat64(a2 >> 1, (uint64_t)(size_t)umax32(r3_0_8_0_copyload, switch_load) << 1));
+        store64(r18, (uint64_t)((r32 == (uint8_t)(size_t)(r2_0_0_copyload >> 32)) ? 0 : 0x100000000ULL) | (r2_0_0_copyload & 0xffffff00ffffffffULL));
+        dfu_wire_setups_Setup_request(r16_2, r18);
+        store32(r1, 0);
+        *r1 = r3_3_0_copyload;
+        r1[1] = r3_4_0_copyload;
+        store32(r1 + 4, r3_6_0_copyload);
+        store32(r1 + 8, r3_7_0_copyload);
+        store32(r1 + 12, r3_8_0_copyload);
+        uint8_t r11 = *r16_2;
+        store16(r10, r11);
+        uint16_t v6 = load16(r16_2 + 2);
+        store16(r10 + 2, v6);
+        uint16_t v7 = load16(r16_2 + 4);
+        store16(r10 + 4, v7);
+        memset(r17, 0, 24);
+        dfu_device_table_decide(r17, r12, r1, r10);
+        uint8_t r1_0_0_copyload = *r17;
+        uint8_t r1_3_1_copyload = r17[1];
+        common_ret_op = (uint32_t)(((uint8_t)(r1_0_0_copyload + 253) < 254) ? (r1_3_1_copyload == 3) : 0);
+    }
     return signed32(common_ret_op);
 }
 
-/* dfu_core_begin */
+/* dfu_core_begin: crates/dfu_device_c/src/power.rt */
 int32_t dfu_core_begin(const struct dfu_config *config, struct dfu_record *record, const uint8_t *flash, size_t size) {
     unsigned char *a0 = (unsigned char *)(uintptr_t)config;
     unsigned char *a1 = (unsigned char *)(uintptr_t)record;
     unsigned char *a2 = (unsigned char *)(uintptr_t)flash;
-    uint64_t a3 = size;
-    uint32_t r8 = dfu_device_c_power_start(a0, a1, (unsigned char *)((uintptr_t)a2 + (uintptr_t)(uint64_t)((a2 == NULL) ? 4096 : 0)), a3, 2);
+    size_t a3 = (size_t)size;
+    uint32_t r8 = dfu_device_c_power_start(a0, a1, (unsigned char *)((uintptr_t)a2 + (uintptr_t)(size_t)((a2 == NULL) ? 4096 : 0)), a3, 2);
     return signed32(r8);
 }
 
-/* dfu_core_power_on */
+/* dfu_core_power_on: crates/dfu_device_c/src/power.rt */
 int32_t dfu_core_power_on(const struct dfu_config *config, struct dfu_record *record, const uint8_t *flash, size_t size) {
     unsigned char *a0 = (unsigned char *)(uintptr_t)config;
     unsigned char *a1 = (unsigned char *)(uintptr_t)record;
     unsigned char *a2 = (unsigned char *)(uintptr_t)flash;
-    uint64_t a3 = size;
-    uint32_t r8 = dfu_device_c_power_start(a0, a1, (unsigned char *)((uintptr_t)a2 + (uintptr_t)(uint64_t)((a2 == NULL) ? 4096 : 0)), a3, 0);
+    size_t a3 = (size_t)size;
+    uint32_t r8 = dfu_device_c_power_start(a0, a1, (unsigned char *)((uintptr_t)a2 + (uintptr_t)(size_t)((a2 == NULL) ? 4096 : 0)), a3, 0);
     return signed32(r8);
 }
 
-/* dfu_core_candidate */
+/* dfu_core_candidate: crates/dfu_device_c/src/image.rt */
 int32_t dfu_core_candidate(const struct dfu_config *config, const struct dfu_record *record, const uint8_t *flash, size_t size, struct dfu_place *place) {
     unsigned char *a0 = (unsigned char *)(uintptr_t)config;
     unsigned char *a1 = (unsigned char *)(uintptr_t)record;
     unsigned char *a2 = (unsigned char *)(uintptr_t)flash;
-    uint64_t a3 = size;
+    size_t a3 = (size_t)size;
     unsigned char *a4 = (unsigned char *)(uintptr_t)place;
     _Alignas(8) unsigned char r3[136];
     _Alignas(8) unsigned char r3_2[24];
@@ -4742,86 +4195,86 @@ int32_t dfu_core_candidate(const struct dfu_config *config, const struct dfu_rec
     unsigned char *r4;
     uint32_t r11_0_0_copyload, r4_2_0_copyload, v4, common_ret_op;
     uint8_t r10_0_0_copyload;
-    uint64_t r2_0_0;
-    r4 = (unsigned char *)((uintptr_t)a2 + (uintptr_t)(uint64_t)((a2 == NULL) ? 4096 : 0));
+    size_t r2_0_0;
+    r4 = (unsigned char *)((uintptr_t)a2 + (uintptr_t)(size_t)((a2 == NULL) ? 4096 : 0));
     memset(r3, 0, 136);
     dfu_device_c_keeping_found(a0, a1, 4352, r3);
     uint8_t r22 = *r3;
-    if (r22 != 0) goto arm_2;
-    memset(r13, 0, 20);
-    uint8_t r2 = r3[104];
-    if (r2 != 1) goto join_3;
-    r2_0_0 = 2;
-    goto dfu_device_c_numbers_refused_exit;
-join_3:
-    if (a3 > 0xffffffffU) goto arm_2_2;
-    r11_0_0_copyload = load32(r3 + 40);
-    r10_0_0_copyload = r3[36];
-    store64(r3_2, (uint64_t)(uintptr_t)r4);
-    store64(r3_2 + 8, a3);
-    r3_2[16] = r10_0_0_copyload;
-    memset(r3_2 + 17, 0, 3);
-    store32(r3_2 + 20, r11_0_0_copyload);
-    dfu_asks_noted_look(r13, r3_2, r3 + 84);
-    uint8_t r65 = *r13;
-    if (r65 != 1) goto arm_2_2;
-    r4_2_0_copyload = load32(r13 + 8);
-    uint8_t v3 = r3[44];
-    v4 = load32(r3 + 48);
-    switch (v3) {
-    case 6: goto arm_11;
-    case 7: goto arm_11;
-    case 9: goto arm_11;
-    case 0: goto arm_5;
-    case 1: goto arm_5;
-    case 2: goto arm_5;
-    case 3: goto arm_5;
-    case 4: goto arm_5;
-    case 5: goto arm_5;
-    case 8: goto arm_5;
-    case 10: goto arm_5;
-    case 11: goto arm_5;
-    case 12: goto arm_5;
-    default: never();
+    if (r22 != 0) {
+        uint8_t r13_0_0_copyload = r3[1];
+        uint32_t switch_load_4 = load32(PLACE(switch_table_dfu_device_c_numbers_Refusal_number) + 4 * (size_t)r13_0_0_copyload);
+        common_ret_op = switch_load_4;
     }
-arm_11:;
-    uint32_t r4_3_0_copyload = load32(r13 + 12);
-    if (r4_3_0_copyload < v4) goto arm_3;
-    uint64_t v5 = (uint64_t)r10_0_0_copyload;
-    uint32_t switch_load = load32(PLACE(switch_table_dfu_core_would_stall) + 4 * (size_t)v5);
-    uint32_t switch_load_2 = load32(PLACE(switch_table_dfu_core_candidate) + 4 * (size_t)v5);
-    store32(a4, (umax32(r11_0_0_copyload, switch_load) << 1) + r4_2_0_copyload);
-    store32(a4 + 4, switch_load_2 & v4);
-    common_ret_op = 0;
-    goto dfu_device_c_image_dfu_core_candidate_exit;
-arm_2:;
-    uint8_t r13_0_0_copyload = r3[1];
-    uint32_t switch_load_3 = load32(PLACE(switch_table_dfu_device_c_numbers_Refusal_number) + 4 * (size_t)r13_0_0_copyload);
-    common_ret_op = switch_load_3;
-    goto dfu_device_c_image_dfu_core_candidate_exit;
-arm_5:
-    common_ret_op = 0xffffffecU;
-    goto dfu_device_c_image_dfu_core_candidate_exit;
-arm_2_2:
-    r2_0_0 = 3;
-    goto dfu_device_c_numbers_refused_exit;
-arm_3:
-    r2_0_0 = 4;
+    else {
+        memset(r13, 0, 20);
+        uint8_t r2 = r3[104];
+        if (r2 == 1) r2_0_0 = 2;
+        else {
+            if (wide(a3) <= 0xffffffffU) {
+                r11_0_0_copyload = load32(r3 + 40);
+                r10_0_0_copyload = r3[36];
+                store64(r3_2, (size_t)(uintptr_t)r4);
+                store64(r3_2 + 8, a3);
+                r3_2[16] = r10_0_0_copyload;
+                memset(r3_2 + 17, 0, 3);
+                store32(r3_2 + 20, r11_0_0_copyload);
+                dfu_asks_noted_look(r13, r3_2, r3 + 84);
+                uint8_t r65 = *r13;
+                if (r65 == 1) {
+                    r4_2_0_copyload = load32(r13 + 8);
+                    uint8_t v3 = r3[44];
+                    v4 = load32(r3 + 48);
+                    switch (v3) {
+                    case 6:
+                    case 7:
+                    case 9: {
+                        uint32_t r4_3_0_copyload = load32(r13 + 12);
+                        if (r4_3_0_copyload < v4) {
+                            r2_0_0 = 4;
+                            goto dfu_device_c_numbers_refused_exit;
+                        }
+                        size_t v5 = (size_t)r10_0_0_copyload;
+                        uint32_t switch_load = load32(PLACE(switch_table_dfu_core_would_stall) + 4 * v5);
+                        uint32_t switch_load_2 = load32(PLACE(switch_table_dfu_core_candidate) + 4 * v5);
+                        store32(a4, (umax32(r11_0_0_copyload, switch_load) << 1) + r4_2_0_copyload);
+                        store32(a4 + 4, switch_load_2 & v4);
+                        common_ret_op = 0;
+                        goto dfu_device_c_image_dfu_core_candidate_exit;
+                    }
+                    case 0:
+                    case 1:
+                    case 2:
+                    case 3:
+                    case 4:
+                    case 5:
+                    case 8:
+                    case 10:
+                    case 11:
+                    case 12:
+                        common_ret_op = 0xffffffecU;
+                        goto dfu_device_c_image_dfu_core_candidate_exit;
+                    default: never();
+                    }
+                }
+            }
+            r2_0_0 = 3;
+        }
 dfu_device_c_numbers_refused_exit:;
-    uint32_t switch_load_4 = load32(PLACE(switch_table_dfu_device_c_numbers_Refusal_number) + 4 * (size_t)r2_0_0);
-    common_ret_op = switch_load_4;
+        uint32_t switch_load_3 = load32(PLACE(switch_table_dfu_device_c_numbers_Refusal_number) + 4 * r2_0_0);
+        common_ret_op = switch_load_3;
+    }
 dfu_device_c_image_dfu_core_candidate_exit:
     return signed32(common_ret_op);
 }
 
-/* dfu_core_elapse */
+/* dfu_core_elapse: crates/dfu_device_c/src/calls.rt */
 int32_t dfu_core_elapse(const struct dfu_config *config, struct dfu_record *record, uint8_t *block, size_t most, const uint8_t *flash, size_t size, uint32_t ms) {
     unsigned char *a0 = (unsigned char *)(uintptr_t)config;
     unsigned char *a1 = (unsigned char *)(uintptr_t)record;
     unsigned char *a2 = (unsigned char *)(uintptr_t)block;
-    uint64_t a3 = most;
+    size_t a3 = (size_t)most;
     unsigned char *a4 = (unsigned char *)(uintptr_t)flash;
-    uint64_t a5 = size;
+    size_t a5 = (size_t)size;
     uint32_t a6 = ms;
     _Alignas(8) unsigned char r5[136];
     _Alignas(8) unsigned char r19_2[48];
@@ -4829,170 +4282,173 @@ int32_t dfu_core_elapse(const struct dfu_config *config, struct dfu_record *reco
     _Alignas(8) unsigned char r29[16];
     _Alignas(1) unsigned char r13_2[6];
     unsigned char *r4, *r13, *r44, *r19, *r5_2, *v3;
-    uint64_t r1, r21, r21_2, r15, r18, r2_0_0;
+    size_t r1, r2_0_0;
+    uint64_t r21, r21_2, r15, r18;
     uint8_t r0_0_4_0_copyload, r0_0_5_0_copyload, v4, r18_0_0;
     uint32_t v5, v6, v7, r18_1547_0, r18_22_0, r18_29_0, r18_36_0, common_ret_op;
-    r4 = (unsigned char *)((uintptr_t)a2 + (uintptr_t)(uint64_t)((a2 == NULL) ? 4096 : 0));
-    r13 = (unsigned char *)((uintptr_t)a4 + (uintptr_t)(uint64_t)((a4 == NULL) ? 4096 : 0));
+    r4 = (unsigned char *)((uintptr_t)a2 + (uintptr_t)(size_t)((a2 == NULL) ? 4096 : 0));
+    r13 = (unsigned char *)((uintptr_t)a4 + (uintptr_t)(size_t)((a4 == NULL) ? 4096 : 0));
     memset(r5, 0, 136);
     dfu_device_c_keeping_found(a0, a1, a3, r5);
     uint8_t r42 = *r5;
-    if (r42 != 0) goto arm_2;
-    r44 = r5 + 8;
-    uint16_t r59 = load16(a0 + 12);
-    r1 = (uint64_t)r59;
-    r19 = r4 + (size_t)r1;
-    r21 = a3 - r1;
-    store32(r12, 0);
-    memset(r19_2, 0, 48);
-    memset(r29, 0, 16);
-    uint8_t r2 = r5[104];
-    if (r2 != 1) goto join_3;
-    r2_0_0 = 2;
-    goto dfu_device_c_numbers_refused_exit;
-join_3:
-    dfu_asks_asking_Asking_see(r19_2, r44, r1, r13, a5);
-    uint8_t r1_0_0_copyload = *r19_2;
-    if (r1_0_0_copyload != 0) goto arm_6;
-    r5_2 = r19_2 + 8;
-    v3 = r19_2 + 32;
-    r0_0_4_0_copyload = r5[16];
-    r0_0_5_0_copyload = r5[17];
-    v4 = r5[44];
-    v5 = load32(r5 + 48);
-    v6 = load32(r5 + 52);
-    v7 = load32(r5 + 56);
-    switch (v4) {
-    case 1: goto arm_1;
-    case 5: goto arm_2_2;
-    case 9: goto arm_3;
-    case 0: goto arm_4;
-    case 2: goto arm_4;
-    case 3: goto arm_4;
-    case 4: goto arm_4;
-    case 6: goto arm_4;
-    case 7: goto arm_4;
-    case 8: goto arm_4;
-    case 10: goto arm_4;
-    case 11: goto arm_4;
-    case 12: goto arm_4;
-    default: never();
+    if (r42 != 0) {
+        uint8_t r18_0_0_copyload = r5[1];
+        uint32_t switch_load_2 = load32(PLACE(switch_table_dfu_device_c_numbers_Refusal_number) + 4 * (size_t)r18_0_0_copyload);
+        common_ret_op = switch_load_2;
     }
-arm_1:
-    r21_2 = (uint64_t)v6 + (uint64_t)a6;
-    if (a6 == 0) {
-        r18_0_0 = 0;
-        r18_1547_0 = 1;
-        r18_22_0 = v5;
-        r18_29_0 = v6;
-        r18_36_0 = 0;
-        goto arm_5;
+    else {
+        r44 = r5 + 8;
+        uint16_t r59 = load16(a0 + 12);
+        r1 = (size_t)r59;
+        r19 = r4 + r1;
+        r21 = (uint64_t)a3 - (uint64_t)r1;
+        store32(r12, 0);
+        memset(r19_2, 0, 48);
+        memset(r29, 0, 16);
+        uint8_t r2 = r5[104];
+        if (r2 == 1) r2_0_0 = 2;
+        else {
+            dfu_asks_asking_Asking_see(r19_2, r44, r1, r13, a5);
+            uint8_t r1_0_0_copyload = *r19_2;
+            if (r1_0_0_copyload == 0) {
+                r5_2 = r19_2 + 8;
+                v3 = r19_2 + 32;
+                r0_0_4_0_copyload = r5[16];
+                r0_0_5_0_copyload = r5[17];
+                v4 = r5[44];
+                v5 = load32(r5 + 48);
+                v6 = load32(r5 + 52);
+                v7 = load32(r5 + 56);
+                switch (v4) {
+                case 1:
+                    r21_2 = (uint64_t)(size_t)v6 + (uint64_t)(size_t)a6;
+                    if (a6 == 0) {
+                        r18_0_0 = 0;
+                        r18_1547_0 = 1;
+                        r18_22_0 = v5;
+                        r18_29_0 = v6;
+                        r18_36_0 = 0;
+                    }
+                    else {
+                        if (r0_0_5_0_copyload & 1) {
+                            r18_0_0 = 0;
+                            r18_1547_0 = 2;
+                            r18_22_0 = 0;
+                            r18_29_0 = 0;
+                            r18_36_0 = 0;
+                        }
+                        else {
+                            if (r21_2 < (uint64_t)(size_t)umax32(v5, 1)) {
+                                r18_0_0 = 0;
+                                r18_1547_0 = 1;
+                                r18_22_0 = v5;
+                                r18_29_0 = (uint32_t)r21_2;
+                                r18_36_0 = 0;
+                            }
+                            else {
+                                r18_0_0 = 0;
+                                r18_1547_0 = 0;
+                                r18_22_0 = 0;
+                                r18_29_0 = 0;
+                                r18_36_0 = 0;
+                            }
+                        }
+                    }
+                    break;
+                case 5: {
+                    uint32_t r2_2 = load32(r5 + 28);
+                    r15 = (uint64_t)(size_t)v7 + (uint64_t)(size_t)a6;
+                    if ((a6 == 0) ? 1 : (r15 < (uint64_t)(size_t)r2_2)) {
+                        r18_0_0 = 0;
+                        r18_1547_0 = 5;
+                        r18_22_0 = v5;
+                        r18_29_0 = v6 & 0xffffU;
+                        r18_36_0 = (uint32_t)r15;
+                    }
+                    else {
+                        r18_0_0 = 3;
+                        r18_1547_0 = v5;
+                        r18_22_0 = (v6 & 0xffffU) | 0x10000U;
+                        r18_29_0 = 0;
+                        r18_36_0 = 0;
+                    }
+                    break;
+                }
+                case 9: {
+                    uint32_t r2_3 = load32(r5 + 32);
+                    r18 = (uint64_t)(size_t)v6 + (uint64_t)(size_t)a6;
+                    if ((a6 == 0) ? 1 : (r18 < (uint64_t)(size_t)r2_3)) {
+                        r18_0_0 = 0;
+                        r18_1547_0 = 9;
+                        r18_22_0 = v5;
+                        r18_29_0 = (uint32_t)r18;
+                        r18_36_0 = 0;
+                    }
+                    else {
+                        r18_0_0 = 4;
+                        r18_1547_0 = v5;
+                        r18_22_0 = (uint32_t)((r0_0_4_0_copyload & 1) ? 8 : 10);
+                        r18_29_0 = 0;
+                        r18_36_0 = 0;
+                    }
+                    break;
+                }
+                case 0:
+                case 2:
+                case 3:
+                case 4:
+                case 6:
+                case 7:
+                case 8:
+                case 10:
+                case 11:
+                case 12: {
+                    uint8_t v8 = r5[45];
+                    r18_0_0 = 0;
+                    r18_1547_0 = ((uint32_t)v8 << 8) | (uint32_t)v4;
+                    r18_22_0 = v5;
+                    r18_29_0 = v6;
+                    r18_36_0 = v7;
+                    break;
+                }
+                default: never();
+                }
+                *r12 = r18_0_0;
+                store32(r12 + 4, r18_1547_0);
+                store32(r12 + 8, r18_22_0);
+                store32(r12 + 12, r18_29_0);
+                store32(r12 + 16, r18_36_0);
+                store32(r12 + 20, 0);
+                memset(r13_2, 0, 6);
+                dfu_asks_asking_Asking_carry_out(r29, r44, r12, 0, 0, PLACE(static_0), 0, r4, r1, r19, r21, r5_2, v3, r13_2, 6);
+                uint8_t v10 = *r29;
+                dfu_device_c_keeping_keep(r44, a1);
+                common_ret_op = (uint32_t)((v10 == 0) ? 0xfffffff5U : 0);
+                goto dfu_device_c_calls_dfu_core_elapse_exit;
+            }
+            uint8_t r1_3_1_copyload = r19_2[1];
+            r2_0_0 = (size_t)(((uint32_t)0x4040302U >> (((uint32_t)r1_3_1_copyload << 3) & 31)) & 7);
+        }
+        uint32_t switch_load = load32(PLACE(switch_table_dfu_device_c_numbers_Refusal_number) + 4 * r2_0_0);
+        common_ret_op = switch_load;
     }
-    if (r0_0_5_0_copyload & 1) {
-        r18_0_0 = 0;
-        r18_1547_0 = 2;
-        r18_22_0 = 0;
-        r18_29_0 = 0;
-        r18_36_0 = 0;
-        goto arm_5;
-    }
-    if (r21_2 >= (uint64_t)umax32(v5, 1)) {
-        r18_0_0 = 0;
-        r18_1547_0 = 0;
-        r18_22_0 = 0;
-        r18_29_0 = 0;
-        r18_36_0 = 0;
-        goto arm_5;
-    }
-    r18_0_0 = 0;
-    r18_1547_0 = 1;
-    r18_22_0 = v5;
-    r18_29_0 = (uint32_t)r21_2;
-    r18_36_0 = 0;
-    goto arm_5;
-arm_2_2:;
-    uint32_t r2_2 = load32(r5 + 28);
-    r15 = (uint64_t)v7 + (uint64_t)a6;
-    if ((a6 == 0) ? 1 : (r15 < (uint64_t)r2_2)) goto after_1;
-    r18_0_0 = 3;
-    r18_1547_0 = v5;
-    r18_22_0 = (v6 & 0xffffU) | 0x10000U;
-    r18_29_0 = 0;
-    r18_36_0 = 0;
-    goto arm_5;
-after_1:
-    r18_0_0 = 0;
-    r18_1547_0 = 5;
-    r18_22_0 = v5;
-    r18_29_0 = v6 & 0xffffU;
-    r18_36_0 = (uint32_t)r15;
-    goto arm_5;
-arm_3:;
-    uint32_t r2_3 = load32(r5 + 32);
-    r18 = (uint64_t)v6 + (uint64_t)a6;
-    if ((a6 == 0) ? 1 : (r18 < (uint64_t)r2_3)) goto after_1_2;
-    r18_0_0 = 4;
-    r18_1547_0 = v5;
-    r18_22_0 = (uint32_t)((r0_0_4_0_copyload & 1) ? 8 : 10);
-    r18_29_0 = 0;
-    r18_36_0 = 0;
-    goto arm_5;
-after_1_2:
-    r18_0_0 = 0;
-    r18_1547_0 = 9;
-    r18_22_0 = v5;
-    r18_29_0 = (uint32_t)r18;
-    r18_36_0 = 0;
-    goto arm_5;
-arm_4:;
-    uint8_t v8 = r5[45];
-    r18_0_0 = 0;
-    r18_1547_0 = ((uint32_t)v8 << 8) | (uint32_t)v4;
-    r18_22_0 = v5;
-    r18_29_0 = v6;
-    r18_36_0 = v7;
-    goto arm_5;
-arm_2:;
-    uint8_t r18_0_0_copyload = r5[1];
-    uint32_t switch_load = load32(PLACE(switch_table_dfu_device_c_numbers_Refusal_number) + 4 * (size_t)r18_0_0_copyload);
-    common_ret_op = switch_load;
-    goto dfu_device_c_calls_dfu_core_elapse_exit;
-arm_5:
-    *r12 = r18_0_0;
-    store32(r12 + 4, r18_1547_0);
-    store32(r12 + 8, r18_22_0);
-    store32(r12 + 12, r18_29_0);
-    store32(r12 + 16, r18_36_0);
-    store32(r12 + 20, 0);
-    memset(r13_2, 0, 6);
-    dfu_asks_asking_Asking_carry_out(r29, r44, r12, 0, 0, PLACE(static_0), 0, r4, r1, r19, r21, r5_2, v3, r13_2, 6);
-    uint8_t v10 = *r29;
-    dfu_device_c_keeping_keep(r44, a1);
-    common_ret_op = (uint32_t)((v10 == 0) ? 0xfffffff5U : 0);
-    goto dfu_device_c_calls_dfu_core_elapse_exit;
-arm_6:;
-    uint8_t r1_3_1_copyload = r19_2[1];
-    r2_0_0 = (uint64_t)(((uint32_t)0x4040302U >> (((uint32_t)r1_3_1_copyload << 3) & 31)) & 7);
-dfu_device_c_numbers_refused_exit:;
-    uint32_t switch_load_2 = load32(PLACE(switch_table_dfu_device_c_numbers_Refusal_number) + 4 * (size_t)r2_0_0);
-    common_ret_op = switch_load_2;
 dfu_device_c_calls_dfu_core_elapse_exit:
     return signed32(common_ret_op);
 }
 
-/* dfu_core_handle */
+/* dfu_core_handle: crates/dfu_device_c/src/calls.rt */
 int32_t dfu_core_handle(const struct dfu_config *config, struct dfu_record *record, uint8_t *block, size_t most, const uint8_t *flash, size_t size, const uint8_t setup[8], const uint8_t *body, size_t length, uint8_t *out, size_t room) {
     unsigned char *a0 = (unsigned char *)(uintptr_t)config;
     unsigned char *a1 = (unsigned char *)(uintptr_t)record;
     unsigned char *a2 = (unsigned char *)(uintptr_t)block;
-    uint64_t a3 = most;
+    size_t a3 = (size_t)most;
     unsigned char *a4 = (unsigned char *)(uintptr_t)flash;
-    uint64_t a5 = size;
+    size_t a5 = (size_t)size;
     unsigned char *a6 = (unsigned char *)(uintptr_t)setup;
     unsigned char *a7 = (unsigned char *)(uintptr_t)body;
-    uint64_t a8 = length;
+    size_t a8 = (size_t)length;
     unsigned char *a9 = (unsigned char *)(uintptr_t)out;
-    uint64_t a10 = room;
+    size_t a10 = (size_t)room;
     _Alignas(8) unsigned char r9[136];
     _Alignas(8) unsigned char r27[48];
     _Alignas(8) unsigned char r11[32];
@@ -5004,157 +4460,142 @@ int32_t dfu_core_handle(const struct dfu_config *config, struct dfu_record *reco
     _Alignas(4) unsigned char r15[6];
     unsigned char *r4, *r13, *r22, *r31, *r68, *r19, *r1_2, *r5, *v7;
     uint16_t r4_2, v11, r9_0;
-    uint64_t r2_0_0_copyload, r1, r21, r0_97_8_copyload8_pre, r2_0_0;
+    uint64_t r2_0_0_copyload, r21;
     uint8_t r15_not_not;
+    size_t r1, r0_97_8_copyload8_pre, r2_0_0;
     uint32_t r12_3_0_copyload, common_ret_op;
     uint8_t r38, r0_5_1_copyload5_pre;
-    r4 = (unsigned char *)((uintptr_t)a2 + (uintptr_t)(uint64_t)((a2 == NULL) ? 4096 : 0));
-    r13 = (unsigned char *)((uintptr_t)a4 + (uintptr_t)(uint64_t)((a4 == NULL) ? 4096 : 0));
-    r22 = (unsigned char *)((uintptr_t)a7 + (uintptr_t)(uint64_t)((a7 == NULL) ? 4096 : 0));
-    r31 = (unsigned char *)((uintptr_t)a9 + (uintptr_t)(uint64_t)((a9 == NULL) ? 4096 : 0));
+    r4 = (unsigned char *)((uintptr_t)a2 + (uintptr_t)(size_t)((a2 == NULL) ? 4096 : 0));
+    r13 = (unsigned char *)((uintptr_t)a4 + (uintptr_t)(size_t)((a4 == NULL) ? 4096 : 0));
+    r22 = (unsigned char *)((uintptr_t)a7 + (uintptr_t)(size_t)((a7 == NULL) ? 4096 : 0));
+    r31 = (unsigned char *)((uintptr_t)a9 + (uintptr_t)(size_t)((a9 == NULL) ? 4096 : 0));
     memset(r9, 0, 136);
     r4_2 = load16(a0 + 12);
-    if (a10 < (uint64_t)umax16(r4_2, 6)) {
-        common_ret_op = 0xfffffffbU;
-        goto dfu_device_c_calls_dfu_core_handle_exit;
-    }
-    dfu_device_c_keeping_found(a0, a1, a3, r9);
-    uint8_t r66 = *r9;
-    if (r66 != 0) goto arm_5;
-    r68 = r9 + 8;
-    uint8_t r78 = a0[15];
-    r2_0_0_copyload = load64u(a6);
-    r15_not_not = r78 == (uint8_t)(r2_0_0_copyload >> 32);
-    r1 = (uint64_t)r4_2;
-    r19 = r4 + (size_t)r1;
-    r21 = a3 - r1;
-    memset(r27, 0, 48);
-    uint8_t r2 = r9[104];
-    if (r2 != 1) goto join_3;
-    r2_0_0 = 2;
-    goto dfu_device_c_numbers_refused_exit;
-join_3:
-    r1_2 = r9 + 14;
-    uint16_t r21_2_0_copyload = load16(r9 + 20);
-    if (a10 >= (uint64_t)umax16(r21_2_0_copyload, 6)) goto join_6;
-    r2_0_0 = 4;
-    goto dfu_device_c_numbers_refused_exit;
-join_6:
-    dfu_asks_asking_Asking_see(r27, r68, r1, r13, a5);
-    uint8_t r1_0_0_copyload = *r27;
-    if (r1_0_0_copyload != 0) goto arm_9;
-    r5 = r27 + 8;
-    v7 = r27 + 32;
-    r12_3_0_copyload = load32(r27 + 40);
-    memset(r12, 0, 24);
-    memset(r17, 0, 16);
-    store32(r28, 0);
-    store64(r9_2, (uint64_t)(r15_not_not ? 0 : 0x100000000ULL) | (r2_0_0_copyload & 0xffffff00ffffffffULL));
-    dfu_wire_setups_Setup_request(r15, r9_2);
-    r38 = *r15;
-    if (r38 == 8) goto arm_12_thread;
-    store16(r10, r38);
-    v11 = load16(r15 + 2);
-    store16(r10 + 2, v11);
-    uint16_t v12 = load16(r15 + 4);
-    store16(r10 + 4, v12);
-    if (a8 != (uint64_t)(((r2_0_0_copyload & 255) == 33) ? (r2_0_0_copyload >> 48) : 0)) goto arm_12_thread;
-    uint32_t r2_2 = load32(r9 + 24);
-    uint32_t r2_3 = load32(r9 + 28);
-    uint32_t r2_4 = load32(r9 + 32);
-    memcpy(r11, r1_2, 10);
-    store16(r11 + 10, 0);
-    store32(r11 + 12, r2_2);
-    store32(r11 + 16, r2_3);
-    store32(r11 + 20, r2_4);
-    store64(r11 + 24, (uint64_t)r12_3_0_copyload);
-    uint8_t v14 = r9[44];
-    *r28 = v14;
-    uint8_t v15 = r9[45];
-    r28[1] = v15;
-    uint32_t v16 = load32(r9 + 48);
-    store32(r28 + 4, v16);
-    uint32_t v17 = load32(r9 + 52);
-    store32(r28 + 8, v17);
-    uint32_t v18 = load32(r9 + 56);
-    store32(r28 + 12, v18);
-    dfu_device_table_decide(r12, r11, r28, r10);
-    switch (r38) {
-    case 3: goto after_2;
-    case 5: goto after_2;
-    case 0:
-        r9_0 = 0;
-        goto arm_8;
-    case 1:
-        r9_0 = 0;
-        goto arm_8;
-    case 2:
-        r9_0 = 0;
-        goto arm_8;
-    case 4:
-        r9_0 = 0;
-        goto arm_8;
-    case 6:
-        r9_0 = 0;
-        goto arm_8;
-    case 7:
-        r9_0 = 0;
-        goto arm_8;
-    default: never();
-    }
-after_2:
-    r9_0 = v11;
-    goto arm_8;
-arm_5:;
-    uint8_t r27_0_0_copyload = r9[1];
-    uint32_t switch_load = load32(PLACE(switch_table_dfu_device_c_numbers_Refusal_number) + 4 * (size_t)r27_0_0_copyload);
-    common_ret_op = switch_load;
-    goto dfu_device_c_calls_dfu_core_handle_exit;
-arm_12_thread:
-    dfu_device_c_keeping_keep(r68, a1);
-    goto arm_3;
-arm_8:
-    dfu_asks_asking_Asking_carry_out(r17, r68, r12, 1, r9_0, r22, a8, r4, r1, r19, r21, r5, v7, r31, a10);
-    uint8_t r0_0_0_copyload3_pre = *r17;
-    r0_5_1_copyload5_pre = r17[1];
-    r0_97_8_copyload8_pre = load64(r17 + 8);
-    dfu_device_c_keeping_keep(r68, a1);
-    if (r0_0_0_copyload3_pre == 0) {
-        common_ret_op = 0xfffffff5U;
-        goto dfu_device_c_calls_dfu_core_handle_exit;
-    }
-    switch (r0_5_1_copyload5_pre) {
-    case 0:
-        common_ret_op = 0;
-        goto dfu_device_c_calls_dfu_core_handle_exit;
-    case 1: goto arm_2;
-    case 2: goto arm_3;
-    default: never();
-    }
-arm_2:
-    common_ret_op = (uint32_t)r0_97_8_copyload8_pre;
-    goto dfu_device_c_calls_dfu_core_handle_exit;
+    if (a10 < (size_t)umax16(r4_2, 6)) common_ret_op = 0xfffffffbU;
+    else {
+        dfu_device_c_keeping_found(a0, a1, a3, r9);
+        uint8_t r66 = *r9;
+        if (r66 != 0) {
+            uint8_t r27_0_0_copyload = r9[1];
+            uint32_t switch_load_2 = load32(PLACE(switch_table_dfu_device_c_numbers_Refusal_number) + 4 * (size_t)r27_0_0_copyload);
+            common_ret_op = switch_load_2;
+        }
+        else {
+            r68 = r9 + 8;
+            uint8_t r78 = a0[15];
+            r2_0_0_copyload = load64u(a6);
+            r15_not_not = r78 == (uint8_t)(size_t)(r2_0_0_copyload >> 32);
+            r1 = (size_t)r4_2;
+            r19 = r4 + r1;
+            r21 = (uint64_t)a3 - (uint64_t)r1;
+            memset(r27, 0, 48);
+            uint8_t r2 = r9[104];
+            if (r2 == 1) r2_0_0 = 2;
+            else {
+                r1_2 = r9 + 14;
+                uint16_t r21_2_0_copyload = load16(r9 + 20);
+                if (a10 < (size_t)umax16(r21_2_0_copyload, 6)) r2_0_0 = 4;
+                else {
+                    dfu_asks_asking_Asking_see(r27, r68, r1, r13, a5);
+                    uint8_t r1_0_0_copyload = *r27;
+                    if (r1_0_0_copyload == 0) {
+                        r5 = r27 + 8;
+                        v7 = r27 + 32;
+                        r12_3_0_copyload = load32(r27 + 40);
+                        memset(r12, 0, 24);
+                        memset(r17, 0, 16);
+                        store32(r28, 0);
+                        store64(r9_2, (uint64_t)(r15_not_not ? 0 : 0x100000000ULL) | (r2_0_0_copyload & 0xffffff00ffffffffULL));
+                        dfu_wire_setups_Setup_request(r15, r9_2);
+                        r38 = *r15;
+                        if (r38 != 8) {
+                            store16(r10, r38);
+                            v11 = load16(r15 + 2);
+                            store16(r10 + 2, v11);
+                            uint16_t v12 = load16(r15 + 4);
+                            store16(r10 + 4, v12);
+                            if (a8 == (size_t)((((size_t)r2_0_0_copyload & 255) == 33) ? (size_t)(r2_0_0_copyload >> 48) : 0)) {
+                                uint32_t r2_2 = load32(r9 + 24);
+                                uint32_t r2_3 = load32(r9 + 28);
+                                uint32_t r2_4 = load32(r9 + 32);
+                                memcpy(r11, r1_2, 10);
+                                store16(r11 + 10, 0);
+                                store32(r11 + 12, r2_2);
+                                store32(r11 + 16, r2_3);
+                                store32(r11 + 20, r2_4);
+                                store64(r11 + 24, (size_t)r12_3_0_copyload);
+                                uint8_t v14 = r9[44];
+                                *r28 = v14;
+                                uint8_t v15 = r9[45];
+                                r28[1] = v15;
+                                uint32_t v16 = load32(r9 + 48);
+                                store32(r28 + 4, v16);
+                                uint32_t v17 = load32(r9 + 52);
+                                store32(r28 + 8, v17);
+                                uint32_t v18 = load32(r9 + 56);
+                                store32(r28 + 12, v18);
+                                dfu_device_table_decide(r12, r11, r28, r10);
+                                switch (r38) {
+                                case 3:
+                                case 5:
+                                    r9_0 = v11;
+                                    break;
+                                case 0:
+                                case 1:
+                                case 2:
+                                case 4:
+                                case 6:
+                                case 7:
+                                    r9_0 = 0;
+                                    break;
+                                default: never();
+                                }
+                                dfu_asks_asking_Asking_carry_out(r17, r68, r12, 1, r9_0, r22, a8, r4, r1, r19, r21, r5, v7, r31, a10);
+                                uint8_t r0_0_0_copyload3_pre = *r17;
+                                r0_5_1_copyload5_pre = r17[1];
+                                r0_97_8_copyload8_pre = (size_t)load64(r17 + 8);
+                                dfu_device_c_keeping_keep(r68, a1);
+                                if (r0_0_0_copyload3_pre == 0) {
+                                    common_ret_op = 0xfffffff5U;
+                                    goto dfu_device_c_calls_dfu_core_handle_exit;
+                                }
+                                switch (r0_5_1_copyload5_pre) {
+                                case 0:
+                                    common_ret_op = 0;
+                                    goto dfu_device_c_calls_dfu_core_handle_exit;
+                                case 1:
+                                    common_ret_op = (uint32_t)r0_97_8_copyload8_pre;
+                                    goto dfu_device_c_calls_dfu_core_handle_exit;
+                                case 2: goto arm_3;
+                                default: never();
+                                }
+                            }
+                        }
+                        dfu_device_c_keeping_keep(r68, a1);
 arm_3:
-    common_ret_op = 0xffffffffU;
-    goto dfu_device_c_calls_dfu_core_handle_exit;
-arm_9:;
-    uint8_t r1_3_1_copyload = r27[1];
-    r2_0_0 = (uint64_t)(((uint32_t)0x4040302U >> (((uint32_t)r1_3_1_copyload << 3) & 31)) & 7);
-dfu_device_c_numbers_refused_exit:;
-    uint32_t switch_load_2 = load32(PLACE(switch_table_dfu_device_c_numbers_Refusal_number) + 4 * (size_t)r2_0_0);
-    common_ret_op = switch_load_2;
+                        common_ret_op = 0xffffffffU;
+                        goto dfu_device_c_calls_dfu_core_handle_exit;
+                    }
+                    uint8_t r1_3_1_copyload = r27[1];
+                    r2_0_0 = (size_t)(((uint32_t)0x4040302U >> (((uint32_t)r1_3_1_copyload << 3) & 31)) & 7);
+                }
+            }
+            uint32_t switch_load = load32(PLACE(switch_table_dfu_device_c_numbers_Refusal_number) + 4 * r2_0_0);
+            common_ret_op = switch_load;
+        }
+    }
 dfu_device_c_calls_dfu_core_handle_exit:
     return signed32(common_ret_op);
 }
 
-/* dfu_core_next */
+/* dfu_core_next: crates/dfu_device_c/src/calls.rt */
 int32_t dfu_core_next(const struct dfu_config *config, const struct dfu_record *record, const uint8_t *block, size_t most, const uint8_t *flash, size_t size, struct dfu_ask *ask) {
     unsigned char *a0 = (unsigned char *)(uintptr_t)config;
     unsigned char *a1 = (unsigned char *)(uintptr_t)record;
     unsigned char *a2 = (unsigned char *)(uintptr_t)block;
-    uint64_t a3 = most;
+    size_t a3 = (size_t)most;
     unsigned char *a4 = (unsigned char *)(uintptr_t)flash;
-    uint64_t a5 = size;
+    size_t a5 = (size_t)size;
     unsigned char *a6 = (unsigned char *)(uintptr_t)ask;
     _Alignas(8) unsigned char r5[136];
     _Alignas(8) unsigned char r10[112];
@@ -5165,288 +4606,281 @@ int32_t dfu_core_next(const struct dfu_config *config, const struct dfu_record *
     uint16_t r54;
     uint8_t r5_0_0_copyload;
     uint32_t r6_0_0_copyload, common_ret_op;
-    uint64_t r11_4_0_copyload, r11_5_0_copyload, a1_2;
-    r4 = (unsigned char *)((uintptr_t)a2 + (uintptr_t)(uint64_t)((a2 == NULL) ? 4096 : 0));
-    r13 = (unsigned char *)((uintptr_t)a4 + (uintptr_t)(uint64_t)((a4 == NULL) ? 4096 : 0));
+    uint64_t r11_4_0_copyload, r11_5_0_copyload;
+    size_t a1_2;
+    r4 = (unsigned char *)((uintptr_t)a2 + (uintptr_t)(size_t)((a2 == NULL) ? 4096 : 0));
+    r13 = (unsigned char *)((uintptr_t)a4 + (uintptr_t)(size_t)((a4 == NULL) ? 4096 : 0));
     memset(r5, 0, 136);
     dfu_device_c_keeping_found(a0, a1, a3, r5);
     uint8_t r32 = *r5;
-    if (r32 != 0) goto arm_2;
-    if (a5 > 0xffffffffU) {
-        common_ret_op = 0xfffffffcU;
-        goto dfu_device_c_calls_dfu_core_next_exit;
+    if (r32 != 0) {
+        uint8_t r17_0_0_copyload = r5[1];
+        uint32_t switch_load = load32(PLACE(switch_table_dfu_device_c_numbers_Refusal_number) + 4 * (size_t)r17_0_0_copyload);
+        common_ret_op = switch_load;
     }
-    goto join_7;
-arm_2:;
-    uint8_t r17_0_0_copyload = r5[1];
-    uint32_t switch_load = load32(PLACE(switch_table_dfu_device_c_numbers_Refusal_number) + 4 * (size_t)r17_0_0_copyload);
-    common_ret_op = switch_load;
-    goto dfu_device_c_calls_dfu_core_next_exit;
-join_7:
-    r54 = load16(a0 + 12);
-    r62 = a6 + 12;
-    v2 = r18 + 8;
-    store32(v2, 0);
-    uint8_t r29 = r5[104];
-    if (r29 != 1) goto dfu_asks_asking_Asking_next_exit_thread;
-    uint64_t r1 = (uint64_t)r54;
-    uint32_t r13_3_9_0_copyload = load32(r5 + 128);
-    uint32_t r13_3_7_0_copyload = load32(r5 + 120);
-    uint8_t r13_3_5_0_copyload = r5[116];
-    uint32_t r13_3_4_0_copyload = load32(r5 + 112);
-    uint8_t r13_3_0_0_copyload = r5[108];
-    r5_0_0_copyload = r5[36];
-    r6_0_0_copyload = load32(r5 + 40);
-    uint32_t r17 = load32(r5 + 80);
-    uint64_t r8 = load64(r5 + 72);
-    uint64_t r26 = load64(r5 + 64);
-    *r10 = r5_0_0_copyload;
-    memset(r10 + 1, 0, 3);
-    store32(r10 + 4, r6_0_0_copyload);
-    store32(r10 + 8, r17);
-    store32(r10 + 12, 0);
-    store64(r10 + 16, (uint64_t)(uintptr_t)(r4 + (size_t)r1));
-    store64(r10 + 24, umin64(a3 - r1, r8));
-    store64(r10 + 32, (uint64_t)(uintptr_t)r4);
-    store64(r10 + 40, umin64(r1, r26));
-    store64(r10 + 48, (uint64_t)r13_3_9_0_copyload);
-    memset(r10 + 56, 0, 40);
-    r10[96] = 4;
-    memset(r10 + 97, 0, 15);
-    store32(r18, (uint32_t)r13_3_0_0_copyload);
-    store32(r18 + 4, r13_3_4_0_copyload);
-    *v2 = r13_3_5_0_copyload;
-    store32(r18 + 12, r13_3_7_0_copyload);
-    uint8_t r57 = dfu_asks_next_piece_next_piece(r18, r10);
-    if (!r57) goto dfu_asks_asking_Asking_next_exit_thread;
-    r69 = r10 + 72;
-    r11_4_0_copyload = load64(r10 + 80);
-    r11_5_0_copyload = load64(r10 + 88);
-    uint8_t r72 = dfu_asks_next_and_took_is_sound(r6_0_0_copyload, r69);
-    if (!r72) goto dfu_asks_asking_Asking_next_exit_thread;
-    memset(r16, 0, 12);
-    uint64_t r2412 = a5 >> 1;
-    a1_2 = (uint64_t)((r11_4_0_copyload < r2412) ? 0 : r2412);
-    if ((a1_2 + r2412) < (r11_5_0_copyload + r11_4_0_copyload)) goto dfu_asks_next_and_took_is_spare_exit_thread;
-    uint8_t r45 = r13[(size_t)a1_2];
-    if (r45 == 165) goto arm_7;
-    goto arm_8;
-arm_7:
-    store64(r7, (uint64_t)(uintptr_t)r13);
-    store64(r7 + 8, a5);
-    r7[16] = r5_0_0_copyload;
-    memset(r7 + 17, 0, 3);
-    store32(r7 + 20, r6_0_0_copyload);
-    dfu_slots_places_check(r16, r7);
-    uint8_t r65 = *r16;
-    if (r65 == 0) goto dfu_asks_next_and_took_is_spare_exit;
+    else {
+        if (wide(a5) > 0xffffffffU) common_ret_op = 0xfffffffcU;
+        else {
+            r54 = load16(a0 + 12);
+            r62 = a6 + 12;
+            v2 = r18 + 8;
+            store32(v2, 0);
+            uint8_t r29 = r5[104];
+            if (r29 == 1) {
+                size_t r1 = (size_t)r54;
+                uint32_t r13_3_9_0_copyload = load32(r5 + 128);
+                uint32_t r13_3_7_0_copyload = load32(r5 + 120);
+                uint8_t r13_3_5_0_copyload = r5[116];
+                uint32_t r13_3_4_0_copyload = load32(r5 + 112);
+                uint8_t r13_3_0_0_copyload = r5[108];
+                r5_0_0_copyload = r5[36];
+                r6_0_0_copyload = load32(r5 + 40);
+                uint32_t r17 = load32(r5 + 80);
+                uint64_t r8 = load64(r5 + 72);
+                uint64_t r26 = load64(r5 + 64);
+                *r10 = r5_0_0_copyload;
+                memset(r10 + 1, 0, 3);
+                store32(r10 + 4, r6_0_0_copyload);
+                store32(r10 + 8, r17);
+                store32(r10 + 12, 0);
+                store64(r10 + 16, (size_t)(uintptr_t)(r4 + r1));
+                store64(r10 + 24, umin64((uint64_t)a3 - (uint64_t)r1, r8));
+                store64(r10 + 32, (size_t)(uintptr_t)r4);
+                store64(r10 + 40, (size_t)umin64(r1, r26));
+                store64(r10 + 48, (size_t)r13_3_9_0_copyload);
+                memset(r10 + 56, 0, 40);
+                r10[96] = 4;
+                memset(r10 + 97, 0, 15);
+                store32(r18, (uint32_t)r13_3_0_0_copyload);
+                store32(r18 + 4, r13_3_4_0_copyload);
+                *v2 = r13_3_5_0_copyload;
+                store32(r18 + 12, r13_3_7_0_copyload);
+                uint8_t r57 = dfu_asks_next_piece_next_piece(r18, r10);
+                if (r57) {
+                    r69 = r10 + 72;
+                    r11_4_0_copyload = load64(r10 + 80);
+                    r11_5_0_copyload = load64(r10 + 88);
+                    uint8_t r72 = dfu_asks_next_and_took_is_sound(r6_0_0_copyload, r69);
+                    if (r72) {
+                        memset(r16, 0, 12);
+                        size_t r2412 = a5 >> 1;
+                        a1_2 = (size_t)((r11_4_0_copyload < (uint64_t)r2412) ? 0 : r2412);
+                        if ((uint64_t)(a1_2 + r2412) >= (r11_5_0_copyload + r11_4_0_copyload)) {
+                            uint8_t r45 = r13[a1_2];
+                            if (r45 == 165) {
+                                store64(r7, (size_t)(uintptr_t)r13);
+                                store64(r7 + 8, a5);
+                                r7[16] = r5_0_0_copyload;
+                                memset(r7 + 17, 0, 3);
+                                store32(r7 + 20, r6_0_0_copyload);
+                                dfu_slots_places_check(r16, r7);
+                                uint8_t r65 = *r16;
+                                if (r65 != 0) goto dfu_asks_next_and_took_is_spare_exit_thread;
+                                uint32_t r8_2_0_copyload = load32(r16 + 8);
+                                if (a1_2 != (size_t)r8_2_0_copyload) goto dfu_asks_asking_Asking_next_exit_thread35;
+                            }
+                            dfu_asks_cut_fill(r10, r62);
+                            uint8_t r25_4_0_0_copyload = *r69;
+                            store32(a6, (uint32_t)((r25_4_0_0_copyload & 1) ? 1 : 2));
+                            store32(a6 + 4, (uint32_t)r11_4_0_copyload);
+                            store32(a6 + 8, (uint32_t)r11_5_0_copyload);
+                            common_ret_op = 0;
+                            goto dfu_device_c_calls_dfu_core_next_exit;
+                        }
 dfu_asks_next_and_took_is_spare_exit_thread:
-    goto dfu_asks_asking_Asking_next_exit_thread35;
-dfu_asks_next_and_took_is_spare_exit:;
-    uint32_t r8_2_0_copyload = load32(r16 + 8);
-    if (a1_2 == (uint64_t)r8_2_0_copyload) goto arm_8;
-    goto dfu_asks_asking_Asking_next_exit_thread35;
-dfu_asks_asking_Asking_next_exit_thread:
-    common_ret_op = 0xfffffffcU;
-    goto dfu_device_c_calls_dfu_core_next_exit;
 dfu_asks_asking_Asking_next_exit_thread35:
-    common_ret_op = 0xfffffffcU;
-    goto dfu_device_c_calls_dfu_core_next_exit;
-arm_8:
-    dfu_asks_cut_fill(r10, r62);
-    uint8_t r25_4_0_0_copyload = *r69;
-    store32(a6, (uint32_t)((r25_4_0_0_copyload & 1) ? 1 : 2));
-    store32(a6 + 4, (uint32_t)r11_4_0_copyload);
-    store32(a6 + 8, (uint32_t)r11_5_0_copyload);
-    common_ret_op = 0;
+                        common_ret_op = 0xfffffffcU;
+                        goto dfu_device_c_calls_dfu_core_next_exit;
+                    }
+                }
+            }
+            common_ret_op = 0xfffffffcU;
+        }
+    }
 dfu_device_c_calls_dfu_core_next_exit:
     return signed32(common_ret_op);
 }
 
-/* dfu_core_took */
+/* dfu_core_took: crates/dfu_device_c/src/calls.rt */
 int32_t dfu_core_took(const struct dfu_config *config, struct dfu_record *record, uint8_t *block, size_t most, const uint8_t *flash, size_t size, uint32_t failed, uint8_t *out, size_t room) {
     unsigned char *a0 = (unsigned char *)(uintptr_t)config;
     unsigned char *a1 = (unsigned char *)(uintptr_t)record;
     unsigned char *a2 = (unsigned char *)(uintptr_t)block;
-    uint64_t a3 = most;
+    size_t a3 = (size_t)most;
     unsigned char *a4 = (unsigned char *)(uintptr_t)flash;
-    uint64_t a5 = size;
+    size_t a5 = (size_t)size;
     uint32_t a6 = failed;
     unsigned char *a7 = (unsigned char *)(uintptr_t)out;
-    uint64_t a8 = room;
+    size_t a8 = (size_t)room;
     _Alignas(8) unsigned char r7[136];
     _Alignas(4) unsigned char r4_2[16];
     _Alignas(8) unsigned char r40[16];
     unsigned char *r4, *r13, *r22, *r58, *r19, *r62, *r65, *r9_9_0_r65_sroa_idx, *r9_13_0_r65_sroa_idx;
-    uint64_t r1, r21, r92, r27_2015_0_ph27;
+    size_t r1, r27_2015_0_ph27;
+    uint64_t r21, r92;
     uint8_t r92_not;
     uint8_t r9_0_0_copyload, r9_9_0_copyload, r27_15_0_ph26;
     uint16_t r9_113_0_copyload;
     uint32_t r9_13_0_copyload, common_ret_op;
     struct i64_i8 r91;
-    r4 = (unsigned char *)((uintptr_t)a2 + (uintptr_t)(uint64_t)((a2 == NULL) ? 4096 : 0));
-    r13 = (unsigned char *)((uintptr_t)a4 + (uintptr_t)(uint64_t)((a4 == NULL) ? 4096 : 0));
-    r22 = (unsigned char *)((uintptr_t)a7 + (uintptr_t)(uint64_t)((a7 == NULL) ? 4096 : 0));
+    r4 = (unsigned char *)((uintptr_t)a2 + (uintptr_t)(size_t)((a2 == NULL) ? 4096 : 0));
+    r13 = (unsigned char *)((uintptr_t)a4 + (uintptr_t)(size_t)((a4 == NULL) ? 4096 : 0));
+    r22 = (unsigned char *)((uintptr_t)a7 + (uintptr_t)(size_t)((a7 == NULL) ? 4096 : 0));
     memset(r7, 0, 136);
-    if (a8 < 6) {
-        common_ret_op = 0xfffffffbU;
-        goto dfu_device_c_calls_dfu_core_took_exit;
+    if (a8 < 6) common_ret_op = 0xfffffffbU;
+    else {
+        dfu_device_c_keeping_found(a0, a1, a3, r7);
+        uint8_t r56 = *r7;
+        if (r56 != 0) {
+            uint8_t r22_0_0_copyload = r7[1];
+            uint32_t switch_load_2 = load32(PLACE(switch_table_dfu_device_c_numbers_Refusal_number) + 4 * (size_t)r22_0_0_copyload);
+            common_ret_op = switch_load_2;
+        }
+        else {
+            r58 = r7 + 8;
+            uint16_t r73 = load16(a0 + 12);
+            r1 = (size_t)r73;
+            r19 = r4 + r1;
+            r21 = (uint64_t)a3 - (uint64_t)r1;
+            r92_not = a6 == 0;
+            memset(r40, 0, 16);
+            r62 = r7 + 104;
+            uint8_t r63 = *r62;
+            if (r63 == 1) {
+                r65 = r7 + 108;
+                r9_0_0_copyload = *r65;
+                r9_9_0_r65_sroa_idx = r7 + 124;
+                r9_9_0_copyload = *r9_9_0_r65_sroa_idx;
+                r9_113_0_copyload = load16(r7 + 126);
+                r9_13_0_r65_sroa_idx = r7 + 128;
+                r9_13_0_copyload = load32(r9_13_0_r65_sroa_idx);
+                r91 = dfu_asks_asking_Asking_look_at(r58, r65, r4, r1, r19, r21, r13, a5);
+                r92 = r91.a;
+                if (r92 != 0) {
+                    if (r92_not & (r91.b & 1)) {
+                        store32(r62, 1);
+                        store32(r65, (uint32_t)r9_0_0_copyload);
+                        memset(r7 + 117, 0, 3);
+                        store16(r9_9_0_r65_sroa_idx, r9_9_0_copyload);
+                        store32(r9_13_0_r65_sroa_idx, r9_13_0_copyload + (uint32_t)r92);
+                        dfu_asks_asking_Asking_advance(r40, r58, r4, r1, r19, r21, r13, a5, r22);
+                        uint8_t r0_1928_8_copyload32 = *r40;
+                        uint8_t r0_26_9_copyload37 = r40[1];
+                        size_t r0_3339_16_copyload43 = (size_t)load64(r40 + 8);
+                        if (r0_1928_8_copyload32 == 0) {
+                            dfu_device_c_keeping_keep(r58, a1);
+                            common_ret_op = 0xfffffff5U;
+                            goto dfu_device_c_calls_dfu_core_took_exit;
+                        }
+                        r27_2015_0_ph27 = r0_3339_16_copyload43;
+                        r27_15_0_ph26 = r0_26_9_copyload37;
+                    }
+                    else {
+                        store32(r4_2, 0);
+                        unsigned char *r10 = r7 + 44;
+                        uint8_t v2 = *r10;
+                        *r4_2 = v2;
+                        unsigned char *r12 = r7 + 45;
+                        uint8_t v3 = *r12;
+                        r4_2[1] = v3;
+                        unsigned char *r14 = r7 + 48;
+                        uint32_t v4 = load32(r14);
+                        store32(r4_2 + 4, v4);
+                        unsigned char *r16 = r7 + 52;
+                        uint32_t v5 = load32(r16);
+                        store32(r4_2 + 8, v5);
+                        unsigned char *r18 = r7 + 56;
+                        uint32_t v6 = load32(r18);
+                        store32(r4_2 + 12, v6);
+                        uint8_t r5_0_0_copyload = r7[36];
+                        uint32_t r6_0_0_copyload = load32(r7 + 40);
+                        dfu_asks_finish_note(r7 + 84, r4_2, r13, a5, r5_0_0_copyload, r6_0_0_copyload);
+                        store64(r7 + 72, 0);
+                        store32(r7 + 80, 0);
+                        uint8_t v7 = *r10;
+                        uint8_t switch_load = *(PLACE(switch_table_dfu_core_took) + (size_t)v7);
+                        *r10 = 12;
+                        *r12 = (uint8_t)(r92_not ? 7 : switch_load);
+                        store32(r14, 0);
+                        store32(r16, 0);
+                        store32(r18, 0);
+                        memset(r62, 0, 28);
+                        struct i8_i64 r30 = dfu_asks_asking_Asking_answer(r58, r9_9_0_copyload, r9_113_0_copyload, r22);
+                        r27_2015_0_ph27 = (size_t)r30.b;
+                        r27_15_0_ph26 = r30.a;
+                    }
+                    dfu_device_c_keeping_keep(r58, a1);
+                    switch (r27_15_0_ph26) {
+                    case 0:
+                        common_ret_op = 0;
+                        goto dfu_device_c_calls_dfu_core_took_exit;
+                    case 1:
+                        common_ret_op = (uint32_t)r27_2015_0_ph27;
+                        goto dfu_device_c_calls_dfu_core_took_exit;
+                    case 2:
+                        common_ret_op = 0xffffffffU;
+                        goto dfu_device_c_calls_dfu_core_took_exit;
+                    default: never();
+                    }
+                }
+            }
+            common_ret_op = 0xfffffffcU;
+        }
     }
-    dfu_device_c_keeping_found(a0, a1, a3, r7);
-    uint8_t r56 = *r7;
-    if (r56 != 0) goto arm_5;
-    r58 = r7 + 8;
-    uint16_t r73 = load16(a0 + 12);
-    r1 = (uint64_t)r73;
-    r19 = r4 + (size_t)r1;
-    r21 = a3 - r1;
-    r92_not = a6 == 0;
-    memset(r40, 0, 16);
-    r62 = r7 + 104;
-    uint8_t r63 = *r62;
-    if (r63 != 1) goto arm_9;
-    r65 = r7 + 108;
-    r9_0_0_copyload = *r65;
-    r9_9_0_r65_sroa_idx = r7 + 124;
-    r9_9_0_copyload = *r9_9_0_r65_sroa_idx;
-    r9_113_0_copyload = load16(r7 + 126);
-    r9_13_0_r65_sroa_idx = r7 + 128;
-    r9_13_0_copyload = load32(r9_13_0_r65_sroa_idx);
-    r91 = dfu_asks_asking_Asking_look_at(r58, r65, r4, r1, r19, r21, r13, a5);
-    r92 = r91.a;
-    if (r92 == 0) goto arm_9;
-    if (r92_not & (r91.b & 1)) goto arm_8;
-    store32(r4_2, 0);
-    unsigned char *r10 = r7 + 44;
-    uint8_t v2 = *r10;
-    *r4_2 = v2;
-    unsigned char *r12 = r7 + 45;
-    uint8_t v3 = *r12;
-    r4_2[1] = v3;
-    unsigned char *r14 = r7 + 48;
-    uint32_t v4 = load32(r14);
-    store32(r4_2 + 4, v4);
-    unsigned char *r16 = r7 + 52;
-    uint32_t v5 = load32(r16);
-    store32(r4_2 + 8, v5);
-    unsigned char *r18 = r7 + 56;
-    uint32_t v6 = load32(r18);
-    store32(r4_2 + 12, v6);
-    uint8_t r5_0_0_copyload = r7[36];
-    uint32_t r6_0_0_copyload = load32(r7 + 40);
-    dfu_asks_finish_note(r7 + 84, r4_2, r13, a5, r5_0_0_copyload, r6_0_0_copyload);
-    store64(r7 + 72, 0);
-    store32(r7 + 80, 0);
-    uint8_t v7 = *r10;
-    uint8_t switch_load = *(PLACE(switch_table_dfu_core_took) + (size_t)v7);
-    *r10 = 12;
-    *r12 = (uint8_t)(r92_not ? 7 : switch_load);
-    store32(r14, 0);
-    store32(r16, 0);
-    store32(r18, 0);
-    memset(r62, 0, 28);
-    struct i8_i64 r30 = dfu_asks_asking_Asking_answer(r58, r9_9_0_copyload, r9_113_0_copyload, r22);
-    r27_2015_0_ph27 = r30.b;
-    r27_15_0_ph26 = r30.a;
-    goto arm_12;
-arm_5:;
-    uint8_t r22_0_0_copyload = r7[1];
-    uint32_t switch_load_2 = load32(PLACE(switch_table_dfu_device_c_numbers_Refusal_number) + 4 * (size_t)r22_0_0_copyload);
-    common_ret_op = switch_load_2;
-    goto dfu_device_c_calls_dfu_core_took_exit;
-arm_8:
-    store32(r62, 1);
-    store32(r65, (uint32_t)r9_0_0_copyload);
-    memset(r7 + 117, 0, 3);
-    store16(r9_9_0_r65_sroa_idx, r9_9_0_copyload);
-    store32(r9_13_0_r65_sroa_idx, r9_13_0_copyload + (uint32_t)r92);
-    dfu_asks_asking_Asking_advance(r40, r58, r4, r1, r19, r21, r13, a5, r22);
-    uint8_t r0_1928_8_copyload32 = *r40;
-    uint8_t r0_26_9_copyload37 = r40[1];
-    uint64_t r0_3339_16_copyload43 = load64(r40 + 8);
-    if (r0_1928_8_copyload32 != 0) {
-        r27_2015_0_ph27 = r0_3339_16_copyload43;
-        r27_15_0_ph26 = r0_26_9_copyload37;
-        goto arm_12;
-    }
-    dfu_device_c_keeping_keep(r58, a1);
-    common_ret_op = 0xfffffff5U;
-    goto dfu_device_c_calls_dfu_core_took_exit;
-arm_12:
-    dfu_device_c_keeping_keep(r58, a1);
-    switch (r27_15_0_ph26) {
-    case 0:
-        common_ret_op = 0;
-        goto dfu_device_c_calls_dfu_core_took_exit;
-    case 1: goto arm_2;
-    case 2: goto arm_3;
-    default: never();
-    }
-arm_2:
-    common_ret_op = (uint32_t)r27_2015_0_ph27;
-    goto dfu_device_c_calls_dfu_core_took_exit;
-arm_3:
-    common_ret_op = 0xffffffffU;
-    goto dfu_device_c_calls_dfu_core_took_exit;
-arm_9:
-    common_ret_op = 0xfffffffcU;
 dfu_device_c_calls_dfu_core_took_exit:
     return signed32(common_ret_op);
 }
 
-/* dfu_core_usb_reset */
+/* dfu_core_usb_reset: crates/dfu_device_c/src/calls.rt */
 int32_t dfu_core_usb_reset(const struct dfu_config *config, struct dfu_record *record, uint8_t *block, size_t most, const uint8_t *flash, size_t size) {
     unsigned char *a0 = (unsigned char *)(uintptr_t)config;
     unsigned char *a1 = (unsigned char *)(uintptr_t)record;
     (void)block;
-    uint64_t a3 = most;
+    size_t a3 = (size_t)most;
     unsigned char *a4 = (unsigned char *)(uintptr_t)flash;
-    uint64_t a5 = size;
+    size_t a5 = (size_t)size;
     _Alignas(8) unsigned char r5[136];
     _Alignas(8) unsigned char r14[48];
     unsigned char *r13, *r38;
     uint16_t r53;
-    uint64_t r2_0_0;
+    size_t r2_0_0;
     uint32_t common_ret_op;
-    r13 = (unsigned char *)((uintptr_t)a4 + (uintptr_t)(uint64_t)((a4 == NULL) ? 4096 : 0));
+    r13 = (unsigned char *)((uintptr_t)a4 + (uintptr_t)(size_t)((a4 == NULL) ? 4096 : 0));
     memset(r5, 0, 136);
     dfu_device_c_keeping_found(a0, a1, a3, r5);
     uint8_t r36 = *r5;
-    if (r36 != 0) goto arm_2;
-    r38 = r5 + 8;
-    r53 = load16(a0 + 12);
-    memset(r14, 0, 48);
-    uint8_t r2 = r5[104];
-    if (r2 != 1) goto join_3;
-    r2_0_0 = 2;
-    goto dfu_device_c_numbers_refused_exit;
-join_3:
-    dfu_asks_asking_Asking_see(r14, r38, (uint64_t)r53, r13, a5);
-    uint8_t r1_0_0_copyload = *r14;
-    if (r1_0_0_copyload == 0) goto arm_5;
-    goto arm_6;
-arm_2:;
-    uint8_t r18_0_0_copyload = r5[1];
-    uint32_t switch_load = load32(PLACE(switch_table_dfu_device_c_numbers_Refusal_number) + 4 * (size_t)r18_0_0_copyload);
-    common_ret_op = switch_load;
-    goto dfu_device_c_calls_dfu_core_usb_reset_exit;
-arm_5:;
-    unsigned char *r42 = r5 + 44;
-    uint8_t v4 = *r42;
-    *r42 = (uint8_t)((v4 == 1) ? 2 : 0);
-    r5[45] = 0;
-    store32(r5 + 48, 0);
-    store32(r5 + 52, 0);
-    store32(r5 + 56, 0);
-    dfu_device_c_keeping_keep(r38, a1);
-    common_ret_op = 0;
-    goto dfu_device_c_calls_dfu_core_usb_reset_exit;
-arm_6:;
-    uint8_t r1_3_1_copyload = r14[1];
-    r2_0_0 = (uint64_t)(((uint32_t)0x4040302U >> (((uint32_t)r1_3_1_copyload << 3) & 31)) & 7);
-dfu_device_c_numbers_refused_exit:;
-    uint32_t switch_load_2 = load32(PLACE(switch_table_dfu_device_c_numbers_Refusal_number) + 4 * (size_t)r2_0_0);
-    common_ret_op = switch_load_2;
+    if (r36 != 0) {
+        uint8_t r18_0_0_copyload = r5[1];
+        uint32_t switch_load_2 = load32(PLACE(switch_table_dfu_device_c_numbers_Refusal_number) + 4 * (size_t)r18_0_0_copyload);
+        common_ret_op = switch_load_2;
+    }
+    else {
+        r38 = r5 + 8;
+        r53 = load16(a0 + 12);
+        memset(r14, 0, 48);
+        uint8_t r2 = r5[104];
+        if (r2 == 1) r2_0_0 = 2;
+        else {
+            dfu_asks_asking_Asking_see(r14, r38, (size_t)r53, r13, a5);
+            uint8_t r1_0_0_copyload = *r14;
+            if (r1_0_0_copyload == 0) {
+                unsigned char *r42 = r5 + 44;
+                uint8_t v4 = *r42;
+                *r42 = (uint8_t)((v4 == 1) ? 2 : 0);
+                r5[45] = 0;
+                store32(r5 + 48, 0);
+                store32(r5 + 52, 0);
+                store32(r5 + 56, 0);
+                dfu_device_c_keeping_keep(r38, a1);
+                common_ret_op = 0;
+                goto dfu_device_c_calls_dfu_core_usb_reset_exit;
+            }
+            uint8_t r1_3_1_copyload = r14[1];
+            r2_0_0 = (size_t)(((uint32_t)0x4040302U >> (((uint32_t)r1_3_1_copyload << 3) & 31)) & 7);
+        }
+        uint32_t switch_load = load32(PLACE(switch_table_dfu_device_c_numbers_Refusal_number) + 4 * r2_0_0);
+        common_ret_op = switch_load;
+    }
 dfu_device_c_calls_dfu_core_usb_reset_exit:
     return signed32(common_ret_op);
 }

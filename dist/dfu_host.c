@@ -4,8 +4,8 @@
  * what a file is (dfu_image.h), and when a device is given up (dfu_watch.h and this one).
  *
  * Made by dist/make/library of the proved crate. Nobody edits it: change the crate, and make it anew by dist/generate. Compile it as C11
- * beside its header. Memory is arrays of bytes here, laid out as on a 64-bit processor with the low byte first: a size is a uint64_t,
- * and a pointer takes 8 bytes. */
+ * beside its header. Memory is arrays of bytes here, laid out as on a 64-bit processor with the low byte first: a size takes
+ * 8 bytes there, and so does a pointer. */
 #include "dfuse_watch.h"
 
 #include <stddef.h>
@@ -40,6 +40,7 @@ void *memset(void *to, int byte, size_t count);
 #endif
 
 _Static_assert((unsigned char)-1 == 255 && sizeof(int) == 4 && sizeof(void *) <= 8, "a processor that this file is not for");
+_Static_assert(sizeof(size_t) >= 4 && sizeof(size_t) <= 8 && sizeof(size_t) == sizeof(void *), "a processor that this file is not for");
 
 _Static_assert(offsetof(struct dfu_ids, device) == 0, "another layout");
 _Static_assert(offsetof(struct dfu_ids, product) == 2, "another layout");
@@ -185,8 +186,10 @@ static inline uint16_t umax16(uint16_t x, uint16_t y) { return x < y ? y : x; }
 static inline uint32_t umax32(uint32_t x, uint32_t y) { return x < y ? y : x; }
 static inline uint64_t umax64(uint64_t x, uint64_t y) { return x < y ? y : x; }
 static inline uint64_t umin64(uint64_t x, uint64_t y) { return x < y ? x : y; }
+static inline size_t umin_size(size_t x, size_t y) { return x < y ? x : y; }
 static inline uint32_t usub_sat32(uint32_t x, uint32_t y) { return x < y ? 0 : (uint32_t)(x - y); }
 static inline uint64_t usub_sat64(uint64_t x, uint64_t y) { return x < y ? 0 : (uint64_t)(x - y); }
+static inline size_t usub_sat_size(size_t x, size_t y) { return x < y ? 0 : (size_t)(x - y); }
 
 static _Alignas(4) const uint8_t static_0[64] = {
     0, 0, 0, 0, 0x64, 0x10, 0xb7, 0x1d, 0xc8, 0x20, 0x6e, 0x3b, 0xac, 0x30, 0xd9, 0x26, 0x90, 0x41, 0xdc, 0x76,
@@ -271,58 +274,58 @@ static _Alignas(8) const uint64_t switch_table_dfu_host_name_1[11] = {
 
 static uint8_t dfu_host_c_watching_is_download(unsigned char *a0);
 static uint8_t dfu_host_c_watching_is_other(unsigned char *a0, unsigned char *a1);
-static void dfuse_file_file_read(unsigned char *a0, unsigned char *a1, uint64_t a2);
-static void dfu_suffix_parse_read_small(unsigned char *a0, unsigned char *a1, uint64_t a2);
+static void dfuse_file_file_read(unsigned char *a0, unsigned char *a1, size_t a2);
+static void dfu_suffix_parse_read_small(unsigned char *a0, unsigned char *a1, size_t a2);
 static void dfu_suffix_crc_Crc_update_small(unsigned char *a0, unsigned char *a1, uint64_t a2);
-static void core_slice_edits_slice_T_copy_from_slice_i8_core_clone_U8Clone(unsigned char *a0, unsigned char *a2, uint64_t a3);
+static void core_slice_edits_slice_T_copy_from_slice_i8_core_clone_U8Clone(unsigned char *a0, unsigned char *a2, size_t a3);
 static void dfuse_file_headings_take_heading(unsigned char *a0, unsigned char *a1, uint64_t a2);
 static void dfuse_file_elements_take_element(unsigned char *a0, unsigned char *a1, uint64_t a2);
-static void dfuse_memory_map_Map_read(unsigned char *a0, unsigned char *a1, uint64_t a2);
+static void dfuse_memory_map_Map_read(unsigned char *a0, unsigned char *a1, size_t a2);
 static void dfuse_memory_place_take_address(unsigned char *a0, unsigned char *a1, uint64_t a2);
-static void dfuse_memory_digits_take_number(unsigned char *a0, uint64_t a1, uint64_t a2, unsigned char *a3, uint64_t a4);
+static void dfuse_memory_digits_take_number(unsigned char *a0, size_t a1, size_t a2, unsigned char *a3, uint64_t a4);
 static uint64_t dfuse_memory_digits_digit_value(uint8_t a0);
-static void dfu_host_c_file_file_in(unsigned char *a0, unsigned char *a1, uint64_t a2);
-static uint8_t dfu_images_endings_ends_in(unsigned char *a0, uint64_t a1, unsigned char *a2, uint64_t a3);
+static void dfu_host_c_file_file_in(unsigned char *a0, unsigned char *a1, size_t a2);
+static uint8_t dfu_images_endings_ends_in(unsigned char *a0, size_t a1, unsigned char *a2, size_t a3);
 static uint8_t dfu_images_looks_has_digits(unsigned char *a0, uint64_t a1);
 static uint8_t dfu_images_digits_hex_digit(uint8_t a0);
-static uint8_t core_slice_reads_slice_T_starts_with_i8_core_cmp_numbers_U8PartialEq(unsigned char *a0, uint64_t a1, unsigned char *a2, uint64_t a3);
-static uint8_t core_slice_scan_any_in_ends(unsigned char *a0, uint64_t a1, uint64_t a2);
-static uint64_t core_slice_scan_skip_groups(unsigned char *a0, uint64_t a1, uint64_t a2, uint64_t a3);
-static uint8_t core_slice_scan_any_in_run(unsigned char *a0, uint64_t a1, uint64_t a2);
-static uint8_t dfu_images_text_is_text(unsigned char *a0, uint64_t a1);
-static void dfu_images_places_bad_from(unsigned char *a0, uint8_t a1, unsigned char *a2, uint64_t a3);
+static uint8_t core_slice_reads_slice_T_starts_with_i8_core_cmp_numbers_U8PartialEq(unsigned char *a0, size_t a1, unsigned char *a2, size_t a3);
+static uint8_t core_slice_scan_any_in_ends(unsigned char *a0, size_t a1, size_t a2);
+static uint64_t core_slice_scan_skip_groups(unsigned char *a0, uint64_t a1, size_t a2, size_t a3);
+static uint8_t core_slice_scan_any_in_run(unsigned char *a0, size_t a1, size_t a2);
+static uint8_t dfu_images_text_is_text(unsigned char *a0, size_t a1);
+static void dfu_images_places_bad_from(unsigned char *a0, uint8_t a1, unsigned char *a2, size_t a3);
 static void dfu_host_c_reports_report_at(unsigned char *a0, uint64_t a1, uint32_t a2);
-static void dfu_host_c_holding_session_of(unsigned char *a0, unsigned char *a1, unsigned char *a2, uint64_t a3);
+static void dfu_host_c_holding_session_of(unsigned char *a0, unsigned char *a1, unsigned char *a2, size_t a3);
 static void dfu_host_c_holding_record_of(unsigned char *a0, unsigned char *a1, uint64_t a2);
 static struct i32_i32 dfu_host_c_reports_report_numbers(uint8_t a0, uint8_t a1);
 static struct ptr_i64 dfu_host_task_Task_block(unsigned char *a0, uint64_t a1);
-static void dfu_host_task_download(unsigned char *a0, uint64_t a1, unsigned char *a2, uint64_t a3);
-static void dfu_host_task_send(unsigned char *a0, unsigned char *a1, unsigned char *a2, uint64_t a3);
+static void dfu_host_task_download(unsigned char *a0, size_t a1, unsigned char *a2, size_t a3);
+static void dfu_host_task_send(unsigned char *a0, unsigned char *a1, unsigned char *a2, size_t a3);
 static void dfu_wire_requests_Request_setup(unsigned char *a0, unsigned char *a1);
 static void dfu_wire_setups_Setup_encode(unsigned char *a0, unsigned char *a1);
 static void dfu_wire_bytes_two_bytes(unsigned char *a0, uint16_t a1);
-static void dfu_wire_functionals_Functional_decode(unsigned char *a0, unsigned char *a1, uint64_t a2);
+static void dfu_wire_functionals_Functional_decode(unsigned char *a0, unsigned char *a1, size_t a2);
 static void dfu_host_c_beginning_start(unsigned char *a0, unsigned char *a1);
-static uint32_t dfu_host_c_beginning_install(unsigned char *a0, unsigned char *a1, uint64_t a2, unsigned char *a3, uint64_t a4, unsigned char *a5, uint32_t a6, uint16_t a7, uint8_t a8);
+static uint32_t dfu_host_c_beginning_install(unsigned char *a0, unsigned char *a1, size_t a2, unsigned char *a3, size_t a4, unsigned char *a5, uint32_t a6, uint16_t a7, uint8_t a8);
 static void dfu_host_refusing_goal_to_install(unsigned char *a0, unsigned char *a1, unsigned char *a2, unsigned char *a3, uint8_t a4);
 static void dfu_host_session_Session_on_result(unsigned char *a0, unsigned char *a1, uint8_t a2);
 static void dfu_wire_statuses_Status_decode(unsigned char *a0, unsigned char *a1, uint64_t a2);
-static uint8_t core_slice_scan_any_by_one(unsigned char *a0, uint64_t a1);
-static uint8_t core_cmp_slices_groups_equal_i8_core_cmp_numbers_U8PartialEq(unsigned char *a0, uint64_t a1, unsigned char *a2, uint64_t a3);
+static uint8_t core_slice_scan_any_by_one(unsigned char *a0, size_t a1);
+static uint8_t core_cmp_slices_groups_equal_i8_core_cmp_numbers_U8PartialEq(unsigned char *a0, size_t a1, unsigned char *a2, size_t a3);
 static void dfu_host_progress_Progress_restarted(unsigned char *a0, unsigned char *a1);
 static void dfu_host_progress_Progress_spent(unsigned char *a0, unsigned char *a1, unsigned char *a2, uint16_t a3);
 static void dfu_host_task_Task_on_status(unsigned char *a0, unsigned char *a1, unsigned char *a2, unsigned char *a3, unsigned char *a4);
 static void dfu_host_task_Task_troubled(unsigned char *a0, unsigned char *a1, unsigned char *a2);
 static void dfu_host_task_Task_listed(unsigned char *a0, unsigned char *a1, unsigned char *a2);
-static void dfu_host_c_dfuse_holding_map_of(unsigned char *a0, unsigned char *a1, uint64_t a2);
-static void dfu_host_c_dfuse_holding_session_of(unsigned char *a0, unsigned char *a1, unsigned char *a2, unsigned char *a3, uint64_t a4);
+static void dfu_host_c_dfuse_holding_map_of(unsigned char *a0, unsigned char *a1, size_t a2);
+static void dfu_host_c_dfuse_holding_session_of(unsigned char *a0, unsigned char *a1, unsigned char *a2, unsigned char *a3, size_t a4);
 static void dfuse_host_asking_ask(unsigned char *a0, unsigned char *a1);
 static void dfuse_host_asking_setup_of(unsigned char *a0, unsigned char *a1);
 static struct i8_i64 dfuse_host_plan_Plan_command_of(unsigned char *a0, unsigned char *a1, uint8_t a2, uint64_t a3);
 static uint64_t dfuse_host_plan_Plan_page_start(unsigned char *a0, uint64_t a1);
 static void dfuse_host_plan_Plan_page_of(unsigned char *a0, unsigned char *a1, uint64_t a2);
 static void dfuse_memory_lookups_range_at(unsigned char *a0, uint64_t a1, unsigned char *a2, uint64_t a3);
-static void dfuse_host_asking_address_command(unsigned char *a0, uint8_t a1, uint64_t a2);
+static void dfuse_host_asking_address_command(unsigned char *a0, uint8_t a1, size_t a2);
 static uint64_t dfuse_host_plan_Plan_end_of_work(unsigned char *a0, unsigned char *a1);
 static uint64_t dfuse_host_image_image_end(unsigned char *a0, uint64_t a1);
 static uint64_t dfuse_host_plan_Plan_front_end(unsigned char *a0);
@@ -334,7 +337,7 @@ static struct ptr_i64 dfuse_host_plan_Plan_bytes_in(unsigned char *a0, uint64_t 
 static struct ptr_i64 dfuse_host_plan_Plan_read_bytes(unsigned char *a0, unsigned char *a1);
 static uint64_t dfuse_host_plan_Plan_read_end(unsigned char *a0, uint64_t a1, uint64_t a2);
 static void dfuse_host_asking_download(unsigned char *a0, unsigned char *a1, uint64_t a2);
-static uint32_t dfu_host_c_dfuse_action_send(unsigned char *a0, unsigned char *a1, uint64_t a2, unsigned char *a3, uint64_t a4, unsigned char *a5);
+static uint32_t dfu_host_c_dfuse_action_send(unsigned char *a0, unsigned char *a1, uint64_t a2, unsigned char *a3, size_t a4, unsigned char *a5);
 static struct i32_i32 dfu_host_c_dfuse_reports_report_numbers(uint8_t a0, uint8_t a1);
 static uint8_t dfuse_host_plan_Plan_grants(unsigned char *a0, unsigned char *a1);
 static void dfu_host_c_dfuse_holding_record_of(unsigned char *a0, unsigned char *a1);
@@ -351,308 +354,293 @@ static void dfuse_host_plan_Plan_to_compare_front(unsigned char *a0, unsigned ch
 static void dfuse_host_plan_Plan_unsure_of(unsigned char *a0, unsigned char *a1, unsigned char *a2, uint8_t a3, uint64_t a4);
 static void dfuse_host_session_Session_spent(unsigned char *a0, unsigned char *a1, unsigned char *a2, uint16_t a3);
 
-/* dfu_host_c::watching::is_download */
+/* dfu_host_c::watching::is_download: crates/dfu_host_c/src/watching.rt */
 static uint8_t dfu_host_c_watching_is_download(unsigned char *a0) {
     uint8_t r1_0_in;
     uint32_t r10 = load32(a0);
-    if (r10 != 0) {
-        r1_0_in = 0;
-        goto join_6;
+    if (r10 != 0) r1_0_in = 0;
+    else {
+        uint8_t r20 = a0[28];
+        if (r20 != 33) r1_0_in = 0;
+        else {
+            uint8_t r33 = a0[29];
+            r1_0_in = r33 == 1;
+        }
     }
-    uint8_t r20 = a0[28];
-    if (r20 != 33) {
-        r1_0_in = 0;
-        goto join_6;
-    }
-    uint8_t r33 = a0[29];
-    r1_0_in = r33 == 1;
-join_6:
     return r1_0_in;
 }
 
-/* dfu_host_c::watching::is_other */
+/* dfu_host_c::watching::is_other: crates/dfu_host_c/src/watching.rt */
 static uint8_t dfu_host_c_watching_is_other(unsigned char *a0, unsigned char *a1) {
     uint8_t r1_0_in;
     uint8_t r9 = a1[4];
-    if (r9 == 0) {
-        r1_0_in = 0;
-        goto join_6;
+    if (r9 == 0) r1_0_in = 0;
+    else {
+        uint8_t r16 = a1[6];
+        if (r16 != 0) r1_0_in = 0;
+        else {
+            uint8_t r26 = a1[5];
+            if (r26 != 0) r1_0_in = 1;
+            else {
+                uint8_t r33 = a0[9];
+                r1_0_in = r33 == 0;
+            }
+        }
     }
-    uint8_t r16 = a1[6];
-    if (r16 != 0) {
-        r1_0_in = 0;
-        goto join_6;
-    }
-    uint8_t r26 = a1[5];
-    if (r26 != 0) {
-        r1_0_in = 1;
-        goto join_6;
-    }
-    uint8_t r33 = a0[9];
-    r1_0_in = r33 == 0;
-join_6:
     return r1_0_in;
 }
 
-/* dfuse_file::file::read */
-static void dfuse_file_file_read(unsigned char *a0, unsigned char *a1, uint64_t a2) {
+/* dfuse_file::file::read: crates/dfuse_file/src/file.rt */
+static void dfuse_file_file_read(unsigned char *a0, unsigned char *a1, size_t a2) {
     _Alignas(8) unsigned char r9[72];
     unsigned char *const r5 = r9;
     _Alignas(8) unsigned char r8[48];
     unsigned char *const r5_2 = r8;
     unsigned char *v1, *r5_2_0_r25_sroa_idx, *r5_32_0_r25_sroa_idx, *r5_4_0_r25_sroa_idx, *r5_5_0_r25_sroa_idx, *r5_5_3_0_r5_5_0_r25_sroa_idx_sroa_idx, *r4_2_0_r19_sroa_idx, *r4_3_0_r19_sroa_idx, *r21;
-    uint64_t r2_0, wide_1311, r19, r3_0_0, r3_5_0, r5_5_0_0_copyload, r5_5_3_0_copyload, r3_0_0_2, r3_5_0_2, r6_26_0, r6_27_0;
+    size_t r2_0, wide_1311, r19, r3_0_0, r5_5_0_0_copyload, r3_0_0_2, r6_26_0, r6_27_0;
     uint16_t r7_0_0, r7_0_0_2, r7_0_0_3, r6_17_1_0, r6_17_8_0, r6_17_9_0;
     uint8_t r98, r7_0, r4_0_0_copyload_pn, r5_4_0, r6_0_0, r6_9_0, r6_24_0;
+    uint64_t r3_5_0, r5_5_3_0_copyload, r3_5_0_2;
     uint32_t r5_2_0_copyload, r6_0;
     dfu_suffix_parse_read_small(r5, a1, a2);
     uint8_t r14 = *r5;
-    if (r14 == 0) {
-        r5_4_0 = 4;
-        goto arm_2;
-    }
-    uint8_t r4_0_0_copyload = r5[1];
-    switch (r4_0_0_copyload) {
-    case 3: goto then_5;
-    case 6:
-        r5_4_0 = 0;
-        goto arm_2;
-    case 0: goto arm_2_2;
-    case 1: goto arm_3;
-    case 2: goto arm_4;
-    case 9: goto arm_5;
-    case 4: goto arm_5;
-    case 5: goto arm_5;
-    case 7: goto arm_5;
-    case 8: goto arm_5;
-    default: never();
-    }
-then_5:
-    v1 = a1 + (size_t)a2;
-    store32(r5_2, 0xffffffffU);
-    dfu_suffix_crc_Crc_update_small(r5_2, a1, a2 + 0xfffffffffffffffcULL);
-    uint32_t r15 = load32u(v1 - 4);
-    uint32_t r1 = load32(r5_2);
-    if (r15 == r1) goto arm_1;
-    r5_4_0 = 5;
-    goto arm_2;
-arm_2_2:
-    r5_4_0 = 1;
-    goto arm_2;
-arm_3:
-    r5_4_0 = 2;
-    goto arm_2;
-arm_4:
-    r5_4_0 = 3;
-    goto arm_2;
-arm_5:
-    r5_4_0 = 4;
-    goto arm_2;
-arm_1:;
-    uint8_t r27 = *(v1 - 5);
-    r2_0 = usub_sat64(a2, (uint64_t)r27);
-    uint8_t r11 = *(v1 - 16);
-    uint8_t r15_2 = *(v1 - 15);
-    r7_0_0 = (uint16_t)((uint32_t)r15_2 << 8) | r11;
-    uint8_t r11_2 = *(v1 - 14);
-    uint8_t r15_3 = *(v1 - 13);
-    r7_0_0_2 = (uint16_t)((uint32_t)r15_3 << 8) | r11_2;
-    uint8_t r11_3 = *(v1 - 12);
-    uint8_t r15_4 = *(v1 - 11);
-    r7_0_0_3 = (uint16_t)((uint32_t)r15_4 << 8) | r11_3;
-    if (r2_0 < 11) {
-        r6_17_1_0 = 0;
-        r6_17_8_0 = 0;
-        r6_17_9_0 = 0;
-        r6_0_0 = 1;
-        r6_9_0 = 6;
-        r6_24_0 = 0;
-        r6_26_0 = 0;
-        r6_27_0 = 0;
-        goto dfuse_file_file_read_file_exit;
-    }
-    uint8_t r20 = *a1;
-    if (r20 != 68) {
-        r6_17_1_0 = 0;
-        r6_17_8_0 = 0;
-        r6_17_9_0 = 0;
-        r6_0_0 = 1;
-        r6_9_0 = 6;
-        r6_24_0 = 0;
-        r6_26_0 = 0;
-        r6_27_0 = 0;
-        goto dfuse_file_file_read_file_exit;
-    }
-    uint8_t r29 = a1[1];
-    if (r29 != 102) {
-        r6_17_1_0 = 0;
-        r6_17_8_0 = 0;
-        r6_17_9_0 = 0;
-        r6_0_0 = 1;
-        r6_9_0 = 6;
-        r6_24_0 = 0;
-        r6_26_0 = 0;
-        r6_27_0 = 0;
-        goto dfuse_file_file_read_file_exit;
-    }
-    uint8_t r41 = a1[2];
-    if (r41 != 117) {
-        r6_17_1_0 = 0;
-        r6_17_8_0 = 0;
-        r6_17_9_0 = 0;
-        r6_0_0 = 1;
-        r6_9_0 = 6;
-        r6_24_0 = 0;
-        r6_26_0 = 0;
-        r6_27_0 = 0;
-        goto dfuse_file_file_read_file_exit;
-    }
-    uint8_t r53 = a1[3];
-    if (r53 != 83) {
-        r6_17_1_0 = 0;
-        r6_17_8_0 = 0;
-        r6_17_9_0 = 0;
-        r6_0_0 = 1;
-        r6_9_0 = 6;
-        r6_24_0 = 0;
-        r6_26_0 = 0;
-        r6_27_0 = 0;
-        goto dfuse_file_file_read_file_exit;
-    }
-    uint8_t r65 = a1[4];
-    if (r65 != 101) {
-        r6_17_1_0 = 0;
-        r6_17_8_0 = 0;
-        r6_17_9_0 = 0;
-        r6_0_0 = 1;
-        r6_9_0 = 6;
-        r6_24_0 = 0;
-        r6_26_0 = 0;
-        r6_27_0 = 0;
-        goto dfuse_file_file_read_file_exit;
-    }
-    uint8_t r57 = a1[5];
-    if (r57 != 1) {
-        r6_17_1_0 = 0;
-        r6_17_8_0 = 0;
-        r6_17_9_0 = 0;
-        r6_0_0 = 1;
-        r6_9_0 = 7;
-        r6_24_0 = 0;
-        r6_26_0 = 0;
-        r6_27_0 = 0;
-        goto dfuse_file_file_read_file_exit;
-    }
-    uint32_t r26 = load32u(a1 + 6);
-    uint64_t r73 = (uint64_t)r26;
-    if (!((r2_0 == r73) | (a2 == r73))) {
-        r6_17_1_0 = 0;
-        r6_17_8_0 = 0;
-        r6_17_9_0 = 0;
-        r6_0_0 = 1;
-        r6_9_0 = 8;
-        r6_24_0 = 0;
-        r6_26_0 = 0;
-        r6_27_0 = 0;
-        goto dfuse_file_file_read_file_exit;
-    }
-    r98 = a1[10];
-    if (r98 == 0) {
-        r6_17_1_0 = 0;
-        r6_17_8_0 = 0;
-        r6_17_9_0 = 0;
-        r6_0_0 = 1;
-        r6_9_0 = 9;
-        r6_24_0 = 0;
-        r6_26_0 = 0;
-        r6_27_0 = 0;
-        goto dfuse_file_file_read_file_exit;
-    }
-    wide_1311 = (uint64_t)(uintptr_t)(a1 + 11);
-    r19 = r2_0 + 0xfffffffffffffff5ULL;
-    r5_2_0_r25_sroa_idx = r9 + 32;
-    r5_32_0_r25_sroa_idx = r9 + 40;
-    r5_4_0_r25_sroa_idx = r9 + 48;
-    r5_5_0_r25_sroa_idx = r9 + 56;
-    r5_5_3_0_r5_5_0_r25_sroa_idx_sroa_idx = r9 + 64;
-    r4_2_0_r19_sroa_idx = r8 + 32;
-    r4_3_0_r19_sroa_idx = r8 + 40;
-    r21 = r8 + 1;
-    r3_0_0 = wide_1311;
-    r3_5_0 = r19;
-    r7_0 = 0;
-loop_2_2:
-    if (r7_0 >= r98) goto dfuse_file_targets_check_targets_exit;
-    dfuse_file_headings_take_heading(r9, (unsigned char *)(uintptr_t)r3_0_0, r3_5_0);
-    uint8_t r22 = *r9;
-    if (r22 != 1) goto arm_7;
-    uint8_t r4_0_0_copyload_2 = r9[1];
-    r4_0_0_copyload_pn = r4_0_0_copyload_2;
-    goto dfuse_file_targets_check_targets_exit_thread;
-arm_7:
-    r5_2_0_copyload = load32(r5_2_0_r25_sroa_idx);
-    uint64_t r5_32_0_copyload = load64(r5_32_0_r25_sroa_idx);
-    uint64_t r5_4_0_copyload = load64(r5_4_0_r25_sroa_idx);
-    r5_5_0_0_copyload = load64(r5_5_0_r25_sroa_idx);
-    r5_5_3_0_copyload = load64(r5_5_3_0_r5_5_0_r25_sroa_idx_sroa_idx);
-    r3_0_0_2 = r5_32_0_copyload;
-    r3_5_0_2 = r5_4_0_copyload;
-    r6_0 = 0;
-loop_2:
-    if (r6_0 == r5_2_0_copyload) goto dfuse_file_elements_check_elements_exit;
-    dfuse_file_elements_take_element(r8, (unsigned char *)(uintptr_t)r3_0_0_2, r3_5_0_2);
-    uint8_t r18 = *r8;
-    if (r18 != 0) goto dfuse_file_elements_check_elements_exit_thread;
-    uint64_t r4_2_0_copyload = load64(r4_2_0_r19_sroa_idx);
-    uint64_t r4_3_0_copyload = load64(r4_3_0_r19_sroa_idx);
-    r3_0_0_2 = r4_2_0_copyload;
-    r3_5_0_2 = r4_3_0_copyload;
-    r6_0 = r6_0 + 1;
-    goto loop_2;
+    if (r14 == 0) r5_4_0 = 4;
+    else {
+        uint8_t r4_0_0_copyload = r5[1];
+        switch (r4_0_0_copyload) {
+        case 3: {
+            v1 = a1 + a2;
+            store32(r5_2, 0xffffffffU);
+            dfu_suffix_crc_Crc_update_small(r5_2, a1, (uint64_t)a2 - 4);
+            uint32_t r15 = load32u(v1 - 4);
+            uint32_t r1 = load32(r5_2);
+            if (r15 == r1) {
+                uint8_t r27 = *(v1 - 5);
+                r2_0 = usub_sat_size(a2, (size_t)r27);
+                uint8_t r11 = *(v1 - 16);
+                uint8_t r15_2 = *(v1 - 15);
+                r7_0_0 = (uint16_t)((uint32_t)r15_2 << 8) | r11;
+                uint8_t r11_2 = *(v1 - 14);
+                uint8_t r15_3 = *(v1 - 13);
+                r7_0_0_2 = (uint16_t)((uint32_t)r15_3 << 8) | r11_2;
+                uint8_t r11_3 = *(v1 - 12);
+                uint8_t r15_4 = *(v1 - 11);
+                r7_0_0_3 = (uint16_t)((uint32_t)r15_4 << 8) | r11_3;
+                if (r2_0 < 11) {
+                    r6_17_1_0 = 0;
+                    r6_17_8_0 = 0;
+                    r6_17_9_0 = 0;
+                    r6_0_0 = 1;
+                    r6_9_0 = 6;
+                    r6_24_0 = 0;
+                    r6_26_0 = 0;
+                    r6_27_0 = 0;
+                    goto dfuse_file_file_read_file_exit;
+                }
+                uint8_t r20 = *a1;
+                if (r20 != 68) {
+                    r6_17_1_0 = 0;
+                    r6_17_8_0 = 0;
+                    r6_17_9_0 = 0;
+                    r6_0_0 = 1;
+                    r6_9_0 = 6;
+                    r6_24_0 = 0;
+                    r6_26_0 = 0;
+                    r6_27_0 = 0;
+                    goto dfuse_file_file_read_file_exit;
+                }
+                uint8_t r29 = a1[1];
+                if (r29 != 102) {
+                    r6_17_1_0 = 0;
+                    r6_17_8_0 = 0;
+                    r6_17_9_0 = 0;
+                    r6_0_0 = 1;
+                    r6_9_0 = 6;
+                    r6_24_0 = 0;
+                    r6_26_0 = 0;
+                    r6_27_0 = 0;
+                    goto dfuse_file_file_read_file_exit;
+                }
+                uint8_t r41 = a1[2];
+                if (r41 != 117) {
+                    r6_17_1_0 = 0;
+                    r6_17_8_0 = 0;
+                    r6_17_9_0 = 0;
+                    r6_0_0 = 1;
+                    r6_9_0 = 6;
+                    r6_24_0 = 0;
+                    r6_26_0 = 0;
+                    r6_27_0 = 0;
+                    goto dfuse_file_file_read_file_exit;
+                }
+                uint8_t r53 = a1[3];
+                if (r53 != 83) {
+                    r6_17_1_0 = 0;
+                    r6_17_8_0 = 0;
+                    r6_17_9_0 = 0;
+                    r6_0_0 = 1;
+                    r6_9_0 = 6;
+                    r6_24_0 = 0;
+                    r6_26_0 = 0;
+                    r6_27_0 = 0;
+                    goto dfuse_file_file_read_file_exit;
+                }
+                uint8_t r65 = a1[4];
+                if (r65 != 101) {
+                    r6_17_1_0 = 0;
+                    r6_17_8_0 = 0;
+                    r6_17_9_0 = 0;
+                    r6_0_0 = 1;
+                    r6_9_0 = 6;
+                    r6_24_0 = 0;
+                    r6_26_0 = 0;
+                    r6_27_0 = 0;
+                    goto dfuse_file_file_read_file_exit;
+                }
+                uint8_t r57 = a1[5];
+                if (r57 != 1) {
+                    r6_17_1_0 = 0;
+                    r6_17_8_0 = 0;
+                    r6_17_9_0 = 0;
+                    r6_0_0 = 1;
+                    r6_9_0 = 7;
+                    r6_24_0 = 0;
+                    r6_26_0 = 0;
+                    r6_27_0 = 0;
+                    goto dfuse_file_file_read_file_exit;
+                }
+                uint32_t r26 = load32u(a1 + 6);
+                size_t r73 = (size_t)r26;
+                if (!((r2_0 == r73) | (a2 == r73))) {
+                    r6_17_1_0 = 0;
+                    r6_17_8_0 = 0;
+                    r6_17_9_0 = 0;
+                    r6_0_0 = 1;
+                    r6_9_0 = 8;
+                    r6_24_0 = 0;
+                    r6_26_0 = 0;
+                    r6_27_0 = 0;
+                    goto dfuse_file_file_read_file_exit;
+                }
+                r98 = a1[10];
+                if (r98 == 0) {
+                    r6_17_1_0 = 0;
+                    r6_17_8_0 = 0;
+                    r6_17_9_0 = 0;
+                    r6_0_0 = 1;
+                    r6_9_0 = 9;
+                    r6_24_0 = 0;
+                    r6_26_0 = 0;
+                    r6_27_0 = 0;
+                    goto dfuse_file_file_read_file_exit;
+                }
+                wide_1311 = (size_t)(uintptr_t)(a1 + 11);
+                r19 = r2_0 - 11;
+                r5_2_0_r25_sroa_idx = r9 + 32;
+                r5_32_0_r25_sroa_idx = r9 + 40;
+                r5_4_0_r25_sroa_idx = r9 + 48;
+                r5_5_0_r25_sroa_idx = r9 + 56;
+                r5_5_3_0_r5_5_0_r25_sroa_idx_sroa_idx = r9 + 64;
+                r4_2_0_r19_sroa_idx = r8 + 32;
+                r4_3_0_r19_sroa_idx = r8 + 40;
+                r21 = r8 + 1;
+                r3_0_0 = wide_1311;
+                r3_5_0 = r19;
+                r7_0 = 0;
+                for (;;) {
+                    if (r7_0 >= r98) goto dfuse_file_targets_check_targets_exit;
+                    dfuse_file_headings_take_heading(r9, (unsigned char *)(uintptr_t)r3_0_0, r3_5_0);
+                    uint8_t r22 = *r9;
+                    if (r22 == 1) break;
+                    r5_2_0_copyload = load32(r5_2_0_r25_sroa_idx);
+                    size_t r5_32_0_copyload = (size_t)load64(r5_32_0_r25_sroa_idx);
+                    uint64_t r5_4_0_copyload = load64(r5_4_0_r25_sroa_idx);
+                    r5_5_0_0_copyload = (size_t)load64(r5_5_0_r25_sroa_idx);
+                    r5_5_3_0_copyload = load64(r5_5_3_0_r5_5_0_r25_sroa_idx_sroa_idx);
+                    r3_0_0_2 = r5_32_0_copyload;
+                    r3_5_0_2 = r5_4_0_copyload;
+                    r6_0 = 0;
+                    while (r6_0 != r5_2_0_copyload) {
+                        dfuse_file_elements_take_element(r8, (unsigned char *)(uintptr_t)r3_0_0_2, r3_5_0_2);
+                        uint8_t r18 = *r8;
+                        if (r18 != 0) goto dfuse_file_elements_check_elements_exit_thread;
+                        size_t r4_2_0_copyload = (size_t)load64(r4_2_0_r19_sroa_idx);
+                        uint64_t r4_3_0_copyload = load64(r4_3_0_r19_sroa_idx);
+                        r3_0_0_2 = r4_2_0_copyload;
+                        r3_5_0_2 = r4_3_0_copyload;
+                        r6_0 = r6_0 + 1;
+                    }
+                    if (r3_5_0_2 != 0) {
+                        r4_0_0_copyload_pn = 11;
+                        goto dfuse_file_targets_check_targets_exit_thread;
+                    }
+                    r3_0_0 = r5_5_0_0_copyload;
+                    r3_5_0 = r5_5_3_0_copyload;
+                    r7_0 = (uint8_t)(r7_0 + 1);
+                }
+                uint8_t r4_0_0_copyload_2 = r9[1];
+                r4_0_0_copyload_pn = r4_0_0_copyload_2;
+                goto dfuse_file_targets_check_targets_exit_thread;
 dfuse_file_elements_check_elements_exit_thread:;
-    uint8_t r5_0_0_copyload = *r21;
-    r4_0_0_copyload_pn = r5_0_0_copyload;
-    goto dfuse_file_targets_check_targets_exit_thread;
-dfuse_file_elements_check_elements_exit:
-    if (r3_5_0_2 == 0) {
-        r3_0_0 = r5_5_0_0_copyload;
-        r3_5_0 = r5_5_3_0_copyload;
-        r7_0 = (uint8_t)(r7_0 + 1);
-        goto loop_2_2;
-    }
-    r4_0_0_copyload_pn = 11;
+                uint8_t r5_0_0_copyload = *r21;
+                r4_0_0_copyload_pn = r5_0_0_copyload;
 dfuse_file_targets_check_targets_exit_thread:
-    r6_17_1_0 = 0;
-    r6_17_8_0 = 0;
-    r6_17_9_0 = 0;
-    r6_0_0 = 1;
-    r6_9_0 = r4_0_0_copyload_pn;
-    r6_24_0 = 0;
-    r6_26_0 = 0;
-    r6_27_0 = 0;
-    goto dfuse_file_file_read_file_exit;
+                r6_17_1_0 = 0;
+                r6_17_8_0 = 0;
+                r6_17_9_0 = 0;
+                r6_0_0 = 1;
+                r6_9_0 = r4_0_0_copyload_pn;
+                r6_24_0 = 0;
+                r6_26_0 = 0;
+                r6_27_0 = 0;
+                goto dfuse_file_file_read_file_exit;
 dfuse_file_targets_check_targets_exit:
-    if (r3_5_0 != 0) {
-        r6_17_1_0 = 0;
-        r6_17_8_0 = 0;
-        r6_17_9_0 = 0;
-        r6_0_0 = 1;
-        r6_9_0 = 15;
-        r6_24_0 = 0;
-        r6_26_0 = 0;
-        r6_27_0 = 0;
-        goto dfuse_file_file_read_file_exit;
+                if (r3_5_0 == 0) {
+                    r6_17_1_0 = r7_0_0;
+                    r6_17_8_0 = r7_0_0_2;
+                    r6_17_9_0 = r7_0_0_3;
+                    r6_0_0 = 0;
+                    r6_9_0 = 0;
+                    r6_24_0 = r98;
+                    r6_26_0 = wide_1311;
+                    r6_27_0 = r19;
+                    goto dfuse_file_file_read_file_exit;
+                }
+                r6_17_1_0 = 0;
+                r6_17_8_0 = 0;
+                r6_17_9_0 = 0;
+                r6_0_0 = 1;
+                r6_9_0 = 15;
+                r6_24_0 = 0;
+                r6_26_0 = 0;
+                r6_27_0 = 0;
+                goto dfuse_file_file_read_file_exit;
+            }
+            r5_4_0 = 5;
+            break;
+        }
+        case 6:
+            r5_4_0 = 0;
+            break;
+        case 0:
+            r5_4_0 = 1;
+            break;
+        case 1:
+            r5_4_0 = 2;
+            break;
+        case 2:
+            r5_4_0 = 3;
+            break;
+        case 9:
+        case 4:
+        case 5:
+        case 7:
+        case 8:
+            r5_4_0 = 4;
+            break;
+        default: never();
+        }
     }
-    r6_17_1_0 = r7_0_0;
-    r6_17_8_0 = r7_0_0_2;
-    r6_17_9_0 = r7_0_0_3;
-    r6_0_0 = 0;
-    r6_9_0 = 0;
-    r6_24_0 = r98;
-    r6_26_0 = wide_1311;
-    r6_27_0 = r19;
-    goto dfuse_file_file_read_file_exit;
-arm_2:
     r6_17_1_0 = 0;
     r6_17_8_0 = 0;
     r6_17_9_0 = 0;
@@ -674,13 +662,14 @@ dfuse_file_file_read_file_exit:
     return;
 }
 
-/* dfu_suffix::parse::read_small */
-static void dfu_suffix_parse_read_small(unsigned char *a0, unsigned char *a1, uint64_t a2) {
+/* dfu_suffix::parse::read_small: crates/dfu_suffix/src/parse.rt */
+static void dfu_suffix_parse_read_small(unsigned char *a0, unsigned char *a1, size_t a2) {
     _Alignas(4) unsigned char r3[4];
     unsigned char *r16;
     uint8_t r48, r11_2, r15_2, r11_3, r15_3, r11_4, r15_4, r0_0_0, r0_6_0, r0_18_0;
-    uint64_t v0, r0_914_0, r0_12_0;
+    size_t v0, r0_914_0;
     uint16_t r7_0_0, r0_14_0_0, r0_14_6_0, r0_14_8_0, r0_16_0;
+    uint64_t r0_12_0;
     if (a2 > 0x1000000U) {
         r0_14_0_0 = 0;
         r0_14_6_0 = 0;
@@ -691,120 +680,127 @@ static void dfu_suffix_parse_read_small(unsigned char *a0, unsigned char *a1, ui
         r0_12_0 = 0;
         r0_16_0 = 0;
         r0_18_0 = 0;
-        goto dfu_suffix_parse_parse_exit;
     }
-    r16 = a1 + (size_t)usub_sat64(a2, 16);
-    if (a2 < 16) {
-        r0_14_0_0 = 0;
-        r0_14_6_0 = 0;
-        r0_14_8_0 = 0;
-        r0_0_0 = 1;
-        r0_6_0 = 0;
-        r0_914_0 = 0;
-        r0_12_0 = 0;
-        r0_16_0 = 0;
-        r0_18_0 = 0;
-        goto dfu_suffix_parse_parse_exit;
+    else {
+        r16 = a1 + usub_sat_size(a2, 16);
+        if (a2 < 16) {
+            r0_14_0_0 = 0;
+            r0_14_6_0 = 0;
+            r0_14_8_0 = 0;
+            r0_0_0 = 1;
+            r0_6_0 = 0;
+            r0_914_0 = 0;
+            r0_12_0 = 0;
+            r0_16_0 = 0;
+            r0_18_0 = 0;
+        }
+        else {
+            uint8_t r14 = r16[8];
+            if (r14 != 85) {
+                r0_14_0_0 = 0;
+                r0_14_6_0 = 0;
+                r0_14_8_0 = 0;
+                r0_0_0 = 1;
+                r0_6_0 = 1;
+                r0_914_0 = 0;
+                r0_12_0 = 0;
+                r0_16_0 = 0;
+                r0_18_0 = 0;
+            }
+            else {
+                uint8_t r23 = r16[9];
+                if (r23 != 70) {
+                    r0_14_0_0 = 0;
+                    r0_14_6_0 = 0;
+                    r0_14_8_0 = 0;
+                    r0_0_0 = 1;
+                    r0_6_0 = 1;
+                    r0_914_0 = 0;
+                    r0_12_0 = 0;
+                    r0_16_0 = 0;
+                    r0_18_0 = 0;
+                }
+                else {
+                    uint8_t r35 = r16[10];
+                    if (r35 != 68) {
+                        r0_14_0_0 = 0;
+                        r0_14_6_0 = 0;
+                        r0_14_8_0 = 0;
+                        r0_0_0 = 1;
+                        r0_6_0 = 1;
+                        r0_914_0 = 0;
+                        r0_12_0 = 0;
+                        r0_16_0 = 0;
+                        r0_18_0 = 0;
+                    }
+                    else {
+                        r48 = r16[11];
+                        v0 = (size_t)r48;
+                        if ((r48 < 16) | (a2 < v0)) {
+                            r0_14_0_0 = 0;
+                            r0_14_6_0 = 0;
+                            r0_14_8_0 = 0;
+                            r0_0_0 = 1;
+                            r0_6_0 = 2;
+                            r0_914_0 = 0;
+                            r0_12_0 = 0;
+                            r0_16_0 = 0;
+                            r0_18_0 = 0;
+                        }
+                        else {
+                            uint8_t r11 = r16[6];
+                            uint8_t r15 = r16[7];
+                            r7_0_0 = (uint16_t)((uint32_t)r15 << 8) | r11;
+                            if (r7_0_0 == 282) {
+                                r0_14_0_0 = 0;
+                                r0_14_6_0 = 0;
+                                r0_14_8_0 = 0;
+                                r0_0_0 = 1;
+                                r0_6_0 = 3;
+                                r0_914_0 = 0;
+                                r0_12_0 = 0;
+                                r0_16_0 = 0;
+                                r0_18_0 = 0;
+                            }
+                            else {
+                                r11_2 = *r16;
+                                r15_2 = r16[1];
+                                r11_3 = r16[2];
+                                r15_3 = r16[3];
+                                r11_4 = r16[4];
+                                r15_4 = r16[5];
+                                store32(r3, 0xffffffffU);
+                                dfu_suffix_crc_Crc_update_small(r3, a1, a2);
+                                uint32_t r1 = load32(r3);
+                                if (r1 == 0) {
+                                    r0_14_0_0 = (uint16_t)((uint32_t)r15_2 << 8) | r11_2;
+                                    r0_14_6_0 = (uint16_t)((uint32_t)r15_3 << 8) | r11_3;
+                                    r0_14_8_0 = (uint16_t)((uint32_t)r15_4 << 8) | r11_4;
+                                    r0_0_0 = 0;
+                                    r0_6_0 = 0;
+                                    r0_914_0 = (size_t)(uintptr_t)a1;
+                                    r0_12_0 = (uint64_t)a2 - (uint64_t)v0;
+                                    r0_16_0 = r7_0_0;
+                                    r0_18_0 = r48;
+                                }
+                                else {
+                                    r0_14_0_0 = 0;
+                                    r0_14_6_0 = 0;
+                                    r0_14_8_0 = 0;
+                                    r0_0_0 = 1;
+                                    r0_6_0 = 4;
+                                    r0_914_0 = 0;
+                                    r0_12_0 = 0;
+                                    r0_16_0 = 0;
+                                    r0_18_0 = 0;
+                                }
+                            }
+                        }
+                    }
+                }
+            }
+        }
     }
-    uint8_t r14 = r16[8];
-    if (r14 != 85) {
-        r0_14_0_0 = 0;
-        r0_14_6_0 = 0;
-        r0_14_8_0 = 0;
-        r0_0_0 = 1;
-        r0_6_0 = 1;
-        r0_914_0 = 0;
-        r0_12_0 = 0;
-        r0_16_0 = 0;
-        r0_18_0 = 0;
-        goto dfu_suffix_parse_parse_exit;
-    }
-    uint8_t r23 = r16[9];
-    if (r23 != 70) {
-        r0_14_0_0 = 0;
-        r0_14_6_0 = 0;
-        r0_14_8_0 = 0;
-        r0_0_0 = 1;
-        r0_6_0 = 1;
-        r0_914_0 = 0;
-        r0_12_0 = 0;
-        r0_16_0 = 0;
-        r0_18_0 = 0;
-        goto dfu_suffix_parse_parse_exit;
-    }
-    uint8_t r35 = r16[10];
-    if (r35 != 68) {
-        r0_14_0_0 = 0;
-        r0_14_6_0 = 0;
-        r0_14_8_0 = 0;
-        r0_0_0 = 1;
-        r0_6_0 = 1;
-        r0_914_0 = 0;
-        r0_12_0 = 0;
-        r0_16_0 = 0;
-        r0_18_0 = 0;
-        goto dfu_suffix_parse_parse_exit;
-    }
-    r48 = r16[11];
-    v0 = (uint64_t)r48;
-    if ((r48 < 16) | (a2 < v0)) {
-        r0_14_0_0 = 0;
-        r0_14_6_0 = 0;
-        r0_14_8_0 = 0;
-        r0_0_0 = 1;
-        r0_6_0 = 2;
-        r0_914_0 = 0;
-        r0_12_0 = 0;
-        r0_16_0 = 0;
-        r0_18_0 = 0;
-        goto dfu_suffix_parse_parse_exit;
-    }
-    uint8_t r11 = r16[6];
-    uint8_t r15 = r16[7];
-    r7_0_0 = (uint16_t)((uint32_t)r15 << 8) | r11;
-    if (r7_0_0 == 282) {
-        r0_14_0_0 = 0;
-        r0_14_6_0 = 0;
-        r0_14_8_0 = 0;
-        r0_0_0 = 1;
-        r0_6_0 = 3;
-        r0_914_0 = 0;
-        r0_12_0 = 0;
-        r0_16_0 = 0;
-        r0_18_0 = 0;
-        goto dfu_suffix_parse_parse_exit;
-    }
-    r11_2 = *r16;
-    r15_2 = r16[1];
-    r11_3 = r16[2];
-    r15_3 = r16[3];
-    r11_4 = r16[4];
-    r15_4 = r16[5];
-    store32(r3, 0xffffffffU);
-    dfu_suffix_crc_Crc_update_small(r3, a1, a2);
-    uint32_t r1 = load32(r3);
-    if (r1 != 0) {
-        r0_14_0_0 = 0;
-        r0_14_6_0 = 0;
-        r0_14_8_0 = 0;
-        r0_0_0 = 1;
-        r0_6_0 = 4;
-        r0_914_0 = 0;
-        r0_12_0 = 0;
-        r0_16_0 = 0;
-        r0_18_0 = 0;
-        goto dfu_suffix_parse_parse_exit;
-    }
-    r0_14_0_0 = (uint16_t)((uint32_t)r15_2 << 8) | r11_2;
-    r0_14_6_0 = (uint16_t)((uint32_t)r15_3 << 8) | r11_3;
-    r0_14_8_0 = (uint16_t)((uint32_t)r15_4 << 8) | r11_4;
-    r0_0_0 = 0;
-    r0_6_0 = 0;
-    r0_914_0 = (uint64_t)(uintptr_t)a1;
-    r0_12_0 = a2 - v0;
-    r0_16_0 = r7_0_0;
-    r0_18_0 = r48;
-dfu_suffix_parse_parse_exit:
     *a0 = r0_0_0;
     a0[1] = r0_6_0;
     store64(a0 + 8, r0_914_0);
@@ -817,153 +813,152 @@ dfu_suffix_parse_parse_exit:
     return;
 }
 
-/* dfu_suffix::crc::Crc::update_small */
+/* dfu_suffix::crc::Crc::update_small: crates/dfu_suffix/src/crc.rt */
 static void dfu_suffix_crc_Crc_update_small(unsigned char *a0, unsigned char *a1, uint64_t a2) {
     uint64_t r4_0;
     uint32_t r3_0;
     uint32_t r5 = load32(a0);
     r4_0 = 0;
     r3_0 = r5;
-loop_3:
-    if (r4_0 == a2) goto dfu_suffix_small_after_bytes_exit;
-    uint8_t r23 = a1[(size_t)r4_0];
-    uint32_t r6 = r3_0 ^ (uint32_t)r23;
-    uint32_t r20 = load32(PLACE(static_0) + (size_t)((r6 << 2) & 60));
-    uint32_t r23_2 = (r6 >> 4) ^ r20;
-    uint32_t r20_2 = load32(PLACE(static_0) + (size_t)((r23_2 << 2) & 60));
-    r4_0 = r4_0 + 1;
-    r3_0 = (r23_2 >> 4) ^ r20_2;
-    goto loop_3;
-dfu_suffix_small_after_bytes_exit:
+    while (r4_0 != a2) {
+        uint8_t r23 = a1[(size_t)r4_0];
+        uint32_t r6 = r3_0 ^ (uint32_t)r23;
+        uint32_t r20 = load32(PLACE(static_0) + (size_t)((r6 << 2) & 60));
+        uint32_t r23_2 = (r6 >> 4) ^ r20;
+        uint32_t r20_2 = load32(PLACE(static_0) + (size_t)((r23_2 << 2) & 60));
+        r4_0 = r4_0 + 1;
+        r3_0 = (r23_2 >> 4) ^ r20_2;
+    }
     store32(a0, r3_0);
     return;
 }
 
 /* core::slice::edits::slice+T::copy_from_slice::<i8,20'core::clone::U8Clone{}> */
-static void core_slice_edits_slice_T_copy_from_slice_i8_core_clone_U8Clone(unsigned char *a0, unsigned char *a2, uint64_t a3) {
-    uint64_t r0_0;
-    if (((uint64_t)(uintptr_t)a0 - (uint64_t)(uintptr_t)a2) < a3) {
-        r0_0 = 0;
-        goto loop_4;
+static void core_slice_edits_slice_T_copy_from_slice_i8_core_clone_U8Clone(unsigned char *a0, unsigned char *a2, size_t a3) {
+    size_t r0_0;
+    if (((uint64_t)(size_t)(uintptr_t)a0 - (uint64_t)(size_t)(uintptr_t)a2) >= (uint64_t)a3) {
+        memmove(a0, a2, a3);
+        return;
     }
-    memmove(a0, a2, (size_t)a3);
-    return;
-loop_4:
-    if (r0_0 == a3) return;
-    uint8_t r26 = a2[(size_t)r0_0];
-    a0[(size_t)r0_0] = r26;
-    r0_0 = r0_0 + 1;
-    goto loop_4;
+    r0_0 = 0;
+    for (;;) {
+        if (r0_0 == a3) return;
+        uint8_t r26 = a2[r0_0];
+        a0[r0_0] = r26;
+        r0_0 = r0_0 + 1;
+    }
 }
 
-/* dfuse_file::headings::take_heading */
+/* dfuse_file::headings::take_heading: crates/dfuse_file/src/headings.rt */
 static void dfuse_file_headings_take_heading(unsigned char *a0, unsigned char *a1, uint64_t a2) {
-    uint64_t r57, r19;
-    if (a2 < 274) goto then_1;
-    goto join_3;
-then_1:
-    *a0 = 1;
-    a0[1] = 10;
-    memset(a0 + 8, 0, 64);
-    return;
-join_3:;
+    size_t r57;
+    uint64_t r19;
+    if (a2 < 274) {
+        *a0 = 1;
+        a0[1] = 10;
+        memset(a0 + 8, 0, 64);
+        return;
+    }
     uint8_t r23 = *a1;
-    if (r23 != 84) goto then_4;
-    uint8_t r32 = a1[1];
-    if (r32 != 97) goto then_4;
-    uint8_t r44 = a1[2];
-    if (r44 != 114) goto then_4;
-    uint8_t r56 = a1[3];
-    if (r56 != 103) goto then_4;
-    uint8_t r68 = a1[4];
-    if (r68 != 101) goto then_4;
-    uint8_t r80 = a1[5];
-    if (r80 == 116) goto join_6;
-then_4:
+    if (r23 == 84) {
+        uint8_t r32 = a1[1];
+        if (r32 == 97) {
+            uint8_t r44 = a1[2];
+            if (r44 == 114) {
+                uint8_t r56 = a1[3];
+                if (r56 == 103) {
+                    uint8_t r68 = a1[4];
+                    if (r68 == 101) {
+                        uint8_t r80 = a1[5];
+                        if (r80 == 116) {
+                            uint32_t r26 = load32u(a1 + 266);
+                            r57 = (size_t)r26;
+                            r19 = a2 - 274;
+                            if (r19 < (uint64_t)r57) {
+                                *a0 = 1;
+                                a0[1] = 11;
+                                memset(a0 + 8, 0, 64);
+                                return;
+                            }
+                            unsigned char *r16 = a1 + 274;
+                            uint8_t r90 = a1[6];
+                            uint32_t r26_2 = load32u(a1 + 7);
+                            uint32_t r26_3 = load32u(a1 + 270);
+                            *a0 = 0;
+                            a0[1] = 0;
+                            a0[8] = r90;
+                            memset(a0 + 9, 0, 3);
+                            store32(a0 + 12, r26_2);
+                            store64(a0 + 16, (size_t)(uintptr_t)(a1 + 11));
+                            store64(a0 + 24, 255);
+                            store32(a0 + 32, r26_3);
+                            store32(a0 + 36, 0);
+                            store64(a0 + 40, (size_t)(uintptr_t)r16);
+                            store64(a0 + 48, r57);
+                            store64(a0 + 56, (size_t)(uintptr_t)(r16 + r57));
+                            store64(a0 + 64, r19 - (uint64_t)r57);
+                            return;
+                        }
+                    }
+                }
+            }
+        }
+    }
     *a0 = 1;
     a0[1] = 10;
     memset(a0 + 8, 0, 64);
-    return;
-join_6:;
-    uint32_t r26 = load32u(a1 + 266);
-    r57 = (uint64_t)r26;
-    r19 = a2 + 0xfffffffffffffeeeULL;
-    if (r19 >= r57) goto join_9;
-    *a0 = 1;
-    a0[1] = 11;
-    memset(a0 + 8, 0, 64);
-    return;
-join_9:;
-    unsigned char *r16 = a1 + 274;
-    uint8_t r90 = a1[6];
-    uint32_t r26_2 = load32u(a1 + 7);
-    uint32_t r26_3 = load32u(a1 + 270);
-    *a0 = 0;
-    a0[1] = 0;
-    a0[8] = r90;
-    memset(a0 + 9, 0, 3);
-    store32(a0 + 12, r26_2);
-    store64(a0 + 16, (uint64_t)(uintptr_t)(a1 + 11));
-    store64(a0 + 24, 255);
-    store32(a0 + 32, r26_3);
-    store32(a0 + 36, 0);
-    store64(a0 + 40, (uint64_t)(uintptr_t)r16);
-    store64(a0 + 48, r57);
-    store64(a0 + 56, (uint64_t)(uintptr_t)(r16 + (size_t)r57));
-    store64(a0 + 64, r19 - r57);
     return;
 }
 
-/* dfuse_file::elements::take_element */
+/* dfuse_file::elements::take_element: crates/dfuse_file/src/elements.rt */
 static void dfuse_file_elements_take_element(unsigned char *a0, unsigned char *a1, uint64_t a2) {
     uint32_t r26, r26_2;
     unsigned char *r16;
-    uint64_t wide_1311, r19, r49;
-    if (a2 < 8) goto then_1;
-    goto join_3;
-then_1:
-    *a0 = 1;
-    a0[1] = 12;
-    memset(a0 + 8, 0, 40);
-    return;
-join_3:
+    size_t wide_1311, r49;
+    uint64_t r19;
+    if (a2 < 8) {
+        *a0 = 1;
+        a0[1] = 12;
+        memset(a0 + 8, 0, 40);
+        return;
+    }
     r26 = load32u(a1);
     r26_2 = load32u(a1 + 4);
     r16 = a1 + 8;
-    wide_1311 = (uint64_t)(uintptr_t)r16;
-    r19 = a2 + 0xfffffffffffffff8ULL;
-    r49 = (uint64_t)r26_2;
-    if (r19 >= r49) goto join_6;
-    *a0 = 1;
-    a0[1] = 12;
-    memset(a0 + 8, 0, 40);
-    return;
-join_6:
-    if (r26_2 != 0) goto join_9;
-    *a0 = 1;
-    a0[1] = 13;
-    memset(a0 + 8, 0, 40);
-    return;
-join_9:
-    if ((r49 + (uint64_t)r26) <= 0x100000000ULL) goto join_12;
-    *a0 = 1;
-    a0[1] = 14;
-    memset(a0 + 8, 0, 40);
-    return;
-join_12:
+    wide_1311 = (size_t)(uintptr_t)r16;
+    r19 = a2 - 8;
+    r49 = (size_t)r26_2;
+    if (r19 < (uint64_t)r49) {
+        *a0 = 1;
+        a0[1] = 12;
+        memset(a0 + 8, 0, 40);
+        return;
+    }
+    if (r26_2 == 0) {
+        *a0 = 1;
+        a0[1] = 13;
+        memset(a0 + 8, 0, 40);
+        return;
+    }
+    if (((uint64_t)r49 + (uint64_t)(size_t)r26) > 0x100000000ULL) {
+        *a0 = 1;
+        a0[1] = 14;
+        memset(a0 + 8, 0, 40);
+        return;
+    }
     *a0 = 0;
     a0[1] = 0;
     store32(a0 + 8, r26);
     store32(a0 + 12, 0);
     store64(a0 + 16, wide_1311);
     store64(a0 + 24, r49);
-    store64(a0 + 32, (uint64_t)(uintptr_t)(r16 + (size_t)r49));
-    store64(a0 + 40, r19 - r49);
+    store64(a0 + 32, (size_t)(uintptr_t)(r16 + r49));
+    store64(a0 + 40, r19 - (uint64_t)r49);
     return;
 }
 
-/* dfuse_memory::map::Map::read */
-static void dfuse_memory_map_Map_read(unsigned char *a0, unsigned char *a1, uint64_t a2) {
+/* dfuse_memory::map::Map::read: crates/dfuse_memory/src/map.rt */
+static void dfuse_memory_map_Map_read(unsigned char *a0, unsigned char *a1, size_t a2) {
     _Alignas(2) unsigned char r20_11[782];
     _Alignas(8) unsigned char r3[776];
     _Alignas(2) unsigned char r0_17_11[776];
@@ -974,280 +969,265 @@ static void dfuse_memory_map_Map_read(unsigned char *a0, unsigned char *a1, uint
     unsigned char *const r4 = r1;
     unsigned char *const r5 = r1;
     _Alignas(8) unsigned char r16_2[32];
-    uint64_t r19, wide_1311, r23, r3_0, r3_0_2, r4_0, r8_6_3_6_copyload, r8_6_5_6_copyload, r8_6_6_6_copyload, r2_0, r3_2, r5_0_0;
-    uint64_t r5_4_0, r4_0_2, r21, r3_4_0_copyload, r17, r3_4_0_copyload_2, r1_0, r5_6_4_0_ph221, r5_6_1_0_ph219, r17_2, r21_2, r19_4;
-    uint64_t r8_17_0_0, r8_17_5_0, r8_13_0, r4_2, indvars_iv_in, r4_0_3, indvars_iv, r51, r19_5, r3_0_3, r9_2, r11_2;
-    uint64_t r3_0_lcssa, r0_131_0, r0_19_0;
+    size_t r19, wide_1311, r23, r8_6_5_6_copyload, r2_0, r5_0_0, r1_0, r8_17_0_0, r9_2, r11_2, r0_131_0;
     unsigned char *r16, *r4_0_0_in, *r11_3_0_r3_sroa_idx, *r20, *r3_3_0_r27_sroa_idx, *r3_4_0_r27_sroa_idx, *r16_3, *r3_3_0_r23_sroa_idx, *r3_4_0_r23_sroa_idx, *r43, *r5_3_0_r43_sroa_idx, *r5_3_3_0_r5_3_0_r43_sroa_idx_sroa_idx;
     unsigned char *r29_2, *r27_2, *r5_6_3_0_ptr220, *r16_4, *r20_11_8_r60_sroa_idx, *r26, *r16_5, *r10, *r14, *r23_2;
+    uint64_t r3_0, r3_0_2, r4_0, r8_6_3_6_copyload, r8_6_6_6_copyload, r3_2, r5_4_0, r4_0_2, r21, r3_4_0_copyload, r17, r3_4_0_copyload_2;
+    uint64_t r5_6_4_0_ph221, r5_6_1_0_ph219, r17_2, r21_2, r19_4, r8_17_5_0, r8_13_0, r4_2, indvars_iv_in, r4_0_3, indvars_iv, r51;
+    uint64_t r19_5, r3_0_3, r3_0_lcssa, r0_19_0;
     uint8_t r25_4, r8_6_0, r20_6_0, r0_0_0, r0_7_0;
     memset(r0_17_11, 0, 776);
-    if (a2 == 0) goto arm_2;
-    uint8_t r25 = *a1;
-    if (r25 != 64) goto arm_2;
-    r19 = a2 + 0xffffffffffffffffULL;
-    r16 = a1 + 1;
-    wide_1311 = (uint64_t)(uintptr_t)r16;
-    r4_0_0_in = r16;
-    r23 = r19;
-    r3_0 = 0;
-loop_2:
-    if (r23 == 0) goto arm_2;
-    uint8_t r2 = *r4_0_0_in;
-    if (r2 == 47) {
-        r3_0_2 = 0;
-        r4_0 = 0;
-        goto loop_3;
+    if (a2 != 0) {
+        uint8_t r25 = *a1;
+        if (r25 == 64) {
+            r19 = a2 - 1;
+            r16 = a1 + 1;
+            wide_1311 = (size_t)(uintptr_t)r16;
+            r4_0_0_in = r16;
+            r23 = r19;
+            r3_0 = 0;
+            for (;;) {
+                if (r23 == 0) goto arm_2;
+                uint8_t r2 = *r4_0_0_in;
+                if (r2 == 47) {
+                    r3_0_2 = 0;
+                    r4_0 = 0;
+                    break;
+                }
+                r4_0_0_in = r4_0_0_in + 1;
+                r23 = r23 - 1;
+                r3_0 = r3_0 + 1;
+            }
+            while (r4_0 != r3_0) {
+                uint64_t r27 = r4_0 + 1;
+                uint8_t r29 = r16[(size_t)r4_0];
+                r3_0_2 = (uint64_t)((r29 == 32) ? r3_0_2 : r27);
+                r4_0 = r27;
+            }
+            uint64_t r47 = r3_0 + 1;
+            dfuse_memory_place_take_address(r16_2, r16 + (size_t)r47, (uint64_t)r19 - r47);
+            uint8_t r1_0_0_copyload = *r16_2;
+            if (r1_0_0_copyload != 0) {
+                uint8_t r1_3_1_copyload = r16_2[1];
+                memset(r0_20, 0, 776);
+                r0_0_0 = 1;
+                r0_7_0 = r1_3_1_copyload;
+                r0_131_0 = 0;
+                r0_19_0 = 0;
+                goto dfuse_memory_map_read_map_exit;
+            }
+            r8_6_3_6_copyload = load64(r16_2 + 8);
+            r8_6_5_6_copyload = (size_t)load64(r16_2 + 16);
+            r8_6_6_6_copyload = load64(r16_2 + 24);
+            memset(r1, 0, 768);
+            r2_0 = 0;
+            while (r2_0 != 32) {
+                memset(r1 + (r2_0 * 24), 0, 24);
+                r2_0 = r2_0 + 1;
+            }
+            memcpy(r3, r1, 768);
+            r11_3_0_r3_sroa_idx = r3 + 768;
+            r20 = r5 + 8;
+            r3_3_0_r27_sroa_idx = r5 + 16;
+            r3_4_0_r27_sroa_idx = r5 + 24;
+            r16_3 = r4 + 8;
+            r3_3_0_r23_sroa_idx = r4 + 16;
+            r3_4_0_r23_sroa_idx = r4 + 24;
+            r43 = r12 + 8;
+            r5_3_0_r43_sroa_idx = r12 + 16;
+            r5_3_3_0_r5_3_0_r43_sroa_idx_sroa_idx = r12 + 24;
+            r3_2 = 0;
+            r5_0_0 = r8_6_5_6_copyload;
+            r5_4_0 = r8_6_6_6_copyload;
+            r4_0_2 = r8_6_3_6_copyload;
+            for (;;) {
+                dfuse_memory_digits_take_number(r5, 10, 5, (unsigned char *)(uintptr_t)r5_0_0, r5_4_0);
+                uint8_t r19_2 = *r5;
+                if (r19_2 != 1) goto arm_2_2;
+                r21 = load64(r20);
+                if (r21 == 0) goto arm_2_2;
+                size_t r3_3_0_copyload = (size_t)load64(r3_3_0_r27_sroa_idx);
+                r3_4_0_copyload = load64(r3_4_0_r27_sroa_idx);
+                r29_2 = (unsigned char *)(uintptr_t)r3_3_0_copyload;
+                if (r3_4_0_copyload == 0) goto arm_2_2;
+                uint8_t r25_2 = *r29_2;
+                if (r25_2 != 42) goto arm_2_2;
+                dfuse_memory_digits_take_number(r4, 10, 5, r29_2 + 1, r3_4_0_copyload - 1);
+                uint8_t r15 = *r4;
+                if (r15 != 1) goto arm_6;
+                r17 = load64(r16_3);
+                if (r17 == 0) goto arm_6;
+                size_t r3_3_0_copyload_2 = (size_t)load64(r3_3_0_r23_sroa_idx);
+                r3_4_0_copyload_2 = load64(r3_4_0_r23_sroa_idx);
+                r27_2 = (unsigned char *)(uintptr_t)r3_3_0_copyload_2;
+                if (r3_4_0_copyload_2 == 0) break;
+                uint8_t r25_3 = *r27_2;
+                switch (r25_3) {
+                case 75:
+                    r1_0 = 1024;
+                    break;
+                case 77:
+                    r1_0 = 0x100000U;
+                    break;
+                case 32:
+                case 66:
+                    r1_0 = 1;
+                    break;
+                default:
+                    r5_6_4_0_ph221 = r3_4_0_copyload_2;
+                    r5_6_3_0_ptr220 = r27_2;
+                    r5_6_1_0_ph219 = r17;
+                    goto arm_3;
+                }
+                uint64_t r19_3 = r3_4_0_copyload_2 - 1;
+                if (r19_3 == 0) {
+                    r20_6_0 = 4;
+                    goto arm_9;
+                }
+                r5_6_4_0_ph221 = r19_3;
+                r5_6_3_0_ptr220 = r27_2 + 1;
+                r5_6_1_0_ph219 = (uint64_t)r1_0 * r17;
+arm_3:
+                r25_4 = *r5_6_3_0_ptr220;
+                if ((uint8_t)(r25_4 + 159) >= 7) {
+                    r20_6_0 = 4;
+                    goto arm_9;
+                }
+                if (((r5_6_1_0_ph219 * r21) + r4_0_2) > 0x100000000ULL) {
+                    r20_6_0 = 5;
+                    goto arm_9;
+                }
+                if (r3_2 == 32) {
+                    r20_6_0 = 6;
+                    goto arm_9;
+                }
+                unsigned char *r13 = r3 + ((size_t)r3_2 * 24);
+                store32(r13, (uint32_t)r4_0_2);
+                store32(r13 + 4, 0);
+                store64(r13 + 8, r5_6_1_0_ph219);
+                store32(r13 + 16, (uint32_t)r21);
+                r13[20] = r25_4 & 1;
+                r13[21] = (uint8_t)(r25_4 >> 1) & 1;
+                r13[22] = (uint8_t)(r25_4 >> 2) & 1;
+                r13[23] = 0;
+                r17_2 = r3_2 + 1;
+                store64(r11_3_0_r3_sroa_idx, r17_2);
+                r21_2 = (r5_6_1_0_ph219 * (uint64_t)((size_t)r21 & 0xffffffffU)) + (uint64_t)((size_t)r4_0_2 & 0xffffffffU);
+                if (r5_6_4_0_ph221 == 1) goto arm_8;
+                uint8_t r25_5 = r5_6_3_0_ptr220[1];
+                r16_4 = r5_6_3_0_ptr220 + 2;
+                r19_4 = r5_6_4_0_ph221 - 2;
+                switch (r25_5) {
+                case 44:
+                    r8_17_0_0 = (size_t)(uintptr_t)r16_4;
+                    r8_17_5_0 = r19_4;
+                    r8_13_0 = r21_2;
+                    break;
+                case 47: {
+                    dfuse_memory_place_take_address(r12, r16_4, r19_4);
+                    uint8_t r42 = *r12;
+                    if (r42 != 0) goto arm_10;
+                    uint64_t r5_0_0_copyload = load64(r43);
+                    size_t r5_3_0_0_copyload = (size_t)load64(r5_3_0_r43_sroa_idx);
+                    uint64_t r5_3_3_0_copyload = load64(r5_3_3_0_r5_3_0_r43_sroa_idx_sroa_idx);
+                    r8_17_0_0 = r5_3_0_0_copyload;
+                    r8_17_5_0 = r5_3_3_0_copyload;
+                    r8_13_0 = r5_0_0_copyload;
+                    break;
+                }
+                default:
+                    r8_6_0 = 7;
+                    goto arm_11;
+                }
+                r3_2 = r17_2;
+                r5_0_0 = r8_17_0_0;
+                r5_4_0 = r8_17_5_0;
+                r4_0_2 = r8_13_0;
+            }
+            r20_6_0 = 4;
+            goto arm_9;
+arm_8:
+            r20_11_8_r60_sroa_idx = r20_11 + 6;
+            memcpy(r20_11_8_r60_sroa_idx, r3, 776);
+            memcpy(r9, r20_11_8_r60_sroa_idx, 776);
+            r4_2 = load64(r9 + 768);
+            indvars_iv_in = r4_2;
+            r4_0_3 = 0;
+            for (;;) {
+                indvars_iv = indvars_iv_in - 1;
+                if (r4_0_3 == r4_2) break;
+                r26 = r9 + ((size_t)r4_0_3 * 24);
+                r51 = r4_0_3 + 1;
+                r16_5 = r9 + ((size_t)r51 * 24);
+                r19_5 = r4_2 - r51;
+                r10 = r26 + 16;
+                r14 = r26 + 8;
+                r3_0_3 = 0;
+                for (;;) {
+                    if (r3_0_3 == r19_5) {
+                        r3_0_lcssa = indvars_iv;
+                        break;
+                    }
+                    r23_2 = r16_5 + ((size_t)r3_0_3 * 24);
+                    uint32_t r7 = load32(r26);
+                    r9_2 = (size_t)r7;
+                    uint32_t r11 = load32(r10);
+                    uint64_t r15_2 = load64(r14);
+                    uint32_t r9_3 = load32(r23_2);
+                    r11_2 = (size_t)r9_3;
+                    if (((r15_2 * (uint64_t)(size_t)r11) + (uint64_t)r9_2) > (uint64_t)r11_2) {
+                        uint32_t r11_3 = load32(r23_2 + 16);
+                        uint64_t r15_3 = load64(r23_2 + 8);
+                        if (((r15_3 * (uint64_t)(size_t)r11_3) + (uint64_t)r11_2) > (uint64_t)r9_2) {
+                            r3_0_lcssa = r3_0_3;
+                            break;
+                        }
+                    }
+                    r3_0_3 = r3_0_3 + 1;
+                }
+                if (r3_0_lcssa < r19_5) goto then_11;
+                indvars_iv_in = indvars_iv;
+                r4_0_3 = r51;
+            }
+            memcpy(r0_20, r20_11_8_r60_sroa_idx, 776);
+            r0_0_0 = 0;
+            r0_7_0 = 0;
+            r0_131_0 = wide_1311;
+            r0_19_0 = r3_0_2;
+            goto dfuse_memory_map_read_map_exit;
+then_11:
+            memcpy(r0_20, r0_17_11, 776);
+            r0_0_0 = 1;
+            r0_7_0 = 8;
+            r0_131_0 = 0;
+            r0_19_0 = 0;
+            goto dfuse_memory_map_read_map_exit;
+arm_10:;
+            uint8_t r6_0_0_copyload = r12[1];
+            r8_6_0 = r6_0_0_copyload;
+arm_11:
+            r20_6_0 = r8_6_0;
+            goto arm_9;
+arm_6:
+            r20_6_0 = 3;
+            goto arm_9;
+arm_2_2:
+            r20_6_0 = 2;
+arm_9:
+            memset(r0_20, 0, 776);
+            r0_0_0 = 1;
+            r0_7_0 = r20_6_0;
+            r0_131_0 = 0;
+            r0_19_0 = 0;
+            goto dfuse_memory_map_read_map_exit;
+        }
     }
-    r4_0_0_in = r4_0_0_in + 1;
-    r23 = r23 + 0xffffffffffffffffULL;
-    r3_0 = r3_0 + 1;
-    goto loop_2;
-loop_3:
-    if (r4_0 == r3_0) goto arm_1;
-    uint64_t r27 = r4_0 + 1;
-    uint8_t r29 = r16[(size_t)r4_0];
-    r3_0_2 = (uint64_t)((r29 == 32) ? r3_0_2 : r27);
-    r4_0 = r27;
-    goto loop_3;
-arm_1:;
-    uint64_t r47 = r3_0 + 1;
-    dfuse_memory_place_take_address(r16_2, r16 + (size_t)r47, r19 - r47);
-    uint8_t r1_0_0_copyload = *r16_2;
-    if (r1_0_0_copyload == 0) goto arm_5;
-    goto arm_6;
 arm_2:
     memset(r0_20, 0, 776);
     r0_0_0 = 1;
     r0_7_0 = 0;
     r0_131_0 = 0;
     r0_19_0 = 0;
-    goto dfuse_memory_map_read_map_exit;
-arm_5:
-    r8_6_3_6_copyload = load64(r16_2 + 8);
-    r8_6_5_6_copyload = load64(r16_2 + 16);
-    r8_6_6_6_copyload = load64(r16_2 + 24);
-    memset(r1, 0, 768);
-    r2_0 = 0;
-loop_2_2:
-    if (r2_0 == 32) goto arrayvec_array_vec_ArrayVec_T_CAP_new_exit;
-    memset(r1 + (size_t)(r2_0 * 24), 0, 24);
-    r2_0 = r2_0 + 1;
-    goto loop_2_2;
-arrayvec_array_vec_ArrayVec_T_CAP_new_exit:
-    memcpy(r3, r1, 768);
-    r11_3_0_r3_sroa_idx = r3 + 768;
-    r20 = r5 + 8;
-    r3_3_0_r27_sroa_idx = r5 + 16;
-    r3_4_0_r27_sroa_idx = r5 + 24;
-    r16_3 = r4 + 8;
-    r3_3_0_r23_sroa_idx = r4 + 16;
-    r3_4_0_r23_sroa_idx = r4 + 24;
-    r43 = r12 + 8;
-    r5_3_0_r43_sroa_idx = r12 + 16;
-    r5_3_3_0_r5_3_0_r43_sroa_idx_sroa_idx = r12 + 24;
-    r3_2 = 0;
-    r5_0_0 = r8_6_5_6_copyload;
-    r5_4_0 = r8_6_6_6_copyload;
-    r4_0_2 = r8_6_3_6_copyload;
-loop_2_3:
-    dfuse_memory_digits_take_number(r5, 10, 5, (unsigned char *)(uintptr_t)r5_0_0, r5_4_0);
-    uint8_t r19_2 = *r5;
-    if (r19_2 != 1) goto arm_2_2;
-    r21 = load64(r20);
-    if (r21 == 0) goto arm_2_2;
-    uint64_t r3_3_0_copyload = load64(r3_3_0_r27_sroa_idx);
-    r3_4_0_copyload = load64(r3_4_0_r27_sroa_idx);
-    r29_2 = (unsigned char *)(uintptr_t)r3_3_0_copyload;
-    if (r3_4_0_copyload == 0) goto arm_2_2;
-    uint8_t r25_2 = *r29_2;
-    if (r25_2 != 42) goto arm_2_2;
-    dfuse_memory_digits_take_number(r4, 10, 5, r29_2 + 1, r3_4_0_copyload + 0xffffffffffffffffULL);
-    uint8_t r15 = *r4;
-    if (r15 != 1) goto arm_6_2;
-    r17 = load64(r16_3);
-    if (r17 == 0) goto arm_6_2;
-    uint64_t r3_3_0_copyload_2 = load64(r3_3_0_r23_sroa_idx);
-    r3_4_0_copyload_2 = load64(r3_4_0_r23_sroa_idx);
-    r27_2 = (unsigned char *)(uintptr_t)r3_3_0_copyload_2;
-    if (r3_4_0_copyload_2 != 0) goto arm_3;
-    r20_6_0 = 4;
-    goto arm_9;
-arm_3:;
-    uint8_t r25_3 = *r27_2;
-    switch (r25_3) {
-    case 75:
-        r1_0 = 1024;
-        goto arm_5_2;
-    case 77: goto arm_2_3;
-    case 32: goto arm_3_2;
-    case 66: goto arm_3_2;
-    default: goto arm_5_thread214;
-    }
-arm_5_thread214:
-    r5_6_4_0_ph221 = r3_4_0_copyload_2;
-    r5_6_3_0_ptr220 = r27_2;
-    r5_6_1_0_ph219 = r17;
-    goto arm_3_3;
-arm_2_3:
-    r1_0 = 0x100000U;
-    goto arm_5_2;
-arm_3_2:
-    r1_0 = 1;
-    goto arm_5_2;
-arm_2_2:
-    r20_6_0 = 2;
-    goto arm_9;
-arm_5_2:;
-    uint64_t r19_3 = r3_4_0_copyload_2 + 0xffffffffffffffffULL;
-    if (r19_3 == 0) {
-        r20_6_0 = 4;
-        goto arm_9;
-    }
-    r5_6_4_0_ph221 = r19_3;
-    r5_6_3_0_ptr220 = r27_2 + 1;
-    r5_6_1_0_ph219 = r1_0 * r17;
-arm_3_3:
-    r25_4 = *r5_6_3_0_ptr220;
-    if ((uint8_t)(r25_4 + 159) < 7) goto arm_8;
-    r20_6_0 = 4;
-    goto arm_9;
-arm_6_2:
-    r20_6_0 = 3;
-    goto arm_9;
-arm_8:
-    if (((r5_6_1_0_ph219 * r21) + r4_0_2) > 0x100000000ULL) {
-        r20_6_0 = 5;
-        goto arm_9;
-    }
-    if (r3_2 == 32) {
-        r20_6_0 = 6;
-        goto arm_9;
-    }
-    unsigned char *r13 = r3 + (size_t)(r3_2 * 24);
-    store32(r13, (uint32_t)r4_0_2);
-    store32(r13 + 4, 0);
-    store64(r13 + 8, r5_6_1_0_ph219);
-    store32(r13 + 16, (uint32_t)r21);
-    r13[20] = r25_4 & 1;
-    r13[21] = (uint8_t)(r25_4 >> 1) & 1;
-    r13[22] = (uint8_t)(r25_4 >> 2) & 1;
-    r13[23] = 0;
-    r17_2 = r3_2 + 1;
-    store64(r11_3_0_r3_sroa_idx, r17_2);
-    r21_2 = (r5_6_1_0_ph219 * (r21 & 0xffffffffU)) + (r4_0_2 & 0xffffffffU);
-    if (r5_6_4_0_ph221 == 1) goto arm_8_2;
-    uint8_t r25_5 = r5_6_3_0_ptr220[1];
-    r16_4 = r5_6_3_0_ptr220 + 2;
-    r19_4 = r5_6_4_0_ph221 + 0xfffffffffffffffeULL;
-    switch (r25_5) {
-    case 44: goto arm_5_3;
-    case 47: goto arm_6_3;
-    default:
-        r8_6_0 = 7;
-        goto arm_11;
-    }
-arm_5_3:
-    r8_17_0_0 = (uint64_t)(uintptr_t)r16_4;
-    r8_17_5_0 = r19_4;
-    r8_13_0 = r21_2;
-    goto arm_14;
-arm_6_3:
-    dfuse_memory_place_take_address(r12, r16_4, r19_4);
-    uint8_t r42 = *r12;
-    if (r42 != 0) goto arm_10;
-    uint64_t r5_0_0_copyload = load64(r43);
-    uint64_t r5_3_0_0_copyload = load64(r5_3_0_r43_sroa_idx);
-    uint64_t r5_3_3_0_copyload = load64(r5_3_3_0_r5_3_0_r43_sroa_idx_sroa_idx);
-    r8_17_0_0 = r5_3_0_0_copyload;
-    r8_17_5_0 = r5_3_3_0_copyload;
-    r8_13_0 = r5_0_0_copyload;
-    goto arm_14;
-arm_10:;
-    uint8_t r6_0_0_copyload = r12[1];
-    r8_6_0 = r6_0_0_copyload;
-    goto arm_11;
-arm_14:
-    r3_2 = r17_2;
-    r5_0_0 = r8_17_0_0;
-    r5_4_0 = r8_17_5_0;
-    r4_0_2 = r8_13_0;
-    goto loop_2_3;
-arm_11:
-    r20_6_0 = r8_6_0;
-    goto arm_9;
-arm_6:;
-    uint8_t r1_3_1_copyload = r16_2[1];
-    memset(r0_20, 0, 776);
-    r0_0_0 = 1;
-    r0_7_0 = r1_3_1_copyload;
-    r0_131_0 = 0;
-    r0_19_0 = 0;
-    goto dfuse_memory_map_read_map_exit;
-arm_8_2:
-    r20_11_8_r60_sroa_idx = r20_11 + 6;
-    memcpy(r20_11_8_r60_sroa_idx, r3, 776);
-    memcpy(r9, r20_11_8_r60_sroa_idx, 776);
-    r4_2 = load64(r9 + 768);
-    indvars_iv_in = r4_2;
-    r4_0_3 = 0;
-loop_3_3:
-    indvars_iv = indvars_iv_in + 0xffffffffffffffffULL;
-    if (r4_0_3 == r4_2) goto join_13;
-    r26 = r9 + (size_t)(r4_0_3 * 24);
-    r51 = r4_0_3 + 1;
-    r16_5 = r9 + (size_t)(r51 * 24);
-    r19_5 = r4_2 - r51;
-    r10 = r26 + 16;
-    r14 = r26 + 8;
-    r3_0_3 = 0;
-loop_3_2:
-    if (r3_0_3 == r19_5) {
-        r3_0_lcssa = indvars_iv;
-        goto dfuse_memory_apart_is_apart_from_exit;
-    }
-    r23_2 = r16_5 + (size_t)(r3_0_3 * 24);
-    uint32_t r7 = load32(r26);
-    r9_2 = (uint64_t)r7;
-    uint32_t r11 = load32(r10);
-    uint64_t r15_2 = load64(r14);
-    uint32_t r9_3 = load32(r23_2);
-    r11_2 = (uint64_t)r9_3;
-    if (((r15_2 * (uint64_t)r11) + r9_2) <= r11_2) goto after_7;
-    uint32_t r11_3 = load32(r23_2 + 16);
-    uint64_t r15_3 = load64(r23_2 + 8);
-    if (((r15_3 * (uint64_t)r11_3) + r11_2) > r9_2) {
-        r3_0_lcssa = r3_0_3;
-        goto dfuse_memory_apart_is_apart_from_exit;
-    }
-after_7:
-    r3_0_3 = r3_0_3 + 1;
-    goto loop_3_2;
-dfuse_memory_apart_is_apart_from_exit:
-    if (r3_0_lcssa < r19_5) goto then_11;
-    indvars_iv_in = indvars_iv;
-    r4_0_3 = r51;
-    goto loop_3_3;
-arm_9:
-    memset(r0_20, 0, 776);
-    r0_0_0 = 1;
-    r0_7_0 = r20_6_0;
-    r0_131_0 = 0;
-    r0_19_0 = 0;
-    goto dfuse_memory_map_read_map_exit;
-then_11:
-    memcpy(r0_20, r0_17_11, 776);
-    r0_0_0 = 1;
-    r0_7_0 = 8;
-    r0_131_0 = 0;
-    r0_19_0 = 0;
-    goto dfuse_memory_map_read_map_exit;
-join_13:
-    memcpy(r0_20, r20_11_8_r60_sroa_idx, 776);
-    r0_0_0 = 0;
-    r0_7_0 = 0;
-    r0_131_0 = wide_1311;
-    r0_19_0 = r3_0_2;
 dfuse_memory_map_read_map_exit:
     *a0 = r0_0_0;
     a0[1] = r0_7_0;
@@ -1257,41 +1237,44 @@ dfuse_memory_map_read_map_exit:
     return;
 }
 
-/* dfuse_memory::place::take_address */
+/* dfuse_memory::place::take_address: crates/dfuse_memory/src/place.rt */
 static void dfuse_memory_place_take_address(unsigned char *a0, unsigned char *a1, uint64_t a2) {
     _Alignas(8) unsigned char r5[32];
     unsigned char *r6_0_0, *r28;
-    uint64_t r6_4_0, r3_0_0_copyload, r3_4_0_copyload, r7_9_0_0, r7_9_3_0, r7_72_0;
+    uint64_t r6_4_0, r3_0_0_copyload, r3_4_0_copyload, r7_9_3_0, r7_72_0;
+    size_t r7_9_0_0;
     uint8_t r7_4_0;
     if (a2 == 0) {
         r6_0_0 = a1;
         r6_4_0 = 0;
-        goto dfuse_memory_place_behind_prefix_exit;
     }
-    uint8_t r25 = *a1;
-    if (r25 != 48) {
-        r6_0_0 = a1;
-        r6_4_0 = a2;
-        goto dfuse_memory_place_behind_prefix_exit;
+    else {
+        uint8_t r25 = *a1;
+        if (r25 != 48) {
+            r6_0_0 = a1;
+            r6_4_0 = a2;
+        }
+        else {
+            if (a2 == 1) {
+                r6_0_0 = a1;
+                r6_4_0 = 1;
+            }
+            else {
+                uint8_t r25_2 = a1[1];
+                switch (r25_2) {
+                case 88:
+                case 120:
+                    r6_0_0 = a1 + 2;
+                    r6_4_0 = a2 - 2;
+                    break;
+                default:
+                    r6_0_0 = a1;
+                    r6_4_0 = a2;
+                    break;
+                }
+            }
+        }
     }
-    if (a2 == 1) {
-        r6_0_0 = a1;
-        r6_4_0 = 1;
-        goto dfuse_memory_place_behind_prefix_exit;
-    }
-    uint8_t r25_2 = a1[1];
-    switch (r25_2) {
-    case 88: goto arm_15;
-    case 120: goto arm_15;
-    default:
-        r6_0_0 = a1;
-        r6_4_0 = a2;
-        goto dfuse_memory_place_behind_prefix_exit;
-    }
-arm_15:
-    r6_0_0 = a1 + 2;
-    r6_4_0 = a2 + 0xfffffffffffffffeULL;
-dfuse_memory_place_behind_prefix_exit:
     dfuse_memory_digits_take_number(r5, 16, 8, r6_0_0, r6_4_0);
     uint8_t r25_3 = *r5;
     if (r25_3 != 1) {
@@ -1299,32 +1282,34 @@ dfuse_memory_place_behind_prefix_exit:
         r7_9_3_0 = 0;
         r7_4_0 = 1;
         r7_72_0 = 0;
-        goto join_4;
     }
-    r3_0_0_copyload = load64(r5 + 8);
-    uint64_t r3_3_0_copyload = load64(r5 + 16);
-    r3_4_0_copyload = load64(r5 + 24);
-    r28 = (unsigned char *)(uintptr_t)r3_3_0_copyload;
-    if (r3_4_0_copyload == 0) {
-        r7_9_0_0 = 0;
-        r7_9_3_0 = 0;
-        r7_4_0 = 1;
-        r7_72_0 = 0;
-        goto join_4;
+    else {
+        r3_0_0_copyload = load64(r5 + 8);
+        size_t r3_3_0_copyload = (size_t)load64(r5 + 16);
+        r3_4_0_copyload = load64(r5 + 24);
+        r28 = (unsigned char *)(uintptr_t)r3_3_0_copyload;
+        if (r3_4_0_copyload == 0) {
+            r7_9_0_0 = 0;
+            r7_9_3_0 = 0;
+            r7_4_0 = 1;
+            r7_72_0 = 0;
+        }
+        else {
+            uint8_t r25_4 = *r28;
+            if (r25_4 == 47) {
+                r7_9_0_0 = (size_t)(uintptr_t)(r28 + 1);
+                r7_9_3_0 = r3_4_0_copyload - 1;
+                r7_4_0 = 0;
+                r7_72_0 = r3_0_0_copyload;
+            }
+            else {
+                r7_9_0_0 = 0;
+                r7_9_3_0 = 0;
+                r7_4_0 = 1;
+                r7_72_0 = 0;
+            }
+        }
     }
-    uint8_t r25_4 = *r28;
-    if (r25_4 != 47) {
-        r7_9_0_0 = 0;
-        r7_9_3_0 = 0;
-        r7_4_0 = 1;
-        r7_72_0 = 0;
-        goto join_4;
-    }
-    r7_9_0_0 = (uint64_t)(uintptr_t)(r28 + 1);
-    r7_9_3_0 = r3_4_0_copyload + 0xffffffffffffffffULL;
-    r7_4_0 = 0;
-    r7_72_0 = r3_0_0_copyload;
-join_4:
     *a0 = r7_4_0;
     a0[1] = r7_4_0;
     store64(a0 + 8, r7_72_0);
@@ -1333,78 +1318,66 @@ join_4:
     return;
 }
 
-/* dfuse_memory::digits::take_number */
-static void dfuse_memory_digits_take_number(unsigned char *a0, uint64_t a1, uint64_t a2, unsigned char *a3, uint64_t a4) {
+/* dfuse_memory::digits::take_number: crates/dfuse_memory/src/digits.rt */
+static void dfuse_memory_digits_take_number(unsigned char *a0, size_t a1, size_t a2, unsigned char *a3, uint64_t a4) {
     uint64_t r4_0, r3_0_lcssa, r4_0_2, r3_0;
     r4_0 = 0;
-loop_3:
-    if (r4_0 == a4) {
-        r3_0_lcssa = a4;
-        goto dfuse_memory_digits_digits_in_exit;
+    for (;;) {
+        if (r4_0 == a4) {
+            r3_0_lcssa = a4;
+            break;
+        }
+        uint8_t r25 = a3[(size_t)r4_0];
+        uint64_t r27 = dfuse_memory_digits_digit_value(r25);
+        if ((uint64_t)a1 <= r27) {
+            r3_0_lcssa = r4_0;
+            break;
+        }
+        r4_0 = r4_0 + 1;
     }
-    uint8_t r25 = a3[(size_t)r4_0];
-    uint64_t r27 = dfuse_memory_digits_digit_value(r25);
-    if (a1 <= r27) {
-        r3_0_lcssa = r4_0;
-        goto dfuse_memory_digits_digits_in_exit;
+    if ((r3_0_lcssa - 1) >= (uint64_t)a2) {
+        memset(a0, 0, 32);
+        return;
     }
-    r4_0 = r4_0 + 1;
-    goto loop_3;
-dfuse_memory_digits_digits_in_exit:
-    if ((r3_0_lcssa + 0xffffffffffffffffULL) < a2) {
-        r4_0_2 = 0;
-        r3_0 = 0;
-        goto loop_3_2;
+    r4_0_2 = 0;
+    r3_0 = 0;
+    while (r4_0_2 != r3_0_lcssa) {
+        uint8_t r27_2 = a3[(size_t)r4_0_2];
+        uint64_t r29 = dfuse_memory_digits_digit_value(r27_2);
+        r4_0_2 = r4_0_2 + 1;
+        r3_0 = r29 + (r3_0 * (uint64_t)a1);
     }
-    goto join_5;
-join_5:
-    memset(a0, 0, 32);
-    return;
-loop_3_2:
-    if (r4_0_2 == r3_0_lcssa) goto dfuse_memory_digits_said_exit;
-    uint8_t r27_2 = a3[(size_t)r4_0_2];
-    uint64_t r29 = dfuse_memory_digits_digit_value(r27_2);
-    r4_0_2 = r4_0_2 + 1;
-    r3_0 = r29 + (r3_0 * a1);
-    goto loop_3_2;
-dfuse_memory_digits_said_exit:
     store64(a0, 1);
     store64(a0 + 8, r3_0);
-    store64(a0 + 16, (uint64_t)(uintptr_t)(a3 + (size_t)r3_0_lcssa));
+    store64(a0 + 16, (size_t)(uintptr_t)(a3 + (size_t)r3_0_lcssa));
     store64(a0 + 24, a4 - r3_0_lcssa);
     return;
 }
 
-/* dfuse_memory::digits::digit_value */
+/* dfuse_memory::digits::digit_value: crates/dfuse_memory/src/digits.rt */
 static uint64_t dfuse_memory_digits_digit_value(uint8_t a0) {
     uint64_t r1_0;
-    if (a0 < 48) {
-        r1_0 = 16;
-        goto after_1;
+    if (a0 < 48) r1_0 = 16;
+    else {
+        if (a0 < 58) r1_0 = (size_t)(uint8_t)(a0 + 208);
+        else {
+            if (a0 < 65) r1_0 = 16;
+            else {
+                if (a0 < 71) r1_0 = (uint64_t)(size_t)a0 - 55;
+                else {
+                    if ((uint8_t)(a0 + 159) < 6) r1_0 = (uint64_t)(size_t)a0 - 87;
+                    else {
+                        r1_0 = 16;
+                    }
+                }
+            }
+        }
     }
-    if (a0 >= 58) goto join_8;
-    r1_0 = (uint64_t)(uint8_t)(a0 + 208);
-    goto after_1;
-join_8:
-    if (a0 < 65) {
-        r1_0 = 16;
-        goto after_1;
-    }
-    if (a0 >= 71) goto join_14;
-    r1_0 = (uint64_t)a0 + 0xffffffffffffffc9ULL;
-    goto after_1;
-join_14:
-    if ((uint8_t)(a0 + 159) >= 6) {
-        r1_0 = 16;
-        goto after_1;
-    }
-    r1_0 = (uint64_t)a0 + 0xffffffffffffffa9ULL;
-after_1:
     return r1_0;
 }
 
-/* dfu_host_c::file::file_in */
-static void dfu_host_c_file_file_in(unsigned char *a0, unsigned char *a1, uint64_t a2) {
+/* dfu_host_c::file::file_in: crates/dfu_host_c/src/file.rt */
+static void dfu_host_c_file_file_in(unsigned char *a0, unsigned char *a1, size_t a2) {
     _Alignas(8) unsigned char r0[40];
     dfu_suffix_parse_read_small(r0, a1, a2);
     uint8_t v0 = *r0;
@@ -1415,331 +1388,304 @@ static void dfu_host_c_file_file_in(unsigned char *a0, unsigned char *a1, uint64
     return;
 }
 
-/* dfu_images::endings::ends_in */
-static uint8_t dfu_images_endings_ends_in(unsigned char *a0, uint64_t a1, unsigned char *a2, uint64_t a3) {
-    uint8_t common_ret_op, exitcond_not;
+/* dfu_images::endings::ends_in: crates/dfu_images/src/endings.rt */
+static uint8_t dfu_images_endings_ends_in(unsigned char *a0, size_t a1, unsigned char *a2, size_t a3) {
     unsigned char *r16;
-    uint64_t r5_0;
-    if (a3 >= a1) goto join_3;
-    common_ret_op = 0;
-common_ret:
+    size_t r5_0;
+    uint8_t exitcond_not, common_ret_op;
+    if (a3 < a1) common_ret_op = 0;
+    else {
+        r16 = a2 + (a3 - a1);
+        r5_0 = 0;
+        for (;;) {
+            exitcond_not = r5_0 == a1;
+            if (exitcond_not) {
+                common_ret_op = exitcond_not;
+                break;
+            }
+            uint8_t r46 = r16[r5_0];
+            uint8_t r52 = a0[r5_0];
+            if ((uint8_t)(((uint8_t)(r46 + 191) < 26) ? (uint8_t)(r46 + 32) : r46) != (uint8_t)(((uint8_t)(r52 + 191) < 26) ? (uint8_t)(r52 + 32) : r52)) {
+                common_ret_op = exitcond_not;
+                break;
+            }
+            r5_0 = r5_0 + 1;
+        }
+    }
     return common_ret_op;
-join_3:
-    r16 = a2 + (size_t)(a3 - a1);
-    r5_0 = 0;
-loop_5:
-    exitcond_not = r5_0 == a1;
-    if (exitcond_not) {
-        common_ret_op = exitcond_not;
-        goto common_ret;
-    }
-    uint8_t r46 = r16[(size_t)r5_0];
-    uint8_t r52 = a0[(size_t)r5_0];
-    if ((uint8_t)(((uint8_t)(r46 + 191) < 26) ? (uint8_t)(r46 + 32) : r46) == (uint8_t)(((uint8_t)(r52 + 191) < 26) ? (uint8_t)(r52 + 32) : r52)) {
-        r5_0 = r5_0 + 1;
-        goto loop_5;
-    }
-    common_ret_op = exitcond_not;
-    goto common_ret;
 }
 
-/* dfu_images::looks::has_digits */
+/* dfu_images::looks::has_digits: crates/dfu_images/src/looks.rt */
 static uint8_t dfu_images_looks_has_digits(unsigned char *a0, uint64_t a1) {
     uint8_t r5_0_off0;
-    if (a1 < 2) {
-        r5_0_off0 = 0;
-        goto after_1;
+    if (a1 < 2) r5_0_off0 = 0;
+    else {
+        uint8_t r28 = *a0;
+        uint8_t r30 = dfu_images_digits_hex_digit(r28);
+        if (r30 >= 16) r5_0_off0 = 0;
+        else {
+            uint8_t r37 = a0[1];
+            uint8_t r39 = dfu_images_digits_hex_digit(r37);
+            r5_0_off0 = r39 < 16;
+        }
     }
-    uint8_t r28 = *a0;
-    uint8_t r30 = dfu_images_digits_hex_digit(r28);
-    if (r30 >= 16) {
-        r5_0_off0 = 0;
-        goto after_1;
-    }
-    uint8_t r37 = a0[1];
-    uint8_t r39 = dfu_images_digits_hex_digit(r37);
-    r5_0_off0 = r39 < 16;
-after_1:
     return r5_0_off0;
 }
 
-/* dfu_images::digits::hex_digit */
+/* dfu_images::digits::hex_digit: crates/dfu_images/src/digits.rt */
 static uint8_t dfu_images_digits_hex_digit(uint8_t a0) {
     uint8_t r1_0;
-    if (a0 < 48) {
-        r1_0 = 16;
-        goto after_1;
+    if (a0 < 48) r1_0 = 16;
+    else {
+        if (a0 < 58) r1_0 = (uint8_t)(a0 + 208);
+        else {
+            if (a0 < 65) r1_0 = 16;
+            else {
+                if (a0 < 71) r1_0 = (uint8_t)(a0 + 201);
+                else {
+                    r1_0 = (uint8_t)(((uint8_t)(a0 + 159) < 6) ? (uint8_t)(a0 + 169) : 16);
+                }
+            }
+        }
     }
-    if (a0 >= 58) goto join_8;
-    r1_0 = (uint8_t)(a0 + 208);
-    goto after_1;
-join_8:
-    if (a0 < 65) {
-        r1_0 = 16;
-        goto after_1;
-    }
-    if (a0 >= 71) goto join_14;
-    r1_0 = (uint8_t)(a0 + 201);
-    goto after_1;
-join_14:
-    r1_0 = (uint8_t)(((uint8_t)(a0 + 159) < 6) ? (uint8_t)(a0 + 169) : 16);
-after_1:
     return r1_0;
 }
 
 /* core::slice::reads::slice+T::starts_with::<i8,31'core::cmp::numbers::U8PartialEq{}> */
-static uint8_t core_slice_reads_slice_T_starts_with_i8_core_cmp_numbers_U8PartialEq(unsigned char *a0, uint64_t a1, unsigned char *a2, uint64_t a3) {
+static uint8_t core_slice_reads_slice_T_starts_with_i8_core_cmp_numbers_U8PartialEq(unsigned char *a0, size_t a1, unsigned char *a2, size_t a3) {
     _Alignas(8) unsigned char r9[32];
-    uint8_t common_ret_op, common_ret_op_2;
-    if (a1 >= a3) goto join_3;
-    common_ret_op = 0;
-common_ret:
+    uint8_t common_ret_op_2, common_ret_op;
+    if (a1 < a3) common_ret_op = 0;
+    else {
+        store64(r9, (size_t)(uintptr_t)a2);
+        store64(r9 + 8, a3);
+        store64(r9 + 16, (size_t)(uintptr_t)a0);
+        store64(r9 + 24, a3);
+        if (a3 >= 4) {
+            uint8_t r41 = core_slice_scan_any_in_ends(r9, a3, 4);
+            common_ret_op_2 = r41;
+        }
+        else {
+            uint8_t r7 = core_slice_scan_any_in_run(r9, 0, 1);
+            uint8_t r11 = core_slice_scan_any_in_run(r9, 1, 1);
+            uint8_t r21 = core_slice_scan_any_in_run(r9, a3 - 1, 1);
+            common_ret_op_2 = (r7 | r11) | r21;
+        }
+        common_ret_op = !common_ret_op_2;
+    }
     return common_ret_op;
-join_3:
-    store64(r9, (uint64_t)(uintptr_t)a2);
-    store64(r9 + 8, a3);
-    store64(r9 + 16, (uint64_t)(uintptr_t)a0);
-    store64(r9 + 24, a3);
-    if (a3 >= 4) goto join_6;
-    uint8_t r7 = core_slice_scan_any_in_run(r9, 0, 1);
-    uint8_t r11 = core_slice_scan_any_in_run(r9, 1, 1);
-    uint8_t r21 = core_slice_scan_any_in_run(r9, a3 + 0xffffffffffffffffULL, 1);
-    common_ret_op_2 = (r7 | r11) | r21;
-    goto core_cmp_slices_parts_equal_i8_core_cmp_numbers_U8PartialEq_exit;
-join_6:;
-    uint8_t r41 = core_slice_scan_any_in_ends(r9, a3, 4);
-    common_ret_op_2 = r41;
-core_cmp_slices_parts_equal_i8_core_cmp_numbers_U8PartialEq_exit:
-    common_ret_op = !common_ret_op_2;
-    goto common_ret;
 }
 
 /* core::slice::scan::any_in_ends::<#953750c03e87c3e2> */
-static uint8_t core_slice_scan_any_in_ends(unsigned char *a0, uint64_t a1, uint64_t a2) {
+static uint8_t core_slice_scan_any_in_ends(unsigned char *a0, size_t a1, size_t a2) {
     uint8_t r4 = core_slice_scan_any_in_run(a0, 0, a2);
     uint8_t r8 = core_slice_scan_any_in_run(a0, a1 - a2, a2);
     return r4 | r8;
 }
 
 /* core::slice::scan::skip_groups::<#953750c03e87c3e2> */
-static uint64_t core_slice_scan_skip_groups(unsigned char *a0, uint64_t a1, uint64_t a2, uint64_t a3) {
+static uint64_t core_slice_scan_skip_groups(unsigned char *a0, uint64_t a1, size_t a2, size_t a3) {
     uint64_t v0, r1_0;
-    v0 = a3 + 0xffffffffffffffffULL;
+    v0 = (uint64_t)a3 - 1;
     r1_0 = a1;
-loop_2:
-    if (v0 >= (a2 - r1_0)) goto after_1;
-    uint8_t r22 = core_slice_scan_any_in_run(a0, r1_0, a3);
-    if (r22) goto after_1;
-    r1_0 = r1_0 + a3;
-    goto loop_2;
-after_1:
+    while (v0 < ((uint64_t)a2 - r1_0)) {
+        uint8_t r22 = core_slice_scan_any_in_run(a0, (size_t)r1_0, a3);
+        if (r22) break;
+        r1_0 = r1_0 + (uint64_t)a3;
+    }
     return r1_0;
 }
 
 /* core::slice::scan::any_in_run::<#953750c03e87c3e2> */
-static uint8_t core_slice_scan_any_in_run(unsigned char *a0, uint64_t a1, uint64_t a2) {
+static uint8_t core_slice_scan_any_in_run(unsigned char *a0, size_t a1, size_t a2) {
     unsigned char *r14, *r19;
-    uint64_t r2_0;
+    size_t r2_0;
     uint8_t r1_0_off0;
-    uint64_t r3_0_0_copyload = load64(a0);
-    uint64_t r4_0_0_copyload = load64(a0 + 16);
+    size_t r3_0_0_copyload = (size_t)load64(a0);
+    size_t r4_0_0_copyload = (size_t)load64(a0 + 16);
     r14 = (unsigned char *)(uintptr_t)r3_0_0_copyload;
     r19 = (unsigned char *)(uintptr_t)r4_0_0_copyload;
     r2_0 = 0;
     r1_0_off0 = 0;
-loop_2:
-    if (r2_0 == a2) goto after_1;
-    uint64_t r12 = r2_0 + a1;
-    uint8_t r3 = r14[(size_t)r12];
-    uint8_t r4 = r19[(size_t)r12];
-    r2_0 = r2_0 + 1;
-    r1_0_off0 = r1_0_off0 | (r3 != r4);
-    goto loop_2;
-after_1:
+    while (r2_0 != a2) {
+        size_t r12 = r2_0 + a1;
+        uint8_t r3 = r14[r12];
+        uint8_t r4 = r19[r12];
+        r2_0 = r2_0 + 1;
+        r1_0_off0 = r1_0_off0 | (r3 != r4);
+    }
     return r1_0_off0;
 }
 
-/* dfu_images::text::is_text */
-static uint8_t dfu_images_text_is_text(unsigned char *a0, uint64_t a1) {
+/* dfu_images::text::is_text: crates/dfu_images/src/text.rt */
+static uint8_t dfu_images_text_is_text(unsigned char *a0, size_t a1) {
     uint8_t r3_0_0, r3_5_0, r3_8_0, r27, r10_5_011, r10_8_010, r10_10_09;
-    uint64_t r4_0;
+    size_t r4_0;
     uint8_t r3_0_in;
-    if (a1 == 0) {
-        r3_0_in = 0;
-        goto join_3;
+    if (a1 == 0) r3_0_in = 0;
+    else {
+        r3_0_0 = 0;
+        r3_5_0 = 128;
+        r3_8_0 = 191;
+        r4_0 = 0;
+        while (r4_0 != a1) {
+            r27 = a0[r4_0];
+            if (r3_0_0 != 0) {
+                if ((r3_5_0 > r27) | (r27 > r3_8_0)) {
+                    r3_0_in = 0;
+                    goto join_3;
+                }
+                r10_5_011 = (uint8_t)(r3_0_0 + 255);
+                r10_8_010 = 128;
+                r10_10_09 = 191;
+            }
+            else {
+                switch (r27) {
+                case 224:
+                    r10_5_011 = 2;
+                    r10_8_010 = 160;
+                    r10_10_09 = 191;
+                    break;
+                case 237:
+                    r10_5_011 = 2;
+                    r10_8_010 = 128;
+                    r10_10_09 = 159;
+                    break;
+                case 240:
+                    r10_5_011 = 3;
+                    r10_8_010 = 144;
+                    r10_10_09 = 191;
+                    break;
+                case 244:
+                    r10_5_011 = 3;
+                    r10_8_010 = 128;
+                    r10_10_09 = 143;
+                    break;
+                default:
+                    if ((uint8_t)(r27 ^ 128) > 127) {
+                        if (r27 < 9) {
+                            r3_0_in = 0;
+                            goto join_3;
+                        }
+                        if (r27 < 11) {
+                            r10_5_011 = 0;
+                            r10_8_010 = 128;
+                            r10_10_09 = 191;
+                        }
+                        else {
+                            if ((r27 != 11) & (r27 < 14)) {
+                                r10_5_011 = 0;
+                                r10_8_010 = 128;
+                                r10_10_09 = 191;
+                            }
+                            else {
+                                if (!((r27 > 31) & (r27 != 127))) {
+                                    r3_0_in = 0;
+                                    goto join_3;
+                                }
+                                r10_5_011 = 0;
+                                r10_8_010 = 128;
+                                r10_10_09 = 191;
+                            }
+                        }
+                    }
+                    else {
+                        if (r27 < 194) {
+                            r3_0_in = 0;
+                            goto join_3;
+                        }
+                        if (r27 < 224) {
+                            r10_5_011 = 1;
+                            r10_8_010 = 128;
+                            r10_10_09 = 191;
+                        }
+                        else {
+                            if (r27 < 240) {
+                                r10_5_011 = 2;
+                                r10_8_010 = 128;
+                                r10_10_09 = 191;
+                            }
+                            else {
+                                if (r27 >= 244) {
+                                    r3_0_in = 0;
+                                    goto join_3;
+                                }
+                                r10_5_011 = 3;
+                                r10_8_010 = 128;
+                                r10_10_09 = 191;
+                            }
+                        }
+                    }
+                    break;
+                }
+            }
+            r3_0_0 = r10_5_011;
+            r3_5_0 = r10_8_010;
+            r3_8_0 = r10_10_09;
+            r4_0 = r4_0 + 1;
+        }
+        r3_0_in = r3_0_0 == 0;
     }
-    r3_0_0 = 0;
-    r3_5_0 = 128;
-    r3_8_0 = 191;
-    r4_0 = 0;
-loop_3:
-    if (r4_0 == a1) goto after_1;
-    r27 = a0[(size_t)r4_0];
-    if (r3_0_0 != 0) goto join_3_2;
-    switch (r27) {
-    case 224:
-        r10_5_011 = 2;
-        r10_8_010 = 160;
-        r10_10_09 = 191;
-        goto arm_8;
-    case 237: goto arm_2;
-    case 240: goto arm_3;
-    case 244: goto arm_4;
-    default: goto default_5;
-    }
-arm_2:
-    r10_5_011 = 2;
-    r10_8_010 = 128;
-    r10_10_09 = 159;
-    goto arm_8;
-arm_3:
-    r10_5_011 = 3;
-    r10_8_010 = 144;
-    r10_10_09 = 191;
-    goto arm_8;
-arm_4:
-    r10_5_011 = 3;
-    r10_8_010 = 128;
-    r10_10_09 = 143;
-    goto arm_8;
-default_5:
-    if ((uint8_t)(r27 ^ 128) <= 127) goto join_11;
-    if (r27 < 9) {
-        r3_0_in = 0;
-        goto join_3;
-    }
-    if (r27 < 11) {
-        r10_5_011 = 0;
-        r10_8_010 = 128;
-        r10_10_09 = 191;
-        goto arm_8;
-    }
-    if ((r27 != 11) & (r27 < 14)) {
-        r10_5_011 = 0;
-        r10_8_010 = 128;
-        r10_10_09 = 191;
-        goto arm_8;
-    }
-    goto dfu_images_text_awaited_behind_exit;
-join_11:
-    if (r27 < 194) {
-        r3_0_in = 0;
-        goto join_3;
-    }
-    if (r27 < 224) {
-        r10_5_011 = 1;
-        r10_8_010 = 128;
-        r10_10_09 = 191;
-        goto arm_8;
-    }
-    if (r27 < 240) {
-        r10_5_011 = 2;
-        r10_8_010 = 128;
-        r10_10_09 = 191;
-        goto arm_8;
-    }
-    if (r27 < 244) {
-        r10_5_011 = 3;
-        r10_8_010 = 128;
-        r10_10_09 = 191;
-        goto arm_8;
-    }
-    r3_0_in = 0;
-    goto join_3;
-join_3_2:
-    if ((r3_5_0 > r27) | (r27 > r3_8_0)) {
-        r3_0_in = 0;
-        goto join_3;
-    }
-    r10_5_011 = (uint8_t)(r3_0_0 + 255);
-    r10_8_010 = 128;
-    r10_10_09 = 191;
-    goto arm_8;
-dfu_images_text_awaited_behind_exit:
-    if (!((r27 > 31) & (r27 != 127))) {
-        r3_0_in = 0;
-        goto join_3;
-    }
-    r10_5_011 = 0;
-    r10_8_010 = 128;
-    r10_10_09 = 191;
-arm_8:
-    r3_0_0 = r10_5_011;
-    r3_5_0 = r10_8_010;
-    r3_8_0 = r10_10_09;
-    r4_0 = r4_0 + 1;
-    goto loop_3;
-after_1:
-    r3_0_in = r3_0_0 == 0;
 join_3:
     return r3_0_in;
 }
 
-/* dfu_images::places::bad_from */
-static void dfu_images_places_bad_from(unsigned char *a0, uint8_t a1, unsigned char *a2, uint64_t a3) {
-    uint64_t r4_0, r6_0, r5_0, r6_0_2;
+/* dfu_images::places::bad_from: crates/dfu_images/src/places.rt */
+static void dfu_images_places_bad_from(unsigned char *a0, uint8_t a1, unsigned char *a2, size_t a3) {
+    uint64_t r4_0, r5_0;
+    size_t r6_0, r6_0_2;
     uint8_t r3_0_0, r29, r2_7_0;
     r4_0 = 1;
     r6_0 = 0;
-loop_3_outer:
-    r3_0_0 = 0;
-    r5_0 = 1;
-    r6_0_2 = r6_0;
-loop_3:
-    if (r6_0_2 >= a3) goto after_1;
-    r29 = a2[(size_t)r6_0_2];
-    if (r29 != 10) goto join_10;
-    r4_0 = r4_0 + 1;
-    r6_0 = r6_0_2 + 1;
-    goto loop_3_outer;
-join_10:
-    switch (r3_0_0) {
-    case 0: goto arm_4;
-    case 1: goto arm_5;
-    case 2: goto after_3;
-    default: never();
-    }
-arm_4:
-    if (r29 == a1) {
-        r2_7_0 = 1;
-        goto arm_11;
-    }
-    switch (r29) {
-    case 32:
-        r2_7_0 = 0;
-        goto arm_11;
-    case 13:
-        r2_7_0 = 0;
-        goto arm_11;
-    case 9:
-        r2_7_0 = 0;
-        goto arm_11;
-    default: goto arm_12;
-    }
-arm_5:;
-    uint8_t r36 = dfu_images_digits_hex_digit(r29);
-    if (r36 < 16) {
-        r2_7_0 = 1;
-        goto arm_11;
-    }
-after_3:
-    switch (r29) {
-    case 32:
-        r2_7_0 = 2;
-        goto arm_11;
-    case 13:
-        r2_7_0 = 2;
-        goto arm_11;
-    case 9:
-        r2_7_0 = 2;
-        goto arm_11;
-    default: goto arm_12;
-    }
+    for (;;) {
+        r3_0_0 = 0;
+        r5_0 = 1;
+        r6_0_2 = r6_0;
+        for (;;) {
+            if (r6_0_2 >= a3) goto after_1;
+            r29 = a2[r6_0_2];
+            if (r29 == 10) break;
+            switch (r3_0_0) {
+            case 0:
+                if (r29 == a1) {
+                    r2_7_0 = 1;
+                    goto arm_11;
+                }
+                switch (r29) {
+                case 32:
+                case 13:
+                case 9:
+                    r2_7_0 = 0;
+                    goto arm_11;
+                default: goto arm_12;
+                }
+            case 1: {
+                uint8_t r36 = dfu_images_digits_hex_digit(r29);
+                if (r36 < 16) {
+                    r2_7_0 = 1;
+                    goto arm_11;
+                }
+                break;
+            }
+            case 2: break;
+            default: never();
+            }
+            switch (r29) {
+            case 32:
+            case 13:
+            case 9:
+                r2_7_0 = 2;
+                break;
+            default: goto arm_12;
+            }
 arm_11:
-    r3_0_0 = r2_7_0;
-    r5_0 = r5_0 + 1;
-    r6_0_2 = r6_0_2 + 1;
-    goto loop_3;
+            r3_0_0 = r2_7_0;
+            r5_0 = r5_0 + 1;
+            r6_0_2 = r6_0_2 + 1;
+        }
+        r4_0 = r4_0 + 1;
+        r6_0 = r6_0_2 + 1;
+    }
 arm_12:
     store64(a0, 1);
     store64(a0 + 8, r4_0);
@@ -1750,7 +1696,7 @@ after_1:
     return;
 }
 
-/* dfu_host_c::reports::report_at */
+/* dfu_host_c::reports::report_at: crates/dfu_host_c/src/reports.rt */
 static void dfu_host_c_reports_report_at(unsigned char *a0, uint64_t a1, uint32_t a2) {
     uint8_t r2_26_0, r2_14_0, r2_0_0;
     switch (a1) {
@@ -1758,129 +1704,115 @@ static void dfu_host_c_reports_report_at(unsigned char *a0, uint64_t a1, uint32_
         r2_26_0 = 0;
         r2_14_0 = 0;
         r2_0_0 = 1;
-        goto join_13;
-    case 2: goto arm_2;
-    case 3: goto arm_3;
-    case 4: goto arm_4;
-    case 5: goto arm_5;
-    case 6: goto arm_6;
-    case 7: goto arm_7;
-    case 8: goto arm_8;
-    case 9: goto arm_9;
-    case 10: goto arm_10;
-    case 11: goto arm_11;
-    default: goto default_12;
+        break;
+    case 2:
+        r2_26_0 = 0;
+        r2_14_0 = 1;
+        r2_0_0 = 1;
+        break;
+    case 3:
+        r2_26_0 = 0;
+        r2_14_0 = 2;
+        r2_0_0 = 1;
+        break;
+    case 4:
+        r2_26_0 = 0;
+        r2_14_0 = 3;
+        r2_0_0 = 1;
+        break;
+    case 5: {
+        uint8_t r4 = a2 < 16;
+        r2_26_0 = (uint8_t)(r4 ? (uint8_t)a2 : 0);
+        r2_14_0 = (uint8_t)(r4 ? 4 : 0);
+        r2_0_0 = r4;
+        break;
     }
-arm_2:
-    r2_26_0 = 0;
-    r2_14_0 = 1;
-    r2_0_0 = 1;
-    goto join_13;
-arm_3:
-    r2_26_0 = 0;
-    r2_14_0 = 2;
-    r2_0_0 = 1;
-    goto join_13;
-arm_4:
-    r2_26_0 = 0;
-    r2_14_0 = 3;
-    r2_0_0 = 1;
-    goto join_13;
-arm_5:;
-    uint8_t r4 = a2 < 16;
-    r2_26_0 = (uint8_t)(r4 ? (uint8_t)a2 : 0);
-    r2_14_0 = (uint8_t)(r4 ? 4 : 0);
-    r2_0_0 = r4;
-    goto join_13;
-arm_6:
-    r2_26_0 = 0;
-    r2_14_0 = 5;
-    r2_0_0 = 1;
-    goto join_13;
-arm_7:
-    r2_26_0 = 0;
-    r2_14_0 = 6;
-    r2_0_0 = 1;
-    goto join_13;
-arm_8:
-    r2_26_0 = 0;
-    r2_14_0 = 7;
-    r2_0_0 = 1;
-    goto join_13;
-arm_9:
-    r2_26_0 = 0;
-    r2_14_0 = 8;
-    r2_0_0 = 1;
-    goto join_13;
-arm_10:
-    r2_26_0 = 0;
-    r2_14_0 = 9;
-    r2_0_0 = 1;
-    goto join_13;
-arm_11:
-    r2_26_0 = 0;
-    r2_14_0 = 10;
-    r2_0_0 = 1;
-    goto join_13;
-default_12:
-    r2_26_0 = 0;
-    r2_14_0 = 0;
-    r2_0_0 = 0;
-join_13:
+    case 6:
+        r2_26_0 = 0;
+        r2_14_0 = 5;
+        r2_0_0 = 1;
+        break;
+    case 7:
+        r2_26_0 = 0;
+        r2_14_0 = 6;
+        r2_0_0 = 1;
+        break;
+    case 8:
+        r2_26_0 = 0;
+        r2_14_0 = 7;
+        r2_0_0 = 1;
+        break;
+    case 9:
+        r2_26_0 = 0;
+        r2_14_0 = 8;
+        r2_0_0 = 1;
+        break;
+    case 10:
+        r2_26_0 = 0;
+        r2_14_0 = 9;
+        r2_0_0 = 1;
+        break;
+    case 11:
+        r2_26_0 = 0;
+        r2_14_0 = 10;
+        r2_0_0 = 1;
+        break;
+    default:
+        r2_26_0 = 0;
+        r2_14_0 = 0;
+        r2_0_0 = 0;
+        break;
+    }
     *a0 = r2_0_0;
     a0[1] = r2_14_0;
     a0[2] = r2_26_0;
     return;
 }
 
-/* dfu_host_c::holding::session_of */
-static void dfu_host_c_holding_session_of(unsigned char *a0, unsigned char *a1, unsigned char *a2, uint64_t a3) {
+/* dfu_host_c::holding::session_of: crates/dfu_host_c/src/holding.rt */
+static void dfu_host_c_holding_session_of(unsigned char *a0, unsigned char *a1, unsigned char *a2, size_t a3) {
     _Alignas(4) unsigned char r31[3];
     _Alignas(4) unsigned char r36_2[3];
-    uint64_t wide_17346, r3_12_0_0, r3_12_6_0, r3_7_0_0, r38, r6_132_0, r6_132_0_2;
+    size_t wide_17346, r3_12_0_0, r3_12_6_0, r3_7_0_0;
     uint8_t v0;
+    uint64_t r38, r6_132_0, r6_132_0_2;
     uint32_t r40, r6_158_0, r6_106_0, r6_106_0_2, r6_158_0_2, r79;
-    uint8_t r6_28_0, r6_54_0, r6_28_0_2, r6_0_0_0, r6_28_0_3, r6_54_0_2, r70, r75;
     uint16_t r6_80_0, r6_80_0_2, r65, r77, r81;
+    uint8_t r6_54_0, r6_28_0_2, r6_0_0_0, r6_28_0, r6_28_0_3, r6_54_0_2, r70, r75;
     uint32_t r13 = load32(a1);
-    if (r13 == 300) goto join_3;
-    goto then_1;
-then_1:
-    memset(a0, 0, 72);
-    return;
-join_3:;
+    if (r13 != 300) {
+        memset(a0, 0, 72);
+        return;
+    }
     uint32_t r20 = load32(a1 + 4);
-    wide_17346 = (uint64_t)(uintptr_t)a2;
+    wide_17346 = (size_t)(uintptr_t)a2;
     switch (r20) {
     case 1:
         r3_12_0_0 = wide_17346;
         r3_12_6_0 = a3;
         v0 = 0;
         r3_7_0_0 = 0;
-        goto arm_1;
-    case 2: goto arm_2;
-    case 3: goto arm_3;
-    case 4: goto arm_4;
+        break;
+    case 2:
+        r3_12_0_0 = 0;
+        r3_12_6_0 = 0;
+        v0 = 1;
+        r3_7_0_0 = 1;
+        break;
+    case 3:
+        r3_12_0_0 = wide_17346;
+        r3_12_6_0 = a3;
+        v0 = 0;
+        r3_7_0_0 = 2;
+        break;
+    case 4:
+        r3_12_0_0 = wide_17346;
+        r3_12_6_0 = a3;
+        v0 = 0;
+        r3_7_0_0 = 3;
+        break;
     default: goto arm_5;
     }
-arm_2:
-    r3_12_0_0 = 0;
-    r3_12_6_0 = 0;
-    v0 = 1;
-    r3_7_0_0 = 1;
-    goto arm_1;
-arm_3:
-    r3_12_0_0 = wide_17346;
-    r3_12_6_0 = a3;
-    v0 = 0;
-    r3_7_0_0 = 2;
-    goto arm_1;
-arm_4:
-    r3_12_0_0 = wide_17346;
-    r3_12_6_0 = a3;
-    v0 = 0;
-    r3_7_0_0 = 3;
-arm_1:;
     uint32_t r36 = load32(a1 + 24);
     r38 = load64(a1 + 8);
     r40 = load32(a1 + 28);
@@ -1891,199 +1823,168 @@ arm_1:;
         r6_106_0 = r36;
         r6_28_0 = 0;
         goto dfu_host_c_phases_phase_at_exit_thread;
-    case 1: goto arm_2_2;
-    case 2: goto arm_3_2;
-    case 3: goto arm_4_2;
-    case 4: goto arm_5_2;
-    case 5: goto arm_6;
-    case 6: goto arm_7;
-    case 7: goto arm_8;
-    case 8: goto arm_9;
-    case 9: goto arm_10;
-    case 10: goto arm_11;
-    case 11: goto arm_12;
-    case 12: goto arm_13;
-    case 13: goto arm_14;
-    case 14: goto arm_15;
-    case 15: goto arm_16;
-    case 16: goto arm_17;
-    case 17: goto arm_18;
-    case 18: goto arm_19;
-    case 19: goto arm_20;
-    case 20: goto arm_21;
-    case 21: goto arm_22;
-    case 22: goto arm_23;
-    case 23: goto arm_24;
-    case 24: goto arm_25;
-    default: goto dfu_host_c_phases_phase_at_exit_thread98;
+    case 1:
+        r6_158_0 = 0;
+        r6_132_0 = 0;
+        r6_106_0 = 0;
+        r6_28_0 = 1;
+        goto dfu_host_c_phases_phase_at_exit_thread;
+    case 2:
+        r6_158_0 = 0;
+        r6_132_0 = 0;
+        r6_106_0 = 0;
+        r6_28_0 = 2;
+        goto dfu_host_c_phases_phase_at_exit_thread;
+    case 3:
+        r6_158_0 = 0;
+        r6_132_0 = 0;
+        r6_106_0 = 0;
+        r6_28_0 = 3;
+        goto dfu_host_c_phases_phase_at_exit_thread;
+    case 4:
+        r6_158_0 = 0;
+        r6_132_0 = 0;
+        r6_106_0 = 0;
+        r6_28_0 = 4;
+        goto dfu_host_c_phases_phase_at_exit_thread;
+    case 5:
+        r6_158_0 = 0;
+        r6_132_0 = 0;
+        r6_106_0 = 0;
+        r6_28_0 = 5;
+        goto dfu_host_c_phases_phase_at_exit_thread;
+    case 6:
+        r6_158_0 = 0;
+        r6_132_0 = 0;
+        r6_106_0 = r40;
+        r6_28_0 = 6;
+        goto dfu_host_c_phases_phase_at_exit_thread;
+    case 7:
+        r6_158_0 = 0;
+        r6_132_0 = 0;
+        r6_106_0 = 0;
+        r6_28_0 = 7;
+        goto dfu_host_c_phases_phase_at_exit_thread;
+    case 8:
+        r6_158_0 = 0;
+        r6_132_0 = r38;
+        r6_106_0 = 0;
+        r6_28_0 = 8;
+        goto dfu_host_c_phases_phase_at_exit_thread;
+    case 9:
+        r6_158_0 = 0;
+        r6_132_0 = r38;
+        r6_106_0 = 0;
+        r6_28_0 = 9;
+        goto dfu_host_c_phases_phase_at_exit_thread;
+    case 10:
+        r6_158_0 = 0;
+        r6_132_0 = r38;
+        r6_106_0 = 0;
+        r6_28_0 = 10;
+        goto dfu_host_c_phases_phase_at_exit_thread;
+    case 11:
+        r6_158_0 = r40;
+        r6_132_0 = r38;
+        r6_106_0 = 0;
+        r6_28_0 = 11;
+        goto dfu_host_c_phases_phase_at_exit_thread;
+    case 12:
+        r6_158_0 = 0;
+        r6_132_0 = 0;
+        r6_106_0 = 0;
+        r6_28_0 = 12;
+        goto dfu_host_c_phases_phase_at_exit_thread;
+    case 13:
+        r6_158_0 = 0;
+        r6_132_0 = 0;
+        r6_106_0 = 0;
+        r6_28_0 = 13;
+        goto dfu_host_c_phases_phase_at_exit_thread;
+    case 14:
+        r6_158_0 = 0;
+        r6_132_0 = 0;
+        r6_106_0 = 0;
+        r6_28_0 = 14;
+        goto dfu_host_c_phases_phase_at_exit_thread;
+    case 15:
+        r6_158_0 = 0;
+        r6_132_0 = 0;
+        r6_106_0 = r40;
+        r6_28_0 = 15;
+        goto dfu_host_c_phases_phase_at_exit_thread;
+    case 16:
+        r6_158_0 = 0;
+        r6_132_0 = 0;
+        r6_106_0 = r40;
+        r6_28_0 = 16;
+        goto dfu_host_c_phases_phase_at_exit_thread;
+    case 17:
+        r6_158_0 = 0;
+        r6_132_0 = 0;
+        r6_106_0 = 0;
+        r6_28_0 = 17;
+        goto dfu_host_c_phases_phase_at_exit_thread;
+    case 18: {
+        uint8_t r4 = r38 < 0x10000U;
+        r6_80_0 = (uint16_t)(size_t)umin64(r38, 0x10000U);
+        r6_54_0 = 0;
+        r6_28_0_2 = (uint8_t)(r4 ? 18 : 0);
+        r6_0_0_0 = r4;
+        break;
     }
-arm_2_2:
-    r6_158_0 = 0;
-    r6_132_0 = 0;
-    r6_106_0 = 0;
-    r6_28_0 = 1;
-    goto dfu_host_c_phases_phase_at_exit_thread;
-arm_3_2:
-    r6_158_0 = 0;
-    r6_132_0 = 0;
-    r6_106_0 = 0;
-    r6_28_0 = 2;
-    goto dfu_host_c_phases_phase_at_exit_thread;
-arm_4_2:
-    r6_158_0 = 0;
-    r6_132_0 = 0;
-    r6_106_0 = 0;
-    r6_28_0 = 3;
-    goto dfu_host_c_phases_phase_at_exit_thread;
-arm_5_2:
-    r6_158_0 = 0;
-    r6_132_0 = 0;
-    r6_106_0 = 0;
-    r6_28_0 = 4;
-    goto dfu_host_c_phases_phase_at_exit_thread;
-arm_6:
-    r6_158_0 = 0;
-    r6_132_0 = 0;
-    r6_106_0 = 0;
-    r6_28_0 = 5;
-    goto dfu_host_c_phases_phase_at_exit_thread;
-arm_7:
-    r6_158_0 = 0;
-    r6_132_0 = 0;
-    r6_106_0 = r40;
-    r6_28_0 = 6;
-    goto dfu_host_c_phases_phase_at_exit_thread;
-arm_8:
-    r6_158_0 = 0;
-    r6_132_0 = 0;
-    r6_106_0 = 0;
-    r6_28_0 = 7;
-    goto dfu_host_c_phases_phase_at_exit_thread;
-arm_9:
-    r6_158_0 = 0;
-    r6_132_0 = r38;
-    r6_106_0 = 0;
-    r6_28_0 = 8;
-    goto dfu_host_c_phases_phase_at_exit_thread;
-arm_10:
-    r6_158_0 = 0;
-    r6_132_0 = r38;
-    r6_106_0 = 0;
-    r6_28_0 = 9;
-    goto dfu_host_c_phases_phase_at_exit_thread;
-arm_11:
-    r6_158_0 = 0;
-    r6_132_0 = r38;
-    r6_106_0 = 0;
-    r6_28_0 = 10;
-    goto dfu_host_c_phases_phase_at_exit_thread;
-arm_12:
-    r6_158_0 = r40;
-    r6_132_0 = r38;
-    r6_106_0 = 0;
-    r6_28_0 = 11;
-    goto dfu_host_c_phases_phase_at_exit_thread;
-arm_13:
-    r6_158_0 = 0;
-    r6_132_0 = 0;
-    r6_106_0 = 0;
-    r6_28_0 = 12;
-    goto dfu_host_c_phases_phase_at_exit_thread;
-arm_14:
-    r6_158_0 = 0;
-    r6_132_0 = 0;
-    r6_106_0 = 0;
-    r6_28_0 = 13;
-    goto dfu_host_c_phases_phase_at_exit_thread;
-arm_15:
-    r6_158_0 = 0;
-    r6_132_0 = 0;
-    r6_106_0 = 0;
-    r6_28_0 = 14;
-    goto dfu_host_c_phases_phase_at_exit_thread;
-arm_16:
-    r6_158_0 = 0;
-    r6_132_0 = 0;
-    r6_106_0 = r40;
-    r6_28_0 = 15;
-    goto dfu_host_c_phases_phase_at_exit_thread;
-arm_17:
-    r6_158_0 = 0;
-    r6_132_0 = 0;
-    r6_106_0 = r40;
-    r6_28_0 = 16;
-    goto dfu_host_c_phases_phase_at_exit_thread;
-arm_18:
-    r6_158_0 = 0;
-    r6_132_0 = 0;
-    r6_106_0 = 0;
-    r6_28_0 = 17;
-    goto dfu_host_c_phases_phase_at_exit_thread;
-arm_19:;
-    uint8_t r4 = r38 < 0x10000U;
-    r6_80_0 = (uint16_t)umin64(r38, 0x10000U);
-    r6_54_0 = 0;
-    r6_28_0_2 = (uint8_t)(r4 ? 18 : 0);
-    r6_0_0_0 = r4;
-    goto dfu_host_c_phases_phase_at_exit;
-arm_20:;
-    uint8_t r4_2 = r38 < 0x10000U;
-    r6_80_0 = (uint16_t)umin64(r38, 0x10000U);
-    r6_54_0 = 0;
-    r6_28_0_2 = (uint8_t)(r4_2 ? 19 : 0);
-    r6_0_0_0 = r4_2;
-    goto dfu_host_c_phases_phase_at_exit;
-arm_21:
-    dfu_host_c_reports_report_at(r31, r38, r40);
-    uint8_t r320 = *r31;
-    uint8_t v1 = r320 == 1;
-    uint8_t r4_0_0_copyload = r31[1];
-    uint8_t r4_3_1_copyload = r31[2];
-    r6_80_0 = (uint8_t)(v1 ? r4_3_1_copyload : 0);
-    r6_54_0 = (uint8_t)(v1 ? r4_0_0_copyload : 0);
-    r6_28_0_2 = (uint8_t)(v1 ? 20 : 0);
-    r6_0_0_0 = r320;
-    goto dfu_host_c_phases_phase_at_exit;
-arm_22:
-    r6_158_0 = 0;
-    r6_132_0 = 0;
-    r6_106_0 = 0;
-    r6_28_0 = 21;
-    goto dfu_host_c_phases_phase_at_exit_thread;
-arm_23:
-    r6_158_0 = 0;
-    r6_132_0 = 0;
-    r6_106_0 = 0;
-    r6_28_0 = 22;
-    goto dfu_host_c_phases_phase_at_exit_thread;
-arm_24:
-    dfu_host_c_reports_report_at(r36_2, r38, r40);
-    uint8_t r374 = *r36_2;
-    uint8_t v2 = r374 == 1;
-    uint8_t r5_0_0_copyload = r36_2[1];
-    uint8_t r5_3_1_copyload = r36_2[2];
-    r6_80_0 = (uint8_t)(v2 ? r5_3_1_copyload : 0);
-    r6_54_0 = (uint8_t)(v2 ? r5_0_0_copyload : 0);
-    r6_28_0_2 = (uint8_t)(v2 ? 23 : 0);
-    r6_0_0_0 = r374;
-    goto dfu_host_c_phases_phase_at_exit;
-arm_25:
-    r6_158_0 = 0;
-    r6_132_0 = 0;
-    r6_106_0 = 0;
-    r6_28_0 = 24;
-    goto dfu_host_c_phases_phase_at_exit_thread;
-dfu_host_c_phases_phase_at_exit_thread98:
-    goto arm_5;
-dfu_host_c_phases_phase_at_exit_thread:
-    r6_28_0_3 = r6_28_0;
-    r6_54_0_2 = 0;
-    r6_80_0_2 = 0;
-    r6_106_0_2 = r6_106_0;
-    r6_132_0_2 = r6_132_0;
-    r6_158_0_2 = r6_158_0;
-    goto arm_4_3;
-dfu_host_c_phases_phase_at_exit:
+    case 19: {
+        uint8_t r4_2 = r38 < 0x10000U;
+        r6_80_0 = (uint16_t)(size_t)umin64(r38, 0x10000U);
+        r6_54_0 = 0;
+        r6_28_0_2 = (uint8_t)(r4_2 ? 19 : 0);
+        r6_0_0_0 = r4_2;
+        break;
+    }
+    case 20: {
+        dfu_host_c_reports_report_at(r31, r38, r40);
+        uint8_t r320 = *r31;
+        uint8_t v1 = r320 == 1;
+        uint8_t r4_0_0_copyload = r31[1];
+        uint8_t r4_3_1_copyload = r31[2];
+        r6_80_0 = (uint8_t)(v1 ? r4_3_1_copyload : 0);
+        r6_54_0 = (uint8_t)(v1 ? r4_0_0_copyload : 0);
+        r6_28_0_2 = (uint8_t)(v1 ? 20 : 0);
+        r6_0_0_0 = r320;
+        break;
+    }
+    case 21:
+        r6_158_0 = 0;
+        r6_132_0 = 0;
+        r6_106_0 = 0;
+        r6_28_0 = 21;
+        goto dfu_host_c_phases_phase_at_exit_thread;
+    case 22:
+        r6_158_0 = 0;
+        r6_132_0 = 0;
+        r6_106_0 = 0;
+        r6_28_0 = 22;
+        goto dfu_host_c_phases_phase_at_exit_thread;
+    case 23: {
+        dfu_host_c_reports_report_at(r36_2, r38, r40);
+        uint8_t r374 = *r36_2;
+        uint8_t v2 = r374 == 1;
+        uint8_t r5_0_0_copyload = r36_2[1];
+        uint8_t r5_3_1_copyload = r36_2[2];
+        r6_80_0 = (uint8_t)(v2 ? r5_3_1_copyload : 0);
+        r6_54_0 = (uint8_t)(v2 ? r5_0_0_copyload : 0);
+        r6_28_0_2 = (uint8_t)(v2 ? 23 : 0);
+        r6_0_0_0 = r374;
+        break;
+    }
+    case 24:
+        r6_158_0 = 0;
+        r6_132_0 = 0;
+        r6_106_0 = 0;
+        r6_28_0 = 24;
+        goto dfu_host_c_phases_phase_at_exit_thread;
+    default: goto arm_5;
+    }
     if (r6_0_0_0 != 1) goto arm_5;
     r6_28_0_3 = r6_28_0_2;
     r6_54_0_2 = r6_54_0;
@@ -2091,7 +1992,15 @@ dfu_host_c_phases_phase_at_exit:
     r6_106_0_2 = 0;
     r6_132_0_2 = 0;
     r6_158_0_2 = 0;
-arm_4_3:
+    goto arm_4;
+dfu_host_c_phases_phase_at_exit_thread:
+    r6_28_0_3 = r6_28_0;
+    r6_54_0_2 = 0;
+    r6_80_0_2 = 0;
+    r6_106_0_2 = r6_106_0;
+    r6_132_0_2 = r6_132_0;
+    r6_158_0_2 = r6_158_0;
+arm_4:
     r65 = load16(a1 + 38);
     uint8_t r67 = a1[42];
     r70 = r67 != 0;
@@ -2100,97 +2009,93 @@ arm_4_3:
     r77 = load16(a1 + 40);
     r79 = load32(a1 + 32);
     r81 = load16(a1 + 36);
-    if (!((v0 | (r3_12_6_0 != 0)) & (r65 != 0))) goto arm_9_2;
-    switch (r6_28_0_3) {
-    case 8: goto arm_1_2;
-    case 9: goto arm_2_3;
-    case 10: goto arm_3_3;
-    case 11: goto arm_4_4;
-    case 12: goto arm_5_3;
-    case 13: goto arm_6_2;
-    case 18: goto arm_7_2;
-    case 19: goto dfu_host_parts_Parts_is_session_exit;
-    case 0: goto arm_8_2;
-    case 1: goto arm_8_2;
-    case 2: goto arm_8_2;
-    case 3: goto arm_8_2;
-    case 4: goto arm_8_2;
-    case 5: goto arm_8_2;
-    case 6: goto arm_8_2;
-    case 7: goto arm_8_2;
-    case 14: goto arm_8_2;
-    case 15: goto arm_8_2;
-    case 16: goto arm_8_2;
-    case 17: goto arm_8_2;
-    case 20: goto arm_8_2;
-    case 21: goto arm_8_2;
-    case 22: goto arm_8_2;
-    case 23: goto arm_8_2;
-    case 24: goto arm_8_2;
-    default: never();
+    if ((v0 | (r3_12_6_0 != 0)) & (r65 != 0)) {
+        switch (r6_28_0_3) {
+        case 8: {
+            size_t r10 = (size_t)r65;
+            struct i64_i1 mul = product64(r10, r6_132_0_2);
+            if (v0 | (mul.b | ((uint64_t)r3_12_6_0 <= (r6_132_0_2 * (uint64_t)r10)))) goto arm_9;
+            break;
+        }
+        case 9: {
+            size_t r10_2 = (size_t)r65;
+            struct i64_i1 mul_2 = product64(r10_2, r6_132_0_2);
+            if (v0 | (mul_2.b | ((uint64_t)r3_12_6_0 <= (r6_132_0_2 * (uint64_t)r10_2)))) goto arm_9;
+            break;
+        }
+        case 10: {
+            size_t r10_3 = (size_t)r65;
+            struct i64_i1 mul_3 = product64(r10_3, r6_132_0_2);
+            if (v0 | (mul_3.b | ((uint64_t)r3_12_6_0 <= (r6_132_0_2 * (uint64_t)r10_3)))) goto arm_9;
+            break;
+        }
+        case 11: {
+            size_t r10_4 = (size_t)r65;
+            struct i64_i1 mul_4 = product64(r10_4, r6_132_0_2);
+            if (v0 | (mul_4.b | ((uint64_t)r3_12_6_0 <= (r6_132_0_2 * (uint64_t)r10_4)))) goto arm_9;
+            break;
+        }
+        case 12:
+            if (v0 | (r3_12_6_0 == 0)) goto arm_9;
+            break;
+        case 13:
+            if (v0 | (r3_12_6_0 == 0)) goto arm_9;
+            break;
+        case 18:
+            if (!(v0 & (r6_80_0_2 != 0xffffU))) goto arm_9;
+            break;
+        case 19:
+            if (r6_80_0_2 == 0xffffU) goto arm_9;
+            break;
+        case 0:
+        case 1:
+        case 2:
+        case 3:
+        case 4:
+        case 5:
+        case 6:
+        case 7:
+        case 14:
+        case 15:
+        case 16:
+        case 17:
+        case 20:
+        case 21:
+        case 22:
+        case 23:
+        case 24: break;
+        default: never();
+        }
+        store64(a0, 1);
+        store64(a0 + 8, r3_7_0_0);
+        store64(a0 + 16, r3_12_0_0);
+        store64(a0 + 24, r3_12_6_0);
+        store16(a0 + 32, r65);
+        a0[34] = r70;
+        a0[35] = r75;
+        store16(a0 + 36, r77);
+        store16(a0 + 38, 0);
+        a0[40] = r6_28_0_3;
+        a0[41] = r6_54_0_2;
+        store16(a0 + 42, r6_80_0_2);
+        store32(a0 + 44, r6_106_0_2);
+        store64(a0 + 48, r6_132_0_2);
+        store32(a0 + 56, r6_158_0_2);
+        store32(a0 + 60, 0);
+        store32(a0 + 64, r79);
+        store16(a0 + 68, r81);
+        store16(a0 + 70, 0);
+        return;
     }
-arm_1_2:;
-    uint64_t r10 = (uint64_t)r65;
-    struct i64_i1 mul = product64(r10, r6_132_0_2);
-    if (v0 | (mul.b | (r3_12_6_0 <= (r6_132_0_2 * r10)))) goto arm_9_2;
-    goto arm_8_2;
-arm_2_3:;
-    uint64_t r10_2 = (uint64_t)r65;
-    struct i64_i1 mul_2 = product64(r10_2, r6_132_0_2);
-    if (v0 | (mul_2.b | (r3_12_6_0 <= (r6_132_0_2 * r10_2)))) goto arm_9_2;
-    goto arm_8_2;
-arm_3_3:;
-    uint64_t r10_3 = (uint64_t)r65;
-    struct i64_i1 mul_3 = product64(r10_3, r6_132_0_2);
-    if (v0 | (mul_3.b | (r3_12_6_0 <= (r6_132_0_2 * r10_3)))) goto arm_9_2;
-    goto arm_8_2;
-arm_4_4:;
-    uint64_t r10_4 = (uint64_t)r65;
-    struct i64_i1 mul_4 = product64(r10_4, r6_132_0_2);
-    if (v0 | (mul_4.b | (r3_12_6_0 <= (r6_132_0_2 * r10_4)))) goto arm_9_2;
-    goto arm_8_2;
-arm_5_3:
-    if (v0 | (r3_12_6_0 == 0)) goto arm_9_2;
-    goto arm_8_2;
-arm_6_2:
-    if (v0 | (r3_12_6_0 == 0)) goto arm_9_2;
-    goto arm_8_2;
-arm_7_2:
-    if (v0 & (r6_80_0_2 != 0xffffU)) goto arm_8_2;
-    goto arm_9_2;
-dfu_host_parts_Parts_is_session_exit:
-    if (r6_80_0_2 == 0xffffU) goto arm_9_2;
-    goto arm_8_2;
-arm_5:
+arm_9:
     memset(a0, 0, 72);
     return;
-arm_8_2:
-    store64(a0, 1);
-    store64(a0 + 8, r3_7_0_0);
-    store64(a0 + 16, r3_12_0_0);
-    store64(a0 + 24, r3_12_6_0);
-    store16(a0 + 32, r65);
-    a0[34] = r70;
-    a0[35] = r75;
-    store16(a0 + 36, r77);
-    store16(a0 + 38, 0);
-    a0[40] = r6_28_0_3;
-    a0[41] = r6_54_0_2;
-    store16(a0 + 42, r6_80_0_2);
-    store32(a0 + 44, r6_106_0_2);
-    store64(a0 + 48, r6_132_0_2);
-    store32(a0 + 56, r6_158_0_2);
-    store32(a0 + 60, 0);
-    store32(a0 + 64, r79);
-    store16(a0 + 68, r81);
-    store16(a0 + 70, 0);
-    return;
-arm_9_2:
+arm_5:
     memset(a0, 0, 72);
     return;
 }
 
-/* dfu_host_c::holding::record_of */
+/* dfu_host_c::holding::record_of: crates/dfu_host_c/src/holding.rt */
 static void dfu_host_c_holding_record_of(unsigned char *a0, unsigned char *a1, uint64_t a2) {
     uint8_t r9, r16, r20, r6_3_1_copyload, r1_6_0_0_extract_trunc;
     uint16_t r14, r24, v0, r41;
@@ -2214,157 +2119,135 @@ static void dfu_host_c_holding_record_of(unsigned char *a0, unsigned char *a1, u
         r24_0_0 = 0;
         r24_52_0 = 0;
         r24_63_0 = 0;
-        goto dfu_host_c_phases_numbers_of_exit;
-    case 1: goto arm_2;
-    case 2: goto arm_3;
-    case 3: goto arm_4;
-    case 4: goto arm_5;
-    case 5: goto arm_6;
-    case 6: goto arm_7;
-    case 7: goto arm_8;
-    case 8: goto arm_9;
-    case 9: goto arm_10;
-    case 10: goto arm_11;
-    case 11: goto arm_12;
-    case 12: goto arm_13;
-    case 13: goto arm_14;
-    case 14: goto arm_15;
-    case 15: goto arm_16;
-    case 16: goto arm_17;
-    case 17: goto arm_18;
-    case 18: goto arm_19;
-    case 19: goto arm_20;
-    case 20: goto arm_21;
-    case 21: goto arm_22;
-    case 22: goto arm_23;
-    case 23: goto arm_24;
-    case 24: goto arm_25;
+        break;
+    case 1:
+        r24_0_0 = 1;
+        r24_52_0 = 0;
+        r24_63_0 = 0;
+        break;
+    case 2:
+        r24_0_0 = 2;
+        r24_52_0 = 0;
+        r24_63_0 = 0;
+        break;
+    case 3:
+        r24_0_0 = 3;
+        r24_52_0 = 0;
+        r24_63_0 = 0;
+        break;
+    case 4:
+        r24_0_0 = 4;
+        r24_52_0 = 0;
+        r24_63_0 = 0;
+        break;
+    case 5:
+        r24_0_0 = 5;
+        r24_52_0 = 0;
+        r24_63_0 = 0;
+        break;
+    case 6:
+        r24_0_0 = 6;
+        r24_52_0 = 0;
+        r24_63_0 = r6_7_4_copyload;
+        break;
+    case 7:
+        r24_0_0 = 7;
+        r24_52_0 = 0;
+        r24_63_0 = 0;
+        break;
+    case 8:
+        r24_0_0 = 8;
+        r24_52_0 = r6_9_8_copyload;
+        r24_63_0 = 0;
+        break;
+    case 9:
+        r24_0_0 = 9;
+        r24_52_0 = r6_9_8_copyload;
+        r24_63_0 = 0;
+        break;
+    case 10:
+        r24_0_0 = 10;
+        r24_52_0 = r6_9_8_copyload;
+        r24_63_0 = 0;
+        break;
+    case 11: {
+        uint32_t r6_11_16_copyload = load32(a1 + 48);
+        r24_0_0 = 11;
+        r24_52_0 = r6_9_8_copyload;
+        r24_63_0 = r6_11_16_copyload;
+        break;
+    }
+    case 12:
+        r24_0_0 = 12;
+        r24_52_0 = 0;
+        r24_63_0 = 0;
+        break;
+    case 13:
+        r24_0_0 = 13;
+        r24_52_0 = 0;
+        r24_63_0 = 0;
+        break;
+    case 14:
+        r24_0_0 = 14;
+        r24_52_0 = 0;
+        r24_63_0 = 0;
+        break;
+    case 15:
+        r24_0_0 = 15;
+        r24_52_0 = 0;
+        r24_63_0 = r6_7_4_copyload;
+        break;
+    case 16:
+        r24_0_0 = 16;
+        r24_52_0 = 0;
+        r24_63_0 = r6_7_4_copyload;
+        break;
+    case 17:
+        r24_0_0 = 17;
+        r24_52_0 = 0;
+        r24_63_0 = 0;
+        break;
+    case 18:
+        r24_0_0 = 18;
+        r24_52_0 = (size_t)v0;
+        r24_63_0 = 0;
+        break;
+    case 19:
+        r24_0_0 = 19;
+        r24_52_0 = (size_t)v0;
+        r24_63_0 = 0;
+        break;
+    case 20: {
+        struct i32_i32 r10 = dfu_host_c_reports_report_numbers(r6_3_1_copyload, r1_6_0_0_extract_trunc);
+        r24_0_0 = 20;
+        r24_52_0 = (size_t)r10.a;
+        r24_63_0 = r10.b;
+        break;
+    }
+    case 21:
+        r24_0_0 = 21;
+        r24_52_0 = 0;
+        r24_63_0 = 0;
+        break;
+    case 22:
+        r24_0_0 = 22;
+        r24_52_0 = 0;
+        r24_63_0 = 0;
+        break;
+    case 23: {
+        struct i32_i32 r10_2 = dfu_host_c_reports_report_numbers(r6_3_1_copyload, r1_6_0_0_extract_trunc);
+        r24_0_0 = 23;
+        r24_52_0 = (size_t)r10_2.a;
+        r24_63_0 = r10_2.b;
+        break;
+    }
+    case 24:
+        r24_0_0 = 24;
+        r24_52_0 = 0;
+        r24_63_0 = 0;
+        break;
     default: never();
     }
-arm_2:
-    r24_0_0 = 1;
-    r24_52_0 = 0;
-    r24_63_0 = 0;
-    goto dfu_host_c_phases_numbers_of_exit;
-arm_3:
-    r24_0_0 = 2;
-    r24_52_0 = 0;
-    r24_63_0 = 0;
-    goto dfu_host_c_phases_numbers_of_exit;
-arm_4:
-    r24_0_0 = 3;
-    r24_52_0 = 0;
-    r24_63_0 = 0;
-    goto dfu_host_c_phases_numbers_of_exit;
-arm_5:
-    r24_0_0 = 4;
-    r24_52_0 = 0;
-    r24_63_0 = 0;
-    goto dfu_host_c_phases_numbers_of_exit;
-arm_6:
-    r24_0_0 = 5;
-    r24_52_0 = 0;
-    r24_63_0 = 0;
-    goto dfu_host_c_phases_numbers_of_exit;
-arm_7:
-    r24_0_0 = 6;
-    r24_52_0 = 0;
-    r24_63_0 = r6_7_4_copyload;
-    goto dfu_host_c_phases_numbers_of_exit;
-arm_8:
-    r24_0_0 = 7;
-    r24_52_0 = 0;
-    r24_63_0 = 0;
-    goto dfu_host_c_phases_numbers_of_exit;
-arm_9:
-    r24_0_0 = 8;
-    r24_52_0 = r6_9_8_copyload;
-    r24_63_0 = 0;
-    goto dfu_host_c_phases_numbers_of_exit;
-arm_10:
-    r24_0_0 = 9;
-    r24_52_0 = r6_9_8_copyload;
-    r24_63_0 = 0;
-    goto dfu_host_c_phases_numbers_of_exit;
-arm_11:
-    r24_0_0 = 10;
-    r24_52_0 = r6_9_8_copyload;
-    r24_63_0 = 0;
-    goto dfu_host_c_phases_numbers_of_exit;
-arm_12:;
-    uint32_t r6_11_16_copyload = load32(a1 + 48);
-    r24_0_0 = 11;
-    r24_52_0 = r6_9_8_copyload;
-    r24_63_0 = r6_11_16_copyload;
-    goto dfu_host_c_phases_numbers_of_exit;
-arm_13:
-    r24_0_0 = 12;
-    r24_52_0 = 0;
-    r24_63_0 = 0;
-    goto dfu_host_c_phases_numbers_of_exit;
-arm_14:
-    r24_0_0 = 13;
-    r24_52_0 = 0;
-    r24_63_0 = 0;
-    goto dfu_host_c_phases_numbers_of_exit;
-arm_15:
-    r24_0_0 = 14;
-    r24_52_0 = 0;
-    r24_63_0 = 0;
-    goto dfu_host_c_phases_numbers_of_exit;
-arm_16:
-    r24_0_0 = 15;
-    r24_52_0 = 0;
-    r24_63_0 = r6_7_4_copyload;
-    goto dfu_host_c_phases_numbers_of_exit;
-arm_17:
-    r24_0_0 = 16;
-    r24_52_0 = 0;
-    r24_63_0 = r6_7_4_copyload;
-    goto dfu_host_c_phases_numbers_of_exit;
-arm_18:
-    r24_0_0 = 17;
-    r24_52_0 = 0;
-    r24_63_0 = 0;
-    goto dfu_host_c_phases_numbers_of_exit;
-arm_19:
-    r24_0_0 = 18;
-    r24_52_0 = (uint64_t)v0;
-    r24_63_0 = 0;
-    goto dfu_host_c_phases_numbers_of_exit;
-arm_20:
-    r24_0_0 = 19;
-    r24_52_0 = (uint64_t)v0;
-    r24_63_0 = 0;
-    goto dfu_host_c_phases_numbers_of_exit;
-arm_21:;
-    struct i32_i32 r10 = dfu_host_c_reports_report_numbers(r6_3_1_copyload, r1_6_0_0_extract_trunc);
-    r24_0_0 = 20;
-    r24_52_0 = (uint64_t)r10.a;
-    r24_63_0 = r10.b;
-    goto dfu_host_c_phases_numbers_of_exit;
-arm_22:
-    r24_0_0 = 21;
-    r24_52_0 = 0;
-    r24_63_0 = 0;
-    goto dfu_host_c_phases_numbers_of_exit;
-arm_23:
-    r24_0_0 = 22;
-    r24_52_0 = 0;
-    r24_63_0 = 0;
-    goto dfu_host_c_phases_numbers_of_exit;
-arm_24:;
-    struct i32_i32 r10_2 = dfu_host_c_reports_report_numbers(r6_3_1_copyload, r1_6_0_0_extract_trunc);
-    r24_0_0 = 23;
-    r24_52_0 = (uint64_t)r10_2.a;
-    r24_63_0 = r10_2.b;
-    goto dfu_host_c_phases_numbers_of_exit;
-arm_25:
-    r24_0_0 = 24;
-    r24_52_0 = 0;
-    r24_63_0 = 0;
-    goto dfu_host_c_phases_numbers_of_exit;
-dfu_host_c_phases_numbers_of_exit:
     store32(a0, 300);
     store32(a0 + 4, (uint32_t)r9 + 1);
     store64(a0 + 8, r24_52_0);
@@ -2381,66 +2264,56 @@ dfu_host_c_phases_numbers_of_exit:
     return;
 }
 
-/* dfu_host_c::reports::report_numbers */
+/* dfu_host_c::reports::report_numbers: crates/dfu_host_c/src/reports.rt */
 static struct i32_i32 dfu_host_c_reports_report_numbers(uint8_t a0, uint8_t a1) {
     uint32_t r4_0_0, r4_13_0;
     switch (a0) {
     case 0:
         r4_0_0 = 1;
         r4_13_0 = 0;
-        goto join_13;
-    case 1: goto arm_2;
-    case 2: goto arm_3;
-    case 3: goto arm_4;
-    case 4: goto arm_5;
-    case 5: goto arm_6;
-    case 6: goto arm_7;
-    case 7: goto arm_8;
-    case 8: goto arm_9;
-    case 9: goto arm_10;
-    case 10: goto arm_11;
+        break;
+    case 1:
+        r4_0_0 = 2;
+        r4_13_0 = 0;
+        break;
+    case 2:
+        r4_0_0 = 3;
+        r4_13_0 = 0;
+        break;
+    case 3:
+        r4_0_0 = 4;
+        r4_13_0 = 0;
+        break;
+    case 4:
+        r4_0_0 = 5;
+        r4_13_0 = (uint32_t)a1;
+        break;
+    case 5:
+        r4_0_0 = 6;
+        r4_13_0 = 0;
+        break;
+    case 6:
+        r4_0_0 = 7;
+        r4_13_0 = 0;
+        break;
+    case 7:
+        r4_0_0 = 8;
+        r4_13_0 = 0;
+        break;
+    case 8:
+        r4_0_0 = 9;
+        r4_13_0 = 0;
+        break;
+    case 9:
+        r4_0_0 = 10;
+        r4_13_0 = 0;
+        break;
+    case 10:
+        r4_0_0 = 11;
+        r4_13_0 = 0;
+        break;
     default: never();
     }
-arm_2:
-    r4_0_0 = 2;
-    r4_13_0 = 0;
-    goto join_13;
-arm_3:
-    r4_0_0 = 3;
-    r4_13_0 = 0;
-    goto join_13;
-arm_4:
-    r4_0_0 = 4;
-    r4_13_0 = 0;
-    goto join_13;
-arm_5:
-    r4_0_0 = 5;
-    r4_13_0 = (uint32_t)a1;
-    goto join_13;
-arm_6:
-    r4_0_0 = 6;
-    r4_13_0 = 0;
-    goto join_13;
-arm_7:
-    r4_0_0 = 7;
-    r4_13_0 = 0;
-    goto join_13;
-arm_8:
-    r4_0_0 = 8;
-    r4_13_0 = 0;
-    goto join_13;
-arm_9:
-    r4_0_0 = 9;
-    r4_13_0 = 0;
-    goto join_13;
-arm_10:
-    r4_0_0 = 10;
-    r4_13_0 = 0;
-    goto join_13;
-arm_11:
-    r4_0_0 = 11;
-    r4_13_0 = 0;
-join_13:;
     struct i32_i32 r22_half = (struct i32_i32){ 0, 0 };
     r22_half.a = r4_0_0;
     struct i32_i32 r22 = r22_half;
@@ -2448,7 +2321,7 @@ join_13:;
     return r22;
 }
 
-/* dfu_host::task::Task::block */
+/* dfu_host::task::Task::block: crates/dfu_host/src/task.rt */
 static struct ptr_i64 dfu_host_task_Task_block(unsigned char *a0, uint64_t a1) {
     uint16_t r13;
     uint64_t r2_4_0;
@@ -2458,25 +2331,25 @@ static struct ptr_i64 dfu_host_task_Task_block(unsigned char *a0, uint64_t a1) {
     if (r7 == 1) {
         r2_4_0 = 0;
         r2_0_0 = PLACE(static_20);
-        goto dfu_host_task_Task_payload_exit;
     }
-    uint64_t r16 = load64(a0 + 16);
-    uint64_t r18_wide = load64(a0 + 8);
-    r2_4_0 = r16;
-    r2_0_0 = (unsigned char *)(uintptr_t)r18_wide;
-dfu_host_task_Task_payload_exit:;
-    uint64_t r15 = (uint64_t)r13;
+    else {
+        uint64_t r16 = load64(a0 + 16);
+        size_t r18_wide = (size_t)load64(a0 + 8);
+        r2_4_0 = r16;
+        r2_0_0 = (unsigned char *)(uintptr_t)r18_wide;
+    }
+    size_t r15 = (size_t)r13;
     struct i64_i1 mul = product64(r15, a1);
-    uint64_t a1_a0 = (uint64_t)((r13 == 0) ? 0 : (uint64_t)(mul.b ? r2_4_0 : umin64(r2_4_0, a1 * r15)));
+    uint64_t a1_a0 = (uint64_t)((r13 == 0) ? 0 : (uint64_t)(mul.b ? r2_4_0 : umin64(r2_4_0, a1 * (uint64_t)r15)));
     struct ptr_i64 r47_half = (struct ptr_i64){ 0, 0 };
     r47_half.a = r2_0_0 + (size_t)a1_a0;
     struct ptr_i64 r47 = r47_half;
-    r47.b = umin64(r2_4_0 - a1_a0, r15);
+    r47.b = (size_t)umin64(r2_4_0 - a1_a0, r15);
     return r47;
 }
 
-/* dfu_host::task::download */
-static void dfu_host_task_download(unsigned char *a0, uint64_t a1, unsigned char *a2, uint64_t a3) {
+/* dfu_host::task::download: crates/dfu_host/src/task.rt */
+static void dfu_host_task_download(unsigned char *a0, size_t a1, unsigned char *a2, size_t a3) {
     _Alignas(8) unsigned char r0[32];
     _Alignas(4) unsigned char r6[6];
     store16(r6, 1);
@@ -2491,8 +2364,8 @@ static void dfu_host_task_download(unsigned char *a0, uint64_t a1, unsigned char
     return;
 }
 
-/* dfu_host::task::send */
-static void dfu_host_task_send(unsigned char *a0, unsigned char *a1, unsigned char *a2, uint64_t a3) {
+/* dfu_host::task::send: crates/dfu_host/src/task.rt */
+static void dfu_host_task_send(unsigned char *a0, unsigned char *a1, unsigned char *a2, size_t a3) {
     _Alignas(4) unsigned char r12[10];
     _Alignas(8) unsigned char r11[8];
     _Alignas(8) unsigned char r15[8];
@@ -2512,72 +2385,66 @@ static void dfu_host_task_send(unsigned char *a0, unsigned char *a1, unsigned ch
     uint64_t r14_3_1_copyload = load64(r15);
     *a0 = 0;
     store64u(a0 + 1, r14_3_1_copyload);
-    store64(a0 + 16, (uint64_t)(uintptr_t)a2);
+    store64(a0 + 16, (size_t)(uintptr_t)a2);
     store64(a0 + 24, a3);
     return;
 }
 
-/* dfu_wire::requests::Request::setup */
+/* dfu_wire::requests::Request::setup: crates/dfu_wire/src/requests.rt */
 static void dfu_wire_requests_Request_setup(unsigned char *a0, unsigned char *a1) {
     uint8_t r15, r13_0_0;
     uint16_t r13_16_0, r13_23_0;
     r15 = *a1;
     switch (r15) {
-    case 0: goto arm_1;
-    case 1: goto arm_2;
-    case 2: goto arm_3;
-    case 3: goto arm_4;
-    case 4:
+    case 0: {
+        uint16_t r17 = load16(a1 + 2);
         r13_0_0 = 33;
-        r13_16_0 = 0;
+        r13_16_0 = r17;
         r13_23_0 = 0;
-        goto join_10;
-    case 5: goto arm_6;
+        break;
+    }
+    case 1: {
+        uint16_t r23 = load16(a1 + 2);
+        uint16_t r25 = load16(a1 + 4);
+        r13_0_0 = 33;
+        r13_16_0 = r23;
+        r13_23_0 = r25;
+        break;
+    }
+    case 2: {
+        uint16_t r32 = load16(a1 + 2);
+        uint16_t r34 = load16(a1 + 4);
+        r13_0_0 = 161;
+        r13_16_0 = r32;
+        r13_23_0 = r34;
+        break;
+    }
+    case 3: {
+        uint16_t r41 = load16(a1 + 2);
+        r13_0_0 = 161;
+        r13_16_0 = 0;
+        r13_23_0 = r41;
+        break;
+    }
+    case 4:
     case 6:
         r13_0_0 = 33;
         r13_16_0 = 0;
         r13_23_0 = 0;
-        goto join_10;
-    case 7: goto arm_8;
-    case 8: goto arm_8;
+        break;
+    case 5: {
+        uint16_t r50 = load16(a1 + 2);
+        r13_0_0 = 161;
+        r13_16_0 = 0;
+        r13_23_0 = r50;
+        break;
+    }
+    case 7:
+    case 8:
+        memset(a0, 0, 10);
+        return;
     default: never();
     }
-arm_1:;
-    uint16_t r17 = load16(a1 + 2);
-    r13_0_0 = 33;
-    r13_16_0 = r17;
-    r13_23_0 = 0;
-    goto join_10;
-arm_2:;
-    uint16_t r23 = load16(a1 + 2);
-    uint16_t r25 = load16(a1 + 4);
-    r13_0_0 = 33;
-    r13_16_0 = r23;
-    r13_23_0 = r25;
-    goto join_10;
-arm_3:;
-    uint16_t r32 = load16(a1 + 2);
-    uint16_t r34 = load16(a1 + 4);
-    r13_0_0 = 161;
-    r13_16_0 = r32;
-    r13_23_0 = r34;
-    goto join_10;
-arm_4:;
-    uint16_t r41 = load16(a1 + 2);
-    r13_0_0 = 161;
-    r13_16_0 = 0;
-    r13_23_0 = r41;
-    goto join_10;
-arm_6:;
-    uint16_t r50 = load16(a1 + 2);
-    r13_0_0 = 161;
-    r13_16_0 = 0;
-    r13_23_0 = r50;
-    goto join_10;
-arm_8:
-    memset(a0, 0, 10);
-    return;
-join_10:
     store16(a0, 1);
     a0[2] = r13_0_0;
     a0[3] = r15;
@@ -2614,7 +2481,7 @@ static void dfu_wire_setups_Setup_encode(unsigned char *a0, unsigned char *a1) {
     return;
 }
 
-/* dfu_wire::bytes::two_bytes */
+/* dfu_wire::bytes::two_bytes: crates/dfu_wire/src/bytes.rt */
 static void dfu_wire_bytes_two_bytes(unsigned char *a0, uint16_t a1) {
     _Alignas(4) unsigned char r5[2];
     _Alignas(4) unsigned char r1[2];
@@ -2627,74 +2494,69 @@ static void dfu_wire_bytes_two_bytes(unsigned char *a0, uint16_t a1) {
 }
 
 /* dfu_wire::functionals::Functional::decode */
-static void dfu_wire_functionals_Functional_decode(unsigned char *a0, unsigned char *a1, uint64_t a2) {
+static void dfu_wire_functionals_Functional_decode(unsigned char *a0, unsigned char *a1, size_t a2) {
     uint8_t r39;
-    uint64_t r1;
+    size_t r1;
     uint16_t r19_0;
-    if (a2 == 0) goto then_1;
-    goto join_3;
-then_1:
-    *a0 = 1;
-    memset(a0 + 1, 0, 11);
-    return;
-join_3:
+    if (a2 == 0) {
+        *a0 = 1;
+        memset(a0 + 1, 0, 11);
+        return;
+    }
     r39 = *a1;
     switch (r39) {
-    case 9: goto after_4;
-    case 7: goto after_4;
-    default: goto then_8;
+    case 9:
+    case 7: {
+        r1 = (size_t)r39;
+        if (a2 < r1) {
+            *a0 = 1;
+            memset(a0 + 1, 0, 11);
+            return;
+        }
+        if (a2 > r1) {
+            *a0 = 1;
+            a0[1] = 1;
+            memset(a0 + 2, 0, 10);
+            return;
+        }
+        uint8_t r92 = a1[1];
+        if (r92 != 33) {
+            *a0 = 1;
+            a0[1] = 3;
+            memset(a0 + 2, 0, 10);
+            return;
+        }
+        if (r39 != 9) r19_0 = 256;
+        else {
+            uint8_t r11 = a1[7];
+            uint8_t r15 = a1[8];
+            r19_0 = (uint16_t)((uint32_t)r15 << 8) | r11;
+        }
+        uint8_t r116 = a1[2];
+        uint8_t r11_2 = a1[3];
+        uint8_t r15_2 = a1[4];
+        uint8_t r11_3 = a1[5];
+        uint8_t r15_3 = a1[6];
+        *a0 = 0;
+        a0[1] = 0;
+        a0[2] = r116 & 1;
+        a0[3] = (uint8_t)(r116 >> 1) & 1;
+        a0[4] = (uint8_t)(r116 >> 2) & 1;
+        a0[5] = (uint8_t)(r116 >> 3) & 1;
+        store16(a0 + 6, (uint16_t)((uint32_t)r15_2 << 8) | r11_2);
+        store16(a0 + 8, (uint16_t)((uint32_t)r15_3 << 8) | r11_3);
+        store16(a0 + 10, r19_0);
+        return;
     }
-then_8:
-    *a0 = 1;
-    a0[1] = 2;
-    memset(a0 + 2, 0, 10);
-    return;
-after_4:
-    r1 = (uint64_t)r39;
-    if (a2 >= r1) goto join_15;
-    *a0 = 1;
-    memset(a0 + 1, 0, 11);
-    return;
-join_15:
-    if (a2 <= r1) goto join_18;
-    *a0 = 1;
-    a0[1] = 1;
-    memset(a0 + 2, 0, 10);
-    return;
-join_18:;
-    uint8_t r92 = a1[1];
-    if (r92 == 33) goto join_21;
-    *a0 = 1;
-    a0[1] = 3;
-    memset(a0 + 2, 0, 10);
-    return;
-join_21:
-    if (r39 != 9) {
-        r19_0 = 256;
-        goto join_24;
+    default:
+        *a0 = 1;
+        a0[1] = 2;
+        memset(a0 + 2, 0, 10);
+        return;
     }
-    uint8_t r11 = a1[7];
-    uint8_t r15 = a1[8];
-    r19_0 = (uint16_t)((uint32_t)r15 << 8) | r11;
-join_24:;
-    uint8_t r116 = a1[2];
-    uint8_t r11_2 = a1[3];
-    uint8_t r15_2 = a1[4];
-    uint8_t r11_3 = a1[5];
-    uint8_t r15_3 = a1[6];
-    *a0 = 0;
-    a0[1] = 0;
-    a0[2] = r116 & 1;
-    a0[3] = (uint8_t)(r116 >> 1) & 1;
-    a0[4] = (uint8_t)(r116 >> 2) & 1;
-    a0[5] = (uint8_t)(r116 >> 3) & 1;
-    store16(a0 + 6, (uint16_t)((uint32_t)r15_2 << 8) | r11_2);
-    store16(a0 + 8, (uint16_t)((uint32_t)r15_3 << 8) | r11_3);
-    store16(a0 + 10, r19_0);
-    return;
 }
 
-/* dfu_host_c::beginning::start */
+/* dfu_host_c::beginning::start: crates/dfu_host_c/src/beginning.rt */
 static void dfu_host_c_beginning_start(unsigned char *a0, unsigned char *a1) {
     _Alignas(8) unsigned char r1[48];
     dfu_host_c_holding_record_of(r1, a1, 0);
@@ -2702,8 +2564,8 @@ static void dfu_host_c_beginning_start(unsigned char *a0, unsigned char *a1) {
     return;
 }
 
-/* dfu_host_c::beginning::install */
-static uint32_t dfu_host_c_beginning_install(unsigned char *a0, unsigned char *a1, uint64_t a2, unsigned char *a3, uint64_t a4, unsigned char *a5, uint32_t a6, uint16_t a7, uint8_t a8) {
+/* dfu_host_c::beginning::install: crates/dfu_host_c/src/beginning.rt */
+static uint32_t dfu_host_c_beginning_install(unsigned char *a0, unsigned char *a1, size_t a2, unsigned char *a3, size_t a4, unsigned char *a5, uint32_t a6, uint16_t a7, uint8_t a8) {
     _Alignas(8) unsigned char r11[64];
     _Alignas(8) unsigned char r8[48];
     _Alignas(8) unsigned char r10[40];
@@ -2717,215 +2579,200 @@ static uint32_t dfu_host_c_beginning_install(unsigned char *a0, unsigned char *a
     uint16_t v4, v10, sink39, sink36, sink, sink39_2, sink36_2, sink_2, r5_18_0, r5_24_0, r5_32_0;
     uint8_t v6, v8, r5_0_1, r5_6_1, sink38, sink37, r5_0_2, r5_6_2, sink38_2, sink37_2, r5_0_0, r5_6_0;
     uint8_t r5_20_0, r5_22_0;
-    uint64_t sink40, sink40_2, r5_1136_0;
+    size_t sink40, sink40_2, r5_1136_0;
     uint32_t sink35, sink35_2, r5_30_0, common_ret_op;
     memcpy(r5, a5, 6);
     dfu_host_c_file_file_in(r10, a1, a2);
     uint8_t r23 = *r10;
-    if (r23 != 0) goto dfu_host_c_beginning_read_both_exit_thread;
-    dfu_wire_functionals_Functional_decode(r14, a3, a4);
-    uint8_t r42 = *r14;
-    if (r42 == 0) goto arm_1;
-    goto dfu_host_c_beginning_read_both_exit;
-dfu_host_c_beginning_read_both_exit_thread:;
-    uint8_t r7_0_0_copyload = r10[1];
-    common_ret_op = (uint32_t)r7_0_0_copyload ^ 0xffffffffU;
-    goto common_ret;
-dfu_host_c_beginning_read_both_exit:;
-    uint8_t r9_0_0_copyload = r14[1];
-    common_ret_op = (uint32_t)0xffffffe1U - (uint32_t)r9_0_0_copyload;
-    goto common_ret;
-arm_1:;
-    uint64_t v2 = load64a2(r14 + 2);
-    uint16_t r17_5_32_copyload = load16(r14 + 10);
-    memcpy(r8, r10 + 8, 32);
-    r14_0_3_0_r8_sroa_idx = r8 + 32;
-    store64(r14_0_3_0_r8_sroa_idx, v2);
-    store64(r8 + 40, (uint64_t)r17_5_32_copyload);
-    v4 = (uint16_t)(v2 >> 48);
-    v6 = (uint8_t)(v2 >> 16);
-    v8 = (uint8_t)(v2 >> 24);
-    v10 = (uint16_t)(v2 >> 32);
-    if (!a8) goto else_2;
-    dfu_host_refusing_goal_to_install(r8_2, r8, r14_0_3_0_r8_sroa_idx, r5, 1);
-    uint8_t r1_0_0_copyload = *r8_2;
-    if (r1_0_0_copyload != 0) goto arm_2;
-    uint8_t r6 = r8_2[8];
-    memcpy(r5_14, r8_2 + 16, 16);
-    memset(r5_26, 0, 26);
-    r5_0_1 = 0;
-    r5_6_1 = 0;
-    sink40 = (uint64_t)r6;
-    sink39 = v4;
-    sink38 = v6;
-    sink37 = v8;
-    sink36 = v10;
-    sink35 = umax32(a6, 1);
-    sink = a7;
-    goto dfu_host_session_Session_download_verified_exit;
-arm_2:;
-    uint8_t r1_3_1_copyload = r8_2[1];
-    memset(r5_26, 0, 26);
-    r5_0_1 = 1;
-    r5_6_1 = r1_3_1_copyload;
-    sink40 = 0;
-    sink39 = 0;
-    sink38 = 0;
-    sink37 = 0;
-    sink36 = 0;
-    sink35 = 0;
-    sink = 0;
-dfu_host_session_Session_download_verified_exit:
-    r5_0_0 = r5_0_1;
-    r5_6_0 = r5_6_1;
-    r5_1136_0 = sink40;
-    r5_18_0 = sink39;
-    r5_20_0 = sink38;
-    r5_22_0 = sink37;
-    r5_24_0 = sink36;
-    r5_30_0 = sink35;
-    r5_32_0 = sink;
-    goto dfu_host_c_beginning_Wanted_begin_exit;
-else_2:
-    dfu_host_refusing_goal_to_install(r8_3, r8, r14_0_3_0_r8_sroa_idx, r5, 0);
-    uint8_t r1_0_0_copyload_2 = *r8_3;
-    if (r1_0_0_copyload_2 != 0) goto arm_2_2;
-    uint8_t r6_2 = r8_3[8];
-    memcpy(r5_14, r8_3 + 16, 16);
-    memset(r5_26, 0, 26);
-    r5_0_2 = 0;
-    r5_6_2 = 0;
-    sink40_2 = (uint64_t)r6_2;
-    sink39_2 = v4;
-    sink38_2 = v6;
-    sink37_2 = v8;
-    sink36_2 = v10;
-    sink35_2 = umax32(a6, 1);
-    sink_2 = a7;
-    goto dfu_host_session_Session_download_exit;
-arm_2_2:;
-    uint8_t r1_3_1_copyload_2 = r8_3[1];
-    memset(r5_26, 0, 26);
-    r5_0_2 = 1;
-    r5_6_2 = r1_3_1_copyload_2;
-    sink40_2 = 0;
-    sink39_2 = 0;
-    sink38_2 = 0;
-    sink37_2 = 0;
-    sink36_2 = 0;
-    sink35_2 = 0;
-    sink_2 = 0;
-dfu_host_session_Session_download_exit:
-    r5_0_0 = r5_0_2;
-    r5_6_0 = r5_6_2;
-    r5_1136_0 = sink40_2;
-    r5_18_0 = sink39_2;
-    r5_20_0 = sink38_2;
-    r5_22_0 = sink37_2;
-    r5_24_0 = sink36_2;
-    r5_30_0 = sink35_2;
-    r5_32_0 = sink_2;
-dfu_host_c_beginning_Wanted_begin_exit:
-    if (r5_0_0 == 0) goto arm_5;
-    goto arm_6;
-common_ret:
+    if (r23 != 0) {
+        uint8_t r7_0_0_copyload = r10[1];
+        common_ret_op = (uint32_t)r7_0_0_copyload ^ 0xffffffffU;
+    }
+    else {
+        dfu_wire_functionals_Functional_decode(r14, a3, a4);
+        uint8_t r42 = *r14;
+        if (r42 != 0) {
+            uint8_t r9_0_0_copyload = r14[1];
+            common_ret_op = (uint32_t)0xffffffe1U - (uint32_t)r9_0_0_copyload;
+        }
+        else {
+            uint64_t v2 = load64a2(r14 + 2);
+            uint16_t r17_5_32_copyload = load16(r14 + 10);
+            memcpy(r8, r10 + 8, 32);
+            r14_0_3_0_r8_sroa_idx = r8 + 32;
+            store64(r14_0_3_0_r8_sroa_idx, v2);
+            store64(r8 + 40, (size_t)r17_5_32_copyload);
+            v4 = (uint16_t)(size_t)(v2 >> 48);
+            v6 = (uint8_t)(size_t)(v2 >> 16);
+            v8 = (uint8_t)(size_t)(v2 >> 24);
+            v10 = (uint16_t)(size_t)(v2 >> 32);
+            if (a8) {
+                dfu_host_refusing_goal_to_install(r8_2, r8, r14_0_3_0_r8_sroa_idx, r5, 1);
+                uint8_t r1_0_0_copyload = *r8_2;
+                if (r1_0_0_copyload != 0) {
+                    uint8_t r1_3_1_copyload = r8_2[1];
+                    memset(r5_26, 0, 26);
+                    r5_0_1 = 1;
+                    r5_6_1 = r1_3_1_copyload;
+                    sink40 = 0;
+                    sink39 = 0;
+                    sink38 = 0;
+                    sink37 = 0;
+                    sink36 = 0;
+                    sink35 = 0;
+                    sink = 0;
+                }
+                else {
+                    uint8_t r6 = r8_2[8];
+                    memcpy(r5_14, r8_2 + 16, 16);
+                    memset(r5_26, 0, 26);
+                    r5_0_1 = 0;
+                    r5_6_1 = 0;
+                    sink40 = (size_t)r6;
+                    sink39 = v4;
+                    sink38 = v6;
+                    sink37 = v8;
+                    sink36 = v10;
+                    sink35 = umax32(a6, 1);
+                    sink = a7;
+                }
+                r5_0_0 = r5_0_1;
+                r5_6_0 = r5_6_1;
+                r5_1136_0 = sink40;
+                r5_18_0 = sink39;
+                r5_20_0 = sink38;
+                r5_22_0 = sink37;
+                r5_24_0 = sink36;
+                r5_30_0 = sink35;
+                r5_32_0 = sink;
+            }
+            else {
+                dfu_host_refusing_goal_to_install(r8_3, r8, r14_0_3_0_r8_sroa_idx, r5, 0);
+                uint8_t r1_0_0_copyload_2 = *r8_3;
+                if (r1_0_0_copyload_2 != 0) {
+                    uint8_t r1_3_1_copyload_2 = r8_3[1];
+                    memset(r5_26, 0, 26);
+                    r5_0_2 = 1;
+                    r5_6_2 = r1_3_1_copyload_2;
+                    sink40_2 = 0;
+                    sink39_2 = 0;
+                    sink38_2 = 0;
+                    sink37_2 = 0;
+                    sink36_2 = 0;
+                    sink35_2 = 0;
+                    sink_2 = 0;
+                }
+                else {
+                    uint8_t r6_2 = r8_3[8];
+                    memcpy(r5_14, r8_3 + 16, 16);
+                    memset(r5_26, 0, 26);
+                    r5_0_2 = 0;
+                    r5_6_2 = 0;
+                    sink40_2 = (size_t)r6_2;
+                    sink39_2 = v4;
+                    sink38_2 = v6;
+                    sink37_2 = v8;
+                    sink36_2 = v10;
+                    sink35_2 = umax32(a6, 1);
+                    sink_2 = a7;
+                }
+                r5_0_0 = r5_0_2;
+                r5_6_0 = r5_6_2;
+                r5_1136_0 = sink40_2;
+                r5_18_0 = sink39_2;
+                r5_20_0 = sink38_2;
+                r5_22_0 = sink37_2;
+                r5_24_0 = sink36_2;
+                r5_30_0 = sink35_2;
+                r5_32_0 = sink_2;
+            }
+            if (r5_0_0 != 0) common_ret_op = (uint32_t)0xffffffebU - (uint32_t)r5_6_0;
+            else {
+                store64(r11, r5_1136_0);
+                memcpy(r11 + 8, r5_14, 16);
+                store16(r11 + 24, r5_18_0);
+                r11[26] = r5_20_0;
+                r11[27] = r5_22_0;
+                store16(r11 + 28, r5_24_0);
+                memcpy(r11 + 30, r5_26, 26);
+                store32(r11 + 56, r5_30_0);
+                store16(r11 + 60, r5_32_0);
+                store16(r11 + 62, 0);
+                dfu_host_c_beginning_start(a0, r11);
+                common_ret_op = 0;
+            }
+        }
+    }
     return common_ret_op;
-arm_5:
-    store64(r11, r5_1136_0);
-    memcpy(r11 + 8, r5_14, 16);
-    store16(r11 + 24, r5_18_0);
-    r11[26] = r5_20_0;
-    r11[27] = r5_22_0;
-    store16(r11 + 28, r5_24_0);
-    memcpy(r11 + 30, r5_26, 26);
-    store32(r11 + 56, r5_30_0);
-    store16(r11 + 60, r5_32_0);
-    store16(r11 + 62, 0);
-    dfu_host_c_beginning_start(a0, r11);
-    common_ret_op = 0;
-    goto common_ret;
-arm_6:
-    common_ret_op = (uint32_t)0xffffffebU - (uint32_t)r5_6_0;
-    goto common_ret;
 }
 
-/* dfu_host::refusing::goal_to_install */
+/* dfu_host::refusing::goal_to_install: crates/dfu_host/src/refusing.rt */
 static void dfu_host_refusing_goal_to_install(unsigned char *a0, unsigned char *a1, unsigned char *a2, unsigned char *a3, uint8_t a4) {
     uint16_t r1_2_0_copyload;
     uint64_t r0_0_0_copyload, r0_3_0_copyload;
-    uint8_t r8_4_0, r3_4_0;
+    uint8_t r3_4_0, r8_4_0;
     unsigned char *r76, *r78;
     r1_2_0_copyload = load16(a3 + 2);
     r0_0_0_copyload = load64(a1);
     r0_3_0_copyload = load64(a1 + 8);
-    if (r0_3_0_copyload == 0) {
-        r8_4_0 = 0;
-        goto arm_2;
+    if (r0_3_0_copyload == 0) r8_4_0 = 0;
+    else {
+        uint16_t r1_3_0_copyload = load16(a3 + 4);
+        uint16_t r7_3_0_copyload = load16(a1 + 20);
+        if (!((r7_3_0_copyload == 0xffffU) | (r7_3_0_copyload == r1_3_0_copyload))) r8_4_0 = 1;
+        else {
+            uint16_t r7_2_0_copyload = load16(a1 + 18);
+            if (!((r7_2_0_copyload == 0xffffU) | (r7_2_0_copyload == r1_2_0_copyload))) r8_4_0 = 1;
+            else {
+                uint8_t r36 = *a2;
+                if (r36 & 1) {
+                    if (!a4) {
+                        uint16_t r69 = load16(a2 + 6);
+                        r76 = a0 + 1;
+                        r78 = a0 + 8;
+                        if (r69 == 0) {
+                            *a0 = 1;
+                            *r76 = 4;
+                            memset(r78, 0, 24);
+                            return;
+                        }
+                        *a0 = 0;
+                        *r76 = 0;
+                        store64(r78, 0);
+                        store64(a0 + 16, r0_0_0_copyload);
+                        store64(a0 + 24, r0_3_0_copyload);
+                        return;
+                    }
+                    uint8_t r10 = a2[1];
+                    if (!(r10 & 1)) r3_4_0 = 3;
+                    else {
+                        uint16_t r21 = load16(a2 + 6);
+                        if (r21 != 0) {
+                            *a0 = 0;
+                            a0[1] = 0;
+                            store64(a0 + 8, 2);
+                            store64(a0 + 16, r0_0_0_copyload);
+                            store64(a0 + 24, r0_3_0_copyload);
+                            return;
+                        }
+                        r3_4_0 = 4;
+                    }
+                    *a0 = 1;
+                    a0[1] = r3_4_0;
+                    memset(a0 + 8, 0, 24);
+                    return;
+                }
+                r8_4_0 = 2;
+            }
+        }
     }
-    uint16_t r1_3_0_copyload = load16(a3 + 4);
-    uint16_t r7_3_0_copyload = load16(a1 + 20);
-    if (!((r7_3_0_copyload == 0xffffU) | (r7_3_0_copyload == r1_3_0_copyload))) {
-        r8_4_0 = 1;
-        goto arm_2;
-    }
-    uint16_t r7_2_0_copyload = load16(a1 + 18);
-    if (!((r7_2_0_copyload == 0xffffU) | (r7_2_0_copyload == r1_2_0_copyload))) {
-        r8_4_0 = 1;
-        goto arm_2;
-    }
-    uint8_t r36 = *a2;
-    if (!(r36 & 1)) {
-        r8_4_0 = 2;
-        goto arm_2;
-    }
-    if (a4) goto then_5;
-    goto join_7;
-arm_2:
     *a0 = 1;
     a0[1] = r8_4_0;
     memset(a0 + 8, 0, 24);
     return;
-then_5:;
-    uint8_t r10 = a2[1];
-    if (!(r10 & 1)) {
-        r3_4_0 = 3;
-        goto arm_9;
-    }
-    uint16_t r21 = load16(a2 + 6);
-    if (r21 == 0) {
-        r3_4_0 = 4;
-        goto arm_9;
-    }
-    *a0 = 0;
-    a0[1] = 0;
-    store64(a0 + 8, 2);
-    store64(a0 + 16, r0_0_0_copyload);
-    store64(a0 + 24, r0_3_0_copyload);
-    return;
-arm_9:
-    *a0 = 1;
-    a0[1] = r3_4_0;
-    memset(a0 + 8, 0, 24);
-    return;
-join_7:;
-    uint16_t r69 = load16(a2 + 6);
-    r76 = a0 + 1;
-    r78 = a0 + 8;
-    if (r69 != 0) goto join_13;
-    *a0 = 1;
-    *r76 = 4;
-    memset(r78, 0, 24);
-    return;
-join_13:
-    *a0 = 0;
-    *r76 = 0;
-    store64(r78, 0);
-    store64(a0 + 16, r0_0_0_copyload);
-    store64(a0 + 24, r0_3_0_copyload);
-    return;
 }
 
-/* dfu_host::session::Session::on_result */
+/* dfu_host::session::Session::on_result: crates/dfu_host/src/session.rt */
 static void dfu_host_session_Session_on_result(unsigned char *a0, unsigned char *a1, uint8_t a2) {
     _Alignas(8) unsigned char r17_2[32];
     unsigned char *const r0 = r17_2;
@@ -2951,7 +2798,7 @@ static void dfu_host_session_Session_on_result(unsigned char *a0, unsigned char 
     _Alignas(4) unsigned char r36_4[2];
     _Alignas(4) unsigned char r37_4[2];
     _Alignas(4) unsigned char r38_4[2];
-    uint64_t r0_3_0_0_copyload, r0_3_3_0_copyload, r18_14_0, r1_6_0_copyload, r1_8_0_copyload, r31_10_0, r39_17_0_in_speculated, r6_10_0, r15, r19;
+    uint64_t r0_3_0_0_copyload, r0_3_3_0_copyload, r18_14_0, r1_6_0_copyload, r1_8_0_copyload, r31_10_0, r39_17_0_in_speculated, r6_10_0;
     unsigned char *r12, *r21, *r14, *r39_9_0_in, *r39_9_0_in_2, *r39_9_0_in_3;
     uint16_t v0, r1_4_0_copyload, r1_9_0_copyload, v8, r31_6_0_0, r26_2, r40, r8_6_0;
     uint8_t common_ret_op, v10, or_cond;
@@ -2959,6 +2806,7 @@ static void dfu_host_session_Session_on_result(unsigned char *a0, unsigned char 
     uint8_t r39_0_0_in_speculated_3, r6_0_0_3, r7_0_0, r7_5_0, r7_8_0_0, r7_8_4_0_0, r6_4_0, r6_7_0_0, r6_7_4_0_0, r6_0_0_4, r8_0_0, r8_4_0;
     uint8_t r8_7_0_0, r8_0_0_2, r8_4_0_2;
     uint32_t r18_121_0, r1_5_0_copyload, r1_7_0_copyload, r31_8_0, r31_12_0;
+    size_t r15, r19;
     uint8_t r1 = *a1;
     r0_3_0_0_copyload = load64(a1 + 8);
     r0_3_3_0_copyload = load64(a1 + 16);
@@ -2970,869 +2818,720 @@ static void dfu_host_session_Session_on_result(unsigned char *a0, unsigned char 
         r18_10_0 = r1;
         r18_121_0 = 0;
         r18_14_0 = 0;
-        goto dfu_host_task_Task_hear_exit;
-    case 1: goto arm_2;
-    case 2: goto arm_3;
-    case 3: goto arm_4;
-    case 4: goto arm_5;
-    case 5: goto arm_6;
-    case 6: goto arm_7;
-    case 7: goto arm_8;
-    default: never();
+        break;
+    case 1: {
+        uint8_t v1 = *r12;
+        r21 = (unsigned char *)(uintptr_t)r0_3_0_0_copyload;
+        switch (v1) {
+        case 0:
+        case 1:
+        case 10:
+        case 14:
+        case 17: {
+            dfu_wire_statuses_Status_decode(r4, r21, r0_3_3_0_copyload);
+            uint8_t r9 = *r4;
+            uint8_t v2 = r9 == 0;
+            uint32_t r5_5_3_2_copyload = load32(r4 + 4);
+            uint64_t r5_5_5_2_copyload = load64a4(r4 + 8);
+            r18_0_0 = (uint8_t)(v2 ? 1 : 7);
+            r18_10_0 = 0;
+            r18_121_0 = (uint32_t)(v2 ? r5_5_3_2_copyload : 0);
+            r18_14_0 = (uint64_t)(v2 ? r5_5_5_2_copyload : 0);
+            break;
+        }
+        case 9:
+        case 13:
+            if (r0_3_3_0_copyload != 1) {
+                r18_0_0 = 7;
+                r18_10_0 = 0;
+                r18_121_0 = 0;
+                r18_14_0 = 0;
+            }
+            else {
+                uint8_t r27 = *r21;
+                uint8_t v3 = r27 < 11;
+                r18_0_0 = (uint8_t)(v3 ? 2 : 7);
+                r18_10_0 = (uint8_t)(v3 ? r27 : 0);
+                r18_121_0 = 0;
+                r18_14_0 = 0;
+            }
+            break;
+        case 18:
+            if (a2 & (r0_3_3_0_copyload != 0)) {
+                uint16_t r7 = load16(a0 + 24);
+                size_t r9_2 = (size_t)r7;
+                if ((r0_3_3_0_copyload < (uint64_t)r9_2) | ((v0 != 0xfffeU) & (r0_3_3_0_copyload == (uint64_t)r9_2))) {
+                    r18_0_0 = 5;
+                    r18_10_0 = 0;
+                    r18_121_0 = 0;
+                    r18_14_0 = 0;
+                    break;
+                }
+            }
+            r18_0_0 = 3;
+            r18_10_0 = 0;
+            r18_121_0 = 0;
+            r18_14_0 = r0_3_3_0_copyload;
+            break;
+        case 19: {
+            struct ptr_i64 r13 = dfu_host_task_Task_block(a0, (size_t)v0);
+            r14 = r13.a;
+            if (r0_3_3_0_copyload != (uint64_t)(size_t)r13.b) common_ret_op = 0;
+            else {
+                store64(r5, r0_3_0_0_copyload);
+                store64(r5 + 8, r0_3_3_0_copyload);
+                store64(r5 + 16, (size_t)(uintptr_t)r14);
+                store64(r5 + 24, r0_3_3_0_copyload);
+                if (r0_3_3_0_copyload < 4) {
+                    uint8_t r60 = core_slice_scan_any_by_one(r5, (size_t)r0_3_3_0_copyload);
+                    common_ret_op = !r60;
+                }
+                else {
+                    uint8_t r70 = core_slice_scan_any_in_run(r5, 0, 4);
+                    if (r70) common_ret_op = 0;
+                    else {
+                        uint8_t r83 = core_cmp_slices_groups_equal_i8_core_cmp_numbers_U8PartialEq(r21, (size_t)r0_3_3_0_copyload, r14, (size_t)r0_3_3_0_copyload);
+                        common_ret_op = r83;
+                    }
+                }
+            }
+            r18_0_0 = 4;
+            r18_10_0 = common_ret_op;
+            r18_121_0 = 0;
+            r18_14_0 = r0_3_3_0_copyload;
+            break;
+        }
+        case 2:
+        case 3:
+        case 4:
+        case 5:
+        case 6:
+        case 7:
+        case 8:
+        case 11:
+        case 12:
+        case 15:
+        case 16:
+        case 20:
+        case 21:
+        case 22:
+        case 23:
+        case 24:
+            r18_0_0 = 7;
+            r18_10_0 = 0;
+            r18_121_0 = 0;
+            r18_14_0 = 0;
+            break;
+        default: never();
+        }
+        break;
     }
-arm_2:;
-    uint8_t v1 = *r12;
-    r21 = (unsigned char *)(uintptr_t)r0_3_0_0_copyload;
-    switch (v1) {
-    case 0: goto arm_1;
-    case 1: goto arm_1;
-    case 10: goto arm_1;
-    case 14: goto arm_1;
-    case 17: goto arm_1;
-    case 9: goto arm_2_2;
-    case 13: goto arm_2_2;
-    case 18: goto arm_3_2;
-    case 19: goto arm_4_2;
     case 2:
-        r18_0_0 = 7;
+        r18_0_0 = 6;
         r18_10_0 = 0;
         r18_121_0 = 0;
         r18_14_0 = 0;
-        goto dfu_host_task_Task_hear_exit;
+        break;
     case 3:
         r18_0_0 = 7;
         r18_10_0 = 0;
         r18_121_0 = 0;
         r18_14_0 = 0;
-        goto dfu_host_task_Task_hear_exit;
+        break;
     case 4:
-        r18_0_0 = 7;
+        r18_0_0 = 8;
         r18_10_0 = 0;
         r18_121_0 = 0;
         r18_14_0 = 0;
-        goto dfu_host_task_Task_hear_exit;
+        break;
     case 5:
-        r18_0_0 = 7;
+        r18_0_0 = 9;
         r18_10_0 = 0;
         r18_121_0 = 0;
         r18_14_0 = 0;
-        goto dfu_host_task_Task_hear_exit;
+        break;
     case 6:
-        r18_0_0 = 7;
+        r18_0_0 = 10;
         r18_10_0 = 0;
         r18_121_0 = 0;
         r18_14_0 = 0;
-        goto dfu_host_task_Task_hear_exit;
+        break;
     case 7:
-        r18_0_0 = 7;
+        r18_0_0 = 11;
         r18_10_0 = 0;
         r18_121_0 = 0;
         r18_14_0 = 0;
-        goto dfu_host_task_Task_hear_exit;
-    case 8:
-        r18_0_0 = 7;
-        r18_10_0 = 0;
-        r18_121_0 = 0;
-        r18_14_0 = 0;
-        goto dfu_host_task_Task_hear_exit;
-    case 11:
-        r18_0_0 = 7;
-        r18_10_0 = 0;
-        r18_121_0 = 0;
-        r18_14_0 = 0;
-        goto dfu_host_task_Task_hear_exit;
-    case 12:
-        r18_0_0 = 7;
-        r18_10_0 = 0;
-        r18_121_0 = 0;
-        r18_14_0 = 0;
-        goto dfu_host_task_Task_hear_exit;
-    case 15:
-        r18_0_0 = 7;
-        r18_10_0 = 0;
-        r18_121_0 = 0;
-        r18_14_0 = 0;
-        goto dfu_host_task_Task_hear_exit;
-    case 16:
-        r18_0_0 = 7;
-        r18_10_0 = 0;
-        r18_121_0 = 0;
-        r18_14_0 = 0;
-        goto dfu_host_task_Task_hear_exit;
-    case 20:
-        r18_0_0 = 7;
-        r18_10_0 = 0;
-        r18_121_0 = 0;
-        r18_14_0 = 0;
-        goto dfu_host_task_Task_hear_exit;
-    case 21:
-        r18_0_0 = 7;
-        r18_10_0 = 0;
-        r18_121_0 = 0;
-        r18_14_0 = 0;
-        goto dfu_host_task_Task_hear_exit;
-    case 22:
-        r18_0_0 = 7;
-        r18_10_0 = 0;
-        r18_121_0 = 0;
-        r18_14_0 = 0;
-        goto dfu_host_task_Task_hear_exit;
-    case 23:
-        r18_0_0 = 7;
-        r18_10_0 = 0;
-        r18_121_0 = 0;
-        r18_14_0 = 0;
-        goto dfu_host_task_Task_hear_exit;
-    case 24:
-        r18_0_0 = 7;
-        r18_10_0 = 0;
-        r18_121_0 = 0;
-        r18_14_0 = 0;
-        goto dfu_host_task_Task_hear_exit;
+        break;
     default: never();
     }
-arm_1:
-    dfu_wire_statuses_Status_decode(r4, r21, r0_3_3_0_copyload);
-    uint8_t r9 = *r4;
-    uint8_t v2 = r9 == 0;
-    uint32_t r5_5_3_2_copyload = load32(r4 + 4);
-    uint64_t r5_5_5_2_copyload = load64a4(r4 + 8);
-    r18_0_0 = (uint8_t)(v2 ? 1 : 7);
-    r18_10_0 = 0;
-    r18_121_0 = (uint32_t)(v2 ? r5_5_3_2_copyload : 0);
-    r18_14_0 = (uint64_t)(v2 ? r5_5_5_2_copyload : 0);
-    goto dfu_host_task_Task_hear_exit;
-arm_2_2:
-    if (r0_3_3_0_copyload != 1) {
-        r18_0_0 = 7;
-        r18_10_0 = 0;
-        r18_121_0 = 0;
-        r18_14_0 = 0;
-        goto dfu_host_task_Task_hear_exit;
-    }
-    uint8_t r27 = *r21;
-    uint8_t v3 = r27 < 11;
-    r18_0_0 = (uint8_t)(v3 ? 2 : 7);
-    r18_10_0 = (uint8_t)(v3 ? r27 : 0);
-    r18_121_0 = 0;
-    r18_14_0 = 0;
-    goto dfu_host_task_Task_hear_exit;
-arm_3_2:
-    if (!(a2 & (r0_3_3_0_copyload != 0))) goto join_4;
-    uint16_t r7 = load16(a0 + 24);
-    uint64_t r9_2 = (uint64_t)r7;
-    if ((r0_3_3_0_copyload < r9_2) | ((v0 != 0xfffeU) & (r0_3_3_0_copyload == r9_2))) {
-        r18_0_0 = 5;
-        r18_10_0 = 0;
-        r18_121_0 = 0;
-        r18_14_0 = 0;
-        goto dfu_host_task_Task_hear_exit;
-    }
-join_4:
-    r18_0_0 = 3;
-    r18_10_0 = 0;
-    r18_121_0 = 0;
-    r18_14_0 = r0_3_3_0_copyload;
-    goto dfu_host_task_Task_hear_exit;
-arm_4_2:;
-    struct ptr_i64 r13 = dfu_host_task_Task_block(a0, (uint64_t)v0);
-    r14 = r13.a;
-    if (r0_3_3_0_copyload != r13.b) {
-        common_ret_op = 0;
-        goto dfu_host_task_Task_compare_exit;
-    }
-    store64(r5, r0_3_0_0_copyload);
-    store64(r5 + 8, r0_3_3_0_copyload);
-    store64(r5 + 16, (uint64_t)(uintptr_t)r14);
-    store64(r5 + 24, r0_3_3_0_copyload);
-    if (r0_3_3_0_copyload >= 4) goto join_9;
-    uint8_t r60 = core_slice_scan_any_by_one(r5, r0_3_3_0_copyload);
-    common_ret_op = !r60;
-    goto dfu_host_task_Task_compare_exit;
-join_9:;
-    uint8_t r70 = core_slice_scan_any_in_run(r5, 0, 4);
-    if (r70) {
-        common_ret_op = 0;
-        goto dfu_host_task_Task_compare_exit;
-    }
-    uint8_t r83 = core_cmp_slices_groups_equal_i8_core_cmp_numbers_U8PartialEq(r21, r0_3_3_0_copyload, r14, r0_3_3_0_copyload);
-    common_ret_op = r83;
-dfu_host_task_Task_compare_exit:
-    r18_0_0 = 4;
-    r18_10_0 = common_ret_op;
-    r18_121_0 = 0;
-    r18_14_0 = r0_3_3_0_copyload;
-    goto dfu_host_task_Task_hear_exit;
-arm_3:
-    r18_0_0 = 6;
-    r18_10_0 = 0;
-    r18_121_0 = 0;
-    r18_14_0 = 0;
-    goto dfu_host_task_Task_hear_exit;
-arm_4:
-    r18_0_0 = 7;
-    r18_10_0 = 0;
-    r18_121_0 = 0;
-    r18_14_0 = 0;
-    goto dfu_host_task_Task_hear_exit;
-arm_5:
-    r18_0_0 = 8;
-    r18_10_0 = 0;
-    r18_121_0 = 0;
-    r18_14_0 = 0;
-    goto dfu_host_task_Task_hear_exit;
-arm_6:
-    r18_0_0 = 9;
-    r18_10_0 = 0;
-    r18_121_0 = 0;
-    r18_14_0 = 0;
-    goto dfu_host_task_Task_hear_exit;
-arm_7:
-    r18_0_0 = 10;
-    r18_10_0 = 0;
-    r18_121_0 = 0;
-    r18_14_0 = 0;
-    goto dfu_host_task_Task_hear_exit;
-arm_8:
-    r18_0_0 = 11;
-    r18_10_0 = 0;
-    r18_121_0 = 0;
-    r18_14_0 = 0;
-    goto dfu_host_task_Task_hear_exit;
-dfu_host_task_Task_hear_exit:
     memcpy(r1_2, r12, 32);
     r10 = *r1_2;
-    if ((uint8_t)(r10 + 233) >= 2) goto join_4_2;
-    memcpy(r7_2, r12, 32);
-    goto dfu_host_progress_Progress_after_exit;
-join_4_2:
-    switch (r18_0_0) {
-    case 10: goto arm_5_2;
-    case 11: goto arm_6_2;
-    case 0: goto arm_7_2;
-    case 1: goto arm_7_2;
-    case 2: goto arm_7_2;
-    case 3: goto arm_7_2;
-    case 4: goto arm_7_2;
-    case 5: goto arm_7_2;
-    case 6: goto arm_7_2;
-    case 7: goto arm_7_2;
-    case 8: goto arm_7_2;
-    case 9: goto arm_7_2;
-    default: never();
-    }
-arm_5_2:
-    dfu_host_progress_Progress_restarted(r7_2, r1_2);
-    goto dfu_host_progress_Progress_after_exit;
-arm_6_2:
-    memcpy(r1_3, r12, 32);
-    store64(r2 + 16, 0);
-    uint8_t v5 = *r1_3;
-    switch (v5) {
-    case 14: goto dfu_host_task_Task_after_last_exitthread_pre_split;
-    case 15: goto dfu_host_task_Task_after_last_exitthread_pre_split;
-    case 16: goto dfu_host_task_Task_after_last_exitthread_pre_split;
-    case 20: goto dfu_host_task_Task_is_behind_close_exit;
-    case 0: goto then_1;
-    case 1: goto then_1;
-    case 2: goto then_1;
-    case 3: goto then_1;
-    case 4: goto then_1;
-    case 5: goto then_1;
-    case 6: goto then_1;
-    case 7: goto then_1;
-    case 8: goto then_1;
-    case 9: goto then_1;
-    case 10: goto then_1;
-    case 11: goto then_1;
-    case 12: goto then_1;
-    case 13: goto then_1;
-    case 17: goto then_1;
-    case 18: goto then_1;
-    case 19: goto then_1;
-    case 21: goto then_1;
-    case 22: goto then_1;
-    case 23: goto then_1;
-    case 24: goto then_1;
-    default: never();
-    }
-dfu_host_task_Task_is_behind_close_exit:;
-    uint8_t r2_2 = *a0;
-    if (!(r2_2 & 1)) {
-        r13_2 = r2_2;
-        goto dfu_host_task_Task_after_last_exit;
-    }
+    if ((uint8_t)(r10 + 233) < 2) memcpy(r7_2, r12, 32);
+    else {
+        switch (r18_0_0) {
+        case 10:
+            dfu_host_progress_Progress_restarted(r7_2, r1_2);
+            break;
+        case 11: {
+            memcpy(r1_3, r12, 32);
+            store64(r2 + 16, 0);
+            uint8_t v5 = *r1_3;
+            switch (v5) {
+            case 14:
+            case 15:
+            case 16: {
+                uint8_t r13_pr = *a0;
+                r13_2 = r13_pr;
+                break;
+            }
+            case 20: {
+                uint8_t r2_2 = *a0;
+                if (r2_2 & 1) goto then_1;
+                r13_2 = r2_2;
+                break;
+            }
+            case 0:
+            case 1:
+            case 2:
+            case 3:
+            case 4:
+            case 5:
+            case 6:
+            case 7:
+            case 8:
+            case 9:
+            case 10:
+            case 11:
+            case 12:
+            case 13:
+            case 17:
+            case 18:
+            case 19:
+            case 21:
+            case 22:
+            case 23:
+            case 24: goto then_1;
+            default: never();
+            }
+            uint8_t v6 = r13_2 != 2;
+            *r2 = (uint8_t)(v6 ? 23 : 0);
+            r2[1] = v6;
+            memset(r2 + 2, 0, 18);
+            if (r13_2 == 2) store64(a0, 3);
+            uint16_t r36 = load16(r1_3 + 28);
+            dfu_host_progress_Progress_spent(r0, r1_3, r2, r36);
+            memcpy(r7_2, r0, 32);
+            goto dfu_host_progress_Progress_left_exit;
 then_1:
-    dfu_host_progress_Progress_restarted(r0, r1_3);
-    memcpy(r7_2, r0, 32);
-    goto dfu_host_progress_Progress_left_exit;
-dfu_host_task_Task_after_last_exitthread_pre_split:;
-    uint8_t r13_pr = *a0;
-    r13_2 = r13_pr;
-dfu_host_task_Task_after_last_exit:;
-    uint8_t v6 = r13_2 != 2;
-    *r2 = (uint8_t)(v6 ? 23 : 0);
-    r2[1] = v6;
-    memset(r2 + 2, 0, 18);
-    if (r13_2 != 2) goto dfu_host_task_Task_go_on_exit;
-    store64(a0, 3);
-dfu_host_task_Task_go_on_exit:;
-    uint16_t r36 = load16(r1_3 + 28);
-    dfu_host_progress_Progress_spent(r0, r1_3, r2, r36);
-    memcpy(r7_2, r0, 32);
+            dfu_host_progress_Progress_restarted(r0, r1_3);
+            memcpy(r7_2, r0, 32);
 dfu_host_progress_Progress_left_exit:
-    goto dfu_host_progress_Progress_after_exit;
-arm_7_2:
-    r1_3_0_copyload = r1_2[1];
-    r1_4_0_copyload = load16(r1_2 + 2);
-    r1_5_0_copyload = load32(r1_2 + 4);
-    r1_6_0_copyload = load64(r1_2 + 8);
-    r1_7_0_copyload = load32(r1_2 + 16);
-    r1_8_0_copyload = load64a4(r1_2 + 20);
-    r1_9_0_copyload = load16(r1_2 + 28);
-    v8 = load16(r1_2 + 30);
-    v10 = r18_0_0 == 9;
-    or_cond = v10 & (r10 == 20);
-    unsigned char *v11 = r1_4 + 16;
-    store64(v11, 0);
-    *r1_4 = r10;
-    r1_4[1] = r1_3_0_copyload;
-    store16(r1_4 + 2, r1_4_0_copyload);
-    store32(r1_4 + 4, r1_5_0_copyload);
-    store64(r1_4 + 8, r1_6_0_copyload);
-    store32(v11, r1_7_0_copyload);
-    store64(r12_2, 0);
-    *r12_2 = r18_0_0;
-    r12_2[1] = r18_10_0;
-    store32(r12_2 + 4, r18_121_0);
-    store64(r12_2 + 8, r18_14_0);
-    memset(r23, 0, 24);
-    memset(r24, 0, 24);
-    memset(r25, 0, 24);
-    memset(r26, 0, 24);
-    store16(r27_4, 0);
-    store16(r28_4, 0);
-    store16(r29_4, 0);
-    store16(r32_4, 0);
-    store16(r33_4, 0);
-    store16(r34_4, 0);
-    store16(r36_4, 0);
-    store16(r37_4, 0);
-    store16(r38_4, 0);
-    v12 = (uint8_t)r1_4_0_copyload;
-    switch (r10) {
-    case 0: goto arm_1_2;
-    case 17: goto arm_1_2;
-    case 1: goto arm_2_3;
-    case 10: goto arm_3_3;
-    case 14: goto arm_3_3;
-    case 2: goto arm_4_3;
-    case 3: goto arm_5_3;
-    case 4: goto dfu_host_task_Task_row_exit;
-    case 5: goto dfu_host_task_Task_row_exit;
-    case 6: goto arm_7_3;
-    case 7: goto arm_8_2;
-    case 8: goto arm_9;
-    case 9: goto arm_10;
-    case 11: goto arm_11;
-    case 12: goto arm_12;
-    case 13: goto arm_13;
-    case 15: goto arm_14;
-    case 16: goto arm_15;
-    case 18: goto arm_16;
-    case 19: goto arm_17;
-    case 20: goto arm_18;
-    case 21: goto arm_19;
-    case 22: goto arm_20;
-    default: never();
-    }
-arm_1_2:
-    *r24 = 1;
-    dfu_host_task_Task_on_status(r23, a0, r1_4, r12_2, r24);
-    goto dfu_host_task_Task_row_exit;
-arm_2_3:
-    *r25 = 7;
-    dfu_host_task_Task_on_status(r23, a0, r1_4, r12_2, r25);
-    goto dfu_host_task_Task_row_exit;
-arm_3_3:
-    *r26 = 17;
-    dfu_host_task_Task_on_status(r23, a0, r1_4, r12_2, r26);
-    goto dfu_host_task_Task_row_exit;
-arm_4_3:
-    switch (r18_0_0) {
-    case 0:
-        r39_0_0_in_speculated = 3;
-        r39_9_0_in = r27_4;
-        goto dfu_host_row_on_ack_exit;
-    case 6: goto arm_2_4;
-    case 1: goto arm_3_4;
-    case 2: goto arm_3_4;
-    case 3: goto arm_3_4;
-    case 4: goto arm_3_4;
-    case 5: goto arm_3_4;
-    case 7: goto arm_3_4;
-    case 8: goto arm_3_4;
-    case 9: goto arm_3_4;
-    default: never();
-    }
-arm_2_4:
-    r39_0_0_in_speculated = 0;
-    r39_9_0_in = r28_4;
-    goto dfu_host_row_on_ack_exit;
-arm_3_4:
-    r39_0_0_in_speculated = 0;
-    r39_9_0_in = r29_4;
-    goto dfu_host_row_on_ack_exit;
-dfu_host_row_on_ack_exit:;
-    uint16_t r39_9_0 = load16(r39_9_0_in);
-    *r23 = r39_0_0_in_speculated;
-    store16(r23 + 2, r39_9_0);
-    memset(r23 + 4, 0, 16);
-    goto dfu_host_task_Task_row_exit;
-arm_5_3:
-    switch (r18_0_0) {
-    case 8: goto arm_3_5;
-    case 9: goto arm_4_4;
-    case 0: goto after_2;
-    case 1: goto after_2;
-    case 2: goto after_2;
-    case 3: goto after_2;
-    case 4: goto after_2;
-    case 5: goto after_2;
-    case 6: goto after_2;
-    case 7: goto after_2;
-    default: never();
-    }
-arm_3_5:;
-    uint8_t r12_3 = a0[27];
-    if (r12_3 & 1) {
-        r6_0_0 = 0;
-        goto dfu_host_task_Task_after_enter_exit;
-    }
-    goto after_2;
-arm_4_4:;
-    uint8_t r18 = a0[27];
-    if (!(r18 & 1)) {
-        r6_0_0 = 0;
-        goto dfu_host_task_Task_after_enter_exit;
-    }
-after_2:
-    r6_0_0 = 3;
-    goto dfu_host_task_Task_after_enter_exit;
+            break;
+        }
+        case 0:
+        case 1:
+        case 2:
+        case 3:
+        case 4:
+        case 5:
+        case 6:
+        case 7:
+        case 8:
+        case 9: {
+            r1_3_0_copyload = r1_2[1];
+            r1_4_0_copyload = load16(r1_2 + 2);
+            r1_5_0_copyload = load32(r1_2 + 4);
+            r1_6_0_copyload = load64(r1_2 + 8);
+            r1_7_0_copyload = load32(r1_2 + 16);
+            r1_8_0_copyload = load64a4(r1_2 + 20);
+            r1_9_0_copyload = load16(r1_2 + 28);
+            v8 = load16(r1_2 + 30);
+            v10 = r18_0_0 == 9;
+            or_cond = v10 & (r10 == 20);
+            unsigned char *v11 = r1_4 + 16;
+            store64(v11, 0);
+            *r1_4 = r10;
+            r1_4[1] = r1_3_0_copyload;
+            store16(r1_4 + 2, r1_4_0_copyload);
+            store32(r1_4 + 4, r1_5_0_copyload);
+            store64(r1_4 + 8, r1_6_0_copyload);
+            store32(v11, r1_7_0_copyload);
+            store64(r12_2, 0);
+            *r12_2 = r18_0_0;
+            r12_2[1] = r18_10_0;
+            store32(r12_2 + 4, r18_121_0);
+            store64(r12_2 + 8, r18_14_0);
+            memset(r23, 0, 24);
+            memset(r24, 0, 24);
+            memset(r25, 0, 24);
+            memset(r26, 0, 24);
+            store16(r27_4, 0);
+            store16(r28_4, 0);
+            store16(r29_4, 0);
+            store16(r32_4, 0);
+            store16(r33_4, 0);
+            store16(r34_4, 0);
+            store16(r36_4, 0);
+            store16(r37_4, 0);
+            store16(r38_4, 0);
+            v12 = (uint8_t)r1_4_0_copyload;
+            switch (r10) {
+            case 0:
+            case 17:
+                *r24 = 1;
+                dfu_host_task_Task_on_status(r23, a0, r1_4, r12_2, r24);
+                break;
+            case 1:
+                *r25 = 7;
+                dfu_host_task_Task_on_status(r23, a0, r1_4, r12_2, r25);
+                break;
+            case 10:
+            case 14:
+                *r26 = 17;
+                dfu_host_task_Task_on_status(r23, a0, r1_4, r12_2, r26);
+                break;
+            case 2: {
+                switch (r18_0_0) {
+                case 0:
+                    r39_0_0_in_speculated = 3;
+                    r39_9_0_in = r27_4;
+                    break;
+                case 6:
+                    r39_0_0_in_speculated = 0;
+                    r39_9_0_in = r28_4;
+                    break;
+                case 1:
+                case 2:
+                case 3:
+                case 4:
+                case 5:
+                case 7:
+                case 8:
+                case 9:
+                    r39_0_0_in_speculated = 0;
+                    r39_9_0_in = r29_4;
+                    break;
+                default: never();
+                }
+                uint16_t r39_9_0 = load16(r39_9_0_in);
+                *r23 = r39_0_0_in_speculated;
+                store16(r23 + 2, r39_9_0);
+                memset(r23 + 4, 0, 16);
+                break;
+            }
+            case 3:
+                switch (r18_0_0) {
+                case 8: {
+                    uint8_t r12_3 = a0[27];
+                    if (r12_3 & 1) {
+                        r6_0_0 = 0;
+                        goto dfu_host_task_Task_after_enter_exit;
+                    }
+                    break;
+                }
+                case 9: {
+                    uint8_t r18 = a0[27];
+                    if (!(r18 & 1)) {
+                        r6_0_0 = 0;
+                        goto dfu_host_task_Task_after_enter_exit;
+                    }
+                    break;
+                }
+                case 0:
+                case 1:
+                case 2:
+                case 3:
+                case 4:
+                case 5:
+                case 6:
+                case 7: break;
+                default: never();
+                }
+                r6_0_0 = 3;
 dfu_host_task_Task_after_enter_exit:
-    *r23 = r6_0_0;
-    memset(r23 + 1, 0, 19);
-    goto dfu_host_task_Task_row_exit;
-arm_7_3:;
-    uint8_t v13 = r18_0_0 == 8;
-    *r23 = (uint8_t)(v13 ? 0 : 6);
-    r23[1] = (uint8_t)(v13 ? 0 : r1_3_0_copyload);
-    store16(r23 + 2, (uint16_t)(v13 ? 0 : r1_4_0_copyload));
-    store32(r23 + 4, (uint32_t)(v13 ? 0 : r1_5_0_copyload));
-    store64(r23 + 8, (uint64_t)(v13 ? 0 : r1_6_0_copyload));
-    store32(r23 + 16, (uint32_t)(v13 ? 0 : r1_7_0_copyload));
-    goto dfu_host_task_Task_row_exit;
-arm_8_2:
-    if (v10) {
-        r31_6_0_0 = 0;
-        r31_4_0 = 0;
-        r31_8_0 = 0;
-        r31_10_0 = 0;
-        r31_12_0 = 0;
-        r31_0_0 = 0;
-        goto join_26;
-    }
-    r31_6_0_0 = r1_4_0_copyload;
-    r31_4_0 = r1_3_0_copyload;
-    r31_8_0 = r1_5_0_copyload;
-    r31_10_0 = r1_6_0_copyload;
-    r31_12_0 = r1_7_0_copyload;
-    r31_0_0 = 7;
-join_26:
-    *r23 = r31_0_0;
-    r23[1] = r31_4_0;
-    store16(r23 + 2, r31_6_0_0);
-    store32(r23 + 4, r31_8_0);
-    store64(r23 + 8, r31_10_0);
-    store32(r23 + 16, r31_12_0);
-    goto dfu_host_task_Task_row_exit;
-arm_9:
-    switch (r18_0_0) {
-    case 0:
-        r39_0_0_in_speculated_2 = 10;
-        r39_9_0_in_2 = r32_4;
-        r39_17_0_in_speculated = r1_6_0_copyload;
-        goto dfu_host_row_on_ack_exit48;
-    case 6: goto arm_2_5;
-    case 1: goto arm_3_6;
-    case 2: goto arm_3_6;
-    case 3: goto arm_3_6;
-    case 4: goto arm_3_6;
-    case 5: goto arm_3_6;
-    case 7: goto arm_3_6;
-    case 8: goto arm_3_6;
-    case 9: goto arm_3_6;
-    default: never();
-    }
-arm_2_5:
-    r39_0_0_in_speculated_2 = 17;
-    r39_9_0_in_2 = r33_4;
-    r39_17_0_in_speculated = 0;
-    goto dfu_host_row_on_ack_exit48;
-arm_3_6:
-    r39_0_0_in_speculated_2 = 9;
-    r39_9_0_in_2 = r34_4;
-    r39_17_0_in_speculated = r1_6_0_copyload;
-    goto dfu_host_row_on_ack_exit48;
-dfu_host_row_on_ack_exit48:;
-    uint16_t r39_9_0_2 = load16(r39_9_0_in_2);
-    *r23 = r39_0_0_in_speculated_2;
-    store16(r23 + 2, r39_9_0_2);
-    store64(r23 + 8, r39_17_0_in_speculated);
-    goto dfu_host_task_Task_row_exit;
-arm_10:
-    switch (r18_0_0) {
-    case 2: goto arm_3_7;
-    case 6: goto after_2_2;
-    case 0:
-        r6_0_0_2 = 9;
-        r6_10_0 = r1_6_0_copyload;
-        goto dfu_host_task_Task_after_ask_exit;
-    case 1:
-        r6_0_0_2 = 9;
-        r6_10_0 = r1_6_0_copyload;
-        goto dfu_host_task_Task_after_ask_exit;
-    case 3:
-        r6_0_0_2 = 9;
-        r6_10_0 = r1_6_0_copyload;
-        goto dfu_host_task_Task_after_ask_exit;
-    case 4:
-        r6_0_0_2 = 9;
-        r6_10_0 = r1_6_0_copyload;
-        goto dfu_host_task_Task_after_ask_exit;
-    case 5:
-        r6_0_0_2 = 9;
-        r6_10_0 = r1_6_0_copyload;
-        goto dfu_host_task_Task_after_ask_exit;
-    case 7:
-        r6_0_0_2 = 9;
-        r6_10_0 = r1_6_0_copyload;
-        goto dfu_host_task_Task_after_ask_exit;
-    case 8:
-        r6_0_0_2 = 9;
-        r6_10_0 = r1_6_0_copyload;
-        goto dfu_host_task_Task_after_ask_exit;
-    case 9:
-        r6_0_0_2 = 9;
-        r6_10_0 = r1_6_0_copyload;
-        goto dfu_host_task_Task_after_ask_exit;
-    default: never();
-    }
-arm_3_7:
-    switch (r18_10_0) {
-    case 3:
-        r6_0_0_2 = 10;
-        r6_10_0 = r1_6_0_copyload;
-        goto dfu_host_task_Task_after_ask_exit;
-    case 2: goto arm_9_2;
-    case 5: goto arm_10_2;
-    case 0: goto after_2_2;
-    case 1: goto after_2_2;
-    case 4: goto after_2_2;
-    case 6: goto after_2_2;
-    case 7: goto after_2_2;
-    case 8: goto after_2_2;
-    case 9: goto after_2_2;
-    case 10: goto after_2_2;
-    default: never();
-    }
-arm_9_2:
-    if (r1_6_0_copyload == 0) {
-        r6_0_0_2 = 8;
-        r6_10_0 = 0;
-        goto dfu_host_task_Task_after_ask_exit;
-    }
-    goto after_2_2;
-arm_10_2:
-    if (r1_6_0_copyload != 0) {
-        r6_0_0_2 = 8;
-        r6_10_0 = r1_6_0_copyload;
-        goto dfu_host_task_Task_after_ask_exit;
-    }
-after_2_2:
-    r6_0_0_2 = 17;
-    r6_10_0 = 0;
-    goto dfu_host_task_Task_after_ask_exit;
+                *r23 = r6_0_0;
+                memset(r23 + 1, 0, 19);
+                break;
+            case 4:
+            case 5: break;
+            case 6: {
+                uint8_t v13 = r18_0_0 == 8;
+                *r23 = (uint8_t)(v13 ? 0 : 6);
+                r23[1] = (uint8_t)(v13 ? 0 : r1_3_0_copyload);
+                store16(r23 + 2, (uint16_t)(v13 ? 0 : r1_4_0_copyload));
+                store32(r23 + 4, (uint32_t)(v13 ? 0 : r1_5_0_copyload));
+                store64(r23 + 8, (uint64_t)(v13 ? 0 : r1_6_0_copyload));
+                store32(r23 + 16, (uint32_t)(v13 ? 0 : r1_7_0_copyload));
+                break;
+            }
+            case 7:
+                if (v10) {
+                    r31_6_0_0 = 0;
+                    r31_4_0 = 0;
+                    r31_8_0 = 0;
+                    r31_10_0 = 0;
+                    r31_12_0 = 0;
+                    r31_0_0 = 0;
+                }
+                else {
+                    r31_6_0_0 = r1_4_0_copyload;
+                    r31_4_0 = r1_3_0_copyload;
+                    r31_8_0 = r1_5_0_copyload;
+                    r31_10_0 = r1_6_0_copyload;
+                    r31_12_0 = r1_7_0_copyload;
+                    r31_0_0 = 7;
+                }
+                *r23 = r31_0_0;
+                r23[1] = r31_4_0;
+                store16(r23 + 2, r31_6_0_0);
+                store32(r23 + 4, r31_8_0);
+                store64(r23 + 8, r31_10_0);
+                store32(r23 + 16, r31_12_0);
+                break;
+            case 8: {
+                switch (r18_0_0) {
+                case 0:
+                    r39_0_0_in_speculated_2 = 10;
+                    r39_9_0_in_2 = r32_4;
+                    r39_17_0_in_speculated = r1_6_0_copyload;
+                    break;
+                case 6:
+                    r39_0_0_in_speculated_2 = 17;
+                    r39_9_0_in_2 = r33_4;
+                    r39_17_0_in_speculated = 0;
+                    break;
+                case 1:
+                case 2:
+                case 3:
+                case 4:
+                case 5:
+                case 7:
+                case 8:
+                case 9:
+                    r39_0_0_in_speculated_2 = 9;
+                    r39_9_0_in_2 = r34_4;
+                    r39_17_0_in_speculated = r1_6_0_copyload;
+                    break;
+                default: never();
+                }
+                uint16_t r39_9_0_2 = load16(r39_9_0_in_2);
+                *r23 = r39_0_0_in_speculated_2;
+                store16(r23 + 2, r39_9_0_2);
+                store64(r23 + 8, r39_17_0_in_speculated);
+                break;
+            }
+            case 9:
+                switch (r18_0_0) {
+                case 2:
+                    switch (r18_10_0) {
+                    case 3:
+                        r6_0_0_2 = 10;
+                        r6_10_0 = r1_6_0_copyload;
+                        goto dfu_host_task_Task_after_ask_exit;
+                    case 2:
+                        if (r1_6_0_copyload == 0) {
+                            r6_0_0_2 = 8;
+                            r6_10_0 = 0;
+                            goto dfu_host_task_Task_after_ask_exit;
+                        }
+                        break;
+                    case 5:
+                        if (r1_6_0_copyload != 0) {
+                            r6_0_0_2 = 8;
+                            r6_10_0 = r1_6_0_copyload;
+                            goto dfu_host_task_Task_after_ask_exit;
+                        }
+                        break;
+                    case 0:
+                    case 1:
+                    case 4:
+                    case 6:
+                    case 7:
+                    case 8:
+                    case 9:
+                    case 10: break;
+                    default: never();
+                    }
+                    break;
+                case 6: break;
+                case 0:
+                case 1:
+                case 3:
+                case 4:
+                case 5:
+                case 7:
+                case 8:
+                case 9:
+                    r6_0_0_2 = 9;
+                    r6_10_0 = r1_6_0_copyload;
+                    goto dfu_host_task_Task_after_ask_exit;
+                default: never();
+                }
+                r6_0_0_2 = 17;
+                r6_10_0 = 0;
 dfu_host_task_Task_after_ask_exit:
-    *r23 = r6_0_0_2;
-    store64(r23 + 8, r6_10_0);
-    goto dfu_host_task_Task_row_exit;
-arm_11:;
-    uint8_t v14 = r18_0_0 == 8;
-    *r23 = (uint8_t)(v14 ? 10 : 11);
-    r23[1] = (uint8_t)(v14 ? 0 : r1_3_0_copyload);
-    store16(r23 + 2, (uint16_t)(v14 ? 0 : r1_4_0_copyload));
-    store32(r23 + 4, (uint32_t)(v14 ? 0 : r1_5_0_copyload));
-    store64(r23 + 8, r1_6_0_copyload);
-    store32(r23 + 16, (uint32_t)(v14 ? 0 : r1_7_0_copyload));
-    goto dfu_host_task_Task_row_exit;
-arm_12:
-    switch (r18_0_0) {
-    case 0:
-        r39_0_0_in_speculated_3 = 14;
-        r39_9_0_in_3 = r36_4;
-        goto dfu_host_row_on_ack_exit112;
-    case 6: goto arm_2_6;
-    case 1: goto arm_3_8;
-    case 2: goto arm_3_8;
-    case 3: goto arm_3_8;
-    case 4: goto arm_3_8;
-    case 5: goto arm_3_8;
-    case 7: goto arm_3_8;
-    case 8: goto arm_3_8;
-    case 9: goto arm_3_8;
-    default: never();
+                *r23 = r6_0_0_2;
+                store64(r23 + 8, r6_10_0);
+                break;
+            case 11: {
+                uint8_t v14 = r18_0_0 == 8;
+                *r23 = (uint8_t)(v14 ? 10 : 11);
+                r23[1] = (uint8_t)(v14 ? 0 : r1_3_0_copyload);
+                store16(r23 + 2, (uint16_t)(v14 ? 0 : r1_4_0_copyload));
+                store32(r23 + 4, (uint32_t)(v14 ? 0 : r1_5_0_copyload));
+                store64(r23 + 8, r1_6_0_copyload);
+                store32(r23 + 16, (uint32_t)(v14 ? 0 : r1_7_0_copyload));
+                break;
+            }
+            case 12: {
+                switch (r18_0_0) {
+                case 0:
+                    r39_0_0_in_speculated_3 = 14;
+                    r39_9_0_in_3 = r36_4;
+                    break;
+                case 6:
+                    r39_0_0_in_speculated_3 = 17;
+                    r39_9_0_in_3 = r37_4;
+                    break;
+                case 1:
+                case 2:
+                case 3:
+                case 4:
+                case 5:
+                case 7:
+                case 8:
+                case 9:
+                    r39_0_0_in_speculated_3 = 13;
+                    r39_9_0_in_3 = r38_4;
+                    break;
+                default: never();
+                }
+                uint16_t r39_9_0_3 = load16(r39_9_0_in_3);
+                *r23 = r39_0_0_in_speculated_3;
+                store16(r23 + 2, r39_9_0_3);
+                memset(r23 + 4, 0, 16);
+                break;
+            }
+            case 13:
+                switch (r18_0_0) {
+                case 2: {
+                    uint8_t switch_load = *(PLACE(switch_table_dfu_host_session_Session_on_result) + (size_t)r18_10_0);
+                    r6_0_0_3 = switch_load;
+                    break;
+                }
+                case 6:
+                    r6_0_0_3 = 17;
+                    break;
+                case 0:
+                case 1:
+                case 3:
+                case 4:
+                case 5:
+                case 7:
+                case 8:
+                case 9:
+                    r6_0_0_3 = 13;
+                    break;
+                default: never();
+                }
+                *r23 = r6_0_0_3;
+                memset(r23 + 1, 0, 19);
+                break;
+            case 15: {
+                uint8_t v16 = r18_0_0 == 8;
+                *r23 = (uint8_t)(v16 ? 14 : 15);
+                r23[1] = (uint8_t)(v16 ? 0 : r1_3_0_copyload);
+                store16(r23 + 2, (uint16_t)(v16 ? 0 : r1_4_0_copyload));
+                store32(r23 + 4, (uint32_t)(v16 ? 0 : r1_5_0_copyload));
+                store64(r23 + 8, (uint64_t)(v16 ? 0 : r1_6_0_copyload));
+                store32(r23 + 16, (uint32_t)(v16 ? 0 : r1_7_0_copyload));
+                break;
+            }
+            case 16: {
+                uint8_t v17 = r18_0_0 == 8;
+                *r23 = (uint8_t)(v17 ? 20 : 16);
+                r23[1] = (uint8_t)(v17 ? 1 : r1_3_0_copyload);
+                store16(r23 + 2, (uint16_t)(v17 ? 0 : r1_4_0_copyload));
+                store32(r23 + 4, (uint32_t)(v17 ? 0 : r1_5_0_copyload));
+                store64(r23 + 8, (uint64_t)(v17 ? 0 : r1_6_0_copyload));
+                store32(r23 + 16, (uint32_t)(v17 ? 0 : r1_7_0_copyload));
+                break;
+            }
+            case 18:
+                switch (r18_0_0) {
+                case 3: {
+                    uint16_t r13_3 = load16(a0 + 24);
+                    r15 = (size_t)r13_3;
+                    if (r18_14_0 < (uint64_t)r15) {
+                        r7_0_0 = 21;
+                        r7_5_0 = 0;
+                        r7_8_0_0 = 0;
+                        r7_8_4_0_0 = 0;
+                    }
+                    else {
+                        if (r18_14_0 > (uint64_t)r15) {
+                            r7_0_0 = 0;
+                            r7_5_0 = 0;
+                            r7_8_0_0 = 0;
+                            r7_8_4_0_0 = 0;
+                        }
+                        else {
+                            r26_2 = (uint16_t)(r1_4_0_copyload + 1);
+                            if (r26_2 == 0xffffU) {
+                                r7_0_0 = 23;
+                                r7_5_0 = 7;
+                                r7_8_0_0 = 0;
+                                r7_8_4_0_0 = 0;
+                            }
+                            else {
+                                r7_0_0 = 18;
+                                r7_5_0 = 0;
+                                r7_8_0_0 = (uint8_t)r26_2;
+                                r7_8_4_0_0 = (uint8_t)(uint16_t)(r26_2 >> 8);
+                            }
+                        }
+                    }
+                    break;
+                }
+                case 5:
+                    r7_0_0 = 23;
+                    r7_5_0 = 8;
+                    r7_8_0_0 = 0;
+                    r7_8_4_0_0 = 0;
+                    break;
+                case 0:
+                case 1:
+                case 2:
+                case 4:
+                case 6:
+                case 7:
+                case 8:
+                case 9:
+                    r7_0_0 = 0;
+                    r7_5_0 = 0;
+                    r7_8_0_0 = 0;
+                    r7_8_4_0_0 = 0;
+                    break;
+                default: never();
+                }
+                *r23 = r7_0_0;
+                r23[1] = r7_5_0;
+                store16(r23 + 2, (uint16_t)((uint32_t)r7_8_4_0_0 << 8) | r7_8_0_0);
+                memset(r23 + 4, 0, 16);
+                break;
+            case 19:
+                if (r18_0_0 != 4) {
+                    r8_0_0 = 0;
+                    r8_4_0 = 0;
+                    r8_6_0 = 0;
+                }
+                else {
+                    uint16_t r17 = load16(a0 + 24);
+                    r19 = (size_t)r17;
+                    if (r18_14_0 > (uint64_t)r19) {
+                        r8_0_0 = 0;
+                        r8_4_0 = 0;
+                        r8_6_0 = 0;
+                    }
+                    else {
+                        if (!(r18_10_0 & 1)) {
+                            r6_4_0 = 10;
+                            r6_7_0_0 = 0;
+                            r6_7_4_0_0 = 0;
+                            r6_0_0_4 = 20;
+                        }
+                        else {
+                            if (r18_14_0 < (uint64_t)r19) {
+                                r6_4_0 = 9;
+                                r6_7_0_0 = 0;
+                                r6_7_4_0_0 = 0;
+                                r6_0_0_4 = 20;
+                            }
+                            else {
+                                r40 = (uint16_t)(r1_4_0_copyload + 1);
+                                if (r40 == 0xffffU) {
+                                    r6_4_0 = 7;
+                                    r6_7_0_0 = 0;
+                                    r6_7_4_0_0 = 0;
+                                    r6_0_0_4 = 23;
+                                }
+                                else {
+                                    r6_4_0 = 0;
+                                    r6_7_0_0 = (uint8_t)r40;
+                                    r6_7_4_0_0 = (uint8_t)(uint16_t)(r40 >> 8);
+                                    r6_0_0_4 = 19;
+                                }
+                            }
+                        }
+                        r8_0_0 = r6_0_0_4;
+                        r8_4_0 = r6_4_0;
+                        r8_6_0 = (uint16_t)((uint32_t)r6_7_4_0_0 << 8) | r6_7_0_0;
+                    }
+                }
+                *r23 = r8_0_0;
+                r23[1] = r8_4_0;
+                store16(r23 + 2, r8_6_0);
+                memset(r23 + 4, 0, 16);
+                break;
+            case 20:
+                if (!v10) {
+                    r8_7_0_0 = v12;
+                    r8_0_0_2 = 20;
+                    r8_4_0_2 = r1_3_0_copyload;
+                }
+                else {
+                    uint8_t r13_4 = *a0;
+                    uint8_t v19 = r13_4 == 2;
+                    r8_7_0_0 = (uint8_t)(v19 ? 0 : v12);
+                    r8_0_0_2 = (uint8_t)(v19 ? 0 : 23);
+                    r8_4_0_2 = (uint8_t)(v19 ? 0 : r1_3_0_copyload);
+                }
+                *r23 = r8_0_0_2;
+                r23[1] = r8_4_0_2;
+                r23[2] = r8_7_0_0;
+                memset(r23 + 3, 0, 17);
+                break;
+            case 21:
+                *r23 = (uint8_t)(v10 ? 24 : 21);
+                memset(r23 + 1, 0, 19);
+                break;
+            case 22:
+                *r23 = 23;
+                r23[1] = 2;
+                break;
+            default: never();
+            }
+            uint8_t v20 = *r23;
+            uint8_t v21 = r23[1];
+            uint16_t v22 = load16(r23 + 2);
+            uint32_t v23 = load32(r23 + 4);
+            uint64_t v24 = load64(r23 + 8);
+            uint32_t v25 = load32(r23 + 16);
+            *r10_2 = v20;
+            r10_2[1] = v21;
+            store16(r10_2 + 2, v22);
+            store32(r10_2 + 4, v23);
+            store64(r10_2 + 8, v24);
+            store32(r10_2 + 16, v25);
+            if (or_cond) {
+                uint8_t r10_3 = *a0;
+                if (r10_3 == 2) store64(a0, 3);
+            }
+            *r17_2 = r10;
+            r17_2[1] = r1_3_0_copyload;
+            store16(r17_2 + 2, r1_4_0_copyload);
+            store32(r17_2 + 4, r1_5_0_copyload);
+            store64(r17_2 + 8, r1_6_0_copyload);
+            store32(r17_2 + 16, r1_7_0_copyload);
+            store64a4(r17_2 + 20, r1_8_0_copyload);
+            store16(r17_2 + 28, r1_9_0_copyload);
+            store16(r17_2 + 30, v8);
+            dfu_host_progress_Progress_spent(r7_2, r17_2, r10_2, r1_9_0_copyload);
+            break;
+        }
+        default: never();
+        }
     }
-arm_2_6:
-    r39_0_0_in_speculated_3 = 17;
-    r39_9_0_in_3 = r37_4;
-    goto dfu_host_row_on_ack_exit112;
-arm_3_8:
-    r39_0_0_in_speculated_3 = 13;
-    r39_9_0_in_3 = r38_4;
-    goto dfu_host_row_on_ack_exit112;
-dfu_host_row_on_ack_exit112:;
-    uint16_t r39_9_0_3 = load16(r39_9_0_in_3);
-    *r23 = r39_0_0_in_speculated_3;
-    store16(r23 + 2, r39_9_0_3);
-    memset(r23 + 4, 0, 16);
-    goto dfu_host_task_Task_row_exit;
-arm_13:
-    switch (r18_0_0) {
-    case 2: goto switch_lookup;
-    case 6: goto after_2_3;
-    case 0:
-        r6_0_0_3 = 13;
-        goto dfu_host_task_Task_after_ask_last_exit;
-    case 1:
-        r6_0_0_3 = 13;
-        goto dfu_host_task_Task_after_ask_last_exit;
-    case 3:
-        r6_0_0_3 = 13;
-        goto dfu_host_task_Task_after_ask_last_exit;
-    case 4:
-        r6_0_0_3 = 13;
-        goto dfu_host_task_Task_after_ask_last_exit;
-    case 5:
-        r6_0_0_3 = 13;
-        goto dfu_host_task_Task_after_ask_last_exit;
-    case 7:
-        r6_0_0_3 = 13;
-        goto dfu_host_task_Task_after_ask_last_exit;
-    case 8:
-        r6_0_0_3 = 13;
-        goto dfu_host_task_Task_after_ask_last_exit;
-    case 9:
-        r6_0_0_3 = 13;
-        goto dfu_host_task_Task_after_ask_last_exit;
-    default: never();
-    }
-after_2_3:
-    r6_0_0_3 = 17;
-    goto dfu_host_task_Task_after_ask_last_exit;
-switch_lookup:;
-    uint8_t switch_load = *(PLACE(switch_table_dfu_host_session_Session_on_result) + (size_t)r18_10_0);
-    r6_0_0_3 = switch_load;
-dfu_host_task_Task_after_ask_last_exit:
-    *r23 = r6_0_0_3;
-    memset(r23 + 1, 0, 19);
-    goto dfu_host_task_Task_row_exit;
-arm_14:;
-    uint8_t v16 = r18_0_0 == 8;
-    *r23 = (uint8_t)(v16 ? 14 : 15);
-    r23[1] = (uint8_t)(v16 ? 0 : r1_3_0_copyload);
-    store16(r23 + 2, (uint16_t)(v16 ? 0 : r1_4_0_copyload));
-    store32(r23 + 4, (uint32_t)(v16 ? 0 : r1_5_0_copyload));
-    store64(r23 + 8, (uint64_t)(v16 ? 0 : r1_6_0_copyload));
-    store32(r23 + 16, (uint32_t)(v16 ? 0 : r1_7_0_copyload));
-    goto dfu_host_task_Task_row_exit;
-arm_15:;
-    uint8_t v17 = r18_0_0 == 8;
-    *r23 = (uint8_t)(v17 ? 20 : 16);
-    r23[1] = (uint8_t)(v17 ? 1 : r1_3_0_copyload);
-    store16(r23 + 2, (uint16_t)(v17 ? 0 : r1_4_0_copyload));
-    store32(r23 + 4, (uint32_t)(v17 ? 0 : r1_5_0_copyload));
-    store64(r23 + 8, (uint64_t)(v17 ? 0 : r1_6_0_copyload));
-    store32(r23 + 16, (uint32_t)(v17 ? 0 : r1_7_0_copyload));
-    goto dfu_host_task_Task_row_exit;
-arm_16:
-    switch (r18_0_0) {
-    case 3: goto arm_1_3;
-    case 5:
-        r7_0_0 = 23;
-        r7_5_0 = 8;
-        r7_8_0_0 = 0;
-        r7_8_4_0_0 = 0;
-        goto dfu_host_task_Task_after_fetch_exit;
-    case 0: goto arm_3_9;
-    case 1: goto arm_3_9;
-    case 2: goto arm_3_9;
-    case 4: goto arm_3_9;
-    case 6: goto arm_3_9;
-    case 7: goto arm_3_9;
-    case 8: goto arm_3_9;
-    case 9: goto arm_3_9;
-    default: never();
-    }
-arm_1_3:;
-    uint16_t r13_3 = load16(a0 + 24);
-    r15 = (uint64_t)r13_3;
-    if (r18_14_0 < r15) {
-        r7_0_0 = 21;
-        r7_5_0 = 0;
-        r7_8_0_0 = 0;
-        r7_8_4_0_0 = 0;
-        goto dfu_host_task_Task_after_fetch_exit;
-    }
-    if (r18_14_0 > r15) {
-        r7_0_0 = 0;
-        r7_5_0 = 0;
-        r7_8_0_0 = 0;
-        r7_8_4_0_0 = 0;
-        goto dfu_host_task_Task_after_fetch_exit;
-    }
-    r26_2 = (uint16_t)(r1_4_0_copyload + 1);
-    if (r26_2 == 0xffffU) {
-        r7_0_0 = 23;
-        r7_5_0 = 7;
-        r7_8_0_0 = 0;
-        r7_8_4_0_0 = 0;
-        goto dfu_host_task_Task_after_fetch_exit;
-    }
-    r7_0_0 = 18;
-    r7_5_0 = 0;
-    r7_8_0_0 = (uint8_t)r26_2;
-    r7_8_4_0_0 = (uint8_t)(uint16_t)(r26_2 >> 8);
-    goto dfu_host_task_Task_after_fetch_exit;
-arm_3_9:
-    r7_0_0 = 0;
-    r7_5_0 = 0;
-    r7_8_0_0 = 0;
-    r7_8_4_0_0 = 0;
-    goto dfu_host_task_Task_after_fetch_exit;
-dfu_host_task_Task_after_fetch_exit:
-    *r23 = r7_0_0;
-    r23[1] = r7_5_0;
-    store16(r23 + 2, (uint16_t)((uint32_t)r7_8_4_0_0 << 8) | r7_8_0_0);
-    memset(r23 + 4, 0, 16);
-    goto dfu_host_task_Task_row_exit;
-arm_17:
-    if (r18_0_0 != 4) {
-        r8_0_0 = 0;
-        r8_4_0 = 0;
-        r8_6_0 = 0;
-        goto dfu_host_task_Task_after_compare_exit;
-    }
-    uint16_t r17 = load16(a0 + 24);
-    r19 = (uint64_t)r17;
-    if (r18_14_0 > r19) {
-        r8_0_0 = 0;
-        r8_4_0 = 0;
-        r8_6_0 = 0;
-        goto dfu_host_task_Task_after_compare_exit;
-    }
-    if (!(r18_10_0 & 1)) {
-        r6_4_0 = 10;
-        r6_7_0_0 = 0;
-        r6_7_4_0_0 = 0;
-        r6_0_0_4 = 20;
-        goto join_6;
-    }
-    if (r18_14_0 < r19) {
-        r6_4_0 = 9;
-        r6_7_0_0 = 0;
-        r6_7_4_0_0 = 0;
-        r6_0_0_4 = 20;
-        goto join_6;
-    }
-    r40 = (uint16_t)(r1_4_0_copyload + 1);
-    if (r40 == 0xffffU) {
-        r6_4_0 = 7;
-        r6_7_0_0 = 0;
-        r6_7_4_0_0 = 0;
-        r6_0_0_4 = 23;
-        goto join_6;
-    }
-    r6_4_0 = 0;
-    r6_7_0_0 = (uint8_t)r40;
-    r6_7_4_0_0 = (uint8_t)(uint16_t)(r40 >> 8);
-    r6_0_0_4 = 19;
-join_6:
-    r8_0_0 = r6_0_0_4;
-    r8_4_0 = r6_4_0;
-    r8_6_0 = (uint16_t)((uint32_t)r6_7_4_0_0 << 8) | r6_7_0_0;
-dfu_host_task_Task_after_compare_exit:
-    *r23 = r8_0_0;
-    r23[1] = r8_4_0;
-    store16(r23 + 2, r8_6_0);
-    memset(r23 + 4, 0, 16);
-    goto dfu_host_task_Task_row_exit;
-arm_18:
-    if (!v10) {
-        r8_7_0_0 = v12;
-        r8_0_0_2 = 20;
-        r8_4_0_2 = r1_3_0_copyload;
-        goto dfu_host_task_Task_after_last_exit_2;
-    }
-    uint8_t r13_4 = *a0;
-    uint8_t v19 = r13_4 == 2;
-    r8_7_0_0 = (uint8_t)(v19 ? 0 : v12);
-    r8_0_0_2 = (uint8_t)(v19 ? 0 : 23);
-    r8_4_0_2 = (uint8_t)(v19 ? 0 : r1_3_0_copyload);
-dfu_host_task_Task_after_last_exit_2:
-    *r23 = r8_0_0_2;
-    r23[1] = r8_4_0_2;
-    r23[2] = r8_7_0_0;
-    memset(r23 + 3, 0, 17);
-    goto dfu_host_task_Task_row_exit;
-arm_19:
-    *r23 = (uint8_t)(v10 ? 24 : 21);
-    memset(r23 + 1, 0, 19);
-    goto dfu_host_task_Task_row_exit;
-arm_20:
-    *r23 = 23;
-    r23[1] = 2;
-    goto dfu_host_task_Task_row_exit;
-dfu_host_task_Task_row_exit:;
-    uint8_t v20 = *r23;
-    uint8_t v21 = r23[1];
-    uint16_t v22 = load16(r23 + 2);
-    uint32_t v23 = load32(r23 + 4);
-    uint64_t v24 = load64(r23 + 8);
-    uint32_t v25 = load32(r23 + 16);
-    *r10_2 = v20;
-    r10_2[1] = v21;
-    store16(r10_2 + 2, v22);
-    store32(r10_2 + 4, v23);
-    store64(r10_2 + 8, v24);
-    store32(r10_2 + 16, v25);
-    if (!or_cond) goto dfu_host_progress_Progress_by_row_exit;
-    uint8_t r10_3 = *a0;
-    if (r10_3 != 2) goto dfu_host_progress_Progress_by_row_exit;
-    store64(a0, 3);
-dfu_host_progress_Progress_by_row_exit:
-    *r17_2 = r10;
-    r17_2[1] = r1_3_0_copyload;
-    store16(r17_2 + 2, r1_4_0_copyload);
-    store32(r17_2 + 4, r1_5_0_copyload);
-    store64(r17_2 + 8, r1_6_0_copyload);
-    store32(r17_2 + 16, r1_7_0_copyload);
-    store64a4(r17_2 + 20, r1_8_0_copyload);
-    store16(r17_2 + 28, r1_9_0_copyload);
-    store16(r17_2 + 30, v8);
-    dfu_host_progress_Progress_spent(r7_2, r17_2, r10_2, r1_9_0_copyload);
-    goto dfu_host_progress_Progress_after_exit;
-dfu_host_progress_Progress_after_exit:
     memcpy(r12, r7_2, 32);
     return;
 }
@@ -3840,31 +3539,32 @@ dfu_host_progress_Progress_after_exit:
 /* dfu_wire::statuses::Status::decode */
 static void dfu_wire_statuses_Status_decode(unsigned char *a0, unsigned char *a1, uint64_t a2) {
     uint8_t r54, r78;
-    if (a2 < 6) goto then_1;
-    goto join_3;
-then_1:
-    *a0 = 1;
-    a0[1] = 0;
-    memset(a0 + 4, 0, 12);
-    return;
-join_3:
-    if (a2 == 6) goto join_6;
-    *a0 = 1;
-    a0[1] = 1;
-    memset(a0 + 4, 0, 12);
-    return;
-join_6:
+    if (a2 < 6) {
+        *a0 = 1;
+        a0[1] = 0;
+        memset(a0 + 4, 0, 12);
+        return;
+    }
+    if (a2 != 6) {
+        *a0 = 1;
+        a0[1] = 1;
+        memset(a0 + 4, 0, 12);
+        return;
+    }
     r54 = *a1;
-    if (r54 >= 16) goto arm_8;
+    if (r54 >= 16) {
+        *a0 = 1;
+        a0[1] = 5;
+        memset(a0 + 4, 0, 12);
+        return;
+    }
     r78 = a1[4];
-    if (r78 < 11) goto arm_11;
-    goto arm_12;
-arm_8:
-    *a0 = 1;
-    a0[1] = 5;
-    memset(a0 + 4, 0, 12);
-    return;
-arm_11:;
+    if (r78 >= 11) {
+        *a0 = 1;
+        a0[1] = 4;
+        memset(a0 + 4, 0, 12);
+        return;
+    }
     uint8_t r13 = a1[1];
     uint8_t r17 = a1[2];
     uint8_t r21 = a1[3];
@@ -3875,78 +3575,73 @@ arm_11:;
     a0[12] = r78;
     memset(a0 + 13, 0, 3);
     return;
-arm_12:
-    *a0 = 1;
-    a0[1] = 4;
-    memset(a0 + 4, 0, 12);
-    return;
 }
 
 /* core::slice::scan::any_by_one::<#953750c03e87c3e2> */
-static uint8_t core_slice_scan_any_by_one(unsigned char *a0, uint64_t a1) {
+static uint8_t core_slice_scan_any_by_one(unsigned char *a0, size_t a1) {
     unsigned char *r12;
-    uint64_t r1_0, common_ret_op;
+    size_t r1_0, common_ret_op;
     r12 = a0 + 16;
     r1_0 = 0;
-loop_2:
-    if (r1_0 == a1) {
-        common_ret_op = a1;
-        goto core_slice_scan_first_by_one_exit;
+    for (;;) {
+        if (r1_0 == a1) {
+            common_ret_op = a1;
+            break;
+        }
+        size_t r3_0_0_copyload = (size_t)load64(a0);
+        size_t r4_0_0_copyload = (size_t)load64(r12);
+        uint8_t r3 = *((unsigned char *)(uintptr_t)r3_0_0_copyload + r1_0);
+        uint8_t r4 = *((unsigned char *)(uintptr_t)r4_0_0_copyload + r1_0);
+        if (r3 != r4) {
+            common_ret_op = r1_0;
+            break;
+        }
+        r1_0 = r1_0 + 1;
     }
-    uint64_t r3_0_0_copyload = load64(a0);
-    uint64_t r4_0_0_copyload = load64(r12);
-    uint8_t r3 = *((unsigned char *)(uintptr_t)r3_0_0_copyload + (size_t)r1_0);
-    uint8_t r4 = *((unsigned char *)(uintptr_t)r4_0_0_copyload + (size_t)r1_0);
-    if (r3 != r4) {
-        common_ret_op = r1_0;
-        goto core_slice_scan_first_by_one_exit;
-    }
-    r1_0 = r1_0 + 1;
-    goto loop_2;
-core_slice_scan_first_by_one_exit:
     return common_ret_op < a1;
 }
 
 /* core::cmp::slices::groups_equal::<i8,31'core::cmp::numbers::U8PartialEq{}> */
-static uint8_t core_cmp_slices_groups_equal_i8_core_cmp_numbers_U8PartialEq(unsigned char *a0, uint64_t a1, unsigned char *a2, uint64_t a3) {
+static uint8_t core_cmp_slices_groups_equal_i8_core_cmp_numbers_U8PartialEq(unsigned char *a0, size_t a1, unsigned char *a2, size_t a3) {
     _Alignas(8) unsigned char r7[32];
     uint8_t common_ret_op;
-    store64(r7, (uint64_t)(uintptr_t)a0);
+    store64(r7, (size_t)(uintptr_t)a0);
     store64(r7 + 8, a1);
-    store64(r7 + 16, (uint64_t)(uintptr_t)a2);
+    store64(r7 + 16, (size_t)(uintptr_t)a2);
     store64(r7 + 24, a3);
-    if (a1 >= 9) goto join_12;
-    uint8_t r41 = core_slice_scan_any_in_ends(r7, a1, 4);
-    common_ret_op = r41;
-    goto core_slice_scan_any_by_groups_exit;
-join_12:
-    if (a1 >= 33) goto join_15;
-    uint64_t r11 = a1 + 0xfffffffffffffff8ULL;
-    uint8_t r12 = core_slice_scan_any_in_run(r7, 0, 8);
-    uint8_t r17 = core_slice_scan_any_in_run(r7, umin64(r11, 8), 8);
-    uint8_t r30 = core_slice_scan_any_in_run(r7, umin64(r11, 16), 8);
-    uint8_t r39 = core_slice_scan_any_in_run(r7, r11, 8);
-    common_ret_op = ((r12 | r17) | r30) | r39;
-    goto core_slice_scan_any_by_groups_exit;
-join_15:
-    if (a1 >= 65) goto join_18;
-    uint8_t r61 = core_slice_scan_any_in_ends(r7, a1, 32);
-    common_ret_op = r61;
-    goto core_slice_scan_any_by_groups_exit;
-join_18:;
-    uint64_t r67 = core_slice_scan_skip_groups(r7, 0, a1, 64);
-    uint64_t r69 = core_slice_scan_skip_groups(r7, r67, a1, 32);
-    if ((a1 - r69) > 31) {
-        common_ret_op = 1;
-        goto core_slice_scan_any_by_groups_exit;
+    if (a1 < 9) {
+        uint8_t r41 = core_slice_scan_any_in_ends(r7, a1, 4);
+        common_ret_op = r41;
     }
-    uint8_t r82 = core_slice_scan_any_in_run(r7, a1 + 0xffffffffffffffe0ULL, 32);
-    common_ret_op = r82;
-core_slice_scan_any_by_groups_exit:
+    else {
+        if (a1 < 33) {
+            size_t r11 = a1 - 8;
+            uint8_t r12 = core_slice_scan_any_in_run(r7, 0, 8);
+            uint8_t r17 = core_slice_scan_any_in_run(r7, umin_size(r11, 8), 8);
+            uint8_t r30 = core_slice_scan_any_in_run(r7, umin_size(r11, 16), 8);
+            uint8_t r39 = core_slice_scan_any_in_run(r7, r11, 8);
+            common_ret_op = ((r12 | r17) | r30) | r39;
+        }
+        else {
+            if (a1 < 65) {
+                uint8_t r61 = core_slice_scan_any_in_ends(r7, a1, 32);
+                common_ret_op = r61;
+            }
+            else {
+                uint64_t r67 = core_slice_scan_skip_groups(r7, 0, a1, 64);
+                uint64_t r69 = core_slice_scan_skip_groups(r7, r67, a1, 32);
+                if (((uint64_t)a1 - r69) > 31) common_ret_op = 1;
+                else {
+                    uint8_t r82 = core_slice_scan_any_in_run(r7, a1 - 32, 32);
+                    common_ret_op = r82;
+                }
+            }
+        }
+    }
     return !common_ret_op;
 }
 
-/* dfu_host::progress::Progress::restarted */
+/* dfu_host::progress::Progress::restarted: crates/dfu_host/src/progress.rt */
 static void dfu_host_progress_Progress_restarted(unsigned char *a0, unsigned char *a1) {
     _Alignas(8) unsigned char r0[32];
     _Alignas(8) unsigned char r1[32];
@@ -3960,30 +3655,26 @@ static void dfu_host_progress_Progress_restarted(unsigned char *a0, unsigned cha
     memset(r7, 0, 24);
     memset(r8, 0, 24);
     uint8_t r10 = *r1;
-    if (r10 == 22) goto arm_1;
-    goto join_4;
-arm_1:
-    *r3 = 23;
-    r3[1] = 2;
-    uint16_t r15 = load16(r1 + 28);
-    dfu_host_progress_Progress_spent(r0, r1, r3, r15);
-    memcpy(a0, r0, 32);
-    return;
-join_4:
+    if (r10 == 22) {
+        *r3 = 23;
+        r3[1] = 2;
+        uint16_t r15 = load16(r1 + 28);
+        dfu_host_progress_Progress_spent(r0, r1, r3, r15);
+        memcpy(a0, r0, 32);
+        return;
+    }
     r17 = load16(r1 + 28);
-    if (r17 != 0) goto else_6;
-    *r7 = 23;
-    r7[1] = 5;
-    dfu_host_progress_Progress_spent(r5, r1, r7, 0);
-    goto join_7;
-else_6:
-    dfu_host_progress_Progress_spent(r5, r1, r8, (uint16_t)(r17 + 0xffffU));
-join_7:
+    if (r17 != 0) dfu_host_progress_Progress_spent(r5, r1, r8, (uint16_t)(r17 + 0xffffU));
+    else {
+        *r7 = 23;
+        r7[1] = 5;
+        dfu_host_progress_Progress_spent(r5, r1, r7, 0);
+    }
     memcpy(a0, r5, 32);
     return;
 }
 
-/* dfu_host::progress::Progress::spent */
+/* dfu_host::progress::Progress::spent: crates/dfu_host/src/progress.rt */
 static void dfu_host_progress_Progress_spent(unsigned char *a0, unsigned char *a1, unsigned char *a2, uint16_t a3) {
     uint32_t r1_2_0_copyload, v3, v5, r12_13_4_0, r12_19_0;
     uint8_t v0, v1, r2_5_0_0_extract_trunc, r2_5_3_0_extract_trunc, r12_13_0_0, r12_0_0, r12_5_0, r12_9_0;
@@ -4005,17 +3696,17 @@ static void dfu_host_progress_Progress_spent(unsigned char *a0, unsigned char *a
         r12_9_0 = r2_5_0_0_extract_trunc;
         r12_16_0 = v4;
         r12_19_0 = v5;
-        goto dfu_host_progress_budgeted_exit;
     }
-    uint8_t r26 = r1_2_0_copyload < 2;
-    r12_13_0_0 = (uint8_t)(r26 ? 0 : r2_5_3_0_extract_trunc);
-    r12_13_4_0 = (uint32_t)(r26 ? 0 : v3);
-    r12_0_0 = (uint8_t)(r26 ? 23 : v0);
-    r12_5_0 = (uint8_t)(r26 ? 3 : v1);
-    r12_9_0 = (uint8_t)(r26 ? 0 : r2_5_0_0_extract_trunc);
-    r12_16_0 = (uint64_t)(r26 ? 0 : v4);
-    r12_19_0 = (uint32_t)(r26 ? 0 : v5);
-dfu_host_progress_budgeted_exit:
+    else {
+        uint8_t r26 = r1_2_0_copyload < 2;
+        r12_13_0_0 = (uint8_t)(r26 ? 0 : r2_5_3_0_extract_trunc);
+        r12_13_4_0 = (uint32_t)(r26 ? 0 : v3);
+        r12_0_0 = (uint8_t)(r26 ? 23 : v0);
+        r12_5_0 = (uint8_t)(r26 ? 3 : v1);
+        r12_9_0 = (uint8_t)(r26 ? 0 : r2_5_0_0_extract_trunc);
+        r12_16_0 = (uint64_t)(r26 ? 0 : v4);
+        r12_19_0 = (uint32_t)(r26 ? 0 : v5);
+    }
     *a0 = r12_0_0;
     a0[1] = r12_5_0;
     store16(a0 + 2, (uint16_t)((uint32_t)r12_13_0_0 << 8) | r12_9_0);
@@ -4029,7 +3720,7 @@ dfu_host_progress_budgeted_exit:
     return;
 }
 
-/* dfu_host::task::Task::on_status */
+/* dfu_host::task::Task::on_status: crates/dfu_host/src/row.rt */
 static void dfu_host_task_Task_on_status(unsigned char *a0, unsigned char *a1, unsigned char *a2, unsigned char *a3, unsigned char *a4) {
     _Alignas(8) unsigned char r5_3[24];
     unsigned char *const r7_2 = r5_3;
@@ -4056,7 +3747,251 @@ static void dfu_host_task_Task_on_status(unsigned char *a0, unsigned char *a1, u
     uint64_t v6 = load64(a4 + 8);
     uint32_t v7 = load32(a4 + 16);
     switch (r12_0_0_copyload) {
-    case 1: goto arm_1;
+    case 1: {
+        memcpy(r12, a3 + 4, 12);
+        switch (v0) {
+        case 10:
+            r1_0_0_copyload = load32(r12);
+            r1_3_0_copyload = load32(r12 + 4);
+            r1_4_0_copyload = r12[8];
+            v8 = r5 + 16;
+            store64(v8, 0);
+            switch (r1_4_0_copyload) {
+            case 3:
+            case 4:
+                v11 = r1_3_0_copyload;
+                v12 = v1;
+                v13 = 0;
+                v14 = 0;
+                v15 = 0;
+                v16 = 11;
+                break;
+            case 5: {
+                r8 = load16(a1 + 24);
+                uint8_t r7 = *a1;
+                if (r7 == 1) r2_4_0 = 0;
+                else {
+                    uint64_t r16 = load64(a1 + 16);
+                    r2_4_0 = r16;
+                }
+                size_t r10 = (size_t)r8;
+                uint8_t r24_not = (r2_4_0 - (v1 * (uint64_t)r10)) > (uint64_t)r10;
+                v11 = 0;
+                v12 = (uint64_t)(r24_not ? (v1 + 1) : 0);
+                v13 = 0;
+                v14 = 0;
+                v15 = 0;
+                v16 = (uint8_t)(r24_not ? 8 : 12);
+                break;
+            }
+            case 0:
+            case 1:
+            case 2:
+            case 6:
+            case 7:
+            case 8:
+            case 9:
+            case 10: {
+                store32(r10_2, r1_0_0_copyload);
+                store32(r10_2 + 4, r1_3_0_copyload);
+                r10_2[8] = r1_4_0_copyload;
+                memcpy(r10_2 + 9, a3 + 13, 3);
+                dfu_host_task_Task_troubled(r5, a1, r10_2);
+                uint8_t pre = *r5;
+                uint8_t pre7 = r5[1];
+                uint16_t pre8 = load16(r5 + 2);
+                uint32_t pre9 = load32(r5 + 4);
+                uint64_t pre10 = load64(r5 + 8);
+                uint32_t pre11 = load32(v8);
+                v11 = pre11;
+                v12 = pre10;
+                v13 = pre9;
+                v14 = pre8;
+                v15 = pre7;
+                v16 = pre;
+                break;
+            }
+            default: never();
+            }
+            *r14 = v16;
+            r14[1] = v15;
+            store16(r14 + 2, v14);
+            store32(r14 + 4, v13);
+            store64(r14 + 8, v12);
+            store32(r14 + 16, v11);
+            break;
+        case 14: {
+            r1_0_0_copyload_2 = load32(r12);
+            r1_5_0_copyload = load32(r12 + 4);
+            r1_7_0_copyload = r12[8];
+            uint8_t r5_2 = a1[26];
+            if (!(r5_2 & 1)) {
+                v27 = r5_3 + 16;
+                store64(v27, 0);
+                switch (r1_7_0_copyload) {
+                case 6:
+                case 7:
+                    v29 = 0;
+                    v30 = 0;
+                    v31 = 0;
+                    v32 = r1_5_0_copyload;
+                    v33 = 0;
+                    v34 = 16;
+                    break;
+                case 2:
+                case 8:
+                    v29 = 0;
+                    v30 = 0;
+                    v31 = 0;
+                    v32 = 0;
+                    v33 = 1;
+                    v34 = 20;
+                    break;
+                case 0:
+                case 1:
+                case 3:
+                case 4:
+                case 5:
+                case 9:
+                case 10: {
+                    store32(r9, r1_0_0_copyload_2);
+                    store32(r9 + 4, r1_5_0_copyload);
+                    r9[8] = r1_7_0_copyload;
+                    memcpy(r9 + 9, a3 + 13, 3);
+                    dfu_host_task_Task_troubled(r5_3, a1, r9);
+                    uint8_t pre_4 = *r5_3;
+                    uint8_t pre7_2 = r5_3[1];
+                    uint32_t pre8_2 = load32(r5_3 + 4);
+                    uint64_t pre9_2 = load64(r5_3 + 8);
+                    uint32_t pre10_3 = load32(v27);
+                    uint16_t pre_5 = load16(r5_3 + 2);
+                    v29 = pre_5;
+                    v30 = pre10_3;
+                    v31 = pre9_2;
+                    v32 = pre8_2;
+                    v33 = pre7_2;
+                    v34 = pre_4;
+                    break;
+                }
+                default: never();
+                }
+                r3_0_0 = v34;
+                r3_4_0 = v33;
+                r3_7_0 = v29;
+                r3_10_0 = v32;
+                r3_13_0 = v31;
+                r3_16_0 = v30;
+            }
+            else {
+                v17 = r7_2 + 16;
+                store64(v17, 0);
+                switch (r1_7_0_copyload) {
+                case 6:
+                case 7:
+                    v21 = 0;
+                    v22 = 0;
+                    v23 = 0;
+                    v24 = r1_5_0_copyload;
+                    v25 = 0;
+                    v26 = 15;
+                    goto dfu_host_task_Task_confirmed_exit;
+                case 2:
+                    if ((r1_0_0_copyload_2 & 255) == 0) {
+                        v21 = 0;
+                        v22 = 0;
+                        v23 = 0;
+                        v24 = 0;
+                        v25 = 0;
+                        v26 = 20;
+                        goto dfu_host_task_Task_confirmed_exit;
+                    }
+                    break;
+                case 0:
+                case 1:
+                case 3:
+                case 4:
+                case 5:
+                case 8:
+                case 9:
+                case 10: break;
+                default: never();
+                }
+                store32(r11, r1_0_0_copyload_2);
+                store32(r11 + 4, r1_5_0_copyload);
+                r11[8] = r1_7_0_copyload;
+                memcpy(r11 + 9, a3 + 13, 3);
+                dfu_host_task_Task_troubled(r7_2, a1, r11);
+                uint8_t pre_2 = *r7_2;
+                uint8_t pre10_2 = r7_2[1];
+                uint32_t pre11_2 = load32(r7_2 + 4);
+                uint64_t pre12 = load64(r7_2 + 8);
+                uint32_t pre13 = load32(v17);
+                uint16_t pre_3 = load16(r7_2 + 2);
+                v21 = pre_3;
+                v22 = pre13;
+                v23 = pre12;
+                v24 = pre11_2;
+                v25 = pre10_2;
+                v26 = pre_2;
+dfu_host_task_Task_confirmed_exit:
+                r3_0_0 = v26;
+                r3_4_0 = v25;
+                r3_7_0 = v21;
+                r3_10_0 = v24;
+                r3_13_0 = v23;
+                r3_16_0 = v22;
+            }
+            *r14 = r3_0_0;
+            r14[1] = r3_4_0;
+            store16(r14 + 2, r3_7_0);
+            store32(r14 + 4, r3_10_0);
+            store64(r14 + 8, r3_13_0);
+            store32(r14 + 16, r3_16_0);
+            break;
+        }
+        case 17:
+            dfu_host_task_Task_troubled(r14, a1, r12);
+            break;
+        case 0:
+        case 1:
+        case 2:
+        case 3:
+        case 4:
+        case 5:
+        case 6:
+        case 7:
+        case 8:
+        case 9:
+        case 11:
+        case 12:
+        case 13:
+        case 15:
+        case 16:
+        case 18:
+        case 19:
+        case 20:
+        case 21:
+        case 22:
+        case 23:
+        case 24:
+            dfu_host_task_Task_listed(r14, a1, r12);
+            break;
+        default: never();
+        }
+        uint8_t v35 = *r14;
+        uint8_t v36 = r14[1];
+        uint16_t v37 = load16(r14 + 2);
+        uint32_t v38 = load32(r14 + 4);
+        uint64_t v39 = load64(r14 + 8);
+        uint32_t v40 = load32(r14 + 16);
+        r29_0_0 = v35;
+        r29_5_0 = v36;
+        r29_9_0 = v37;
+        r29_13_0 = v38;
+        r29_17_0 = v39;
+        r29_21_0 = v40;
+        break;
+    }
     case 6:
         r29_0_0 = v2;
         r29_5_0 = v3;
@@ -4064,307 +3999,31 @@ static void dfu_host_task_Task_on_status(unsigned char *a0, unsigned char *a1, u
         r29_13_0 = v5;
         r29_17_0 = v6;
         r29_21_0 = v7;
-        goto join_5;
-    case 0: goto arm_3;
-    case 2: goto arm_3;
-    case 3: goto arm_3;
-    case 4: goto arm_3;
-    case 5: goto arm_3;
-    case 7: goto arm_3;
-    case 8: goto arm_3;
-    case 9: goto arm_3;
-    case 10: goto arm_3;
-    case 11: goto arm_3;
-    default: never();
-    }
-arm_1:
-    memcpy(r12, a3 + 4, 12);
-    switch (v0) {
-    case 10: goto arm_1_2;
-    case 14: goto arm_2;
-    case 17: goto arm_3_2;
-    case 0: goto arm_4;
-    case 1: goto arm_4;
-    case 2: goto arm_4;
-    case 3: goto arm_4;
-    case 4: goto arm_4;
-    case 5: goto arm_4;
-    case 6: goto arm_4;
-    case 7: goto arm_4;
-    case 8: goto arm_4;
-    case 9: goto arm_4;
-    case 11: goto arm_4;
-    case 12: goto arm_4;
-    case 13: goto arm_4;
-    case 15: goto arm_4;
-    case 16: goto arm_4;
-    case 18: goto arm_4;
-    case 19: goto arm_4;
-    case 20: goto arm_4;
-    case 21: goto arm_4;
-    case 22: goto arm_4;
-    case 23: goto arm_4;
-    case 24: goto arm_4;
-    default: never();
-    }
-arm_1_2:
-    r1_0_0_copyload = load32(r12);
-    r1_3_0_copyload = load32(r12 + 4);
-    r1_4_0_copyload = r12[8];
-    v8 = r5 + 16;
-    store64(v8, 0);
-    switch (r1_4_0_copyload) {
+        break;
+    case 0:
+    case 2:
     case 3:
-        v11 = r1_3_0_copyload;
-        v12 = v1;
-        v13 = 0;
-        v14 = 0;
-        v15 = 0;
-        v16 = 11;
-        goto dfu_host_task_Task_polled_exit;
     case 4:
-        v11 = r1_3_0_copyload;
-        v12 = v1;
-        v13 = 0;
-        v14 = 0;
-        v15 = 0;
-        v16 = 11;
-        goto dfu_host_task_Task_polled_exit;
-    case 5: goto arm_2_2;
-    case 0: goto arm_3_3;
-    case 1: goto arm_3_3;
-    case 2: goto arm_3_3;
-    case 6: goto arm_3_3;
-    case 7: goto arm_3_3;
-    case 8: goto arm_3_3;
-    case 9: goto arm_3_3;
-    case 10: goto arm_3_3;
-    default: never();
-    }
-arm_2_2:
-    r8 = load16(a1 + 24);
-    uint8_t r7 = *a1;
-    if (r7 == 1) {
-        r2_4_0 = 0;
-        goto dfu_host_task_Task_is_last_exit;
-    }
-    uint64_t r16 = load64(a1 + 16);
-    r2_4_0 = r16;
-dfu_host_task_Task_is_last_exit:;
-    uint64_t r10 = (uint64_t)r8;
-    uint8_t r24_not = (r2_4_0 - (v1 * r10)) > r10;
-    v11 = 0;
-    v12 = (uint64_t)(r24_not ? (v1 + 1) : 0);
-    v13 = 0;
-    v14 = 0;
-    v15 = 0;
-    v16 = (uint8_t)(r24_not ? 8 : 12);
-    goto dfu_host_task_Task_polled_exit;
-arm_3_3:
-    store32(r10_2, r1_0_0_copyload);
-    store32(r10_2 + 4, r1_3_0_copyload);
-    r10_2[8] = r1_4_0_copyload;
-    memcpy(r10_2 + 9, a3 + 13, 3);
-    dfu_host_task_Task_troubled(r5, a1, r10_2);
-    uint8_t pre = *r5;
-    uint8_t pre7 = r5[1];
-    uint16_t pre8 = load16(r5 + 2);
-    uint32_t pre9 = load32(r5 + 4);
-    uint64_t pre10 = load64(r5 + 8);
-    uint32_t pre11 = load32(v8);
-    v11 = pre11;
-    v12 = pre10;
-    v13 = pre9;
-    v14 = pre8;
-    v15 = pre7;
-    v16 = pre;
-    goto dfu_host_task_Task_polled_exit;
-dfu_host_task_Task_polled_exit:
-    *r14 = v16;
-    r14[1] = v15;
-    store16(r14 + 2, v14);
-    store32(r14 + 4, v13);
-    store64(r14 + 8, v12);
-    store32(r14 + 16, v11);
-    goto dfu_host_task_Task_told_exit;
-arm_2:
-    r1_0_0_copyload_2 = load32(r12);
-    r1_5_0_copyload = load32(r12 + 4);
-    r1_7_0_copyload = r12[8];
-    uint8_t r5_2 = a1[26];
-    if (!(r5_2 & 1)) goto else_2;
-    v17 = r7_2 + 16;
-    store64(v17, 0);
-    switch (r1_7_0_copyload) {
-    case 6:
-        v21 = 0;
-        v22 = 0;
-        v23 = 0;
-        v24 = r1_5_0_copyload;
-        v25 = 0;
-        v26 = 15;
-        goto dfu_host_task_Task_confirmed_exit;
+    case 5:
     case 7:
-        v21 = 0;
-        v22 = 0;
-        v23 = 0;
-        v24 = r1_5_0_copyload;
-        v25 = 0;
-        v26 = 15;
-        goto dfu_host_task_Task_confirmed_exit;
-    case 2: goto arm_4_2;
-    case 0: goto after_2;
-    case 1: goto after_2;
-    case 3: goto after_2;
-    case 4: goto after_2;
-    case 5: goto after_2;
-    case 8: goto after_2;
-    case 9: goto after_2;
-    case 10: goto after_2;
+    case 8:
+    case 9:
+    case 10:
+    case 11: {
+        uint32_t v41 = load32(a2 + 16);
+        uint32_t v42 = load32(a2 + 4);
+        uint16_t v43 = load16(a2 + 2);
+        uint8_t v44 = a2[1];
+        r29_0_0 = v0;
+        r29_5_0 = v44;
+        r29_9_0 = v43;
+        r29_13_0 = v42;
+        r29_17_0 = v1;
+        r29_21_0 = v41;
+        break;
+    }
     default: never();
     }
-arm_4_2:
-    if ((r1_0_0_copyload_2 & 255) == 0) {
-        v21 = 0;
-        v22 = 0;
-        v23 = 0;
-        v24 = 0;
-        v25 = 0;
-        v26 = 20;
-        goto dfu_host_task_Task_confirmed_exit;
-    }
-after_2:
-    store32(r11, r1_0_0_copyload_2);
-    store32(r11 + 4, r1_5_0_copyload);
-    r11[8] = r1_7_0_copyload;
-    memcpy(r11 + 9, a3 + 13, 3);
-    dfu_host_task_Task_troubled(r7_2, a1, r11);
-    uint8_t pre_2 = *r7_2;
-    uint8_t pre10_2 = r7_2[1];
-    uint32_t pre11_2 = load32(r7_2 + 4);
-    uint64_t pre12 = load64(r7_2 + 8);
-    uint32_t pre13 = load32(v17);
-    uint16_t pre_3 = load16(r7_2 + 2);
-    v21 = pre_3;
-    v22 = pre13;
-    v23 = pre12;
-    v24 = pre11_2;
-    v25 = pre10_2;
-    v26 = pre_2;
-    goto dfu_host_task_Task_confirmed_exit;
-dfu_host_task_Task_confirmed_exit:
-    r3_0_0 = v26;
-    r3_4_0 = v25;
-    r3_7_0 = v21;
-    r3_10_0 = v24;
-    r3_13_0 = v23;
-    r3_16_0 = v22;
-    goto dfu_host_task_Task_manifested_exit;
-else_2:
-    v27 = r5_3 + 16;
-    store64(v27, 0);
-    switch (r1_7_0_copyload) {
-    case 6:
-        v29 = 0;
-        v30 = 0;
-        v31 = 0;
-        v32 = r1_5_0_copyload;
-        v33 = 0;
-        v34 = 16;
-        goto dfu_host_task_Task_unconfirmed_exit;
-    case 7:
-        v29 = 0;
-        v30 = 0;
-        v31 = 0;
-        v32 = r1_5_0_copyload;
-        v33 = 0;
-        v34 = 16;
-        goto dfu_host_task_Task_unconfirmed_exit;
-    case 2: goto arm_2_3;
-    case 8: goto arm_2_3;
-    case 0: goto arm_3_4;
-    case 1: goto arm_3_4;
-    case 3: goto arm_3_4;
-    case 4: goto arm_3_4;
-    case 5: goto arm_3_4;
-    case 9: goto arm_3_4;
-    case 10: goto arm_3_4;
-    default: never();
-    }
-arm_2_3:
-    v29 = 0;
-    v30 = 0;
-    v31 = 0;
-    v32 = 0;
-    v33 = 1;
-    v34 = 20;
-    goto dfu_host_task_Task_unconfirmed_exit;
-arm_3_4:
-    store32(r9, r1_0_0_copyload_2);
-    store32(r9 + 4, r1_5_0_copyload);
-    r9[8] = r1_7_0_copyload;
-    memcpy(r9 + 9, a3 + 13, 3);
-    dfu_host_task_Task_troubled(r5_3, a1, r9);
-    uint8_t pre_4 = *r5_3;
-    uint8_t pre7_2 = r5_3[1];
-    uint32_t pre8_2 = load32(r5_3 + 4);
-    uint64_t pre9_2 = load64(r5_3 + 8);
-    uint32_t pre10_3 = load32(v27);
-    uint16_t pre_5 = load16(r5_3 + 2);
-    v29 = pre_5;
-    v30 = pre10_3;
-    v31 = pre9_2;
-    v32 = pre8_2;
-    v33 = pre7_2;
-    v34 = pre_4;
-    goto dfu_host_task_Task_unconfirmed_exit;
-dfu_host_task_Task_unconfirmed_exit:
-    r3_0_0 = v34;
-    r3_4_0 = v33;
-    r3_7_0 = v29;
-    r3_10_0 = v32;
-    r3_13_0 = v31;
-    r3_16_0 = v30;
-dfu_host_task_Task_manifested_exit:
-    *r14 = r3_0_0;
-    r14[1] = r3_4_0;
-    store16(r14 + 2, r3_7_0);
-    store32(r14 + 4, r3_10_0);
-    store64(r14 + 8, r3_13_0);
-    store32(r14 + 16, r3_16_0);
-    goto dfu_host_task_Task_told_exit;
-arm_3_2:
-    dfu_host_task_Task_troubled(r14, a1, r12);
-    goto dfu_host_task_Task_told_exit;
-arm_4:
-    dfu_host_task_Task_listed(r14, a1, r12);
-    goto dfu_host_task_Task_told_exit;
-dfu_host_task_Task_told_exit:;
-    uint8_t v35 = *r14;
-    uint8_t v36 = r14[1];
-    uint16_t v37 = load16(r14 + 2);
-    uint32_t v38 = load32(r14 + 4);
-    uint64_t v39 = load64(r14 + 8);
-    uint32_t v40 = load32(r14 + 16);
-    r29_0_0 = v35;
-    r29_5_0 = v36;
-    r29_9_0 = v37;
-    r29_13_0 = v38;
-    r29_17_0 = v39;
-    r29_21_0 = v40;
-    goto join_5;
-arm_3:;
-    uint32_t v41 = load32(a2 + 16);
-    uint32_t v42 = load32(a2 + 4);
-    uint16_t v43 = load16(a2 + 2);
-    uint8_t v44 = a2[1];
-    r29_0_0 = v0;
-    r29_5_0 = v44;
-    r29_9_0 = v43;
-    r29_13_0 = v42;
-    r29_17_0 = v1;
-    r29_21_0 = v41;
-join_5:
     *a0 = r29_0_0;
     a0[1] = r29_5_0;
     store16(a0 + 2, r29_9_0);
@@ -4374,7 +4033,7 @@ join_5:
     return;
 }
 
-/* dfu_host::task::Task::troubled */
+/* dfu_host::task::Task::troubled: crates/dfu_host/src/ending.rt */
 static void dfu_host_task_Task_troubled(unsigned char *a0, unsigned char *a1, unsigned char *a2) {
     _Alignas(8) unsigned char r6[24];
     _Alignas(8) unsigned char r9[24];
@@ -4390,59 +4049,59 @@ static void dfu_host_task_Task_troubled(unsigned char *a0, unsigned char *a1, un
     r1_4_0_copyload = a2[8];
     r1_5_0_a2_sroa_idx = a2 + 9;
     memset(r9, 0, 24);
-    if (r1_4_0_copyload != 10) goto arm_2;
-    if ((uint8_t)(r1_0_0_copyload + 255) < 14) goto arm_6;
-    *r10 = r1_0_0_copyload;
-    memcpy(r10 + 1, r1_3_0_a2_sroa_idx, 7);
-    r10[8] = 10;
-    memcpy(r10 + 9, r1_5_0_a2_sroa_idx, 3);
-    dfu_host_task_Task_listed(r9, a1, r10);
-    uint8_t pre = *r9;
-    uint8_t pre12 = r9[1];
-    uint32_t pre13 = load32(r9 + 4);
-    uint64_t pre14 = load64(r9 + 8);
-    uint32_t pre15 = load32(r9 + 16);
-    v1 = pre15;
-    v2 = pre14;
-    v3 = pre13;
-    v4 = pre12;
-    v5 = pre;
-    goto join_7;
-arm_6:
-    r9[2] = r1_0_0_copyload;
-    v1 = 0;
-    v2 = 0;
-    v3 = 0;
-    v4 = 4;
-    v5 = 23;
-join_7:;
-    uint16_t v6 = load16(r9 + 2);
-    v7 = v1;
-    v8 = v2;
-    v9 = v3;
-    v10 = v6;
-    v11 = v4;
-    v12 = v5;
-    goto join_4;
-arm_2:
-    *r12 = r1_0_0_copyload;
-    memcpy(r12 + 1, r1_3_0_a2_sroa_idx, 7);
-    r12[8] = r1_4_0_copyload;
-    memcpy(r12 + 9, r1_5_0_a2_sroa_idx, 3);
-    dfu_host_task_Task_listed(r6, a1, r12);
-    uint8_t pre16 = *r6;
-    uint8_t pre17 = r6[1];
-    uint16_t pre18 = load16(r6 + 2);
-    uint32_t pre19 = load32(r6 + 4);
-    uint64_t pre20 = load64(r6 + 8);
-    uint32_t pre21 = load32(r6 + 16);
-    v7 = pre21;
-    v8 = pre20;
-    v9 = pre19;
-    v10 = pre18;
-    v11 = pre17;
-    v12 = pre16;
-join_4:
+    if (r1_4_0_copyload != 10) {
+        *r12 = r1_0_0_copyload;
+        memcpy(r12 + 1, r1_3_0_a2_sroa_idx, 7);
+        r12[8] = r1_4_0_copyload;
+        memcpy(r12 + 9, r1_5_0_a2_sroa_idx, 3);
+        dfu_host_task_Task_listed(r6, a1, r12);
+        uint8_t pre16 = *r6;
+        uint8_t pre17 = r6[1];
+        uint16_t pre18 = load16(r6 + 2);
+        uint32_t pre19 = load32(r6 + 4);
+        uint64_t pre20 = load64(r6 + 8);
+        uint32_t pre21 = load32(r6 + 16);
+        v7 = pre21;
+        v8 = pre20;
+        v9 = pre19;
+        v10 = pre18;
+        v11 = pre17;
+        v12 = pre16;
+    }
+    else {
+        if ((uint8_t)(r1_0_0_copyload + 255) < 14) {
+            r9[2] = r1_0_0_copyload;
+            v1 = 0;
+            v2 = 0;
+            v3 = 0;
+            v4 = 4;
+            v5 = 23;
+        }
+        else {
+            *r10 = r1_0_0_copyload;
+            memcpy(r10 + 1, r1_3_0_a2_sroa_idx, 7);
+            r10[8] = 10;
+            memcpy(r10 + 9, r1_5_0_a2_sroa_idx, 3);
+            dfu_host_task_Task_listed(r9, a1, r10);
+            uint8_t pre = *r9;
+            uint8_t pre12 = r9[1];
+            uint32_t pre13 = load32(r9 + 4);
+            uint64_t pre14 = load64(r9 + 8);
+            uint32_t pre15 = load32(r9 + 16);
+            v1 = pre15;
+            v2 = pre14;
+            v3 = pre13;
+            v4 = pre12;
+            v5 = pre;
+        }
+        uint16_t v6 = load16(r9 + 2);
+        v7 = v1;
+        v8 = v2;
+        v9 = v3;
+        v10 = v6;
+        v11 = v4;
+        v12 = v5;
+    }
     *a0 = v12;
     a0[1] = v11;
     store16(a0 + 2, v10);
@@ -4452,7 +4111,7 @@ join_4:
     return;
 }
 
-/* dfu_host::task::Task::listed */
+/* dfu_host::task::Task::listed: crates/dfu_host/src/row.rt */
 static void dfu_host_task_Task_listed(unsigned char *a0, unsigned char *a1, unsigned char *a2) {
     uint8_t r5_0_0;
     uint32_t r5_12_0;
@@ -4461,45 +4120,41 @@ static void dfu_host_task_Task_listed(unsigned char *a0, unsigned char *a1, unsi
     case 0:
         r5_0_0 = 2;
         r5_12_0 = 0;
-        goto join_9;
-    case 1: goto arm_2;
-    case 2: goto arm_3;
-    case 3: goto arm_4;
-    case 4: goto arm_4;
-    case 6: goto arm_4;
-    case 7: goto arm_4;
-    case 5: goto arm_5;
-    case 9: goto arm_5;
-    case 8: goto arm_6;
-    case 10: goto arm_7;
+        break;
+    case 1:
+        r5_0_0 = 3;
+        r5_12_0 = 0;
+        break;
+    case 2: {
+        uint8_t r4 = *a1;
+        r5_0_0 = (uint8_t)((uint32_t)0x13081208U >> (((uint32_t)r4 << 3) & 31));
+        r5_12_0 = 0;
+        break;
+    }
+    case 3:
+    case 4:
+    case 6:
+    case 7: {
+        uint32_t r1_3_0_copyload = load32(a2 + 4);
+        r5_0_0 = 6;
+        r5_12_0 = r1_3_0_copyload;
+        break;
+    }
+    case 5:
+    case 9:
+        r5_0_0 = 5;
+        r5_12_0 = 0;
+        break;
+    case 8:
+        r5_0_0 = 7;
+        r5_12_0 = 0;
+        break;
+    case 10:
+        r5_0_0 = 4;
+        r5_12_0 = 0;
+        break;
     default: never();
     }
-arm_2:
-    r5_0_0 = 3;
-    r5_12_0 = 0;
-    goto join_9;
-arm_3:;
-    uint8_t r4 = *a1;
-    r5_0_0 = (uint8_t)((uint32_t)0x13081208U >> (((uint32_t)r4 << 3) & 31));
-    r5_12_0 = 0;
-    goto join_9;
-arm_4:;
-    uint32_t r1_3_0_copyload = load32(a2 + 4);
-    r5_0_0 = 6;
-    r5_12_0 = r1_3_0_copyload;
-    goto join_9;
-arm_5:
-    r5_0_0 = 5;
-    r5_12_0 = 0;
-    goto join_9;
-arm_6:
-    r5_0_0 = 7;
-    r5_12_0 = 0;
-    goto join_9;
-arm_7:
-    r5_0_0 = 4;
-    r5_12_0 = 0;
-join_9:
     *a0 = r5_0_0;
     a0[1] = 0;
     store16(a0 + 2, 0);
@@ -4509,403 +4164,263 @@ join_9:
     return;
 }
 
-/* dfu_host_c::dfuse::holding::map_of */
-static void dfu_host_c_dfuse_holding_map_of(unsigned char *a0, unsigned char *a1, uint64_t a2) {
+/* dfu_host_c::dfuse::holding::map_of: crates/dfu_host_c/src/dfuse/holding.rt */
+static void dfu_host_c_dfuse_holding_map_of(unsigned char *a0, unsigned char *a1, size_t a2) {
     _Alignas(8) unsigned char r4[800];
     _Alignas(8) unsigned char r5_4[792];
-    uint64_t r5_0_0_0;
+    size_t r5_0_0_0;
     memset(r5_4, 0, 792);
     dfuse_memory_map_Map_read(r4, a1, a2);
     uint8_t r10 = *r4;
-    if (r10 != 0) {
-        r5_0_0_0 = 0;
-        goto join_4;
+    if (r10 != 0) r5_0_0_0 = 0;
+    else {
+        memcpy(r5_4, r4 + 8, 792);
+        r5_0_0_0 = 1;
     }
-    memcpy(r5_4, r4 + 8, 792);
-    r5_0_0_0 = 1;
-join_4:
     store64(a0, r5_0_0_0);
     memcpy(a0 + 8, r5_4, 792);
     return;
 }
 
-/* dfu_host_c::dfuse::holding::session_of */
-static void dfu_host_c_dfuse_holding_session_of(unsigned char *a0, unsigned char *a1, unsigned char *a2, unsigned char *a3, uint64_t a4) {
-    uint64_t r12, r14, r18, r1_10_0_0, r1_18_0, r1_26_0, r1_6_0_0, r1_10_0, r0_30_0, r0_29_0, r0_28_0, r0_27_0;
-    uint64_t r0_204_0;
+/* dfu_host_c::dfuse::holding::session_of: crates/dfu_host_c/src/dfuse/holding.rt */
+static void dfu_host_c_dfuse_holding_session_of(unsigned char *a0, unsigned char *a1, unsigned char *a2, unsigned char *a3, size_t a4) {
+    uint64_t r12, r14, r18, r1_18_0, r1_26_0, r1_10_0, r0_30_0, r0_28_0, r0_27_0;
     uint32_t r16, r20, r22, r0_32_0, r0_31_0;
+    size_t r1_10_0_0, r1_6_0_0, r0_29_0, r0_204_0;
     uint8_t r0_16_0, r0_12_0, r0_8_0;
     uint32_t r4 = load32(a1);
-    if (r4 != 300) goto arm_2;
-    uint32_t r10 = load32(a1 + 4);
-    r12 = load64(a1 + 8);
-    r14 = load64(a1 + 16);
-    r16 = load32(a1 + 32);
-    r18 = load64(a1 + 24);
-    r20 = load32(a1 + 36);
-    r22 = load32(a1 + 40);
-    switch (r10) {
-    case 7: goto then_1;
-    case 0:
-        r1_10_0_0 = 0;
-        r1_18_0 = r12;
-        r1_26_0 = 0;
-        goto arm_8;
-    case 1: goto arm_2_2;
-    case 2: goto arm_3;
-    case 3: goto arm_4;
-    case 4: goto arm_5;
-    case 5: goto arm_6;
-    case 6: goto arm_7;
-    default: goto arm_2;
-    }
-then_1:;
-    uint32_t r24 = load32(a1 + 44);
-    switch (r24) {
-    case 1: goto dfu_host_c_dfuse_reports_report_at_exit;
-    case 2:
-        r0_32_0 = 0;
-        r0_31_0 = 0;
-        r0_30_0 = 0;
-        r0_29_0 = 0;
-        r0_28_0 = 0;
-        r0_27_0 = 0;
-        r0_204_0 = 0;
-        r0_16_0 = 0;
-        r0_12_0 = 1;
-        r0_8_0 = 1;
-        goto arm_1;
-    case 3: goto arm_3_2;
-    case 4: goto arm_4_2;
-    case 5: goto arm_5_2;
-    case 6: goto arm_6_2;
-    case 7: goto arm_7_2;
-    default: goto arm_2;
-    }
-arm_3_2:
-    if (r22 < 16) {
-        r0_32_0 = 0;
-        r0_31_0 = 0;
-        r0_30_0 = 0;
-        r0_29_0 = 0;
-        r0_28_0 = 0;
-        r0_27_0 = 0;
-        r0_204_0 = 0;
-        r0_16_0 = (uint8_t)r22;
-        r0_12_0 = 2;
-        r0_8_0 = 1;
-        goto arm_1;
-    }
-    goto arm_2;
-arm_4_2:
-    r0_32_0 = 0;
-    r0_31_0 = 0;
-    r0_30_0 = 0;
-    r0_29_0 = 0;
-    r0_28_0 = 0;
-    r0_27_0 = 0;
-    r0_204_0 = 0;
-    r0_16_0 = 0;
-    r0_12_0 = 3;
-    r0_8_0 = 1;
-    goto arm_1;
-arm_5_2:
-    r0_32_0 = 0;
-    r0_31_0 = 0;
-    r0_30_0 = 0;
-    r0_29_0 = 0;
-    r0_28_0 = 0;
-    r0_27_0 = 0;
-    r0_204_0 = 0;
-    r0_16_0 = 0;
-    r0_12_0 = 4;
-    r0_8_0 = 1;
-    goto arm_1;
-arm_6_2:
-    r0_32_0 = 0;
-    r0_31_0 = 0;
-    r0_30_0 = 0;
-    r0_29_0 = 0;
-    r0_28_0 = 0;
-    r0_27_0 = 0;
-    r0_204_0 = 0;
-    r0_16_0 = 0;
-    r0_12_0 = 5;
-    r0_8_0 = 1;
-    goto arm_1;
-arm_7_2:
-    r0_32_0 = 0;
-    r0_31_0 = 0;
-    r0_30_0 = 0;
-    r0_29_0 = 0;
-    r0_28_0 = 0;
-    r0_27_0 = 0;
-    r0_204_0 = 0;
-    r0_16_0 = 0;
-    r0_12_0 = 6;
-    r0_8_0 = 1;
-    goto arm_1;
-dfu_host_c_dfuse_reports_report_at_exit:
-    if (r22 < 3) {
-        r0_32_0 = 0;
-        r0_31_0 = 0;
-        r0_30_0 = 0;
-        r0_29_0 = 0;
-        r0_28_0 = 0;
-        r0_27_0 = 0;
-        r0_204_0 = 0;
-        r0_16_0 = (uint8_t)r22;
-        r0_12_0 = 0;
-        r0_8_0 = 1;
-        goto arm_1;
-    }
-    goto arm_2;
-arm_2_2:
-    r1_10_0_0 = 1;
-    r1_18_0 = r12;
-    r1_26_0 = r14;
-    goto arm_8;
-arm_3:
-    r1_10_0_0 = 2;
-    r1_18_0 = r12;
-    r1_26_0 = r14;
-    goto arm_8;
-arm_4:
-    r1_10_0_0 = 3;
-    r1_18_0 = r12;
-    r1_26_0 = 0;
-    goto arm_8;
-arm_5:
-    r1_10_0_0 = 4;
-    r1_18_0 = r12;
-    r1_26_0 = 0;
-    goto arm_8;
-arm_6:
-    r1_10_0_0 = 5;
-    r1_18_0 = r12;
-    r1_26_0 = 0;
-    goto arm_8;
-arm_7:
-    r1_10_0_0 = 6;
-    r1_18_0 = 0;
-    r1_26_0 = 0;
-arm_8:
-    switch (r16) {
-    case 0:
-        r1_6_0_0 = 0;
-        r1_10_0 = 0;
-        goto arm_11;
-    case 1: goto arm_2_3;
-    case 2: goto arm_3_3;
-    default: goto arm_2;
-    }
-arm_2_3:
-    r1_6_0_0 = 1;
-    r1_10_0 = r18;
-    goto arm_11;
-arm_3_3:
-    r1_6_0_0 = 2;
-    r1_10_0 = r18;
-arm_11:
-    switch (r20) {
-    case 0:
-        r0_32_0 = 0;
-        r0_31_0 = r20;
-        r0_30_0 = r1_10_0;
-        r0_29_0 = r1_6_0_0;
-        r0_28_0 = r1_26_0;
-        r0_27_0 = r1_18_0;
-        r0_204_0 = r1_10_0_0;
-        r0_16_0 = 0;
-        r0_12_0 = 0;
-        r0_8_0 = 0;
-        goto arm_1;
-    case 1:
-        r0_32_0 = 0;
-        r0_31_0 = r20;
-        r0_30_0 = r1_10_0;
-        r0_29_0 = r1_6_0_0;
-        r0_28_0 = r1_26_0;
-        r0_27_0 = r1_18_0;
-        r0_204_0 = r1_10_0_0;
-        r0_16_0 = 0;
-        r0_12_0 = 0;
-        r0_8_0 = 0;
-        goto arm_1;
-    case 2:
-        r0_32_0 = 0;
-        r0_31_0 = r20;
-        r0_30_0 = r1_10_0;
-        r0_29_0 = r1_6_0_0;
-        r0_28_0 = r1_26_0;
-        r0_27_0 = r1_18_0;
-        r0_204_0 = r1_10_0_0;
-        r0_16_0 = 0;
-        r0_12_0 = 0;
-        r0_8_0 = 0;
-        goto arm_1;
-    case 3: goto arm_4_3;
-    case 4:
-        r0_32_0 = 0;
-        r0_31_0 = r20;
-        r0_30_0 = r1_10_0;
-        r0_29_0 = r1_6_0_0;
-        r0_28_0 = r1_26_0;
-        r0_27_0 = r1_18_0;
-        r0_204_0 = r1_10_0_0;
-        r0_16_0 = 0;
-        r0_12_0 = 0;
-        r0_8_0 = 0;
-        goto arm_1;
-    case 5:
-        r0_32_0 = 0;
-        r0_31_0 = r20;
-        r0_30_0 = r1_10_0;
-        r0_29_0 = r1_6_0_0;
-        r0_28_0 = r1_26_0;
-        r0_27_0 = r1_18_0;
-        r0_204_0 = r1_10_0_0;
-        r0_16_0 = 0;
-        r0_12_0 = 0;
-        r0_8_0 = 0;
-        goto arm_1;
-    case 6:
-        r0_32_0 = 0;
-        r0_31_0 = r20;
-        r0_30_0 = r1_10_0;
-        r0_29_0 = r1_6_0_0;
-        r0_28_0 = r1_26_0;
-        r0_27_0 = r1_18_0;
-        r0_204_0 = r1_10_0_0;
-        r0_16_0 = 0;
-        r0_12_0 = 0;
-        r0_8_0 = 0;
-        goto arm_1;
-    case 7: goto arm_4_3;
-    case 8: goto arm_4_3;
-    case 9:
-        r0_32_0 = 0;
-        r0_31_0 = r20;
-        r0_30_0 = r1_10_0;
-        r0_29_0 = r1_6_0_0;
-        r0_28_0 = r1_26_0;
-        r0_27_0 = r1_18_0;
-        r0_204_0 = r1_10_0_0;
-        r0_16_0 = 0;
-        r0_12_0 = 0;
-        r0_8_0 = 0;
-        goto arm_1;
-    case 10:
-        r0_32_0 = 0;
-        r0_31_0 = r20;
-        r0_30_0 = r1_10_0;
-        r0_29_0 = r1_6_0_0;
-        r0_28_0 = r1_26_0;
-        r0_27_0 = r1_18_0;
-        r0_204_0 = r1_10_0_0;
-        r0_16_0 = 0;
-        r0_12_0 = 0;
-        r0_8_0 = 0;
-        goto arm_1;
-    case 11:
-        r0_32_0 = 0;
-        r0_31_0 = r20;
-        r0_30_0 = r1_10_0;
-        r0_29_0 = r1_6_0_0;
-        r0_28_0 = r1_26_0;
-        r0_27_0 = r1_18_0;
-        r0_204_0 = r1_10_0_0;
-        r0_16_0 = 0;
-        r0_12_0 = 0;
-        r0_8_0 = 0;
-        goto arm_1;
-    case 12:
-        r0_32_0 = 0;
-        r0_31_0 = r20;
-        r0_30_0 = r1_10_0;
-        r0_29_0 = r1_6_0_0;
-        r0_28_0 = r1_26_0;
-        r0_27_0 = r1_18_0;
-        r0_204_0 = r1_10_0_0;
-        r0_16_0 = 0;
-        r0_12_0 = 0;
-        r0_8_0 = 0;
-        goto arm_1;
-    case 13:
-        r0_32_0 = 0;
-        r0_31_0 = r20;
-        r0_30_0 = r1_10_0;
-        r0_29_0 = r1_6_0_0;
-        r0_28_0 = r1_26_0;
-        r0_27_0 = r1_18_0;
-        r0_204_0 = r1_10_0_0;
-        r0_16_0 = 0;
-        r0_12_0 = 0;
-        r0_8_0 = 0;
-        goto arm_1;
-    case 14:
-        r0_32_0 = 0;
-        r0_31_0 = r20;
-        r0_30_0 = r1_10_0;
-        r0_29_0 = r1_6_0_0;
-        r0_28_0 = r1_26_0;
-        r0_27_0 = r1_18_0;
-        r0_204_0 = r1_10_0_0;
-        r0_16_0 = 0;
-        r0_12_0 = 0;
-        r0_8_0 = 0;
-        goto arm_1;
-    default: goto arm_2;
-    }
-arm_4_3:
-    r0_32_0 = r22;
-    r0_31_0 = r20;
-    r0_30_0 = r1_10_0;
-    r0_29_0 = r1_6_0_0;
-    r0_28_0 = r1_26_0;
-    r0_27_0 = r1_18_0;
-    r0_204_0 = r1_10_0_0;
-    r0_16_0 = 0;
-    r0_12_0 = 0;
-    r0_8_0 = 0;
+    if (r4 == 300) {
+        uint32_t r10 = load32(a1 + 4);
+        r12 = load64(a1 + 8);
+        r14 = load64(a1 + 16);
+        r16 = load32(a1 + 32);
+        r18 = load64(a1 + 24);
+        r20 = load32(a1 + 36);
+        r22 = load32(a1 + 40);
+        switch (r10) {
+        case 7: {
+            uint32_t r24 = load32(a1 + 44);
+            switch (r24) {
+            case 1:
+                if (r22 >= 3) goto arm_2;
+                r0_32_0 = 0;
+                r0_31_0 = 0;
+                r0_30_0 = 0;
+                r0_29_0 = 0;
+                r0_28_0 = 0;
+                r0_27_0 = 0;
+                r0_204_0 = 0;
+                r0_16_0 = (uint8_t)r22;
+                r0_12_0 = 0;
+                r0_8_0 = 1;
+                goto arm_1;
+            case 2:
+                r0_32_0 = 0;
+                r0_31_0 = 0;
+                r0_30_0 = 0;
+                r0_29_0 = 0;
+                r0_28_0 = 0;
+                r0_27_0 = 0;
+                r0_204_0 = 0;
+                r0_16_0 = 0;
+                r0_12_0 = 1;
+                r0_8_0 = 1;
+                goto arm_1;
+            case 3:
+                if (r22 >= 16) goto arm_2;
+                r0_32_0 = 0;
+                r0_31_0 = 0;
+                r0_30_0 = 0;
+                r0_29_0 = 0;
+                r0_28_0 = 0;
+                r0_27_0 = 0;
+                r0_204_0 = 0;
+                r0_16_0 = (uint8_t)r22;
+                r0_12_0 = 2;
+                r0_8_0 = 1;
+                goto arm_1;
+            case 4:
+                r0_32_0 = 0;
+                r0_31_0 = 0;
+                r0_30_0 = 0;
+                r0_29_0 = 0;
+                r0_28_0 = 0;
+                r0_27_0 = 0;
+                r0_204_0 = 0;
+                r0_16_0 = 0;
+                r0_12_0 = 3;
+                r0_8_0 = 1;
+                goto arm_1;
+            case 5:
+                r0_32_0 = 0;
+                r0_31_0 = 0;
+                r0_30_0 = 0;
+                r0_29_0 = 0;
+                r0_28_0 = 0;
+                r0_27_0 = 0;
+                r0_204_0 = 0;
+                r0_16_0 = 0;
+                r0_12_0 = 4;
+                r0_8_0 = 1;
+                goto arm_1;
+            case 6:
+                r0_32_0 = 0;
+                r0_31_0 = 0;
+                r0_30_0 = 0;
+                r0_29_0 = 0;
+                r0_28_0 = 0;
+                r0_27_0 = 0;
+                r0_204_0 = 0;
+                r0_16_0 = 0;
+                r0_12_0 = 5;
+                r0_8_0 = 1;
+                goto arm_1;
+            case 7:
+                r0_32_0 = 0;
+                r0_31_0 = 0;
+                r0_30_0 = 0;
+                r0_29_0 = 0;
+                r0_28_0 = 0;
+                r0_27_0 = 0;
+                r0_204_0 = 0;
+                r0_16_0 = 0;
+                r0_12_0 = 6;
+                r0_8_0 = 1;
+                goto arm_1;
+            default: goto arm_2;
+            }
+        }
+        case 0:
+            r1_10_0_0 = 0;
+            r1_18_0 = r12;
+            r1_26_0 = 0;
+            break;
+        case 1:
+            r1_10_0_0 = 1;
+            r1_18_0 = r12;
+            r1_26_0 = r14;
+            break;
+        case 2:
+            r1_10_0_0 = 2;
+            r1_18_0 = r12;
+            r1_26_0 = r14;
+            break;
+        case 3:
+            r1_10_0_0 = 3;
+            r1_18_0 = r12;
+            r1_26_0 = 0;
+            break;
+        case 4:
+            r1_10_0_0 = 4;
+            r1_18_0 = r12;
+            r1_26_0 = 0;
+            break;
+        case 5:
+            r1_10_0_0 = 5;
+            r1_18_0 = r12;
+            r1_26_0 = 0;
+            break;
+        case 6:
+            r1_10_0_0 = 6;
+            r1_18_0 = 0;
+            r1_26_0 = 0;
+            break;
+        default: goto arm_2;
+        }
+        switch (r16) {
+        case 0:
+            r1_6_0_0 = 0;
+            r1_10_0 = 0;
+            break;
+        case 1:
+            r1_6_0_0 = 1;
+            r1_10_0 = r18;
+            break;
+        case 2:
+            r1_6_0_0 = 2;
+            r1_10_0 = r18;
+            break;
+        default: goto arm_2;
+        }
+        switch (r20) {
+        case 0:
+        case 1:
+        case 2:
+        case 4:
+        case 5:
+        case 6:
+        case 9:
+        case 10:
+        case 11:
+        case 12:
+        case 13:
+        case 14:
+            r0_32_0 = 0;
+            r0_31_0 = r20;
+            r0_30_0 = r1_10_0;
+            r0_29_0 = r1_6_0_0;
+            r0_28_0 = r1_26_0;
+            r0_27_0 = r1_18_0;
+            r0_204_0 = r1_10_0_0;
+            r0_16_0 = 0;
+            r0_12_0 = 0;
+            r0_8_0 = 0;
+            break;
+        case 3:
+        case 7:
+        case 8:
+            r0_32_0 = r22;
+            r0_31_0 = r20;
+            r0_30_0 = r1_10_0;
+            r0_29_0 = r1_6_0_0;
+            r0_28_0 = r1_26_0;
+            r0_27_0 = r1_18_0;
+            r0_204_0 = r1_10_0_0;
+            r0_16_0 = 0;
+            r0_12_0 = 0;
+            r0_8_0 = 0;
+            break;
+        default: goto arm_2;
+        }
 arm_1:;
-    uint16_t r9 = load16(a1 + 58);
-    uint16_t r11 = load16(a1 + 60);
-    uint16_t r13 = load16(a1 + 62);
-    uint32_t r17 = load32(a1 + 48);
-    uint32_t r29 = load32(a1 + 52);
-    uint16_t r32 = load16(a1 + 56);
-    store64(a0, 1);
-    store64(a0 + 8, (uint64_t)(uintptr_t)a2);
-    store64(a0 + 16, (uint64_t)(uintptr_t)a3);
-    store64(a0 + 24, a4);
-    store16(a0 + 32, r9);
-    store16(a0 + 34, r11);
-    a0[36] = r13 != 0;
-    memset(a0 + 37, 0, 3);
-    store32(a0 + 40, r17);
-    store32(a0 + 44, 0);
-    a0[48] = r0_8_0;
-    a0[49] = r0_12_0;
-    a0[50] = r0_16_0;
-    memset(a0 + 51, 0, 5);
-    store64(a0 + 56, r0_204_0);
-    store64(a0 + 64, r0_27_0);
-    store64(a0 + 72, r0_28_0);
-    store64(a0 + 80, r0_29_0);
-    store64(a0 + 88, r0_30_0);
-    store32(a0 + 96, r0_31_0);
-    store32(a0 + 100, r0_32_0);
-    store32(a0 + 104, r29);
-    store16(a0 + 108, r32);
-    store16(a0 + 110, 0);
-    return;
+        uint16_t r9 = load16(a1 + 58);
+        uint16_t r11 = load16(a1 + 60);
+        uint16_t r13 = load16(a1 + 62);
+        uint32_t r17 = load32(a1 + 48);
+        uint32_t r29 = load32(a1 + 52);
+        uint16_t r32 = load16(a1 + 56);
+        store64(a0, 1);
+        store64(a0 + 8, (size_t)(uintptr_t)a2);
+        store64(a0 + 16, (size_t)(uintptr_t)a3);
+        store64(a0 + 24, a4);
+        store16(a0 + 32, r9);
+        store16(a0 + 34, r11);
+        a0[36] = r13 != 0;
+        memset(a0 + 37, 0, 3);
+        store32(a0 + 40, r17);
+        store32(a0 + 44, 0);
+        a0[48] = r0_8_0;
+        a0[49] = r0_12_0;
+        a0[50] = r0_16_0;
+        memset(a0 + 51, 0, 5);
+        store64(a0 + 56, r0_204_0);
+        store64(a0 + 64, r0_27_0);
+        store64(a0 + 72, r0_28_0);
+        store64(a0 + 80, r0_29_0);
+        store64(a0 + 88, r0_30_0);
+        store32(a0 + 96, r0_31_0);
+        store32(a0 + 100, r0_32_0);
+        store32(a0 + 104, r29);
+        store16(a0 + 108, r32);
+        store16(a0 + 110, 0);
+        return;
+    }
 arm_2:
     memset(a0, 0, 112);
     return;
 }
 
-/* dfuse_host::asking::ask */
+/* dfuse_host::asking::ask: crates/dfuse_host/src/asking.rt */
 static void dfuse_host_asking_ask(unsigned char *a0, unsigned char *a1) {
     _Alignas(8) unsigned char r8[8];
     _Alignas(4) unsigned char r1[6];
@@ -4926,7 +4441,7 @@ static void dfuse_host_asking_ask(unsigned char *a0, unsigned char *a1) {
     return;
 }
 
-/* dfuse_host::asking::setup_of */
+/* dfuse_host::asking::setup_of: crates/dfuse_host/src/asking.rt */
 static void dfuse_host_asking_setup_of(unsigned char *a0, unsigned char *a1) {
     _Alignas(4) unsigned char r10[10];
     _Alignas(8) unsigned char r9[8];
@@ -4949,73 +4464,70 @@ static void dfuse_host_asking_setup_of(unsigned char *a0, unsigned char *a1) {
     return;
 }
 
-/* dfuse_host::plan::Plan::command_of */
+/* dfuse_host::plan::Plan::command_of: crates/dfuse_host/src/command.rt */
 static struct i8_i64 dfuse_host_plan_Plan_command_of(unsigned char *a0, unsigned char *a1, uint8_t a2, uint64_t a3) {
     uint64_t r1_3_8_copyload, r23_pn;
     struct i8_i64 pn;
     uint8_t r2 = *a1;
     r1_3_8_copyload = load64(a1 + 8);
     switch (r2) {
-    case 0: goto arm_4;
+    case 0: {
+        uint64_t r23 = dfuse_host_plan_Plan_page_start(a0, r1_3_8_copyload);
+        pn = (struct i8_i64){ 1, 0 };
+        r23_pn = r23;
+        break;
+    }
     case 1:
         pn = (struct i8_i64){ 1, 0 };
         r23_pn = r1_3_8_copyload;
-        goto after_1;
-    case 2: goto after_2;
-    case 4: goto after_2;
-    case 3: goto after_3;
-    case 5: goto after_3;
-    case 6: goto arm_10;
+        break;
+    case 2:
+    case 4: {
+        struct i8_i64 r21_half = (struct i8_i64){ 0, 0 };
+        r21_half.a = (uint8_t)(((a2 == 1) ? (a3 == r1_3_8_copyload) : 0) ? 2 : 0);
+        pn = r21_half;
+        r23_pn = r1_3_8_copyload;
+        break;
+    }
+    case 3:
+    case 5:
+        pn = (struct i8_i64){ 0, 0 };
+        r23_pn = r1_3_8_copyload;
+        break;
+    case 6: {
+        uint32_t r39 = load32(a0 + 32);
+        pn = (struct i8_i64){ 0, 0 };
+        r23_pn = (size_t)r39;
+        break;
+    }
     default: never();
     }
-arm_4:;
-    uint64_t r23 = dfuse_host_plan_Plan_page_start(a0, r1_3_8_copyload);
-    pn = (struct i8_i64){ 1, 0 };
-    r23_pn = r23;
-    goto after_1;
-arm_10:;
-    uint32_t r39 = load32(a0 + 32);
-    pn = (struct i8_i64){ 0, 0 };
-    r23_pn = (uint64_t)r39;
-    goto after_1;
-after_3:
-    pn = (struct i8_i64){ 0, 0 };
-    r23_pn = r1_3_8_copyload;
-    goto after_1;
-after_2:;
-    struct i8_i64 r21_half = (struct i8_i64){ 0, 0 };
-    r21_half.a = (uint8_t)(((a2 == 1) ? (a3 == r1_3_8_copyload) : 0) ? 2 : 0);
-    pn = r21_half;
-    r23_pn = r1_3_8_copyload;
-after_1:;
     struct i8_i64 r59_merged = pn;
     r59_merged.b = r23_pn;
     return r59_merged;
 }
 
-/* dfuse_host::plan::Plan::page_start */
+/* dfuse_host::plan::Plan::page_start: crates/dfuse_host/src/plan.rt */
 static uint64_t dfuse_host_plan_Plan_page_start(unsigned char *a0, uint64_t a1) {
     _Alignas(8) unsigned char r2[32];
     dfuse_host_plan_Plan_page_of(r2, a0, a1);
     uint8_t r4 = *r2;
     uint32_t r1_0_0_copyload = load32(r2 + 8);
-    return (uint64_t)((r4 == 0) ? a1 : (uint64_t)r1_0_0_copyload);
+    return (uint64_t)((r4 == 0) ? a1 : (size_t)r1_0_0_copyload);
 }
 
-/* dfuse_host::plan::Plan::page_of */
+/* dfuse_host::plan::Plan::page_of: crates/dfuse_host/src/plan.rt */
 static void dfuse_host_plan_Plan_page_of(unsigned char *a0, unsigned char *a1, uint64_t a2) {
     _Alignas(8) unsigned char r4_2[32];
     _Alignas(8) unsigned char r5_4_5[3];
     uint8_t r11;
     uint64_t r3_31_0_copyload, r5_4_4_0;
     uint32_t r5_4_0_0;
-    if (a2 > 0xffffffffU) goto then_1;
-    goto join_3;
-then_1:
-    memset(a0, 0, 32);
-    return;
-join_3:;
-    uint64_t r12_wide = load64(a1);
+    if (a2 > 0xffffffffU) {
+        memset(a0, 0, 32);
+        return;
+    }
+    size_t r12_wide = (size_t)load64(a1);
     unsigned char *r12 = (unsigned char *)(uintptr_t)r12_wide;
     uint64_t r4 = load64(r12 + 784);
     dfuse_memory_lookups_range_at(r4_2, a2, r12 + 16, r4);
@@ -5023,19 +4535,17 @@ join_3:;
     if (r11 != 1) {
         r5_4_0_0 = 0;
         r5_4_4_0 = 0;
-        goto dfuse_memory_map_Map_page_at_exit;
     }
-    r3_31_0_copyload = load64(r4_2 + 16);
-    if (r3_31_0_copyload != 0) goto dfuse_memory_lookups_page_in_exit;
-    trap();
-dfuse_memory_lookups_page_in_exit:;
-    uint32_t r3_0_0_copyload = load32(r4_2 + 8);
-    uint64_t r13 = a2 - (uint64_t)r3_0_0_copyload;
-    memcpy(r5_4_5, r4_2 + 28, 3);
-    r5_4_0_0 = r3_0_0_copyload + (uint32_t)(r13 - (r13 % r3_31_0_copyload));
-    r5_4_4_0 = r3_31_0_copyload;
-dfuse_memory_map_Map_page_at_exit:
-    store64(a0, (uint64_t)r11);
+    else {
+        r3_31_0_copyload = load64(r4_2 + 16);
+        if (r3_31_0_copyload == 0) trap();
+        uint32_t r3_0_0_copyload = load32(r4_2 + 8);
+        uint64_t r13 = a2 - (uint64_t)(size_t)r3_0_0_copyload;
+        memcpy(r5_4_5, r4_2 + 28, 3);
+        r5_4_0_0 = r3_0_0_copyload + (uint32_t)((size_t)r13 - (size_t)(r13 % r3_31_0_copyload));
+        r5_4_4_0 = r3_31_0_copyload;
+    }
+    store64(a0, (size_t)r11);
     store32(a0 + 8, r5_4_0_0);
     store32(a0 + 12, 0);
     store64(a0 + 16, r5_4_4_0);
@@ -5043,37 +4553,35 @@ dfuse_memory_map_Map_page_at_exit:
     return;
 }
 
-/* dfuse_memory::lookups::range_at */
+/* dfuse_memory::lookups::range_at: crates/dfuse_memory/src/lookups.rt */
 static void dfuse_memory_lookups_range_at(unsigned char *a0, uint64_t a1, unsigned char *a2, uint64_t a3) {
     _Alignas(8) unsigned char r0_5[24];
-    uint64_t r3_0, r7;
+    uint64_t r3_0;
     unsigned char *r23;
+    size_t r7;
     r3_0 = 0;
-loop_3:
-    if (r3_0 == a3) goto after_1;
-    r23 = a2 + (size_t)(r3_0 * 24);
-    uint32_t r5 = load32(r23);
-    r7 = (uint64_t)r5;
-    if (a1 < r7) goto after_7;
-    uint32_t r11 = load32(r23 + 16);
-    uint64_t r15 = load64(r23 + 8);
-    if (a1 < ((r15 * (uint64_t)r11) + r7)) goto then_8;
-    goto after_7;
+    while (r3_0 != a3) {
+        r23 = a2 + ((size_t)r3_0 * 24);
+        uint32_t r5 = load32(r23);
+        r7 = (size_t)r5;
+        if (a1 >= (uint64_t)r7) {
+            uint32_t r11 = load32(r23 + 16);
+            uint64_t r15 = load64(r23 + 8);
+            if (a1 < ((r15 * (uint64_t)(size_t)r11) + (uint64_t)r7)) goto then_8;
+        }
+        r3_0 = r3_0 + 1;
+    }
+    memset(a0, 0, 32);
+    return;
 then_8:
     memcpy(r0_5, r23, 24);
     store64(a0, 1);
     memcpy(a0 + 8, r0_5, 24);
     return;
-after_7:
-    r3_0 = r3_0 + 1;
-    goto loop_3;
-after_1:
-    memset(a0, 0, 32);
-    return;
 }
 
-/* dfuse_host::asking::address_command */
-static void dfuse_host_asking_address_command(unsigned char *a0, uint8_t a1, uint64_t a2) {
+/* dfuse_host::asking::address_command: crates/dfuse_host/src/asking.rt */
+static void dfuse_host_asking_address_command(unsigned char *a0, uint8_t a1, size_t a2) {
     _Alignas(8) unsigned char r17[8];
     _Alignas(4) unsigned char r18[6];
     store64(r17, 0);
@@ -5090,153 +4598,147 @@ static void dfuse_host_asking_address_command(unsigned char *a0, uint8_t a1, uin
     return;
 }
 
-/* dfuse_host::plan::Plan::end_of_work */
+/* dfuse_host::plan::Plan::end_of_work: crates/dfuse_host/src/command.rt */
 static uint64_t dfuse_host_plan_Plan_end_of_work(unsigned char *a0, unsigned char *a1) {
     uint64_t r9_0;
     uint8_t r2 = *a1;
     switch (r2) {
-    case 1: goto after_2;
-    case 2: goto after_2;
-    case 0: goto arm_5;
-    case 3: goto arm_5;
-    case 4: goto arm_6;
-    case 5: goto arm_6;
+    case 1:
+    case 2: {
+        uint64_t r1_4_16_copyload = load64(a1 + 16);
+        r9_0 = r1_4_16_copyload;
+        break;
+    }
+    case 0:
+    case 3: {
+        size_t r10_0_0_copyload = (size_t)load64(a0 + 8);
+        uint64_t r10_3_0_copyload = load64(a0 + 16);
+        uint64_t r20 = dfuse_host_image_image_end((unsigned char *)(uintptr_t)r10_0_0_copyload, r10_3_0_copyload);
+        r9_0 = r20;
+        break;
+    }
+    case 4:
+    case 5: {
+        uint64_t r21 = dfuse_host_plan_Plan_front_end(a0);
+        r9_0 = r21;
+        break;
+    }
     case 6:
         r9_0 = 0;
-        goto after_1;
+        break;
     default: never();
     }
-arm_5:;
-    uint64_t r10_0_0_copyload = load64(a0 + 8);
-    uint64_t r10_3_0_copyload = load64(a0 + 16);
-    uint64_t r20 = dfuse_host_image_image_end((unsigned char *)(uintptr_t)r10_0_0_copyload, r10_3_0_copyload);
-    r9_0 = r20;
-    goto after_1;
-arm_6:;
-    uint64_t r21 = dfuse_host_plan_Plan_front_end(a0);
-    r9_0 = r21;
-    goto after_1;
-after_2:;
-    uint64_t r1_4_16_copyload = load64(a1 + 16);
-    r9_0 = r1_4_16_copyload;
-after_1:
     return r9_0;
 }
 
-/* dfuse_host::image::image_end */
+/* dfuse_host::image::image_end: crates/dfuse_host/src/image.rt */
 static uint64_t dfuse_host_image_image_end(unsigned char *a0, uint64_t a1) {
     uint64_t r4_0, r3_0;
     r4_0 = 0;
     r3_0 = 0;
-loop_3:
-    if (r4_0 == a1) goto after_1;
-    unsigned char *r23 = a0 + (size_t)(r4_0 * 24);
-    uint32_t r5 = load32(r23);
-    uint64_t r10 = load64(r23 + 16);
-    r4_0 = r4_0 + 1;
-    r3_0 = umax64(r3_0, r10 + (uint64_t)r5);
-    goto loop_3;
-after_1:
+    while (r4_0 != a1) {
+        unsigned char *r23 = a0 + ((size_t)r4_0 * 24);
+        uint32_t r5 = load32(r23);
+        uint64_t r10 = load64(r23 + 16);
+        r4_0 = r4_0 + 1;
+        r3_0 = umax64(r3_0, r10 + (uint64_t)(size_t)r5);
+    }
     return r3_0;
 }
 
-/* dfuse_host::plan::Plan::front_end */
+/* dfuse_host::plan::Plan::front_end: crates/dfuse_host/src/plan.rt */
 static uint64_t dfuse_host_plan_Plan_front_end(unsigned char *a0) {
-    uint64_t common_ret_op;
+    size_t common_ret_op;
     uint64_t r2_3_0_copyload = load64(a0 + 16);
-    if (r2_3_0_copyload == 0) {
-        common_ret_op = 0;
-        goto dfuse_host_image_image_start_exit;
+    if (r2_3_0_copyload == 0) common_ret_op = 0;
+    else {
+        size_t r2_0_0_copyload = (size_t)load64(a0 + 8);
+        uint32_t r18 = load32((unsigned char *)(uintptr_t)r2_0_0_copyload);
+        common_ret_op = (size_t)r18;
     }
-    uint64_t r2_0_0_copyload = load64(a0 + 8);
-    uint32_t r18 = load32((unsigned char *)(uintptr_t)r2_0_0_copyload);
-    common_ret_op = (uint64_t)r18;
-dfuse_host_image_image_start_exit:;
     uint16_t r15 = load16(a0 + 26);
     uint64_t r22 = dfuse_host_plan_Plan_element_end(a0, common_ret_op);
     uint64_t r24 = dfuse_host_plan_Plan_page_end(a0, common_ret_op);
-    return umin64(umin64(r24, r22), common_ret_op + (uint64_t)r15);
+    return umin64(umin64(r24, r22), (uint64_t)common_ret_op + (uint64_t)(size_t)r15);
 }
 
-/* dfuse_host::plan::Plan::element_end */
+/* dfuse_host::plan::Plan::element_end: crates/dfuse_host/src/plan.rt */
 static uint64_t dfuse_host_plan_Plan_element_end(unsigned char *a0, uint64_t a1) {
     _Alignas(8) unsigned char r2[32];
-    uint64_t r3_0_0_copyload = load64(a0 + 8);
+    size_t r3_0_0_copyload = (size_t)load64(a0 + 8);
     uint64_t r3_3_0_copyload = load64(a0 + 16);
     dfuse_host_image_element_at(r2, a1, (unsigned char *)(uintptr_t)r3_0_0_copyload, r3_3_0_copyload);
     uint8_t r10 = *r2;
     uint32_t r1_0_0_copyload = load32(r2 + 8);
     uint64_t r1_31_0_copyload = load64(r2 + 24);
-    return (uint64_t)((r10 == 0) ? a1 : (r1_31_0_copyload + (uint64_t)r1_0_0_copyload));
+    return (uint64_t)((r10 == 0) ? a1 : (r1_31_0_copyload + (uint64_t)(size_t)r1_0_0_copyload));
 }
 
-/* dfuse_host::image::element_at */
+/* dfuse_host::image::element_at: crates/dfuse_host/src/image.rt */
 static void dfuse_host_image_element_at(unsigned char *a0, uint64_t a1, unsigned char *a2, uint64_t a3) {
     _Alignas(8) unsigned char r0_5[24];
-    uint64_t r3_0, r7;
+    uint64_t r3_0;
     unsigned char *r23;
+    size_t r7;
     r3_0 = 0;
-loop_3:
-    if (r3_0 == a3) goto after_1;
-    r23 = a2 + (size_t)(r3_0 * 24);
-    uint32_t r5 = load32(r23);
-    r7 = (uint64_t)r5;
-    if (a1 < r7) goto after_7;
-    uint64_t r10 = load64(r23 + 16);
-    if (a1 < (r10 + r7)) goto then_8;
-    goto after_7;
+    while (r3_0 != a3) {
+        r23 = a2 + ((size_t)r3_0 * 24);
+        uint32_t r5 = load32(r23);
+        r7 = (size_t)r5;
+        if (a1 >= (uint64_t)r7) {
+            uint64_t r10 = load64(r23 + 16);
+            if (a1 < (r10 + (uint64_t)r7)) goto then_8;
+        }
+        r3_0 = r3_0 + 1;
+    }
+    memset(a0, 0, 32);
+    return;
 then_8:
     memcpy(r0_5, r23, 24);
     store64(a0, 1);
     memcpy(a0 + 8, r0_5, 24);
     return;
-after_7:
-    r3_0 = r3_0 + 1;
-    goto loop_3;
-after_1:
-    memset(a0, 0, 32);
-    return;
 }
 
-/* dfuse_host::plan::Plan::page_end */
+/* dfuse_host::plan::Plan::page_end: crates/dfuse_host/src/plan.rt */
 static uint64_t dfuse_host_plan_Plan_page_end(unsigned char *a0, uint64_t a1) {
     _Alignas(8) unsigned char r2[32];
     dfuse_host_plan_Plan_page_of(r2, a0, a1);
     uint8_t r5 = *r2;
     uint32_t r1_0_0_copyload = load32(r2 + 8);
     uint64_t r1_31_0_copyload = load64(r2 + 16);
-    return (uint64_t)((r5 == 0) ? a1 : (r1_31_0_copyload + (uint64_t)r1_0_0_copyload));
+    return (uint64_t)((r5 == 0) ? a1 : (r1_31_0_copyload + (uint64_t)(size_t)r1_0_0_copyload));
 }
 
-/* dfuse_host::plan::Plan::write_end */
+/* dfuse_host::plan::Plan::write_end: crates/dfuse_host/src/plan.rt */
 static uint64_t dfuse_host_plan_Plan_write_end(unsigned char *a0, uint64_t a1, uint64_t a2) {
     uint16_t r4 = load16(a0 + 24);
     uint64_t r10 = dfuse_host_plan_Plan_element_end(a0, a1);
     uint64_t r11 = dfuse_host_plan_Plan_page_end(a0, a1);
-    return umin64(umin64(a2, umin64(r11, r10)), uadd_sat64((uint64_t)umax16(r4, 1), a1));
+    return umin64(umin64(a2, umin64(r11, r10)), uadd_sat64((size_t)umax16(r4, 1), a1));
 }
 
-/* dfuse_host::plan::Plan::bytes_in */
+/* dfuse_host::plan::Plan::bytes_in: crates/dfuse_host/src/asking.rt */
 static struct ptr_i64 dfuse_host_plan_Plan_bytes_in(unsigned char *a0, uint64_t a1, uint64_t a2) {
     _Alignas(8) unsigned char r4[32];
     uint64_t r0_4_0;
     unsigned char *r0_0_0;
-    uint64_t r5_0_0_copyload = load64(a0 + 8);
+    size_t r5_0_0_copyload = (size_t)load64(a0 + 8);
     uint64_t r5_3_0_copyload = load64(a0 + 16);
     dfuse_host_image_element_at(r4, a1, (unsigned char *)(uintptr_t)r5_0_0_copyload, r5_3_0_copyload);
     uint8_t r21 = *r4;
     if (r21 != 1) {
         r0_4_0 = 0;
         r0_0_0 = PLACE(static_20);
-        goto return_5;
     }
-    uint32_t r1_0_0_copyload = load32(r4 + 8);
-    uint64_t r1_34_0_copyload = load64(r4 + 16);
-    uint64_t r1_4_0_copyload = load64(r4 + 24);
-    uint64_t r31 = a1 - (uint64_t)r1_0_0_copyload;
-    r0_4_0 = umin64(usub_sat64(a2, a1), r1_4_0_copyload - r31);
-    r0_0_0 = (unsigned char *)(uintptr_t)r1_34_0_copyload + (size_t)r31;
-return_5:;
+    else {
+        uint32_t r1_0_0_copyload = load32(r4 + 8);
+        size_t r1_34_0_copyload = (size_t)load64(r4 + 16);
+        uint64_t r1_4_0_copyload = load64(r4 + 24);
+        uint64_t r31 = a1 - (uint64_t)(size_t)r1_0_0_copyload;
+        r0_4_0 = umin64(usub_sat64(a2, a1), r1_4_0_copyload - r31);
+        r0_0_0 = (unsigned char *)(uintptr_t)r1_34_0_copyload + (size_t)r31;
+    }
     struct ptr_i64 r49_half = (struct ptr_i64){ 0, 0 };
     r49_half.a = r0_0_0;
     struct ptr_i64 r49 = r49_half;
@@ -5244,11 +4746,11 @@ return_5:;
     return r49;
 }
 
-/* dfuse_host::plan::Plan::read_bytes */
+/* dfuse_host::plan::Plan::read_bytes: crates/dfuse_host/src/asking.rt */
 static struct ptr_i64 dfuse_host_plan_Plan_read_bytes(unsigned char *a0, unsigned char *a1) {
     _Alignas(8) unsigned char r1[24];
     uint8_t r2 = *a1;
-    store64(r1, (uint64_t)r2);
+    store64(r1, (size_t)r2);
     uint64_t v0 = load64(a1 + 8);
     store64(r1 + 8, v0);
     uint64_t v1 = load64(a1 + 16);
@@ -5260,14 +4762,14 @@ static struct ptr_i64 dfuse_host_plan_Plan_read_bytes(unsigned char *a0, unsigne
     return r18;
 }
 
-/* dfuse_host::plan::Plan::read_end */
+/* dfuse_host::plan::Plan::read_end: crates/dfuse_host/src/plan.rt */
 static uint64_t dfuse_host_plan_Plan_read_end(unsigned char *a0, uint64_t a1, uint64_t a2) {
     uint16_t r4 = load16(a0 + 24);
     uint64_t r8 = dfuse_host_plan_Plan_element_end(a0, a1);
-    return umin64(umin64(a2, r8), uadd_sat64((uint64_t)umax16(r4, 1), a1));
+    return umin64(umin64(a2, r8), uadd_sat64((size_t)umax16(r4, 1), a1));
 }
 
-/* dfuse_host::asking::download */
+/* dfuse_host::asking::download: crates/dfuse_host/src/asking.rt */
 static void dfuse_host_asking_download(unsigned char *a0, unsigned char *a1, uint64_t a2) {
     _Alignas(8) unsigned char r5[8];
     _Alignas(4) unsigned char r6[6];
@@ -5280,72 +4782,64 @@ static void dfuse_host_asking_download(unsigned char *a0, unsigned char *a1, uin
     *a0 = 0;
     store64u(a0 + 1, r0_3_1_copyload);
     memset(a0 + 9, 0, 5);
-    store64(a0 + 16, (uint64_t)(uintptr_t)a1);
+    store64(a0 + 16, (size_t)(uintptr_t)a1);
     store64(a0 + 24, a2);
     return;
 }
 
-/* dfu_host_c::dfuse::action::send */
-static uint32_t dfu_host_c_dfuse_action_send(unsigned char *a0, unsigned char *a1, uint64_t a2, unsigned char *a3, uint64_t a4, unsigned char *a5) {
+/* dfu_host_c::dfuse::action::send: crates/dfu_host_c/src/dfuse/action.rt */
+static uint32_t dfu_host_c_dfuse_action_send(unsigned char *a0, unsigned char *a1, uint64_t a2, unsigned char *a3, size_t a4, unsigned char *a5) {
     uint32_t common_ret_op;
-    if (a4 >= a2) goto join_3;
-    common_ret_op = 0xffffffd5U;
-common_ret:
+    if ((uint64_t)a4 < a2) common_ret_op = 0xffffffd5U;
+    else {
+        uint64_t r1_0_0_copyload = load64(a0);
+        core_slice_edits_slice_T_copy_from_slice_i8_core_clone_U8Clone(a3, a1, (size_t)a2);
+        store64(a5, a2);
+        store32(a5 + 8, 0);
+        store32(a5 + 12, 0);
+        store32(a5 + 16, 0);
+        store64a4(a5 + 20, r1_0_0_copyload);
+        store32(a5 + 28, 0);
+        common_ret_op = 0;
+    }
     return common_ret_op;
-join_3:;
-    uint64_t r1_0_0_copyload = load64(a0);
-    core_slice_edits_slice_T_copy_from_slice_i8_core_clone_U8Clone(a3, a1, a2);
-    store64(a5, a2);
-    store32(a5 + 8, 0);
-    store32(a5 + 12, 0);
-    store32(a5 + 16, 0);
-    store64a4(a5 + 20, r1_0_0_copyload);
-    store32(a5 + 28, 0);
-    common_ret_op = 0;
-    goto common_ret;
 }
 
-/* dfu_host_c::dfuse::reports::report_numbers */
+/* dfu_host_c::dfuse::reports::report_numbers: crates/dfu_host_c/src/dfuse/reports.rt */
 static struct i32_i32 dfu_host_c_dfuse_reports_report_numbers(uint8_t a0, uint8_t a1) {
     uint32_t r5_0_0;
     uint8_t r5_9_0_shrunk;
     switch (a0) {
-    case 0: goto arm_1;
+    case 0:
+        r5_0_0 = 1;
+        r5_9_0_shrunk = a1;
+        break;
     case 1:
         r5_0_0 = 2;
         r5_9_0_shrunk = 0;
-        goto join_9;
-    case 2: goto arm_3;
-    case 3: goto arm_4;
-    case 4: goto arm_5;
-    case 5: goto arm_6;
-    case 6: goto arm_7;
+        break;
+    case 2:
+        r5_0_0 = 3;
+        r5_9_0_shrunk = a1;
+        break;
+    case 3:
+        r5_0_0 = 4;
+        r5_9_0_shrunk = 0;
+        break;
+    case 4:
+        r5_0_0 = 5;
+        r5_9_0_shrunk = 0;
+        break;
+    case 5:
+        r5_0_0 = 6;
+        r5_9_0_shrunk = 0;
+        break;
+    case 6:
+        r5_0_0 = 7;
+        r5_9_0_shrunk = 0;
+        break;
     default: never();
     }
-arm_1:
-    r5_0_0 = 1;
-    r5_9_0_shrunk = a1;
-    goto join_9;
-arm_3:
-    r5_0_0 = 3;
-    r5_9_0_shrunk = a1;
-    goto join_9;
-arm_4:
-    r5_0_0 = 4;
-    r5_9_0_shrunk = 0;
-    goto join_9;
-arm_5:
-    r5_0_0 = 5;
-    r5_9_0_shrunk = 0;
-    goto join_9;
-arm_6:
-    r5_0_0 = 6;
-    r5_9_0_shrunk = 0;
-    goto join_9;
-arm_7:
-    r5_0_0 = 7;
-    r5_9_0_shrunk = 0;
-join_9:;
     struct i32_i32 r24_half = (struct i32_i32){ 0, 0 };
     r24_half.a = r5_0_0;
     struct i32_i32 r24 = r24_half;
@@ -5353,7 +4847,7 @@ join_9:;
     return r24;
 }
 
-/* dfuse_host::plan::Plan::grants */
+/* dfuse_host::plan::Plan::grants: crates/dfuse_host/src/refusing.rt */
 static uint8_t dfuse_host_plan_Plan_grants(unsigned char *a0, unsigned char *a1) {
     _Alignas(8) unsigned char r7[32];
     uint64_t r2_3_0_copyload, r3_0, r14, r4, r4_0, r5_36_0_copyload;
@@ -5364,7 +4858,7 @@ static uint8_t dfuse_host_plan_Plan_grants(unsigned char *a0, unsigned char *a1)
     uint8_t r1_0_0_copyload = *a1;
     uint8_t r1_3_0_copyload = a1[1];
     uint8_t r1_4_0_copyload = a1[2];
-    uint64_t r2_0_0_copyload = load64(a0 + 8);
+    size_t r2_0_0_copyload = (size_t)load64(a0 + 8);
     r2_3_0_copyload = load64(a0 + 16);
     r26 = (unsigned char *)(uintptr_t)r2_0_0_copyload;
     r21 = r7 + 8;
@@ -5377,51 +4871,49 @@ static uint8_t dfuse_host_plan_Plan_grants(unsigned char *a0, unsigned char *a1)
     r31 = !(r1_3_0_copyload & 1);
     r50 = !(r1_4_0_copyload & 1);
     r3_0 = 0;
-loop_2_2:
-    if (r3_0 == r2_3_0_copyload) {
-        r3_04 = 1;
-        goto common_ret;
+    for (;;) {
+        if (r3_0 == r2_3_0_copyload) {
+            r3_04 = 1;
+            goto common_ret;
+        }
+        unsigned char *r28 = r26 + ((size_t)r3_0 * 24);
+        size_t r30_wide = (size_t)load64(a0);
+        unsigned char *r30 = (unsigned char *)(uintptr_t)r30_wide;
+        uint32_t r32 = load32(r28);
+        size_t r34 = (size_t)r32;
+        uint64_t r10 = load64(r28 + 16);
+        r14 = r10 + (uint64_t)r34;
+        r5 = r30 + 16;
+        r4 = load64(r30 + 784);
+        r4_0 = r34;
+        while (r4_0 < r14) {
+            dfuse_memory_lookups_range_at(r7, r4_0, r5, r4);
+            uint8_t r20 = *r7;
+            if (r20 != 1) goto dfuse_memory_map_Map_grants_exit_thread;
+            r5_0_0_copyload = load32(r21);
+            r5_36_0_copyload = load64(r5_36_0_r21_sroa_idx);
+            r5_4_0_copyload = load32(r5_4_0_r21_sroa_idx);
+            uint8_t r5_5_0_copyload = *r5_5_0_r21_sroa_idx;
+            uint8_t r5_6_0_copyload = *r5_6_0_r21_sroa_idx;
+            r5_7_0_copyload = *r5_7_0_r21_sroa_idx;
+            or_cond_old = (r5_6_0_copyload & 1) ? 1 : r31;
+            if (r5_5_0_copyload & 1) {
+                if (!(or_cond_old ? ((r5_7_0_copyload & 1) ? 1 : r50) : 0)) goto dfuse_memory_map_Map_grants_exit_thread;
+            }
+            else {
+                if (!((r15 ? or_cond_old : 0) ? ((r5_7_0_copyload & 1) ? 1 : r50) : 0)) goto dfuse_memory_map_Map_grants_exit_thread;
+            }
+            r4_0 = (r5_36_0_copyload * (uint64_t)(size_t)r5_4_0_copyload) + (uint64_t)(size_t)r5_0_0_copyload;
+        }
+        r3_0 = r3_0 + 1;
     }
-    unsigned char *r28 = r26 + (size_t)(r3_0 * 24);
-    uint64_t r30_wide = load64(a0);
-    unsigned char *r30 = (unsigned char *)(uintptr_t)r30_wide;
-    uint32_t r32 = load32(r28);
-    uint64_t r34 = (uint64_t)r32;
-    uint64_t r10 = load64(r28 + 16);
-    r14 = r10 + r34;
-    r5 = r30 + 16;
-    r4 = load64(r30 + 784);
-    r4_0 = r34;
-loop_2:
-    if (r4_0 >= r14) goto after_6;
-    dfuse_memory_lookups_range_at(r7, r4_0, r5, r4);
-    uint8_t r20 = *r7;
-    if (r20 != 1) goto dfuse_memory_map_Map_grants_exit_thread;
-    r5_0_0_copyload = load32(r21);
-    r5_36_0_copyload = load64(r5_36_0_r21_sroa_idx);
-    r5_4_0_copyload = load32(r5_4_0_r21_sroa_idx);
-    uint8_t r5_5_0_copyload = *r5_5_0_r21_sroa_idx;
-    uint8_t r5_6_0_copyload = *r5_6_0_r21_sroa_idx;
-    r5_7_0_copyload = *r5_7_0_r21_sroa_idx;
-    or_cond_old = (r5_6_0_copyload & 1) ? 1 : r31;
-    if (r5_5_0_copyload & 1) goto then_4;
-    if ((r15 ? or_cond_old : 0) ? ((r5_7_0_copyload & 1) ? 1 : r50) : 0) goto then_12;
-    goto dfuse_memory_map_Map_grants_exit_thread;
-then_4:
-    if (!(or_cond_old ? ((r5_7_0_copyload & 1) ? 1 : r50) : 0)) goto dfuse_memory_map_Map_grants_exit_thread;
-then_12:
-    r4_0 = (r5_36_0_copyload * (uint64_t)r5_4_0_copyload) + (uint64_t)r5_0_0_copyload;
-    goto loop_2;
 dfuse_memory_map_Map_grants_exit_thread:
     r3_04 = r3_0 >= r2_3_0_copyload;
 common_ret:
     return r3_04;
-after_6:
-    r3_0 = r3_0 + 1;
-    goto loop_2_2;
 }
 
-/* dfu_host_c::dfuse::holding::record_of */
+/* dfu_host_c::dfuse::holding::record_of: crates/dfu_host_c/src/dfuse/holding.rt */
 static void dfu_host_c_dfuse_holding_record_of(unsigned char *a0, unsigned char *a1) {
     uint64_t r2_92_8_copyload, r2_10_8_copyload, r2_123_8_copyload, r16_91_0, r16_16_0, r6_51_0, r12_5_0, r12_7_0, r12_12_0;
     uint8_t r2_11_8_copyload, r2_13_8_copyload;
@@ -5433,251 +4925,228 @@ static void dfu_host_c_dfuse_holding_record_of(unsigned char *a0, unsigned char 
     r2_123_8_copyload = load64(a1 + 80);
     r2_13_8_copyload = a1[88];
     r2_144_8_copyload = load32(a1 + 92);
-    if (v0 != 0) goto arm_2;
-    uint8_t r2_71_8_copyload = a1[48];
-    switch (r2_71_8_copyload) {
-    case 0:
-        r16_0_0 = 0;
-        r16_91_0 = r2_92_8_copyload;
-        r16_16_0 = 0;
-        goto dfu_host_c_dfuse_phases_work_numbers_exit;
-    case 1: goto arm_2_2;
-    case 2: goto arm_3;
-    case 3: goto arm_4;
-    case 4: goto arm_5;
-    case 5: goto arm_6;
-    case 6: goto arm_7;
-    default: never();
-    }
-arm_2_2:
-    r16_0_0 = 1;
-    r16_91_0 = r2_92_8_copyload;
-    r16_16_0 = r2_10_8_copyload;
-    goto dfu_host_c_dfuse_phases_work_numbers_exit;
-arm_3:
-    r16_0_0 = 2;
-    r16_91_0 = r2_92_8_copyload;
-    r16_16_0 = r2_10_8_copyload;
-    goto dfu_host_c_dfuse_phases_work_numbers_exit;
-arm_4:
-    r16_0_0 = 3;
-    r16_91_0 = r2_92_8_copyload;
-    r16_16_0 = 0;
-    goto dfu_host_c_dfuse_phases_work_numbers_exit;
-arm_5:
-    r16_0_0 = 4;
-    r16_91_0 = r2_92_8_copyload;
-    r16_16_0 = 0;
-    goto dfu_host_c_dfuse_phases_work_numbers_exit;
-arm_6:
-    r16_0_0 = 5;
-    r16_91_0 = r2_92_8_copyload;
-    r16_16_0 = 0;
-    goto dfu_host_c_dfuse_phases_work_numbers_exit;
-arm_7:
-    r16_0_0 = 6;
-    r16_91_0 = 0;
-    r16_16_0 = 0;
-    goto dfu_host_c_dfuse_phases_work_numbers_exit;
-dfu_host_c_dfuse_phases_work_numbers_exit:
-    switch (r2_11_8_copyload) {
-    case 0:
-        r6_0_0 = 0;
-        r6_51_0 = 0;
-        goto dfu_host_c_dfuse_phases_place_numbers_exit;
-    case 1: goto arm_2_3;
-    case 2: goto arm_3_2;
-    default: never();
-    }
-arm_2_3:
-    r6_0_0 = 1;
-    r6_51_0 = r2_123_8_copyload;
-    goto dfu_host_c_dfuse_phases_place_numbers_exit;
-arm_3_2:
-    r6_0_0 = 2;
-    r6_51_0 = r2_123_8_copyload;
-    goto dfu_host_c_dfuse_phases_place_numbers_exit;
-dfu_host_c_dfuse_phases_place_numbers_exit:
-    switch (r2_13_8_copyload) {
-    case 0:
-        r12_0_0 = r16_0_0;
-        r12_5_0 = r16_91_0;
-        r12_7_0 = r16_16_0;
-        r12_9_0 = r6_0_0;
-        r12_12_0 = r6_51_0;
+    if (v0 != 0) {
+        uint8_t v2 = a1[42];
+        uint8_t v3 = a1[41];
+        struct i32_i32 r22 = dfu_host_c_dfuse_reports_report_numbers(v3, v2);
+        r12_0_0 = 7;
+        r12_5_0 = 0;
+        r12_7_0 = 0;
+        r12_9_0 = 0;
+        r12_12_0 = 0;
         r12_14_0 = 0;
-        r12_16_0 = 0;
-        r12_18_0 = 0;
-        goto dfu_host_c_dfuse_phases_numbers_of_exit;
-    case 1: goto arm_2_4;
-    case 2: goto arm_3_3;
-    case 3: goto arm_4_2;
-    case 4: goto arm_5_2;
-    case 5: goto arm_6_2;
-    case 6: goto arm_7_2;
-    case 7: goto arm_8;
-    case 8: goto arm_9;
-    case 9: goto arm_10;
-    case 10: goto arm_11;
-    case 11: goto arm_12;
-    case 12: goto arm_13;
-    case 13: goto arm_14;
-    case 14: goto arm_15;
-    default: never();
+        r12_16_0 = r22.b;
+        r12_18_0 = r22.a;
     }
-arm_2_4:
-    r12_0_0 = r16_0_0;
-    r12_5_0 = r16_91_0;
-    r12_7_0 = r16_16_0;
-    r12_9_0 = r6_0_0;
-    r12_12_0 = r6_51_0;
-    r12_14_0 = 1;
-    r12_16_0 = 0;
-    r12_18_0 = 0;
-    goto dfu_host_c_dfuse_phases_numbers_of_exit;
-arm_3_3:
-    r12_0_0 = r16_0_0;
-    r12_5_0 = r16_91_0;
-    r12_7_0 = r16_16_0;
-    r12_9_0 = r6_0_0;
-    r12_12_0 = r6_51_0;
-    r12_14_0 = 2;
-    r12_16_0 = 0;
-    r12_18_0 = 0;
-    goto dfu_host_c_dfuse_phases_numbers_of_exit;
-arm_4_2:
-    r12_0_0 = r16_0_0;
-    r12_5_0 = r16_91_0;
-    r12_7_0 = r16_16_0;
-    r12_9_0 = r6_0_0;
-    r12_12_0 = r6_51_0;
-    r12_14_0 = 3;
-    r12_16_0 = r2_144_8_copyload;
-    r12_18_0 = 0;
-    goto dfu_host_c_dfuse_phases_numbers_of_exit;
-arm_5_2:
-    r12_0_0 = r16_0_0;
-    r12_5_0 = r16_91_0;
-    r12_7_0 = r16_16_0;
-    r12_9_0 = r6_0_0;
-    r12_12_0 = r6_51_0;
-    r12_14_0 = 4;
-    r12_16_0 = 0;
-    r12_18_0 = 0;
-    goto dfu_host_c_dfuse_phases_numbers_of_exit;
-arm_6_2:
-    r12_0_0 = r16_0_0;
-    r12_5_0 = r16_91_0;
-    r12_7_0 = r16_16_0;
-    r12_9_0 = r6_0_0;
-    r12_12_0 = r6_51_0;
-    r12_14_0 = 5;
-    r12_16_0 = 0;
-    r12_18_0 = 0;
-    goto dfu_host_c_dfuse_phases_numbers_of_exit;
-arm_7_2:
-    r12_0_0 = r16_0_0;
-    r12_5_0 = r16_91_0;
-    r12_7_0 = r16_16_0;
-    r12_9_0 = r6_0_0;
-    r12_12_0 = r6_51_0;
-    r12_14_0 = 6;
-    r12_16_0 = 0;
-    r12_18_0 = 0;
-    goto dfu_host_c_dfuse_phases_numbers_of_exit;
-arm_8:
-    r12_0_0 = r16_0_0;
-    r12_5_0 = r16_91_0;
-    r12_7_0 = r16_16_0;
-    r12_9_0 = r6_0_0;
-    r12_12_0 = r6_51_0;
-    r12_14_0 = 7;
-    r12_16_0 = r2_144_8_copyload;
-    r12_18_0 = 0;
-    goto dfu_host_c_dfuse_phases_numbers_of_exit;
-arm_9:
-    r12_0_0 = r16_0_0;
-    r12_5_0 = r16_91_0;
-    r12_7_0 = r16_16_0;
-    r12_9_0 = r6_0_0;
-    r12_12_0 = r6_51_0;
-    r12_14_0 = 8;
-    r12_16_0 = r2_144_8_copyload;
-    r12_18_0 = 0;
-    goto dfu_host_c_dfuse_phases_numbers_of_exit;
-arm_10:
-    r12_0_0 = r16_0_0;
-    r12_5_0 = r16_91_0;
-    r12_7_0 = r16_16_0;
-    r12_9_0 = r6_0_0;
-    r12_12_0 = r6_51_0;
-    r12_14_0 = 9;
-    r12_16_0 = 0;
-    r12_18_0 = 0;
-    goto dfu_host_c_dfuse_phases_numbers_of_exit;
-arm_11:
-    r12_0_0 = r16_0_0;
-    r12_5_0 = r16_91_0;
-    r12_7_0 = r16_16_0;
-    r12_9_0 = r6_0_0;
-    r12_12_0 = r6_51_0;
-    r12_14_0 = 10;
-    r12_16_0 = 0;
-    r12_18_0 = 0;
-    goto dfu_host_c_dfuse_phases_numbers_of_exit;
-arm_12:
-    r12_0_0 = r16_0_0;
-    r12_5_0 = r16_91_0;
-    r12_7_0 = r16_16_0;
-    r12_9_0 = r6_0_0;
-    r12_12_0 = r6_51_0;
-    r12_14_0 = 11;
-    r12_16_0 = 0;
-    r12_18_0 = 0;
-    goto dfu_host_c_dfuse_phases_numbers_of_exit;
-arm_13:
-    r12_0_0 = r16_0_0;
-    r12_5_0 = r16_91_0;
-    r12_7_0 = r16_16_0;
-    r12_9_0 = r6_0_0;
-    r12_12_0 = r6_51_0;
-    r12_14_0 = 12;
-    r12_16_0 = 0;
-    r12_18_0 = 0;
-    goto dfu_host_c_dfuse_phases_numbers_of_exit;
-arm_14:
-    r12_0_0 = r16_0_0;
-    r12_5_0 = r16_91_0;
-    r12_7_0 = r16_16_0;
-    r12_9_0 = r6_0_0;
-    r12_12_0 = r6_51_0;
-    r12_14_0 = 13;
-    r12_16_0 = 0;
-    r12_18_0 = 0;
-    goto dfu_host_c_dfuse_phases_numbers_of_exit;
-arm_15:
-    r12_0_0 = r16_0_0;
-    r12_5_0 = r16_91_0;
-    r12_7_0 = r16_16_0;
-    r12_9_0 = r6_0_0;
-    r12_12_0 = r6_51_0;
-    r12_14_0 = 14;
-    r12_16_0 = 0;
-    r12_18_0 = 0;
-    goto dfu_host_c_dfuse_phases_numbers_of_exit;
-arm_2:;
-    uint8_t v2 = a1[42];
-    uint8_t v3 = a1[41];
-    struct i32_i32 r22 = dfu_host_c_dfuse_reports_report_numbers(v3, v2);
-    r12_0_0 = 7;
-    r12_5_0 = 0;
-    r12_7_0 = 0;
-    r12_9_0 = 0;
-    r12_12_0 = 0;
-    r12_14_0 = 0;
-    r12_16_0 = r22.b;
-    r12_18_0 = r22.a;
-dfu_host_c_dfuse_phases_numbers_of_exit:;
+    else {
+        uint8_t r2_71_8_copyload = a1[48];
+        switch (r2_71_8_copyload) {
+        case 0:
+            r16_0_0 = 0;
+            r16_91_0 = r2_92_8_copyload;
+            r16_16_0 = 0;
+            break;
+        case 1:
+            r16_0_0 = 1;
+            r16_91_0 = r2_92_8_copyload;
+            r16_16_0 = r2_10_8_copyload;
+            break;
+        case 2:
+            r16_0_0 = 2;
+            r16_91_0 = r2_92_8_copyload;
+            r16_16_0 = r2_10_8_copyload;
+            break;
+        case 3:
+            r16_0_0 = 3;
+            r16_91_0 = r2_92_8_copyload;
+            r16_16_0 = 0;
+            break;
+        case 4:
+            r16_0_0 = 4;
+            r16_91_0 = r2_92_8_copyload;
+            r16_16_0 = 0;
+            break;
+        case 5:
+            r16_0_0 = 5;
+            r16_91_0 = r2_92_8_copyload;
+            r16_16_0 = 0;
+            break;
+        case 6:
+            r16_0_0 = 6;
+            r16_91_0 = 0;
+            r16_16_0 = 0;
+            break;
+        default: never();
+        }
+        switch (r2_11_8_copyload) {
+        case 0:
+            r6_0_0 = 0;
+            r6_51_0 = 0;
+            break;
+        case 1:
+            r6_0_0 = 1;
+            r6_51_0 = r2_123_8_copyload;
+            break;
+        case 2:
+            r6_0_0 = 2;
+            r6_51_0 = r2_123_8_copyload;
+            break;
+        default: never();
+        }
+        switch (r2_13_8_copyload) {
+        case 0:
+            r12_0_0 = r16_0_0;
+            r12_5_0 = r16_91_0;
+            r12_7_0 = r16_16_0;
+            r12_9_0 = r6_0_0;
+            r12_12_0 = r6_51_0;
+            r12_14_0 = 0;
+            r12_16_0 = 0;
+            r12_18_0 = 0;
+            break;
+        case 1:
+            r12_0_0 = r16_0_0;
+            r12_5_0 = r16_91_0;
+            r12_7_0 = r16_16_0;
+            r12_9_0 = r6_0_0;
+            r12_12_0 = r6_51_0;
+            r12_14_0 = 1;
+            r12_16_0 = 0;
+            r12_18_0 = 0;
+            break;
+        case 2:
+            r12_0_0 = r16_0_0;
+            r12_5_0 = r16_91_0;
+            r12_7_0 = r16_16_0;
+            r12_9_0 = r6_0_0;
+            r12_12_0 = r6_51_0;
+            r12_14_0 = 2;
+            r12_16_0 = 0;
+            r12_18_0 = 0;
+            break;
+        case 3:
+            r12_0_0 = r16_0_0;
+            r12_5_0 = r16_91_0;
+            r12_7_0 = r16_16_0;
+            r12_9_0 = r6_0_0;
+            r12_12_0 = r6_51_0;
+            r12_14_0 = 3;
+            r12_16_0 = r2_144_8_copyload;
+            r12_18_0 = 0;
+            break;
+        case 4:
+            r12_0_0 = r16_0_0;
+            r12_5_0 = r16_91_0;
+            r12_7_0 = r16_16_0;
+            r12_9_0 = r6_0_0;
+            r12_12_0 = r6_51_0;
+            r12_14_0 = 4;
+            r12_16_0 = 0;
+            r12_18_0 = 0;
+            break;
+        case 5:
+            r12_0_0 = r16_0_0;
+            r12_5_0 = r16_91_0;
+            r12_7_0 = r16_16_0;
+            r12_9_0 = r6_0_0;
+            r12_12_0 = r6_51_0;
+            r12_14_0 = 5;
+            r12_16_0 = 0;
+            r12_18_0 = 0;
+            break;
+        case 6:
+            r12_0_0 = r16_0_0;
+            r12_5_0 = r16_91_0;
+            r12_7_0 = r16_16_0;
+            r12_9_0 = r6_0_0;
+            r12_12_0 = r6_51_0;
+            r12_14_0 = 6;
+            r12_16_0 = 0;
+            r12_18_0 = 0;
+            break;
+        case 7:
+            r12_0_0 = r16_0_0;
+            r12_5_0 = r16_91_0;
+            r12_7_0 = r16_16_0;
+            r12_9_0 = r6_0_0;
+            r12_12_0 = r6_51_0;
+            r12_14_0 = 7;
+            r12_16_0 = r2_144_8_copyload;
+            r12_18_0 = 0;
+            break;
+        case 8:
+            r12_0_0 = r16_0_0;
+            r12_5_0 = r16_91_0;
+            r12_7_0 = r16_16_0;
+            r12_9_0 = r6_0_0;
+            r12_12_0 = r6_51_0;
+            r12_14_0 = 8;
+            r12_16_0 = r2_144_8_copyload;
+            r12_18_0 = 0;
+            break;
+        case 9:
+            r12_0_0 = r16_0_0;
+            r12_5_0 = r16_91_0;
+            r12_7_0 = r16_16_0;
+            r12_9_0 = r6_0_0;
+            r12_12_0 = r6_51_0;
+            r12_14_0 = 9;
+            r12_16_0 = 0;
+            r12_18_0 = 0;
+            break;
+        case 10:
+            r12_0_0 = r16_0_0;
+            r12_5_0 = r16_91_0;
+            r12_7_0 = r16_16_0;
+            r12_9_0 = r6_0_0;
+            r12_12_0 = r6_51_0;
+            r12_14_0 = 10;
+            r12_16_0 = 0;
+            r12_18_0 = 0;
+            break;
+        case 11:
+            r12_0_0 = r16_0_0;
+            r12_5_0 = r16_91_0;
+            r12_7_0 = r16_16_0;
+            r12_9_0 = r6_0_0;
+            r12_12_0 = r6_51_0;
+            r12_14_0 = 11;
+            r12_16_0 = 0;
+            r12_18_0 = 0;
+            break;
+        case 12:
+            r12_0_0 = r16_0_0;
+            r12_5_0 = r16_91_0;
+            r12_7_0 = r16_16_0;
+            r12_9_0 = r6_0_0;
+            r12_12_0 = r6_51_0;
+            r12_14_0 = 12;
+            r12_16_0 = 0;
+            r12_18_0 = 0;
+            break;
+        case 13:
+            r12_0_0 = r16_0_0;
+            r12_5_0 = r16_91_0;
+            r12_7_0 = r16_16_0;
+            r12_9_0 = r6_0_0;
+            r12_12_0 = r6_51_0;
+            r12_14_0 = 13;
+            r12_16_0 = 0;
+            r12_18_0 = 0;
+            break;
+        case 14:
+            r12_0_0 = r16_0_0;
+            r12_5_0 = r16_91_0;
+            r12_7_0 = r16_16_0;
+            r12_9_0 = r6_0_0;
+            r12_12_0 = r6_51_0;
+            r12_14_0 = 14;
+            r12_16_0 = 0;
+            r12_18_0 = 0;
+            break;
+        default: never();
+        }
+    }
     uint32_t r19 = load32(a1 + 32);
     uint32_t r21 = load32(a1 + 96);
     uint16_t r23 = load16(a1 + 100);
@@ -5702,7 +5171,7 @@ dfu_host_c_dfuse_phases_numbers_of_exit:;
     return;
 }
 
-/* dfuse_host::session::Session::restarted_once */
+/* dfuse_host::session::Session::restarted_once: crates/dfuse_host/src/session.rt */
 static void dfuse_host_session_Session_restarted_once(unsigned char *a0, unsigned char *a1, unsigned char *a2) {
     _Alignas(8) unsigned char r3[104];
     _Alignas(8) unsigned char r0[104];
@@ -5716,7 +5185,8 @@ static void dfuse_host_session_Session_restarted_once(unsigned char *a0, unsigne
     _Alignas(8) unsigned char r9[24];
     uint16_t r1_5_0_copyload, v0;
     uint8_t r2_0_0_copyload, r2_5_0_copyload, r2_7_0_copyload, v1, v2, v3;
-    uint64_t r2_38_0_copyload, r2_4_0_copyload, r2_69_0_copyload, r15;
+    uint64_t r2_38_0_copyload, r2_4_0_copyload, r2_69_0_copyload;
+    size_t r15;
     memcpy(r1_0, a1, 100);
     r1_5_0_copyload = load16(a1 + 100);
     v0 = load16(a1 + 102);
@@ -5727,47 +5197,45 @@ static void dfuse_host_session_Session_restarted_once(unsigned char *a0, unsigne
     r2_69_0_copyload = load64(a2 + 32);
     r2_7_0_copyload = a2[40];
     memset(r8, 0, 56);
-    if (r1_5_0_copyload == 0) goto then_1;
-    goto join_3;
-then_1:
-    memcpy(r6, a1, 100);
-    store16(r6 + 100, 0);
-    store16(r6 + 102, v0);
-    *r8 = 1;
-    r8[1] = 5;
-    dfuse_host_session_Session_spent(r0, r6, r8, 0);
-    memcpy(a0, r0, 104);
-    return;
-join_3:
+    if (r1_5_0_copyload == 0) {
+        memcpy(r6, a1, 100);
+        store16(r6 + 100, 0);
+        store16(r6 + 102, v0);
+        *r8 = 1;
+        r8[1] = 5;
+        dfuse_host_session_Session_spent(r0, r6, r8, 0);
+        memcpy(a0, r0, 104);
+        return;
+    }
     memcpy(r3, a1, 100);
     store16(r3 + 100, r1_5_0_copyload);
     store16(r3 + 102, v0);
-    r15 = (uint64_t)r2_0_0_copyload;
-    if ((uint8_t)(r2_7_0_copyload + 249) >= 2) goto arm_2;
-    store64(r6_2, r15);
-    store64(r6_2 + 8, r2_38_0_copyload);
-    store64(r6_2 + 16, r2_4_0_copyload);
-    store64(r9, r15);
-    store64(r9 + 8, r2_38_0_copyload);
-    store64(r9 + 16, r2_4_0_copyload);
-    struct i8_i64 r35 = dfuse_host_plan_Plan_command_of(r3, r9, r2_5_0_copyload, r2_69_0_copyload);
-    dfuse_host_plan_Plan_unsure(r4, r3, r6_2, r35.a);
-    uint8_t pre = *r4;
-    uint8_t pre10 = r4[1];
-    uint8_t pre11 = r4[2];
-    v1 = pre11;
-    v2 = pre10;
-    v3 = pre;
-    goto dfuse_host_session_Session_resumed_exit;
-arm_2:
-    store64(r4 + 8, r15);
-    store64(r4 + 16, r2_38_0_copyload);
-    store64(r4 + 24, r2_4_0_copyload);
-    memset(r4 + 32, 0, 24);
-    v1 = 0;
-    v2 = 0;
-    v3 = 0;
-dfuse_host_session_Session_resumed_exit:
+    r15 = (size_t)r2_0_0_copyload;
+    if ((uint8_t)(r2_7_0_copyload + 249) >= 2) {
+        store64(r4 + 8, r15);
+        store64(r4 + 16, r2_38_0_copyload);
+        store64(r4 + 24, r2_4_0_copyload);
+        memset(r4 + 32, 0, 24);
+        v1 = 0;
+        v2 = 0;
+        v3 = 0;
+    }
+    else {
+        store64(r6_2, r15);
+        store64(r6_2 + 8, r2_38_0_copyload);
+        store64(r6_2 + 16, r2_4_0_copyload);
+        store64(r9, r15);
+        store64(r9 + 8, r2_38_0_copyload);
+        store64(r9 + 16, r2_4_0_copyload);
+        struct i8_i64 r35 = dfuse_host_plan_Plan_command_of(r3, r9, r2_5_0_copyload, r2_69_0_copyload);
+        dfuse_host_plan_Plan_unsure(r4, r3, r6_2, r35.a);
+        uint8_t pre = *r4;
+        uint8_t pre10 = r4[1];
+        uint8_t pre11 = r4[2];
+        v1 = pre11;
+        v2 = pre10;
+        v3 = pre;
+    }
     *r3_2 = v3;
     r3_2[1] = v2;
     r3_2[2] = v1;
@@ -5780,7 +5248,7 @@ dfuse_host_session_Session_resumed_exit:
     return;
 }
 
-/* dfuse_host::plan::Plan::unsure */
+/* dfuse_host::plan::Plan::unsure: crates/dfuse_host/src/command.rt */
 static void dfuse_host_plan_Plan_unsure(unsigned char *a0, unsigned char *a1, unsigned char *a2, uint8_t a3) {
     _Alignas(8) unsigned char r11_17[24];
     uint8_t r2, r11_0_0_0, r11_1014_0_in;
@@ -5788,160 +5256,139 @@ static void dfuse_host_plan_Plan_unsure(unsigned char *a0, unsigned char *a1, un
     r2 = *a2;
     v0 = load64(a2 + 8);
     v1 = load64(a2 + 16);
-    if (a3 == 2) goto arm_2;
-    memset(r11_17, 0, 24);
-    r11_1014_0_in = r2;
-    r11_13_0 = v0;
-    r11_15_0 = v1;
-    goto join_4;
-arm_2:
-    switch (r2) {
-    case 2: goto arm_1;
-    case 4: goto arm_2_2;
-    case 0:
-        r11_0_0_0 = r2;
-        r11_5_0 = v0;
-        r11_9_0 = v1;
-        goto dfuse_host_plan_Plan_again_exit;
-    case 1:
-        r11_0_0_0 = r2;
-        r11_5_0 = v0;
-        r11_9_0 = v1;
-        goto dfuse_host_plan_Plan_again_exit;
-    case 3:
-        r11_0_0_0 = r2;
-        r11_5_0 = v0;
-        r11_9_0 = v1;
-        goto dfuse_host_plan_Plan_again_exit;
-    case 5:
-        r11_0_0_0 = r2;
-        r11_5_0 = v0;
-        r11_9_0 = v1;
-        goto dfuse_host_plan_Plan_again_exit;
-    case 6:
-        r11_0_0_0 = r2;
-        r11_5_0 = v0;
-        r11_9_0 = v1;
-        goto dfuse_host_plan_Plan_again_exit;
-    default: never();
+    if (a3 != 2) {
+        memset(r11_17, 0, 24);
+        r11_1014_0_in = r2;
+        r11_13_0 = v0;
+        r11_15_0 = v1;
     }
-arm_1:;
-    uint64_t r24 = dfuse_host_plan_Plan_page_start(a1, v0);
-    r11_0_0_0 = 1;
-    r11_5_0 = r24;
-    r11_9_0 = v1;
-    goto dfuse_host_plan_Plan_again_exit;
-arm_2_2:;
-    uint64_t r32 = dfuse_host_plan_Plan_page_start(a1, v0);
-    uint64_t r34 = dfuse_host_plan_Plan_page_end(a1, v0);
-    uint64_t r17_0_0_copyload = load64(a1 + 8);
-    uint64_t r17_3_0_copyload = load64(a1 + 16);
-    uint64_t r39 = dfuse_host_image_image_end((unsigned char *)(uintptr_t)r17_0_0_copyload, r17_3_0_copyload);
-    r11_0_0_0 = 1;
-    r11_5_0 = r32;
-    r11_9_0 = umin64(r39, r34);
-    goto dfuse_host_plan_Plan_again_exit;
-dfuse_host_plan_Plan_again_exit:
-    memset(r11_17, 0, 24);
-    r11_1014_0_in = r11_0_0_0;
-    r11_13_0 = r11_5_0;
-    r11_15_0 = r11_9_0;
-join_4:
+    else {
+        switch (r2) {
+        case 2: {
+            uint64_t r24 = dfuse_host_plan_Plan_page_start(a1, v0);
+            r11_0_0_0 = 1;
+            r11_5_0 = r24;
+            r11_9_0 = v1;
+            break;
+        }
+        case 4: {
+            uint64_t r32 = dfuse_host_plan_Plan_page_start(a1, v0);
+            uint64_t r34 = dfuse_host_plan_Plan_page_end(a1, v0);
+            size_t r17_0_0_copyload = (size_t)load64(a1 + 8);
+            uint64_t r17_3_0_copyload = load64(a1 + 16);
+            uint64_t r39 = dfuse_host_image_image_end((unsigned char *)(uintptr_t)r17_0_0_copyload, r17_3_0_copyload);
+            r11_0_0_0 = 1;
+            r11_5_0 = r32;
+            r11_9_0 = umin64(r39, r34);
+            break;
+        }
+        case 0:
+        case 1:
+        case 3:
+        case 5:
+        case 6:
+            r11_0_0_0 = r2;
+            r11_5_0 = v0;
+            r11_9_0 = v1;
+            break;
+        default: never();
+        }
+        memset(r11_17, 0, 24);
+        r11_1014_0_in = r11_0_0_0;
+        r11_13_0 = r11_5_0;
+        r11_15_0 = r11_9_0;
+    }
     *a0 = 0;
     a0[1] = 0;
     a0[2] = 0;
-    store64(a0 + 8, (uint64_t)r11_1014_0_in);
+    store64(a0 + 8, (size_t)r11_1014_0_in);
     store64(a0 + 16, r11_13_0);
     store64(a0 + 24, r11_15_0);
     memcpy(a0 + 32, r11_17, 24);
     return;
 }
 
-/* dfuse_host::plan::Plan::settle */
+/* dfuse_host::plan::Plan::settle: crates/dfuse_host/src/settling.rt */
 static void dfuse_host_plan_Plan_settle(unsigned char *a0, unsigned char *a1, unsigned char *a2, uint8_t a3, uint64_t a4) {
     _Alignas(8) unsigned char r19[56];
-    uint64_t r1_3_8_copyload, r1_10_16_copyload, r5_1640_0, r5_26_0, r5_29_0;
+    uint64_t r1_3_8_copyload, r1_10_16_copyload, r5_29_0;
     uint8_t r5_0_0;
+    size_t r5_1640_0, r5_26_0;
     uint32_t r5_32_0;
     uint8_t r2 = *a2;
     r1_3_8_copyload = load64(a2 + 8);
     r1_10_16_copyload = load64(a2 + 16);
     memset(r19, 0, 56);
     switch (r2) {
-    case 0: goto arm_1;
-    case 1: goto arm_2;
-    case 2: goto arm_3;
-    case 3: goto arm_4;
-    case 4: goto arm_5;
-    case 5: goto arm_6;
-    case 6: goto arm_7;
+    case 0:
+        dfuse_host_plan_Plan_to_erase(r19, a1, a3, a4, r1_3_8_copyload);
+        break;
+    case 1:
+        store64(r19 + 8, 1);
+        store64(r19 + 16, r1_3_8_copyload);
+        store64(r19 + 24, r1_10_16_copyload);
+        store64(r19 + 32, (size_t)a3);
+        store64(r19 + 40, a4);
+        store32(r19 + 48, (uint32_t)((a3 == 2) ? 10 : 5));
+        break;
+    case 2:
+        dfuse_host_plan_Plan_to_write(r19, a1, a3, a4, r1_3_8_copyload, r1_10_16_copyload);
+        break;
+    case 3:
+        dfuse_host_plan_Plan_to_compare(r19, a1, a3, a4, r1_3_8_copyload);
+        break;
+    case 4:
+        dfuse_host_plan_Plan_to_write_front(r19, a1, a3, a4, r1_3_8_copyload);
+        break;
+    case 5:
+        dfuse_host_plan_Plan_to_compare_front(r19, a1, a3, a4, r1_3_8_copyload);
+        break;
+    case 6:
+        if (a3 == 2) {
+            r5_0_0 = 0;
+            r5_1640_0 = 6;
+            r5_26_0 = 2;
+            r5_29_0 = a4;
+            r5_32_0 = 10;
+        }
+        else {
+            uint8_t r21 = a1[28];
+            if (!(r21 & 1)) {
+                r5_0_0 = 1;
+                r5_1640_0 = 0;
+                r5_26_0 = 0;
+                r5_29_0 = 0;
+                r5_32_0 = 0;
+            }
+            else {
+                if (a3 != 0) {
+                    uint32_t r38 = load32(a1 + 32);
+                    if (a4 == (uint64_t)(size_t)r38) {
+                        r5_0_0 = 0;
+                        r5_1640_0 = 6;
+                        r5_26_0 = 1;
+                        r5_29_0 = a4;
+                        r5_32_0 = 12;
+                        goto dfuse_host_plan_Plan_to_leave_exit;
+                    }
+                }
+                r5_0_0 = 0;
+                r5_1640_0 = 6;
+                r5_26_0 = (size_t)a3;
+                r5_29_0 = a4;
+                r5_32_0 = 5;
+            }
+        }
+dfuse_host_plan_Plan_to_leave_exit:
+        *r19 = r5_0_0;
+        store64(r19 + 8, r5_1640_0);
+        memset(r19 + 16, 0, 16);
+        store64(r19 + 32, r5_26_0);
+        store64(r19 + 40, r5_29_0);
+        store32(r19 + 48, r5_32_0);
+        break;
     default: never();
     }
-arm_1:
-    dfuse_host_plan_Plan_to_erase(r19, a1, a3, a4, r1_3_8_copyload);
-    goto join_9;
-arm_2:
-    store64(r19 + 8, 1);
-    store64(r19 + 16, r1_3_8_copyload);
-    store64(r19 + 24, r1_10_16_copyload);
-    store64(r19 + 32, (uint64_t)a3);
-    store64(r19 + 40, a4);
-    store32(r19 + 48, (uint32_t)((a3 == 2) ? 10 : 5));
-    goto join_9;
-arm_3:
-    dfuse_host_plan_Plan_to_write(r19, a1, a3, a4, r1_3_8_copyload, r1_10_16_copyload);
-    goto join_9;
-arm_4:
-    dfuse_host_plan_Plan_to_compare(r19, a1, a3, a4, r1_3_8_copyload);
-    goto join_9;
-arm_5:
-    dfuse_host_plan_Plan_to_write_front(r19, a1, a3, a4, r1_3_8_copyload);
-    goto join_9;
-arm_6:
-    dfuse_host_plan_Plan_to_compare_front(r19, a1, a3, a4, r1_3_8_copyload);
-    goto join_9;
-arm_7:
-    if (a3 == 2) {
-        r5_0_0 = 0;
-        r5_1640_0 = 6;
-        r5_26_0 = 2;
-        r5_29_0 = a4;
-        r5_32_0 = 10;
-        goto dfuse_host_plan_Plan_to_leave_exit;
-    }
-    uint8_t r21 = a1[28];
-    if (!(r21 & 1)) {
-        r5_0_0 = 1;
-        r5_1640_0 = 0;
-        r5_26_0 = 0;
-        r5_29_0 = 0;
-        r5_32_0 = 0;
-        goto dfuse_host_plan_Plan_to_leave_exit;
-    }
-    if (a3 == 0) goto after_10;
-    uint32_t r38 = load32(a1 + 32);
-    if (a4 == (uint64_t)r38) {
-        r5_0_0 = 0;
-        r5_1640_0 = 6;
-        r5_26_0 = 1;
-        r5_29_0 = a4;
-        r5_32_0 = 12;
-        goto dfuse_host_plan_Plan_to_leave_exit;
-    }
-after_10:
-    r5_0_0 = 0;
-    r5_1640_0 = 6;
-    r5_26_0 = (uint64_t)a3;
-    r5_29_0 = a4;
-    r5_32_0 = 5;
-dfuse_host_plan_Plan_to_leave_exit:
-    *r19 = r5_0_0;
-    store64(r19 + 8, r5_1640_0);
-    memset(r19 + 16, 0, 16);
-    store64(r19 + 32, r5_26_0);
-    store64(r19 + 40, r5_29_0);
-    store32(r19 + 48, r5_32_0);
-join_9:;
     uint8_t v3 = *r19;
     uint8_t v4 = r19[1];
     uint8_t v5 = r19[2];
@@ -5952,7 +5399,7 @@ join_9:;
     return;
 }
 
-/* dfuse_host::plan::Plan::to_erase */
+/* dfuse_host::plan::Plan::to_erase: crates/dfuse_host/src/settling.rt */
 static void dfuse_host_plan_Plan_to_erase(unsigned char *a0, unsigned char *a1, uint8_t a2, uint64_t a3, uint64_t a4) {
     _Alignas(8) unsigned char r8[56];
     unsigned char *r14, *r7_3_0_r14_sroa_idx;
@@ -5960,33 +5407,33 @@ static void dfuse_host_plan_Plan_to_erase(unsigned char *a0, unsigned char *a1, 
     uint8_t v2, v3, v4;
     memset(r8, 0, 56);
     r14 = a1 + 8;
-    uint64_t r7_0_0_copyload = load64(r14);
+    size_t r7_0_0_copyload = (size_t)load64(r14);
     r7_3_0_r14_sroa_idx = a1 + 16;
     uint64_t r7_3_0_copyload = load64(r7_3_0_r14_sroa_idx);
     uint64_t r18 = dfuse_host_image_image_end((unsigned char *)(uintptr_t)r7_0_0_copyload, r7_3_0_copyload);
     r20 = dfuse_host_plan_Plan_byte_in(a1, a4, r18);
-    if (r20.a != 0) goto arm_2;
-    uint64_t r26 = dfuse_host_plan_Plan_front_end(a1);
-    uint64_t r11_0_0_copyload = load64(r14);
-    uint64_t r11_3_0_copyload = load64(r7_3_0_r14_sroa_idx);
-    uint64_t r31 = dfuse_host_image_image_end((unsigned char *)(uintptr_t)r11_0_0_copyload, r11_3_0_copyload);
-    dfuse_host_plan_Plan_to_write(r8, a1, a2, a3, r26, r31);
-    uint8_t pre = *r8;
-    uint8_t pre6 = r8[1];
-    uint8_t pre7 = r8[2];
-    v2 = pre7;
-    v3 = pre6;
-    v4 = pre;
-    goto join_4;
-arm_2:
-    store64(r8 + 16, r20.b);
-    store64(r8 + 32, (uint64_t)a2);
-    store64(r8 + 40, a3);
-    store32(r8 + 48, (uint32_t)((a2 == 2) ? 10 : 5));
-    v2 = 0;
-    v3 = 0;
-    v4 = 0;
-join_4:
+    if (r20.a != 0) {
+        store64(r8 + 16, r20.b);
+        store64(r8 + 32, (size_t)a2);
+        store64(r8 + 40, a3);
+        store32(r8 + 48, (uint32_t)((a2 == 2) ? 10 : 5));
+        v2 = 0;
+        v3 = 0;
+        v4 = 0;
+    }
+    else {
+        uint64_t r26 = dfuse_host_plan_Plan_front_end(a1);
+        size_t r11_0_0_copyload = (size_t)load64(r14);
+        uint64_t r11_3_0_copyload = load64(r7_3_0_r14_sroa_idx);
+        uint64_t r31 = dfuse_host_image_image_end((unsigned char *)(uintptr_t)r11_0_0_copyload, r11_3_0_copyload);
+        dfuse_host_plan_Plan_to_write(r8, a1, a2, a3, r26, r31);
+        uint8_t pre = *r8;
+        uint8_t pre6 = r8[1];
+        uint8_t pre7 = r8[2];
+        v2 = pre7;
+        v3 = pre6;
+        v4 = pre;
+    }
     *a0 = v4;
     a0[1] = v3;
     a0[2] = v2;
@@ -5994,28 +5441,28 @@ join_4:
     return;
 }
 
-/* dfuse_host::plan::Plan::byte_in */
+/* dfuse_host::plan::Plan::byte_in: crates/dfuse_host/src/settling.rt */
 static struct i8_i64 dfuse_host_plan_Plan_byte_in(unsigned char *a0, uint64_t a1, uint64_t a2) {
-    uint64_t r3_3_0_copyload, r3_0, r7_2, r0_4_0;
+    uint64_t r3_3_0_copyload, r3_0, r0_4_0;
     unsigned char *r7;
     uint8_t exitcond_not_not_not_not_not_not_not_not_not_not_not;
-    uint64_t r3_0_0_copyload = load64(a0 + 8);
+    size_t r7_2;
+    size_t r3_0_0_copyload = (size_t)load64(a0 + 8);
     r3_3_0_copyload = load64(a0 + 16);
     r7 = (unsigned char *)(uintptr_t)r3_0_0_copyload;
     r3_0 = 0;
-loop_3:
-    exitcond_not_not_not_not_not_not_not_not_not_not_not = r3_0 != r3_3_0_copyload;
-    if (!exitcond_not_not_not_not_not_not_not_not_not_not_not) {
-        r0_4_0 = 0;
-        goto dfuse_host_image_next_byte_exit;
-    }
-    unsigned char *r26 = r7 + (size_t)(r3_0 * 24);
-    uint32_t r5 = load32(r26);
-    r7_2 = (uint64_t)r5;
-    uint64_t r10 = load64(r26 + 16);
-    if (a1 >= (r10 + r7_2)) {
+    for (;;) {
+        exitcond_not_not_not_not_not_not_not_not_not_not_not = r3_0 != r3_3_0_copyload;
+        if (!exitcond_not_not_not_not_not_not_not_not_not_not_not) {
+            r0_4_0 = 0;
+            goto dfuse_host_image_next_byte_exit;
+        }
+        unsigned char *r26 = r7 + ((size_t)r3_0 * 24);
+        uint32_t r5 = load32(r26);
+        r7_2 = (size_t)r5;
+        uint64_t r10 = load64(r26 + 16);
+        if (a1 < (r10 + (uint64_t)r7_2)) break;
         r3_0 = r3_0 + 1;
-        goto loop_3;
     }
     r0_4_0 = umax64(r7_2, a1);
 dfuse_host_image_next_byte_exit:;
@@ -6027,34 +5474,34 @@ dfuse_host_image_next_byte_exit:;
     return r29;
 }
 
-/* dfuse_host::plan::Plan::to_write */
+/* dfuse_host::plan::Plan::to_write: crates/dfuse_host/src/settling.rt */
 static void dfuse_host_plan_Plan_to_write(unsigned char *a0, unsigned char *a1, uint8_t a2, uint64_t a3, uint64_t a4, uint64_t a5) {
     _Alignas(8) unsigned char r6[56];
     struct i8_i64 r10;
     uint8_t v2, v3, v4;
     memset(r6, 0, 56);
     r10 = dfuse_host_plan_Plan_byte_in(a1, a4, a5);
-    if (r10.a != 0) goto arm_2;
-    uint64_t r16 = dfuse_host_plan_Plan_front_end(a1);
-    dfuse_host_plan_Plan_to_compare(r6, a1, a2, a3, r16);
-    uint8_t pre = *r6;
-    uint8_t pre6 = r6[1];
-    uint8_t pre7 = r6[2];
-    v2 = pre7;
-    v3 = pre6;
-    v4 = pre;
-    goto join_4;
-arm_2:
-    store64(r6 + 8, 2);
-    store64(r6 + 16, r10.b);
-    store64(r6 + 24, a5);
-    store64(r6 + 32, (uint64_t)a2);
-    store64(r6 + 40, a3);
-    store32(r6 + 48, (uint32_t)((a2 == 2) ? 10 : 5));
-    v2 = 0;
-    v3 = 0;
-    v4 = 0;
-join_4:
+    if (r10.a == 0) {
+        uint64_t r16 = dfuse_host_plan_Plan_front_end(a1);
+        dfuse_host_plan_Plan_to_compare(r6, a1, a2, a3, r16);
+        uint8_t pre = *r6;
+        uint8_t pre6 = r6[1];
+        uint8_t pre7 = r6[2];
+        v2 = pre7;
+        v3 = pre6;
+        v4 = pre;
+    }
+    else {
+        store64(r6 + 8, 2);
+        store64(r6 + 16, r10.b);
+        store64(r6 + 24, a5);
+        store64(r6 + 32, (size_t)a2);
+        store64(r6 + 40, a3);
+        store32(r6 + 48, (uint32_t)((a2 == 2) ? 10 : 5));
+        v2 = 0;
+        v3 = 0;
+        v4 = 0;
+    }
     *a0 = v4;
     a0[1] = v3;
     a0[2] = v2;
@@ -6062,48 +5509,47 @@ join_4:
     return;
 }
 
-/* dfuse_host::plan::Plan::to_compare */
+/* dfuse_host::plan::Plan::to_compare: crates/dfuse_host/src/settling.rt */
 static void dfuse_host_plan_Plan_to_compare(unsigned char *a0, unsigned char *a1, uint8_t a2, uint64_t a3, uint64_t a4) {
     _Alignas(8) unsigned char r8[56];
-    uint64_t r7_3_0_copyload, common_ret_op;
+    uint64_t r7_3_0_copyload;
     unsigned char *r14;
     struct i8_i64 r19;
+    size_t common_ret_op;
     uint8_t v1, v2, v3;
-    uint64_t r7_0_0_copyload = load64(a1 + 8);
+    size_t r7_0_0_copyload = (size_t)load64(a1 + 8);
     r7_3_0_copyload = load64(a1 + 16);
     r14 = (unsigned char *)(uintptr_t)r7_0_0_copyload;
     uint64_t r17 = dfuse_host_image_image_end(r14, r7_3_0_copyload);
     r19 = dfuse_host_plan_Plan_byte_in(a1, a4, r17);
-    if (r19.a != 0) goto arm_2;
-    if (r7_3_0_copyload == 0) {
-        common_ret_op = 0;
-        goto dfuse_host_image_image_start_exit;
+    if (r19.a != 0) {
+        uint64_t r21 = r19.b;
+        uint8_t r42 = dfuse_host_plan_Plan_comparing(a1, r21, a2, a3);
+        store64(r8 + 8, 3);
+        store64(r8 + 16, r21);
+        store64(r8 + 24, 0);
+        store64(r8 + 32, (size_t)a2);
+        store64(r8 + 40, a3);
+        store32(r8 + 48, (uint32_t)r42);
+        store32(r8 + 52, 0);
+        v1 = 0;
+        v2 = 0;
+        v3 = 0;
     }
-    uint32_t r18 = load32(r14);
-    common_ret_op = (uint64_t)r18;
-dfuse_host_image_image_start_exit:
-    dfuse_host_plan_Plan_to_write_front(r8, a1, a2, a3, common_ret_op);
-    uint8_t pre = *r8;
-    uint8_t pre7 = r8[1];
-    uint8_t pre8 = r8[2];
-    v1 = pre8;
-    v2 = pre7;
-    v3 = pre;
-    goto join_4;
-arm_2:;
-    uint64_t r21 = r19.b;
-    uint8_t r42 = dfuse_host_plan_Plan_comparing(a1, r21, a2, a3);
-    store64(r8 + 8, 3);
-    store64(r8 + 16, r21);
-    store64(r8 + 24, 0);
-    store64(r8 + 32, (uint64_t)a2);
-    store64(r8 + 40, a3);
-    store32(r8 + 48, (uint32_t)r42);
-    store32(r8 + 52, 0);
-    v1 = 0;
-    v2 = 0;
-    v3 = 0;
-join_4:
+    else {
+        if (r7_3_0_copyload == 0) common_ret_op = 0;
+        else {
+            uint32_t r18 = load32(r14);
+            common_ret_op = (size_t)r18;
+        }
+        dfuse_host_plan_Plan_to_write_front(r8, a1, a2, a3, common_ret_op);
+        uint8_t pre = *r8;
+        uint8_t pre7 = r8[1];
+        uint8_t pre8 = r8[2];
+        v1 = pre8;
+        v2 = pre7;
+        v3 = pre;
+    }
     *a0 = v3;
     a0[1] = v2;
     a0[2] = v1;
@@ -6111,7 +5557,7 @@ join_4:
     return;
 }
 
-/* dfuse_host::plan::Plan::comparing */
+/* dfuse_host::plan::Plan::comparing: crates/dfuse_host/src/settling.rt */
 static uint8_t dfuse_host_plan_Plan_comparing(unsigned char *a0, uint64_t a1, uint8_t a2, uint64_t a3) {
     _Alignas(8) unsigned char r9[32];
     uint64_t a3_fr;
@@ -6120,73 +5566,69 @@ static uint8_t dfuse_host_plan_Plan_comparing(unsigned char *a0, uint64_t a1, ui
     switch (a2) {
     case 0:
         r6_0_0_0 = 5;
-        goto join_5;
-    case 1: goto arm_2;
-    case 2: goto arm_3;
+        break;
+    case 1:
+        r6_0_0_0 = (uint8_t)((a3_fr == a1) ? 9 : 5);
+        break;
+    case 2:
+        if (a1 >= a3_fr) {
+            uint64_t r21 = a1 - a3_fr;
+            uint16_t r4 = load16(a0 + 24);
+            size_t a0_a1 = (size_t)umax16(r4, 1);
+            uint64_t r35 = r21 / (uint64_t)a0_a1;
+            if (!((r35 > 0xfffdU) | (r21 != (r35 * (uint64_t)a0_a1)))) {
+                size_t r10_0_0_copyload = (size_t)load64(a0 + 8);
+                uint64_t r10_3_0_copyload = load64(a0 + 16);
+                dfuse_host_image_element_at(r9, a1, (unsigned char *)(uintptr_t)r10_0_0_copyload, r10_3_0_copyload);
+                uint8_t r51 = *r9;
+                uint32_t r3_0_0_copyload = load32(r9 + 8);
+                r6_0_0_0 = (uint8_t)(((r51 != 0) & (a3_fr >= (uint64_t)(size_t)r3_0_0_copyload)) ? 11 : 10);
+                break;
+            }
+        }
+        r6_0_0_0 = 10;
+        break;
     default: never();
     }
-arm_2:
-    r6_0_0_0 = (uint8_t)((a3_fr == a1) ? 9 : 5);
-    goto join_5;
-arm_3:
-    if (a1 < a3_fr) goto dfuse_host_plan_Plan_can_read_exit_thread;
-    uint64_t r21 = a1 - a3_fr;
-    uint16_t r4 = load16(a0 + 24);
-    uint64_t a0_a1 = (uint64_t)umax16(r4, 1);
-    uint64_t r35 = r21 / a0_a1;
-    if (!((r35 > 0xfffdU) | (r21 != (r35 * a0_a1)))) goto dfuse_host_plan_Plan_can_read_exit;
-dfuse_host_plan_Plan_can_read_exit_thread:
-    r6_0_0_0 = 10;
-    goto join_5;
-dfuse_host_plan_Plan_can_read_exit:;
-    uint64_t r10_0_0_copyload = load64(a0 + 8);
-    uint64_t r10_3_0_copyload = load64(a0 + 16);
-    dfuse_host_image_element_at(r9, a1, (unsigned char *)(uintptr_t)r10_0_0_copyload, r10_3_0_copyload);
-    uint8_t r51 = *r9;
-    uint32_t r3_0_0_copyload = load32(r9 + 8);
-    r6_0_0_0 = (uint8_t)(((r51 != 0) & (a3_fr >= (uint64_t)r3_0_0_copyload)) ? 11 : 10);
-join_5:
     return r6_0_0_0;
 }
 
-/* dfuse_host::plan::Plan::to_write_front */
+/* dfuse_host::plan::Plan::to_write_front: crates/dfuse_host/src/settling.rt */
 static void dfuse_host_plan_Plan_to_write_front(unsigned char *a0, unsigned char *a1, uint8_t a2, uint64_t a3, uint64_t a4) {
     _Alignas(8) unsigned char r7[56];
     struct i8_i64 r14;
-    uint64_t common_ret_op;
+    size_t common_ret_op;
     uint8_t v2, v3, v4;
     uint64_t r12 = dfuse_host_plan_Plan_front_end(a1);
     r14 = dfuse_host_plan_Plan_byte_in(a1, a4, r12);
-    if (r14.a != 0) goto arm_2;
-    uint64_t r9_3_0_copyload = load64(a1 + 16);
-    if (r9_3_0_copyload == 0) {
-        common_ret_op = 0;
-        goto dfuse_host_image_image_start_exit;
+    if (r14.a != 0) {
+        store64(r7 + 8, 4);
+        store64(r7 + 16, r14.b);
+        store64(r7 + 24, 0);
+        store64(r7 + 32, (size_t)a2);
+        store64(r7 + 40, a3);
+        store32(r7 + 48, (uint32_t)((a2 == 2) ? 10 : 5));
+        store32(r7 + 52, 0);
+        v2 = 0;
+        v3 = 0;
+        v4 = 0;
     }
-    uint64_t r9_0_0_copyload = load64(a1 + 8);
-    uint32_t r18 = load32((unsigned char *)(uintptr_t)r9_0_0_copyload);
-    common_ret_op = (uint64_t)r18;
-dfuse_host_image_image_start_exit:
-    dfuse_host_plan_Plan_to_compare_front(r7, a1, a2, a3, common_ret_op);
-    uint8_t pre = *r7;
-    uint8_t pre7 = r7[1];
-    uint8_t pre8 = r7[2];
-    v2 = pre8;
-    v3 = pre7;
-    v4 = pre;
-    goto join_4;
-arm_2:
-    store64(r7 + 8, 4);
-    store64(r7 + 16, r14.b);
-    store64(r7 + 24, 0);
-    store64(r7 + 32, (uint64_t)a2);
-    store64(r7 + 40, a3);
-    store32(r7 + 48, (uint32_t)((a2 == 2) ? 10 : 5));
-    store32(r7 + 52, 0);
-    v2 = 0;
-    v3 = 0;
-    v4 = 0;
-join_4:
+    else {
+        uint64_t r9_3_0_copyload = load64(a1 + 16);
+        if (r9_3_0_copyload == 0) common_ret_op = 0;
+        else {
+            size_t r9_0_0_copyload = (size_t)load64(a1 + 8);
+            uint32_t r18 = load32((unsigned char *)(uintptr_t)r9_0_0_copyload);
+            common_ret_op = (size_t)r18;
+        }
+        dfuse_host_plan_Plan_to_compare_front(r7, a1, a2, a3, common_ret_op);
+        uint8_t pre = *r7;
+        uint8_t pre7 = r7[1];
+        uint8_t pre8 = r7[2];
+        v2 = pre8;
+        v3 = pre7;
+        v4 = pre;
+    }
     *a0 = v4;
     a0[1] = v3;
     a0[2] = v2;
@@ -6194,62 +5636,66 @@ join_4:
     return;
 }
 
-/* dfuse_host::plan::Plan::to_compare_front */
+/* dfuse_host::plan::Plan::to_compare_front: crates/dfuse_host/src/settling.rt */
 static void dfuse_host_plan_Plan_to_compare_front(unsigned char *a0, unsigned char *a1, uint8_t a2, uint64_t a3, uint64_t a4) {
     struct i8_i64 r12;
     uint8_t r7_0_0, r7_16_0_shrunk;
-    uint64_t r7_106_0, r7_13_0, r7_18_0;
+    size_t r7_106_0;
+    uint64_t r7_13_0, r7_18_0;
     uint32_t r7_20_0;
     uint64_t r10 = dfuse_host_plan_Plan_front_end(a1);
     r12 = dfuse_host_plan_Plan_byte_in(a1, a4, r10);
-    if (r12.a != 0) goto arm_2;
-    if (a2 == 2) {
+    if (r12.a != 0) {
+        uint64_t r14 = r12.b;
+        uint8_t r29 = dfuse_host_plan_Plan_comparing(a1, r14, a2, a3);
         r7_0_0 = 0;
-        r7_106_0 = 6;
-        r7_13_0 = 0;
-        r7_16_0_shrunk = 2;
+        r7_106_0 = 5;
+        r7_13_0 = r14;
+        r7_16_0_shrunk = a2;
         r7_18_0 = a3;
-        r7_20_0 = 10;
-        goto join_4;
+        r7_20_0 = (uint32_t)r29;
     }
-    uint8_t r21 = a1[28];
-    if (!(r21 & 1)) {
-        r7_0_0 = 1;
-        r7_106_0 = 0;
-        r7_13_0 = 0;
-        r7_16_0_shrunk = 0;
-        r7_18_0 = 0;
-        r7_20_0 = 0;
-        goto join_4;
+    else {
+        if (a2 == 2) {
+            r7_0_0 = 0;
+            r7_106_0 = 6;
+            r7_13_0 = 0;
+            r7_16_0_shrunk = 2;
+            r7_18_0 = a3;
+            r7_20_0 = 10;
+        }
+        else {
+            uint8_t r21 = a1[28];
+            if (!(r21 & 1)) {
+                r7_0_0 = 1;
+                r7_106_0 = 0;
+                r7_13_0 = 0;
+                r7_16_0_shrunk = 0;
+                r7_18_0 = 0;
+                r7_20_0 = 0;
+            }
+            else {
+                if (a2 != 0) {
+                    uint32_t r38 = load32(a1 + 32);
+                    if (a3 == (uint64_t)(size_t)r38) {
+                        r7_0_0 = 0;
+                        r7_106_0 = 6;
+                        r7_13_0 = 0;
+                        r7_16_0_shrunk = 1;
+                        r7_18_0 = a3;
+                        r7_20_0 = 12;
+                        goto join_4;
+                    }
+                }
+                r7_0_0 = 0;
+                r7_106_0 = 6;
+                r7_13_0 = 0;
+                r7_16_0_shrunk = a2;
+                r7_18_0 = a3;
+                r7_20_0 = 5;
+            }
+        }
     }
-    if (a2 == 0) goto after_10;
-    uint32_t r38 = load32(a1 + 32);
-    if (a3 == (uint64_t)r38) {
-        r7_0_0 = 0;
-        r7_106_0 = 6;
-        r7_13_0 = 0;
-        r7_16_0_shrunk = 1;
-        r7_18_0 = a3;
-        r7_20_0 = 12;
-        goto join_4;
-    }
-after_10:
-    r7_0_0 = 0;
-    r7_106_0 = 6;
-    r7_13_0 = 0;
-    r7_16_0_shrunk = a2;
-    r7_18_0 = a3;
-    r7_20_0 = 5;
-    goto join_4;
-arm_2:;
-    uint64_t r14 = r12.b;
-    uint8_t r29 = dfuse_host_plan_Plan_comparing(a1, r14, a2, a3);
-    r7_0_0 = 0;
-    r7_106_0 = 5;
-    r7_13_0 = r14;
-    r7_16_0_shrunk = a2;
-    r7_18_0 = a3;
-    r7_20_0 = (uint32_t)r29;
 join_4:
     *a0 = r7_0_0;
     a0[1] = 0;
@@ -6257,19 +5703,19 @@ join_4:
     store64(a0 + 8, r7_106_0);
     store64(a0 + 16, r7_13_0);
     store64(a0 + 24, 0);
-    store64(a0 + 32, (uint64_t)r7_16_0_shrunk);
+    store64(a0 + 32, (size_t)r7_16_0_shrunk);
     store64(a0 + 40, r7_18_0);
     store32(a0 + 48, r7_20_0);
     store32(a0 + 52, 0);
     return;
 }
 
-/* dfuse_host::plan::Plan::unsure_of */
+/* dfuse_host::plan::Plan::unsure_of: crates/dfuse_host/src/sending.rt */
 static void dfuse_host_plan_Plan_unsure_of(unsigned char *a0, unsigned char *a1, unsigned char *a2, uint8_t a3, uint64_t a4) {
     _Alignas(8) unsigned char r0[56];
     _Alignas(8) unsigned char r1[24];
     uint8_t r2 = *a2;
-    store64(r1, (uint64_t)r2);
+    store64(r1, (size_t)r2);
     uint64_t v0 = load64(a2 + 8);
     store64(r1 + 8, v0);
     uint64_t v1 = load64(a2 + 16);
@@ -6286,7 +5732,7 @@ static void dfuse_host_plan_Plan_unsure_of(unsigned char *a0, unsigned char *a1,
     return;
 }
 
-/* dfuse_host::session::Session::spent */
+/* dfuse_host::session::Session::spent: crates/dfuse_host/src/session.rt */
 static void dfuse_host_session_Session_spent(unsigned char *a0, unsigned char *a1, unsigned char *a2, uint16_t a3) {
     _Alignas(8) unsigned char r9_21[16];
     _Alignas(4) unsigned char r9_17_0[7];
@@ -6307,45 +5753,46 @@ static void dfuse_host_session_Session_spent(unsigned char *a0, unsigned char *a
     r2_15_8_copyload = a2[48];
     r2_16_8_r8_sroa_idx = a2 + 49;
     r2_18_8_copyload = load32(a2 + 52);
-    if (v0 != 1) goto arm_2;
-    memcpy(r9_17_0, r2_9_8_r8_sroa_idx, 7);
-    memcpy(r9_21, r2_13_8_r8_sroa_idx, 16);
-    memcpy(r9_25, r2_16_8_r8_sroa_idx, 3);
-    r9_17_5_0 = r2_11_8_copyload;
-    r9_0_0 = 1;
-    r9_5_0 = v1;
-    r9_9_0 = v2;
-    r9_1328_0 = r2_73_8_copyload;
-    r9_19_0 = r2_12_8_copyload;
-    r9_23_0 = r2_15_8_copyload;
-    r9_27_0 = r2_18_8_copyload;
-    goto dfuse_host_session_budgeted_exit;
-arm_2:
-    if (r1_3_0_copyload >= 2) goto join_8;
-    uint8_t v4 = r2_73_8_copyload == 6;
-    memset(r9_21, 0, 16);
-    r9_17_5_0 = 0;
-    r9_0_0 = 1;
-    r9_5_0 = (uint8_t)(v4 ? 0 : 4);
-    r9_9_0 = (uint8_t)((v4 & ((uint8_t)(r2_15_8_copyload + 244) < 3)) ? 2 : 0);
-    r9_1328_0 = 0;
-    r9_19_0 = 0;
-    r9_23_0 = 0;
-    r9_27_0 = 0;
-    goto dfuse_host_session_budgeted_exit;
-join_8:
-    memcpy(r9_17_0, r2_9_8_r8_sroa_idx, 7);
-    memcpy(r9_21, r2_13_8_r8_sroa_idx, 16);
-    memcpy(r9_25, r2_16_8_r8_sroa_idx, 3);
-    r9_17_5_0 = r2_11_8_copyload;
-    r9_0_0 = 0;
-    r9_5_0 = v1;
-    r9_9_0 = v2;
-    r9_1328_0 = r2_73_8_copyload;
-    r9_19_0 = r2_12_8_copyload;
-    r9_23_0 = r2_15_8_copyload;
-    r9_27_0 = r2_18_8_copyload;
-dfuse_host_session_budgeted_exit:
+    if (v0 == 1) {
+        memcpy(r9_17_0, r2_9_8_r8_sroa_idx, 7);
+        memcpy(r9_21, r2_13_8_r8_sroa_idx, 16);
+        memcpy(r9_25, r2_16_8_r8_sroa_idx, 3);
+        r9_17_5_0 = r2_11_8_copyload;
+        r9_0_0 = 1;
+        r9_5_0 = v1;
+        r9_9_0 = v2;
+        r9_1328_0 = r2_73_8_copyload;
+        r9_19_0 = r2_12_8_copyload;
+        r9_23_0 = r2_15_8_copyload;
+        r9_27_0 = r2_18_8_copyload;
+    }
+    else {
+        if (r1_3_0_copyload < 2) {
+            uint8_t v4 = r2_73_8_copyload == 6;
+            memset(r9_21, 0, 16);
+            r9_17_5_0 = 0;
+            r9_0_0 = 1;
+            r9_5_0 = (uint8_t)(v4 ? 0 : 4);
+            r9_9_0 = (uint8_t)((v4 & ((uint8_t)(r2_15_8_copyload + 244) < 3)) ? 2 : 0);
+            r9_1328_0 = 0;
+            r9_19_0 = 0;
+            r9_23_0 = 0;
+            r9_27_0 = 0;
+        }
+        else {
+            memcpy(r9_17_0, r2_9_8_r8_sroa_idx, 7);
+            memcpy(r9_21, r2_13_8_r8_sroa_idx, 16);
+            memcpy(r9_25, r2_16_8_r8_sroa_idx, 3);
+            r9_17_5_0 = r2_11_8_copyload;
+            r9_0_0 = 0;
+            r9_5_0 = v1;
+            r9_9_0 = v2;
+            r9_1328_0 = r2_73_8_copyload;
+            r9_19_0 = r2_12_8_copyload;
+            r9_23_0 = r2_15_8_copyload;
+            r9_27_0 = r2_18_8_copyload;
+        }
+    }
     memmove(a0, a1, 40);
     a0[40] = r9_0_0;
     a0[41] = r9_5_0;
@@ -6365,27 +5812,25 @@ dfuse_host_session_budgeted_exit:
     return;
 }
 
-/* dfu_host_version */
+/* dfu_host_version: crates/dfu_host_c/src/version.rt */
 int32_t dfu_host_version(void) {
     return signed32(300);
 }
 
-/* dfu_watch_detaches */
+/* dfu_watch_detaches: crates/dfu_host_c/src/watching.rt */
 uint32_t dfu_watch_detaches(const struct dfu_watch *watch) {
     unsigned char *a0 = (unsigned char *)(uintptr_t)watch;
     uint32_t r2_0_in;
     uint8_t r6 = a0[8];
-    if (r6 == 0) {
-        r2_0_in = 0;
-        goto dfu_host_c_watching_dfu_watch_detaches_exit;
+    if (r6 == 0) r2_0_in = 0;
+    else {
+        uint32_t r13 = load32(a0 + 4);
+        r2_0_in = (uint32_t)(r13 == 0);
     }
-    uint32_t r13 = load32(a0 + 4);
-    r2_0_in = (uint32_t)(r13 == 0);
-dfu_host_c_watching_dfu_watch_detaches_exit:
     return r2_0_in;
 }
 
-/* dfuse_watch_wait */
+/* dfuse_watch_wait: crates/dfu_host_c/src/dfuse/watching.rt */
 uint32_t dfuse_watch_wait(struct dfuse_watch *watch, uint32_t ms) {
     unsigned char *a0 = (unsigned char *)(uintptr_t)watch;
     uint32_t a1 = ms;
@@ -6393,69 +5838,66 @@ uint32_t dfuse_watch_wait(struct dfuse_watch *watch, uint32_t ms) {
     if (a1 != 0) {
         sink = 0;
         v0 = a1;
-        goto dfu_host_c_dfuse_watching_dfuse_watch_wait_exit;
     }
-    uint32_t r12 = load32(a0 + 4);
-    uint32_t r2_0 = r12 + (uint32_t)(r12 < 4);
-    sink = r2_0;
-    v0 = (uint32_t)((r2_0 > 3) ? 5 : 0);
-dfu_host_c_dfuse_watching_dfuse_watch_wait_exit:
+    else {
+        uint32_t r12 = load32(a0 + 4);
+        uint32_t r2_0 = r12 + (uint32_t)(r12 < 4);
+        sink = r2_0;
+        v0 = (uint32_t)((r2_0 > 3) ? 5 : 0);
+    }
     store32(a0 + 4, sink);
     return v0;
 }
 
-/* dfuse_watch_closes */
+/* dfuse_watch_closes: crates/dfu_host_c/src/dfuse/watching.rt */
 uint32_t dfuse_watch_closes(const struct dfuse_session *session) {
     unsigned char *a0 = (unsigned char *)(uintptr_t)session;
     uint32_t r1_0_in;
     uint32_t r5 = load32(a0 + 4);
-    if (r5 != 6) {
-        r1_0_in = 0;
-        goto dfu_host_c_dfuse_watching_dfuse_watch_closes_exit;
+    if (r5 != 6) r1_0_in = 0;
+    else {
+        uint32_t r12 = load32(a0 + 36);
+        r1_0_in = (uint32_t)(r12 > 11);
     }
-    uint32_t r12 = load32(a0 + 36);
-    r1_0_in = (uint32_t)(r12 > 11);
-dfu_host_c_dfuse_watching_dfuse_watch_closes_exit:
     return r1_0_in;
 }
 
-/* dfu_watch_before */
+/* dfu_watch_before: crates/dfu_host_c/src/watching.rt */
 uint32_t dfu_watch_before(const struct dfu_watch *watch, const struct dfu_action *action, uint32_t by_another) {
     unsigned char *a0 = (unsigned char *)(uintptr_t)watch;
     unsigned char *a1 = (unsigned char *)(uintptr_t)action;
     uint32_t a2 = by_another;
     uint32_t r22, r1_0;
-    if (a2 != 0) goto then_2;
-    uint32_t r22_pr_pre = load32(a1);
-    r22 = r22_pr_pre;
-    goto join_4;
-then_2:;
-    uint8_t r11 = dfu_host_c_watching_is_download(a1);
-    if (r11) {
-        r1_0 = 7;
-        goto dfu_host_c_watching_dfu_watch_before_exit;
+    if (a2 == 0) {
+        uint32_t r22_pr_pre = load32(a1);
+        r22 = r22_pr_pre;
     }
-    uint32_t r15 = load32(a1);
-    if (r15 != 0) {
+    else {
+        uint8_t r11 = dfu_host_c_watching_is_download(a1);
+        if (r11) {
+            r1_0 = 7;
+            goto dfu_host_c_watching_dfu_watch_before_exit;
+        }
+        uint32_t r15 = load32(a1);
+        if (r15 == 0) {
+            uint8_t r25 = a1[28];
+            if (r25 != 161) goto join_12;
+            uint8_t r38 = a1[29];
+            if (r38 != 2) goto join_12;
+            r1_0 = 7;
+            goto dfu_host_c_watching_dfu_watch_before_exit;
+        }
         r22 = r15;
-        goto join_4;
     }
-    uint8_t r25 = a1[28];
-    if (r25 != 161) goto join_12;
-    uint8_t r38 = a1[29];
-    if (r38 == 2) {
-        r1_0 = 7;
-        goto dfu_host_c_watching_dfu_watch_before_exit;
-    }
-    goto join_12;
-join_4:
-    if (r22 != 2) goto join_12;
-    uint8_t r29 = a0[8];
-    if (r29 == 0) goto join_12;
-    uint32_t r39 = load32(a0 + 4);
-    if (r39 > 2) {
-        r1_0 = 6;
-        goto dfu_host_c_watching_dfu_watch_before_exit;
+    if (r22 == 2) {
+        uint8_t r29 = a0[8];
+        if (r29 != 0) {
+            uint32_t r39 = load32(a0 + 4);
+            if (r39 > 2) {
+                r1_0 = 6;
+                goto dfu_host_c_watching_dfu_watch_before_exit;
+            }
+        }
     }
 join_12:
     r1_0 = 0;
@@ -6463,7 +5905,7 @@ dfu_host_c_watching_dfu_watch_before_exit:
     return r1_0;
 }
 
-/* dfu_watch_is_other */
+/* dfu_watch_is_other: crates/dfu_host_c/src/watching.rt */
 uint32_t dfu_watch_is_other(const struct dfu_watch *watch, const struct dfu_facts *facts) {
     unsigned char *a0 = (unsigned char *)(uintptr_t)watch;
     unsigned char *a1 = (unsigned char *)(uintptr_t)facts;
@@ -6471,13 +5913,13 @@ uint32_t dfu_watch_is_other(const struct dfu_watch *watch, const struct dfu_fact
     return (uint32_t)r2;
 }
 
-/* dfuse_file_image */
+/* dfuse_file_image: crates/dfu_host_c/src/dfuse/file_image.rt */
 int32_t dfuse_file_image(const uint8_t *file, size_t length, uint8_t setting, struct dfuse_element *places, size_t room, uint64_t *count) {
     unsigned char *a0 = (unsigned char *)(uintptr_t)file;
-    uint64_t a1 = length;
+    size_t a1 = (size_t)length;
     uint8_t a2 = setting;
     unsigned char *a3 = (unsigned char *)(uintptr_t)places;
-    uint64_t a4 = room;
+    size_t a4 = (size_t)room;
     unsigned char *a5 = (unsigned char *)(uintptr_t)count;
     _Alignas(8) unsigned char r4[72];
     unsigned char *const r4_2 = r4;
@@ -6485,514 +5927,517 @@ int32_t dfuse_file_image(const uint8_t *file, size_t length, uint8_t setting, st
     _Alignas(8) unsigned char r8_4[24];
     unsigned char *r13, *r32, *r1_5_0_r32_sroa_idx, *r1_63_0_r32_sroa_idx, *r1_7_0_r32_sroa_idx, *r1_8_0_r32_sroa_idx, *r1_8_5_0_r1_8_0_r32_sroa_idx_sroa_idx, *r26, *v1, *r4_7_8_sroa_idx;
     uint8_t r5_0_0, r5_0_0_2, r35;
-    uint64_t r5_6_0, r5_9_0, r3_0, r5_6_0_2, r5_9_0_2, r1_63_0_copyload, r1_7_0_copyload, r1_8_0_0_copyload, r1_8_5_0_copyload, r4_57_0, r4_7_0, r5_0;
-    uint64_t r4_57_8_copyload, r4_7_8_copyload;
+    size_t r5_6_0, r5_6_0_2, r1_63_0_copyload, r1_8_0_0_copyload, r4_57_0, r4_57_8_copyload;
+    uint64_t r5_9_0, r3_0, r5_9_0_2, r1_7_0_copyload, r1_8_5_0_copyload, r4_7_0, r5_0, r4_7_8_copyload;
     uint8_t r4_0_off0;
     uint32_t r1_5_0_copyload, r4_0_0, common_ret_op;
-    r13 = (unsigned char *)((uintptr_t)a3 + (uintptr_t)(uint64_t)((a3 == NULL) ? 4096 : 0));
+    r13 = (unsigned char *)((uintptr_t)a3 + (uintptr_t)(size_t)((a3 == NULL) ? 4096 : 0));
     memset(r10, 0, 32);
-    dfuse_file_file_read(r10, (unsigned char *)((uintptr_t)a0 + (uintptr_t)(uint64_t)((a0 == NULL) ? 4096 : 0)), a1);
+    dfuse_file_file_read(r10, (unsigned char *)((uintptr_t)a0 + (uintptr_t)(size_t)((a0 == NULL) ? 4096 : 0)), a1);
     uint8_t r23 = *r10;
-    if (r23 != 0) goto arm_2;
-    uint8_t r6_3_0_copyload = r10[14];
-    uint64_t r6_5_0_copyload = load64(r10 + 16);
-    uint64_t r6_6_0_copyload = load64(r10 + 24);
-    r32 = r4 + 8;
-    r1_5_0_r32_sroa_idx = r4 + 32;
-    r1_63_0_r32_sroa_idx = r4 + 40;
-    r1_7_0_r32_sroa_idx = r4 + 48;
-    r1_8_0_r32_sroa_idx = r4 + 56;
-    r1_8_5_0_r1_8_0_r32_sroa_idx_sroa_idx = r4 + 64;
-    r26 = r4_2 + 8;
-    v1 = r4_2 + 32;
-    r4_7_8_sroa_idx = r4_2 + 40;
-    r5_0_0 = r6_3_0_copyload;
-    r5_6_0 = r6_5_0_copyload;
-    r5_9_0 = r6_6_0_copyload;
-    r4_0_off0 = 0;
-    r3_0 = 0;
-loop_2_outer:
-    r5_0_0_2 = r5_0_0;
-    r5_6_0_2 = r5_6_0;
-    r5_9_0_2 = r5_9_0;
-loop_2:
-    memset(r4, 0, 72);
-    if (r5_0_0_2 != 0) goto join_3;
-    goto after_1;
-join_3:
-    dfuse_file_headings_take_heading(r4, (unsigned char *)(uintptr_t)r5_6_0_2, r5_9_0_2);
-    uint8_t r31 = *r4;
-    if (r31 == 1) goto after_1_critedge;
-    uint8_t r1_0_0_copyload = *r32;
-    r1_5_0_copyload = load32(r1_5_0_r32_sroa_idx);
-    r1_63_0_copyload = load64(r1_63_0_r32_sroa_idx);
-    r1_7_0_copyload = load64(r1_7_0_r32_sroa_idx);
-    r1_8_0_0_copyload = load64(r1_8_0_r32_sroa_idx);
-    r1_8_5_0_copyload = load64(r1_8_5_0_r1_8_0_r32_sroa_idx_sroa_idx);
-    r35 = (uint8_t)(r5_0_0_2 + 255);
-    if (r1_0_0_copyload != a2) {
-        r5_0_0_2 = r35;
-        r5_6_0_2 = r1_8_0_0_copyload;
-        r5_9_0_2 = r1_8_5_0_copyload;
-        goto loop_2;
+    if (r23 != 0) {
+        uint8_t r7_0_0_copyload = r10[1];
+        common_ret_op = (uint32_t)0xffffffb9U - (uint32_t)r7_0_0_copyload;
     }
-    r4_0_0 = r1_5_0_copyload;
-    r4_57_0 = r1_63_0_copyload;
-    r4_7_0 = r1_7_0_copyload;
-    r5_0 = r3_0;
-loop_2_2:
-    memset(r4_2, 0, 48);
-    if (r4_0_0 != 0) goto join_3_2;
-    goto arm_10;
-join_3_2:
-    dfuse_file_elements_take_element(r4_2, (unsigned char *)(uintptr_t)r4_57_0, r4_7_0);
-    uint8_t r25 = *r4_2;
-    if (r25 == 0) goto arm_3;
-    goto arm_10;
-arm_3:
-    r4_57_8_copyload = load64(v1);
-    r4_7_8_copyload = load64(r4_7_8_sroa_idx);
-    memcpy(r8_4, r26, 24);
-    if (r5_0 == a4) goto arm_11;
-    memcpy(r13 + (size_t)(r5_0 * 24), r8_4, 24);
-    r4_0_0 = r4_0_0 + 0xffffffffU;
-    r4_57_0 = r4_57_8_copyload;
-    r4_7_0 = r4_7_8_copyload;
-    r5_0 = r5_0 + 1;
-    goto loop_2_2;
+    else {
+        uint8_t r6_3_0_copyload = r10[14];
+        size_t r6_5_0_copyload = (size_t)load64(r10 + 16);
+        uint64_t r6_6_0_copyload = load64(r10 + 24);
+        r32 = r4 + 8;
+        r1_5_0_r32_sroa_idx = r4 + 32;
+        r1_63_0_r32_sroa_idx = r4 + 40;
+        r1_7_0_r32_sroa_idx = r4 + 48;
+        r1_8_0_r32_sroa_idx = r4 + 56;
+        r1_8_5_0_r1_8_0_r32_sroa_idx_sroa_idx = r4 + 64;
+        r26 = r4_2 + 8;
+        v1 = r4_2 + 32;
+        r4_7_8_sroa_idx = r4_2 + 40;
+        r5_0_0 = r6_3_0_copyload;
+        r5_6_0 = r6_5_0_copyload;
+        r5_9_0 = r6_6_0_copyload;
+        r4_0_off0 = 0;
+        r3_0 = 0;
+        for (;;) {
+            r5_0_0_2 = r5_0_0;
+            r5_6_0_2 = r5_6_0;
+            r5_9_0_2 = r5_9_0;
+            for (;;) {
+                memset(r4, 0, 72);
+                if (r5_0_0_2 == 0) goto dfuse_file_targets_Targets_next_target_exit_thread;
+                dfuse_file_headings_take_heading(r4, (unsigned char *)(uintptr_t)r5_6_0_2, r5_9_0_2);
+                uint8_t r31 = *r4;
+                if (r31 == 1) goto after_1_critedge;
+                uint8_t r1_0_0_copyload = *r32;
+                r1_5_0_copyload = load32(r1_5_0_r32_sroa_idx);
+                r1_63_0_copyload = (size_t)load64(r1_63_0_r32_sroa_idx);
+                r1_7_0_copyload = load64(r1_7_0_r32_sroa_idx);
+                r1_8_0_0_copyload = (size_t)load64(r1_8_0_r32_sroa_idx);
+                r1_8_5_0_copyload = load64(r1_8_5_0_r1_8_0_r32_sroa_idx_sroa_idx);
+                r35 = (uint8_t)(r5_0_0_2 + 255);
+                if (r1_0_0_copyload == a2) break;
+                r5_0_0_2 = r35;
+                r5_6_0_2 = r1_8_0_0_copyload;
+                r5_9_0_2 = r1_8_5_0_copyload;
+            }
+            r4_0_0 = r1_5_0_copyload;
+            r4_57_0 = r1_63_0_copyload;
+            r4_7_0 = r1_7_0_copyload;
+            r5_0 = r3_0;
+            for (;;) {
+                memset(r4_2, 0, 48);
+                if (r4_0_0 == 0) break;
+                dfuse_file_elements_take_element(r4_2, (unsigned char *)(uintptr_t)r4_57_0, r4_7_0);
+                uint8_t r25 = *r4_2;
+                if (r25 != 0) goto dfuse_file_elements_Elements_next_element_exit;
+                r4_57_8_copyload = (size_t)load64(v1);
+                r4_7_8_copyload = load64(r4_7_8_sroa_idx);
+                memcpy(r8_4, r26, 24);
+                if (r5_0 == (uint64_t)a4) goto arm_11;
+                memcpy(r13 + ((size_t)r5_0 * 24), r8_4, 24);
+                r4_0_0 = r4_0_0 - 1;
+                r4_57_0 = r4_57_8_copyload;
+                r4_7_0 = r4_7_8_copyload;
+                r5_0 = r5_0 + 1;
+            }
+            goto arm_10;
+dfuse_file_elements_Elements_next_element_exit:
 arm_10:
-    r5_0_0 = r35;
-    r5_6_0 = r1_8_0_0_copyload;
-    r5_9_0 = r1_8_5_0_copyload;
-    r4_0_off0 = 1;
-    r3_0 = r5_0;
-    goto loop_2_outer;
-arm_11:
-    common_ret_op = 0xffffffa8U;
-    goto dfu_host_c_dfuse_file_image_dfuse_file_image_exit;
-after_1_critedge:;
+            r5_0_0 = r35;
+            r5_6_0 = r1_8_0_0_copyload;
+            r5_9_0 = r1_8_5_0_copyload;
+            r4_0_off0 = 1;
+            r3_0 = r5_0;
+        }
+dfuse_file_targets_Targets_next_target_exit_thread:
+        goto after_1;
+after_1_critedge:
 after_1:
-    if (r4_0_off0) goto arm_5;
-    common_ret_op = 0xffffffa9U;
-    goto dfu_host_c_dfuse_file_image_dfuse_file_image_exit;
-arm_2:;
-    uint8_t r7_0_0_copyload = r10[1];
-    common_ret_op = (uint32_t)0xffffffb9U - (uint32_t)r7_0_0_copyload;
-    goto dfu_host_c_dfuse_file_image_dfuse_file_image_exit;
-arm_5:
-    store64(a5, r3_0);
-    common_ret_op = 0;
+        if (!r4_0_off0) {
+            common_ret_op = 0xffffffa9U;
+            goto dfu_host_c_dfuse_file_image_dfuse_file_image_exit;
+        }
+        store64(a5, r3_0);
+        common_ret_op = 0;
+        goto dfu_host_c_dfuse_file_image_dfuse_file_image_exit;
+arm_11:
+        common_ret_op = 0xffffffa8U;
+    }
 dfu_host_c_dfuse_file_image_dfuse_file_image_exit:
     return signed32(common_ret_op);
 }
 
-/* dfuse_read_map */
+/* dfuse_read_map: crates/dfu_host_c/src/dfuse/map.rt */
 int32_t dfuse_read_map(const uint8_t *text, size_t length, struct dfuse_map *out) {
     unsigned char *a0 = (unsigned char *)(uintptr_t)text;
-    uint64_t a1 = length;
+    size_t a1 = (size_t)length;
     unsigned char *a2 = (unsigned char *)(uintptr_t)out;
     _Alignas(8) unsigned char r5[800];
     uint32_t r6_0;
     memset(r5, 0, 800);
-    dfuse_memory_map_Map_read(r5, (unsigned char *)((uintptr_t)a0 + (uintptr_t)(uint64_t)((a0 == NULL) ? 4096 : 0)), a1);
+    dfuse_memory_map_Map_read(r5, (unsigned char *)((uintptr_t)a0 + (uintptr_t)(size_t)((a0 == NULL) ? 4096 : 0)), a1);
     uint8_t r13 = *r5;
-    if (r13 != 0) goto arm_2;
-    uint64_t r3_2_0_copyload = load64(r5 + 16);
-    uint64_t r3_31_0_copyload = load64(r5 + 792);
-    store64(a2, r3_2_0_copyload);
-    store64(a2 + 8, r3_31_0_copyload);
-    r6_0 = 0;
-    goto dfu_host_c_dfuse_map_dfuse_read_map_exit;
-arm_2:;
-    uint8_t r4_0_0_copyload = r5[1];
-    r6_0 = (uint32_t)0xffffffcdU - (uint32_t)r4_0_0_copyload;
-dfu_host_c_dfuse_map_dfuse_read_map_exit:
+    if (r13 != 0) {
+        uint8_t r4_0_0_copyload = r5[1];
+        r6_0 = (uint32_t)0xffffffcdU - (uint32_t)r4_0_0_copyload;
+    }
+    else {
+        uint64_t r3_2_0_copyload = load64(r5 + 16);
+        uint64_t r3_31_0_copyload = load64(r5 + 792);
+        store64(a2, r3_2_0_copyload);
+        store64(a2 + 8, r3_31_0_copyload);
+        r6_0 = 0;
+    }
     return signed32(r6_0);
 }
 
-/* dfuse_read_range */
+/* dfuse_read_range: crates/dfu_host_c/src/dfuse/map.rt */
 int32_t dfuse_read_range(const uint8_t *text, size_t length, uint32_t number, struct dfuse_range *out) {
     unsigned char *a0 = (unsigned char *)(uintptr_t)text;
-    uint64_t a1 = length;
+    size_t a1 = (size_t)length;
     uint32_t a2 = number;
     unsigned char *a3 = (unsigned char *)(uintptr_t)out;
     _Alignas(8) unsigned char r7[800];
     _Alignas(8) unsigned char r3[792];
-    uint64_t r33;
+    size_t r33;
     uint32_t common_ret_op;
     memset(r7, 0, 800);
-    dfuse_memory_map_Map_read(r7, (unsigned char *)((uintptr_t)a0 + (uintptr_t)(uint64_t)((a0 == NULL) ? 4096 : 0)), a1);
+    dfuse_memory_map_Map_read(r7, (unsigned char *)((uintptr_t)a0 + (uintptr_t)(size_t)((a0 == NULL) ? 4096 : 0)), a1);
     uint8_t r19 = *r7;
-    if (r19 != 0) goto arm_2;
-    memcpy(r3, r7 + 8, 792);
-    uint64_t r4 = load64(r3 + 784);
-    r33 = (uint64_t)a2;
-    if (r4 > r33) goto arm_5;
-    common_ret_op = 0xffffffd4U;
-    goto dfu_host_c_dfuse_map_dfuse_read_range_exit;
-arm_2:;
-    uint8_t r5_0_0_copyload = r7[1];
-    common_ret_op = (uint32_t)0xffffffcdU - (uint32_t)r5_0_0_copyload;
-    goto dfu_host_c_dfuse_map_dfuse_read_range_exit;
-arm_5:;
-    unsigned char *r19_2 = (r3 + 16) + (size_t)(r33 * 24);
-    uint32_t r7_2 = load32(r19_2);
-    uint64_t r11 = load64(r19_2 + 8);
-    uint32_t r13 = load32(r19_2 + 16);
-    uint8_t r6_0_0_copyload = r19_2[20];
-    uint8_t r6_3_0_copyload = r19_2[21];
-    uint8_t r6_4_0_copyload = r19_2[22];
-    store64(a3, (uint64_t)r7_2);
-    store64(a3 + 8, r11);
-    store32(a3 + 16, r13);
-    store32(a3 + 20, (uint32_t)((((uint8_t)((uint32_t)r6_3_0_copyload << 1) & 2) | (r6_0_0_copyload & 1)) | ((uint8_t)((uint32_t)r6_4_0_copyload << 2) & 4)));
-    common_ret_op = 0;
-dfu_host_c_dfuse_map_dfuse_read_range_exit:
+    if (r19 != 0) {
+        uint8_t r5_0_0_copyload = r7[1];
+        common_ret_op = (uint32_t)0xffffffcdU - (uint32_t)r5_0_0_copyload;
+    }
+    else {
+        memcpy(r3, r7 + 8, 792);
+        uint64_t r4 = load64(r3 + 784);
+        r33 = (size_t)a2;
+        if (r4 <= (uint64_t)r33) common_ret_op = 0xffffffd4U;
+        else {
+            unsigned char *r19_2 = (r3 + 16) + (r33 * 24);
+            uint32_t r7_2 = load32(r19_2);
+            uint64_t r11 = load64(r19_2 + 8);
+            uint32_t r13 = load32(r19_2 + 16);
+            uint8_t r6_0_0_copyload = r19_2[20];
+            uint8_t r6_3_0_copyload = r19_2[21];
+            uint8_t r6_4_0_copyload = r19_2[22];
+            store64(a3, (size_t)r7_2);
+            store64(a3 + 8, r11);
+            store32(a3 + 16, r13);
+            store32(a3 + 20, (uint32_t)((((uint8_t)((uint32_t)r6_3_0_copyload << 1) & 2) | (r6_0_0_copyload & 1)) | ((uint8_t)((uint32_t)r6_4_0_copyload << 2) & 4)));
+            common_ret_op = 0;
+        }
+    }
     return signed32(common_ret_op);
 }
 
-/* dfu_host_file */
+/* dfu_host_file: crates/dfu_host_c/src/file.rt */
 int32_t dfu_host_file(const uint8_t *file, size_t length, struct dfu_file *out) {
     unsigned char *a0 = (unsigned char *)(uintptr_t)file;
-    uint64_t a1 = length;
+    size_t a1 = (size_t)length;
     unsigned char *a2 = (unsigned char *)(uintptr_t)out;
     _Alignas(8) unsigned char r5[40];
     unsigned char *r4;
     uint32_t r6_0;
-    r4 = (unsigned char *)((uintptr_t)a0 + (uintptr_t)(uint64_t)((a0 == NULL) ? 4096 : 0));
+    r4 = (unsigned char *)((uintptr_t)a0 + (uintptr_t)(size_t)((a0 == NULL) ? 4096 : 0));
     memset(r5, 0, 40);
     dfu_host_c_file_file_in(r5, r4, a1);
     uint8_t r13 = *r5;
-    if (r13 != 0) goto arm_2;
-    uint64_t r3_2_0_copyload = load64(r5 + 16);
-    uint16_t r3_3_0_copyload = load16(r5 + 24);
-    uint16_t r3_4_0_copyload = load16(r5 + 26);
-    uint16_t r3_5_0_copyload = load16(r5 + 28);
-    uint16_t r3_6_0_copyload = load16(r5 + 30);
-    uint8_t r3_7_0_copyload = r5[32];
-    uint32_t r15 = load32u((r4 + (size_t)a1) - 4);
-    store64(a2, r3_2_0_copyload);
-    store32(a2 + 8, (uint32_t)r3_7_0_copyload);
-    store32(a2 + 12, r15);
-    store16(a2 + 16, r3_3_0_copyload);
-    store16(a2 + 18, r3_4_0_copyload);
-    store16(a2 + 20, r3_5_0_copyload);
-    store16(a2 + 22, r3_6_0_copyload);
-    r6_0 = 0;
-    goto dfu_host_c_file_dfu_host_file_exit;
-arm_2:;
-    uint8_t r4_0_0_copyload = r5[1];
-    r6_0 = (uint32_t)r4_0_0_copyload ^ 0xffffffffU;
-dfu_host_c_file_dfu_host_file_exit:
+    if (r13 != 0) {
+        uint8_t r4_0_0_copyload = r5[1];
+        r6_0 = (uint32_t)r4_0_0_copyload ^ 0xffffffffU;
+    }
+    else {
+        uint64_t r3_2_0_copyload = load64(r5 + 16);
+        uint16_t r3_3_0_copyload = load16(r5 + 24);
+        uint16_t r3_4_0_copyload = load16(r5 + 26);
+        uint16_t r3_5_0_copyload = load16(r5 + 28);
+        uint16_t r3_6_0_copyload = load16(r5 + 30);
+        uint8_t r3_7_0_copyload = r5[32];
+        uint32_t r15 = load32u((r4 + a1) - 4);
+        store64(a2, r3_2_0_copyload);
+        store32(a2 + 8, (uint32_t)r3_7_0_copyload);
+        store32(a2 + 12, r15);
+        store16(a2 + 16, r3_3_0_copyload);
+        store16(a2 + 18, r3_4_0_copyload);
+        store16(a2 + 20, r3_5_0_copyload);
+        store16(a2 + 22, r3_6_0_copyload);
+        r6_0 = 0;
+    }
     return signed32(r6_0);
 }
 
-/* dfu_image_look */
+/* dfu_image_look: crates/dfu_host_c/src/looks.rt */
 uint32_t dfu_image_look(const uint8_t *file, size_t length, const uint8_t *name, size_t name_length, struct dfu_look *look) {
     unsigned char *a0 = (unsigned char *)(uintptr_t)file;
-    uint64_t a1 = length;
+    size_t a1 = (size_t)length;
     unsigned char *a2 = (unsigned char *)(uintptr_t)name;
-    uint64_t a3 = name_length;
+    size_t a3 = (size_t)name_length;
     unsigned char *a4 = (unsigned char *)(uintptr_t)look;
     _Alignas(8) unsigned char r4_2[24];
     unsigned char *r4, *r13, *r4_0_0_in, *scevgep, *r3_0_0_in, *r3_0_0_in_lcssa;
-    uint64_t r7_7_0, r7_4_0, r4_4_0, r3_7_0, r14_4_0_ph36, r14_4_0_3, r14_4_0, r9_4_0_0, r9_4_5_0, r14_4_0_2, r0_0_5_mask_3, r0_0_6_3;
-    uint64_t r1_0_1_extract_shift_2, r1_0_1_extract_shift, r0_0_6_2, r0_0_5_mask_2, r9_4_5_017, r9_4_0_015, r0_0_6_4, r0_0_5_mask_4, r9_4_5_018, r9_4_0_016, v13, v14;
+    size_t r7_7_0, r7_4_0, r4_4_0, r3_7_0, r14_4_0_ph36, r14_4_0_2, r14_4_0_3, r1_0_1_extract_shift, r14_4_0, r1_0_1_extract_shift_2;
     uint8_t r7_0_0, r23;
-    uint8_t r18, r9_0_0_0, r9_0_0_0_2, r9_0_0_0_3, cond_fr62;
+    uint8_t r18, r9_0_0_0, r9_0_0_0_3, r9_0_0_0_2, cond_fr62;
+    uint64_t r9_4_0_0, r9_4_5_0, r0_0_5_mask, r0_0_6, r0_0_6_3, r0_0_5_mask_3, r9_4_5_017, r9_4_0_015, r0_0_6_2, r0_0_5_mask_2, r9_4_5_018, r9_4_0_016;
+    uint64_t v13, v14;
     uint32_t r9_0_2, r1_0_6_extract_trunc, r7_0_2, r7_0_3, r9_0, r7_0;
-    r4 = (unsigned char *)((uintptr_t)a0 + (uintptr_t)(uint64_t)((a0 == NULL) ? 4096 : 0));
-    r13 = (unsigned char *)((uintptr_t)a2 + (uintptr_t)(uint64_t)((a2 == NULL) ? 4096 : 0));
+    r4 = (unsigned char *)((uintptr_t)a0 + (uintptr_t)(size_t)((a0 == NULL) ? 4096 : 0));
+    r13 = (unsigned char *)((uintptr_t)a2 + (uintptr_t)(size_t)((a2 == NULL) ? 4096 : 0));
     uint8_t r78 = dfu_images_endings_ends_in(PLACE(static_2), 4, r13, a3);
     if (r78) {
         r7_7_0 = 0;
         r7_4_0 = 1;
         r7_0_0 = 1;
-        goto dfu_images_endings_name_ending_exit;
     }
-    uint8_t r94 = dfu_images_endings_ends_in(PLACE(static_3), 4, r13, a3);
-    if (r94) {
-        r7_7_0 = 0;
-        r7_4_0 = 0;
-        r7_0_0 = 1;
-        goto dfu_images_endings_name_ending_exit;
+    else {
+        uint8_t r94 = dfu_images_endings_ends_in(PLACE(static_3), 4, r13, a3);
+        if (r94) {
+            r7_7_0 = 0;
+            r7_4_0 = 0;
+            r7_0_0 = 1;
+        }
+        else {
+            uint8_t r107 = dfu_images_endings_ends_in(PLACE(static_4), 5, r13, a3);
+            if (r107) {
+                r7_7_0 = 0;
+                r7_4_0 = 0;
+                r7_0_0 = 1;
+            }
+            else {
+                uint8_t r123 = dfu_images_endings_ends_in(PLACE(static_5), 4, r13, a3);
+                if (r123) {
+                    r7_7_0 = 0;
+                    r7_4_0 = 0;
+                    r7_0_0 = 1;
+                }
+                else {
+                    uint8_t r139 = dfu_images_endings_ends_in(PLACE(static_6), 4, r13, a3);
+                    if (r139) {
+                        r7_7_0 = 0;
+                        r7_4_0 = 0;
+                        r7_0_0 = 1;
+                    }
+                    else {
+                        uint8_t r159 = dfu_images_endings_ends_in(PLACE(static_7), 4, r13, a3);
+                        if (r159) {
+                            r7_7_0 = 1;
+                            r7_4_0 = 0;
+                            r7_0_0 = 1;
+                        }
+                        else {
+                            uint8_t r172 = dfu_images_endings_ends_in(PLACE(static_8), 4, r13, a3);
+                            if (r172) {
+                                r7_7_0 = 1;
+                                r7_4_0 = 0;
+                                r7_0_0 = 1;
+                            }
+                            else {
+                                uint8_t r188 = dfu_images_endings_ends_in(PLACE(static_9), 4, r13, a3);
+                                if (r188) {
+                                    r7_7_0 = 1;
+                                    r7_4_0 = 0;
+                                    r7_0_0 = 1;
+                                }
+                                else {
+                                    uint8_t r204 = dfu_images_endings_ends_in(PLACE(static_10), 5, r13, a3);
+                                    if (r204) {
+                                        r7_7_0 = 1;
+                                        r7_4_0 = 0;
+                                        r7_0_0 = 1;
+                                    }
+                                    else {
+                                        uint8_t r220 = dfu_images_endings_ends_in(PLACE(static_11), 4, r13, a3);
+                                        if (r220) {
+                                            r7_7_0 = 1;
+                                            r7_4_0 = 0;
+                                            r7_0_0 = 1;
+                                        }
+                                        else {
+                                            uint8_t r240 = dfu_images_endings_ends_in(PLACE(static_12), 4, r13, a3);
+                                            if (r240) {
+                                                r7_7_0 = 2;
+                                                r7_4_0 = 0;
+                                                r7_0_0 = 1;
+                                            }
+                                            else {
+                                                uint8_t r257 = dfu_images_endings_ends_in(PLACE(static_13), 4, r13, a3);
+                                                if (r257) {
+                                                    r7_7_0 = 3;
+                                                    r7_4_0 = 0;
+                                                    r7_0_0 = 1;
+                                                }
+                                                else {
+                                                    uint8_t r270 = dfu_images_endings_ends_in(PLACE(static_14), 4, r13, a3);
+                                                    r7_7_0 = (size_t)(r270 ? 3 : 0);
+                                                    r7_4_0 = 0;
+                                                    r7_0_0 = r270;
+                                                }
+                                            }
+                                        }
+                                    }
+                                }
+                            }
+                        }
+                    }
+                }
+            }
+        }
     }
-    uint8_t r107 = dfu_images_endings_ends_in(PLACE(static_4), 5, r13, a3);
-    if (r107) {
-        r7_7_0 = 0;
-        r7_4_0 = 0;
-        r7_0_0 = 1;
-        goto dfu_images_endings_name_ending_exit;
-    }
-    uint8_t r123 = dfu_images_endings_ends_in(PLACE(static_5), 4, r13, a3);
-    if (r123) {
-        r7_7_0 = 0;
-        r7_4_0 = 0;
-        r7_0_0 = 1;
-        goto dfu_images_endings_name_ending_exit;
-    }
-    uint8_t r139 = dfu_images_endings_ends_in(PLACE(static_6), 4, r13, a3);
-    if (r139) {
-        r7_7_0 = 0;
-        r7_4_0 = 0;
-        r7_0_0 = 1;
-        goto dfu_images_endings_name_ending_exit;
-    }
-    uint8_t r159 = dfu_images_endings_ends_in(PLACE(static_7), 4, r13, a3);
-    if (r159) {
-        r7_7_0 = 1;
-        r7_4_0 = 0;
-        r7_0_0 = 1;
-        goto dfu_images_endings_name_ending_exit;
-    }
-    uint8_t r172 = dfu_images_endings_ends_in(PLACE(static_8), 4, r13, a3);
-    if (r172) {
-        r7_7_0 = 1;
-        r7_4_0 = 0;
-        r7_0_0 = 1;
-        goto dfu_images_endings_name_ending_exit;
-    }
-    uint8_t r188 = dfu_images_endings_ends_in(PLACE(static_9), 4, r13, a3);
-    if (r188) {
-        r7_7_0 = 1;
-        r7_4_0 = 0;
-        r7_0_0 = 1;
-        goto dfu_images_endings_name_ending_exit;
-    }
-    uint8_t r204 = dfu_images_endings_ends_in(PLACE(static_10), 5, r13, a3);
-    if (r204) {
-        r7_7_0 = 1;
-        r7_4_0 = 0;
-        r7_0_0 = 1;
-        goto dfu_images_endings_name_ending_exit;
-    }
-    uint8_t r220 = dfu_images_endings_ends_in(PLACE(static_11), 4, r13, a3);
-    if (r220) {
-        r7_7_0 = 1;
-        r7_4_0 = 0;
-        r7_0_0 = 1;
-        goto dfu_images_endings_name_ending_exit;
-    }
-    uint8_t r240 = dfu_images_endings_ends_in(PLACE(static_12), 4, r13, a3);
-    if (r240) {
-        r7_7_0 = 2;
-        r7_4_0 = 0;
-        r7_0_0 = 1;
-        goto dfu_images_endings_name_ending_exit;
-    }
-    uint8_t r257 = dfu_images_endings_ends_in(PLACE(static_13), 4, r13, a3);
-    if (r257) {
-        r7_7_0 = 3;
-        r7_4_0 = 0;
-        r7_0_0 = 1;
-        goto dfu_images_endings_name_ending_exit;
-    }
-    uint8_t r270 = dfu_images_endings_ends_in(PLACE(static_14), 4, r13, a3);
-    r7_7_0 = (uint64_t)(r270 ? 3 : 0);
-    r7_4_0 = 0;
-    r7_0_0 = r270;
-dfu_images_endings_name_ending_exit:
     if (a1 < 3) {
         r4_4_0 = a1;
         r4_0_0_in = r4;
-        goto dfu_images_text_unmarked_exit;
     }
-    uint8_t r24 = *r4;
-    if (r24 != 239) {
-        r4_4_0 = a1;
-        r4_0_0_in = r4;
-        goto dfu_images_text_unmarked_exit;
+    else {
+        uint8_t r24 = *r4;
+        if (r24 != 239) {
+            r4_4_0 = a1;
+            r4_0_0_in = r4;
+        }
+        else {
+            uint8_t r29 = r4[1];
+            if (r29 != 187) {
+                r4_4_0 = a1;
+                r4_0_0_in = r4;
+            }
+            else {
+                uint8_t r34 = r4[2];
+                if (r34 == 191) {
+                    r4_4_0 = a1 - 3;
+                    r4_0_0_in = r4 + 3;
+                }
+                else {
+                    r4_4_0 = a1;
+                    r4_0_0_in = r4;
+                }
+            }
+        }
     }
-    uint8_t r29 = r4[1];
-    if (r29 != 187) {
-        r4_4_0 = a1;
-        r4_0_0_in = r4;
-        goto dfu_images_text_unmarked_exit;
-    }
-    uint8_t r34 = r4[2];
-    if (r34 != 191) {
-        r4_4_0 = a1;
-        r4_0_0_in = r4;
-        goto dfu_images_text_unmarked_exit;
-    }
-    r4_4_0 = a1 + 0xfffffffffffffffdULL;
-    r4_0_0_in = r4 + 3;
-dfu_images_text_unmarked_exit:
-    scevgep = r4_0_0_in + (size_t)r4_4_0;
+    scevgep = r4_0_0_in + r4_4_0;
     r3_7_0 = r4_4_0;
     r3_0_0_in = r4_0_0_in;
-loop_2:
-    r18 = r3_7_0 == 0;
-    if (r18) {
-        r3_0_0_in_lcssa = scevgep;
-        goto dfu_images_text_unblanked_exit;
+    for (;;) {
+        r18 = r3_7_0 == 0;
+        if (r18) {
+            r3_0_0_in_lcssa = scevgep;
+            break;
+        }
+        uint8_t r35 = *r3_0_0_in;
+        switch (r35) {
+        case 32:
+        case 13:
+        case 9:
+        case 10:
+            r3_7_0 = r3_7_0 - 1;
+            r3_0_0_in = r3_0_0_in + 1;
+            break;
+        default:
+            r3_0_0_in_lcssa = r3_0_0_in;
+            goto dfu_images_text_unblanked_exit;
+        }
     }
-    uint8_t r35 = *r3_0_0_in;
-    switch (r35) {
-    case 32: goto loop_2_backedge;
-    case 13: goto loop_2_backedge;
-    case 9: goto loop_2_backedge;
-    case 10: goto loop_2_backedge;
-    default:
-        r3_0_0_in_lcssa = r3_0_0_in;
-        goto dfu_images_text_unblanked_exit;
-    }
-loop_2_backedge:
-    r3_7_0 = r3_7_0 + 0xffffffffffffffffULL;
-    r3_0_0_in = r3_0_0_in + 1;
-    goto loop_2;
 dfu_images_text_unblanked_exit:;
     uint8_t r72 = core_slice_reads_slice_T_starts_with_i8_core_cmp_numbers_U8PartialEq(r4, a1, PLACE(static_15), 5);
-    if (r72) {
-        r14_4_0 = 2;
-        goto dfu_images_looks_look_at_exit_thread;
-    }
-    if (r18) goto else_8;
-    r23 = *r3_0_0_in_lcssa;
-    if (r23 != 58) goto else_5;
-    uint8_t r37 = dfu_images_looks_has_digits(r3_0_0_in_lcssa + 1, r3_7_0 + 0xffffffffffffffffULL);
-    if (r37) goto arm_1;
-    uint8_t r44 = dfu_images_text_is_text(r4, a1);
-    if (r44) goto arm_1;
-    goto else_8;
-else_5:
-    if (!((r3_7_0 != 1) & (r23 == 83))) goto else_8;
-    uint8_t r28 = r3_0_0_in_lcssa[1];
-    if ((uint8_t)(r28 + 208) >= 10) goto else_8;
-    uint8_t r55 = dfu_images_looks_has_digits(r3_0_0_in_lcssa + 2, r3_7_0 + 0xfffffffffffffffeULL);
-    if (r55) goto arm_2;
+    if (!r72) {
+        if (!r18) {
+            r23 = *r3_0_0_in_lcssa;
+            if (r23 == 58) {
+                uint8_t r37 = dfu_images_looks_has_digits(r3_0_0_in_lcssa + 1, r3_7_0 - 1);
+                if (!r37) {
+                    uint8_t r44 = dfu_images_text_is_text(r4, a1);
+                    if (!r44) goto else_8;
+                }
+                memset(r4_2, 0, 24);
+                dfu_images_places_bad_from(r4_2, 58, r4_0_0_in, r4_4_0);
+                r14_4_0_2 = 1;
+                goto dfu_images_places_bad_place_exit;
+            }
+            if ((r3_7_0 != 1) & (r23 == 83)) {
+                uint8_t r28 = r3_0_0_in_lcssa[1];
+                if ((uint8_t)(r28 + 208) < 10) {
+                    uint8_t r55 = dfu_images_looks_has_digits(r3_0_0_in_lcssa + 2, (uint64_t)r3_7_0 - 2);
+                    if (r55) {
+                        memset(r4_2, 0, 24);
+                        dfu_images_places_bad_from(r4_2, 83, r4_0_0_in, r4_4_0);
+                        r14_4_0_2 = 257;
+                        goto dfu_images_places_bad_place_exit;
+                    }
+                }
+            }
+        }
 else_8:;
-    uint8_t r109 = core_slice_reads_slice_T_starts_with_i8_core_cmp_numbers_U8PartialEq(r4, a1, PLACE(static_16), 4);
-    if (r109) {
-        r14_4_0_ph36 = 513;
-        goto arm_1_thread37;
-    }
-    uint8_t r123_2 = core_slice_reads_slice_T_starts_with_i8_core_cmp_numbers_U8PartialEq(r4, a1, PLACE(static_17), 4);
-    if (r123_2) {
-        r14_4_0_ph36 = 769;
-        goto arm_1_thread37;
-    }
-    uint8_t r137 = core_slice_reads_slice_T_starts_with_i8_core_cmp_numbers_U8PartialEq(r4, a1, PLACE(static_18), 4);
-    if (r137) {
-        r14_4_0 = 258;
-        goto dfu_images_looks_look_at_exit_thread;
-    }
-    uint8_t r155 = core_slice_reads_slice_T_starts_with_i8_core_cmp_numbers_U8PartialEq(r4, a1, PLACE(static_19), 2);
-    if (r155) {
-        r14_4_0 = 514;
-        goto dfu_images_looks_look_at_exit_thread;
-    }
-    uint8_t r167 = dfu_images_text_is_text(r4, a1);
-    if (r167) {
-        r14_4_0 = 770;
-        goto dfu_images_looks_look_at_exit_thread;
-    }
-    if (r7_0_0 == 0) {
-        v13 = 0;
-        r9_0 = 0;
-        r7_0 = 0;
-        v14 = 0;
-        goto dfu_host_c_looks_dfu_image_look_exit;
-    }
-    r9_4_0_0 = 0;
-    r9_4_5_0 = 0;
-    r14_4_0_2 = ((r7_4_0 << 16) | (r7_7_0 << 24)) | 1026;
-    r9_0_0_0 = 0;
-    goto dfu_images_looks_look_at_exit;
-arm_1_thread37:
-    memset(r4_2, 0, 24);
-    r14_4_0_3 = r14_4_0_ph36;
-    goto dfu_images_places_bad_place_exit;
-arm_1:
-    memset(r4_2, 0, 24);
-    dfu_images_places_bad_from(r4_2, 58, r4_0_0_in, r4_4_0);
-    r14_4_0_3 = 1;
-    goto dfu_images_places_bad_place_exit;
-arm_2:
-    memset(r4_2, 0, 24);
-    dfu_images_places_bad_from(r4_2, 83, r4_0_0_in, r4_4_0);
-    r14_4_0_3 = 257;
+        uint8_t r109 = core_slice_reads_slice_T_starts_with_i8_core_cmp_numbers_U8PartialEq(r4, a1, PLACE(static_16), 4);
+        if (r109) r14_4_0_ph36 = 513;
+        else {
+            uint8_t r123_2 = core_slice_reads_slice_T_starts_with_i8_core_cmp_numbers_U8PartialEq(r4, a1, PLACE(static_17), 4);
+            if (!r123_2) {
+                uint8_t r137 = core_slice_reads_slice_T_starts_with_i8_core_cmp_numbers_U8PartialEq(r4, a1, PLACE(static_18), 4);
+                if (r137) {
+                    r14_4_0 = 258;
+                    goto dfu_images_looks_look_at_exit_thread;
+                }
+                uint8_t r155 = core_slice_reads_slice_T_starts_with_i8_core_cmp_numbers_U8PartialEq(r4, a1, PLACE(static_19), 2);
+                if (r155) {
+                    r14_4_0 = 514;
+                    goto dfu_images_looks_look_at_exit_thread;
+                }
+                uint8_t r167 = dfu_images_text_is_text(r4, a1);
+                if (r167) {
+                    r14_4_0 = 770;
+                    goto dfu_images_looks_look_at_exit_thread;
+                }
+                if (r7_0_0 == 0) {
+                    v13 = 0;
+                    r9_0 = 0;
+                    r7_0 = 0;
+                    v14 = 0;
+                    goto dfu_host_c_looks_dfu_image_look_exit;
+                }
+                r9_4_0_0 = 0;
+                r9_4_5_0 = 0;
+                r14_4_0_3 = ((r7_4_0 << 16) | (r7_7_0 << 24)) | 1026;
+                r9_0_0_0 = 0;
+                goto dfu_images_looks_look_at_exit;
+            }
+            r14_4_0_ph36 = 769;
+        }
+        memset(r4_2, 0, 24);
+        r14_4_0_2 = r14_4_0_ph36;
 dfu_images_places_bad_place_exit:;
-    uint8_t r28_2 = *r4_2;
-    uint64_t r9_4_0_0_copyload = load64(r4_2 + 8);
-    uint64_t r9_4_5_0_copyload = load64(r4_2 + 16);
-    r9_4_0_0 = r9_4_0_0_copyload;
-    r9_4_5_0 = r9_4_5_0_copyload;
-    r14_4_0_2 = r14_4_0_3;
-    r9_0_0_0 = r28_2 == 1;
-    goto dfu_images_looks_look_at_exit;
+        uint8_t r28_2 = *r4_2;
+        uint64_t r9_4_0_0_copyload = load64(r4_2 + 8);
+        uint64_t r9_4_5_0_copyload = load64(r4_2 + 16);
+        r9_4_0_0 = r9_4_0_0_copyload;
+        r9_4_5_0 = r9_4_5_0_copyload;
+        r14_4_0_3 = r14_4_0_2;
+        r9_0_0_0 = r28_2 == 1;
+dfu_images_looks_look_at_exit:
+        r0_0_5_mask = (uint64_t)r14_4_0_3 + ((uint64_t)(size_t)r7_0_0 << 32);
+        r0_0_6 = r0_0_5_mask | (((uint64_t)r7_4_0 << 40) | ((uint64_t)r7_7_0 << 48));
+        r1_0_1_extract_shift = (size_t)(r0_0_6 >> 8);
+        switch ((uint8_t)r14_4_0_3) {
+        case 0:
+            r0_0_6_2 = r0_0_6;
+            r0_0_5_mask_2 = r0_0_5_mask;
+            r9_0_0_0_2 = r9_0_0_0;
+            r9_4_5_018 = r9_4_5_0;
+            r9_4_0_016 = r9_4_0_0;
+            r9_0_2 = 0;
+            goto dfu_host_c_looks_looks_number_exit;
+        case 1:
+            r0_0_6_2 = r0_0_6;
+            r0_0_5_mask_2 = r0_0_5_mask;
+            r9_0_0_0_2 = r9_0_0_0;
+            r9_4_5_018 = r9_4_5_0;
+            r9_4_0_016 = r9_4_0_0;
+            r9_0_2 = ((uint32_t)r1_0_1_extract_shift & 255) + 1;
+            goto dfu_host_c_looks_looks_number_exit;
+        case 2:
+            r1_0_1_extract_shift_2 = r1_0_1_extract_shift;
+            r0_0_6_3 = r0_0_6;
+            r0_0_5_mask_3 = r0_0_5_mask;
+            r9_0_0_0_3 = r9_0_0_0;
+            r9_4_5_017 = r9_4_5_0;
+            r9_4_0_015 = r9_4_0_0;
+            goto switch_lookup;
+        default: never();
+        }
+    }
+    r14_4_0 = 2;
 dfu_images_looks_look_at_exit_thread:;
-    uint64_t r0_0_5_mask = r14_4_0 | ((uint64_t)r7_0_0 << 32);
-    uint64_t r0_0_6 = r0_0_5_mask | ((r7_4_0 << 40) | (r7_7_0 << 48));
-    r1_0_1_extract_shift = r0_0_6 >> 8;
-    r0_0_6_2 = r0_0_6;
-    r0_0_5_mask_2 = r0_0_5_mask;
-    r9_0_0_0_2 = 0;
+    uint64_t r0_0_5_mask_4 = (uint64_t)r14_4_0 | ((uint64_t)(size_t)r7_0_0 << 32);
+    uint64_t r0_0_6_4 = r0_0_5_mask_4 | (((uint64_t)r7_4_0 << 40) | ((uint64_t)r7_7_0 << 48));
+    r1_0_1_extract_shift_2 = (size_t)(r0_0_6_4 >> 8);
+    r0_0_6_3 = r0_0_6_4;
+    r0_0_5_mask_3 = r0_0_5_mask_4;
+    r9_0_0_0_3 = 0;
     r9_4_5_017 = 0;
     r9_4_0_015 = 0;
-    goto switch_lookup;
-dfu_images_looks_look_at_exit:
-    r0_0_5_mask_3 = r14_4_0_2 + ((uint64_t)r7_0_0 << 32);
-    r0_0_6_3 = r0_0_5_mask_3 | ((r7_4_0 << 40) | (r7_7_0 << 48));
-    r1_0_1_extract_shift_2 = r0_0_6_3 >> 8;
-    switch ((uint8_t)r14_4_0_2) {
-    case 0:
-        r0_0_6_4 = r0_0_6_3;
-        r0_0_5_mask_4 = r0_0_5_mask_3;
-        r9_0_0_0_3 = r9_0_0_0;
-        r9_4_5_018 = r9_4_5_0;
-        r9_4_0_016 = r9_4_0_0;
-        r9_0_2 = 0;
-        goto dfu_host_c_looks_looks_number_exit;
-    case 1: goto arm_2_2;
-    case 2:
-        r1_0_1_extract_shift = r1_0_1_extract_shift_2;
-        r0_0_6_2 = r0_0_6_3;
-        r0_0_5_mask_2 = r0_0_5_mask_3;
-        r9_0_0_0_2 = r9_0_0_0;
-        r9_4_5_017 = r9_4_5_0;
-        r9_4_0_015 = r9_4_0_0;
-        goto switch_lookup;
-    default: never();
-    }
-arm_2_2:
-    r0_0_6_4 = r0_0_6_3;
-    r0_0_5_mask_4 = r0_0_5_mask_3;
-    r9_0_0_0_3 = r9_0_0_0;
-    r9_4_5_018 = r9_4_5_0;
-    r9_4_0_016 = r9_4_0_0;
-    r9_0_2 = ((uint32_t)r1_0_1_extract_shift_2 & 255) + 1;
-    goto dfu_host_c_looks_looks_number_exit;
 switch_lookup:
-    r0_0_6_4 = r0_0_6_2;
-    r0_0_5_mask_4 = r0_0_5_mask_2;
-    r9_0_0_0_3 = r9_0_0_0_2;
+    r0_0_6_2 = r0_0_6_3;
+    r0_0_5_mask_2 = r0_0_5_mask_3;
+    r9_0_0_0_2 = r9_0_0_0_3;
     r9_4_5_018 = r9_4_5_017;
     r9_4_0_016 = r9_4_0_015;
-    r9_0_2 = ((uint32_t)r1_0_1_extract_shift & 255) + 5;
-    goto dfu_host_c_looks_looks_number_exit;
+    r9_0_2 = ((uint32_t)r1_0_1_extract_shift_2 & 255) + 5;
 dfu_host_c_looks_looks_number_exit:
-    cond_fr62 = r9_0_0_0_3;
-    r1_0_6_extract_trunc = (uint32_t)(r0_0_6_4 >> 48);
-    if ((r0_0_5_mask_4 & 0xff00000000ULL) == 0) {
-        r7_0_2 = 0;
-        goto dfu_host_c_looks_record_of_look_exit;
-    }
-    if ((r0_0_6_4 & 0xff0000000000ULL) != 0) {
+    cond_fr62 = r9_0_0_0_2;
+    r1_0_6_extract_trunc = (uint32_t)(size_t)(r0_0_6_2 >> 48);
+    if ((r0_0_5_mask_2 & 0xff00000000ULL) == 0) r7_0_2 = 0;
+    else {
+        if ((r0_0_6_2 & 0xff0000000000ULL) == 0) {
+            uint32_t switch_offset = r1_0_6_extract_trunc + 1;
+            if (cond_fr62) {
+                r7_0_3 = switch_offset;
+                goto v12;
+            }
+            v13 = 0;
+            r9_0 = r9_0_2;
+            r7_0 = switch_offset;
+            v14 = 0;
+            goto dfu_host_c_looks_dfu_image_look_exit;
+        }
         r7_0_2 = 5;
-        goto dfu_host_c_looks_record_of_look_exit;
     }
-    uint32_t switch_offset = r1_0_6_extract_trunc + 1;
-    if (cond_fr62) {
-        r7_0_3 = switch_offset;
-        goto v12;
-    }
-    v13 = 0;
-    r9_0 = r9_0_2;
-    r7_0 = switch_offset;
-    v14 = 0;
-    goto dfu_host_c_looks_dfu_image_look_exit;
-dfu_host_c_looks_record_of_look_exit:
     if (!cond_fr62) {
         v13 = 0;
         r9_0 = r9_0_2;
@@ -7014,46 +6459,46 @@ dfu_host_c_looks_dfu_image_look_exit:
     return r9_0;
 }
 
-/* dfu_host_name */
+/* dfu_host_name: crates/dfu_host_c/src/names.rt */
 int32_t dfu_host_name(uint32_t report, uint8_t *out, size_t room) {
     uint32_t a0 = report;
     unsigned char *a1 = (unsigned char *)(uintptr_t)out;
-    uint64_t a2 = room;
+    size_t a2 = (size_t)room;
     _Alignas(4) unsigned char r2[3];
     unsigned char *r4, *r4_0_0;
-    uint64_t r4_4_0;
+    size_t r4_4_0;
     uint32_t common_ret_op;
-    r4 = (unsigned char *)((uintptr_t)a1 + (uintptr_t)(uint64_t)((a1 == NULL) ? 4096 : 0));
-    dfu_host_c_reports_report_at(r2, (uint64_t)a0, 0);
+    r4 = (unsigned char *)((uintptr_t)a1 + (uintptr_t)(size_t)((a1 == NULL) ? 4096 : 0));
+    dfu_host_c_reports_report_at(r2, (size_t)a0, 0);
     uint8_t r9 = *r2;
-    if (r9 == 1) goto arm_1;
-    r4_4_0 = 0;
-    r4_0_0 = PLACE(static_20);
-    goto join_3;
-arm_1:;
-    uint8_t r1_0_0_copyload = r2[1];
-    uint64_t v1 = (uint64_t)r1_0_0_copyload;
-    uint64_t switch_load = load64(PLACE(switch_table_dfu_host_name) + 8 * (size_t)v1);
-    uint64_t switch_load2 = load64(PLACE(switch_table_dfu_host_name_1) + 8 * (size_t)v1);
-    uint64_t r33 = switch_load2 - switch_load;
-    if (a2 < r33) {
-        common_ret_op = 0;
-        goto dfu_host_c_names_dfu_host_name_exit;
+    if (r9 != 1) {
+        r4_4_0 = 0;
+        r4_0_0 = PLACE(static_20);
     }
-    r4_4_0 = r33;
-    r4_0_0 = PLACE(static_21) + (size_t)switch_load;
-join_3:
+    else {
+        uint8_t r1_0_0_copyload = r2[1];
+        size_t v1 = (size_t)r1_0_0_copyload;
+        uint64_t switch_load = load64(PLACE(switch_table_dfu_host_name) + 8 * v1);
+        uint64_t switch_load2 = load64(PLACE(switch_table_dfu_host_name_1) + 8 * v1);
+        uint64_t r33 = switch_load2 - switch_load;
+        if ((uint64_t)a2 < r33) {
+            common_ret_op = 0;
+            goto dfu_host_c_names_dfu_host_name_exit;
+        }
+        r4_4_0 = (size_t)r33;
+        r4_0_0 = PLACE(static_21) + (size_t)switch_load;
+    }
     core_slice_edits_slice_T_copy_from_slice_i8_core_clone_U8Clone(r4, r4_0_0, r4_4_0);
     common_ret_op = (uint32_t)r4_4_0;
 dfu_host_c_names_dfu_host_name_exit:
     return signed32(common_ret_op);
 }
 
-/* dfu_host_abort */
+/* dfu_host_abort: crates/dfu_host_c/src/steps.rt */
 int32_t dfu_host_abort(struct dfu_session *session, const uint8_t *payload, size_t length) {
     unsigned char *a0 = (unsigned char *)(uintptr_t)session;
     unsigned char *a1 = (unsigned char *)(uintptr_t)payload;
-    uint64_t a2 = length;
+    size_t a2 = (size_t)length;
     _Alignas(8) unsigned char r4[72];
     _Alignas(8) unsigned char r3[64];
     _Alignas(8) unsigned char r7[48];
@@ -7061,32 +6506,30 @@ int32_t dfu_host_abort(struct dfu_session *session, const uint8_t *payload, size
     uint32_t common_ret_op;
     memset(r4, 0, 72);
     memset(r7, 0, 48);
-    dfu_host_c_holding_session_of(r4, a0, (unsigned char *)((uintptr_t)a1 + (uintptr_t)(uint64_t)((a1 == NULL) ? 4096 : 0)), a2);
+    dfu_host_c_holding_session_of(r4, a0, (unsigned char *)((uintptr_t)a1 + (uintptr_t)(size_t)((a1 == NULL) ? 4096 : 0)), a2);
     uint8_t r14 = *r4;
-    if (r14 != 1) {
-        common_ret_op = 0xffffffd7U;
-        goto dfu_host_c_steps_dfu_host_abort_exit;
+    if (r14 != 1) common_ret_op = 0xffffffd7U;
+    else {
+        memcpy(r3, r4 + 8, 64);
+        r1 = r3 + 32;
+        uint8_t r2 = *r1;
+        if ((uint8_t)(r2 + 233) >= 2) {
+            *r1 = 22;
+            memset(r3 + 33, 0, 19);
+        }
+        uint64_t r19 = load64(a0 + 16);
+        dfu_host_c_holding_record_of(r7, r3, r19);
+        memcpy(a0, r7, 48);
+        common_ret_op = 0;
     }
-    memcpy(r3, r4 + 8, 64);
-    r1 = r3 + 32;
-    uint8_t r2 = *r1;
-    if ((uint8_t)(r2 + 233) < 2) goto dfu_host_session_Session_abort_exit;
-    *r1 = 22;
-    memset(r3 + 33, 0, 19);
-dfu_host_session_Session_abort_exit:;
-    uint64_t r19 = load64(a0 + 16);
-    dfu_host_c_holding_record_of(r7, r3, r19);
-    memcpy(a0, r7, 48);
-    common_ret_op = 0;
-dfu_host_c_steps_dfu_host_abort_exit:
     return signed32(common_ret_op);
 }
 
-/* dfu_host_next */
+/* dfu_host_next: crates/dfu_host_c/src/action.rt */
 int32_t dfu_host_next(const struct dfu_session *session, const uint8_t *payload, size_t length, struct dfu_action *action) {
     unsigned char *a0 = (unsigned char *)(uintptr_t)session;
     unsigned char *a1 = (unsigned char *)(uintptr_t)payload;
-    uint64_t a2 = length;
+    size_t a2 = (size_t)length;
     unsigned char *a3 = (unsigned char *)(uintptr_t)action;
     _Alignas(8) unsigned char r4[72];
     _Alignas(8) unsigned char r3[64];
@@ -7102,300 +6545,269 @@ int32_t dfu_host_next(const struct dfu_session *session, const uint8_t *payload,
     uint64_t v5, r0_5_59_7_copyload, v16, r2_0, v21, r14_9_0, r14_12_0, r14_18_0;
     uint32_t v6, r14_0, r14_0_0, r14_6_0, r14_15_0, common_ret_op;
     memset(r4, 0, 72);
-    dfu_host_c_holding_session_of(r4, a0, (unsigned char *)((uintptr_t)a1 + (uintptr_t)(uint64_t)((a1 == NULL) ? 4096 : 0)), a2);
+    dfu_host_c_holding_session_of(r4, a0, (unsigned char *)((uintptr_t)a1 + (uintptr_t)(size_t)((a1 == NULL) ? 4096 : 0)), a2);
     uint8_t r13 = *r4;
-    if (r13 != 1) {
-        common_ret_op = 0xffffffd7U;
-        goto dfu_host_c_action_dfu_host_next_exit;
-    }
-    memcpy(r3, r4 + 8, 64);
-    v1 = r3[32];
-    v2 = r3[33];
-    v3 = load16(r3 + 34);
-    uint32_t v4 = load32(r3 + 36);
-    v5 = load64(r3 + 40);
-    v6 = load32(r3 + 48);
-    memset(r18, 0, 32);
-    store16(r19 + 4, 0);
-    store16(r23 + 4, 0);
-    store16(r27 + 4, 0);
-    store32a2(r31 + 2, 0);
-    store32a2(r35 + 2, 0);
-    switch (v1) {
-    case 0: goto arm_4;
-    case 1: goto arm_4;
-    case 10: goto arm_4;
-    case 14: goto arm_4;
-    case 17: goto arm_4;
-    case 9: goto arm_5;
-    case 13: goto arm_5;
-    case 2: goto arm_6;
-    case 3: goto arm_7;
-    case 4: goto arm_8;
-    case 5: goto arm_9;
-    case 22: goto arm_9;
-    case 8: goto arm_10;
-    case 12: goto arm_11;
-    case 6:
-        r14_0 = v4;
-        goto after_2;
-    case 11: goto arm_13;
-    case 15:
-        r14_0 = v4;
-        goto after_2;
-    case 16:
-        r14_0 = v4;
-        goto after_2;
-    case 18: goto after_3;
-    case 19: goto after_3;
-    case 7:
+    if (r13 != 1) common_ret_op = 0xffffffd7U;
+    else {
+        memcpy(r3, r4 + 8, 64);
+        v1 = r3[32];
+        v2 = r3[33];
+        v3 = load16(r3 + 34);
+        uint32_t v4 = load32(r3 + 36);
+        v5 = load64(r3 + 40);
+        v6 = load32(r3 + 48);
+        memset(r18, 0, 32);
+        store16(r19 + 4, 0);
+        store16(r23 + 4, 0);
+        store16(r27 + 4, 0);
+        store32a2(r31 + 2, 0);
+        store32a2(r35 + 2, 0);
+        switch (v1) {
+        case 0:
+        case 1:
+        case 10:
+        case 14:
+        case 17:
+            store16(r19, 3);
+            store16(r19 + 2, 6);
+            dfu_host_task_send(r18, r19, PLACE(static_20), 0);
+            goto dfu_host_session_Session_next_exitthread_pre_split;
+        case 9:
+        case 13:
+            store16(r23, 5);
+            store16(r23 + 2, 1);
+            dfu_host_task_send(r18, r23, PLACE(static_20), 0);
+            goto dfu_host_session_Session_next_exitthread_pre_split;
+        case 2: {
+            uint16_t r65 = load16(r3 + 28);
+            store16(r27, 0);
+            store16(r27 + 2, r65);
+            dfu_host_task_send(r18, r27, PLACE(static_20), 0);
+            goto dfu_host_session_Session_next_exitthread_pre_split;
+        }
+        case 3: {
+            uint8_t r7 = r3[27];
+            uint16_t r13_2 = load16(r3 + 28);
+            *r18 = (uint8_t)((uint8_t)2 - r7);
+            memset(r18 + 1, 0, 3);
+            store32(r18 + 4, (uint32_t)((r7 & 1) ? (uint32_t)umax16(r13_2, 1) : 0));
+            memset(r18 + 16, 0, 16);
+            goto dfu_host_session_Session_next_exitthread_pre_split;
+        }
+        case 4:
+            store16(r31, 4);
+            dfu_host_task_send(r18, r31, PLACE(static_20), 0);
+            goto dfu_host_session_Session_next_exitthread_pre_split;
+        case 5:
+        case 22:
+            store16(r35, 6);
+            dfu_host_task_send(r18, r35, PLACE(static_20), 0);
+            goto dfu_host_session_Session_next_exitthread_pre_split;
+        case 8: {
+            struct ptr_i64 r89 = dfu_host_task_Task_block(r3, v5);
+            dfu_host_task_download(r18, (size_t)v5, r89.a, (size_t)r89.b);
+            goto dfu_host_session_Session_next_exitthread_pre_split;
+        }
+        case 12: {
+            r16 = load16(r3 + 24);
+            if (r16 == 0) trap();
+            uint8_t r7_2 = *r3;
+            uint64_t r16_2 = load64(r3 + 16);
+            dfu_host_task_download(r18, (size_t)((uint64_t)((r7_2 == 1) ? 0xffffffffffffffffULL : (r16_2 - 1)) / (uint64_t)(size_t)r16) + 1, PLACE(static_20), 0);
+            goto dfu_host_session_Session_next_exitthread_pre_split;
+        }
+        case 6:
+        case 15:
+        case 16:
+            r14_0 = v4;
+            break;
+        case 11:
+            r14_0 = v6;
+            break;
+        case 18:
+        case 19: {
+            uint16_t r127 = load16(r3 + 24);
+            store16(r45, 2);
+            store16(r45 + 2, v3);
+            store16(r45 + 4, r127);
+            dfu_host_task_send(r18, r45, PLACE(static_20), 0);
+            goto dfu_host_session_Session_next_exitthread_pre_split;
+        }
+        case 7:
+        case 20:
+        case 21:
+            r0_5_59_7_copyload = 0;
+            v15 = 2;
+            goto dfu_host_session_Session_next_exit;
+        case 23:
+            r18[1] = v2;
+            r18[2] = (uint8_t)v3;
+            goto dfu_host_session_Session_sends_from_exit_thread;
+        case 24:
+            r18[1] = 6;
+            goto dfu_host_session_Session_sends_from_exit_thread;
+        default: never();
+        }
+        store32(r18 + 4, r14_0);
         r0_5_59_7_copyload = 0;
-        v15 = 2;
+        v15 = 1;
         goto dfu_host_session_Session_next_exit;
-    case 20:
-        r0_5_59_7_copyload = 0;
-        v15 = 2;
-        goto dfu_host_session_Session_next_exit;
-    case 21:
-        r0_5_59_7_copyload = 0;
-        v15 = 2;
-        goto dfu_host_session_Session_next_exit;
-    case 23: goto arm_19;
-    case 24: goto arm_20;
-    default: never();
-    }
-arm_4:
-    store16(r19, 3);
-    store16(r19 + 2, 6);
-    dfu_host_task_send(r18, r19, PLACE(static_20), 0);
-    goto dfu_host_session_Session_next_exitthread_pre_split;
-arm_5:
-    store16(r23, 5);
-    store16(r23 + 2, 1);
-    dfu_host_task_send(r18, r23, PLACE(static_20), 0);
-    goto dfu_host_session_Session_next_exitthread_pre_split;
-arm_6:;
-    uint16_t r65 = load16(r3 + 28);
-    store16(r27, 0);
-    store16(r27 + 2, r65);
-    dfu_host_task_send(r18, r27, PLACE(static_20), 0);
-    goto dfu_host_session_Session_next_exitthread_pre_split;
-arm_7:;
-    uint8_t r7 = r3[27];
-    uint16_t r13_2 = load16(r3 + 28);
-    *r18 = (uint8_t)((uint8_t)2 - r7);
-    memset(r18 + 1, 0, 3);
-    store32(r18 + 4, (uint32_t)((r7 & 1) ? (uint32_t)umax16(r13_2, 1) : 0));
-    memset(r18 + 16, 0, 16);
-    goto dfu_host_session_Session_next_exitthread_pre_split;
-arm_8:
-    store16(r31, 4);
-    dfu_host_task_send(r18, r31, PLACE(static_20), 0);
-    goto dfu_host_session_Session_next_exitthread_pre_split;
-arm_9:
-    store16(r35, 6);
-    dfu_host_task_send(r18, r35, PLACE(static_20), 0);
-    goto dfu_host_session_Session_next_exitthread_pre_split;
-arm_10:;
-    struct ptr_i64 r89 = dfu_host_task_Task_block(r3, v5);
-    dfu_host_task_download(r18, v5, r89.a, r89.b);
-    goto dfu_host_session_Session_next_exitthread_pre_split;
-arm_11:
-    r16 = load16(r3 + 24);
-    if (r16 != 0) goto dfu_host_task_Task_count_exit;
-    trap();
-dfu_host_task_Task_count_exit:;
-    uint8_t r7_2 = *r3;
-    uint64_t r16_2 = load64(r3 + 16);
-    dfu_host_task_download(r18, ((uint64_t)((r7_2 == 1) ? 0xffffffffffffffffULL : (r16_2 + 0xffffffffffffffffULL)) / (uint64_t)r16) + 1, PLACE(static_20), 0);
-    goto dfu_host_session_Session_next_exitthread_pre_split;
-arm_13:
-    r14_0 = v6;
-    goto after_2;
-arm_19:
-    r18[1] = v2;
-    r18[2] = (uint8_t)v3;
-    goto dfu_host_session_Session_sends_from_exit_thread;
-arm_20:
-    r18[1] = 6;
-    goto dfu_host_session_Session_sends_from_exit_thread;
-after_3:;
-    uint16_t r127 = load16(r3 + 24);
-    store16(r45, 2);
-    store16(r45 + 2, v3);
-    store16(r45 + 4, r127);
-    dfu_host_task_send(r18, r45, PLACE(static_20), 0);
-    goto dfu_host_session_Session_next_exitthread_pre_split;
-after_2:
-    store32(r18 + 4, r14_0);
-    r0_5_59_7_copyload = 0;
-    v15 = 1;
-    goto dfu_host_session_Session_next_exit;
 dfu_host_session_Session_next_exitthread_pre_split:;
-    uint8_t pr = *r18;
-    uint64_t r0_5_59_7_copyload_pre = load64(r18 + 24);
-    r0_5_59_7_copyload = r0_5_59_7_copyload_pre;
-    v15 = pr;
-    goto dfu_host_session_Session_next_exit;
-dfu_host_session_Session_sends_from_exit_thread:;
-    uint64_t v14 = load64u(r18 + 1);
-    v21 = v14;
-    goto arm_4_2;
+        uint8_t pr = *r18;
+        uint64_t r0_5_59_7_copyload_pre = load64(r18 + 24);
+        r0_5_59_7_copyload = r0_5_59_7_copyload_pre;
+        v15 = pr;
 dfu_host_session_Session_next_exit:
-    v16 = load64u(r18 + 1);
-    if (v1 != 8) {
-        r2_0 = 0;
-        goto dfu_host_session_Session_sends_from_exit;
-    }
-    uint8_t r7_3 = *r3;
-    uint64_t r16_3 = load64(r3 + 16);
-    uint64_t r2_4_0 = (uint64_t)((r7_3 == 1) ? 0 : r16_3);
-    uint16_t r13_3 = load16(r3 + 24);
-    uint64_t r15 = (uint64_t)r13_3;
-    struct i64_i1 mul = product64(r15, v5);
-    r2_0 = (uint64_t)((r13_3 == 0) ? 0 : (uint64_t)(mul.b ? r2_4_0 : umin64(r2_4_0, v5 * r15)));
-dfu_host_session_Session_sends_from_exit:
-    switch (v15) {
-    case 0: goto arm_1;
-    case 1: goto arm_2;
-    case 2:
-        r14_0_0 = 2;
-        r14_6_0 = 0;
+        v16 = load64u(r18 + 1);
+        if (v1 != 8) r2_0 = 0;
+        else {
+            uint8_t r7_3 = *r3;
+            uint64_t r16_3 = load64(r3 + 16);
+            uint64_t r2_4_0 = (uint64_t)((r7_3 == 1) ? 0 : r16_3);
+            uint16_t r13_3 = load16(r3 + 24);
+            size_t r15 = (size_t)r13_3;
+            struct i64_i1 mul = product64(r15, v5);
+            r2_0 = (uint64_t)((r13_3 == 0) ? 0 : (uint64_t)(mul.b ? r2_4_0 : umin64(r2_4_0, v5 * (uint64_t)r15)));
+        }
+        switch (v15) {
+        case 0:
+            r14_0_0 = 0;
+            r14_6_0 = 0;
+            r14_9_0 = r2_0;
+            r14_12_0 = r0_5_59_7_copyload;
+            r14_15_0 = 0;
+            r14_18_0 = v16;
+            goto dfu_host_c_action_record_of_exit;
+        case 1:
+            r14_0_0 = 1;
+            r14_6_0 = (uint32_t)(size_t)(v16 >> 24);
+            r14_9_0 = 0;
+            r14_12_0 = 0;
+            r14_15_0 = 0;
+            r14_18_0 = 0;
+            goto dfu_host_c_action_record_of_exit;
+        case 2:
+            r14_0_0 = 2;
+            r14_6_0 = 0;
+            r14_9_0 = 0;
+            r14_12_0 = 0;
+            r14_15_0 = 0;
+            r14_18_0 = 0;
+            goto dfu_host_c_action_record_of_exit;
+        case 3:
+            v21 = v16;
+            goto arm_4;
+        default: never();
+        }
+dfu_host_session_Session_sends_from_exit_thread:;
+        uint64_t v14 = load64u(r18 + 1);
+        v21 = v14;
+arm_4:;
+        struct i32_i32 r77 = dfu_host_c_reports_report_numbers((uint8_t)v21, (uint8_t)(size_t)(v21 >> 8));
+        r14_0_0 = 3;
+        r14_6_0 = r77.a;
         r14_9_0 = 0;
         r14_12_0 = 0;
-        r14_15_0 = 0;
+        r14_15_0 = r77.b;
         r14_18_0 = 0;
-        goto dfu_host_c_action_record_of_exit;
-    case 3:
-        v21 = v16;
-        goto arm_4_2;
-    default: never();
-    }
-arm_1:
-    r14_0_0 = 0;
-    r14_6_0 = 0;
-    r14_9_0 = r2_0;
-    r14_12_0 = r0_5_59_7_copyload;
-    r14_15_0 = 0;
-    r14_18_0 = v16;
-    goto dfu_host_c_action_record_of_exit;
-arm_2:
-    r14_0_0 = 1;
-    r14_6_0 = (uint32_t)(v16 >> 24);
-    r14_9_0 = 0;
-    r14_12_0 = 0;
-    r14_15_0 = 0;
-    r14_18_0 = 0;
-    goto dfu_host_c_action_record_of_exit;
-arm_4_2:;
-    struct i32_i32 r77 = dfu_host_c_reports_report_numbers((uint8_t)v21, (uint8_t)(v21 >> 8));
-    r14_0_0 = 3;
-    r14_6_0 = r77.a;
-    r14_9_0 = 0;
-    r14_12_0 = 0;
-    r14_15_0 = r77.b;
-    r14_18_0 = 0;
-    goto dfu_host_c_action_record_of_exit;
 dfu_host_c_action_record_of_exit:
-    store32(a3, r14_0_0);
-    store32(a3 + 4, r14_6_0);
-    store64(a3 + 8, r14_9_0);
-    store64(a3 + 16, r14_12_0);
-    store32(a3 + 24, r14_15_0);
-    store64a4(a3 + 28, r14_18_0);
-    store32(a3 + 36, 0);
-    common_ret_op = 0;
-dfu_host_c_action_dfu_host_next_exit:
+        store32(a3, r14_0_0);
+        store32(a3 + 4, r14_6_0);
+        store64(a3 + 8, r14_9_0);
+        store64(a3 + 16, r14_12_0);
+        store32(a3 + 24, r14_15_0);
+        store64a4(a3 + 28, r14_18_0);
+        store32(a3 + 36, 0);
+        common_ret_op = 0;
+    }
     return signed32(common_ret_op);
 }
 
-/* dfuse_read_file */
+/* dfuse_read_file: crates/dfu_host_c/src/dfuse/file.rt */
 int32_t dfuse_read_file(const uint8_t *file, size_t length, struct dfuse_file *out) {
     unsigned char *a0 = (unsigned char *)(uintptr_t)file;
-    uint64_t a1 = length;
+    size_t a1 = (size_t)length;
     unsigned char *a2 = (unsigned char *)(uintptr_t)out;
     _Alignas(8) unsigned char r4[72];
     unsigned char *const r4_2 = r4;
     _Alignas(8) unsigned char r5[32];
     uint16_t r3_0_0_copyload, r3_3_0_copyload, r3_4_0_copyload;
     uint8_t r3_5_0_copyload, r1_0_0_copyload, r1_0_0_in, r1_0_0;
-    uint64_t r3_61_0_copyload, r3_7_0_copyload, r1_9_0, r1_14_0;
+    size_t r3_61_0_copyload, r1_9_0;
+    uint64_t r3_7_0_copyload, r1_14_0;
     unsigned char *r32, *r1_8_0_r32_sroa_idx, *r1_8_5_0_r1_8_0_r32_sroa_idx_sroa_idx;
     uint32_t v2, r6_0;
     memset(r5, 0, 32);
-    dfuse_file_file_read(r5, (unsigned char *)((uintptr_t)a0 + (uintptr_t)(uint64_t)((a0 == NULL) ? 4096 : 0)), a1);
+    dfuse_file_file_read(r5, (unsigned char *)((uintptr_t)a0 + (uintptr_t)(size_t)((a0 == NULL) ? 4096 : 0)), a1);
     uint8_t r13 = *r5;
-    if (r13 != 0) goto arm_2;
-    r3_0_0_copyload = load16(r5 + 8);
-    r3_3_0_copyload = load16(r5 + 10);
-    r3_4_0_copyload = load16(r5 + 12);
-    r3_5_0_copyload = r5[14];
-    r3_61_0_copyload = load64(r5 + 16);
-    r3_7_0_copyload = load64(r5 + 24);
-    memset(r4, 0, 72);
-    if (r3_5_0_copyload != 0) goto join_3;
-    v2 = 256;
-    goto dfu_host_c_dfuse_file_file_record_exit;
-join_3:
-    dfuse_file_headings_take_heading(r4, (unsigned char *)(uintptr_t)r3_61_0_copyload, r3_7_0_copyload);
-    uint8_t r31 = *r4;
-    if (r31 != 1) goto loop_7_preheader;
-    v2 = 256;
-    goto dfu_host_c_dfuse_file_file_record_exit;
-loop_7_preheader:
-    r1_0_0_copyload = r4[8];
-    uint64_t r1_8_0_0_copyload = load64(r4 + 56);
-    uint64_t r1_8_5_0_copyload = load64(r4 + 64);
-    r32 = r4_2 + 8;
-    r1_8_0_r32_sroa_idx = r4_2 + 56;
-    r1_8_5_0_r1_8_0_r32_sroa_idx_sroa_idx = r4_2 + 64;
-    r1_0_0_in = r3_5_0_copyload;
-    r1_9_0 = r1_8_0_0_copyload;
-    r1_14_0 = r1_8_5_0_copyload;
-loop_7:
-    r1_0_0 = (uint8_t)(r1_0_0_in + 255);
-    memset(r4_2, 0, 72);
-    if (r1_0_0 != 0) goto join_3_2;
-    goto v1;
-join_3_2:
-    dfuse_file_headings_take_heading(r4_2, (unsigned char *)(uintptr_t)r1_9_0, r1_14_0);
-    uint8_t r31_2 = *r4_2;
-    if (r31_2 == 1) goto return_5_critedge;
-    uint8_t r1_0_0_copyload_2 = *r32;
-    uint64_t r1_8_0_0_copyload_2 = load64(r1_8_0_r32_sroa_idx);
-    uint64_t r1_8_5_0_copyload_2 = load64(r1_8_5_0_r1_8_0_r32_sroa_idx_sroa_idx);
-    if (r1_0_0_copyload_2 == r1_0_0_copyload) {
-        r1_0_0_in = r1_0_0;
-        r1_9_0 = r1_8_0_0_copyload_2;
-        r1_14_0 = r1_8_5_0_copyload_2;
-        goto loop_7;
+    if (r13 != 0) {
+        uint8_t r4_0_0_copyload = r5[1];
+        r6_0 = (uint32_t)0xffffffb9U - (uint32_t)r4_0_0_copyload;
     }
-    v2 = 256;
-    goto dfu_host_c_dfuse_file_file_record_exit;
-return_5_critedge:;
+    else {
+        r3_0_0_copyload = load16(r5 + 8);
+        r3_3_0_copyload = load16(r5 + 10);
+        r3_4_0_copyload = load16(r5 + 12);
+        r3_5_0_copyload = r5[14];
+        r3_61_0_copyload = (size_t)load64(r5 + 16);
+        r3_7_0_copyload = load64(r5 + 24);
+        memset(r4, 0, 72);
+        if (r3_5_0_copyload == 0) v2 = 256;
+        else {
+            dfuse_file_headings_take_heading(r4, (unsigned char *)(uintptr_t)r3_61_0_copyload, r3_7_0_copyload);
+            uint8_t r31 = *r4;
+            if (r31 == 1) v2 = 256;
+            else {
+                r1_0_0_copyload = r4[8];
+                size_t r1_8_0_0_copyload = (size_t)load64(r4 + 56);
+                uint64_t r1_8_5_0_copyload = load64(r4 + 64);
+                r32 = r4_2 + 8;
+                r1_8_0_r32_sroa_idx = r4_2 + 56;
+                r1_8_5_0_r1_8_0_r32_sroa_idx_sroa_idx = r4_2 + 64;
+                r1_0_0_in = r3_5_0_copyload;
+                r1_9_0 = r1_8_0_0_copyload;
+                r1_14_0 = r1_8_5_0_copyload;
+                for (;;) {
+                    r1_0_0 = (uint8_t)(r1_0_0_in + 255);
+                    memset(r4_2, 0, 72);
+                    if (r1_0_0 == 0) break;
+                    dfuse_file_headings_take_heading(r4_2, (unsigned char *)(uintptr_t)r1_9_0, r1_14_0);
+                    uint8_t r31_2 = *r4_2;
+                    if (r31_2 == 1) goto return_5_critedge;
+                    uint8_t r1_0_0_copyload_2 = *r32;
+                    size_t r1_8_0_0_copyload_2 = (size_t)load64(r1_8_0_r32_sroa_idx);
+                    uint64_t r1_8_5_0_copyload_2 = load64(r1_8_5_0_r1_8_0_r32_sroa_idx_sroa_idx);
+                    if (r1_0_0_copyload_2 != r1_0_0_copyload) {
+                        v2 = 256;
+                        goto dfu_host_c_dfuse_file_file_record_exit;
+                    }
+                    r1_0_0_in = r1_0_0;
+                    r1_9_0 = r1_8_0_0_copyload_2;
+                    r1_14_0 = r1_8_5_0_copyload_2;
+                }
+                goto v1;
+return_5_critedge:
 v1:
-    v2 = (uint32_t)r1_0_0_copyload;
+                v2 = (uint32_t)r1_0_0_copyload;
+            }
+        }
 dfu_host_c_dfuse_file_file_record_exit:
-    store32(a2, (uint32_t)r3_5_0_copyload);
-    store32(a2 + 4, v2);
-    store16(a2 + 8, r3_0_0_copyload);
-    store16(a2 + 10, r3_3_0_copyload);
-    store16(a2 + 12, r3_4_0_copyload);
-    store16(a2 + 14, 0);
-    r6_0 = 0;
-    goto dfu_host_c_dfuse_file_dfuse_read_file_exit;
-arm_2:;
-    uint8_t r4_0_0_copyload = r5[1];
-    r6_0 = (uint32_t)0xffffffb9U - (uint32_t)r4_0_0_copyload;
-dfu_host_c_dfuse_file_dfuse_read_file_exit:
+        store32(a2, (uint32_t)r3_5_0_copyload);
+        store32(a2 + 4, v2);
+        store16(a2 + 8, r3_0_0_copyload);
+        store16(a2 + 10, r3_3_0_copyload);
+        store16(a2 + 12, r3_4_0_copyload);
+        store16(a2 + 14, 0);
+        r6_0 = 0;
+    }
     return signed32(r6_0);
 }
 
-/* dfu_host_upload */
+/* dfu_host_upload: crates/dfu_host_c/src/beginning.rt */
 int32_t dfu_host_upload(struct dfu_session *session, const uint8_t *descriptor, size_t size, uint32_t actions, uint16_t restarts) {
     unsigned char *a0 = (unsigned char *)(uintptr_t)session;
     unsigned char *a1 = (unsigned char *)(uintptr_t)descriptor;
-    uint64_t a2 = size;
+    size_t a2 = (size_t)size;
     uint32_t a3 = actions;
     uint16_t a4 = restarts;
     _Alignas(8) unsigned char r7[64];
@@ -7403,51 +6815,47 @@ int32_t dfu_host_upload(struct dfu_session *session, const uint8_t *descriptor, 
     uint8_t r4_4_0_copyload, r4_5_0_copyload;
     uint16_t r4_6_0_copyload, r4_7_0_copyload;
     uint32_t common_ret_op;
-    dfu_wire_functionals_Functional_decode(r9, (unsigned char *)((uintptr_t)a1 + (uintptr_t)(uint64_t)((a1 == NULL) ? 4096 : 0)), a2);
+    dfu_wire_functionals_Functional_decode(r9, (unsigned char *)((uintptr_t)a1 + (uintptr_t)(size_t)((a1 == NULL) ? 4096 : 0)), a2);
     uint8_t r21 = *r9;
-    if (r21 != 0) goto arm_2;
-    uint8_t r4_3_0_copyload = r9[3];
-    r4_4_0_copyload = r9[4];
-    r4_5_0_copyload = r9[5];
-    r4_6_0_copyload = load16(r9 + 6);
-    r4_7_0_copyload = load16(r9 + 8);
-    if (!(r4_3_0_copyload & 1)) {
-        common_ret_op = 0xffffffe8U;
-        goto dfu_host_c_beginning_dfu_host_upload_exit;
+    if (r21 != 0) {
+        uint8_t r5_0_0_copyload = r9[1];
+        common_ret_op = (uint32_t)0xffffffe1U - (uint32_t)r5_0_0_copyload;
     }
-    if (r4_7_0_copyload == 0) {
-        common_ret_op = 0xffffffe7U;
-        goto dfu_host_c_beginning_dfu_host_upload_exit;
+    else {
+        uint8_t r4_3_0_copyload = r9[3];
+        r4_4_0_copyload = r9[4];
+        r4_5_0_copyload = r9[5];
+        r4_6_0_copyload = load16(r9 + 6);
+        r4_7_0_copyload = load16(r9 + 8);
+        if (!(r4_3_0_copyload & 1)) common_ret_op = 0xffffffe8U;
+        else {
+            if (r4_7_0_copyload == 0) common_ret_op = 0xffffffe7U;
+            else {
+                store64(r7, 1);
+                memset(r7 + 8, 0, 16);
+                store16(r7 + 24, r4_7_0_copyload);
+                r7[26] = r4_4_0_copyload;
+                r7[27] = r4_5_0_copyload;
+                store16(r7 + 28, r4_6_0_copyload);
+                memset(r7 + 30, 0, 26);
+                store32(r7 + 56, umax32(a3, 1));
+                store16(r7 + 60, a4);
+                store16(r7 + 62, 0);
+                dfu_host_c_beginning_start(a0, r7);
+                common_ret_op = 0;
+            }
+        }
     }
-    goto arm_5;
-arm_2:;
-    uint8_t r5_0_0_copyload = r9[1];
-    common_ret_op = (uint32_t)0xffffffe1U - (uint32_t)r5_0_0_copyload;
-    goto dfu_host_c_beginning_dfu_host_upload_exit;
-arm_5:
-    store64(r7, 1);
-    memset(r7 + 8, 0, 16);
-    store16(r7 + 24, r4_7_0_copyload);
-    r7[26] = r4_4_0_copyload;
-    r7[27] = r4_5_0_copyload;
-    store16(r7 + 28, r4_6_0_copyload);
-    memset(r7 + 30, 0, 26);
-    store32(r7 + 56, umax32(a3, 1));
-    store16(r7 + 60, a4);
-    store16(r7 + 62, 0);
-    dfu_host_c_beginning_start(a0, r7);
-    common_ret_op = 0;
-dfu_host_c_beginning_dfu_host_upload_exit:
     return signed32(common_ret_op);
 }
 
-/* dfu_host_download */
+/* dfu_host_download: crates/dfu_host_c/src/beginning.rt */
 int32_t dfu_host_download(struct dfu_session *session, const uint8_t *file, size_t length, const uint8_t *descriptor, size_t size, const struct dfu_ids *device, uint32_t actions, uint16_t restarts) {
     unsigned char *a0 = (unsigned char *)(uintptr_t)session;
     unsigned char *a1 = (unsigned char *)(uintptr_t)file;
-    uint64_t a2 = length;
+    size_t a2 = (size_t)length;
     unsigned char *a3 = (unsigned char *)(uintptr_t)descriptor;
-    uint64_t a4 = size;
+    size_t a4 = (size_t)size;
     unsigned char *a5 = (unsigned char *)(uintptr_t)device;
     uint32_t a6 = actions;
     uint16_t a7 = restarts;
@@ -7458,17 +6866,17 @@ int32_t dfu_host_download(struct dfu_session *session, const uint8_t *file, size
     store16(r7, r4);
     store16(r7 + 2, r6);
     store16(r7 + 4, r8);
-    uint32_t r19 = dfu_host_c_beginning_install(a0, (unsigned char *)((uintptr_t)a1 + (uintptr_t)(uint64_t)((a1 == NULL) ? 4096 : 0)), a2, (unsigned char *)((uintptr_t)a3 + (uintptr_t)(uint64_t)((a3 == NULL) ? 4096 : 0)), a4, r7, a6, a7, 0);
+    uint32_t r19 = dfu_host_c_beginning_install(a0, (unsigned char *)((uintptr_t)a1 + (uintptr_t)(size_t)((a1 == NULL) ? 4096 : 0)), a2, (unsigned char *)((uintptr_t)a3 + (uintptr_t)(size_t)((a3 == NULL) ? 4096 : 0)), a4, r7, a6, a7, 0);
     return signed32(r19);
 }
 
-/* dfu_host_verified */
+/* dfu_host_verified: crates/dfu_host_c/src/beginning.rt */
 int32_t dfu_host_verified(struct dfu_session *session, const uint8_t *file, size_t length, const uint8_t *descriptor, size_t size, const struct dfu_ids *device, uint32_t actions, uint16_t restarts) {
     unsigned char *a0 = (unsigned char *)(uintptr_t)session;
     unsigned char *a1 = (unsigned char *)(uintptr_t)file;
-    uint64_t a2 = length;
+    size_t a2 = (size_t)length;
     unsigned char *a3 = (unsigned char *)(uintptr_t)descriptor;
-    uint64_t a4 = size;
+    size_t a4 = (size_t)size;
     unsigned char *a5 = (unsigned char *)(uintptr_t)device;
     uint32_t a6 = actions;
     uint16_t a7 = restarts;
@@ -7479,144 +6887,133 @@ int32_t dfu_host_verified(struct dfu_session *session, const uint8_t *file, size
     store16(r7, r4);
     store16(r7 + 2, r6);
     store16(r7 + 4, r8);
-    uint32_t r19 = dfu_host_c_beginning_install(a0, (unsigned char *)((uintptr_t)a1 + (uintptr_t)(uint64_t)((a1 == NULL) ? 4096 : 0)), a2, (unsigned char *)((uintptr_t)a3 + (uintptr_t)(uint64_t)((a3 == NULL) ? 4096 : 0)), a4, r7, a6, a7, 1);
+    uint32_t r19 = dfu_host_c_beginning_install(a0, (unsigned char *)((uintptr_t)a1 + (uintptr_t)(size_t)((a1 == NULL) ? 4096 : 0)), a2, (unsigned char *)((uintptr_t)a3 + (uintptr_t)(size_t)((a3 == NULL) ? 4096 : 0)), a4, r7, a6, a7, 1);
     return signed32(r19);
 }
 
-/* dfu_host_take */
+/* dfu_host_take: crates/dfu_host_c/src/steps.rt */
 int32_t dfu_host_take(struct dfu_session *session, const uint8_t *payload, size_t length, uint8_t *kept, size_t room, uint32_t seen, const uint8_t *bytes, size_t count) {
     unsigned char *a0 = (unsigned char *)(uintptr_t)session;
     unsigned char *a1 = (unsigned char *)(uintptr_t)payload;
-    uint64_t a2 = length;
+    size_t a2 = (size_t)length;
     unsigned char *a3 = (unsigned char *)(uintptr_t)kept;
-    uint64_t a4 = room;
+    size_t a4 = (size_t)room;
     uint32_t a5 = seen;
     unsigned char *a6 = (unsigned char *)(uintptr_t)bytes;
-    uint64_t a7 = count;
+    size_t a7 = (size_t)count;
     _Alignas(8) unsigned char r9[72];
     _Alignas(8) unsigned char r7[64];
     _Alignas(8) unsigned char r0[48];
     _Alignas(8) unsigned char r16[24];
     _Alignas(8) unsigned char r18[24];
     unsigned char *r13, *r22, *v5;
-    uint64_t r30, r3_20_0_0, r3_20_10_0, r3_11_0_0, v4, r0_4_0_pn, r14_0;
+    uint64_t r30, r0_4_0_pn, r14_0;
+    size_t r3_20_0_0, r3_20_10_0, r3_11_0_0, v4;
     uint8_t v1;
     uint32_t common_ret_op;
-    r13 = (unsigned char *)((uintptr_t)a3 + (uintptr_t)(uint64_t)((a3 == NULL) ? 4096 : 0));
-    r22 = (unsigned char *)((uintptr_t)a6 + (uintptr_t)(uint64_t)((a6 == NULL) ? 4096 : 0));
+    r13 = (unsigned char *)((uintptr_t)a3 + (uintptr_t)(size_t)((a3 == NULL) ? 4096 : 0));
+    r22 = (unsigned char *)((uintptr_t)a6 + (uintptr_t)(size_t)((a6 == NULL) ? 4096 : 0));
     memset(r9, 0, 72);
-    dfu_host_c_holding_session_of(r9, a0, (unsigned char *)((uintptr_t)a1 + (uintptr_t)(uint64_t)((a1 == NULL) ? 4096 : 0)), a2);
+    dfu_host_c_holding_session_of(r9, a0, (unsigned char *)((uintptr_t)a1 + (uintptr_t)(size_t)((a1 == NULL) ? 4096 : 0)), a2);
     uint8_t r26 = *r9;
-    if (r26 != 1) {
-        common_ret_op = 0xffffffd7U;
-        goto dfu_host_c_steps_dfu_host_take_exit;
-    }
-    memcpy(r7, r9 + 8, 64);
-    r30 = load64(a0 + 16);
-    if (a4 < r30) {
-        common_ret_op = 0xffffffd7U;
-        goto dfu_host_c_steps_dfu_host_take_exit;
-    }
-    switch (a5) {
-    case 0:
-        r3_20_0_0 = 0;
-        r3_20_10_0 = 0;
-        v1 = 0;
-        r3_11_0_0 = 0;
-        goto arm_8;
-    case 1: goto arm_2;
-    case 2: goto arm_3;
-    case 3: goto arm_4;
-    case 4: goto arm_5;
-    case 6: goto arm_6;
-    case 5: goto arm_7;
-    case 7: goto arm_8_2;
-    default:
-        common_ret_op = 0xffffffd6U;
-        goto dfu_host_c_steps_dfu_host_take_exit;
-    }
-arm_2:
-    r3_20_0_0 = (uint64_t)(uintptr_t)r22;
-    r3_20_10_0 = a7;
-    v1 = 1;
-    r3_11_0_0 = 1;
-    goto arm_8;
-arm_3:
-    r3_20_0_0 = 0;
-    r3_20_10_0 = 0;
-    v1 = 0;
-    r3_11_0_0 = 2;
-    goto arm_8;
-arm_4:
-    r3_20_0_0 = 0;
-    r3_20_10_0 = 0;
-    v1 = 0;
-    r3_11_0_0 = 3;
-    goto arm_8;
-arm_5:
-    r3_20_0_0 = 0;
-    r3_20_10_0 = 0;
-    v1 = 0;
-    r3_11_0_0 = 4;
-    goto arm_8;
-arm_6:
-    r3_20_0_0 = 0;
-    r3_20_10_0 = 0;
-    v1 = 0;
-    r3_11_0_0 = 6;
-    goto arm_8;
-arm_7:
-    r3_20_0_0 = 0;
-    r3_20_10_0 = 0;
-    v1 = 0;
-    r3_11_0_0 = 5;
-    goto arm_8;
-arm_8_2:
-    r3_20_0_0 = 0;
-    r3_20_10_0 = 0;
-    v1 = 0;
-    r3_11_0_0 = 7;
-arm_8:
-    memset(r0, 0, 48);
-    uint8_t r8_0_0_copyload = r7[32];
-    if (!(v1 & (r8_0_0_copyload == 18))) {
-        r0_4_0_pn = r30;
-        goto arm_1;
-    }
-    uint16_t r8_4_2_copyload = load16(r7 + 34);
-    uint16_t r7_2 = load16(r7 + 24);
-    uint64_t r9_2 = (uint64_t)r7_2;
-    v4 = (uint64_t)((r8_4_2_copyload == 0) ? 0 : r30);
-    v5 = (unsigned char *)(uintptr_t)r3_20_0_0;
-    if (!((r3_20_10_0 < r9_2) | ((r8_4_2_copyload != 0xfffeU) & (r3_20_10_0 == r9_2)))) {
-        r0_4_0_pn = r30;
-        goto arm_1;
-    }
-    if ((a4 - v4) < r3_20_10_0) goto arm_2_2;
-    core_slice_edits_slice_T_copy_from_slice_i8_core_clone_U8Clone(r13 + (size_t)v4, v5, r3_20_10_0);
-    r0_4_0_pn = v4 + r3_20_10_0;
-arm_1:
-    store64(r16, r3_11_0_0);
-    store64(r16 + 8, r3_20_0_0);
-    store64(r16 + 16, r3_20_10_0);
-    dfu_host_session_Session_on_result(r7, r16, 0);
-    r14_0 = r0_4_0_pn;
-    goto dfu_host_c_steps_step_exit;
-arm_2_2:
-    store64(r18, r3_11_0_0);
-    store64(r18 + 8, r3_20_0_0);
-    store64(r18 + 16, r3_20_10_0);
-    dfu_host_session_Session_on_result(r7, r18, 1);
-    r14_0 = r30;
+    if (r26 != 1) common_ret_op = 0xffffffd7U;
+    else {
+        memcpy(r7, r9 + 8, 64);
+        r30 = load64(a0 + 16);
+        if ((uint64_t)a4 < r30) common_ret_op = 0xffffffd7U;
+        else {
+            switch (a5) {
+            case 0:
+                r3_20_0_0 = 0;
+                r3_20_10_0 = 0;
+                v1 = 0;
+                r3_11_0_0 = 0;
+                break;
+            case 1:
+                r3_20_0_0 = (size_t)(uintptr_t)r22;
+                r3_20_10_0 = a7;
+                v1 = 1;
+                r3_11_0_0 = 1;
+                break;
+            case 2:
+                r3_20_0_0 = 0;
+                r3_20_10_0 = 0;
+                v1 = 0;
+                r3_11_0_0 = 2;
+                break;
+            case 3:
+                r3_20_0_0 = 0;
+                r3_20_10_0 = 0;
+                v1 = 0;
+                r3_11_0_0 = 3;
+                break;
+            case 4:
+                r3_20_0_0 = 0;
+                r3_20_10_0 = 0;
+                v1 = 0;
+                r3_11_0_0 = 4;
+                break;
+            case 6:
+                r3_20_0_0 = 0;
+                r3_20_10_0 = 0;
+                v1 = 0;
+                r3_11_0_0 = 6;
+                break;
+            case 5:
+                r3_20_0_0 = 0;
+                r3_20_10_0 = 0;
+                v1 = 0;
+                r3_11_0_0 = 5;
+                break;
+            case 7:
+                r3_20_0_0 = 0;
+                r3_20_10_0 = 0;
+                v1 = 0;
+                r3_11_0_0 = 7;
+                break;
+            default:
+                common_ret_op = 0xffffffd6U;
+                goto dfu_host_c_steps_dfu_host_take_exit;
+            }
+            memset(r0, 0, 48);
+            uint8_t r8_0_0_copyload = r7[32];
+            if (!(v1 & (r8_0_0_copyload == 18))) r0_4_0_pn = r30;
+            else {
+                uint16_t r8_4_2_copyload = load16(r7 + 34);
+                uint16_t r7_2 = load16(r7 + 24);
+                size_t r9_2 = (size_t)r7_2;
+                v4 = (size_t)((r8_4_2_copyload == 0) ? 0 : (size_t)r30);
+                v5 = (unsigned char *)(uintptr_t)r3_20_0_0;
+                if (!((r3_20_10_0 < r9_2) | ((r8_4_2_copyload != 0xfffeU) & (r3_20_10_0 == r9_2)))) r0_4_0_pn = r30;
+                else {
+                    if ((a4 - v4) < r3_20_10_0) {
+                        store64(r18, r3_11_0_0);
+                        store64(r18 + 8, r3_20_0_0);
+                        store64(r18 + 16, r3_20_10_0);
+                        dfu_host_session_Session_on_result(r7, r18, 1);
+                        r14_0 = r30;
+                        goto dfu_host_c_steps_step_exit;
+                    }
+                    core_slice_edits_slice_T_copy_from_slice_i8_core_clone_U8Clone(r13 + v4, v5, r3_20_10_0);
+                    r0_4_0_pn = (uint64_t)v4 + (uint64_t)r3_20_10_0;
+                }
+            }
+            store64(r16, r3_11_0_0);
+            store64(r16 + 8, r3_20_0_0);
+            store64(r16 + 16, r3_20_10_0);
+            dfu_host_session_Session_on_result(r7, r16, 0);
+            r14_0 = r0_4_0_pn;
 dfu_host_c_steps_step_exit:
-    dfu_host_c_holding_record_of(r0, r7, r14_0);
-    memcpy(a0, r0, 48);
-    common_ret_op = 0;
+            dfu_host_c_holding_record_of(r0, r7, r14_0);
+            memcpy(a0, r0, 48);
+            common_ret_op = 0;
+        }
+    }
 dfu_host_c_steps_dfu_host_take_exit:
     return signed32(common_ret_op);
 }
 
-/* dfuse_watch_after */
+/* dfuse_watch_after: crates/dfu_host_c/src/dfuse/watching.rt */
 uint32_t dfuse_watch_after(struct dfuse_watch *watch, const struct dfuse_session *session, const struct dfuse_action *action, uint32_t command, uint32_t seen, const struct dfu_facts *facts) {
     unsigned char *a0 = (unsigned char *)(uintptr_t)watch;
     unsigned char *a1 = (unsigned char *)(uintptr_t)session;
@@ -7630,38 +7027,37 @@ uint32_t dfuse_watch_after(struct dfuse_watch *watch, const struct dfuse_session
     r4 = a2 + 8;
     uint32_t r5 = load32(r4);
     r7 = r5 != 0;
-    if (r7) goto dfu_host_c_dfuse_watching_is_out_exit_thread;
-    uint8_t r11 = *a5;
-    if (r11 != 0) goto else_2;
-    uint32_t r15 = load32(a0);
-    r3_0 = r15;
-    goto join_4;
-else_2:
-    if (a4 == 3) goto dfu_host_c_dfuse_watching_is_out_exit;
-    r3_0_ph27 = 0;
-    goto then_2;
-dfu_host_c_dfuse_watching_is_out_exit_thread:;
-    uint32_t r15_2 = load32(a0);
-    r3_0 = r15_2;
-    goto join_4;
-dfu_host_c_dfuse_watching_is_out_exit:;
-    uint32_t r20 = load32(a0);
-    r3_0_ph27 = r20 + (uint32_t)(r20 < 24);
-then_2:;
-    uint8_t r12 = a2[20];
-    if (r12 != 161) {
-        r3_0_2 = r3_0_ph27;
-        r7_0 = 0;
-        goto after_1;
+    if (r7) {
+        uint32_t r15 = load32(a0);
+        r3_0 = r15;
     }
-    uint8_t r22 = a2[21];
-    if (r22 != 3) {
-        r3_0_2 = r3_0_ph27;
-        r7_0 = 0;
-        goto after_1;
+    else {
+        uint8_t r11 = *a5;
+        if (r11 == 0) {
+            uint32_t r15_2 = load32(a0);
+            r3_0 = r15_2;
+        }
+        else {
+            if (a4 != 3) r3_0_ph27 = 0;
+            else {
+                uint32_t r20 = load32(a0);
+                r3_0_ph27 = r20 + (uint32_t)(r20 < 24);
+            }
+            uint8_t r12 = a2[20];
+            if (r12 != 161) {
+                r3_0_2 = r3_0_ph27;
+                r7_0 = 0;
+                goto after_1;
+            }
+            uint8_t r22 = a2[21];
+            if (r22 != 3) {
+                r3_0_2 = r3_0_ph27;
+                r7_0 = 0;
+                goto after_1;
+            }
+            r3_0 = r3_0_ph27;
+        }
     }
-    r3_0 = r3_0_ph27;
-join_4:;
     uint32_t r44 = load32(a0 + 4);
     r3_0_2 = r3_0;
     r7_0 = r44;
@@ -7669,175 +7065,160 @@ after_1:
     r46 = a0 + 8;
     uint8_t r47 = *r46;
     uint8_t r49 = r47 != 0;
-    if (r7 | r49) {
-        r16_0_in = r49;
-        goto dfu_host_c_dfuse_watching_watched_exit;
+    if (r7 | r49) r16_0_in = r49;
+    else {
+        uint8_t r32 = a2[20];
+        if (r32 != 33) r16_0_in = 0;
+        else {
+            uint8_t r45 = a2[21];
+            if (r45 != 1) r16_0_in = 0;
+            else {
+                uint64_t r54 = load64(a2);
+                if (r54 == 0) r16_0_in = 0;
+                else {
+                    uint8_t r67 = a2[22];
+                    if (r67 != 0) r14_0_in = 1;
+                    else {
+                        uint8_t r77 = a2[23];
+                        r14_0_in = r77 != 0;
+                    }
+                    r16_0_in = (a3 == 65) | r14_0_in;
+                }
+            }
+        }
     }
-    uint8_t r32 = a2[20];
-    if (r32 != 33) {
-        r16_0_in = 0;
-        goto dfu_host_c_dfuse_watching_watched_exit;
-    }
-    uint8_t r45 = a2[21];
-    if (r45 != 1) {
-        r16_0_in = 0;
-        goto dfu_host_c_dfuse_watching_watched_exit;
-    }
-    uint64_t r54 = load64(a2);
-    if (r54 == 0) {
-        r16_0_in = 0;
-        goto dfu_host_c_dfuse_watching_watched_exit;
-    }
-    uint8_t r67 = a2[22];
-    if (r67 != 0) {
-        r14_0_in = 1;
-        goto join_15;
-    }
-    uint8_t r77 = a2[23];
-    r14_0_in = r77 != 0;
-join_15:
-    r16_0_in = (a3 == 65) | r14_0_in;
-dfu_host_c_dfuse_watching_watched_exit:
     store32(a0, r3_0_2);
     store32(a0 + 4, r7_0);
     *r46 = r16_0_in;
     memset(a0 + 9, 0, 3);
     uint32_t r5_2 = load32(a1 + 4);
-    if (r5_2 != 6) goto join_4_thread;
-    uint32_t r12_2 = load32(a1 + 36);
-    if (r12_2 <= 11) goto join_4_thread20;
-    uint8_t r13 = a5[4];
-    if (r13 == 0) goto join_3_thread;
-    uint8_t r20_2 = a5[6];
-    uint32_t r28 = load32(r4);
-    r30 = r28 != 0;
-    if ((r20_2 == 0) | r30) goto dfu_host_c_dfuse_watching_is_gone_by_then_exit;
-    goto join_9;
-join_3_thread:;
-    uint32_t r288 = load32(r4);
-    if (r288 != 0) goto join_4_2;
-join_9:;
-    uint8_t r40 = a5[1];
-    if (((a4 == 7) | (r40 != 0)) ? 1 : (r3_0_2 > 2)) {
-        r2_0 = 8;
-        goto dfu_host_c_dfuse_watching_dfuse_watch_after_exit;
+    if (r5_2 != 6) {
+        uint8_t r3915 = a5[1];
+        if (r3915 != 0) goto then_9;
     }
-    goto join_4_2;
-dfu_host_c_dfuse_watching_is_gone_by_then_exit:
-    if (!r30) {
-        r2_0 = 8;
-        goto dfu_host_c_dfuse_watching_dfuse_watch_after_exit;
+    else {
+        uint32_t r12_2 = load32(a1 + 36);
+        if (r12_2 > 11) {
+            uint8_t r13 = a5[4];
+            if (r13 == 0) {
+                uint32_t r288 = load32(r4);
+                if (r288 != 0) goto join_4;
+            }
+            else {
+                uint8_t r20_2 = a5[6];
+                uint32_t r28 = load32(r4);
+                r30 = r28 != 0;
+                if ((r20_2 == 0) | r30) {
+                    if (r30) goto join_4;
+                    r2_0 = 8;
+                    goto dfu_host_c_dfuse_watching_dfuse_watch_after_exit;
+                }
+            }
+            uint8_t r40 = a5[1];
+            if (((a4 == 7) | (r40 != 0)) ? 1 : (r3_0_2 > 2)) {
+                r2_0 = 8;
+                goto dfu_host_c_dfuse_watching_dfuse_watch_after_exit;
+            }
+join_4:;
+            uint8_t r39 = a5[1];
+            if (r39 == 0) goto join_29;
+            goto then_9;
+        }
+        uint8_t r3922 = a5[1];
+        if (r3922 != 0) goto then_9;
     }
-join_4_2:;
-    uint8_t r39 = a5[1];
-    if (r39 == 0) goto join_29;
-    goto then_9;
-join_4_thread20:;
-    uint8_t r3922 = a5[1];
-    if (r3922 == 0) goto then_19;
-    goto then_9;
-join_4_thread:;
-    uint8_t r3915 = a5[1];
-    if (r3915 == 0) goto then_19;
-then_9:;
-    uint8_t r46_2 = a5[3];
-    if (r46_2 != 0) {
-        r2_0 = 9;
-        goto dfu_host_c_dfuse_watching_dfuse_watch_after_exit;
-    }
-    uint8_t r53 = a5[2];
-    r2_0 = (uint32_t)((r53 == 0) ? 2 : 3);
-    goto dfu_host_c_dfuse_watching_dfuse_watch_after_exit;
-then_19:
     if (r3_0_2 > 23) {
         r2_0 = 4;
         goto dfu_host_c_dfuse_watching_dfuse_watch_after_exit;
     }
     uint8_t r83 = a5[4];
-    if (r83 == 0) goto join_29;
-    uint8_t r93 = a5[6];
-    if (r93 == 0) {
-        r2_0 = 5;
-        goto dfu_host_c_dfuse_watching_dfuse_watch_after_exit;
+    if (r83 != 0) {
+        uint8_t r93 = a5[6];
+        if (r93 == 0) {
+            r2_0 = 5;
+            goto dfu_host_c_dfuse_watching_dfuse_watch_after_exit;
+        }
     }
 join_29:
     r2_0 = 0;
+    goto dfu_host_c_dfuse_watching_dfuse_watch_after_exit;
+then_9:;
+    uint8_t r46_2 = a5[3];
+    if (r46_2 != 0) r2_0 = 9;
+    else {
+        uint8_t r53 = a5[2];
+        r2_0 = (uint32_t)((r53 == 0) ? 2 : 3);
+    }
 dfu_host_c_dfuse_watching_dfuse_watch_after_exit:
     return r2_0;
 }
 
-/* dfu_watch_after */
+/* dfu_watch_after: crates/dfu_host_c/src/watching.rt */
 uint32_t dfu_watch_after(struct dfu_watch *watch, const struct dfu_action *action, uint32_t seen, const struct dfu_facts *facts) {
     unsigned char *a0 = (unsigned char *)(uintptr_t)watch;
     unsigned char *a1 = (unsigned char *)(uintptr_t)action;
     uint32_t a2 = seen;
     unsigned char *a3 = (unsigned char *)(uintptr_t)facts;
-    uint32_t r9, r1_0, r66, r1_0_3, r1_0_2, r1_0_4, r1_0_5;
+    uint32_t r9, r1_0, r1_0_3, r66, r1_0_2, r1_0_4, r1_0_5;
     uint8_t r19, r69;
     uint8_t v1, r6, r2_0_in, r18_0_in;
     unsigned char *r43, *r68;
     r9 = load32(a1);
     switch (r9) {
-    case 0: goto join_4;
-    case 2: goto join_4;
-    default: goto then_5;
+    case 0:
+    case 2:
+        if (a2 != 3) r1_0 = 0;
+        else {
+            uint32_t r29 = load32(a0);
+            r1_0 = r29 + (uint32_t)(r29 < 24);
+        }
+        break;
+    default: {
+        uint32_t r24 = load32(a0);
+        r1_0 = r24;
+        break;
     }
-then_5:;
-    uint32_t r24 = load32(a0);
-    r1_0 = r24;
-    goto dfu_host_c_watching_silent_after_exit;
-join_4:
-    if (a2 != 3) {
-        r1_0 = 0;
-        goto dfu_host_c_watching_silent_after_exit;
     }
-    uint32_t r29 = load32(a0);
-    r1_0 = r29 + (uint32_t)(r29 < 24);
-dfu_host_c_watching_silent_after_exit:
     switch (r9) {
-    case 0: goto dfu_host_c_watching_is_reached_exit;
-    case 2: goto then_16;
-    default: goto dfu_host_c_watching_resets_after_exit;
+    case 0: {
+        uint8_t r10 = *a3;
+        if (r10 != 0) {
+            r19 = a3[5];
+            if ((a2 < 2) | (r19 != 0)) r1_0_3 = 0;
+            else {
+                uint32_t r70_2 = load32(a0 + 4);
+                r1_0_3 = r70_2;
+            }
+            r6 = 0;
+            r1_0_4 = r1_0_3;
+            r2_0_in = (a2 == 2) & (r19 == 0);
+            goto dfu_host_c_watching_stalled_after_exit;
+        }
+        uint32_t r70 = load32(a0 + 4);
+        v1 = 0;
+        r1_0_2 = r70;
+        break;
     }
-dfu_host_c_watching_is_reached_exit:;
-    uint8_t r10 = *a3;
-    if (r10 != 0) goto then_2;
-    uint32_t r70 = load32(a0 + 4);
-    v1 = 0;
-    r1_0_2 = r70;
-    goto else_2;
-then_2:
-    r19 = a3[5];
-    if ((a2 < 2) | (r19 != 0)) {
-        r1_0_3 = 0;
-        goto then_1;
+    case 2: {
+        uint8_t r49 = a0[8];
+        r66 = load32(a0 + 4);
+        if ((a2 == 5) & (r49 != 0)) {
+            v1 = 1;
+            r1_0_2 = r66 + (uint32_t)(r66 < 3);
+        }
+        else {
+            v1 = 1;
+            r1_0_2 = r66;
+        }
+        break;
     }
-    goto dfu_host_c_watching_is_reached_exit_2;
-then_16:;
-    uint8_t r49 = a0[8];
-    r66 = load32(a0 + 4);
-    if (!((a2 == 5) & (r49 != 0))) {
+    default: {
+        uint32_t r70_3 = load32(a0 + 4);
         v1 = 1;
-        r1_0_2 = r66;
-        goto else_2;
+        r1_0_2 = r70_3;
+        break;
     }
-    v1 = 1;
-    r1_0_2 = r66 + (uint32_t)(r66 < 3);
-    goto else_2;
-dfu_host_c_watching_resets_after_exit:;
-    uint32_t r70_2 = load32(a0 + 4);
-    v1 = 1;
-    r1_0_2 = r70_2;
-    goto else_2;
-dfu_host_c_watching_is_reached_exit_2:;
-    uint32_t r70_3 = load32(a0 + 4);
-    r1_0_3 = r70_3;
-then_1:
-    r6 = 0;
-    r1_0_4 = r1_0_3;
-    r2_0_in = (a2 == 2) & (r19 == 0);
-    goto dfu_host_c_watching_stalled_after_exit;
-else_2:;
+    }
     uint8_t r23 = a0[8];
     r6 = v1;
     r1_0_4 = r1_0_2;
@@ -7846,18 +7227,15 @@ dfu_host_c_watching_stalled_after_exit:
     r43 = a0 + 9;
     uint8_t r44 = *r43;
     uint8_t r46 = r44 != 0;
-    if (r6 | r46) {
-        r18_0_in = r46;
-        goto dfu_host_c_watching_watched_exit;
+    if (r6 | r46) r18_0_in = r46;
+    else {
+        uint8_t r10_2 = *a3;
+        if (r10_2 == 0) r18_0_in = 0;
+        else {
+            uint8_t r57 = dfu_host_c_watching_is_download(a1);
+            r18_0_in = r57;
+        }
     }
-    uint8_t r10_2 = *a3;
-    if (r10_2 == 0) {
-        r18_0_in = 0;
-        goto dfu_host_c_watching_watched_exit;
-    }
-    uint8_t r57 = dfu_host_c_watching_is_download(a1);
-    r18_0_in = r57;
-dfu_host_c_watching_watched_exit:
     r68 = a0 + 10;
     r69 = *r68;
     store32(a0, r1_0);
@@ -7866,56 +7244,51 @@ dfu_host_c_watching_watched_exit:
     *r43 = r18_0_in;
     a0[11] = 0;
     uint8_t r27 = a3[1];
-    if (r27 == 0) goto join_4_2;
-    uint8_t r34 = a3[3];
-    if (r34 != 0) goto join_4_2;
-    uint8_t r44_2 = a3[2];
-    r1_0_5 = (uint32_t)((r44_2 == 0) ? 2 : 3);
-    goto dfu_host_c_watching_dfu_watch_after_exit;
-join_4_2:
-    if (r1_0 > 23) {
-        r1_0_5 = 4;
-        goto dfu_host_c_watching_dfu_watch_after_exit;
+    if (r27 != 0) {
+        uint8_t r34 = a3[3];
+        if (r34 == 0) {
+            uint8_t r44_2 = a3[2];
+            r1_0_5 = (uint32_t)((r44_2 == 0) ? 2 : 3);
+            goto dfu_host_c_watching_dfu_watch_after_exit;
+        }
     }
-    uint8_t r57_2 = dfu_host_c_watching_is_other(a0, a3);
-    if (r57_2) {
-        r1_0_5 = 5;
-        goto dfu_host_c_watching_dfu_watch_after_exit;
+    if (r1_0 > 23) r1_0_5 = 4;
+    else {
+        uint8_t r57_2 = dfu_host_c_watching_is_other(a0, a3);
+        if (r57_2) r1_0_5 = 5;
+        else {
+            uint8_t r62 = a3[4];
+            if (r62 == 0) r1_0_5 = 0;
+            else {
+                uint8_t r69_2 = a3[5];
+                if (r69_2 == 0) r1_0_5 = 0;
+                else {
+                    uint8_t r79 = a3[7];
+                    if (r79 != 0) r1_0_5 = 0;
+                    else {
+                        if (r18_0_in | (r69 != 0)) r1_0_5 = 5;
+                        else {
+                            *r68 = 1;
+                            r1_0_5 = 1;
+                        }
+                    }
+                }
+            }
+        }
     }
-    uint8_t r62 = a3[4];
-    if (r62 == 0) {
-        r1_0_5 = 0;
-        goto dfu_host_c_watching_dfu_watch_after_exit;
-    }
-    uint8_t r69_2 = a3[5];
-    if (r69_2 == 0) {
-        r1_0_5 = 0;
-        goto dfu_host_c_watching_dfu_watch_after_exit;
-    }
-    uint8_t r79 = a3[7];
-    if (r79 != 0) {
-        r1_0_5 = 0;
-        goto dfu_host_c_watching_dfu_watch_after_exit;
-    }
-    if (r18_0_in | (r69 != 0)) {
-        r1_0_5 = 5;
-        goto dfu_host_c_watching_dfu_watch_after_exit;
-    }
-    *r68 = 1;
-    r1_0_5 = 1;
 dfu_host_c_watching_dfu_watch_after_exit:
     return r1_0_5;
 }
 
-/* dfuse_next */
+/* dfuse_next: crates/dfu_host_c/src/dfuse/action.rt */
 int32_t dfuse_next(const struct dfuse_session *session, const uint8_t *map, size_t map_length, const struct dfuse_element *image, size_t elements, uint8_t *body, size_t room, struct dfuse_action *action) {
     unsigned char *a0 = (unsigned char *)(uintptr_t)session;
     unsigned char *a1 = (unsigned char *)(uintptr_t)map;
-    uint64_t a2 = map_length;
+    size_t a2 = (size_t)map_length;
     unsigned char *a3 = (unsigned char *)(uintptr_t)image;
-    uint64_t a4 = elements;
+    size_t a4 = (size_t)elements;
     unsigned char *a5 = (unsigned char *)(uintptr_t)body;
-    uint64_t a6 = room;
+    size_t a6 = (size_t)room;
     unsigned char *a7 = (unsigned char *)(uintptr_t)action;
     _Alignas(8) unsigned char r9[800];
     _Alignas(8) unsigned char r7[792];
@@ -7938,201 +7311,188 @@ int32_t dfuse_next(const struct dfuse_session *session, const uint8_t *map, size
     unsigned char *r22, *r28;
     uint16_t r8_3_0_copyload;
     uint8_t r8_72_0_copyload, r8_10_0_copyload, r10_4_4_0, r10_4_0_0;
-    uint64_t r8_83_0_copyload, r8_9_0_copyload, r8_114_0_copyload, r17, r36, r10_10_3_2_copyload_pre, r10_10_5_2_copyload_pre, v19, v21;
+    uint64_t r8_83_0_copyload, r8_9_0_copyload, r8_114_0_copyload, r36, r10_10_5_2_copyload_pre, v19, v21;
     uint32_t r8_135_0_copyload, r18_0, common_ret_op;
-    r22 = (unsigned char *)((uintptr_t)a5 + (uintptr_t)(uint64_t)((a5 == NULL) ? 4096 : 0));
-    dfu_host_c_dfuse_holding_map_of(r9, (unsigned char *)((uintptr_t)a1 + (uintptr_t)(uint64_t)((a1 == NULL) ? 4096 : 0)), a2);
+    size_t r17, r10_10_3_2_copyload_pre;
+    r22 = (unsigned char *)((uintptr_t)a5 + (uintptr_t)(size_t)((a5 == NULL) ? 4096 : 0));
+    dfu_host_c_dfuse_holding_map_of(r9, (unsigned char *)((uintptr_t)a1 + (uintptr_t)(size_t)((a1 == NULL) ? 4096 : 0)), a2);
     uint8_t r20 = *r9;
-    if (r20 != 1) {
-        common_ret_op = 0xffffffd7U;
-        goto dfu_host_c_dfuse_action_dfuse_next_exit;
-    }
-    memcpy(r7, r9 + 8, 792);
-    dfu_host_c_dfuse_holding_session_of(r10, a0, r7, (unsigned char *)((uintptr_t)a3 + (uintptr_t)(uint64_t)((a3 == NULL) ? 4096 : 0)), a4);
-    uint8_t r27 = *r10;
-    if (r27 != 1) {
-        common_ret_op = 0xffffffd7U;
-        goto dfu_host_c_dfuse_action_dfuse_next_exit;
-    }
-    r28 = r10 + 8;
-    r8_3_0_copyload = load16(r10 + 32);
-    uint8_t r8_41_0_copyload = r10[48];
-    r8_72_0_copyload = r10[56];
-    r8_83_0_copyload = load64(r10 + 64);
-    r8_9_0_copyload = load64(r10 + 72);
-    r8_10_0_copyload = r10[80];
-    r8_114_0_copyload = load64(r10 + 88);
-    r8_135_0_copyload = load32(r10 + 100);
-    if (r8_41_0_copyload == 0) goto arm_1;
-    uint8_t r8_6_0_copyload = r10[50];
-    uint8_t r8_5_0_copyload = r10[49];
-    r10_4_4_0 = r8_6_0_copyload;
-    r10_4_0_0 = r8_5_0_copyload;
-    goto arm_4;
-arm_1:;
-    uint8_t r8_12_0_copyload = r10[96];
-    r17 = (uint64_t)r8_72_0_copyload;
-    store64(r1, r17);
-    store64(r1 + 8, r8_83_0_copyload);
-    store64(r1 + 16, r8_9_0_copyload);
-    memset(r15, 0, 32);
-    store32a2(r16 + 2, 0);
-    store16(r17_2 + 4, 0);
-    store16(r18 + 4, 0);
-    store32a2(r19 + 2, 0);
-    switch (r8_12_0_copyload) {
-    case 0: goto arm_3;
-    case 9: goto arm_3;
-    case 10: goto arm_3;
-    case 1: goto arm_4_2;
-    case 6: goto arm_4_2;
-    case 13: goto arm_4_2;
-    case 2: goto arm_5;
-    case 7: goto arm_5;
-    case 14: goto arm_5;
-    case 3: goto dfuse_host_session_Session_next_exit_thread;
-    case 8: goto dfuse_host_session_Session_next_exit_thread;
-    case 4: goto arm_8;
-    case 5: goto arm_9;
-    case 11: goto arm_10;
-    case 12: goto arm_11;
-    default: never();
-    }
+    if (r20 != 1) common_ret_op = 0xffffffd7U;
+    else {
+        memcpy(r7, r9 + 8, 792);
+        dfu_host_c_dfuse_holding_session_of(r10, a0, r7, (unsigned char *)((uintptr_t)a3 + (uintptr_t)(size_t)((a3 == NULL) ? 4096 : 0)), a4);
+        uint8_t r27 = *r10;
+        if (r27 != 1) common_ret_op = 0xffffffd7U;
+        else {
+            r28 = r10 + 8;
+            r8_3_0_copyload = load16(r10 + 32);
+            uint8_t r8_41_0_copyload = r10[48];
+            r8_72_0_copyload = r10[56];
+            r8_83_0_copyload = load64(r10 + 64);
+            r8_9_0_copyload = load64(r10 + 72);
+            r8_10_0_copyload = r10[80];
+            r8_114_0_copyload = load64(r10 + 88);
+            r8_135_0_copyload = load32(r10 + 100);
+            if (r8_41_0_copyload == 0) {
+                uint8_t r8_12_0_copyload = r10[96];
+                r17 = (size_t)r8_72_0_copyload;
+                store64(r1, r17);
+                store64(r1 + 8, r8_83_0_copyload);
+                store64(r1 + 16, r8_9_0_copyload);
+                memset(r15, 0, 32);
+                store32a2(r16 + 2, 0);
+                store16(r17_2 + 4, 0);
+                store16(r18 + 4, 0);
+                store32a2(r19 + 2, 0);
+                switch (r8_12_0_copyload) {
+                case 0:
+                case 9:
+                case 10:
+                    store16(r16, 6);
+                    dfuse_host_asking_ask(r15, r16);
+                    break;
+                case 1:
+                case 6:
+                case 13:
+                    store16(r17_2, 5);
+                    store16(r17_2 + 2, 1);
+                    dfuse_host_asking_ask(r15, r17_2);
+                    break;
+                case 2:
+                case 7:
+                case 14:
+                    store16(r18, 3);
+                    store16(r18 + 2, 6);
+                    dfuse_host_asking_ask(r15, r18);
+                    break;
+                case 3:
+                case 8: {
+                    store32(r15 + 4, r8_135_0_copyload);
+                    uint64_t v18 = load64u(r15 + 1);
+                    v21 = v18;
+                    goto arm_3;
+                }
+                case 4:
+                    store16(r19, 4);
+                    dfuse_host_asking_ask(r15, r19);
+                    break;
+                case 5: {
+                    struct i8_i64 r34 = dfuse_host_plan_Plan_command_of(r28, r1, r8_10_0_copyload, r8_114_0_copyload);
+                    r36 = r34.b;
+                    store64(r1_2, r17);
+                    store64(r1_2 + 8, r8_83_0_copyload);
+                    store64(r1_2 + 16, r8_9_0_copyload);
+                    memset(r14, 0, 32);
+                    switch (r34.a) {
+                    case 0:
+                        dfuse_host_asking_address_command(r14, 33, (size_t)r36);
+                        break;
+                    case 1:
+                        dfuse_host_asking_address_command(r14, 65, (size_t)r36);
+                        break;
+                    case 2: {
+                        uint64_t r27_2 = dfuse_host_plan_Plan_end_of_work(r28, r1_2);
+                        uint64_t r30 = dfuse_host_plan_Plan_write_end(r28, r36, r27_2);
+                        struct ptr_i64 r33 = dfuse_host_plan_Plan_bytes_in(r28, r36, r30);
+                        dfuse_host_asking_download(r14, r33.a, r33.b);
+                        break;
+                    }
+                    default: never();
+                    }
+                    uint8_t v7 = *r14;
+                    uint64_t v8 = load64u(r14 + 1);
+                    *r15 = v7;
+                    store64u(r15 + 1, v8);
+                    memcpy(r15 + 9, r14 + 9, 5);
+                    memcpy(r15 + 16, r14 + 16, 16);
+                    break;
+                }
+                case 11: {
+                    store64(r1_3, r17);
+                    store64(r1_3 + 8, r8_83_0_copyload);
+                    store64(r1_3 + 16, r8_9_0_copyload);
+                    memset(r0 + 8, 0, 24);
+                    struct ptr_i64 r23 = dfuse_host_plan_Plan_read_bytes(r28, r1_3);
+                    store16(r16_2, 2);
+                    store16(r16_2 + 2, (uint16_t)((uint16_t)(size_t)(((uint64_t)((r8_10_0_copyload == 2) ? (uint64_t)((r8_72_0_copyload == 6) ? 0 : usub_sat64(r8_83_0_copyload, r8_114_0_copyload)) : 0) / (uint64_t)(size_t)umax16(r8_3_0_copyload, 1)) % 0xfffeU) + 2));
+                    store16(r16_2 + 4, (uint16_t)(size_t)r23.b);
+                    dfuse_host_asking_ask(r0, r16_2);
+                    uint8_t v16 = *r0;
+                    *r15 = v16;
+                    uint64_t v17 = load64u(r0 + 1);
+                    store64u(r15 + 1, v17);
+                    memcpy(r15 + 9, r0 + 9, 5);
+                    memcpy(r15 + 16, r0 + 16, 16);
+                    break;
+                }
+                case 12:
+                    dfuse_host_asking_download(r15, PLACE(static_20), 0);
+                    break;
+                default: never();
+                }
+                uint8_t pr = *r15;
+                r10_10_3_2_copyload_pre = (size_t)load64(r15 + 16);
+                r10_10_5_2_copyload_pre = load64(r15 + 24);
+                v19 = load64u(r15 + 1);
+                memcpy(r12_9, r15 + 9, 5);
+                switch (pr) {
+                case 0: {
+                    store64(r10_2, v19);
+                    uint32_t r45 = dfu_host_c_dfuse_action_send(r10_2, (unsigned char *)(uintptr_t)r10_10_3_2_copyload_pre, r10_10_5_2_copyload_pre, r22, a6, a7);
+                    r18_0 = r45;
+                    goto dfu_host_c_dfuse_action_tell_exit;
+                }
+                case 1: {
+                    store64(r12, v19);
+                    memcpy(r13, r12_9, 5);
+                    uint32_t r62 = dfu_host_c_dfuse_action_send(r12, r13, 5, r22, a6, a7);
+                    r18_0 = r62;
+                    goto dfu_host_c_dfuse_action_tell_exit;
+                }
+                case 2:
+                    v21 = v19;
+                    break;
+                case 3:
+                    r10_4_4_0 = (uint8_t)(size_t)(v19 >> 8);
+                    r10_4_0_0 = (uint8_t)v19;
+                    goto arm_4;
+                default: never();
+                }
 arm_3:
-    store16(r16, 6);
-    dfuse_host_asking_ask(r15, r16);
-    goto dfuse_host_session_Session_next_exit;
-arm_4_2:
-    store16(r17_2, 5);
-    store16(r17_2 + 2, 1);
-    dfuse_host_asking_ask(r15, r17_2);
-    goto dfuse_host_session_Session_next_exit;
-arm_5:
-    store16(r18, 3);
-    store16(r18 + 2, 6);
-    dfuse_host_asking_ask(r15, r18);
-    goto dfuse_host_session_Session_next_exit;
-arm_8:
-    store16(r19, 4);
-    dfuse_host_asking_ask(r15, r19);
-    goto dfuse_host_session_Session_next_exit;
-arm_9:;
-    struct i8_i64 r34 = dfuse_host_plan_Plan_command_of(r28, r1, r8_10_0_copyload, r8_114_0_copyload);
-    r36 = r34.b;
-    store64(r1_2, r17);
-    store64(r1_2 + 8, r8_83_0_copyload);
-    store64(r1_2 + 16, r8_9_0_copyload);
-    memset(r14, 0, 32);
-    switch (r34.a) {
-    case 0: goto arm_1_2;
-    case 1: goto arm_2;
-    case 2: goto arm_3_2;
-    default: never();
-    }
-arm_1_2:
-    dfuse_host_asking_address_command(r14, 33, r36);
-    goto dfuse_host_plan_Plan_sends_exit;
-arm_2:
-    dfuse_host_asking_address_command(r14, 65, r36);
-    goto dfuse_host_plan_Plan_sends_exit;
-arm_3_2:;
-    uint64_t r27_2 = dfuse_host_plan_Plan_end_of_work(r28, r1_2);
-    uint64_t r30 = dfuse_host_plan_Plan_write_end(r28, r36, r27_2);
-    struct ptr_i64 r33 = dfuse_host_plan_Plan_bytes_in(r28, r36, r30);
-    dfuse_host_asking_download(r14, r33.a, r33.b);
-    goto dfuse_host_plan_Plan_sends_exit;
-dfuse_host_plan_Plan_sends_exit:;
-    uint8_t v7 = *r14;
-    uint64_t v8 = load64u(r14 + 1);
-    *r15 = v7;
-    store64u(r15 + 1, v8);
-    memcpy(r15 + 9, r14 + 9, 5);
-    memcpy(r15 + 16, r14 + 16, 16);
-    goto dfuse_host_session_Session_next_exit;
-arm_10:
-    store64(r1_3, r17);
-    store64(r1_3 + 8, r8_83_0_copyload);
-    store64(r1_3 + 16, r8_9_0_copyload);
-    memset(r0 + 8, 0, 24);
-    struct ptr_i64 r23 = dfuse_host_plan_Plan_read_bytes(r28, r1_3);
-    store16(r16_2, 2);
-    store16(r16_2 + 2, (uint16_t)((uint16_t)(((uint64_t)((r8_10_0_copyload == 2) ? (uint64_t)((r8_72_0_copyload == 6) ? 0 : usub_sat64(r8_83_0_copyload, r8_114_0_copyload)) : 0) / (uint64_t)umax16(r8_3_0_copyload, 1)) % 0xfffeU) + 2));
-    store16(r16_2 + 4, (uint16_t)r23.b);
-    dfuse_host_asking_ask(r0, r16_2);
-    uint8_t v16 = *r0;
-    *r15 = v16;
-    uint64_t v17 = load64u(r0 + 1);
-    store64u(r15 + 1, v17);
-    memcpy(r15 + 9, r0 + 9, 5);
-    memcpy(r15 + 16, r0 + 16, 16);
-    goto dfuse_host_session_Session_next_exit;
-arm_11:
-    dfuse_host_asking_download(r15, PLACE(static_20), 0);
-    goto dfuse_host_session_Session_next_exit;
-dfuse_host_session_Session_next_exit_thread:
-    store32(r15 + 4, r8_135_0_copyload);
-    uint64_t v18 = load64u(r15 + 1);
-    v21 = v18;
-    goto arm_3_3;
-dfuse_host_session_Session_next_exit:;
-    uint8_t pr = *r15;
-    r10_10_3_2_copyload_pre = load64(r15 + 16);
-    r10_10_5_2_copyload_pre = load64(r15 + 24);
-    v19 = load64u(r15 + 1);
-    memcpy(r12_9, r15 + 9, 5);
-    switch (pr) {
-    case 0: goto arm_1_3;
-    case 1: goto arm_2_2;
-    case 2:
-        v21 = v19;
-        goto arm_3_3;
-    case 3:
-        r10_4_4_0 = (uint8_t)(v19 >> 8);
-        r10_4_0_0 = (uint8_t)v19;
-        goto arm_4;
-    default: never();
-    }
-arm_1_3:
-    store64(r10_2, v19);
-    uint32_t r45 = dfu_host_c_dfuse_action_send(r10_2, (unsigned char *)(uintptr_t)r10_10_3_2_copyload_pre, r10_10_5_2_copyload_pre, r22, a6, a7);
-    r18_0 = r45;
-    goto dfu_host_c_dfuse_action_tell_exit;
-arm_2_2:
-    store64(r12, v19);
-    memcpy(r13, r12_9, 5);
-    uint32_t r62 = dfu_host_c_dfuse_action_send(r12, r13, 5, r22, a6, a7);
-    r18_0 = r62;
-    goto dfu_host_c_dfuse_action_tell_exit;
-arm_3_3:
-    store64(a7, 0);
-    store32(a7 + 8, 1);
-    store32(a7 + 12, (uint32_t)(v21 >> 24));
-    memset(a7 + 16, 0, 16);
-    r18_0 = 0;
-    goto dfu_host_c_dfuse_action_tell_exit;
+                store64(a7, 0);
+                store32(a7 + 8, 1);
+                store32(a7 + 12, (uint32_t)(size_t)(v21 >> 24));
+                memset(a7 + 16, 0, 16);
+                r18_0 = 0;
+                goto dfu_host_c_dfuse_action_tell_exit;
+            }
+            uint8_t r8_6_0_copyload = r10[50];
+            uint8_t r8_5_0_copyload = r10[49];
+            r10_4_4_0 = r8_6_0_copyload;
+            r10_4_0_0 = r8_5_0_copyload;
 arm_4:;
-    struct i32_i32 r72 = dfu_host_c_dfuse_reports_report_numbers(r10_4_0_0, r10_4_4_0);
-    store64(a7, 0);
-    store32(a7 + 8, 3);
-    store32(a7 + 12, r72.a);
-    store32(a7 + 16, r72.b);
-    store64a4(a7 + 20, 0);
-    store32(a7 + 28, 0);
-    r18_0 = 0;
-    goto dfu_host_c_dfuse_action_tell_exit;
+            struct i32_i32 r72 = dfu_host_c_dfuse_reports_report_numbers(r10_4_0_0, r10_4_4_0);
+            store64(a7, 0);
+            store32(a7 + 8, 3);
+            store32(a7 + 12, r72.a);
+            store32(a7 + 16, r72.b);
+            store64a4(a7 + 20, 0);
+            store32(a7 + 28, 0);
+            r18_0 = 0;
 dfu_host_c_dfuse_action_tell_exit:
-    common_ret_op = r18_0;
-dfu_host_c_dfuse_action_dfuse_next_exit:
+            common_ret_op = r18_0;
+        }
+    }
     return signed32(common_ret_op);
 }
 
-/* dfuse_begin */
+/* dfuse_begin: crates/dfu_host_c/src/dfuse/steps.rt */
 int32_t dfuse_begin(struct dfuse_session *session, const uint8_t *map, size_t map_length, const struct dfuse_element *image, size_t elements, const struct dfuse_plan *plan) {
     unsigned char *a0 = (unsigned char *)(uintptr_t)session;
     unsigned char *a1 = (unsigned char *)(uintptr_t)map;
-    uint64_t a2 = map_length;
+    size_t a2 = (size_t)map_length;
     unsigned char *a3 = (unsigned char *)(uintptr_t)image;
-    uint64_t a4 = elements;
+    size_t a4 = (size_t)elements;
     unsigned char *a5 = (unsigned char *)(uintptr_t)plan;
     _Alignas(8) unsigned char r11[800];
     _Alignas(8) unsigned char r5[792];
@@ -8148,180 +7508,174 @@ int32_t dfuse_begin(struct dfuse_session *session, const uint8_t *map, size_t ma
     unsigned char *r13, *r25, *r0_3_0_a0_sroa_idx, *r0_4_0_a0_sroa_idx, *r16_5_8_r52_sroa_idx;
     uint32_t r36, r3_0_2, r0_11_0_neg, r8_4_0_neg, r8_8_0, common_ret_op;
     uint16_t r38, r8_9_0;
-    uint64_t r3_0, r4_0, r4_0_2, r3_0_3, r30, r8_6_8_0;
+    size_t r3_0, r4_0, r4_0_2, r30, r8_6_8_0;
+    uint64_t r3_0_3;
     uint8_t v1;
-    r13 = (unsigned char *)((uintptr_t)a3 + (uintptr_t)(uint64_t)((a3 == NULL) ? 4096 : 0));
+    r13 = (unsigned char *)((uintptr_t)a3 + (uintptr_t)(size_t)((a3 == NULL) ? 4096 : 0));
     memset(r9, 0, 104);
     memset(r11, 0, 800);
     memset(r16_5, 0, 46);
     memset(r16_10, 0, 5);
     memset(r20, 0, 64);
-    dfuse_memory_map_Map_read(r11, (unsigned char *)((uintptr_t)a1 + (uintptr_t)(uint64_t)((a1 == NULL) ? 4096 : 0)), a2);
+    dfuse_memory_map_Map_read(r11, (unsigned char *)((uintptr_t)a1 + (uintptr_t)(size_t)((a1 == NULL) ? 4096 : 0)), a2);
     uint8_t r26 = *r11;
-    if (r26 != 0) goto arm_2;
-    memcpy(r5, r11 + 8, 792);
-    r36 = load32(a5 + 4);
-    r38 = load16(a5 + 8);
-    uint16_t r9_2 = load16(a5 + 10);
-    uint16_t r11_2 = load16(a5 + 12);
-    uint16_t r13_2 = load16(a5 + 14);
-    uint32_t r17 = load32(a5);
-    memset(r8_6_0, 0, 46);
-    memset(r8_6_6, 0, 5);
-    memset(r8_6_10, 0, 24);
-    store64(r4, (uint64_t)(uintptr_t)r5);
-    store64(r4 + 8, (uint64_t)(uintptr_t)r13);
-    store64(r4 + 16, a4);
-    store16(r4 + 24, r9_2);
-    store16(r4 + 26, r11_2);
-    r4[28] = r13_2 != 0;
-    memset(r4 + 29, 0, 3);
-    store32(r4 + 32, r17);
-    store32(r4 + 36, 0);
-    if (r9_2 == 0) {
-        r0_11_0_neg = 0xffffffc3U;
-        goto dfuse_host_plan_Plan_check_exit_thread;
+    if (r26 != 0) {
+        uint8_t r7_0_0_copyload = r11[1];
+        common_ret_op = (uint32_t)0xffffffcdU - (uint32_t)r7_0_0_copyload;
     }
-    if (a4 == 0) {
-        r0_11_0_neg = 0xffffffc2U;
-        goto dfuse_host_plan_Plan_check_exit_thread;
-    }
-    r3_0 = 0;
-loop_3_2:
-    if (r3_0 == a4) {
-        r4_0 = 0;
-        r3_0_2 = 0;
-        goto loop_3;
-    }
-    uint64_t r28 = load64((r13 + (size_t)(r3_0 * 24)) + 16);
-    if (r28 == 0) {
-        r0_11_0_neg = 0xffffffc2U;
-        goto dfuse_host_plan_Plan_check_exit_thread;
-    }
-    r3_0 = r3_0 + 1;
-    goto loop_3_2;
-loop_3:
-    if (r4_0 == a4) {
-        r4_0_2 = 0;
-        r3_0_3 = 0;
-        goto loop_3_3;
-    }
-    uint32_t r27 = load32(r13 + (size_t)(r4_0 * 24));
-    if (r27 < r3_0_2) {
-        r0_11_0_neg = 0xffffffc1U;
-        goto dfuse_host_plan_Plan_check_exit_thread;
-    }
-    r4_0 = r4_0 + 1;
-    r3_0_2 = r27;
-    goto loop_3;
-loop_3_3:
-    if (r4_0_2 == a4) goto join_13;
-    r25 = r13 + (size_t)(r4_0_2 * 24);
-    uint32_t r28_2 = load32(r25);
-    r30 = (uint64_t)r28_2;
-    if (r3_0_3 > r30) {
-        r0_11_0_neg = 0xffffffc0U;
-        goto dfuse_host_plan_Plan_check_exit_thread;
-    }
-    uint64_t r10 = load64(r25 + 16);
-    r4_0_2 = r4_0_2 + 1;
-    r3_0_3 = r10 + r30;
-    goto loop_3_3;
-join_13:
-    *r11_3 = 0;
-    r0_3_0_a0_sroa_idx = r11_3 + 1;
-    *r0_3_0_a0_sroa_idx = 0;
-    r0_4_0_a0_sroa_idx = r11_3 + 2;
-    *r0_4_0_a0_sroa_idx = 0;
-    uint8_t r64 = dfuse_host_plan_Plan_grants(r4, r11_3);
-    if (!r64) {
-        r0_11_0_neg = 0xffffffbfU;
-        goto dfuse_host_plan_Plan_check_exit_thread;
-    }
-    *r11_3 = 0;
-    *r0_3_0_a0_sroa_idx = 0;
-    *r0_4_0_a0_sroa_idx = 1;
-    uint8_t r74 = dfuse_host_plan_Plan_grants(r4, r11_3);
-    if (!r74) {
-        r0_11_0_neg = 0xffffffbeU;
-        goto dfuse_host_plan_Plan_check_exit_thread;
-    }
-    *r11_3 = 0;
-    *r0_3_0_a0_sroa_idx = 1;
-    *r0_4_0_a0_sroa_idx = 0;
-    uint8_t r84 = dfuse_host_plan_Plan_grants(r4, r11_3);
-    if (r84) goto dfuse_host_plan_Plan_check_exit;
-    r0_11_0_neg = 0xffffffbdU;
+    else {
+        memcpy(r5, r11 + 8, 792);
+        r36 = load32(a5 + 4);
+        r38 = load16(a5 + 8);
+        uint16_t r9_2 = load16(a5 + 10);
+        uint16_t r11_2 = load16(a5 + 12);
+        uint16_t r13_2 = load16(a5 + 14);
+        uint32_t r17 = load32(a5);
+        memset(r8_6_0, 0, 46);
+        memset(r8_6_6, 0, 5);
+        memset(r8_6_10, 0, 24);
+        store64(r4, (size_t)(uintptr_t)r5);
+        store64(r4 + 8, (size_t)(uintptr_t)r13);
+        store64(r4 + 16, a4);
+        store16(r4 + 24, r9_2);
+        store16(r4 + 26, r11_2);
+        r4[28] = r13_2 != 0;
+        memset(r4 + 29, 0, 3);
+        store32(r4 + 32, r17);
+        store32(r4 + 36, 0);
+        if (r9_2 == 0) r0_11_0_neg = 0xffffffc3U;
+        else {
+            if (a4 == 0) r0_11_0_neg = 0xffffffc2U;
+            else {
+                r3_0 = 0;
+                for (;;) {
+                    if (r3_0 == a4) {
+                        r4_0 = 0;
+                        r3_0_2 = 0;
+                        break;
+                    }
+                    uint64_t r28 = load64((r13 + (r3_0 * 24)) + 16);
+                    if (r28 == 0) {
+                        r0_11_0_neg = 0xffffffc2U;
+                        goto dfuse_host_plan_Plan_check_exit_thread;
+                    }
+                    r3_0 = r3_0 + 1;
+                }
+                for (;;) {
+                    if (r4_0 == a4) {
+                        r4_0_2 = 0;
+                        r3_0_3 = 0;
+                        break;
+                    }
+                    uint32_t r27 = load32(r13 + (r4_0 * 24));
+                    if (r27 < r3_0_2) {
+                        r0_11_0_neg = 0xffffffc1U;
+                        goto dfuse_host_plan_Plan_check_exit_thread;
+                    }
+                    r4_0 = r4_0 + 1;
+                    r3_0_2 = r27;
+                }
+                while (r4_0_2 != a4) {
+                    r25 = r13 + (r4_0_2 * 24);
+                    uint32_t r28_2 = load32(r25);
+                    r30 = (size_t)r28_2;
+                    if (r3_0_3 > (uint64_t)r30) {
+                        r0_11_0_neg = 0xffffffc0U;
+                        goto dfuse_host_plan_Plan_check_exit_thread;
+                    }
+                    uint64_t r10 = load64(r25 + 16);
+                    r4_0_2 = r4_0_2 + 1;
+                    r3_0_3 = r10 + (uint64_t)r30;
+                }
+                *r11_3 = 0;
+                r0_3_0_a0_sroa_idx = r11_3 + 1;
+                *r0_3_0_a0_sroa_idx = 0;
+                r0_4_0_a0_sroa_idx = r11_3 + 2;
+                *r0_4_0_a0_sroa_idx = 0;
+                uint8_t r64 = dfuse_host_plan_Plan_grants(r4, r11_3);
+                if (!r64) r0_11_0_neg = 0xffffffbfU;
+                else {
+                    *r11_3 = 0;
+                    *r0_3_0_a0_sroa_idx = 0;
+                    *r0_4_0_a0_sroa_idx = 1;
+                    uint8_t r74 = dfuse_host_plan_Plan_grants(r4, r11_3);
+                    if (!r74) r0_11_0_neg = 0xffffffbeU;
+                    else {
+                        *r11_3 = 0;
+                        *r0_3_0_a0_sroa_idx = 1;
+                        *r0_4_0_a0_sroa_idx = 0;
+                        uint8_t r84 = dfuse_host_plan_Plan_grants(r4, r11_3);
+                        if (r84) {
+                            *r11_3 = 1;
+                            *r0_3_0_a0_sroa_idx = 0;
+                            *r0_4_0_a0_sroa_idx = 0;
+                            uint8_t r94 = dfuse_host_plan_Plan_grants(r4, r11_3);
+                            if (!r94) {
+                                v1 = 0;
+                                r8_6_8_0 = 0;
+                                r8_4_0_neg = 0xffffffbcU;
+                                r8_8_0 = 0;
+                                r8_9_0 = 0;
+                                goto dfuse_host_session_Session_begin_exit;
+                            }
+                            uint32_t r18 = load32(r13);
+                            memcpy(r8_6_0 + 6, r4, 40);
+                            memset(r8_6_6, 0, 5);
+                            memset(r8_6_10, 0, 24);
+                            v1 = 1;
+                            r8_6_8_0 = (size_t)r18;
+                            r8_4_0_neg = 0xffffffc3U;
+                            r8_8_0 = umax32(r36, 1);
+                            r8_9_0 = r38;
+                            goto dfuse_host_session_Session_begin_exit;
+                        }
+                        r0_11_0_neg = 0xffffffbdU;
+                    }
+                }
+            }
+        }
 dfuse_host_plan_Plan_check_exit_thread:
-    v1 = 0;
-    r8_6_8_0 = 0;
-    r8_4_0_neg = r0_11_0_neg;
-    r8_8_0 = 0;
-    r8_9_0 = 0;
-    goto dfuse_host_session_Session_begin_exit;
-dfuse_host_plan_Plan_check_exit:
-    *r11_3 = 1;
-    *r0_3_0_a0_sroa_idx = 0;
-    *r0_4_0_a0_sroa_idx = 0;
-    uint8_t r94 = dfuse_host_plan_Plan_grants(r4, r11_3);
-    if (!r94) {
         v1 = 0;
         r8_6_8_0 = 0;
-        r8_4_0_neg = 0xffffffbcU;
+        r8_4_0_neg = r0_11_0_neg;
         r8_8_0 = 0;
         r8_9_0 = 0;
-        goto dfuse_host_session_Session_begin_exit;
-    }
-    uint32_t r18 = load32(r13);
-    memcpy(r8_6_0 + 6, r4, 40);
-    memset(r8_6_6, 0, 5);
-    memset(r8_6_10, 0, 24);
-    v1 = 1;
-    r8_6_8_0 = (uint64_t)r18;
-    r8_4_0_neg = 0xffffffc3U;
-    r8_8_0 = umax32(r36, 1);
-    r8_9_0 = r38;
 dfuse_host_session_Session_begin_exit:
-    r16_5_8_r52_sroa_idx = r16_5 + 6;
-    memcpy(r16_5_8_r52_sroa_idx, r8_6_0 + 6, 40);
-    memcpy(r16_10, r8_6_6, 5);
-    if (v1) goto arm_5;
-    common_ret_op = r8_4_0_neg;
-    goto dfu_host_c_dfuse_steps_dfuse_begin_exit;
-arm_2:;
-    uint8_t r7_0_0_copyload = r11[1];
-    common_ret_op = (uint32_t)0xffffffcdU - (uint32_t)r7_0_0_copyload;
-    goto dfu_host_c_dfuse_steps_dfuse_begin_exit;
-arm_5:
-    memcpy(r9, r16_5_8_r52_sroa_idx, 40);
-    r9[40] = 0;
-    r9[41] = 0;
-    r9[42] = 0;
-    memcpy(r9 + 43, r16_10, 5);
-    store64(r9 + 48, 0);
-    store64(r9 + 56, r8_6_8_0);
-    store64(r9 + 64, 0);
-    memcpy(r9 + 72, r8_6_10, 24);
-    store32(r9 + 96, r8_8_0);
-    store16(r9 + 100, r8_9_0);
-    store16(r9 + 102, 0);
-    dfu_host_c_dfuse_holding_record_of(r20, r9);
-    memcpy(a0, r20, 64);
-    common_ret_op = 0;
-dfu_host_c_dfuse_steps_dfuse_begin_exit:
+        r16_5_8_r52_sroa_idx = r16_5 + 6;
+        memcpy(r16_5_8_r52_sroa_idx, r8_6_0 + 6, 40);
+        memcpy(r16_10, r8_6_6, 5);
+        if (!v1) common_ret_op = r8_4_0_neg;
+        else {
+            memcpy(r9, r16_5_8_r52_sroa_idx, 40);
+            r9[40] = 0;
+            r9[41] = 0;
+            r9[42] = 0;
+            memcpy(r9 + 43, r16_10, 5);
+            store64(r9 + 48, 0);
+            store64(r9 + 56, r8_6_8_0);
+            store64(r9 + 64, 0);
+            memcpy(r9 + 72, r8_6_10, 24);
+            store32(r9 + 96, r8_8_0);
+            store16(r9 + 100, r8_9_0);
+            store16(r9 + 102, 0);
+            dfu_host_c_dfuse_holding_record_of(r20, r9);
+            memcpy(a0, r20, 64);
+            common_ret_op = 0;
+        }
+    }
     return signed32(common_ret_op);
 }
 
-/* dfuse_take */
+/* dfuse_take: crates/dfu_host_c/src/dfuse/steps.rt */
 int32_t dfuse_take(struct dfuse_session *session, const uint8_t *map, size_t map_length, const struct dfuse_element *image, size_t elements, uint32_t seen, const uint8_t *bytes, size_t count) {
     unsigned char *a0 = (unsigned char *)(uintptr_t)session;
     unsigned char *a1 = (unsigned char *)(uintptr_t)map;
-    uint64_t a2 = map_length;
+    size_t a2 = (size_t)map_length;
     unsigned char *a3 = (unsigned char *)(uintptr_t)image;
-    uint64_t a4 = elements;
+    size_t a4 = (size_t)elements;
     uint32_t a5 = seen;
     unsigned char *a6 = (unsigned char *)(uintptr_t)bytes;
-    uint64_t a7 = count;
+    size_t a7 = (size_t)count;
     _Alignas(8) unsigned char r10[800];
     _Alignas(8) unsigned char r7[792];
     _Alignas(8) unsigned char r11[112];
@@ -8361,1498 +7715,1324 @@ int32_t dfuse_take(struct dfuse_session *session, const uint8_t *map, size_t map
     _Alignas(8) unsigned char r2[48];
     unsigned char *const r1_3 = r2;
     unsigned char *r22, *r31, *v3, *v4, *v5, *r23, *r23_2;
-    uint64_t r3_16_0_0, r3_16_8_0, r5_6_0_copyload, r5_8_0_copyload, r5_13_0_copyload, r18, r9_21_6_0_copyload, r9_21_0_0_copyload, r9_19_8_copyload20, r9_17_8_copyload19, r9_1317_8_copyload18, r33;
-    uint64_t r17_94_8_copyload239, r17_83_8_copyload234, r17_72_8_copyload231, r17_61_8_copyload228, r17_46223_8_copyload225, r14_4, r11_5_0, r11_9_0, r17_94_8_copyload240, r17_83_8_copyload235, r17_72_8_copyload232, r17_61_8_copyload229;
-    uint64_t r17_46223_8_copyload226, r12_26_0, r12_13_0, r12_15_0, r12_19_0, r17_46223_0, r17_61_0, r17_72_0, r17_83_0, r17_94_0;
+    size_t r3_16_0_0, r3_16_8_0, r18;
     uint8_t r3_9_0_0, r5_0_0_copyload, r5_10_0_copyload, r5_14_0_copyload, r5_5_3_0, r5_5_7_0, r5_0_0, r13_10_3_0, r13_10_9_0, r13_0_0, r13_6_0, r17_10_3_0;
     uint8_t r17_10_7_0, r17_0_0, r17_8_0, v10, v11, v12, v16, v17, v18, v19, v20, v21;
     uint8_t v30, v31, v32, v33, v34, v35, v36, v37, v38, v43, v44, v45;
     uint8_t v46, v47, v48, r12_23_0_in, r12_0_0, r12_108_0_in, r12_17_0_in, r17_0_0_2, r17_16_0, r17_31_0;
+    uint64_t r5_6_0_copyload, r5_8_0_copyload, r5_13_0_copyload, r9_21_6_0_copyload, r9_21_0_0_copyload, r9_19_8_copyload20, r9_17_8_copyload19, r9_1317_8_copyload18, r33, r17_94_8_copyload239, r17_83_8_copyload234, r17_72_8_copyload231;
+    uint64_t r17_61_8_copyload228, r17_46223_8_copyload225, r14_4, r11_5_0, r11_9_0, r17_94_8_copyload240, r17_83_8_copyload235, r17_72_8_copyload232, r17_61_8_copyload229, r17_46223_8_copyload226, r12_26_0, r12_13_0;
+    uint64_t r12_15_0, r12_19_0, r17_46223_0, r17_61_0, r17_72_0, r17_83_0, r17_94_0;
     uint32_t r5_18_0_copyload, r5_5_6_0, r13_10_8_0, r17_10_6_0, r9_25_8_copyload22, r9_23_8_copyload21, r17_110_8_copyload247, r17_100_8_copyload244, r17_110_8_copyload248, r17_100_8_copyload245, r12_29_0, r12_21_0;
     uint32_t r17_100_0, r17_110_0, common_ret_op;
     uint8_t common_ret_op_2;
     uint16_t r8_3_0_copyload, r8_5_0_copyload;
-    r22 = (unsigned char *)((uintptr_t)a6 + (uintptr_t)(uint64_t)((a6 == NULL) ? 4096 : 0));
+    r22 = (unsigned char *)((uintptr_t)a6 + (uintptr_t)(size_t)((a6 == NULL) ? 4096 : 0));
     memset(r17, 0, 64);
-    dfu_host_c_dfuse_holding_map_of(r10, (unsigned char *)((uintptr_t)a1 + (uintptr_t)(uint64_t)((a1 == NULL) ? 4096 : 0)), a2);
+    dfu_host_c_dfuse_holding_map_of(r10, (unsigned char *)((uintptr_t)a1 + (uintptr_t)(size_t)((a1 == NULL) ? 4096 : 0)), a2);
     uint8_t r22_2 = *r10;
-    if (r22_2 != 1) {
-        common_ret_op = 0xffffffd7U;
-        goto dfu_host_c_dfuse_steps_dfuse_take_exit;
-    }
-    memcpy(r7, r10 + 8, 792);
-    dfu_host_c_dfuse_holding_session_of(r11, a0, r7, (unsigned char *)((uintptr_t)a3 + (uintptr_t)(uint64_t)((a3 == NULL) ? 4096 : 0)), a4);
-    uint8_t r30 = *r11;
-    if (r30 != 1) {
-        common_ret_op = 0xffffffd7U;
-        goto dfu_host_c_dfuse_steps_dfuse_take_exit;
-    }
-    r31 = r11 + 8;
-    memcpy(r8, r31, 104);
-    switch (a5) {
-    case 0:
-        r3_16_0_0 = 0;
-        r3_16_8_0 = 0;
-        r3_9_0_0 = 0;
-        goto arm_8;
-    case 1: goto arm_2;
-    case 2: goto arm_3;
-    case 3: goto arm_4;
-    case 4: goto arm_5;
-    case 6: goto arm_6;
-    default:
-        common_ret_op = 0xffffffd6U;
-        goto dfu_host_c_dfuse_steps_dfuse_take_exit;
-    }
-arm_2:
-    r3_16_0_0 = (uint64_t)(uintptr_t)r22;
-    r3_16_8_0 = a7;
-    r3_9_0_0 = 1;
-    goto arm_8;
-arm_3:
-    r3_16_0_0 = 0;
-    r3_16_8_0 = 0;
-    r3_9_0_0 = 2;
-    goto arm_8;
-arm_4:
-    r3_16_0_0 = 0;
-    r3_16_8_0 = 0;
-    r3_9_0_0 = 3;
-    goto arm_8;
-arm_5:
-    r3_16_0_0 = 0;
-    r3_16_8_0 = 0;
-    r3_9_0_0 = 4;
-    goto arm_8;
-arm_6:
-    r3_16_0_0 = 0;
-    r3_16_8_0 = 0;
-    r3_9_0_0 = 5;
-arm_8:
-    memset(r11_2, 0, 104);
-    uint8_t r14 = r8[40];
-    if (r14 != 0) goto dfuse_host_session_Session_take_exit;
-    r5_0_0_copyload = r8[48];
-    v3 = r11 + 57;
-    r5_6_0_copyload = load64(r8 + 56);
-    r5_8_0_copyload = load64(r8 + 64);
-    r5_10_0_copyload = r8[72];
-    v4 = r11 + 81;
-    r5_13_0_copyload = load64(r8 + 80);
-    r5_14_0_copyload = r8[88];
-    v5 = r11 + 97;
-    r5_18_0_copyload = load32(r8 + 92);
-    r18 = (uint64_t)r5_0_0_copyload;
-    switch (r3_9_0_0) {
-    case 0:
-        r17_10_3_0 = r3_9_0_0;
-        r17_10_6_0 = 0;
-        r17_10_7_0 = r3_9_0_0;
-        r17_0_0 = r3_9_0_0;
-        r17_8_0 = r3_9_0_0;
-        goto dfuse_host_plan_Plan_hear_exit;
-    case 1: goto arm_2_2;
-    case 2: goto arm_3_2;
-    case 3: goto arm_4_2;
-    case 4: goto arm_5_2;
-    case 5: goto arm_6_2;
-    default: never();
-    }
-arm_2_2:
-    r23 = (unsigned char *)(uintptr_t)r3_16_0_0;
-    store64(r1, r18);
-    store64(r1 + 8, r5_6_0_copyload);
-    store64(r1 + 16, r5_8_0_copyload);
-    switch (r5_14_0_copyload) {
-    case 1: goto arm_1;
-    case 6: goto arm_1;
-    case 13: goto arm_1;
-    case 2: goto arm_2_3;
-    case 7: goto arm_2_3;
-    case 14: goto arm_2_3;
-    case 11: goto arm_3_3;
-    case 0:
-        r13_10_3_0 = 0;
-        r13_10_8_0 = 0;
-        r13_10_9_0 = 0;
-        r13_0_0 = 5;
-        r13_6_0 = 0;
-        goto dfuse_host_plan_Plan_answered_exit;
-    case 3:
-        r13_10_3_0 = 0;
-        r13_10_8_0 = 0;
-        r13_10_9_0 = 0;
-        r13_0_0 = 5;
-        r13_6_0 = 0;
-        goto dfuse_host_plan_Plan_answered_exit;
-    case 4:
-        r13_10_3_0 = 0;
-        r13_10_8_0 = 0;
-        r13_10_9_0 = 0;
-        r13_0_0 = 5;
-        r13_6_0 = 0;
-        goto dfuse_host_plan_Plan_answered_exit;
-    case 5:
-        r13_10_3_0 = 0;
-        r13_10_8_0 = 0;
-        r13_10_9_0 = 0;
-        r13_0_0 = 5;
-        r13_6_0 = 0;
-        goto dfuse_host_plan_Plan_answered_exit;
-    case 8:
-        r13_10_3_0 = 0;
-        r13_10_8_0 = 0;
-        r13_10_9_0 = 0;
-        r13_0_0 = 5;
-        r13_6_0 = 0;
-        goto dfuse_host_plan_Plan_answered_exit;
-    case 9:
-        r13_10_3_0 = 0;
-        r13_10_8_0 = 0;
-        r13_10_9_0 = 0;
-        r13_0_0 = 5;
-        r13_6_0 = 0;
-        goto dfuse_host_plan_Plan_answered_exit;
-    case 10:
-        r13_10_3_0 = 0;
-        r13_10_8_0 = 0;
-        r13_10_9_0 = 0;
-        r13_0_0 = 5;
-        r13_6_0 = 0;
-        goto dfuse_host_plan_Plan_answered_exit;
-    case 12:
-        r13_10_3_0 = 0;
-        r13_10_8_0 = 0;
-        r13_10_9_0 = 0;
-        r13_0_0 = 5;
-        r13_6_0 = 0;
-        goto dfuse_host_plan_Plan_answered_exit;
-    default: never();
-    }
-arm_1:
-    if (r3_16_8_0 != 1) {
-        r13_10_3_0 = 0;
-        r13_10_8_0 = 0;
-        r13_10_9_0 = 0;
-        r13_0_0 = 5;
-        r13_6_0 = 0;
-        goto dfuse_host_plan_Plan_answered_exit;
-    }
-    uint8_t r27 = *r23;
-    uint8_t v6 = r27 < 11;
-    r13_10_3_0 = 0;
-    r13_10_8_0 = 0;
-    r13_10_9_0 = 0;
-    r13_0_0 = (uint8_t)(v6 ? 2 : 5);
-    r13_6_0 = (uint8_t)(v6 ? r27 : 0);
-    goto dfuse_host_plan_Plan_answered_exit;
-arm_2_3:
-    memset(r4, 0, 16);
-    dfu_wire_statuses_Status_decode(r4, r23, r3_16_8_0);
-    uint8_t r9 = *r4;
-    if (r9 != 0) {
-        r5_5_3_0 = 0;
-        r5_5_6_0 = 0;
-        r5_5_7_0 = 0;
-        r5_0_0 = 5;
-        goto dfuse_host_heard_status_in_exit;
-    }
-    uint8_t r5_5_3_2_copyload = r4[4];
-    uint32_t r5_5_6_2_copyload = load32(r4 + 8);
-    uint8_t r5_5_7_2_copyload = r4[12];
-    r5_5_3_0 = r5_5_3_2_copyload;
-    r5_5_6_0 = r5_5_6_2_copyload;
-    r5_5_7_0 = r5_5_7_2_copyload;
-    r5_0_0 = 1;
-dfuse_host_heard_status_in_exit:
-    r13_10_3_0 = r5_5_3_0;
-    r13_10_8_0 = r5_5_6_0;
-    r13_10_9_0 = r5_5_7_0;
-    r13_0_0 = r5_0_0;
-    r13_6_0 = 0;
-    goto dfuse_host_plan_Plan_answered_exit;
-arm_3_3:;
-    struct ptr_i64 r22_3 = dfuse_host_plan_Plan_read_bytes(r31, r1);
-    r23_2 = r22_3.a;
-    if (r3_16_8_0 != r22_3.b) {
-        r13_10_3_0 = 0;
-        r13_10_8_0 = 0;
-        r13_10_9_0 = 0;
-        r13_0_0 = 5;
-        r13_6_0 = 0;
-        goto dfuse_host_plan_Plan_answered_exit;
-    }
-    store64(r5, r3_16_0_0);
-    store64(r5 + 8, r3_16_8_0);
-    store64(r5 + 16, (uint64_t)(uintptr_t)r23_2);
-    store64(r5 + 24, r3_16_8_0);
-    if (r3_16_8_0 >= 4) goto join_9;
-    uint8_t r60 = core_slice_scan_any_by_one(r5, r3_16_8_0);
-    common_ret_op_2 = !r60;
-    goto core_cmp_slices_slices_equal_i8_core_cmp_numbers_U8PartialEq_exit;
-join_9:;
-    uint8_t r70 = core_slice_scan_any_in_run(r5, 0, 4);
-    if (r70) {
-        common_ret_op_2 = 0;
-        goto core_cmp_slices_slices_equal_i8_core_cmp_numbers_U8PartialEq_exit;
-    }
-    uint8_t r83 = core_cmp_slices_groups_equal_i8_core_cmp_numbers_U8PartialEq(r23, r3_16_8_0, r23_2, r3_16_8_0);
-    common_ret_op_2 = r83;
-core_cmp_slices_slices_equal_i8_core_cmp_numbers_U8PartialEq_exit:
-    r13_10_3_0 = 0;
-    r13_10_8_0 = 0;
-    r13_10_9_0 = 0;
-    r13_0_0 = 3;
-    r13_6_0 = common_ret_op_2;
-    goto dfuse_host_plan_Plan_answered_exit;
-dfuse_host_plan_Plan_answered_exit:
-    r17_10_3_0 = r13_10_3_0;
-    r17_10_6_0 = r13_10_8_0;
-    r17_10_7_0 = r13_10_9_0;
-    r17_0_0 = r13_0_0;
-    r17_8_0 = r13_6_0;
-    goto dfuse_host_plan_Plan_hear_exit;
-arm_3_2:
-    r17_10_3_0 = 0;
-    r17_10_6_0 = 0;
-    r17_10_7_0 = 0;
-    r17_0_0 = 4;
-    r17_8_0 = 0;
-    goto dfuse_host_plan_Plan_hear_exit;
-arm_4_2:
-    r17_10_3_0 = 0;
-    r17_10_6_0 = 0;
-    r17_10_7_0 = 0;
-    r17_0_0 = 5;
-    r17_8_0 = 0;
-    goto dfuse_host_plan_Plan_hear_exit;
-arm_5_2:
-    r17_10_3_0 = 0;
-    r17_10_6_0 = 0;
-    r17_10_7_0 = 0;
-    r17_0_0 = 6;
-    r17_8_0 = 0;
-    goto dfuse_host_plan_Plan_hear_exit;
-arm_6_2:
-    r17_10_3_0 = 0;
-    r17_10_6_0 = 0;
-    r17_10_7_0 = 0;
-    r17_0_0 = 7;
-    r17_8_0 = 0;
-    goto dfuse_host_plan_Plan_hear_exit;
-dfuse_host_plan_Plan_hear_exit:
-    memset(r10_2, 0, 104);
-    memset(r13, 0, 56);
-    r8_3_0_copyload = load16(r11 + 108);
-    r8_5_0_copyload = load16(r11 + 110);
-    if (r17_0_0 != 7) goto arm_2_4;
-    *r2 = r5_0_0_copyload;
-    memcpy(r2 + 1, v3, 7);
-    store64(r2 + 8, r5_6_0_copyload);
-    store64(r2 + 16, r5_8_0_copyload);
-    r2[24] = r5_10_0_copyload;
-    memcpy(r2 + 25, v4, 7);
-    store64(r2 + 32, r5_13_0_copyload);
-    r2[40] = r5_14_0_copyload;
-    memcpy(r2 + 41, v5, 3);
-    store32(r2 + 44, r5_18_0_copyload);
-    if (r5_0_0_copyload != 6) goto arm_2_5;
-    *r2_2 = 6;
-    memcpy(r2_2 + 1, v3, 7);
-    store64(r2_2 + 8, r5_6_0_copyload);
-    store64(r2_2 + 16, r5_8_0_copyload);
-    r2_2[24] = r5_10_0_copyload;
-    memcpy(r2_2 + 25, v4, 7);
-    store64(r2_2 + 32, r5_13_0_copyload);
-    r2_2[40] = r5_14_0_copyload;
-    memcpy(r2_2 + 41, v5, 3);
-    store32(r2_2 + 44, r5_18_0_copyload);
-    memset(r3, 0, 104);
-    memset(r7_2, 0, 56);
-    if ((uint8_t)(r5_14_0_copyload + 244) >= 3) goto arm_2_6;
-    memcpy(r4_2, r31, 100);
-    store16(r4_2 + 100, r8_3_0_copyload);
-    store16(r4_2 + 102, r8_5_0_copyload);
-    *r7_2 = 1;
-    r7_2[2] = 2;
-    dfuse_host_session_Session_spent(r3, r4_2, r7_2, r8_3_0_copyload);
-    goto dfuse_host_session_Session_restarted_leaving_exit;
-arm_2_6:
-    memcpy(r9_2, r31, 100);
-    store16(r9_2 + 100, r8_3_0_copyload);
-    store16(r9_2 + 102, r8_5_0_copyload);
-    dfuse_host_session_Session_restarted_once(r3, r9_2, r2_2);
-dfuse_host_session_Session_restarted_leaving_exit:
-    goto dfuse_host_session_Session_restarted_exit;
-arm_2_5:
-    memcpy(r5_2, r31, 100);
-    store16(r5_2 + 100, r8_3_0_copyload);
-    store16(r5_2 + 102, r8_5_0_copyload);
-    dfuse_host_session_Session_restarted_once(r3, r5_2, r2);
-dfuse_host_session_Session_restarted_exit:
-    memcpy(r10_2, r3, 104);
-    goto dfuse_host_session_Session_after_exit;
-arm_2_4:
-    memcpy(r12, r31, 104);
-    switch (r5_14_0_copyload) {
-    case 0: goto arm_1_2;
-    case 1: goto arm_2_7;
-    case 2: goto arm_3_4;
-    case 3: goto arm_4_3;
-    case 4:
-        r17_0_0_2 = 0;
-        r17_16_0 = 0;
-        r17_31_0 = 0;
-        r17_46223_0 = r18;
-        r17_61_0 = r5_6_0_copyload;
-        r17_72_0 = r5_8_0_copyload;
-        r17_83_0 = 0;
-        r17_94_0 = 0;
-        r17_100_0 = 0;
-        r17_110_0 = 0;
-        goto dfuse_host_plan_Plan_row_exit;
-    case 5: goto arm_6_3;
-    case 6: goto arm_7;
-    case 7: goto arm_8_2;
-    case 8: goto arm_9;
-    case 9: goto arm_10;
-    case 10: goto arm_10;
-    case 11: goto arm_11;
-    case 12: goto arm_12;
-    case 13: goto arm_13;
-    case 14: goto arm_14;
-    default: never();
-    }
-arm_1_2:
-    switch (r17_0_0) {
-    case 0: goto after_2;
-    case 4: goto after_2;
-    case 1:
-        r17_0_0_2 = 0;
-        r17_16_0 = 0;
-        r17_31_0 = 0;
-        r17_46223_0 = r18;
-        r17_61_0 = r5_6_0_copyload;
-        r17_72_0 = r5_8_0_copyload;
-        r17_83_0 = 0;
-        r17_94_0 = 0;
-        r17_100_0 = 0;
-        r17_110_0 = 0;
-        goto dfuse_host_plan_Plan_row_exit;
-    case 2:
-        r17_0_0_2 = 0;
-        r17_16_0 = 0;
-        r17_31_0 = 0;
-        r17_46223_0 = r18;
-        r17_61_0 = r5_6_0_copyload;
-        r17_72_0 = r5_8_0_copyload;
-        r17_83_0 = 0;
-        r17_94_0 = 0;
-        r17_100_0 = 0;
-        r17_110_0 = 0;
-        goto dfuse_host_plan_Plan_row_exit;
-    case 3:
-        r17_0_0_2 = 0;
-        r17_16_0 = 0;
-        r17_31_0 = 0;
-        r17_46223_0 = r18;
-        r17_61_0 = r5_6_0_copyload;
-        r17_72_0 = r5_8_0_copyload;
-        r17_83_0 = 0;
-        r17_94_0 = 0;
-        r17_100_0 = 0;
-        r17_110_0 = 0;
-        goto dfuse_host_plan_Plan_row_exit;
-    case 5:
-        r17_0_0_2 = 0;
-        r17_16_0 = 0;
-        r17_31_0 = 0;
-        r17_46223_0 = r18;
-        r17_61_0 = r5_6_0_copyload;
-        r17_72_0 = r5_8_0_copyload;
-        r17_83_0 = 0;
-        r17_94_0 = 0;
-        r17_100_0 = 0;
-        r17_110_0 = 0;
-        goto dfuse_host_plan_Plan_row_exit;
-    case 6:
-        r17_0_0_2 = 0;
-        r17_16_0 = 0;
-        r17_31_0 = 0;
-        r17_46223_0 = r18;
-        r17_61_0 = r5_6_0_copyload;
-        r17_72_0 = r5_8_0_copyload;
-        r17_83_0 = 0;
-        r17_94_0 = 0;
-        r17_100_0 = 0;
-        r17_110_0 = 0;
-        goto dfuse_host_plan_Plan_row_exit;
-    default: never();
-    }
-after_2:
-    r17_0_0_2 = 0;
-    r17_16_0 = 0;
-    r17_31_0 = 0;
-    r17_46223_0 = r18;
-    r17_61_0 = r5_6_0_copyload;
-    r17_72_0 = r5_8_0_copyload;
-    r17_83_0 = 0;
-    r17_94_0 = 0;
-    r17_100_0 = 1;
-    r17_110_0 = 0;
-    goto dfuse_host_plan_Plan_row_exit;
-arm_2_7:
-    switch (r17_0_0) {
-    case 2: goto arm_1_3;
-    case 4:
-        r17_0_0_2 = 0;
-        r17_16_0 = 0;
-        r17_31_0 = 0;
-        r17_46223_0 = r18;
-        r17_61_0 = r5_6_0_copyload;
-        r17_72_0 = r5_8_0_copyload;
-        r17_83_0 = 0;
-        r17_94_0 = 0;
-        r17_100_0 = 2;
-        r17_110_0 = 0;
-        goto dfuse_host_plan_Plan_row_exit;
-    case 0: goto arm_3_5;
-    case 1: goto arm_3_5;
-    case 3: goto arm_3_5;
-    case 5: goto arm_3_5;
-    case 6: goto arm_3_5;
-    default: never();
-    }
-arm_1_3:
-    store64(r1_2, r18);
-    store64(r1_2 + 8, r5_6_0_copyload);
-    store64(r1_2 + 16, r5_8_0_copyload);
-    memset(r9_3, 0, 56);
-    switch (r17_8_0) {
-    case 0:
-        r9_21_6_0_copyload = 0;
-        r9_21_0_0_copyload = 0;
-        r9_25_8_copyload22 = 0;
-        r9_23_8_copyload21 = 0;
-        r9_19_8_copyload20 = 0;
-        r9_17_8_copyload19 = 0;
-        r9_1317_8_copyload18 = 0;
-        v10 = 0;
-        v11 = 6;
-        v12 = 1;
-        goto dfuse_host_plan_Plan_state_found_exit;
-    case 1:
-        r9_21_6_0_copyload = 0;
-        r9_21_0_0_copyload = 0;
-        r9_25_8_copyload22 = 0;
-        r9_23_8_copyload21 = 0;
-        r9_19_8_copyload20 = 0;
-        r9_17_8_copyload19 = 0;
-        r9_1317_8_copyload18 = 0;
-        v10 = 0;
-        v11 = 6;
-        v12 = 1;
-        goto dfuse_host_plan_Plan_state_found_exit;
-    case 2: goto arm_2_8;
-    case 3: goto arm_3_6;
-    case 5: goto arm_3_6;
-    case 6: goto arm_3_6;
-    case 9: goto arm_3_6;
-    case 4: goto arm_4_4;
-    case 7: goto arm_4_4;
-    case 8: goto arm_4_4;
-    case 10: goto arm_4_4;
-    default: never();
-    }
-arm_2_8:
-    dfuse_host_plan_Plan_settle(r9_3, r31, r1_2, 0, 0);
-    uint8_t pre = *r9_3;
-    uint8_t pre8 = r9_3[1];
-    uint8_t pre9 = r9_3[2];
-    uint64_t r9_1317_8_copyload18_pre = load64(r9_3 + 8);
-    uint64_t r9_17_8_copyload19_pre = load64(r9_3 + 16);
-    uint64_t r9_19_8_copyload20_pre = load64(r9_3 + 24);
-    uint32_t r9_23_8_copyload21_pre = load32(r9_3 + 48);
-    uint32_t r9_25_8_copyload22_pre = load32(r9_3 + 52);
-    uint64_t r9_21_0_0_copyload_pre = load64(r9_3 + 32);
-    uint64_t r9_21_6_0_copyload_pre = load64(r9_3 + 40);
-    r9_21_6_0_copyload = r9_21_6_0_copyload_pre;
-    r9_21_0_0_copyload = r9_21_0_0_copyload_pre;
-    r9_25_8_copyload22 = r9_25_8_copyload22_pre;
-    r9_23_8_copyload21 = r9_23_8_copyload21_pre;
-    r9_19_8_copyload20 = r9_19_8_copyload20_pre;
-    r9_17_8_copyload19 = r9_17_8_copyload19_pre;
-    r9_1317_8_copyload18 = r9_1317_8_copyload18_pre;
-    v10 = pre9;
-    v11 = pre8;
-    v12 = pre;
-    goto dfuse_host_plan_Plan_state_found_exit;
-arm_3_6:
-    r9_21_6_0_copyload = 0;
-    r9_21_0_0_copyload = 0;
-    r9_25_8_copyload22 = 0;
-    r9_23_8_copyload21 = 0;
-    r9_19_8_copyload20 = r5_8_0_copyload;
-    r9_17_8_copyload19 = r5_6_0_copyload;
-    r9_1317_8_copyload18 = r18;
-    v10 = 0;
-    v11 = 0;
-    v12 = 0;
-    goto dfuse_host_plan_Plan_state_found_exit;
-arm_4_4:
-    r9_21_6_0_copyload = 0;
-    r9_21_0_0_copyload = 0;
-    r9_25_8_copyload22 = 0;
-    r9_23_8_copyload21 = 2;
-    r9_19_8_copyload20 = r5_8_0_copyload;
-    r9_17_8_copyload19 = r5_6_0_copyload;
-    r9_1317_8_copyload18 = r18;
-    v10 = 0;
-    v11 = 0;
-    v12 = 0;
-    goto dfuse_host_plan_Plan_state_found_exit;
-dfuse_host_plan_Plan_state_found_exit:
-    r17_0_0_2 = v12;
-    r17_16_0 = v11;
-    r17_31_0 = v10;
-    r17_46223_0 = r9_1317_8_copyload18;
-    r17_61_0 = r9_17_8_copyload19;
-    r17_72_0 = r9_19_8_copyload20;
-    r17_83_0 = r9_21_0_0_copyload;
-    r17_94_0 = r9_21_6_0_copyload;
-    r17_100_0 = r9_23_8_copyload21;
-    r17_110_0 = r9_25_8_copyload22;
-    goto dfuse_host_plan_Plan_row_exit;
-arm_3_5:
-    r17_0_0_2 = 0;
-    r17_16_0 = 0;
-    r17_31_0 = 0;
-    r17_46223_0 = r18;
-    r17_61_0 = r5_6_0_copyload;
-    r17_72_0 = r5_8_0_copyload;
-    r17_83_0 = 0;
-    r17_94_0 = 0;
-    r17_100_0 = 1;
-    r17_110_0 = 0;
-    goto dfuse_host_plan_Plan_row_exit;
-arm_3_4:
-    switch (r17_0_0) {
-    case 1: goto arm_1_4;
-    case 4:
-        r17_0_0_2 = 0;
-        r17_16_0 = 0;
-        r17_31_0 = 0;
-        r17_46223_0 = r18;
-        r17_61_0 = r5_6_0_copyload;
-        r17_72_0 = r5_8_0_copyload;
-        r17_83_0 = 0;
-        r17_94_0 = 0;
-        r17_100_0 = 3;
-        r17_110_0 = 100;
-        goto dfuse_host_plan_Plan_row_exit;
-    case 0: goto arm_3_7;
-    case 2: goto arm_3_7;
-    case 3: goto arm_3_7;
-    case 5: goto arm_3_7;
-    case 6: goto arm_3_7;
-    default: never();
-    }
-arm_1_4:
-    switch (r17_10_7_0) {
-    case 0:
-        r17_0_0_2 = 1;
-        r17_16_0 = 6;
-        r17_31_0 = 0;
-        r17_46223_0 = 0;
-        r17_61_0 = 0;
-        r17_72_0 = 0;
-        r17_83_0 = 0;
-        r17_94_0 = 0;
-        r17_100_0 = 0;
-        r17_110_0 = 0;
-        goto dfuse_host_plan_Plan_row_exit;
-    case 1:
-        r17_0_0_2 = 1;
-        r17_16_0 = 6;
-        r17_31_0 = 0;
-        r17_46223_0 = 0;
-        r17_61_0 = 0;
-        r17_72_0 = 0;
-        r17_83_0 = 0;
-        r17_94_0 = 0;
-        r17_100_0 = 0;
-        r17_110_0 = 0;
-        goto dfuse_host_plan_Plan_row_exit;
-    case 2: goto arm_2_9;
-    case 5: goto arm_3_8;
-    case 9: goto arm_3_8;
-    case 10: goto arm_4_5;
-    case 3: goto arm_5_3;
-    case 4: goto arm_5_3;
-    case 6: goto arm_5_3;
-    case 7: goto arm_5_3;
-    case 8: goto arm_5_3;
-    default: never();
-    }
-arm_2_9:
-    r17_0_0_2 = 0;
-    r17_16_0 = 0;
-    r17_31_0 = 0;
-    r17_46223_0 = r18;
-    r17_61_0 = r5_6_0_copyload;
-    r17_72_0 = r5_8_0_copyload;
-    r17_83_0 = 0;
-    r17_94_0 = 0;
-    r17_100_0 = 1;
-    r17_110_0 = 0;
-    goto dfuse_host_plan_Plan_row_exit;
-arm_3_8:
-    r17_0_0_2 = 0;
-    r17_16_0 = 0;
-    r17_31_0 = 0;
-    r17_46223_0 = r18;
-    r17_61_0 = r5_6_0_copyload;
-    r17_72_0 = r5_8_0_copyload;
-    r17_83_0 = 0;
-    r17_94_0 = 0;
-    r17_100_0 = 0;
-    r17_110_0 = 0;
-    goto dfuse_host_plan_Plan_row_exit;
-arm_4_5:
-    switch (r5_0_0_copyload) {
-    case 0:
-        r17_0_0_2 = r5_0_0_copyload;
-        r17_16_0 = r5_0_0_copyload;
-        r17_31_0 = r5_0_0_copyload;
-        r17_46223_0 = 0;
-        r17_61_0 = r5_6_0_copyload;
-        r17_72_0 = r5_8_0_copyload;
-        r17_83_0 = 0;
-        r17_94_0 = 0;
-        r17_100_0 = 4;
-        r17_110_0 = 0;
-        goto dfuse_host_plan_Plan_row_exit;
-    case 3: goto arm_4_6;
-    case 5: goto arm_4_6;
-    case 1: goto arm_5_4;
-    case 2: goto arm_5_4;
-    case 4: goto arm_5_4;
-    case 6: goto arm_5_4;
-    default: never();
-    }
-arm_4_6:
-    switch (r17_10_3_0) {
-    case 11:
-        r17_0_0_2 = 1;
-        r17_16_0 = 3;
-        r17_31_0 = 0;
-        r17_46223_0 = 0;
-        r17_61_0 = 0;
-        r17_72_0 = 0;
-        r17_83_0 = 0;
-        r17_94_0 = 0;
-        r17_100_0 = 0;
-        r17_110_0 = 0;
-        goto dfuse_host_plan_Plan_row_exit;
-    case 15: goto arm_1_5;
-    default: goto dfuse_host_clearing_ends_comparing_exit;
-    }
-arm_1_5:
-    r17_0_0_2 = 0;
-    r17_16_0 = 0;
-    r17_31_0 = 0;
-    r17_46223_0 = r18;
-    r17_61_0 = r5_6_0_copyload;
-    r17_72_0 = r5_8_0_copyload;
-    r17_83_0 = 0;
-    r17_94_0 = 0;
-    r17_100_0 = 4;
-    r17_110_0 = 0;
-    goto dfuse_host_plan_Plan_row_exit;
-dfuse_host_clearing_ends_comparing_exit:
-    r17_0_0_2 = 1;
-    r17_16_0 = 2;
-    r17_31_0 = r17_10_3_0;
-    r17_46223_0 = 0;
-    r17_61_0 = 0;
-    r17_72_0 = 0;
-    r17_83_0 = 0;
-    r17_94_0 = 0;
-    r17_100_0 = 0;
-    r17_110_0 = 0;
-    goto dfuse_host_plan_Plan_row_exit;
-arm_5_4:
-    if (r17_10_3_0 == 11) {
-        r17_0_0_2 = 1;
-        r17_16_0 = 3;
-        r17_31_0 = 0;
-        r17_46223_0 = 0;
-        r17_61_0 = 0;
-        r17_72_0 = 0;
-        r17_83_0 = 0;
-        r17_94_0 = 0;
-        r17_100_0 = 0;
-        r17_110_0 = 0;
-        goto dfuse_host_plan_Plan_row_exit;
-    }
-    r17_0_0_2 = 0;
-    r17_16_0 = 0;
-    r17_31_0 = 0;
-    r17_46223_0 = r18;
-    r17_61_0 = r5_6_0_copyload;
-    r17_72_0 = r5_8_0_copyload;
-    r17_83_0 = 0;
-    r17_94_0 = 0;
-    r17_100_0 = 4;
-    r17_110_0 = 0;
-    goto dfuse_host_plan_Plan_row_exit;
-arm_5_3:
-    r17_0_0_2 = 0;
-    r17_16_0 = 0;
-    r17_31_0 = 0;
-    r17_46223_0 = r18;
-    r17_61_0 = r5_6_0_copyload;
-    r17_72_0 = r5_8_0_copyload;
-    r17_83_0 = 0;
-    r17_94_0 = 0;
-    r17_100_0 = 3;
-    r17_110_0 = r17_10_6_0;
-    goto dfuse_host_plan_Plan_row_exit;
-arm_3_7:
-    r17_0_0_2 = 0;
-    r17_16_0 = 0;
-    r17_31_0 = 0;
-    r17_46223_0 = r18;
-    r17_61_0 = r5_6_0_copyload;
-    r17_72_0 = r5_8_0_copyload;
-    r17_83_0 = 0;
-    r17_94_0 = 0;
-    r17_100_0 = 2;
-    r17_110_0 = 0;
-    goto dfuse_host_plan_Plan_row_exit;
-arm_4_3:;
-    uint8_t v14 = r17_0_0 == 6;
-    r17_0_0_2 = 0;
-    r17_16_0 = 0;
-    r17_31_0 = 0;
-    r17_46223_0 = r18;
-    r17_61_0 = r5_6_0_copyload;
-    r17_72_0 = r5_8_0_copyload;
-    r17_83_0 = 0;
-    r17_94_0 = 0;
-    r17_100_0 = (uint32_t)(v14 ? 1 : 3);
-    r17_110_0 = (uint32_t)(v14 ? 0 : r5_18_0_copyload);
-    goto dfuse_host_plan_Plan_row_exit;
-arm_6_3:
-    r17_0_0_2 = 0;
-    r17_16_0 = 0;
-    r17_31_0 = 0;
-    r17_46223_0 = r18;
-    r17_61_0 = r5_6_0_copyload;
-    r17_72_0 = r5_8_0_copyload;
-    r17_83_0 = (uint64_t)r5_10_0_copyload;
-    r17_94_0 = r5_13_0_copyload;
-    r17_100_0 = (uint32_t)((r17_0_0 == 0) ? 7 : 6);
-    r17_110_0 = 0;
-    goto dfuse_host_plan_Plan_row_exit;
-arm_7:
-    store64(r1_3, r18);
-    store64(r1_3 + 8, r5_6_0_copyload);
-    store64(r1_3 + 16, r5_8_0_copyload);
-    memset(r12_2, 0, 56);
-    switch (r17_0_0) {
-    case 2: goto arm_1_6;
-    case 4: goto arm_2_10;
-    case 0: goto arm_3_9;
-    case 1: goto arm_3_9;
-    case 3: goto arm_3_9;
-    case 5: goto arm_3_9;
-    case 6: goto arm_3_9;
-    default: never();
-    }
-arm_1_6:
-    store64(r1_4, r18);
-    store64(r1_4 + 8, r5_6_0_copyload);
-    store64(r1_4 + 16, r5_8_0_copyload);
-    memset(r12_3, 0, 56);
-    switch (r17_8_0) {
-    case 3: goto arm_1_7;
-    case 2: goto arm_2_11;
-    case 5: goto arm_2_11;
-    case 10: goto arm_3_10;
-    case 0: goto arm_4_7;
-    case 1: goto arm_4_7;
-    case 4: goto arm_4_7;
-    case 6: goto arm_4_7;
-    case 7: goto arm_4_7;
-    case 8: goto arm_4_7;
-    case 9: goto arm_4_7;
-    default: never();
-    }
-arm_1_7:
-    store64(r12_3 + 8, r18);
-    store64(r12_3 + 16, r5_6_0_copyload);
-    store64(r12_3 + 24, r5_8_0_copyload);
-    store64(r12_3 + 32, (uint64_t)r5_10_0_copyload);
-    store64(r12_3 + 40, r5_13_0_copyload);
-    store32(r12_3 + 48, 7);
-    v16 = 0;
-    v17 = 0;
-    v18 = 0;
-    goto dfuse_host_plan_Plan_probed_exit;
-arm_2_11:
-    store64(r12_3 + 8, r18);
-    store64(r12_3 + 16, r5_6_0_copyload);
-    store64(r12_3 + 24, r5_8_0_copyload);
-    store64(r12_3 + 32, (uint64_t)r5_10_0_copyload);
-    store64(r12_3 + 40, r5_13_0_copyload);
-    store32(r12_3 + 48, 5);
-    v16 = 0;
-    v17 = 0;
-    v18 = 0;
-    goto dfuse_host_plan_Plan_probed_exit;
-arm_3_10:
-    store64(r12_3 + 8, r18);
-    store64(r12_3 + 16, r5_6_0_copyload);
-    store64(r12_3 + 24, r5_8_0_copyload);
-    memset(r12_3 + 32, 0, 24);
-    v16 = 0;
-    v17 = 0;
-    v18 = 0;
-    goto dfuse_host_plan_Plan_probed_exit;
-arm_4_7:
-    dfuse_host_plan_Plan_unsure_of(r12_3, r31, r1_4, r5_10_0_copyload, r5_13_0_copyload);
-    uint8_t pre_2 = *r12_3;
-    uint8_t pre26 = r12_3[1];
-    uint8_t pre27 = r12_3[2];
-    v16 = pre27;
-    v17 = pre26;
-    v18 = pre_2;
-    goto dfuse_host_plan_Plan_probed_exit;
-dfuse_host_plan_Plan_probed_exit:
-    memcpy(r12_2 + 8, r12_3 + 8, 48);
-    v19 = v16;
-    v20 = v17;
-    v21 = v18;
-    goto dfuse_host_plan_Plan_on_probe_exit;
-arm_2_10:
-    dfuse_host_plan_Plan_unsure_of(r12_2, r31, r1_3, r5_10_0_copyload, r5_13_0_copyload);
-    uint8_t pre_3 = *r12_2;
-    uint8_t pre10 = r12_2[1];
-    uint8_t pre11 = r12_2[2];
-    v19 = pre11;
-    v20 = pre10;
-    v21 = pre_3;
-    goto dfuse_host_plan_Plan_on_probe_exit;
-arm_3_9:
-    store64(r12_2 + 8, r18);
-    store64(r12_2 + 16, r5_6_0_copyload);
-    store64(r12_2 + 24, r5_8_0_copyload);
-    store64(r12_2 + 32, (uint64_t)r5_10_0_copyload);
-    store64(r12_2 + 40, r5_13_0_copyload);
-    store32(r12_2 + 48, 6);
-    v19 = 0;
-    v20 = 0;
-    v21 = 0;
-dfuse_host_plan_Plan_on_probe_exit:;
-    uint64_t r17_46223_8_copyload224 = load64(r12_2 + 8);
-    uint64_t r17_61_8_copyload227 = load64(r12_2 + 16);
-    uint64_t r17_72_8_copyload230 = load64(r12_2 + 24);
-    uint64_t r17_83_8_copyload233 = load64(r12_2 + 32);
-    uint64_t r17_94_8_copyload238 = load64(r12_2 + 40);
-    uint32_t r17_100_8_copyload243 = load32(r12_2 + 48);
-    uint32_t r17_110_8_copyload246 = load32(r12_2 + 52);
-    r17_0_0_2 = v21;
-    r17_16_0 = v20;
-    r17_31_0 = v19;
-    r17_46223_0 = r17_46223_8_copyload224;
-    r17_61_0 = r17_61_8_copyload227;
-    r17_72_0 = r17_72_8_copyload230;
-    r17_83_0 = r17_83_8_copyload233;
-    r17_94_0 = r17_94_8_copyload238;
-    r17_100_0 = r17_100_8_copyload243;
-    r17_110_0 = r17_110_8_copyload246;
-    goto dfuse_host_plan_Plan_row_exit;
-arm_8_2:
-    switch (r17_0_0) {
-    case 1: goto arm_1_8;
-    case 4: goto arm_2_12;
-    case 0: goto arm_3_11;
-    case 2: goto arm_3_11;
-    case 3: goto arm_3_11;
-    case 5: goto arm_3_11;
-    case 6: goto arm_3_11;
-    default: never();
-    }
-arm_1_8:
-    store64(r1_5, r18);
-    store64(r1_5 + 8, r5_6_0_copyload);
-    store64(r1_5 + 16, r5_8_0_copyload);
-    memset(r12_4, 0, 56);
-    switch (r17_10_7_0) {
-    case 3: goto arm_1_9;
-    case 4: goto arm_1_9;
-    case 5: goto arm_2_13;
-    case 10: goto arm_3_12;
-    case 0: goto arm_4_8;
-    case 1: goto arm_4_8;
-    case 2: goto arm_4_8;
-    case 6: goto arm_4_8;
-    case 7: goto arm_4_8;
-    case 8: goto arm_4_8;
-    case 9: goto arm_4_8;
-    default: never();
-    }
-arm_1_9:
-    store64(r12_4 + 8, r18);
-    store64(r12_4 + 16, r5_6_0_copyload);
-    store64(r12_4 + 24, r5_8_0_copyload);
-    store64(r12_4 + 32, (uint64_t)r5_10_0_copyload);
-    store64(r12_4 + 40, r5_13_0_copyload);
-    store32(r12_4 + 48, 8);
-    store32(r12_4 + 52, r17_10_6_0);
-    v36 = 0;
-    v37 = 0;
-    v38 = 0;
-    goto dfuse_host_plan_Plan_polled_exit;
-arm_2_13:;
-    struct i8_i64 r31_2 = dfuse_host_plan_Plan_command_of(r31, r1_5, r5_10_0_copyload, r5_13_0_copyload);
-    r33 = r31_2.b;
-    store64(r1_6, r18);
-    store64(r1_6 + 8, r5_6_0_copyload);
-    store64(r1_6 + 16, r5_8_0_copyload);
-    memset(r14_2, 0, 56);
-    switch (r31_2.a) {
-    case 0: goto arm_1_10;
-    case 1: goto arm_2_14;
-    case 2: goto arm_3_13;
-    default: never();
-    }
-arm_1_10:
-    dfuse_host_plan_Plan_settle(r14_2, r31, r1_6, 1, r33);
-    uint8_t pre_4 = *r14_2;
-    uint8_t pre15 = r14_2[1];
-    uint8_t pre16 = r14_2[2];
-    v30 = pre16;
-    v31 = pre15;
-    v32 = pre_4;
-    goto dfuse_host_plan_Plan_done_exit;
-arm_2_14:
-    memset(r10_3, 0, 56);
-    if (r5_0_0_copyload != 1) goto arm_2_15;
-    uint64_t r21 = dfuse_host_plan_Plan_front_end(r31);
-    dfuse_host_plan_Plan_to_write(r10_3, r31, 0, 0, umax64(r21, r5_6_0_copyload), r5_8_0_copyload);
-    goto dfuse_host_plan_Plan_erased_exit;
-arm_2_15:;
-    uint64_t r30_2 = dfuse_host_plan_Plan_page_end(r31, r33);
-    dfuse_host_plan_Plan_to_erase(r10_3, r31, 0, 0, r30_2);
-dfuse_host_plan_Plan_erased_exit:;
-    uint8_t v23 = *r10_3;
-    uint8_t v24 = r10_3[1];
-    uint8_t v25 = r10_3[2];
-    memcpy(r14_2 + 8, r10_3 + 8, 48);
-    v30 = v25;
-    v31 = v24;
-    v32 = v23;
-    goto dfuse_host_plan_Plan_done_exit;
-arm_3_13:
-    memset(r10_4, 0, 56);
-    if (r5_0_0_copyload != 2) goto arm_2_16;
-    uint64_t r23_3 = dfuse_host_plan_Plan_write_end(r31, r33, r5_8_0_copyload);
-    dfuse_host_plan_Plan_to_write(r10_4, r31, 0, 0, umax64(r23_3, r5_6_0_copyload), r5_8_0_copyload);
-    goto dfuse_host_plan_Plan_written_exit;
-arm_2_16:;
-    uint64_t r32 = dfuse_host_plan_Plan_front_end(r31);
-    uint64_t r34 = dfuse_host_plan_Plan_write_end(r31, r33, r32);
-    dfuse_host_plan_Plan_to_write_front(r10_4, r31, 0, 0, r34);
-dfuse_host_plan_Plan_written_exit:;
-    uint8_t v27 = *r10_4;
-    uint8_t v28 = r10_4[1];
-    uint8_t v29 = r10_4[2];
-    memcpy(r14_2 + 8, r10_4 + 8, 48);
-    v30 = v29;
-    v31 = v28;
-    v32 = v27;
-dfuse_host_plan_Plan_done_exit:
-    memcpy(r12_4 + 8, r14_2 + 8, 48);
-    v36 = v30;
-    v37 = v31;
-    v38 = v32;
-    goto dfuse_host_plan_Plan_polled_exit;
-arm_3_12:
-    store64(r1_7, r18);
-    store64(r1_7 + 8, r5_6_0_copyload);
-    store64(r1_7 + 16, r5_8_0_copyload);
-    memset(r12_5, 0, 56);
-    switch (r17_10_3_0) {
-    case 15: goto arm_1_11;
-    case 11:
-        v33 = 0;
-        v34 = 3;
-        v35 = 1;
-        goto dfuse_host_plan_Plan_refused_exit;
-    case 0: goto arm_3_14;
-    case 1: goto arm_3_14;
-    case 2: goto arm_3_14;
-    case 3: goto arm_3_14;
-    case 4: goto arm_3_14;
-    case 5: goto arm_3_14;
-    case 6: goto arm_3_14;
-    case 7: goto arm_3_14;
-    case 8: goto arm_3_14;
-    case 9: goto arm_3_14;
-    case 10: goto arm_3_14;
-    case 12: goto arm_3_14;
-    case 13: goto arm_3_14;
-    case 14: goto arm_3_14;
-    default: never();
-    }
-arm_1_11:
-    dfuse_host_plan_Plan_unsure_of(r12_5, r31, r1_7, r5_10_0_copyload, r5_13_0_copyload);
-    uint8_t pre_5 = *r12_5;
-    uint8_t pre4 = r12_5[1];
-    uint8_t pre5 = r12_5[2];
-    v33 = pre5;
-    v34 = pre4;
-    v35 = pre_5;
-    goto dfuse_host_plan_Plan_refused_exit;
-arm_3_14:
-    v33 = r17_10_3_0;
-    v34 = 2;
-    v35 = 1;
-    goto dfuse_host_plan_Plan_refused_exit;
-dfuse_host_plan_Plan_refused_exit:
-    memcpy(r12_4 + 8, r12_5 + 8, 48);
-    v36 = v33;
-    v37 = v34;
-    v38 = v35;
-    goto dfuse_host_plan_Plan_polled_exit;
-arm_4_8:
-    dfuse_host_plan_Plan_unsure_of(r12_4, r31, r1_5, r5_10_0_copyload, r5_13_0_copyload);
-    uint8_t pre_6 = *r12_4;
-    uint8_t pre30 = r12_4[1];
-    uint8_t pre31 = r12_4[2];
-    v36 = pre31;
-    v37 = pre30;
-    v38 = pre_6;
-    goto dfuse_host_plan_Plan_polled_exit;
-dfuse_host_plan_Plan_polled_exit:;
-    uint64_t r12_1327_8_copyload28 = load64(r12_4 + 8);
-    uint64_t r12_17_8_copyload29 = load64(r12_4 + 16);
-    uint64_t r12_19_8_copyload30 = load64(r12_4 + 24);
-    uint64_t r12_21_8_copyload31 = load64(r12_4 + 32);
-    uint64_t r12_23_8_copyload32 = load64(r12_4 + 40);
-    uint32_t r12_25_8_copyload33 = load32(r12_4 + 48);
-    uint32_t r12_27_8_copyload34 = load32(r12_4 + 52);
-    r17_0_0_2 = v38;
-    r17_16_0 = v37;
-    r17_31_0 = v36;
-    r17_46223_0 = r12_1327_8_copyload28;
-    r17_61_0 = r12_17_8_copyload29;
-    r17_72_0 = r12_19_8_copyload30;
-    r17_83_0 = r12_21_8_copyload31;
-    r17_94_0 = r12_23_8_copyload32;
-    r17_100_0 = r12_25_8_copyload33;
-    r17_110_0 = r12_27_8_copyload34;
-    goto dfuse_host_plan_Plan_row_exit;
-arm_2_12:
-    r17_0_0_2 = 0;
-    r17_16_0 = 0;
-    r17_31_0 = 0;
-    r17_46223_0 = r18;
-    r17_61_0 = r5_6_0_copyload;
-    r17_72_0 = r5_8_0_copyload;
-    r17_83_0 = (uint64_t)r5_10_0_copyload;
-    r17_94_0 = r5_13_0_copyload;
-    r17_100_0 = 8;
-    r17_110_0 = (uint32_t)((r5_18_0_copyload == 0) ? 100 : r5_18_0_copyload);
-    goto dfuse_host_plan_Plan_row_exit;
-arm_3_11:
-    r17_0_0_2 = 0;
-    r17_16_0 = 0;
-    r17_31_0 = 0;
-    r17_46223_0 = r18;
-    r17_61_0 = r5_6_0_copyload;
-    r17_72_0 = r5_8_0_copyload;
-    r17_83_0 = (uint64_t)r5_10_0_copyload;
-    r17_94_0 = r5_13_0_copyload;
-    r17_100_0 = 7;
-    r17_110_0 = r5_18_0_copyload;
-    goto dfuse_host_plan_Plan_row_exit;
-arm_9:
-    r17_0_0_2 = 0;
-    r17_16_0 = 0;
-    r17_31_0 = 0;
-    r17_46223_0 = r18;
-    r17_61_0 = r5_6_0_copyload;
-    r17_72_0 = r5_8_0_copyload;
-    r17_83_0 = (uint64_t)r5_10_0_copyload;
-    r17_94_0 = r5_13_0_copyload;
-    r17_100_0 = (uint32_t)((r17_0_0 == 6) ? 7 : 8);
-    r17_110_0 = r5_18_0_copyload;
-    goto dfuse_host_plan_Plan_row_exit;
-arm_10:
-    store64(r1_8, r18);
-    store64(r1_8 + 8, r5_6_0_copyload);
-    store64(r1_8 + 16, r5_8_0_copyload);
-    memset(r14_3, 0, 56);
-    switch (r17_0_0) {
-    case 0: goto arm_1_12;
-    case 4:
-        r17_110_8_copyload247 = 0;
-        r17_100_8_copyload244 = 0;
-        r17_94_8_copyload239 = 0;
-        r17_83_8_copyload234 = 0;
-        r17_72_8_copyload231 = r5_8_0_copyload;
-        r17_61_8_copyload228 = r5_6_0_copyload;
-        r17_46223_8_copyload225 = r18;
-        v43 = 0;
-        v44 = 0;
-        v45 = 0;
-        goto dfuse_host_plan_Plan_on_turn_exit;
-    case 1: goto arm_3_15;
-    case 2: goto arm_3_15;
-    case 3: goto arm_3_15;
-    case 5: goto arm_3_15;
-    case 6: goto arm_3_15;
-    default: never();
-    }
-arm_1_12:
-    dfuse_host_plan_Plan_settle(r14_3, r31, r1_8, (uint8_t)((r5_14_0_copyload == 9) ? (uint8_t)((r5_10_0_copyload == 1) ? 2 : r5_10_0_copyload) : (uint8_t)((r5_10_0_copyload == 2) ? 1 : r5_10_0_copyload)), r5_13_0_copyload);
-    uint8_t pre_7 = *r14_3;
-    uint8_t pre10_2 = r14_3[1];
-    uint8_t pre11_2 = r14_3[2];
-    uint64_t r17_46223_8_copyload225_pre = load64(r14_3 + 8);
-    uint64_t r17_61_8_copyload228_pre = load64(r14_3 + 16);
-    uint64_t r17_72_8_copyload231_pre = load64(r14_3 + 24);
-    uint64_t r17_83_8_copyload234_pre = load64(r14_3 + 32);
-    uint64_t r17_94_8_copyload239_pre = load64(r14_3 + 40);
-    uint32_t r17_100_8_copyload244_pre = load32(r14_3 + 48);
-    uint32_t r17_110_8_copyload247_pre = load32(r14_3 + 52);
-    r17_110_8_copyload247 = r17_110_8_copyload247_pre;
-    r17_100_8_copyload244 = r17_100_8_copyload244_pre;
-    r17_94_8_copyload239 = r17_94_8_copyload239_pre;
-    r17_83_8_copyload234 = r17_83_8_copyload234_pre;
-    r17_72_8_copyload231 = r17_72_8_copyload231_pre;
-    r17_61_8_copyload228 = r17_61_8_copyload228_pre;
-    r17_46223_8_copyload225 = r17_46223_8_copyload225_pre;
-    v43 = pre11_2;
-    v44 = pre10_2;
-    v45 = pre_7;
-    goto dfuse_host_plan_Plan_on_turn_exit;
-arm_3_15:
-    r17_110_8_copyload247 = r5_18_0_copyload;
-    r17_100_8_copyload244 = (uint32_t)r5_14_0_copyload;
-    r17_94_8_copyload239 = r5_13_0_copyload;
-    r17_83_8_copyload234 = (uint64_t)r5_10_0_copyload;
-    r17_72_8_copyload231 = r5_8_0_copyload;
-    r17_61_8_copyload228 = r5_6_0_copyload;
-    r17_46223_8_copyload225 = r18;
-    v43 = 0;
-    v44 = 0;
-    v45 = 0;
-dfuse_host_plan_Plan_on_turn_exit:
-    r17_0_0_2 = v45;
-    r17_16_0 = v44;
-    r17_31_0 = v43;
-    r17_46223_0 = r17_46223_8_copyload225;
-    r17_61_0 = r17_61_8_copyload228;
-    r17_72_0 = r17_72_8_copyload231;
-    r17_83_0 = r17_83_8_copyload234;
-    r17_94_0 = r17_94_8_copyload239;
-    r17_100_0 = r17_100_8_copyload244;
-    r17_110_0 = r17_110_8_copyload247;
-    goto dfuse_host_plan_Plan_row_exit;
-arm_11:
-    memset(r11_3, 0, 56);
-    switch (r17_0_0) {
-    case 3: goto arm_1_13;
-    case 4:
-        r17_110_8_copyload248 = 0;
-        r17_100_8_copyload245 = 0;
-        r17_94_8_copyload240 = 0;
-        r17_83_8_copyload235 = 0;
-        r17_72_8_copyload232 = r5_8_0_copyload;
-        r17_61_8_copyload229 = r5_6_0_copyload;
-        r17_46223_8_copyload226 = r18;
-        v46 = 0;
-        v47 = 0;
-        v48 = 0;
-        goto dfuse_host_plan_Plan_on_read_exit;
-    case 0: goto arm_3_16;
-    case 1: goto arm_3_16;
-    case 2: goto arm_3_16;
-    case 5: goto arm_3_16;
-    case 6: goto arm_3_16;
-    default: never();
-    }
-arm_1_13:
-    if (!(r17_8_0 & 1)) {
-        r17_110_8_copyload248 = 0;
-        r17_100_8_copyload245 = 0;
-        r17_94_8_copyload240 = 0;
-        r17_83_8_copyload235 = 0;
-        r17_72_8_copyload232 = 0;
-        r17_61_8_copyload229 = 0;
-        r17_46223_8_copyload226 = 0;
-        v46 = 0;
-        v47 = 1;
-        v48 = 1;
-        goto dfuse_host_plan_Plan_on_read_exit;
-    }
-    store64(r1_9, r18);
-    store64(r1_9 + 8, r5_6_0_copyload);
-    store64(r1_9 + 16, r5_8_0_copyload);
-    r14_4 = dfuse_host_plan_Plan_end_of_work(r31, r1_9);
-    switch (r5_0_0_copyload) {
-    case 3: goto arm_1_14;
-    case 5: goto arm_2_17;
-    case 0:
-        r11_5_0 = r5_6_0_copyload;
-        r11_9_0 = r5_8_0_copyload;
-        goto dfuse_host_plan_Plan_read_on_exit;
-    case 1:
-        r11_5_0 = r5_6_0_copyload;
-        r11_9_0 = r5_8_0_copyload;
-        goto dfuse_host_plan_Plan_read_on_exit;
-    case 2:
-        r11_5_0 = r5_6_0_copyload;
-        r11_9_0 = r5_8_0_copyload;
-        goto dfuse_host_plan_Plan_read_on_exit;
-    case 4:
-        r11_5_0 = r5_6_0_copyload;
-        r11_9_0 = r5_8_0_copyload;
-        goto dfuse_host_plan_Plan_read_on_exit;
-    case 6:
-        r11_5_0 = r5_6_0_copyload;
-        r11_9_0 = r5_8_0_copyload;
-        goto dfuse_host_plan_Plan_read_on_exit;
-    default: never();
-    }
-arm_1_14:;
-    uint64_t r20 = dfuse_host_plan_Plan_read_end(r31, r5_6_0_copyload, r14_4);
-    r11_5_0 = r20;
-    r11_9_0 = 0;
-    goto dfuse_host_plan_Plan_read_on_exit;
-arm_2_17:;
-    uint64_t r27_2 = dfuse_host_plan_Plan_read_end(r31, r5_6_0_copyload, r14_4);
-    r11_5_0 = r27_2;
-    r11_9_0 = 0;
-    goto dfuse_host_plan_Plan_read_on_exit;
-dfuse_host_plan_Plan_read_on_exit:
-    store64(r13_2, r18);
-    store64(r13_2 + 8, r11_5_0);
-    store64(r13_2 + 16, r11_9_0);
-    dfuse_host_plan_Plan_settle(r11_3, r31, r13_2, r5_10_0_copyload, r5_13_0_copyload);
-    uint8_t pre_8 = *r11_3;
-    uint8_t pre20 = r11_3[1];
-    uint8_t pre21 = r11_3[2];
-    uint64_t r17_46223_8_copyload226_pre = load64(r11_3 + 8);
-    uint64_t r17_61_8_copyload229_pre = load64(r11_3 + 16);
-    uint64_t r17_72_8_copyload232_pre = load64(r11_3 + 24);
-    uint64_t r17_83_8_copyload235_pre = load64(r11_3 + 32);
-    uint64_t r17_94_8_copyload240_pre = load64(r11_3 + 40);
-    uint32_t r17_100_8_copyload245_pre = load32(r11_3 + 48);
-    uint32_t r17_110_8_copyload248_pre = load32(r11_3 + 52);
-    r17_110_8_copyload248 = r17_110_8_copyload248_pre;
-    r17_100_8_copyload245 = r17_100_8_copyload245_pre;
-    r17_94_8_copyload240 = r17_94_8_copyload240_pre;
-    r17_83_8_copyload235 = r17_83_8_copyload235_pre;
-    r17_72_8_copyload232 = r17_72_8_copyload232_pre;
-    r17_61_8_copyload229 = r17_61_8_copyload229_pre;
-    r17_46223_8_copyload226 = r17_46223_8_copyload226_pre;
-    v46 = pre21;
-    v47 = pre20;
-    v48 = pre_8;
-    goto dfuse_host_plan_Plan_on_read_exit;
-arm_3_16:
-    r17_110_8_copyload248 = 0;
-    r17_100_8_copyload245 = 11;
-    r17_94_8_copyload240 = r5_13_0_copyload;
-    r17_83_8_copyload235 = (uint64_t)r5_10_0_copyload;
-    r17_72_8_copyload232 = r5_8_0_copyload;
-    r17_61_8_copyload229 = r5_6_0_copyload;
-    r17_46223_8_copyload226 = r18;
-    v46 = 0;
-    v47 = 0;
-    v48 = 0;
-dfuse_host_plan_Plan_on_read_exit:
-    r17_0_0_2 = v48;
-    r17_16_0 = v47;
-    r17_31_0 = v46;
-    r17_46223_0 = r17_46223_8_copyload226;
-    r17_61_0 = r17_61_8_copyload229;
-    r17_72_0 = r17_72_8_copyload232;
-    r17_83_0 = r17_83_8_copyload235;
-    r17_94_0 = r17_94_8_copyload240;
-    r17_100_0 = r17_100_8_copyload245;
-    r17_110_0 = r17_110_8_copyload248;
-    goto dfuse_host_plan_Plan_row_exit;
-arm_12:
-    r17_0_0_2 = 0;
-    r17_16_0 = 0;
-    r17_31_0 = 0;
-    r17_46223_0 = r18;
-    r17_61_0 = r5_6_0_copyload;
-    r17_72_0 = r5_8_0_copyload;
-    r17_83_0 = (uint64_t)r5_10_0_copyload;
-    r17_94_0 = r5_13_0_copyload;
-    r17_100_0 = (uint32_t)((r17_0_0 == 0) ? 14 : 13);
-    r17_110_0 = 0;
-    goto dfuse_host_plan_Plan_row_exit;
-arm_13:
-    switch (r17_0_0) {
-    case 2: goto arm_1_15;
-    case 4:
-        r12_23_0_in = r5_10_0_copyload;
-        r12_26_0 = r5_13_0_copyload;
-        r12_29_0 = 14;
-        goto dfuse_host_closing_on_close_probe_exit;
-    case 0: goto arm_3_17;
-    case 1: goto arm_3_17;
-    case 3: goto arm_3_17;
-    case 5: goto arm_3_17;
-    case 6: goto arm_3_17;
-    default: never();
-    }
-arm_1_15:
-    switch (r17_8_0) {
-    case 2: goto arm_1_16;
-    case 5: goto arm_1_16;
-    case 10:
-        r12_23_0_in = 0;
-        r12_26_0 = 0;
-        r12_29_0 = 0;
-        goto dfuse_host_closing_on_close_probe_exit;
-    case 0: goto arm_3_18;
-    case 1: goto arm_3_18;
-    case 3: goto arm_3_18;
-    case 4: goto arm_3_18;
-    case 6: goto arm_3_18;
-    case 7: goto arm_3_18;
-    case 8: goto arm_3_18;
-    case 9: goto arm_3_18;
-    default: never();
-    }
-arm_1_16:
-    r12_23_0_in = r5_10_0_copyload;
-    r12_26_0 = r5_13_0_copyload;
-    r12_29_0 = 12;
-    goto dfuse_host_closing_on_close_probe_exit;
-arm_3_18:
-    r12_23_0_in = r5_10_0_copyload;
-    r12_26_0 = r5_13_0_copyload;
-    r12_29_0 = 14;
-    goto dfuse_host_closing_on_close_probe_exit;
-arm_3_17:
-    r12_23_0_in = r5_10_0_copyload;
-    r12_26_0 = r5_13_0_copyload;
-    r12_29_0 = 13;
-dfuse_host_closing_on_close_probe_exit:
-    r17_0_0_2 = 0;
-    r17_16_0 = 0;
-    r17_31_0 = 0;
-    r17_46223_0 = r18;
-    r17_61_0 = r5_6_0_copyload;
-    r17_72_0 = r5_8_0_copyload;
-    r17_83_0 = (uint64_t)r12_23_0_in;
-    r17_94_0 = r12_26_0;
-    r17_100_0 = r12_29_0;
-    r17_110_0 = 0;
-    goto dfuse_host_plan_Plan_row_exit;
-arm_14:
-    if (r17_0_0 != 1) {
-        r12_0_0 = 0;
-        r12_108_0_in = r5_0_0_copyload;
-        r12_13_0 = r5_6_0_copyload;
-        r12_15_0 = r5_8_0_copyload;
-        r12_17_0_in = r5_10_0_copyload;
-        r12_19_0 = r5_13_0_copyload;
-        r12_21_0 = 14;
-        goto dfuse_host_closing_on_close_poll_exit;
-    }
-    switch (r17_10_7_0) {
-    case 2: goto arm_3_19;
-    case 5: goto arm_3_19;
-    case 10:
-        r12_0_0 = 0;
-        r12_108_0_in = r5_0_0_copyload;
-        r12_13_0 = r5_6_0_copyload;
-        r12_15_0 = r5_8_0_copyload;
-        r12_17_0_in = 0;
-        r12_19_0 = 0;
-        r12_21_0 = 0;
-        goto dfuse_host_closing_on_close_poll_exit;
-    case 7: goto arm_5_5;
-    case 8: goto arm_5_5;
-    case 0: goto after_2_2;
-    case 1: goto after_2_2;
-    case 3: goto after_2_2;
-    case 4: goto after_2_2;
-    case 6: goto after_2_2;
-    case 9: goto after_2_2;
-    default: never();
-    }
-arm_3_19:
-    r12_0_0 = 0;
-    r12_108_0_in = r5_0_0_copyload;
-    r12_13_0 = r5_6_0_copyload;
-    r12_15_0 = r5_8_0_copyload;
-    r12_17_0_in = r5_10_0_copyload;
-    r12_19_0 = r5_13_0_copyload;
-    r12_21_0 = 12;
-    goto dfuse_host_closing_on_close_poll_exit;
-arm_5_5:
-    if (r17_10_3_0 == 0) {
-        r12_0_0 = 1;
-        r12_108_0_in = 0;
-        r12_13_0 = 0;
-        r12_15_0 = 0;
-        r12_17_0_in = 0;
-        r12_19_0 = 0;
-        r12_21_0 = 0;
-        goto dfuse_host_closing_on_close_poll_exit;
-    }
-after_2_2:
-    r12_0_0 = 0;
-    r12_108_0_in = r5_0_0_copyload;
-    r12_13_0 = r5_6_0_copyload;
-    r12_15_0 = r5_8_0_copyload;
-    r12_17_0_in = r5_10_0_copyload;
-    r12_19_0 = r5_13_0_copyload;
-    r12_21_0 = 14;
-    goto dfuse_host_closing_on_close_poll_exit;
+    if (r22_2 != 1) common_ret_op = 0xffffffd7U;
+    else {
+        memcpy(r7, r10 + 8, 792);
+        dfu_host_c_dfuse_holding_session_of(r11, a0, r7, (unsigned char *)((uintptr_t)a3 + (uintptr_t)(size_t)((a3 == NULL) ? 4096 : 0)), a4);
+        uint8_t r30 = *r11;
+        if (r30 != 1) common_ret_op = 0xffffffd7U;
+        else {
+            r31 = r11 + 8;
+            memcpy(r8, r31, 104);
+            switch (a5) {
+            case 0:
+                r3_16_0_0 = 0;
+                r3_16_8_0 = 0;
+                r3_9_0_0 = 0;
+                break;
+            case 1:
+                r3_16_0_0 = (size_t)(uintptr_t)r22;
+                r3_16_8_0 = a7;
+                r3_9_0_0 = 1;
+                break;
+            case 2:
+                r3_16_0_0 = 0;
+                r3_16_8_0 = 0;
+                r3_9_0_0 = 2;
+                break;
+            case 3:
+                r3_16_0_0 = 0;
+                r3_16_8_0 = 0;
+                r3_9_0_0 = 3;
+                break;
+            case 4:
+                r3_16_0_0 = 0;
+                r3_16_8_0 = 0;
+                r3_9_0_0 = 4;
+                break;
+            case 6:
+                r3_16_0_0 = 0;
+                r3_16_8_0 = 0;
+                r3_9_0_0 = 5;
+                break;
+            default:
+                common_ret_op = 0xffffffd6U;
+                goto dfu_host_c_dfuse_steps_dfuse_take_exit;
+            }
+            memset(r11_2, 0, 104);
+            uint8_t r14 = r8[40];
+            if (r14 == 0) {
+                r5_0_0_copyload = r8[48];
+                v3 = r11 + 57;
+                r5_6_0_copyload = load64(r8 + 56);
+                r5_8_0_copyload = load64(r8 + 64);
+                r5_10_0_copyload = r8[72];
+                v4 = r11 + 81;
+                r5_13_0_copyload = load64(r8 + 80);
+                r5_14_0_copyload = r8[88];
+                v5 = r11 + 97;
+                r5_18_0_copyload = load32(r8 + 92);
+                r18 = (size_t)r5_0_0_copyload;
+                switch (r3_9_0_0) {
+                case 0:
+                    r17_10_3_0 = r3_9_0_0;
+                    r17_10_6_0 = 0;
+                    r17_10_7_0 = r3_9_0_0;
+                    r17_0_0 = r3_9_0_0;
+                    r17_8_0 = r3_9_0_0;
+                    break;
+                case 1:
+                    r23 = (unsigned char *)(uintptr_t)r3_16_0_0;
+                    store64(r1, r18);
+                    store64(r1 + 8, r5_6_0_copyload);
+                    store64(r1 + 16, r5_8_0_copyload);
+                    switch (r5_14_0_copyload) {
+                    case 1:
+                    case 6:
+                    case 13:
+                        if (r3_16_8_0 != 1) {
+                            r13_10_3_0 = 0;
+                            r13_10_8_0 = 0;
+                            r13_10_9_0 = 0;
+                            r13_0_0 = 5;
+                            r13_6_0 = 0;
+                        }
+                        else {
+                            uint8_t r27 = *r23;
+                            uint8_t v6 = r27 < 11;
+                            r13_10_3_0 = 0;
+                            r13_10_8_0 = 0;
+                            r13_10_9_0 = 0;
+                            r13_0_0 = (uint8_t)(v6 ? 2 : 5);
+                            r13_6_0 = (uint8_t)(v6 ? r27 : 0);
+                        }
+                        break;
+                    case 2:
+                    case 7:
+                    case 14: {
+                        memset(r4, 0, 16);
+                        dfu_wire_statuses_Status_decode(r4, r23, r3_16_8_0);
+                        uint8_t r9 = *r4;
+                        if (r9 != 0) {
+                            r5_5_3_0 = 0;
+                            r5_5_6_0 = 0;
+                            r5_5_7_0 = 0;
+                            r5_0_0 = 5;
+                        }
+                        else {
+                            uint8_t r5_5_3_2_copyload = r4[4];
+                            uint32_t r5_5_6_2_copyload = load32(r4 + 8);
+                            uint8_t r5_5_7_2_copyload = r4[12];
+                            r5_5_3_0 = r5_5_3_2_copyload;
+                            r5_5_6_0 = r5_5_6_2_copyload;
+                            r5_5_7_0 = r5_5_7_2_copyload;
+                            r5_0_0 = 1;
+                        }
+                        r13_10_3_0 = r5_5_3_0;
+                        r13_10_8_0 = r5_5_6_0;
+                        r13_10_9_0 = r5_5_7_0;
+                        r13_0_0 = r5_0_0;
+                        r13_6_0 = 0;
+                        break;
+                    }
+                    case 11: {
+                        struct ptr_i64 r22_3 = dfuse_host_plan_Plan_read_bytes(r31, r1);
+                        r23_2 = r22_3.a;
+                        if ((uint64_t)r3_16_8_0 != r22_3.b) {
+                            r13_10_3_0 = 0;
+                            r13_10_8_0 = 0;
+                            r13_10_9_0 = 0;
+                            r13_0_0 = 5;
+                            r13_6_0 = 0;
+                        }
+                        else {
+                            store64(r5, r3_16_0_0);
+                            store64(r5 + 8, r3_16_8_0);
+                            store64(r5 + 16, (size_t)(uintptr_t)r23_2);
+                            store64(r5 + 24, r3_16_8_0);
+                            if (r3_16_8_0 < 4) {
+                                uint8_t r60 = core_slice_scan_any_by_one(r5, r3_16_8_0);
+                                common_ret_op_2 = !r60;
+                            }
+                            else {
+                                uint8_t r70 = core_slice_scan_any_in_run(r5, 0, 4);
+                                if (r70) common_ret_op_2 = 0;
+                                else {
+                                    uint8_t r83 = core_cmp_slices_groups_equal_i8_core_cmp_numbers_U8PartialEq(r23, r3_16_8_0, r23_2, r3_16_8_0);
+                                    common_ret_op_2 = r83;
+                                }
+                            }
+                            r13_10_3_0 = 0;
+                            r13_10_8_0 = 0;
+                            r13_10_9_0 = 0;
+                            r13_0_0 = 3;
+                            r13_6_0 = common_ret_op_2;
+                        }
+                        break;
+                    }
+                    case 0:
+                    case 3:
+                    case 4:
+                    case 5:
+                    case 8:
+                    case 9:
+                    case 10:
+                    case 12:
+                        r13_10_3_0 = 0;
+                        r13_10_8_0 = 0;
+                        r13_10_9_0 = 0;
+                        r13_0_0 = 5;
+                        r13_6_0 = 0;
+                        break;
+                    default: never();
+                    }
+                    r17_10_3_0 = r13_10_3_0;
+                    r17_10_6_0 = r13_10_8_0;
+                    r17_10_7_0 = r13_10_9_0;
+                    r17_0_0 = r13_0_0;
+                    r17_8_0 = r13_6_0;
+                    break;
+                case 2:
+                    r17_10_3_0 = 0;
+                    r17_10_6_0 = 0;
+                    r17_10_7_0 = 0;
+                    r17_0_0 = 4;
+                    r17_8_0 = 0;
+                    break;
+                case 3:
+                    r17_10_3_0 = 0;
+                    r17_10_6_0 = 0;
+                    r17_10_7_0 = 0;
+                    r17_0_0 = 5;
+                    r17_8_0 = 0;
+                    break;
+                case 4:
+                    r17_10_3_0 = 0;
+                    r17_10_6_0 = 0;
+                    r17_10_7_0 = 0;
+                    r17_0_0 = 6;
+                    r17_8_0 = 0;
+                    break;
+                case 5:
+                    r17_10_3_0 = 0;
+                    r17_10_6_0 = 0;
+                    r17_10_7_0 = 0;
+                    r17_0_0 = 7;
+                    r17_8_0 = 0;
+                    break;
+                default: never();
+                }
+                memset(r10_2, 0, 104);
+                memset(r13, 0, 56);
+                r8_3_0_copyload = load16(r11 + 108);
+                r8_5_0_copyload = load16(r11 + 110);
+                if (r17_0_0 == 7) {
+                    *r2 = r5_0_0_copyload;
+                    memcpy(r2 + 1, v3, 7);
+                    store64(r2 + 8, r5_6_0_copyload);
+                    store64(r2 + 16, r5_8_0_copyload);
+                    r2[24] = r5_10_0_copyload;
+                    memcpy(r2 + 25, v4, 7);
+                    store64(r2 + 32, r5_13_0_copyload);
+                    r2[40] = r5_14_0_copyload;
+                    memcpy(r2 + 41, v5, 3);
+                    store32(r2 + 44, r5_18_0_copyload);
+                    if (r5_0_0_copyload != 6) {
+                        memcpy(r5_2, r31, 100);
+                        store16(r5_2 + 100, r8_3_0_copyload);
+                        store16(r5_2 + 102, r8_5_0_copyload);
+                        dfuse_host_session_Session_restarted_once(r3, r5_2, r2);
+                    }
+                    else {
+                        *r2_2 = 6;
+                        memcpy(r2_2 + 1, v3, 7);
+                        store64(r2_2 + 8, r5_6_0_copyload);
+                        store64(r2_2 + 16, r5_8_0_copyload);
+                        r2_2[24] = r5_10_0_copyload;
+                        memcpy(r2_2 + 25, v4, 7);
+                        store64(r2_2 + 32, r5_13_0_copyload);
+                        r2_2[40] = r5_14_0_copyload;
+                        memcpy(r2_2 + 41, v5, 3);
+                        store32(r2_2 + 44, r5_18_0_copyload);
+                        memset(r3, 0, 104);
+                        memset(r7_2, 0, 56);
+                        if ((uint8_t)(r5_14_0_copyload + 244) >= 3) {
+                            memcpy(r9_2, r31, 100);
+                            store16(r9_2 + 100, r8_3_0_copyload);
+                            store16(r9_2 + 102, r8_5_0_copyload);
+                            dfuse_host_session_Session_restarted_once(r3, r9_2, r2_2);
+                        }
+                        else {
+                            memcpy(r4_2, r31, 100);
+                            store16(r4_2 + 100, r8_3_0_copyload);
+                            store16(r4_2 + 102, r8_5_0_copyload);
+                            *r7_2 = 1;
+                            r7_2[2] = 2;
+                            dfuse_host_session_Session_spent(r3, r4_2, r7_2, r8_3_0_copyload);
+                        }
+                    }
+                    memcpy(r10_2, r3, 104);
+                }
+                else {
+                    memcpy(r12, r31, 104);
+                    switch (r5_14_0_copyload) {
+                    case 0:
+                        switch (r17_0_0) {
+                        case 0:
+                        case 4:
+                            r17_0_0_2 = 0;
+                            r17_16_0 = 0;
+                            r17_31_0 = 0;
+                            r17_46223_0 = r18;
+                            r17_61_0 = r5_6_0_copyload;
+                            r17_72_0 = r5_8_0_copyload;
+                            r17_83_0 = 0;
+                            r17_94_0 = 0;
+                            r17_100_0 = 1;
+                            r17_110_0 = 0;
+                            break;
+                        case 1:
+                        case 2:
+                        case 3:
+                        case 5:
+                        case 6:
+                            r17_0_0_2 = 0;
+                            r17_16_0 = 0;
+                            r17_31_0 = 0;
+                            r17_46223_0 = r18;
+                            r17_61_0 = r5_6_0_copyload;
+                            r17_72_0 = r5_8_0_copyload;
+                            r17_83_0 = 0;
+                            r17_94_0 = 0;
+                            r17_100_0 = 0;
+                            r17_110_0 = 0;
+                            break;
+                        default: never();
+                        }
+                        break;
+                    case 1:
+                        switch (r17_0_0) {
+                        case 2:
+                            store64(r1_2, r18);
+                            store64(r1_2 + 8, r5_6_0_copyload);
+                            store64(r1_2 + 16, r5_8_0_copyload);
+                            memset(r9_3, 0, 56);
+                            switch (r17_8_0) {
+                            case 0:
+                            case 1:
+                                r9_21_6_0_copyload = 0;
+                                r9_21_0_0_copyload = 0;
+                                r9_25_8_copyload22 = 0;
+                                r9_23_8_copyload21 = 0;
+                                r9_19_8_copyload20 = 0;
+                                r9_17_8_copyload19 = 0;
+                                r9_1317_8_copyload18 = 0;
+                                v10 = 0;
+                                v11 = 6;
+                                v12 = 1;
+                                break;
+                            case 2: {
+                                dfuse_host_plan_Plan_settle(r9_3, r31, r1_2, 0, 0);
+                                uint8_t pre = *r9_3;
+                                uint8_t pre8 = r9_3[1];
+                                uint8_t pre9 = r9_3[2];
+                                uint64_t r9_1317_8_copyload18_pre = load64(r9_3 + 8);
+                                uint64_t r9_17_8_copyload19_pre = load64(r9_3 + 16);
+                                uint64_t r9_19_8_copyload20_pre = load64(r9_3 + 24);
+                                uint32_t r9_23_8_copyload21_pre = load32(r9_3 + 48);
+                                uint32_t r9_25_8_copyload22_pre = load32(r9_3 + 52);
+                                uint64_t r9_21_0_0_copyload_pre = load64(r9_3 + 32);
+                                uint64_t r9_21_6_0_copyload_pre = load64(r9_3 + 40);
+                                r9_21_6_0_copyload = r9_21_6_0_copyload_pre;
+                                r9_21_0_0_copyload = r9_21_0_0_copyload_pre;
+                                r9_25_8_copyload22 = r9_25_8_copyload22_pre;
+                                r9_23_8_copyload21 = r9_23_8_copyload21_pre;
+                                r9_19_8_copyload20 = r9_19_8_copyload20_pre;
+                                r9_17_8_copyload19 = r9_17_8_copyload19_pre;
+                                r9_1317_8_copyload18 = r9_1317_8_copyload18_pre;
+                                v10 = pre9;
+                                v11 = pre8;
+                                v12 = pre;
+                                break;
+                            }
+                            case 3:
+                            case 5:
+                            case 6:
+                            case 9:
+                                r9_21_6_0_copyload = 0;
+                                r9_21_0_0_copyload = 0;
+                                r9_25_8_copyload22 = 0;
+                                r9_23_8_copyload21 = 0;
+                                r9_19_8_copyload20 = r5_8_0_copyload;
+                                r9_17_8_copyload19 = r5_6_0_copyload;
+                                r9_1317_8_copyload18 = r18;
+                                v10 = 0;
+                                v11 = 0;
+                                v12 = 0;
+                                break;
+                            case 4:
+                            case 7:
+                            case 8:
+                            case 10:
+                                r9_21_6_0_copyload = 0;
+                                r9_21_0_0_copyload = 0;
+                                r9_25_8_copyload22 = 0;
+                                r9_23_8_copyload21 = 2;
+                                r9_19_8_copyload20 = r5_8_0_copyload;
+                                r9_17_8_copyload19 = r5_6_0_copyload;
+                                r9_1317_8_copyload18 = r18;
+                                v10 = 0;
+                                v11 = 0;
+                                v12 = 0;
+                                break;
+                            default: never();
+                            }
+                            r17_0_0_2 = v12;
+                            r17_16_0 = v11;
+                            r17_31_0 = v10;
+                            r17_46223_0 = r9_1317_8_copyload18;
+                            r17_61_0 = r9_17_8_copyload19;
+                            r17_72_0 = r9_19_8_copyload20;
+                            r17_83_0 = r9_21_0_0_copyload;
+                            r17_94_0 = r9_21_6_0_copyload;
+                            r17_100_0 = r9_23_8_copyload21;
+                            r17_110_0 = r9_25_8_copyload22;
+                            break;
+                        case 4:
+                            r17_0_0_2 = 0;
+                            r17_16_0 = 0;
+                            r17_31_0 = 0;
+                            r17_46223_0 = r18;
+                            r17_61_0 = r5_6_0_copyload;
+                            r17_72_0 = r5_8_0_copyload;
+                            r17_83_0 = 0;
+                            r17_94_0 = 0;
+                            r17_100_0 = 2;
+                            r17_110_0 = 0;
+                            break;
+                        case 0:
+                        case 1:
+                        case 3:
+                        case 5:
+                        case 6:
+                            r17_0_0_2 = 0;
+                            r17_16_0 = 0;
+                            r17_31_0 = 0;
+                            r17_46223_0 = r18;
+                            r17_61_0 = r5_6_0_copyload;
+                            r17_72_0 = r5_8_0_copyload;
+                            r17_83_0 = 0;
+                            r17_94_0 = 0;
+                            r17_100_0 = 1;
+                            r17_110_0 = 0;
+                            break;
+                        default: never();
+                        }
+                        break;
+                    case 2:
+                        switch (r17_0_0) {
+                        case 1:
+                            switch (r17_10_7_0) {
+                            case 0:
+                            case 1:
+                                r17_0_0_2 = 1;
+                                r17_16_0 = 6;
+                                r17_31_0 = 0;
+                                r17_46223_0 = 0;
+                                r17_61_0 = 0;
+                                r17_72_0 = 0;
+                                r17_83_0 = 0;
+                                r17_94_0 = 0;
+                                r17_100_0 = 0;
+                                r17_110_0 = 0;
+                                break;
+                            case 2:
+                                r17_0_0_2 = 0;
+                                r17_16_0 = 0;
+                                r17_31_0 = 0;
+                                r17_46223_0 = r18;
+                                r17_61_0 = r5_6_0_copyload;
+                                r17_72_0 = r5_8_0_copyload;
+                                r17_83_0 = 0;
+                                r17_94_0 = 0;
+                                r17_100_0 = 1;
+                                r17_110_0 = 0;
+                                break;
+                            case 5:
+                            case 9:
+                                r17_0_0_2 = 0;
+                                r17_16_0 = 0;
+                                r17_31_0 = 0;
+                                r17_46223_0 = r18;
+                                r17_61_0 = r5_6_0_copyload;
+                                r17_72_0 = r5_8_0_copyload;
+                                r17_83_0 = 0;
+                                r17_94_0 = 0;
+                                r17_100_0 = 0;
+                                r17_110_0 = 0;
+                                break;
+                            case 10:
+                                switch (r5_0_0_copyload) {
+                                case 0:
+                                    r17_0_0_2 = r5_0_0_copyload;
+                                    r17_16_0 = r5_0_0_copyload;
+                                    r17_31_0 = r5_0_0_copyload;
+                                    r17_46223_0 = 0;
+                                    r17_61_0 = r5_6_0_copyload;
+                                    r17_72_0 = r5_8_0_copyload;
+                                    r17_83_0 = 0;
+                                    r17_94_0 = 0;
+                                    r17_100_0 = 4;
+                                    r17_110_0 = 0;
+                                    break;
+                                case 3:
+                                case 5:
+                                    switch (r17_10_3_0) {
+                                    case 11:
+                                        r17_0_0_2 = 1;
+                                        r17_16_0 = 3;
+                                        r17_31_0 = 0;
+                                        r17_46223_0 = 0;
+                                        r17_61_0 = 0;
+                                        r17_72_0 = 0;
+                                        r17_83_0 = 0;
+                                        r17_94_0 = 0;
+                                        r17_100_0 = 0;
+                                        r17_110_0 = 0;
+                                        break;
+                                    case 15:
+                                        r17_0_0_2 = 0;
+                                        r17_16_0 = 0;
+                                        r17_31_0 = 0;
+                                        r17_46223_0 = r18;
+                                        r17_61_0 = r5_6_0_copyload;
+                                        r17_72_0 = r5_8_0_copyload;
+                                        r17_83_0 = 0;
+                                        r17_94_0 = 0;
+                                        r17_100_0 = 4;
+                                        r17_110_0 = 0;
+                                        break;
+                                    default:
+                                        r17_0_0_2 = 1;
+                                        r17_16_0 = 2;
+                                        r17_31_0 = r17_10_3_0;
+                                        r17_46223_0 = 0;
+                                        r17_61_0 = 0;
+                                        r17_72_0 = 0;
+                                        r17_83_0 = 0;
+                                        r17_94_0 = 0;
+                                        r17_100_0 = 0;
+                                        r17_110_0 = 0;
+                                        break;
+                                    }
+                                    break;
+                                case 1:
+                                case 2:
+                                case 4:
+                                case 6:
+                                    if (r17_10_3_0 == 11) {
+                                        r17_0_0_2 = 1;
+                                        r17_16_0 = 3;
+                                        r17_31_0 = 0;
+                                        r17_46223_0 = 0;
+                                        r17_61_0 = 0;
+                                        r17_72_0 = 0;
+                                        r17_83_0 = 0;
+                                        r17_94_0 = 0;
+                                        r17_100_0 = 0;
+                                        r17_110_0 = 0;
+                                    }
+                                    else {
+                                        r17_0_0_2 = 0;
+                                        r17_16_0 = 0;
+                                        r17_31_0 = 0;
+                                        r17_46223_0 = r18;
+                                        r17_61_0 = r5_6_0_copyload;
+                                        r17_72_0 = r5_8_0_copyload;
+                                        r17_83_0 = 0;
+                                        r17_94_0 = 0;
+                                        r17_100_0 = 4;
+                                        r17_110_0 = 0;
+                                    }
+                                    break;
+                                default: never();
+                                }
+                                break;
+                            case 3:
+                            case 4:
+                            case 6:
+                            case 7:
+                            case 8:
+                                r17_0_0_2 = 0;
+                                r17_16_0 = 0;
+                                r17_31_0 = 0;
+                                r17_46223_0 = r18;
+                                r17_61_0 = r5_6_0_copyload;
+                                r17_72_0 = r5_8_0_copyload;
+                                r17_83_0 = 0;
+                                r17_94_0 = 0;
+                                r17_100_0 = 3;
+                                r17_110_0 = r17_10_6_0;
+                                break;
+                            default: never();
+                            }
+                            break;
+                        case 4:
+                            r17_0_0_2 = 0;
+                            r17_16_0 = 0;
+                            r17_31_0 = 0;
+                            r17_46223_0 = r18;
+                            r17_61_0 = r5_6_0_copyload;
+                            r17_72_0 = r5_8_0_copyload;
+                            r17_83_0 = 0;
+                            r17_94_0 = 0;
+                            r17_100_0 = 3;
+                            r17_110_0 = 100;
+                            break;
+                        case 0:
+                        case 2:
+                        case 3:
+                        case 5:
+                        case 6:
+                            r17_0_0_2 = 0;
+                            r17_16_0 = 0;
+                            r17_31_0 = 0;
+                            r17_46223_0 = r18;
+                            r17_61_0 = r5_6_0_copyload;
+                            r17_72_0 = r5_8_0_copyload;
+                            r17_83_0 = 0;
+                            r17_94_0 = 0;
+                            r17_100_0 = 2;
+                            r17_110_0 = 0;
+                            break;
+                        default: never();
+                        }
+                        break;
+                    case 3: {
+                        uint8_t v14 = r17_0_0 == 6;
+                        r17_0_0_2 = 0;
+                        r17_16_0 = 0;
+                        r17_31_0 = 0;
+                        r17_46223_0 = r18;
+                        r17_61_0 = r5_6_0_copyload;
+                        r17_72_0 = r5_8_0_copyload;
+                        r17_83_0 = 0;
+                        r17_94_0 = 0;
+                        r17_100_0 = (uint32_t)(v14 ? 1 : 3);
+                        r17_110_0 = (uint32_t)(v14 ? 0 : r5_18_0_copyload);
+                        break;
+                    }
+                    case 4:
+                        r17_0_0_2 = 0;
+                        r17_16_0 = 0;
+                        r17_31_0 = 0;
+                        r17_46223_0 = r18;
+                        r17_61_0 = r5_6_0_copyload;
+                        r17_72_0 = r5_8_0_copyload;
+                        r17_83_0 = 0;
+                        r17_94_0 = 0;
+                        r17_100_0 = 0;
+                        r17_110_0 = 0;
+                        break;
+                    case 5:
+                        r17_0_0_2 = 0;
+                        r17_16_0 = 0;
+                        r17_31_0 = 0;
+                        r17_46223_0 = r18;
+                        r17_61_0 = r5_6_0_copyload;
+                        r17_72_0 = r5_8_0_copyload;
+                        r17_83_0 = (size_t)r5_10_0_copyload;
+                        r17_94_0 = r5_13_0_copyload;
+                        r17_100_0 = (uint32_t)((r17_0_0 == 0) ? 7 : 6);
+                        r17_110_0 = 0;
+                        break;
+                    case 6: {
+                        store64(r1_3, r18);
+                        store64(r1_3 + 8, r5_6_0_copyload);
+                        store64(r1_3 + 16, r5_8_0_copyload);
+                        memset(r12_2, 0, 56);
+                        switch (r17_0_0) {
+                        case 2:
+                            store64(r1_4, r18);
+                            store64(r1_4 + 8, r5_6_0_copyload);
+                            store64(r1_4 + 16, r5_8_0_copyload);
+                            memset(r12_3, 0, 56);
+                            switch (r17_8_0) {
+                            case 3:
+                                store64(r12_3 + 8, r18);
+                                store64(r12_3 + 16, r5_6_0_copyload);
+                                store64(r12_3 + 24, r5_8_0_copyload);
+                                store64(r12_3 + 32, (size_t)r5_10_0_copyload);
+                                store64(r12_3 + 40, r5_13_0_copyload);
+                                store32(r12_3 + 48, 7);
+                                v16 = 0;
+                                v17 = 0;
+                                v18 = 0;
+                                break;
+                            case 2:
+                            case 5:
+                                store64(r12_3 + 8, r18);
+                                store64(r12_3 + 16, r5_6_0_copyload);
+                                store64(r12_3 + 24, r5_8_0_copyload);
+                                store64(r12_3 + 32, (size_t)r5_10_0_copyload);
+                                store64(r12_3 + 40, r5_13_0_copyload);
+                                store32(r12_3 + 48, 5);
+                                v16 = 0;
+                                v17 = 0;
+                                v18 = 0;
+                                break;
+                            case 10:
+                                store64(r12_3 + 8, r18);
+                                store64(r12_3 + 16, r5_6_0_copyload);
+                                store64(r12_3 + 24, r5_8_0_copyload);
+                                memset(r12_3 + 32, 0, 24);
+                                v16 = 0;
+                                v17 = 0;
+                                v18 = 0;
+                                break;
+                            case 0:
+                            case 1:
+                            case 4:
+                            case 6:
+                            case 7:
+                            case 8:
+                            case 9: {
+                                dfuse_host_plan_Plan_unsure_of(r12_3, r31, r1_4, r5_10_0_copyload, r5_13_0_copyload);
+                                uint8_t pre_2 = *r12_3;
+                                uint8_t pre26 = r12_3[1];
+                                uint8_t pre27 = r12_3[2];
+                                v16 = pre27;
+                                v17 = pre26;
+                                v18 = pre_2;
+                                break;
+                            }
+                            default: never();
+                            }
+                            memcpy(r12_2 + 8, r12_3 + 8, 48);
+                            v19 = v16;
+                            v20 = v17;
+                            v21 = v18;
+                            break;
+                        case 4: {
+                            dfuse_host_plan_Plan_unsure_of(r12_2, r31, r1_3, r5_10_0_copyload, r5_13_0_copyload);
+                            uint8_t pre_3 = *r12_2;
+                            uint8_t pre10 = r12_2[1];
+                            uint8_t pre11 = r12_2[2];
+                            v19 = pre11;
+                            v20 = pre10;
+                            v21 = pre_3;
+                            break;
+                        }
+                        case 0:
+                        case 1:
+                        case 3:
+                        case 5:
+                        case 6:
+                            store64(r12_2 + 8, r18);
+                            store64(r12_2 + 16, r5_6_0_copyload);
+                            store64(r12_2 + 24, r5_8_0_copyload);
+                            store64(r12_2 + 32, (size_t)r5_10_0_copyload);
+                            store64(r12_2 + 40, r5_13_0_copyload);
+                            store32(r12_2 + 48, 6);
+                            v19 = 0;
+                            v20 = 0;
+                            v21 = 0;
+                            break;
+                        default: never();
+                        }
+                        uint64_t r17_46223_8_copyload224 = load64(r12_2 + 8);
+                        uint64_t r17_61_8_copyload227 = load64(r12_2 + 16);
+                        uint64_t r17_72_8_copyload230 = load64(r12_2 + 24);
+                        uint64_t r17_83_8_copyload233 = load64(r12_2 + 32);
+                        uint64_t r17_94_8_copyload238 = load64(r12_2 + 40);
+                        uint32_t r17_100_8_copyload243 = load32(r12_2 + 48);
+                        uint32_t r17_110_8_copyload246 = load32(r12_2 + 52);
+                        r17_0_0_2 = v21;
+                        r17_16_0 = v20;
+                        r17_31_0 = v19;
+                        r17_46223_0 = r17_46223_8_copyload224;
+                        r17_61_0 = r17_61_8_copyload227;
+                        r17_72_0 = r17_72_8_copyload230;
+                        r17_83_0 = r17_83_8_copyload233;
+                        r17_94_0 = r17_94_8_copyload238;
+                        r17_100_0 = r17_100_8_copyload243;
+                        r17_110_0 = r17_110_8_copyload246;
+                        break;
+                    }
+                    case 7:
+                        switch (r17_0_0) {
+                        case 1: {
+                            store64(r1_5, r18);
+                            store64(r1_5 + 8, r5_6_0_copyload);
+                            store64(r1_5 + 16, r5_8_0_copyload);
+                            memset(r12_4, 0, 56);
+                            switch (r17_10_7_0) {
+                            case 3:
+                            case 4:
+                                store64(r12_4 + 8, r18);
+                                store64(r12_4 + 16, r5_6_0_copyload);
+                                store64(r12_4 + 24, r5_8_0_copyload);
+                                store64(r12_4 + 32, (size_t)r5_10_0_copyload);
+                                store64(r12_4 + 40, r5_13_0_copyload);
+                                store32(r12_4 + 48, 8);
+                                store32(r12_4 + 52, r17_10_6_0);
+                                v36 = 0;
+                                v37 = 0;
+                                v38 = 0;
+                                break;
+                            case 5: {
+                                struct i8_i64 r31_2 = dfuse_host_plan_Plan_command_of(r31, r1_5, r5_10_0_copyload, r5_13_0_copyload);
+                                r33 = r31_2.b;
+                                store64(r1_6, r18);
+                                store64(r1_6 + 8, r5_6_0_copyload);
+                                store64(r1_6 + 16, r5_8_0_copyload);
+                                memset(r14_2, 0, 56);
+                                switch (r31_2.a) {
+                                case 0: {
+                                    dfuse_host_plan_Plan_settle(r14_2, r31, r1_6, 1, r33);
+                                    uint8_t pre_4 = *r14_2;
+                                    uint8_t pre15 = r14_2[1];
+                                    uint8_t pre16 = r14_2[2];
+                                    v30 = pre16;
+                                    v31 = pre15;
+                                    v32 = pre_4;
+                                    break;
+                                }
+                                case 1: {
+                                    memset(r10_3, 0, 56);
+                                    if (r5_0_0_copyload == 1) {
+                                        uint64_t r21 = dfuse_host_plan_Plan_front_end(r31);
+                                        dfuse_host_plan_Plan_to_write(r10_3, r31, 0, 0, umax64(r21, r5_6_0_copyload), r5_8_0_copyload);
+                                    }
+                                    else {
+                                        uint64_t r30_2 = dfuse_host_plan_Plan_page_end(r31, r33);
+                                        dfuse_host_plan_Plan_to_erase(r10_3, r31, 0, 0, r30_2);
+                                    }
+                                    uint8_t v23 = *r10_3;
+                                    uint8_t v24 = r10_3[1];
+                                    uint8_t v25 = r10_3[2];
+                                    memcpy(r14_2 + 8, r10_3 + 8, 48);
+                                    v30 = v25;
+                                    v31 = v24;
+                                    v32 = v23;
+                                    break;
+                                }
+                                case 2: {
+                                    memset(r10_4, 0, 56);
+                                    if (r5_0_0_copyload == 2) {
+                                        uint64_t r23_3 = dfuse_host_plan_Plan_write_end(r31, r33, r5_8_0_copyload);
+                                        dfuse_host_plan_Plan_to_write(r10_4, r31, 0, 0, umax64(r23_3, r5_6_0_copyload), r5_8_0_copyload);
+                                    }
+                                    else {
+                                        uint64_t r32 = dfuse_host_plan_Plan_front_end(r31);
+                                        uint64_t r34 = dfuse_host_plan_Plan_write_end(r31, r33, r32);
+                                        dfuse_host_plan_Plan_to_write_front(r10_4, r31, 0, 0, r34);
+                                    }
+                                    uint8_t v27 = *r10_4;
+                                    uint8_t v28 = r10_4[1];
+                                    uint8_t v29 = r10_4[2];
+                                    memcpy(r14_2 + 8, r10_4 + 8, 48);
+                                    v30 = v29;
+                                    v31 = v28;
+                                    v32 = v27;
+                                    break;
+                                }
+                                default: never();
+                                }
+                                memcpy(r12_4 + 8, r14_2 + 8, 48);
+                                v36 = v30;
+                                v37 = v31;
+                                v38 = v32;
+                                break;
+                            }
+                            case 10:
+                                store64(r1_7, r18);
+                                store64(r1_7 + 8, r5_6_0_copyload);
+                                store64(r1_7 + 16, r5_8_0_copyload);
+                                memset(r12_5, 0, 56);
+                                switch (r17_10_3_0) {
+                                case 15: {
+                                    dfuse_host_plan_Plan_unsure_of(r12_5, r31, r1_7, r5_10_0_copyload, r5_13_0_copyload);
+                                    uint8_t pre_5 = *r12_5;
+                                    uint8_t pre4 = r12_5[1];
+                                    uint8_t pre5 = r12_5[2];
+                                    v33 = pre5;
+                                    v34 = pre4;
+                                    v35 = pre_5;
+                                    break;
+                                }
+                                case 11:
+                                    v33 = 0;
+                                    v34 = 3;
+                                    v35 = 1;
+                                    break;
+                                case 0:
+                                case 1:
+                                case 2:
+                                case 3:
+                                case 4:
+                                case 5:
+                                case 6:
+                                case 7:
+                                case 8:
+                                case 9:
+                                case 10:
+                                case 12:
+                                case 13:
+                                case 14:
+                                    v33 = r17_10_3_0;
+                                    v34 = 2;
+                                    v35 = 1;
+                                    break;
+                                default: never();
+                                }
+                                memcpy(r12_4 + 8, r12_5 + 8, 48);
+                                v36 = v33;
+                                v37 = v34;
+                                v38 = v35;
+                                break;
+                            case 0:
+                            case 1:
+                            case 2:
+                            case 6:
+                            case 7:
+                            case 8:
+                            case 9: {
+                                dfuse_host_plan_Plan_unsure_of(r12_4, r31, r1_5, r5_10_0_copyload, r5_13_0_copyload);
+                                uint8_t pre_6 = *r12_4;
+                                uint8_t pre30 = r12_4[1];
+                                uint8_t pre31 = r12_4[2];
+                                v36 = pre31;
+                                v37 = pre30;
+                                v38 = pre_6;
+                                break;
+                            }
+                            default: never();
+                            }
+                            uint64_t r12_1327_8_copyload28 = load64(r12_4 + 8);
+                            uint64_t r12_17_8_copyload29 = load64(r12_4 + 16);
+                            uint64_t r12_19_8_copyload30 = load64(r12_4 + 24);
+                            uint64_t r12_21_8_copyload31 = load64(r12_4 + 32);
+                            uint64_t r12_23_8_copyload32 = load64(r12_4 + 40);
+                            uint32_t r12_25_8_copyload33 = load32(r12_4 + 48);
+                            uint32_t r12_27_8_copyload34 = load32(r12_4 + 52);
+                            r17_0_0_2 = v38;
+                            r17_16_0 = v37;
+                            r17_31_0 = v36;
+                            r17_46223_0 = r12_1327_8_copyload28;
+                            r17_61_0 = r12_17_8_copyload29;
+                            r17_72_0 = r12_19_8_copyload30;
+                            r17_83_0 = r12_21_8_copyload31;
+                            r17_94_0 = r12_23_8_copyload32;
+                            r17_100_0 = r12_25_8_copyload33;
+                            r17_110_0 = r12_27_8_copyload34;
+                            break;
+                        }
+                        case 4:
+                            r17_0_0_2 = 0;
+                            r17_16_0 = 0;
+                            r17_31_0 = 0;
+                            r17_46223_0 = r18;
+                            r17_61_0 = r5_6_0_copyload;
+                            r17_72_0 = r5_8_0_copyload;
+                            r17_83_0 = (size_t)r5_10_0_copyload;
+                            r17_94_0 = r5_13_0_copyload;
+                            r17_100_0 = 8;
+                            r17_110_0 = (uint32_t)((r5_18_0_copyload == 0) ? 100 : r5_18_0_copyload);
+                            break;
+                        case 0:
+                        case 2:
+                        case 3:
+                        case 5:
+                        case 6:
+                            r17_0_0_2 = 0;
+                            r17_16_0 = 0;
+                            r17_31_0 = 0;
+                            r17_46223_0 = r18;
+                            r17_61_0 = r5_6_0_copyload;
+                            r17_72_0 = r5_8_0_copyload;
+                            r17_83_0 = (size_t)r5_10_0_copyload;
+                            r17_94_0 = r5_13_0_copyload;
+                            r17_100_0 = 7;
+                            r17_110_0 = r5_18_0_copyload;
+                            break;
+                        default: never();
+                        }
+                        break;
+                    case 8:
+                        r17_0_0_2 = 0;
+                        r17_16_0 = 0;
+                        r17_31_0 = 0;
+                        r17_46223_0 = r18;
+                        r17_61_0 = r5_6_0_copyload;
+                        r17_72_0 = r5_8_0_copyload;
+                        r17_83_0 = (size_t)r5_10_0_copyload;
+                        r17_94_0 = r5_13_0_copyload;
+                        r17_100_0 = (uint32_t)((r17_0_0 == 6) ? 7 : 8);
+                        r17_110_0 = r5_18_0_copyload;
+                        break;
+                    case 9:
+                    case 10:
+                        store64(r1_8, r18);
+                        store64(r1_8 + 8, r5_6_0_copyload);
+                        store64(r1_8 + 16, r5_8_0_copyload);
+                        memset(r14_3, 0, 56);
+                        switch (r17_0_0) {
+                        case 0: {
+                            dfuse_host_plan_Plan_settle(r14_3, r31, r1_8, (uint8_t)((r5_14_0_copyload == 9) ? (uint8_t)((r5_10_0_copyload == 1) ? 2 : r5_10_0_copyload) : (uint8_t)((r5_10_0_copyload == 2) ? 1 : r5_10_0_copyload)), r5_13_0_copyload);
+                            uint8_t pre_7 = *r14_3;
+                            uint8_t pre10_2 = r14_3[1];
+                            uint8_t pre11_2 = r14_3[2];
+                            uint64_t r17_46223_8_copyload225_pre = load64(r14_3 + 8);
+                            uint64_t r17_61_8_copyload228_pre = load64(r14_3 + 16);
+                            uint64_t r17_72_8_copyload231_pre = load64(r14_3 + 24);
+                            uint64_t r17_83_8_copyload234_pre = load64(r14_3 + 32);
+                            uint64_t r17_94_8_copyload239_pre = load64(r14_3 + 40);
+                            uint32_t r17_100_8_copyload244_pre = load32(r14_3 + 48);
+                            uint32_t r17_110_8_copyload247_pre = load32(r14_3 + 52);
+                            r17_110_8_copyload247 = r17_110_8_copyload247_pre;
+                            r17_100_8_copyload244 = r17_100_8_copyload244_pre;
+                            r17_94_8_copyload239 = r17_94_8_copyload239_pre;
+                            r17_83_8_copyload234 = r17_83_8_copyload234_pre;
+                            r17_72_8_copyload231 = r17_72_8_copyload231_pre;
+                            r17_61_8_copyload228 = r17_61_8_copyload228_pre;
+                            r17_46223_8_copyload225 = r17_46223_8_copyload225_pre;
+                            v43 = pre11_2;
+                            v44 = pre10_2;
+                            v45 = pre_7;
+                            break;
+                        }
+                        case 4:
+                            r17_110_8_copyload247 = 0;
+                            r17_100_8_copyload244 = 0;
+                            r17_94_8_copyload239 = 0;
+                            r17_83_8_copyload234 = 0;
+                            r17_72_8_copyload231 = r5_8_0_copyload;
+                            r17_61_8_copyload228 = r5_6_0_copyload;
+                            r17_46223_8_copyload225 = r18;
+                            v43 = 0;
+                            v44 = 0;
+                            v45 = 0;
+                            break;
+                        case 1:
+                        case 2:
+                        case 3:
+                        case 5:
+                        case 6:
+                            r17_110_8_copyload247 = r5_18_0_copyload;
+                            r17_100_8_copyload244 = (uint32_t)r5_14_0_copyload;
+                            r17_94_8_copyload239 = r5_13_0_copyload;
+                            r17_83_8_copyload234 = (size_t)r5_10_0_copyload;
+                            r17_72_8_copyload231 = r5_8_0_copyload;
+                            r17_61_8_copyload228 = r5_6_0_copyload;
+                            r17_46223_8_copyload225 = r18;
+                            v43 = 0;
+                            v44 = 0;
+                            v45 = 0;
+                            break;
+                        default: never();
+                        }
+                        r17_0_0_2 = v45;
+                        r17_16_0 = v44;
+                        r17_31_0 = v43;
+                        r17_46223_0 = r17_46223_8_copyload225;
+                        r17_61_0 = r17_61_8_copyload228;
+                        r17_72_0 = r17_72_8_copyload231;
+                        r17_83_0 = r17_83_8_copyload234;
+                        r17_94_0 = r17_94_8_copyload239;
+                        r17_100_0 = r17_100_8_copyload244;
+                        r17_110_0 = r17_110_8_copyload247;
+                        break;
+                    case 11:
+                        memset(r11_3, 0, 56);
+                        switch (r17_0_0) {
+                        case 3:
+                            if (!(r17_8_0 & 1)) {
+                                r17_110_8_copyload248 = 0;
+                                r17_100_8_copyload245 = 0;
+                                r17_94_8_copyload240 = 0;
+                                r17_83_8_copyload235 = 0;
+                                r17_72_8_copyload232 = 0;
+                                r17_61_8_copyload229 = 0;
+                                r17_46223_8_copyload226 = 0;
+                                v46 = 0;
+                                v47 = 1;
+                                v48 = 1;
+                            }
+                            else {
+                                store64(r1_9, r18);
+                                store64(r1_9 + 8, r5_6_0_copyload);
+                                store64(r1_9 + 16, r5_8_0_copyload);
+                                r14_4 = dfuse_host_plan_Plan_end_of_work(r31, r1_9);
+                                switch (r5_0_0_copyload) {
+                                case 3: {
+                                    uint64_t r20 = dfuse_host_plan_Plan_read_end(r31, r5_6_0_copyload, r14_4);
+                                    r11_5_0 = r20;
+                                    r11_9_0 = 0;
+                                    break;
+                                }
+                                case 5: {
+                                    uint64_t r27_2 = dfuse_host_plan_Plan_read_end(r31, r5_6_0_copyload, r14_4);
+                                    r11_5_0 = r27_2;
+                                    r11_9_0 = 0;
+                                    break;
+                                }
+                                case 0:
+                                case 1:
+                                case 2:
+                                case 4:
+                                case 6:
+                                    r11_5_0 = r5_6_0_copyload;
+                                    r11_9_0 = r5_8_0_copyload;
+                                    break;
+                                default: never();
+                                }
+                                store64(r13_2, r18);
+                                store64(r13_2 + 8, r11_5_0);
+                                store64(r13_2 + 16, r11_9_0);
+                                dfuse_host_plan_Plan_settle(r11_3, r31, r13_2, r5_10_0_copyload, r5_13_0_copyload);
+                                uint8_t pre_8 = *r11_3;
+                                uint8_t pre20 = r11_3[1];
+                                uint8_t pre21 = r11_3[2];
+                                uint64_t r17_46223_8_copyload226_pre = load64(r11_3 + 8);
+                                uint64_t r17_61_8_copyload229_pre = load64(r11_3 + 16);
+                                uint64_t r17_72_8_copyload232_pre = load64(r11_3 + 24);
+                                uint64_t r17_83_8_copyload235_pre = load64(r11_3 + 32);
+                                uint64_t r17_94_8_copyload240_pre = load64(r11_3 + 40);
+                                uint32_t r17_100_8_copyload245_pre = load32(r11_3 + 48);
+                                uint32_t r17_110_8_copyload248_pre = load32(r11_3 + 52);
+                                r17_110_8_copyload248 = r17_110_8_copyload248_pre;
+                                r17_100_8_copyload245 = r17_100_8_copyload245_pre;
+                                r17_94_8_copyload240 = r17_94_8_copyload240_pre;
+                                r17_83_8_copyload235 = r17_83_8_copyload235_pre;
+                                r17_72_8_copyload232 = r17_72_8_copyload232_pre;
+                                r17_61_8_copyload229 = r17_61_8_copyload229_pre;
+                                r17_46223_8_copyload226 = r17_46223_8_copyload226_pre;
+                                v46 = pre21;
+                                v47 = pre20;
+                                v48 = pre_8;
+                            }
+                            break;
+                        case 4:
+                            r17_110_8_copyload248 = 0;
+                            r17_100_8_copyload245 = 0;
+                            r17_94_8_copyload240 = 0;
+                            r17_83_8_copyload235 = 0;
+                            r17_72_8_copyload232 = r5_8_0_copyload;
+                            r17_61_8_copyload229 = r5_6_0_copyload;
+                            r17_46223_8_copyload226 = r18;
+                            v46 = 0;
+                            v47 = 0;
+                            v48 = 0;
+                            break;
+                        case 0:
+                        case 1:
+                        case 2:
+                        case 5:
+                        case 6:
+                            r17_110_8_copyload248 = 0;
+                            r17_100_8_copyload245 = 11;
+                            r17_94_8_copyload240 = r5_13_0_copyload;
+                            r17_83_8_copyload235 = (size_t)r5_10_0_copyload;
+                            r17_72_8_copyload232 = r5_8_0_copyload;
+                            r17_61_8_copyload229 = r5_6_0_copyload;
+                            r17_46223_8_copyload226 = r18;
+                            v46 = 0;
+                            v47 = 0;
+                            v48 = 0;
+                            break;
+                        default: never();
+                        }
+                        r17_0_0_2 = v48;
+                        r17_16_0 = v47;
+                        r17_31_0 = v46;
+                        r17_46223_0 = r17_46223_8_copyload226;
+                        r17_61_0 = r17_61_8_copyload229;
+                        r17_72_0 = r17_72_8_copyload232;
+                        r17_83_0 = r17_83_8_copyload235;
+                        r17_94_0 = r17_94_8_copyload240;
+                        r17_100_0 = r17_100_8_copyload245;
+                        r17_110_0 = r17_110_8_copyload248;
+                        break;
+                    case 12:
+                        r17_0_0_2 = 0;
+                        r17_16_0 = 0;
+                        r17_31_0 = 0;
+                        r17_46223_0 = r18;
+                        r17_61_0 = r5_6_0_copyload;
+                        r17_72_0 = r5_8_0_copyload;
+                        r17_83_0 = (size_t)r5_10_0_copyload;
+                        r17_94_0 = r5_13_0_copyload;
+                        r17_100_0 = (uint32_t)((r17_0_0 == 0) ? 14 : 13);
+                        r17_110_0 = 0;
+                        break;
+                    case 13:
+                        switch (r17_0_0) {
+                        case 2:
+                            switch (r17_8_0) {
+                            case 2:
+                            case 5:
+                                r12_23_0_in = r5_10_0_copyload;
+                                r12_26_0 = r5_13_0_copyload;
+                                r12_29_0 = 12;
+                                break;
+                            case 10:
+                                r12_23_0_in = 0;
+                                r12_26_0 = 0;
+                                r12_29_0 = 0;
+                                break;
+                            case 0:
+                            case 1:
+                            case 3:
+                            case 4:
+                            case 6:
+                            case 7:
+                            case 8:
+                            case 9:
+                                r12_23_0_in = r5_10_0_copyload;
+                                r12_26_0 = r5_13_0_copyload;
+                                r12_29_0 = 14;
+                                break;
+                            default: never();
+                            }
+                            break;
+                        case 4:
+                            r12_23_0_in = r5_10_0_copyload;
+                            r12_26_0 = r5_13_0_copyload;
+                            r12_29_0 = 14;
+                            break;
+                        case 0:
+                        case 1:
+                        case 3:
+                        case 5:
+                        case 6:
+                            r12_23_0_in = r5_10_0_copyload;
+                            r12_26_0 = r5_13_0_copyload;
+                            r12_29_0 = 13;
+                            break;
+                        default: never();
+                        }
+                        r17_0_0_2 = 0;
+                        r17_16_0 = 0;
+                        r17_31_0 = 0;
+                        r17_46223_0 = r18;
+                        r17_61_0 = r5_6_0_copyload;
+                        r17_72_0 = r5_8_0_copyload;
+                        r17_83_0 = (size_t)r12_23_0_in;
+                        r17_94_0 = r12_26_0;
+                        r17_100_0 = r12_29_0;
+                        r17_110_0 = 0;
+                        break;
+                    case 14:
+                        if (r17_0_0 != 1) {
+                            r12_0_0 = 0;
+                            r12_108_0_in = r5_0_0_copyload;
+                            r12_13_0 = r5_6_0_copyload;
+                            r12_15_0 = r5_8_0_copyload;
+                            r12_17_0_in = r5_10_0_copyload;
+                            r12_19_0 = r5_13_0_copyload;
+                            r12_21_0 = 14;
+                        }
+                        else {
+                            switch (r17_10_7_0) {
+                            case 2:
+                            case 5:
+                                r12_0_0 = 0;
+                                r12_108_0_in = r5_0_0_copyload;
+                                r12_13_0 = r5_6_0_copyload;
+                                r12_15_0 = r5_8_0_copyload;
+                                r12_17_0_in = r5_10_0_copyload;
+                                r12_19_0 = r5_13_0_copyload;
+                                r12_21_0 = 12;
+                                goto dfuse_host_closing_on_close_poll_exit;
+                            case 10:
+                                r12_0_0 = 0;
+                                r12_108_0_in = r5_0_0_copyload;
+                                r12_13_0 = r5_6_0_copyload;
+                                r12_15_0 = r5_8_0_copyload;
+                                r12_17_0_in = 0;
+                                r12_19_0 = 0;
+                                r12_21_0 = 0;
+                                goto dfuse_host_closing_on_close_poll_exit;
+                            case 7:
+                            case 8:
+                                if (r17_10_3_0 == 0) {
+                                    r12_0_0 = 1;
+                                    r12_108_0_in = 0;
+                                    r12_13_0 = 0;
+                                    r12_15_0 = 0;
+                                    r12_17_0_in = 0;
+                                    r12_19_0 = 0;
+                                    r12_21_0 = 0;
+                                    goto dfuse_host_closing_on_close_poll_exit;
+                                }
+                                break;
+                            case 0:
+                            case 1:
+                            case 3:
+                            case 4:
+                            case 6:
+                            case 9: break;
+                            default: never();
+                            }
+                            r12_0_0 = 0;
+                            r12_108_0_in = r5_0_0_copyload;
+                            r12_13_0 = r5_6_0_copyload;
+                            r12_15_0 = r5_8_0_copyload;
+                            r12_17_0_in = r5_10_0_copyload;
+                            r12_19_0 = r5_13_0_copyload;
+                            r12_21_0 = 14;
+                        }
 dfuse_host_closing_on_close_poll_exit:
-    r17_0_0_2 = r12_0_0;
-    r17_16_0 = 0;
-    r17_31_0 = r12_0_0;
-    r17_46223_0 = (uint64_t)r12_108_0_in;
-    r17_61_0 = r12_13_0;
-    r17_72_0 = r12_15_0;
-    r17_83_0 = (uint64_t)r12_17_0_in;
-    r17_94_0 = r12_19_0;
-    r17_100_0 = r12_21_0;
-    r17_110_0 = 0;
-    goto dfuse_host_plan_Plan_row_exit;
-dfuse_host_plan_Plan_row_exit:
-    *r13 = r17_0_0_2;
-    r13[1] = r17_16_0;
-    r13[2] = r17_31_0;
-    store64(r13 + 8, r17_46223_0);
-    store64(r13 + 16, r17_61_0);
-    store64(r13 + 24, r17_72_0);
-    store64(r13 + 32, r17_83_0);
-    store64(r13 + 40, r17_94_0);
-    store32(r13 + 48, r17_100_0);
-    store32(r13 + 52, r17_110_0);
-    dfuse_host_session_Session_spent(r10_2, r12, r13, r8_3_0_copyload);
-dfuse_host_session_Session_after_exit:
-    memcpy(r11_2, r10_2, 104);
-    memcpy(r8, r11_2, 104);
-dfuse_host_session_Session_take_exit:
-    dfu_host_c_dfuse_holding_record_of(r17, r8);
-    memcpy(a0, r17, 64);
-    common_ret_op = 0;
+                        r17_0_0_2 = r12_0_0;
+                        r17_16_0 = 0;
+                        r17_31_0 = r12_0_0;
+                        r17_46223_0 = (size_t)r12_108_0_in;
+                        r17_61_0 = r12_13_0;
+                        r17_72_0 = r12_15_0;
+                        r17_83_0 = (size_t)r12_17_0_in;
+                        r17_94_0 = r12_19_0;
+                        r17_100_0 = r12_21_0;
+                        r17_110_0 = 0;
+                        break;
+                    default: never();
+                    }
+                    *r13 = r17_0_0_2;
+                    r13[1] = r17_16_0;
+                    r13[2] = r17_31_0;
+                    store64(r13 + 8, r17_46223_0);
+                    store64(r13 + 16, r17_61_0);
+                    store64(r13 + 24, r17_72_0);
+                    store64(r13 + 32, r17_83_0);
+                    store64(r13 + 40, r17_94_0);
+                    store32(r13 + 48, r17_100_0);
+                    store32(r13 + 52, r17_110_0);
+                    dfuse_host_session_Session_spent(r10_2, r12, r13, r8_3_0_copyload);
+                }
+                memcpy(r11_2, r10_2, 104);
+                memcpy(r8, r11_2, 104);
+            }
+            dfu_host_c_dfuse_holding_record_of(r17, r8);
+            memcpy(a0, r17, 64);
+            common_ret_op = 0;
+        }
+    }
 dfu_host_c_dfuse_steps_dfuse_take_exit:
     return signed32(common_ret_op);
 }

@@ -4,8 +4,8 @@
  * @brief The proved calls for a run area: types, numbers and calls. A bootloader includes dfu_install.h, which is built on this.
  *
  * The code is dfu_boot.c, in C11, for little-endian processors of 32 or 64 bits. It keeps no state, allocates nothing, and needs at most
- * memcpy, memmove and memset of a C library. dfu_install.h says what the program has to keep to. No pointer is NULL, even with length 0.
- * Whatever image, run area and record hold, a call returns, and touches only the memory that its pointers and lengths name.
+ * memcpy, memmove and memset of a C library. dfu_install.h says what the program has to keep to. Whatever image, run area and record
+ * hold, a call returns, and touches only the memory that its pointers and lengths name.
  */
 #ifndef DFU_INSTALL_CORE_H
 #define DFU_INSTALL_CORE_H

@@ -5,8 +5,7 @@
  *
  * The code is dfu_boot.c, in C11, for little-endian processors of 32 or 64 bits. It keeps no state, allocates nothing, and needs at most
  * memcpy, memmove and memset of a C library. dfu_trial.h says what the program has to keep to. Each call reads the flash and asks for at
- * most one operation. No pointer is NULL, even with length 0. Whatever flash and structs hold, a call returns, and touches only the memory
- * that its pointers and lengths name.
+ * most one operation. Whatever flash and structs hold, a call returns, and touches only the memory that its pointers and lengths name.
  */
 #ifndef DFU_TRIAL_CORE_H
 #define DFU_TRIAL_CORE_H

@@ -65,11 +65,13 @@ class Ends:
 
     def branch(self, line, flow, around):
         choice = self.value("i1", line["value"])
+        if self.body.ways.end(line["yes"]) == self.body.ways.end(line["no"]):
+            return flow.way(self, line["yes"], around)
         yes, comes_from_yes = flow.way(self, line["yes"], around)
         no, comes_from_no = flow.way(self, line["no"], around)
         if not yes or comes_from_yes and not comes_from_no or comes_from_yes == comes_from_no and no and len(no) < len(yes):
             choice, yes, no, comes_from_yes, comes_from_no = negated(choice), no, yes, comes_from_no, comes_from_yes
-        if len(yes) == 1 and not yes[0][1].startswith("if "):
+        if len(yes) == 1 and is_plain(yes[0][1]):
             lines = [(0, f"if ({choice.text}) {yes[0][1]}")]
             if yes[0][1] == "break;":
                 flow.opposite[lines[0][1]] = negated(choice).text

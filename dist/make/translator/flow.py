@@ -1,6 +1,7 @@
 """The blocks of a function in C, one in another: `if`, `switch` and `for` where the ways allow it, and a goto for any other way."""
 from typing import NamedTuple, Optional
 
+from refusals import refuse
 from shape import Shape
 from statements import Statements
 
@@ -67,6 +68,8 @@ class Flow:
         statements = Statements(self.body, self.ways.by_label[label])
         lines = [(0, it) for it in statements.write()]
         ends, falls = statements.end(self, around)
+        if statements.waiting:
+            refuse(statements.block.lines[-1].number, f"values that nobody took: {', '.join(statements.waiting)}")
         return lines + ends, falls
 
     def way(self, statements, label, around):
