@@ -77,8 +77,8 @@ impl<M: Medium> Device<M> {
     /// The power goes and comes back: the device starts anew on its medium as it is, in place, as
     /// `power_on` starts one on what `into_medium` gives back. That is never refused.
     pub fn restart(&mut self) {
-        self.core.slots.reopen();
         self.core.mode = DeviceState::AppIdle;
+        self.core.slots.reopen();
     }
 
     /// Answers a setup with its body (USB DFU 1.1, appendix A). `out` is emptied first. If the

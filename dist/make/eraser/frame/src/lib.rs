@@ -41,6 +41,7 @@ pub mod slots;
 pub mod device;
 
 #[cfg(feature = "device")]
+#[allow(clippy::needless_lifetimes)]
 pub mod asks;
 
 #[cfg(feature = "device")]
