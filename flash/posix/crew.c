@@ -37,9 +37,19 @@ static void say(void *with, const char *line)
     fprintf(stderr, "%s: %s\n", worker->bay->path, line);
 }
 
+/* Whether a status is graver than another: an image that isn't proved to be in place hides no device that failed. */
+static bool is_worse(int status, int than)
+{
+    if (status == STATUS_DONE || than == STATUS_DONE)
+        return status != STATUS_DONE;
+    if (status == STATUS_UNCONFIRMED || than == STATUS_UNCONFIRMED)
+        return status != STATUS_UNCONFIRMED;
+    return status > than;
+}
+
 static void count_end(struct crew *crew, int status)
 {
-    crew->worst = status > crew->worst ? status : crew->worst;
+    crew->worst = is_worse(status, crew->worst) ? status : crew->worst;
     crew->flashed += status == STATUS_DONE;
     crew->failed += status != STATUS_DONE;
     crew->came_ms = clock_ms();

@@ -77,6 +77,16 @@ assert r["1-3"]["report"] == "no-access" and r["1-3"]["status"] == 5 and "serial
 assert all(0 <= x["seconds"] < 10 for x in r.values()), r'
 fi
 
+# A board that can't tell whether its image is in place (8) hides none that failed.
+for failure in 6:USB_CAPACITY=13 5:USB_DENIED=3 8:USB_SERIAL=F2; do
+    no_boards
+    board 1-1 USB_ATTRIBUTES=01
+    board 1-2 "${failure#*:}"
+    all new.dfu
+    expect "unconfirmed beside ${failure#*:}: $code" test "$code" -eq "${failure%%:*}"
+    ended 1-1 unconfirmed new
+done
+
 # A raw image, and identifiers of both modes.
 no_boards
 board 1-1 USB_DFU_IDS=1209:00ff:0100
