@@ -72,9 +72,12 @@ void log_reset(struct log *log)
         fflush(log->file);
 }
 
-void log_close(struct log *log)
+bool log_close(struct log *log)
 {
-    if (log->file != NULL && !fresh_close(log->file))
+    if (log->file != NULL && !fresh_close(log->file)) {
+        log->is_cut = true;
         fail(log->name, " was not written whole", strerror(errno));
+    }
     log->file = NULL;
+    return !log->is_cut;
 }

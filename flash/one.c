@@ -171,7 +171,7 @@ int one_run(const struct words *words, struct image *image, enum progress_style 
     memset(&session, 0, sizeof session);
     forget();
     error = transport->begin(&device.usb);
-    record_of(&device.is);
+    record_of(&device.is, &session.wire.trace.log);
     if (words->bay != NULL)
         record_each(words->path, &device.is, &session.wire.trace.log);
     if (error != 0) {

@@ -16,11 +16,11 @@
 static struct {
     const char *path;
     const struct found *is;
-    const struct log *log;
+    struct log *log;
     int64_t began_ms;
 } each;
 
-void record_each(const char *path, const struct found *is, const struct log *log)
+void record_each(const char *path, const struct found *is, struct log *log)
 {
     each.path = path;
     each.is = is;
@@ -33,10 +33,24 @@ void record_since(int64_t ms)
     each.began_ms = ms;
 }
 
-void record_of(const struct found *is)
+void record_of(const struct found *is, struct log *log)
 {
     each.is = is;
+    each.log = log;
     each.began_ms = each.path == NULL ? clock_ms() : each.began_ms;
+}
+
+/* A record says whether its log is whole, so the log is closed before. */
+static void close_log(void)
+{
+    if (each.log != NULL)
+        log_close(each.log);
+}
+
+int record_status(int status)
+{
+    bool is_cut = each.log != NULL && each.log->is_cut;
+    return is_cut && (status == STATUS_DONE || status == STATUS_UNCONFIRMED) ? STATUS_FILE : status;
 }
 
 /* Whether it is known which device it is, and at which path. */
@@ -73,6 +87,8 @@ static void end(const char *path, const char *step)
         station_json(path);
     if (each.path != NULL && each.log->name != NULL)
         json_text("log", each.log->name);
+    if (each.log != NULL && each.log->is_cut)
+        json_truth("log_whole", false);
     if (each.path != NULL)
         printf(",\"seconds\":%.3f", each_seconds());
     puts("}");
@@ -111,23 +127,9 @@ void record_begin(const struct session *session, int status, const char *report,
     print_device(session);
 }
 
-/* Where the device gave back another byte than the image's. */
-static void print_odd(const struct session *session)
-{
-    const struct odd *odd = &session->odd_byte;
-    if (session->dfuse.is)
-        json_hex("place", (uint32_t)odd->at, 8);
-    else
-        json_number("place", odd->at);
-    if (odd->wanted >= 0)
-        json_hex("wanted", (uint32_t)odd->wanted, 2);
-    if (odd->found >= 0)
-        json_hex("found", (uint32_t)odd->found, 2);
-}
-
 static void print_record(const struct session *session, const struct verdict *verdict, const char *step)
 {
-    begin(verdict->status, verdict->name);
+    begin(record_status(verdict->status), verdict->name);
     if (verdict->code != 0)
         json_text("code", code_name(verdict->code));
     json_text("words", verdict->words);
@@ -144,15 +146,17 @@ static void print_record(const struct session *session, const struct verdict *ve
     json_number("restarts", session->restarted);
     json_number("milliseconds", (uint64_t)(clock_ms() - session->began_ms));
     if (verdict->status == STATUS_DIFFERENT && session->odd_byte.is)
-        print_odd(session);
+        json_odd(&session->odd_byte, session->dfuse.is);
     end(session->wire.device->path, step);
 }
 
 bool record_print(const struct session *session, const struct verdict *verdict, bool is_json)
 {
     const char *step;
-    bool is_added =
-        station_add(verdict->status, verdict->name, verdict->words, session->wire.device->path, &session->wire.device->is, each_seconds());
+    bool is_added;
+    close_log();
+    is_added = station_add(record_status(verdict->status), verdict->name, verdict->words, session->wire.device->path,
+                           &session->wire.device->is, each_seconds());
     advise_ended(session, verdict->name);
     step = next_of_end(verdict->name);
     if (is_json) {
@@ -181,7 +185,9 @@ static void print_short(int status, const char *name, const char *words, const c
 /* The step comes behind the line that it is for. */
 static bool end_short(int status, const char *report, const char *words, const char *step, bool is_json)
 {
-    bool is_out = station_add(status, report, words, path_known(), each.is, each_seconds());
+    bool is_out;
+    close_log();
+    is_out = station_add(status, report, words, path_known(), each.is, each_seconds());
     if (is_json)
         print_short(status, report, words, step);
     else {

@@ -70,7 +70,7 @@ void crew_begin(struct crew *crew, const struct words *words, struct image *imag
 static void print_lost(const struct crew *crew, const struct worker *worker, int status, const char *why)
 {
     static struct found unread;
-    static const struct log none;
+    static struct log none;
     unread.vendor = crew->vendor;
     unread.product = crew->product;
     record_each(worker->bay->path, &unread, &none);

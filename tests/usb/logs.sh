@@ -46,5 +46,18 @@ cat log-pipe > piped &
 row 0 new 'verified: ' '' --quiet --verbose=log-pipe new.dfu
 wait
 expect 'a pipe' grep -q '^# begin verified' piped
-row 0 new 'verified: ' '' --quiet --verbose=/dev/full new.dfu
+
+# A log that was not written whole: the status and the record say so, and a session that failed keeps its own status.
+row 3 new 'verified: ' '' --quiet --verbose=/dev/full new.dfu
 says '/dev/full was not written whole: '
+row 3 new '{"status":3,"report":"verified",' '' --json --report cut.csv --verbose=/dev/full new.dfu
+expect 'a record says it' grep -q ',"log_whole":false}$' out
+expect 'so does the report' grep -q ',3,"verified",' cut.csv
+row 3 new 'unconfirmed: ' USB_ATTRIBUTES=01 --verbose=/dev/full new.dfu
+row 6 old '{"status":6,"report":"refused",' USB_CAPACITY=13 --json --verbose=/dev/full new.dfu
+expect 'a record says it' grep -q ',"log_whole":false}$' out
+rm -f session.log
+row 0 new '{"status":0,' '' --json --verbose=session.log new.dfu
+expect 'of a whole one it says nothing' test "$(grep -c log_whole out)" -eq 0
+[ -n "${NO_ALL-}" ] || . "$top/tests/usb/logs_all.sh"
+
