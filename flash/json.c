@@ -87,3 +87,15 @@ void json_odd(const struct odd *odd, bool is_address)
     if (odd->found >= 0)
         json_hex("found", (uint32_t)odd->found, 2);
 }
+
+void json_session(const struct session *session)
+{
+    const struct found *is = &session->wire.device->is;
+    json_text("goal", goal_name(session->goal));
+    printf(",\"vendor\":\"%04x\",\"product\":\"%04x\",\"release\":\"%04x\"", session->ids.vendor, session->ids.product,
+           session->ids.device);
+    json_text("path", session->wire.device->path);
+    if (is->serial[0] != '\0')
+        json_text("serial", is->serial);
+    json_setting(is);
+}

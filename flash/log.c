@@ -72,6 +72,12 @@ void log_reset(struct log *log)
         fflush(log->file);
 }
 
+void log_end(struct log *log, const char *report, int status, const char *time)
+{
+    if (log->file != NULL)
+        fprintf(log->file, "# end %s %d %s\n", report, status, time);
+}
+
 bool log_close(struct log *log)
 {
     if (log->file != NULL && !fresh_close(log->file)) {

@@ -31,6 +31,9 @@ void log_request(struct log *log, const uint8_t setup[8], unsigned interface, co
 /* The bus was reset. */
 void log_reset(struct log *log);
 
+/* A line with the report, the exit status and the time (station.h), behind which nothing more comes. */
+void log_end(struct log *log, const char *report, int status, const char *time);
+
 /* Nothing more comes. False if something could not be written, which is then said. */
 bool log_close(struct log *log);
 

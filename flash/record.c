@@ -40,11 +40,15 @@ void record_of(const struct found *is, struct log *log)
     each.began_ms = each.path == NULL ? clock_ms() : each.began_ms;
 }
 
-/* A record says whether its log is whole, so the log is closed before. */
-static void close_log(void)
+/* A record says whether its log is whole, so the log ends before. */
+static void end_log(int status, const char *report)
 {
-    if (each.log != NULL)
-        log_close(each.log);
+    char time[32];
+    if (each.log == NULL)
+        return;
+    station_time(time);
+    log_end(each.log, report, status, time);
+    log_close(each.log);
 }
 
 int record_status(int status)
@@ -108,23 +112,11 @@ static void begin_line(void)
     printf("%.1f s ", each_seconds());
 }
 
-static void print_device(const struct session *session)
-{
-    const struct found *is = &session->wire.device->is;
-    json_text("goal", goal_name(session->goal));
-    printf(",\"vendor\":\"%04x\",\"product\":\"%04x\",\"release\":\"%04x\"", session->ids.vendor, session->ids.product,
-           session->ids.device);
-    json_text("path", session->wire.device->path);
-    if (is->serial[0] != '\0')
-        json_text("serial", is->serial);
-    json_setting(is);
-}
-
 void record_begin(const struct session *session, int status, const char *report, const char *words)
 {
     begin(status, report);
     json_text("words", words);
-    print_device(session);
+    json_session(session);
 }
 
 static void print_record(const struct session *session, const struct verdict *verdict, const char *step)
@@ -135,7 +127,7 @@ static void print_record(const struct session *session, const struct verdict *ve
     json_text("words", verdict->words);
     if (verdict->code != 0)
         json_text("meaning", code_words(verdict->code));
-    print_device(session);
+    json_session(session);
     if (session->dfuse.is)
         json_address(session->dfuse.address);
     json_number("bytes", session->goal == GOAL_UPLOAD ? session->host.kept : session->payload_length);
@@ -154,7 +146,7 @@ bool record_print(const struct session *session, const struct verdict *verdict, 
 {
     const char *step;
     bool is_added;
-    close_log();
+    end_log(verdict->status, verdict->name);
     is_added = station_add(record_status(verdict->status), verdict->name, verdict->words, session->wire.device->path,
                            &session->wire.device->is, each_seconds());
     advise_ended(session, verdict->name);
@@ -186,7 +178,7 @@ static void print_short(int status, const char *name, const char *words, const c
 static bool end_short(int status, const char *report, const char *words, const char *step, bool is_json)
 {
     bool is_out;
-    close_log();
+    end_log(status, report);
     is_out = station_add(status, report, words, path_known(), each.is, each_seconds());
     if (is_json)
         print_short(status, report, words, step);
@@ -228,6 +220,7 @@ int record_none(int status, bool is_json)
     for (size_t at = 0; at < sizeof nones / sizeof *nones; at++) {
         if (nones[at].status != status)
             continue;
+        end_log(status, nones[at].name);
         if (is_silent && !station_add(status, nones[at].name, nones[at].words, path_known(), each.is, each_seconds()))
             return STATUS_FILE;
         if (is_silent)
