@@ -119,6 +119,15 @@ void record_begin(const struct session *session, int status, const char *report,
     json_session(session);
 }
 
+/* Where standard output fails, the outcome isn't lost with it: standard error has the report. */
+static bool is_printed(const char *name, const char *code, const char *words)
+{
+    if (record_out())
+        return true;
+    fprintf(stderr, "%sdfu-flash: %s%s%s: %s\n", say_mark, name, *code != '\0' ? " " : "", code, words);
+    return false;
+}
+
 static void print_record(const struct session *session, const struct verdict *verdict, const char *step)
 {
     begin(record_status(verdict->status), verdict->name);
@@ -144,7 +153,7 @@ static void print_record(const struct session *session, const struct verdict *ve
 
 bool record_print(const struct session *session, const struct verdict *verdict, bool is_json)
 {
-    const char *step;
+    const char *step, *code = verdict->code != 0 ? code_name(verdict->code) : "";
     bool is_added;
     end_log(verdict->status, verdict->name);
     is_added = station_add(record_status(verdict->status), verdict->name, verdict->words, session->wire.device->path,
@@ -153,12 +162,11 @@ bool record_print(const struct session *session, const struct verdict *verdict, 
     step = next_of_end(verdict->name);
     if (is_json) {
         print_record(session, verdict, step);
-        return record_out() && is_added;
+        return is_printed(verdict->name, code, verdict->words) && is_added;
     }
     begin_line();
-    printf("%s%s%s: %s\n", verdict->name, verdict->code != 0 ? " " : "", verdict->code != 0 ? code_name(verdict->code) : "",
-           verdict->words);
-    return record_out() && is_added;
+    printf("%s%s%s: %s\n", verdict->name, *code != '\0' ? " " : "", code, verdict->words);
+    return is_printed(verdict->name, code, verdict->words) && is_added;
 }
 
 static void print_short(int status, const char *name, const char *words, const char *step)
@@ -186,7 +194,7 @@ static bool end_short(int status, const char *report, const char *words, const c
         begin_line();
         printf("%s: %s\n", report, words);
     }
-    is_out = record_out() && is_out;
+    is_out = is_printed(report, "", words) && is_out;
     if (!is_json)
         next_say(step);
     return is_out;

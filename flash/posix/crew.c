@@ -88,7 +88,11 @@ static void end(struct crew *crew, struct worker *worker, int status, const char
         puts(worker->record);
     else if (worker->bay->is_late)
         say(worker, "the device that was flashed here is back; another one with its serial number has to be plugged in again");
-    crew->is_out = record_out() && crew->is_out;
+    if (!record_out()) {
+        crew->is_out = false;
+        if (why == NULL && !is_same)
+            fprintf(stderr, "%s\n", worker->record);
+    }
     if (!is_same)
         count_end(crew, status);
     bay_end(worker->bay, is_same, clock_ms());

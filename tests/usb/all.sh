@@ -221,6 +221,7 @@ for words in new.dfu '--json new.dfu'; do
     env LD_LIBRARY_PATH="$work" USB_IMAGE="$work/old" USB_BOARDS="$work/boards" ./dfu-flash --all $words > /dev/full 2> err || code=$?
     expect 'standard output is full' test "$code" -eq 3
     expect 'standard output is full: it is flashed' cmp saved-1-1 new
+    expect 'standard output is full: its report' grep -q '^1-1 serial F1 .* verified: \|^{"status":0,"report":"verified",.*"path":"1-1"' err
 done
 code=0
 env LD_LIBRARY_PATH="$work" USB_IMAGE="$work/old" USB_BOARDS="$work/boards" ./dfu-flash --all new.dfu <&- >&- 2> err || code=$?
