@@ -78,16 +78,30 @@ static void print_lost(const struct crew *crew, const struct worker *worker, int
     record_short(status, status == STATUS_GONE ? "silent" : "broken", why, crew->is_json);
 }
 
+/* A device is passed over. One that may be another than the one that was flashed must not go unnoticed. */
+static void say_same(const struct worker *worker, int status)
+{
+    const char *what = NULL;
+    if (status == BAY_TAKEN && worker->bay->is_doubtful)
+        what =
+            "a device without a serial number came soon after, and counts as the one that was flashed here; if it is another one, unplug "
+            "it for three seconds";
+    else if (worker->bay->is_late)
+        what = "the device that was flashed here is back; another one with its serial number has to be plugged in again";
+    if (what != NULL)
+        fprintf(stderr, "%s: %s\n", worker->bay->path, what);
+}
+
 static void end(struct crew *crew, struct worker *worker, int status, const char *why)
 {
-    bool is_same = status == BAY_SAME;
+    bool is_same = status == BAY_SAME || status == BAY_TAKEN;
     rows_clear(&rows);
     if (why != NULL)
         print_lost(crew, worker, status, why);
     else if (!is_same)
         puts(worker->record);
-    else if (worker->bay->is_late)
-        say(worker, "the device that was flashed here is back; another one with its serial number has to be plugged in again");
+    else
+        say_same(worker, status);
     if (!record_out()) {
         crew->is_out = false;
         if (why == NULL && !is_same)

@@ -196,7 +196,7 @@ bool worker_has_ended(struct worker *worker, int *status, const char **why)
     if (!worker_is_ending(worker) || waitpid(worker->process, &how, WNOHANG) == 0)
         return false;
     *why = NULL;
-    if (WIFEXITED(how) && (worker->record != NULL || WEXITSTATUS(how) == BAY_SAME)) {
+    if (WIFEXITED(how) && (worker->record != NULL || WEXITSTATUS(how) == BAY_SAME || WEXITSTATUS(how) == BAY_TAKEN)) {
         *status = WEXITSTATUS(how);
         return true;
     }
