@@ -120,5 +120,5 @@ void advise_access(int access)
     if (access == LIBUSB_ERROR_BUSY)
         advice_is("end the program that has it, or take the driver away from it, and run it again");
     else if (access == LIBUSB_ERROR_NOT_SUPPORTED)
-        advice_is("give it a driver that libusb can use, on Windows WinUSB, as by Zadig (see WINDOWS), and run it again");
+        advice_is("give it a driver that libusb can use, on Windows WinUSB, as by Zadig (see WINDOWS in man dfu-flash), and run it again");
 }
