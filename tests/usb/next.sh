@@ -98,6 +98,7 @@ next "at 08000002 is ff, and 6e in the file: $again"
 row 9 - '{"status":9,' 'USB_DEVICE=dfuse USB_LIES=08000002' --json --address 0x08000000 new
 expect 'a record has the place' grep -q '"place":"08000002","wanted":"6e","found":"ff","next":"at 08000002 is ff' out
 { printf '\1'; head -c 99 /dev/zero | tr '\0' x; } > hundred
+"$dfu" add hundred hundred.dfu > /dev/null
 row 9 - 'different: ' 'USB_DEVICE=dfuse USB_LIES=08000030' --address 0x08000000 hundred
 next "at 08000030 is ff, and 78 in the file: $again"
 flash '' new.dfu
@@ -152,6 +153,10 @@ for words in --xylophone '--=5' "--$(head -c 300 /dev/zero | tr '\0' v)" '--limi
     row 2 - '' '' $words
     expect "$words: no guess" test "$(grep -c '^next: ' err)" -eq 0
 done
+typed -a 0 -s 0x08000000:leave -- \
+    "name the file, or press the board's reset: no option only starts the application, as -s ADDRESS:leave of dfu-util does"
+row 7 - 'gave-up: ' '' -t 128 -D hundred.dfu
+next 'run it again without --transfer-size: its blocks are larger than those that the device takes'
 row 3 - '' '' version
 next 'did you mean --version?'
 row 3 - '' '' detach
