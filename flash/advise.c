@@ -107,10 +107,19 @@ static void say_odd(const struct session *session)
     advice_first(seen);
 }
 
+/* Whether larger blocks were asked for than the device says that it takes. */
+static bool is_too_large(const struct session *session)
+{
+    const struct found *is = &session->wire.device->is;
+    return session->transfer != 0 && is->descriptor_size > AT_TRANSFER + 1 && session->transfer > two_bytes(is->descriptor + AT_TRANSFER);
+}
+
 void advise_ended(const struct session *session, const char *name)
 {
     if (strcmp(name, "different") == 0)
         say_odd(session);
+    else if (strcmp(name, "gave-up") == 0 && is_too_large(session))
+        advice_is("run it again without --transfer-size: its blocks are larger than those that the device takes");
     else if (strcmp(name, "gave-up") == 0 && !session->wire.device->is.is_upgrade)
         advice_is("it stays in run-time mode: bring it to DFU mode by its button, and run it again");
 }
@@ -120,5 +129,5 @@ void advise_access(int access)
     if (access == LIBUSB_ERROR_BUSY)
         advice_is("end the program that has it, or take the driver away from it, and run it again");
     else if (access == LIBUSB_ERROR_NOT_SUPPORTED)
-        advice_is("give it a driver that libusb can use, on Windows WinUSB, as by Zadig (see WINDOWS), and run it again");
+        advice_is("give it a driver that libusb can use, on Windows WinUSB, as by Zadig (see WINDOWS in man dfu-flash), and run it again");
 }

@@ -5,7 +5,8 @@
 
 #include "words.h"
 
-/* Flashes each that is there; with --wait also each that comes later. The highest exit status of them. */
+/* Flashes each that is there; with --wait also each that comes later. The highest exit status of them; 8, for an image
+   that isn't proved to be in place, is below all others but 0. */
 int all_run(const struct words *words);
 
 #endif

@@ -46,6 +46,7 @@ struct bay *bays_see(struct bays *bays, const struct port *port, int64_t now_ms)
         return NULL;
     if (port->is_wanted && (bay->state == BAY_FREE || !bay->is_there)) {
         bay->is_late = bay->state == BAY_DONE && now_ms - bay->since_ms >= LATE_MS;
+        bay->is_doubtful = bay->state == BAY_DONE && (bay->was_back || now_ms - bay->since_ms >= PULLED_MS);
         return bay;
     }
     bay->was_back = bay->is_there = true;
@@ -80,7 +81,8 @@ bool bay_is_early(const struct bay *bay)
     return bay->state != BAY_FREE && !bay->is_late;
 }
 
-bool bay_is_same(const struct bay *bay, const struct found *is)
+/* Whether the device in a bay is, or counts as, the one of before. */
+static bool is_same_as_before(const struct bay *bay, const struct found *is)
 {
     const char *before = bay->serial[is->is_upgrade];
     if (bay->state == BAY_FREE)
@@ -88,6 +90,13 @@ bool bay_is_same(const struct bay *bay, const struct found *is)
     if (!bay->has_serial[is->is_upgrade] || before[0] == '\0' || is->serial[0] == '\0')
         return !bay->is_late;
     return strcmp(before, is->serial) == 0;
+}
+
+int bay_verdict(const struct bay *bay, const struct found *is)
+{
+    if (!is_same_as_before(bay, is))
+        return 0;
+    return is->serial[0] == '\0' ? BAY_TAKEN : BAY_SAME;
 }
 
 void bay_end(struct bay *bay, bool is_same, int64_t now_ms)

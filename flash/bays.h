@@ -13,6 +13,9 @@
 /* The exit status of a process that found the device of before: it has done nothing, and reports nothing. */
 #define BAY_SAME 100
 
+/* The same where nothing tells the device from another one: it has no serial number. */
+#define BAY_TAKEN 102
+
 enum bay_state {
     BAY_FREE, /* a device that comes is another one */
     BAY_BUSY, /* a process is at work */
@@ -24,7 +27,8 @@ struct bay {
     enum bay_state state;
     bool was_back, is_there;   /* once it is done: a device was there since, and was there at the last look; */
     int64_t since_ms;          /* and when it was there last, or when it was done */
-    bool is_late;              /* what is looked at now came late, so that it may be another one */
+    bool is_late;              /* what is looked at now came late, so that it may be another one; */
+    bool is_doubtful;          /* or as late as one may that was changed by hand, or for the second time */
     bool has_serial[2];        /* whether the device of before was seen in run-time mode, and in DFU mode, */
     char serial[2][TEXT_ROOM]; /* and with which serial number */
 };
@@ -43,8 +47,8 @@ void bays_miss(struct bays *bays, const struct port *ports, int count, int64_t n
 /* Whether the device in a bay is the one of before, as long as nothing speaks against it. */
 bool bay_is_early(const struct bay *bay);
 
-/* Whether the device in a bay is the one of before. */
-bool bay_is_same(const struct bay *bay, const struct found *is);
+/* BAY_SAME or BAY_TAKEN if the device in a bay is, or counts as, the one of before; else 0. */
+int bay_verdict(const struct bay *bay, const struct found *is);
 
 /* The process has ended that was at work with it; with `is_same` it has done nothing. */
 void bay_end(struct bay *bay, bool is_same, int64_t now_ms);

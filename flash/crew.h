@@ -12,7 +12,7 @@ struct crew {
     struct worker workers[BAYS_ROOM];
     int count;
     int64_t came_ms;          /* when the last device came or ended */
-    int worst;                /* the highest exit status so far, */
+    int worst;                /* the exit status so far: the highest, but 8 only if no device has another than 0 and 8; */
     unsigned flashed, failed; /* of so many devices */
     uint16_t vendor, product; /* which they are for */
     bool is_json, is_out;     /* whether all records came to standard output */

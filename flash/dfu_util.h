@@ -23,6 +23,10 @@ void dfu_util_notes(void);
 
 /* The values of -d, -S and -s, read as dfu-util reads them. False if they aren't understood, or aren't taken, which is then said. */
 bool dfu_util_device(const char *text, struct words *words);
+
+/* The same, which says nothing where it is none of them. */
+bool dfu_util_ids(const char *text, struct words *words);
+
 bool dfu_util_serial(char *text, struct words *words);
 bool dfu_util_address(const char *text, struct words *words);
 

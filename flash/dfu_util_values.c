@@ -44,7 +44,7 @@ static const char *take_ids(const char *text, uint16_t *vendor, uint16_t *produc
 
 /* Behind a comma are the identifiers of DFU mode, which are those of run-time mode if they are left out; with nothing before the comma
    the device has to be in DFU mode. */
-bool dfu_util_device(const char *text, struct words *words)
+bool dfu_util_ids(const char *text, struct words *words)
 {
     const char *end = text, *rest;
     bool has_any = strpbrk(text, "0123456789abcdefABCDEF*") != NULL;
@@ -61,13 +61,18 @@ bool dfu_util_device(const char *text, struct words *words)
     if (end != NULL && *end == ',')
         rest = take_ids(end + 1, &words->dfu_vendor, &words->dfu_product);
     if (rest == NULL || *rest != '\0' || !has_any)
-        return words_refuse("-d takes VID:PID, or VID:PID,VID:PID for both modes, hexadecimal digits", text);
+        return false;
     words->has_dfu_ids = *end == ',' && !words->is_upgrade;
     if (words->is_upgrade) {
         words->vendor = words->dfu_vendor;
         words->product = words->dfu_product;
     }
     return true;
+}
+
+bool dfu_util_device(const char *text, struct words *words)
+{
+    return dfu_util_ids(text, words) || words_refuse("-d takes VID:PID, or VID:PID,VID:PID for both modes, hexadecimal digits", text);
 }
 
 bool dfu_util_serial(char *text, struct words *words)

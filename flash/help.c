@@ -7,6 +7,10 @@
 static const char usage[] =
     "Brings a DFU file to a device over USB (DFU 1.1), or fetches the image that it has\n"
     "\n"
+    "Examples: dfu-flash firmware.dfu\n"
+    "          dfu-flash --device 1209:0001 image.bin\n"
+    "The manual, with each exit status and what to do then: man dfu-flash\n"
+    "\n"
     "Usage: dfu-flash [OPTIONS] FILE, or - for standard input\n"
     "       dfu-flash [OPTIONS] --all FILE\n"
     "       dfu-flash [OPTIONS] --all --address A FILE\n"

@@ -1,6 +1,7 @@
 /* SPDX-License-Identifier: MIT OR Apache-2.0 */
 /* Records in JSON. */
 #include "json.h"
+#include "session.h"
 #include "text.h"
 
 #include <inttypes.h>
@@ -73,4 +74,28 @@ void json_hex(const char *name, uint32_t number, int digits)
 void json_address(uint32_t address)
 {
     json_hex("address", address, 8);
+}
+
+void json_odd(const struct odd *odd, bool is_address)
+{
+    if (is_address)
+        json_hex("place", (uint32_t)odd->at, 8);
+    else
+        json_number("place", odd->at);
+    if (odd->wanted >= 0)
+        json_hex("wanted", (uint32_t)odd->wanted, 2);
+    if (odd->found >= 0)
+        json_hex("found", (uint32_t)odd->found, 2);
+}
+
+void json_session(const struct session *session)
+{
+    const struct found *is = &session->wire.device->is;
+    json_text("goal", goal_name(session->goal));
+    printf(",\"vendor\":\"%04x\",\"product\":\"%04x\",\"release\":\"%04x\"", session->ids.vendor, session->ids.product,
+           session->ids.device);
+    json_text("path", session->wire.device->path);
+    if (is->serial[0] != '\0')
+        json_text("serial", is->serial);
+    json_setting(is);
 }

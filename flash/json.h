@@ -19,6 +19,14 @@ void json_hex(const char *name, uint32_t number, int digits);
 /* The fields of a setting: interface, alternate setting and name. */
 void json_setting(const struct found *found);
 
+/* What a session is for, and the device that it is with. */
+struct session;
+void json_session(const struct session *session);
+
+/* Where the device gave back another byte than the image's: by its number, or by its address. */
+struct odd;
+void json_odd(const struct odd *odd, bool is_address);
+
 /* The address that a session with DfuSe begins at. */
 void json_address(uint32_t address);
 

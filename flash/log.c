@@ -72,9 +72,18 @@ void log_reset(struct log *log)
         fflush(log->file);
 }
 
-void log_close(struct log *log)
+void log_end(struct log *log, const char *report, int status, const char *time)
 {
-    if (log->file != NULL && !fresh_close(log->file))
+    if (log->file != NULL)
+        fprintf(log->file, "# end %s %d %s\n", report, status, time);
+}
+
+bool log_close(struct log *log)
+{
+    if (log->file != NULL && !fresh_close(log->file)) {
+        log->is_cut = true;
         fail(log->name, " was not written whole", strerror(errno));
+    }
     log->file = NULL;
+    return !log->is_cut;
 }

@@ -16,6 +16,7 @@ struct log {
     FILE *file; /* NULL: there is none */
     const char *name;
     uint64_t opened; /* how often the device had been opened at the last request */
+    bool is_cut;     /* it was closed, and something could not be written */
 };
 
 /* Makes the file, which must not be there yet; a pipe or a terminal may be. False if it can't be made, which is then said. */
@@ -30,7 +31,10 @@ void log_request(struct log *log, const uint8_t setup[8], unsigned interface, co
 /* The bus was reset. */
 void log_reset(struct log *log);
 
-/* Nothing more comes. If something could not be written, that is said. */
-void log_close(struct log *log);
+/* A line with the report, the exit status and the time (station.h), behind which nothing more comes. */
+void log_end(struct log *log, const char *report, int status, const char *time);
+
+/* Nothing more comes. False if something could not be written, which is then said. */
+bool log_close(struct log *log);
 
 #endif

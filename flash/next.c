@@ -15,9 +15,9 @@ static const struct {
     const char *name, *step;
 } ends[] = {
     {"detached", "run the download"},
-    {"unconfirmed", "look whether it runs the new image; some boards give no better report (see REPORTS)"},
-    {"different", "run it again; if it stays so: see DEVICES, or with DfuSe suspect map or memory"},
-    {"refused", "go by the code (see CODES), and check that the file is for this board"},
+    {"unconfirmed", "look whether it runs the new image; some boards give no better report (see REPORTS in man dfu-flash)"},
+    {"different", "run it again; if it stays so: see DEVICES in man dfu-flash, or with DfuSe suspect map or memory"},
+    {"refused", "go by the code (see CODES in man dfu-flash), and check that the file is for this board"},
     {"read-protected", "take the protection away with ST's tool, which erases all; then run it again"},
     {"gave-up", "check cable and device, and run it again; if it stays so, allow more actions by --limits"},
     {"restarts-spent", "check power and cable, and run it again"},
@@ -25,7 +25,7 @@ static const struct {
     {"too-many-blocks", "a download: --no-verify"},
     {"no-memory", "free memory, and run the upload again"},
     {"aborted", "run it again"},
-    {"gone", "plug it in, and run it again with --wait; if it took the whole image and its application has no DFU: see DEVICES"},
+    {"gone", "plug it in, run it again with --wait; if it took the image and its application has no DFU: see DEVICES in man dfu-flash"},
     {"silent", "unplug it, plug it in again, and run it again"},
     {"not-dfu", "bring it to DFU mode, by its button or --detach, and run it again"},
     {"many", "choose by --interface or --alt from --list, and run it again"},
@@ -35,7 +35,7 @@ static const struct {
     {"not-reset", "unplug it, plug it in again, and run it again unless the image came whole"},
     {"broken", "report it, with the trace of --verbose"},
     {"none", "plug it in with a cable that has data lines, bring it to DFU mode by its button, and run it again; --wait waits for it"},
-    {"no-access", "get the right to open it, and plug it in again, or end the program that has it (see ACCESS); then run it again"},
+    {"no-access", "get the right to open it (see ACCESS in man dfu-flash), plug it in again, or end the program that has it; run it again"},
     {"several", "choose one of those that are listed, by --path, --serial, --interface or --alt; --all takes each"},
     {"file", "see to what standard error names, and run it again"},
 };

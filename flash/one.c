@@ -96,15 +96,16 @@ static int run_detach(const struct words *words, const struct wanted *wanted)
 static int prepare(const struct words *words, struct image *image, struct wanted *wanted)
 {
     int32_t refusal;
-    int status = words->job == JOB_UPLOAD ? STATUS_DONE : take_file(words, image, wanted);
+    int status = words->job == JOB_UPLOAD ? STATUS_DONE : take_file(words, image, wanted), same = 0;
     if (status != STATUS_DONE)
         return status;
     if (words->job == JOB_UPLOAD && !file_may_make(words->file, words->force))
         return say_none(words, STATUS_FILE);
     status = device_choose(&device, wanted);
-    if (words->bay != NULL && session.tries == 0
-        && (status == STATUS_DONE ? bay_is_same(words->bay, &device.is) : bay_is_early(words->bay)))
-        return BAY_SAME;
+    if (words->bay != NULL && session.tries == 0)
+        same = status == STATUS_DONE ? bay_verdict(words->bay, &device.is) : bay_is_early(words->bay) ? BAY_SAME : 0;
+    if (same != 0)
+        return same;
     if (status != STATUS_DONE)
         return stop_cause != STOP_NONE ? say_stopped(words) : say_none(words, status);
     work_ask(&session, words);
@@ -171,7 +172,7 @@ int one_run(const struct words *words, struct image *image, enum progress_style 
     memset(&session, 0, sizeof session);
     forget();
     error = transport->begin(&device.usb);
-    record_of(&device.is);
+    record_of(&device.is, &session.wire.trace.log);
     if (words->bay != NULL)
         record_each(words->path, &device.is, &session.wire.trace.log);
     if (error != 0) {

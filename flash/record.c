@@ -16,11 +16,11 @@
 static struct {
     const char *path;
     const struct found *is;
-    const struct log *log;
+    struct log *log;
     int64_t began_ms;
 } each;
 
-void record_each(const char *path, const struct found *is, const struct log *log)
+void record_each(const char *path, const struct found *is, struct log *log)
 {
     each.path = path;
     each.is = is;
@@ -33,10 +33,28 @@ void record_since(int64_t ms)
     each.began_ms = ms;
 }
 
-void record_of(const struct found *is)
+void record_of(const struct found *is, struct log *log)
 {
     each.is = is;
+    each.log = log;
     each.began_ms = each.path == NULL ? clock_ms() : each.began_ms;
+}
+
+/* A record says whether its log is whole, so the log ends before. */
+static void end_log(int status, const char *report)
+{
+    char time[32];
+    if (each.log == NULL)
+        return;
+    station_time(time);
+    log_end(each.log, report, status, time);
+    log_close(each.log);
+}
+
+int record_status(int status)
+{
+    bool is_cut = each.log != NULL && each.log->is_cut;
+    return is_cut && (status == STATUS_DONE || status == STATUS_UNCONFIRMED) ? STATUS_FILE : status;
 }
 
 /* Whether it is known which device it is, and at which path. */
@@ -73,6 +91,8 @@ static void end(const char *path, const char *step)
         station_json(path);
     if (each.path != NULL && each.log->name != NULL)
         json_text("log", each.log->name);
+    if (each.log != NULL && each.log->is_cut)
+        json_truth("log_whole", false);
     if (each.path != NULL)
         printf(",\"seconds\":%.3f", each_seconds());
     puts("}");
@@ -92,48 +112,31 @@ static void begin_line(void)
     printf("%.1f s ", each_seconds());
 }
 
-static void print_device(const struct session *session)
-{
-    const struct found *is = &session->wire.device->is;
-    json_text("goal", goal_name(session->goal));
-    printf(",\"vendor\":\"%04x\",\"product\":\"%04x\",\"release\":\"%04x\"", session->ids.vendor, session->ids.product,
-           session->ids.device);
-    json_text("path", session->wire.device->path);
-    if (is->serial[0] != '\0')
-        json_text("serial", is->serial);
-    json_setting(is);
-}
-
 void record_begin(const struct session *session, int status, const char *report, const char *words)
 {
     begin(status, report);
     json_text("words", words);
-    print_device(session);
+    json_session(session);
 }
 
-/* Where the device gave back another byte than the image's. */
-static void print_odd(const struct session *session)
+/* Where standard output fails, the outcome isn't lost with it: standard error has the report. */
+static bool is_printed(const char *name, const char *code, const char *words)
 {
-    const struct odd *odd = &session->odd_byte;
-    if (session->dfuse.is)
-        json_hex("place", (uint32_t)odd->at, 8);
-    else
-        json_number("place", odd->at);
-    if (odd->wanted >= 0)
-        json_hex("wanted", (uint32_t)odd->wanted, 2);
-    if (odd->found >= 0)
-        json_hex("found", (uint32_t)odd->found, 2);
+    if (record_out())
+        return true;
+    fprintf(stderr, "%sdfu-flash: %s%s%s: %s\n", say_mark, name, *code != '\0' ? " " : "", code, words);
+    return false;
 }
 
 static void print_record(const struct session *session, const struct verdict *verdict, const char *step)
 {
-    begin(verdict->status, verdict->name);
+    begin(record_status(verdict->status), verdict->name);
     if (verdict->code != 0)
         json_text("code", code_name(verdict->code));
     json_text("words", verdict->words);
     if (verdict->code != 0)
         json_text("meaning", code_words(verdict->code));
-    print_device(session);
+    json_session(session);
     if (session->dfuse.is)
         json_address(session->dfuse.address);
     json_number("bytes", session->goal == GOAL_UPLOAD ? session->host.kept : session->payload_length);
@@ -144,25 +147,26 @@ static void print_record(const struct session *session, const struct verdict *ve
     json_number("restarts", session->restarted);
     json_number("milliseconds", (uint64_t)(clock_ms() - session->began_ms));
     if (verdict->status == STATUS_DIFFERENT && session->odd_byte.is)
-        print_odd(session);
+        json_odd(&session->odd_byte, session->dfuse.is);
     end(session->wire.device->path, step);
 }
 
 bool record_print(const struct session *session, const struct verdict *verdict, bool is_json)
 {
-    const char *step;
-    bool is_added =
-        station_add(verdict->status, verdict->name, verdict->words, session->wire.device->path, &session->wire.device->is, each_seconds());
+    const char *step, *code = verdict->code != 0 ? code_name(verdict->code) : "";
+    bool is_added;
+    end_log(verdict->status, verdict->name);
+    is_added = station_add(record_status(verdict->status), verdict->name, verdict->words, session->wire.device->path,
+                           &session->wire.device->is, each_seconds());
     advise_ended(session, verdict->name);
     step = next_of_end(verdict->name);
     if (is_json) {
         print_record(session, verdict, step);
-        return record_out() && is_added;
+        return is_printed(verdict->name, code, verdict->words) && is_added;
     }
     begin_line();
-    printf("%s%s%s: %s\n", verdict->name, verdict->code != 0 ? " " : "", verdict->code != 0 ? code_name(verdict->code) : "",
-           verdict->words);
-    return record_out() && is_added;
+    printf("%s%s%s: %s\n", verdict->name, *code != '\0' ? " " : "", code, verdict->words);
+    return is_printed(verdict->name, code, verdict->words) && is_added;
 }
 
 static void print_short(int status, const char *name, const char *words, const char *step)
@@ -181,14 +185,16 @@ static void print_short(int status, const char *name, const char *words, const c
 /* The step comes behind the line that it is for. */
 static bool end_short(int status, const char *report, const char *words, const char *step, bool is_json)
 {
-    bool is_out = station_add(status, report, words, path_known(), each.is, each_seconds());
+    bool is_out;
+    end_log(status, report);
+    is_out = station_add(status, report, words, path_known(), each.is, each_seconds());
     if (is_json)
         print_short(status, report, words, step);
     else {
         begin_line();
         printf("%s: %s\n", report, words);
     }
-    is_out = record_out() && is_out;
+    is_out = is_printed(report, "", words) && is_out;
     if (!is_json)
         next_say(step);
     return is_out;
@@ -222,6 +228,7 @@ int record_none(int status, bool is_json)
     for (size_t at = 0; at < sizeof nones / sizeof *nones; at++) {
         if (nones[at].status != status)
             continue;
+        end_log(status, nones[at].name);
         if (is_silent && !station_add(status, nones[at].name, nones[at].words, path_known(), each.is, each_seconds()))
             return STATUS_FILE;
         if (is_silent)

@@ -10,10 +10,13 @@
 
 /* Of several devices: from here on each record has the path, the serial number, the log and the seconds since now, and what is no JSON
    begins with them. */
-void record_each(const char *path, const struct found *is, const struct log *log);
+void record_each(const char *path, const struct found *is, struct log *log);
 
-/* Of one device: records of no session have what is known of it. */
-void record_of(const struct found *is);
+/* Of one device: records of no session have what is known of it. A record closes its log, before it is printed. */
+void record_of(const struct found *is, struct log *log);
+
+/* The exit status of a session: this one; STATUS_FILE in place of 0 and 8 if its log could not be written whole. */
+int record_status(int status);
 
 /* The seconds count from that moment (clock.h). */
 void record_since(int64_t ms);

@@ -87,7 +87,7 @@ static void put_member(struct line *line, const char *name, const char *text, bo
         put_text(line, text);
 }
 
-static void now(char text[32])
+void station_time(char text[32])
 {
     time_t seconds = time(NULL);
     const struct tm *utc = gmtime(&seconds);
@@ -136,7 +136,7 @@ const char *station_port(const char *path)
 void station_json(const char *path)
 {
     char time[32];
-    now(time);
+    station_time(time);
     json_text("time", time);
     if (station_port(path) != NULL)
         json_text("port", station_port(path));
@@ -154,7 +154,7 @@ bool station_add(int status, const char *report, const char *words, const char *
     bool is_known = is != NULL && (is->vendor != 0 || is->product != 0);
     if (!station.is_open)
         return true;
-    now(time);
+    station_time(time);
     snprintf(number, sizeof number, "%d", status);
     snprintf(crc, sizeof crc, "%08" PRIx32, station.crc);
     snprintf(took, sizeof took, "%.3f", seconds);

@@ -20,6 +20,9 @@ void station_image(const struct words *words, const struct image *image);
 /* The name of a path by --ports; NULL if it has none. */
 const char *station_port(const char *path);
 
+/* The time, UTC, as 2026-11-30T09:15:00Z; nothing if the system has none. */
+void station_time(char text[32]);
+
 /* Prints these as members of a record in JSON. */
 void station_json(const char *path);
 

@@ -1,6 +1,7 @@
 /* SPDX-License-Identifier: MIT OR Apache-2.0 */
 /* What the value of each option may be. */
 #include "values.h"
+#include "dfu_util.h"
 
 #include <ctype.h>
 #include <errno.h>
@@ -40,7 +41,7 @@ static bool is_pair(const char *text, uint16_t *vendor, uint16_t *product)
     return is_identifier(text, vendor) && text[4] == ':' && is_identifier(text + 5, product);
 }
 
-/* One pair; or two with a comma between them, of run-time mode and of DFU mode. */
+/* One pair; or two with a comma between them, of run-time mode and of DFU mode; or as dfu-util has them. */
 bool value_device(const char *text, struct words *words)
 {
     bool is_first = is_pair(text, &words->vendor, &words->product);
@@ -48,7 +49,8 @@ bool value_device(const char *text, struct words *words)
     if (is_first && text[9] == '\0')
         return true;
     words->has_dfu_ids = is_first && text[9] == ',' && is_pair(text + 10, &words->dfu_vendor, &words->dfu_product) && text[19] == '\0';
-    return words->has_dfu_ids || words_refuse("--device takes VID:PID or VID:PID,VID:PID, four hexadecimal digits each", text);
+    return words->has_dfu_ids || dfu_util_ids(text, words)
+           || words_refuse("--device takes VID:PID or VID:PID,VID:PID, four hexadecimal digits each", text);
 }
 
 bool value_path(const char *text, struct words *words)

@@ -140,6 +140,8 @@ static bool is_whole(struct words *words, const struct plain *plain)
     }
     if (words->job == JOB_DOWNLOAD && words->file == NULL)
         advice_is("name the file, or - for standard input; dfu-flash --list shows which devices are there");
+    if (words->job == JOB_DOWNLOAD && words->file == NULL && words->is_to_end && !words->stays)
+        advice_is("name the file, or press the board's reset: no option only starts the application, as -s ADDRESS:leave of dfu-util does");
     if (words->job == JOB_DOWNLOAD && words->file == NULL)
         return words_refuse(words->patience == 0 ? "no FILE was given" : "no FILE was given; a number after --wait is its seconds", "");
     if (has_file && words->file[0] == '\0')

@@ -71,7 +71,7 @@ int work_print(const struct session *session, const struct words *words, const s
         fprintf(stderr, "dfu-flash: %s: %s\n", code_name(verdict->code), code_words(verdict->code));
     if (!words->json)
         next_say(next_of_end(verdict->name));
-    return is_out ? verdict->status : STATUS_FILE;
+    return is_out ? record_status(verdict->status) : STATUS_FILE;
 }
 
 /* Makes the file of an upload. */

@@ -37,9 +37,19 @@ static void say(void *with, const char *line)
     fprintf(stderr, "%s: %s\n", worker->bay->path, line);
 }
 
+/* Whether a status is graver than another: an image that isn't proved to be in place hides no device that failed. */
+static bool is_worse(int status, int than)
+{
+    if (status == STATUS_DONE || than == STATUS_DONE)
+        return status != STATUS_DONE;
+    if (status == STATUS_UNCONFIRMED || than == STATUS_UNCONFIRMED)
+        return status != STATUS_UNCONFIRMED;
+    return status > than;
+}
+
 static void count_end(struct crew *crew, int status)
 {
-    crew->worst = status > crew->worst ? status : crew->worst;
+    crew->worst = is_worse(status, crew->worst) ? status : crew->worst;
     crew->flashed += status == STATUS_DONE;
     crew->failed += status != STATUS_DONE;
     crew->came_ms = clock_ms();
@@ -60,7 +70,7 @@ void crew_begin(struct crew *crew, const struct words *words, struct image *imag
 static void print_lost(const struct crew *crew, const struct worker *worker, int status, const char *why)
 {
     static struct found unread;
-    static const struct log none;
+    static struct log none;
     unread.vendor = crew->vendor;
     unread.product = crew->product;
     record_each(worker->bay->path, &unread, &none);
@@ -68,17 +78,35 @@ static void print_lost(const struct crew *crew, const struct worker *worker, int
     record_short(status, status == STATUS_GONE ? "silent" : "broken", why, crew->is_json);
 }
 
+/* A device is passed over. One that may be another than the one that was flashed must not go unnoticed. */
+static void say_same(const struct worker *worker, int status)
+{
+    const char *what = NULL;
+    if (status == BAY_TAKEN && worker->bay->is_doubtful)
+        what =
+            "a device without a serial number came soon after, and counts as the one that was flashed here; if it is another one, unplug "
+            "it for three seconds";
+    else if (worker->bay->is_late)
+        what = "the device that was flashed here is back; another one with its serial number has to be plugged in again";
+    if (what != NULL)
+        fprintf(stderr, "%s: %s\n", worker->bay->path, what);
+}
+
 static void end(struct crew *crew, struct worker *worker, int status, const char *why)
 {
-    bool is_same = status == BAY_SAME;
+    bool is_same = status == BAY_SAME || status == BAY_TAKEN;
     rows_clear(&rows);
     if (why != NULL)
         print_lost(crew, worker, status, why);
     else if (!is_same)
         puts(worker->record);
-    else if (worker->bay->is_late)
-        say(worker, "the device that was flashed here is back; another one with its serial number has to be plugged in again");
-    crew->is_out = record_out() && crew->is_out;
+    else
+        say_same(worker, status);
+    if (!record_out()) {
+        crew->is_out = false;
+        if (why == NULL && !is_same)
+            fprintf(stderr, "%s\n", worker->record);
+    }
     if (!is_same)
         count_end(crew, status);
     bay_end(worker->bay, is_same, clock_ms());

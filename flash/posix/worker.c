@@ -44,7 +44,7 @@ static char *log_name(const char *folder, const char *path)
 static int say_unnamed(const struct words *words)
 {
     static const struct found unread;
-    static const struct log none;
+    static struct log none;
     fputs("dfu-flash: the log has no free name, or too long a one\n", stderr);
     record_each(words->path, &unread, &none);
     record_none(STATUS_FILE, words->json);
@@ -196,7 +196,7 @@ bool worker_has_ended(struct worker *worker, int *status, const char **why)
     if (!worker_is_ending(worker) || waitpid(worker->process, &how, WNOHANG) == 0)
         return false;
     *why = NULL;
-    if (WIFEXITED(how) && (worker->record != NULL || WEXITSTATUS(how) == BAY_SAME)) {
+    if (WIFEXITED(how) && (worker->record != NULL || WEXITSTATUS(how) == BAY_SAME || WEXITSTATUS(how) == BAY_TAKEN)) {
         *status = WEXITSTATUS(how);
         return true;
     }

@@ -77,6 +77,16 @@ assert r["1-3"]["report"] == "no-access" and r["1-3"]["status"] == 5 and "serial
 assert all(0 <= x["seconds"] < 10 for x in r.values()), r'
 fi
 
+# A board that can't tell whether its image is in place (8) hides none that failed.
+for failure in 6:USB_CAPACITY=13 5:USB_DENIED=3 8:USB_SERIAL=F2; do
+    no_boards
+    board 1-1 USB_ATTRIBUTES=01
+    board 1-2 "${failure#*:}"
+    all new.dfu
+    expect "unconfirmed beside ${failure#*:}: $code" test "$code" -eq "${failure%%:*}"
+    ended 1-1 unconfirmed new
+done
+
 # A raw image, and identifiers of both modes.
 no_boards
 board 1-1 USB_DFU_IDS=1209:00ff:0100
@@ -167,6 +177,22 @@ for image in saved-1-1 saved-second saved-third saved-1-2 saved-1-3 saved-other 
     expect "$image" cmp "$image" new
 done
 expect 'one that comes within two seconds, with no serial number, counts as the one of before' test ! -e saved-too-soon
+# A board without a serial number in the place of one that was pulled before it was there again is not flashed, which is said, until it was
+# unplugged for three seconds. Nothing is said of one that starts its image.
+for pause in 2500 4000; do
+    no_boards
+    board 1-1 USB_SERIAL= USB_PULLED=200
+    board 1-1 USB_SERIAL= USB_PLUGGED=1 "USB_PAUSE=$pause" "USB_SAVE=$work/saved-early"
+    board 1-2 USB_SERIAL=
+    board 1-3 USB_SERIAL=F3 USB_PULLED=200
+    board 1-3 USB_SERIAL=F4 USB_PLUGGED=4 "USB_PAUSE=$pause" "USB_SAVE=$work/saved-other"
+    all --wait=6 new.dfu
+    expect "$pause ms: those that were flashed: $code" test "$code-$(wc -l < out)" = 0-4
+    expect "$pause ms: it counts as the one of before" test ! -e saved-early
+    says '1-1: a device without a serial number came soon after, and counts as the one that was flashed here; if it is another one, unplug it'
+    expect "$pause ms: said once, of that one" test "$(grep -c 'without a serial number' err)" -eq 1
+    expect "$pause ms: another serial number" cmp saved-other new
+done
 # Where a board isn't seen again, and one comes after more than ten seconds: with the same serial number it is the same one. A signal is
 # the end of a production line, and no failure.
 no_boards
@@ -211,6 +237,7 @@ for words in new.dfu '--json new.dfu'; do
     env LD_LIBRARY_PATH="$work" USB_IMAGE="$work/old" USB_BOARDS="$work/boards" ./dfu-flash --all $words > /dev/full 2> err || code=$?
     expect 'standard output is full' test "$code" -eq 3
     expect 'standard output is full: it is flashed' cmp saved-1-1 new
+    expect 'standard output is full: its report' grep -q '^1-1 serial F1 .* verified: \|^{"status":0,"report":"verified",.*"path":"1-1"' err
 done
 code=0
 env LD_LIBRARY_PATH="$work" USB_IMAGE="$work/old" USB_BOARDS="$work/boards" ./dfu-flash --all new.dfu <&- >&- 2> err || code=$?

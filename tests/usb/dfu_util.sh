@@ -47,7 +47,17 @@ done
 for ids in '' ',' : ',:' x 1209:x 01209:0001 1209:00001 0x:1 1209:1:1 1209:1,2,3 1209-0001 -1209:1 '1209: 1' 1209:0001,1209:0001x '**:1'; do
     row 2 - '' '' -d "$ids" new.dfu
 done
-row 2 - '' '' --device 1209:1 new.dfu
+# The long options of both programs take them too.
+for ids in 0x1209:0x0001 1209:1 :1 '1209:*' 0x1209:0x0001,:0x00ff ,1209:0001; do
+    row 0 new 'verified: ' '' "--device=$ids" -D new.dfu
+done
+row 0 new 'verified: ' 'USB_START=app USB_AWAY=4 USB_DFU_IDS=1209:00ff:0100' --device 0x1209:0x1,:0xff --download new.dfu --reset
+for ids in , x 1209:x 01209:0001 1209:00001 1209-0001; do
+    row 2 - '' '' --device "$ids" new.dfu
+    says '--device takes VID:PID or VID:PID,VID:PID, four hexadecimal digits each'
+done
+row 4 old '' '' --serial F1,F1 new.dfu
+says 'none of these has --serial F1,F1'
 
 # A serial number for each mode.
 row 0 new 'verified: ' USB_DEVICES=2 -S F1,F1 -D new.dfu

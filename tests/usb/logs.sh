@@ -46,5 +46,43 @@ cat log-pipe > piped &
 row 0 new 'verified: ' '' --quiet --verbose=log-pipe new.dfu
 wait
 expect 'a pipe' grep -q '^# begin verified' piped
-row 0 new 'verified: ' '' --quiet --verbose=/dev/full new.dfu
+
+# The last line has the report, the status and the time.
+ends_with() {
+    tail -n 1 session.log | grep -q "^# end $1 20[0-9]*-[0-9]*-[0-9]*T[0-9]*:[0-9]*:[0-9]*Z\$"
+}
+# last REPORT STATUS SETTINGS WORDS..
+last() {
+    report=$1 status=$2
+    shift 2
+    rm -f session.log
+    flash "$@" --verbose=session.log
+    expect "$*: a log's last line: $(tail -n 1 session.log)" ends_with "$report $status"
+}
+last verified 0 '' new.dfu
+last verified 0 '' --json new.dfu
+last unconfirmed 8 USB_ATTRIBUTES=01 new.dfu
+last refused 6 USB_CAPACITY=13 new.dfu
+last gave-up 7 '' --limits 3 0 new.dfu
+last detached 0 USB_START=app --detach
+last uploaded 0 '' --upload logged
+fate='leave 5'
+last gone 10 USB_AWAY=220 new.dfu
+last verified 0 USB_AWAY=220 --retry 1 new.dfu
+expect 'one such line of two sessions' test "$(grep -c '^# begin' session.log)-$(grep -c '^# end' session.log)" = 2-1
+fate=
+
+# A log that was not written whole: the status and the record say so, and a session that failed keeps its own status.
+row 3 new 'verified: ' '' --quiet --verbose=/dev/full new.dfu
 says '/dev/full was not written whole: '
+row 3 new '{"status":3,"report":"verified",' '' --json --report cut.csv --verbose=/dev/full new.dfu
+expect 'a record says it' grep -q ',"log_whole":false}$' out
+expect 'so does the report' grep -q ',3,"verified",' cut.csv
+row 3 new 'unconfirmed: ' USB_ATTRIBUTES=01 --verbose=/dev/full new.dfu
+row 6 old '{"status":6,"report":"refused",' USB_CAPACITY=13 --json --verbose=/dev/full new.dfu
+expect 'a record says it' grep -q ',"log_whole":false}$' out
+rm -f session.log
+row 0 new '{"status":0,' '' --json --verbose=session.log new.dfu
+expect 'of a whole one it says nothing' test "$(grep -c log_whole out)" -eq 0
+[ -n "${NO_ALL-}" ] || . "$top/tests/usb/logs_all.sh"
+

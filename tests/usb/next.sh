@@ -31,8 +31,9 @@ next "$plug"
 steps 4 '' 'choose one of those that are there, or plug in the one that is meant' other.dfu
 steps 12 USB_DEVICES=2 'choose one of those that are listed, by --path, --serial, --interface or --alt; --all takes each' new.dfu
 steps 5 USB_DENIED=3 \
-    'get the right to open it, and plug it in again, or end the program that has it (see ACCESS); then run it again' new.dfu
-steps 5 USB_DENIED=12 'give it a driver that libusb can use, on Windows WinUSB, as by Zadig (see WINDOWS), and run it again' new.dfu
+    'get the right to open it (see ACCESS in man dfu-flash), plug it in again, or end the program that has it; run it again' new.dfu
+steps 5 USB_DENIED=12 \
+    'give it a driver that libusb can use, on Windows WinUSB, as by Zadig (see WINDOWS in man dfu-flash), and run it again' new.dfu
 steps 5 USB_CLAIMED=6 'end the program that has it, or take the driver away from it, and run it again' new.dfu
 steps 3 '' 'see to what standard error names, and run it again' nowhere.dfu
 for reset in '' --no-verify; do
@@ -43,8 +44,8 @@ for reset in '' --no-verify; do
     flash USB_ATTRIBUTES=07 --json $reset new.dfu
     expect 'nor in a record' test "$code-$(grep -c '"next"' out)" = 0-0
 done
-steps 8 USB_ATTRIBUTES=01 'look whether it runs the new image; some boards give no better report (see REPORTS)' new.dfu
-steps 6 USB_CAPACITY=13 'go by the code (see CODES), and check that the file is for this board' new.dfu
+steps 8 USB_ATTRIBUTES=01 'look whether it runs the new image; some boards give no better report (see REPORTS in man dfu-flash)' new.dfu
+steps 6 USB_CAPACITY=13 'go by the code (see CODES in man dfu-flash), and check that the file is for this board' new.dfu
 fate='leave 3'
 row 7 - 'restarts-spent: ' '' --limits 1000 0 new.dfu
 next 'check power and cable, and run it again'
@@ -91,12 +92,13 @@ row 1 - 'OutsideTheMap: ' USB_DEVICE=dfuse --address 0x08003fff --length 2 --upl
 next "the byte at 08004000 $ends 08004000: $memory"
 row 1 - 'OutsideTheMap: ' USB_DEVICE=dfuse --address 0x07000000 new
 next "the map has no byte at 07000000; the image is from 07000000 to 07000019: $memory"
-again='run it again; if it stays so: see DEVICES, or with DfuSe suspect map or memory'
+again='run it again; if it stays so: see DEVICES in man dfu-flash, or with DfuSe suspect map or memory'
 row 9 - 'different: ' 'USB_DEVICE=dfuse USB_LIES=08000002' --address 0x08000000 new
 next "at 08000002 is ff, and 6e in the file: $again"
 row 9 - '{"status":9,' 'USB_DEVICE=dfuse USB_LIES=08000002' --json --address 0x08000000 new
 expect 'a record has the place' grep -q '"place":"08000002","wanted":"6e","found":"ff","next":"at 08000002 is ff' out
 { printf '\1'; head -c 99 /dev/zero | tr '\0' x; } > hundred
+"$dfu" add hundred hundred.dfu > /dev/null
 row 9 - 'different: ' 'USB_DEVICE=dfuse USB_LIES=08000030' --address 0x08000000 hundred
 next "at 08000030 is ff, and 78 in the file: $again"
 flash '' new.dfu
@@ -151,10 +153,21 @@ for words in --xylophone '--=5' "--$(head -c 300 /dev/zero | tr '\0' v)" '--limi
     row 2 - '' '' $words
     expect "$words: no guess" test "$(grep -c '^next: ' err)" -eq 0
 done
+typed -a 0 -s 0x08000000:leave -- \
+    "name the file, or press the board's reset: no option only starts the application, as -s ADDRESS:leave of dfu-util does"
+row 7 - 'gave-up: ' '' -t 128 -D hundred.dfu
+next 'run it again without --transfer-size: its blocks are larger than those that the device takes'
 row 3 - '' '' version
 next 'did you mean --version?'
 row 3 - '' '' detach
 next 'did you mean --detach?'
+
+# A step that sends to a section says of which page, and each section is there; help begins with examples, and names the page.
+grep -h 'see [A-Z][A-Z]' "$top/flash/next.c" "$top/flash/advise.c" > sections
+expect 'sections are named with their page' test "$(grep -vc 'in man dfu-flash' sections)" -eq 0
+row 0 - '' '' --help
+expect 'two examples' test "$(sed -n 3,4p out | grep -c 'dfu-flash [^O]')" -eq 2
+expect 'the manual' grep -q 'man dfu-flash$' out
 
 # The tables, as `NAME STEP`: those of flash/next.c, and those of the manual's NEXT STEPS and REFUSALS.
 sed -n 's/^#define \([A-Z_]*\) "\(.*\)"$/\1\t\2/p' "$top/flash/next.c" > texts
