@@ -1,0 +1,126 @@
+/* Stand-ins for the calls of dfu_trial_core.h and dfu_install_core.h. Each checks that it comes now, and with what the program handed in;
+ * then it answers anything. */
+#include <string.h>
+
+#include "monitor.h"
+
+static void with_flash(const uint8_t *flash, size_t size)
+{
+    holds(flash == given.flash && size == given.size, "another flash");
+}
+
+static void with_tries(const struct dfu_tries *tries)
+{
+    holds(tries->unit == given.tries.unit && tries->sector == given.tries.sector && tries->tries == given.tries.tries,
+          "another unit, sector or number of tries");
+}
+
+/* The operation that was handed out, with all its bytes. */
+static void with_ask(const struct dfu_ask *ask)
+{
+    holds(ask->kind == handed.kind && ask->at == handed.at && ask->length == handed.length
+              && memcmp(ask->bytes, handed.bytes, sizeof handed.bytes) == 0,
+          "another operation than the one handed out");
+}
+
+/* A call answers, and hands out an operation if one is due. */
+static int32_t say_or_ask(enum call call, struct dfu_ask *ask)
+{
+    const int32_t n = say(call);
+    if (n == DFU_ASKS)
+        hand_out(ask);
+    return n;
+}
+
+/* The active image lies elsewhere at each look. */
+int32_t dfu_core_trial_look(const struct dfu_tries *tries, const uint8_t *flash, size_t size, struct dfu_standing *standing)
+{
+    comes(TRIAL_LOOK);
+    with_tries(tries);
+    with_flash(flash, size);
+    const int32_t n = say(TRIAL_LOOK);
+    if (n == 0) {
+        memset(standing, 0x33, sizeof *standing);
+        standing->active.at = ++given.at;
+    }
+    return n;
+}
+
+int32_t dfu_core_trial_start(const struct dfu_tries *tries, const uint8_t *flash, size_t size, struct dfu_ask *ask,
+                             struct dfu_starting *starting)
+{
+    comes(TRIAL_START);
+    with_tries(tries);
+    with_flash(flash, size);
+    const int32_t n = say_or_ask(TRIAL_START, ask);
+    if (n == 0 || n == DFU_ASKS) {
+        starting->run = given.run;
+        starting->otherwise = given.otherwise;
+    }
+    return n;
+}
+
+int32_t dfu_core_trial_runs(const uint8_t *flash, size_t size, const struct dfu_ask *ask, const struct dfu_starting *starting,
+                            struct dfu_place *place)
+{
+    comes(TRIAL_RUNS);
+    with_flash(flash, size);
+    with_ask(ask);
+    holds(memcmp(&starting->run, &given.run, sizeof given.run) == 0
+              && memcmp(&starting->otherwise, &given.otherwise, sizeof given.otherwise) == 0,
+          "another start than the one that was asked about");
+    const int32_t n = say(TRIAL_RUNS);
+    if (n == 0)
+        *place = given.otherwise;
+    return n;
+}
+
+int32_t dfu_core_trial_confirm(const struct dfu_tries *tries, const uint8_t *flash, size_t size, uint32_t at, struct dfu_ask *ask)
+{
+    comes(TRIAL_CONFIRM);
+    with_tries(tries);
+    with_flash(flash, size);
+    holds(at == given.at, "another image is confirmed");
+    return say_or_ask(TRIAL_CONFIRM, ask);
+}
+
+int32_t dfu_core_trial_end(const struct dfu_tries *tries, const uint8_t *flash, size_t size, struct dfu_ask *ask)
+{
+    comes(TRIAL_END);
+    with_tries(tries);
+    with_flash(flash, size);
+    return say_or_ask(TRIAL_END, ask);
+}
+
+int32_t dfu_core_trial_upload(const struct dfu_tries *tries, const uint8_t *flash, size_t size, struct dfu_ask *ask)
+{
+    comes(TRIAL_UPLOAD);
+    with_tries(tries);
+    with_flash(flash, size);
+    return say_or_ask(TRIAL_UPLOAD, ask);
+}
+
+/* The run area, and the image that is to be in it. */
+static void with_area(const struct dfu_run_area *area, const uint8_t *image, size_t length, const uint8_t *run, size_t size)
+{
+    holds(area == given.area && image == given.image && length == given.length, "another run area or image");
+    with_flash(run, size);
+}
+
+int32_t dfu_core_install_next(const struct dfu_run_area *area, const uint8_t *image, size_t length, const uint8_t *run, size_t size,
+                              struct dfu_ask *ask)
+{
+    comes(INSTALL_NEXT);
+    with_area(area, image, length, run, size);
+    return say_or_ask(INSTALL_NEXT, ask);
+}
+
+int32_t dfu_core_install_took(struct dfu_run_area *area, const uint8_t *image, size_t length, const uint8_t *run, size_t size,
+                              const struct dfu_ask *ask, uint32_t failed)
+{
+    comes(INSTALL_TOOK);
+    hears(failed);
+    with_area(area, image, length, run, size);
+    with_ask(ask);
+    return say(INSTALL_TOOK);
+}

@@ -1,0 +1,183 @@
+/* The order of calls. Above all it is that of the laws over lists: an operation that was asked for is handed out, carried out once, as it
+ * was handed out, and told with how it went, before any other call. Else a call is the next stage of the plan. A refusal ends both. */
+#include "monitor.h"
+
+struct given given;
+int32_t state_now, due_now;
+unsigned asks, most_asks, operations, most_operations;
+struct dfu_ask handed;
+static const struct stage *stage;
+static struct stage one[2];
+static int carries, is_plain, is_over, failed;
+static int32_t ends;
+/* What has to come before any other call, and the call that asked for it. */
+static enum call owed, asking;
+
+/* The calls that hand out what a call asked for, and that learn how it went. Those of a trial hand it out themselves, and read it back
+ * when they are made again; those of a run area hand it out themselves. */
+static const struct {
+    enum call next, took;
+} loop[CALLS] = {[HANDLE] = {NEXT, TOOK},
+                 [ELAPSE] = {NEXT, TOOK},
+                 [TOOK] = {NEXT, TOOK},
+                 [FORMAT_START] = {FORMAT_NEXT, FORMAT_TOOK},
+                 [FORMAT_TOOK] = {FORMAT_NEXT, FORMAT_TOOK},
+                 [TRIAL_START] = {OPERATION, NO_CALL},
+                 [TRIAL_CONFIRM] = {OPERATION, NO_CALL},
+                 [TRIAL_END] = {OPERATION, NO_CALL},
+                 [TRIAL_UPLOAD] = {OPERATION, NO_CALL},
+                 [INSTALL_NEXT] = {OPERATION, INSTALL_TOOK}};
+
+void over(int32_t number)
+{
+    is_over = 1;
+    ends = number;
+    owed = NO_CALL;
+}
+
+static int may_come(enum when when, int32_t n)
+{
+    switch (when) {
+    case WELL: return n >= 0;
+    case ZERO: return n == 0;
+    case ONE: return n == 1;
+    case IF_NO_MEDIUM: return n == DFU_NO_MEDIUM;
+    case UNLESS_REFUSED: return n == 0 || n == DFU_NO_MEDIUM;
+    default: return 0;
+    }
+}
+
+/* A stage is done, with its operations: the next one comes, or the end. */
+static void go_on(int32_t n)
+{
+    const enum end end = stage->end;
+    stage++;
+    if (stage->call == NO_CALL || !may_come(stage->when, n))
+        over(end == ALWAYS_NO_MEDIUM ? (int32_t)DFU_NO_MEDIUM : end == OR_SERVED && n == 1 ? 0 : n);
+}
+
+/* Whether the setup begins a download or an upload. */
+static int begins(void)
+{
+    const uint8_t *s = given.setup;
+    return state_now == DFU_STATE_IDLE && ((s[0] == 0x21 && s[1] == DFU_DNLOAD) || (s[0] == 0xa1 && s[1] == DFU_UPLOAD));
+}
+
+void follow(const struct stage *plan, int has_driver)
+{
+    stage = plan;
+    carries = has_driver;
+    is_plain = is_over = 0;
+    asks = operations = 0;
+    owed = NO_CALL;
+    if (plan->when == TRANSFER_BEGINS && !begins())
+        over(0);
+    if (plan->when != TIME_IS_DUE)
+        return;
+    given.ms = (uint32_t)due_now;
+    if (state_now != DFU_STATE_DNBUSY && state_now != DFU_STATE_MANIFEST)
+        state_now < 0 ? over(state_now) : go_on(0);
+    else if (due_now < 0)
+        over(due_now);
+}
+
+void follow_one(enum call call)
+{
+    one[0].call = call;
+    follow(one, 0);
+    is_plain = 1;
+    owed = call == OPERATION ? OPERATION : NO_CALL;
+}
+
+void follow_due(void)
+{
+    one[0].call = HANDLE;
+    follow(one, 1);
+    asking = HANDLE;
+    owed = NEXT;
+}
+
+enum call stage_now(void)
+{
+    return stage->call;
+}
+
+/* A question changes nothing and may be asked at any time, where it is no stage. */
+static int is_question(enum call call)
+{
+    return (call == STATE || call == DUE) && (is_over || stage->call != call);
+}
+
+void comes(enum call call)
+{
+    note(call);
+    if (is_question(call))
+        return;
+    if (owed == OPERATION && memory != NULL) {
+        memory_is_changed();
+        carried(0);
+    }
+    if (owed != NO_CALL)
+        holds(call == owed, "another call than the one that is due");
+    else
+        holds(!is_over && call == stage->call, "a call that must not come now");
+}
+
+void hears(uint32_t number)
+{
+    holds(is_plain ? number == given.failed : (number != 0) == failed, "a call hears wrongly how the operation went");
+}
+
+void carried(int has_failed)
+{
+    operations++;
+    failed = has_failed;
+    owed = loop[asking].took;
+    if (is_plain)
+        over(has_failed);
+    else if (owed == NO_CALL)
+        holds((++stage)->when == CARRIED, "an operation where none is meant");
+}
+
+/* A call asked for an operation. */
+static void ask(enum call call)
+{
+    asks++;
+    asking = call;
+    owed = loop[call].next;
+    if (!carries)
+        over(DFU_ASKS);
+    else if (stage->end == OR_NOT_WRITTEN || (call == INSTALL_NEXT && operations == most_operations))
+        over(DFU_NOT_WRITTEN);
+}
+
+int32_t answers(enum call call, int32_t n)
+{
+    note_number(n);
+    if (is_question(call))
+        return n;
+    owed = NO_CALL;
+    if (is_plain)
+        over(n);
+    else if (n == DFU_ASKS)
+        ask(call);
+    else if (n == 0 && (call == NEXT || call == FORMAT_NEXT))
+        owed = OPERATION;
+    else if (call == NEXT || call == FORMAT_NEXT)
+        over(n);
+    else if (call == INSTALL_TOOK)
+        owed = INSTALL_NEXT;
+    else
+        go_on(n);
+    return n;
+}
+
+void returned(int32_t number)
+{
+    if (owed == OPERATION && memory != NULL)
+        comes(NO_CALL);
+    holds(owed == NO_CALL, "what was asked for is left out");
+    holds(is_over, "a call is left out");
+    holds(number == ends, "another number than the header says");
+    path_ends();
+}

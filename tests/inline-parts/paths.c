@@ -1,0 +1,141 @@
+/* The paths of the inline calls of include/, up to some operations, over stand-ins. It prints how many there were, or the first that goes
+ * wrong. Its word is the most operations of a path. */
+#include <limits.h>
+#include <stdlib.h>
+
+#include "forwards.h"
+#include "memory.h"
+#include "plans.h"
+#include "runtime.h"
+
+/* What a path has beside its plan: a state and a time that is due, a setup, or a driver that is not asked. */
+enum { STATES = 1, SETUPS = 2, NO_DRIVER = 4 };
+
+static const struct inline_call {
+    const char *name;
+    const struct stage *plan;
+    int32_t (*make)(void);
+    int has;
+} inline_calls[] = {{"dfu_device_answered", the_work, answered, STATES | NO_DRIVER},
+                    {"dfu_device_work", the_work, work, STATES},
+                    {"dfu_device_serve", serving, serve, STATES | SETUPS},
+                    {"dfu_device_reset", resetting, reset, STATES},
+                    {"dfu_device_format", formatting, format, 0},
+                    {"dfu_device_power_on_or_format", starting_up, start_up, 0},
+                    {"dfu_trial_boot", booting, boot, 0},
+                    {"dfu_trial_accept", accepting, accept, 0},
+                    {"dfu_trial_give_up", giving_up, give_up, 0},
+                    {"dfu_trial_transfer", downloading, transfer, STATES | SETUPS},
+                    {"dfu_trial_format", formatting_a_trial, format_trial, 0}};
+
+/* A state, and a time that is due. Paths are as long as they may be in dfuDNBUSY and dfuIDLE, and shorter in the others, which lead to
+ * the same calls. */
+static void pick_state(void)
+{
+    static const int32_t states[] = {DFU_STATE_DNBUSY,      DFU_STATE_IDLE,     DFU_STATE_APP_IDLE,    DFU_STATE_DNLOAD_SYNC,
+                                     DFU_STATE_ERROR,       DFU_STATE_MANIFEST, DFU_STATE_DNLOAD_IDLE, DFU_STATE_MANIFEST_SYNC,
+                                     DFU_STATE_UPLOAD_IDLE, DFU_NO_DEVICE};
+    static const int32_t dues[] = {7, 1, INT_MAX, 0, DFU_NO_CONFIG, DFU_STALL};
+    const unsigned state = pick(sizeof states / sizeof states[0]), due = pick(sizeof dues / sizeof dues[0]);
+    state_now = states[state];
+    due_now = dues[due];
+    if (state > 1 || due > 0)
+        most_asks = 1;
+}
+
+static void pick_setup(void)
+{
+    static const uint8_t setups[][8] = {
+        {0x21, DFU_DNLOAD, 0, 0, 0, 0, 64, 0}, {0x21, DFU_DNLOAD, 0, 0, 0, 0, 65, 0}, {0x21, DFU_DNLOAD, 0, 0, 0, 0, 0, 0},
+        {0x21, DFU_DNLOAD, 0, 0, 0, 0, 0, 1},  {0xa1, DFU_UPLOAD, 0, 0, 0, 0, 64, 0}, {0xa1, DFU_UPLOAD, 0, 0, 0, 0, 255, 255},
+        {0x21, DFU_UPLOAD, 0, 0, 0, 0, 16, 0}, {0xa1, DFU_DNLOAD, 0, 0, 0, 0, 16, 0}, {0xa1, DFU_GETSTATUS, 0, 0, 0, 0, 6, 0},
+        {0x21, DFU_ABORT, 0, 0, 0, 0, 0, 0},   {0x41, DFU_DNLOAD, 0, 0, 0, 0, 16, 0}, {0, 6, 0, 1, 0, 0, 255, 1}};
+    const unsigned which = pick(sizeof setups / sizeof setups[0]);
+    memcpy(setup, setups[which], sizeof setup);
+    if (which > 0)
+        most_asks = 1;
+}
+
+/* The plan, as it is for this setup. */
+static const struct stage *plan_of(const struct inline_call *it)
+{
+    if (it->plan == serving && sent() > config.transfer)
+        return serving_long;
+    if (it->plan == downloading && setup[0] == 0xa1)
+        return uploading;
+    return it->plan;
+}
+
+/* dfu_trial_boot: the place is the one of the start that came about. */
+static void is_started(int32_t n)
+{
+    const uint32_t wanted = n != 0 ? 77 : operations == 0 ? given.run.at : given.otherwise.at;
+    holds(place.at == wanted, "another image is started");
+}
+
+static void try_plan(const struct inline_call *it)
+{
+    while (next_path(it->name)) {
+        hand_in((it->has & NO_DRIVER) != 0 || pick(2) == 0);
+        if ((it->has & STATES) != 0)
+            pick_state();
+        if ((it->has & SETUPS) != 0)
+            pick_setup();
+        if (it->plan == serving)
+            given.length = sent();
+        follow(plan_of(it), device.driver != NULL && (it->has & NO_DRIVER) == 0);
+        const int32_t n = it->make();
+        returned(n);
+        if (it->plan == booting)
+            is_started(n);
+    }
+}
+
+/* dfu_device_settle: it carries out what is due, and gives any other number back. */
+static void try_settle(void)
+{
+    static const int32_t numbers[] = {DFU_ASKS, 0, 6, DFU_STALL, DFU_ASKED, DFU_NO_DEVICE};
+    while (next_path("dfu_device_settle")) {
+        hand_in(pick(2) == 0);
+        const int32_t n = numbers[pick(6)];
+        follow_due();
+        if (n != DFU_ASKS || device.driver == NULL)
+            over(n);
+        returned(dfu_device_settle(&device, n, out, sizeof out));
+    }
+}
+
+/* dfu_install_settle: it ends with DFU_NOT_WRITTEN behind an erase and its pieces for each sector, and the pieces of one more. */
+static void try_install(void)
+{
+    static const struct {
+        uint32_t sector, length;
+        unsigned most;
+    } areas[] = {{256, 1, 3}, {256, 256, 3}, {256, 257, 5}, {512, 40, 5}};
+    while (next_path("dfu_install_settle")) {
+        const unsigned which = pick(sizeof areas / sizeof areas[0]);
+        hand_in(pick(2) == 0);
+        install.area.sector = areas[which].sector;
+        given.length = areas[which].length;
+        most_operations = areas[which].most;
+        most_asks = UINT_MAX;
+        follow(installing, install.driver != NULL);
+        returned(dfu_install_settle(&install, image, areas[which].length));
+    }
+}
+
+int main(int count, char **words)
+{
+    most = count > 1 ? (unsigned)atoi(words[1]) : 5;
+    try_forwards();
+    try_lengths();
+    for (unsigned i = 0; i < sizeof inline_calls / sizeof inline_calls[0]; i++)
+        try_plan(&inline_calls[i]);
+    try_settle();
+    try_driver();
+    try_memory();
+    try_runtime(most > 2 ? 4 : 3);
+    try_install();
+    printf("%lu paths of at most %u operations, %lu checks\n", paths, most, checks);
+    return 0;
+}
