@@ -32,7 +32,7 @@ target() {
         flags='-mgeneral-regs-only -mstrict-align -fno-pic'
         links='-no-pie -Wl,--no-warn-rwx-segments'
         places='memory=0x40080000'
-        emulator='qemu-system-aarch64 -M virt -cpu cortex-a53'
+        emulator='qemu-system-aarch64 -M virt -cpu cortex-a53 -nic none'
         ;;
     rv32imc)
         compiler=riscv64-unknown-elf-gcc
