@@ -6,7 +6,8 @@
  * The code is dfu_device.c, in C11, for little-endian processors of 32 or 64 bits. It keeps no state, allocates nothing, and needs at
  * most memcpy, memmove and memset of a C library. dfu_device.h says what the program has to keep to; if it does, each call answers as
  * Fustrelan's device table says. If record, block or flash were changed between two calls, the next one works on what it finds, or
- * refuses. Whatever they hold, a call returns, and touches only the memory that its pointers and lengths name.
+ * refuses. In each call no pointer may be NULL, even with length 0. Whatever they hold, a call returns, and touches only the memory
+ * that its pointers and lengths name.
  */
 #ifndef DFU_CORE_H
 #define DFU_CORE_H

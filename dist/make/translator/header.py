@@ -2,6 +2,8 @@
 import os
 import re
 
+from nulls import SAYS
+
 SIZES = {"uint8_t": 1, "uint16_t": 2, "uint32_t": 4, "uint64_t": 8, "size_t": 8}
 POINTER = 8
 # The types of C that a parameter of the module may have in the header.
@@ -33,9 +35,11 @@ class Header:
         own = {it: self.read(it) for it in files}
         included = {os.path.join(os.path.dirname(it), name): None for it, text in own.items()
                     for name in re.findall(r'^#include "(\w+\.h)"', text, re.M)}
-        texts = [self.read(it) for it in included if it not in own] + [*own.values()]
+        paths = [*(it for it in included if it not in own), *own]
+        texts = [self.read(it) for it in paths]
         self.text = "".join(texts)
         self.files = [prototypes(it) for it in texts]
+        self.says_no_null = [SAYS in open(it, encoding="utf-8").read() for it in paths]
         self.exports = {name: it for file in self.files for name, it in file.items()}
         self.sizes = {name: (size, size) for name, size in SIZES.items()}
         self.layouts = []
@@ -47,6 +51,10 @@ class Header:
         included = len(self.files) - len(self.names)
         kept = [it for it in self.files[:included] if it.keys() & names] + self.files[included:]
         self.exports = {name: it for file in kept for name, it in file.items()}
+
+    def forbids_null(self, name):
+        """Whether the header that declares an export says that no pointer may be NULL."""
+        return any(says for file, says in zip(self.files, self.says_no_null) if name in file)
 
     def read(self, file):
         """Its text without comments."""

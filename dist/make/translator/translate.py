@@ -13,6 +13,7 @@ from head import HELPERS, head
 from header import Header
 from module import Module
 from names import Names
+from nulls import without_null
 from refusals import end_if_any, refuse
 from sizes import Sizes
 from sources import Sources, comment
@@ -53,6 +54,9 @@ def main():
     module = Module(open(sys.argv[1], encoding="latin-1").read(), lines.OPTIMISED)
     program = Program(module, header)
     end_if_any()
+    for function in module.functions:
+        if function.is_export and header.forbids_null(function.name):
+            without_null(function)
     program.alignments, program.sizes = Alignments(module, header), Sizes(module, header)
     bodies = [Body(it, program, header.exports.get(it.name) if it.is_export else None) for it in module.functions]
     sources = Sources(os.path.join(os.path.dirname(os.path.abspath(sys.argv[2])), "..", "crates"))
