@@ -3,8 +3,8 @@
  * The body of dfu_install_core.h and dfu_trial_core.h: a run area, to which images are linked, and images on trial.
  *
  * Made by dist/make/library of the proved crate. Nobody edits it: change the crate, and make it anew by dist/generate. Compile it as C11
- * beside its header. Memory is arrays of bytes here, laid out as on a 64-bit processor with the low byte first: a size is a uint64_t,
- * and a pointer takes 8 bytes. */
+ * beside its header. Memory is arrays of bytes here, laid out as on a 64-bit processor with the low byte first: a size takes
+ * 8 bytes there, and so does a pointer. */
 #include "dfu_install_core.h"
 #include "dfu_trial_core.h"
 
@@ -40,6 +40,7 @@ void *memset(void *to, int byte, size_t count);
 #endif
 
 _Static_assert((unsigned char)-1 == 255 && sizeof(int) == 4 && sizeof(void *) <= 8, "a processor that this file is not for");
+_Static_assert(sizeof(size_t) >= 4 && sizeof(size_t) <= 8 && sizeof(size_t) == sizeof(void *), "a processor that this file is not for");
 
 _Static_assert(offsetof(struct dfu_config, version) == 0, "another layout");
 _Static_assert(offsetof(struct dfu_config, device) == 4, "another layout");
@@ -121,6 +122,8 @@ static inline void store64a4(unsigned char *p, uint64_t x) { memcpy(ALIGNED(p, 4
 static inline uint32_t umax32(uint32_t x, uint32_t y) { return x < y ? y : x; }
 static inline uint32_t umin32(uint32_t x, uint32_t y) { return x < y ? x : y; }
 static inline uint64_t umin64(uint64_t x, uint64_t y) { return x < y ? x : y; }
+static inline size_t umin_size(size_t x, size_t y) { return x < y ? x : y; }
+static inline uint64_t wide(size_t x) { return x; }
 
 static _Alignas(1) const uint8_t static_0[1] = {
     0
@@ -144,25 +147,25 @@ static _Alignas(4) const uint32_t switch_table_dfu_slots_layout_gate_of[4] = {
     0x10, 0x10, 0x40, 0x100
 };
 
-static uint8_t dfu_boot_install_area_is_run_area(uint64_t a0, uint32_t a1);
+static uint8_t dfu_boot_install_area_is_run_area(size_t a0, uint32_t a1);
 static uint8_t dfu_boot_install_area_are_blank(unsigned char *a0, uint32_t a2, uint32_t a3);
 static struct i8_i32 dfu_boot_install_compare_first_difference(unsigned char *a0, unsigned char *a2, uint32_t a4, uint32_t a5);
-static void core_slice_edits_slice_T_copy_from_slice_i8_core_clone_U8Clone(unsigned char *a0, unsigned char *a2, uint64_t a3);
-static void dfu_boot_c_trial_flash_looked(unsigned char *a0, unsigned char *a1, unsigned char *a2, uint64_t a3);
-static void dfu_boot_c_trial_flash_medium_of(unsigned char *a0, unsigned char *a1, unsigned char *a2, uint64_t a3);
+static void core_slice_edits_slice_T_copy_from_slice_i8_core_clone_U8Clone(unsigned char *a0, unsigned char *a2, size_t a3);
+static void dfu_boot_c_trial_flash_looked(unsigned char *a0, unsigned char *a1, unsigned char *a2, size_t a3);
+static void dfu_boot_c_trial_flash_medium_of(unsigned char *a0, unsigned char *a1, unsigned char *a2, size_t a3);
 static uint8_t dfu_boot_c_trial_flash_unit_sized(uint32_t a0);
 static uint8_t dfu_slots_read_counts(unsigned char *a0, uint32_t a1);
 static uint8_t dfu_slots_read_byte_at(unsigned char *a0, uint32_t a1);
 static void dfu_slots_read_header_of(unsigned char *a0, unsigned char *a1, uint32_t a2);
 static uint32_t dfu_slots_layout_capacity_of(unsigned char *a0);
-static void dfu_suffix_crc_Crc_update_small(unsigned char *a0, unsigned char *a1, uint64_t a2);
+static void dfu_suffix_crc_Crc_update_small(unsigned char *a0, unsigned char *a1, size_t a2);
 static uint8_t dfu_slots_places_is_newest(unsigned char *a0, uint32_t a1, uint32_t a2, uint8_t a3, uint8_t a4);
 static uint8_t dfu_slots_read_generation(unsigned char *a0, uint32_t a1);
 static uint8_t dfu_slots_layout_is_formed(unsigned char *a0, uint32_t a1);
 static uint8_t dfu_boot_trial_marks_is_set(unsigned char *a0, uint32_t a1, uint32_t a2);
 static uint8_t dfu_slots_read_counts_2(unsigned char *a0, uint32_t a1);
 static uint8_t dfu_slots_read_byte_at_2(unsigned char *a0, uint32_t a1);
-static void dfu_boot_trial_closed_ClosedMedium_read(unsigned char *a0, uint32_t a1, unsigned char *a2, uint64_t a3);
+static void dfu_boot_trial_closed_ClosedMedium_read(unsigned char *a0, uint32_t a1, unsigned char *a2, size_t a3);
 static void dfu_slots_read_header_of_2(unsigned char *a0, unsigned char *a1, uint32_t a2);
 static uint32_t dfu_slots_layout_capacity_of_2(unsigned char *a0);
 static uint8_t dfu_slots_places_is_newest_2(unsigned char *a0, uint32_t a1, uint32_t a2, uint8_t a3, uint8_t a4);
@@ -170,78 +173,71 @@ static uint8_t dfu_slots_read_generation_2(unsigned char *a0, uint32_t a1);
 static uint32_t dfu_boot_c_trial_told_tell(unsigned char *a0, uint32_t a1, unsigned char *a2);
 static struct i32_i32 dfu_boot_c_trial_told_image_in(unsigned char *a0, uint32_t a1);
 
-/* dfu_boot::install::area::is_run_area */
-static uint8_t dfu_boot_install_area_is_run_area(uint64_t a0, uint32_t a1) {
+/* dfu_boot::install::area::is_run_area: crates/dfu_boot/src/install/area.rt */
+static uint8_t dfu_boot_install_area_is_run_area(size_t a0, uint32_t a1) {
     uint8_t r1_0_in;
-    if (!((a0 < 0x100000000ULL) & (((a1 + 0xffffffffU) < 0x20000U) & ((a1 & 255) == 0)))) {
+    if ((wide(a0) < 0x100000000ULL) & (((a1 - 1) < 0x20000U) & ((a1 & 255) == 0))) r1_0_in = ((uint32_t)a0 % a1) == 0;
+    else {
         r1_0_in = 0;
-        goto join_12;
     }
-    r1_0_in = ((uint32_t)a0 % a1) == 0;
-join_12:
     return r1_0_in;
 }
 
-/* dfu_boot::install::area::are_blank */
+/* dfu_boot::install::area::are_blank: crates/dfu_boot/src/install/area.rt */
 static uint8_t dfu_boot_install_area_are_blank(unsigned char *a0, uint32_t a2, uint32_t a3) {
-    uint64_t v1, indvars_iv;
+    size_t v1, indvars_iv;
     uint8_t r9_not_not_not_not_not_not_not_not_not_not;
-    v1 = (uint64_t)a3;
-    indvars_iv = (uint64_t)a2;
-loop_2:
-    r9_not_not_not_not_not_not_not_not_not_not = indvars_iv >= v1;
-    if (r9_not_not_not_not_not_not_not_not_not_not) goto common_ret;
-    uint8_t r19 = a0[(size_t)indvars_iv];
-    if (r19 == 255) {
+    v1 = (size_t)a3;
+    indvars_iv = (size_t)a2;
+    for (;;) {
+        r9_not_not_not_not_not_not_not_not_not_not = indvars_iv >= v1;
+        if (r9_not_not_not_not_not_not_not_not_not_not) break;
+        uint8_t r19 = a0[indvars_iv];
+        if (r19 != 255) break;
         indvars_iv = indvars_iv + 1;
-        goto loop_2;
     }
-common_ret:
     return r9_not_not_not_not_not_not_not_not_not_not;
 }
 
-/* dfu_boot::install::compare::first_difference */
+/* dfu_boot::install::compare::first_difference: crates/dfu_boot/src/install/compare.rt */
 static struct i8_i32 dfu_boot_install_compare_first_difference(unsigned char *a0, unsigned char *a2, uint32_t a4, uint32_t a5) {
     uint32_t r5_0, r0_4_0;
-    uint64_t r31, v0, indvars_iv;
+    size_t r31, v0, indvars_iv;
     uint8_t r0_0_0_0;
     r5_0 = a4;
-loop_2:
-    r31 = (uint64_t)r5_0;
-    if (!((r5_0 < a5) ? ((a5 - r5_0) > 3) : 0)) goto after_1;
-    uint8_t r36 = a2[(size_t)r31];
-    uint8_t r41 = a0[(size_t)r31];
-    if (r36 != r41) goto after_1;
-    uint64_t r49 = r31 + 1;
-    uint8_t r54 = a2[(size_t)r49];
-    uint8_t r61 = a0[(size_t)r49];
-    if (r54 != r61) goto after_1;
-    uint64_t r72 = r31 + 2;
-    uint8_t r77 = a2[(size_t)r72];
-    uint8_t r84 = a0[(size_t)r72];
-    if (r77 != r84) goto after_1;
-    uint64_t r95 = r31 + 3;
-    uint8_t r100 = a2[(size_t)r95];
-    uint8_t r107 = a0[(size_t)r95];
-    if (r100 == r107) {
+    for (;;) {
+        r31 = (size_t)r5_0;
+        if (!((r5_0 < a5) ? ((a5 - r5_0) > 3) : 0)) break;
+        uint8_t r36 = a2[r31];
+        uint8_t r41 = a0[r31];
+        if (r36 != r41) break;
+        size_t r49 = r31 + 1;
+        uint8_t r54 = a2[r49];
+        uint8_t r61 = a0[r49];
+        if (r54 != r61) break;
+        size_t r72 = r31 + 2;
+        uint8_t r77 = a2[r72];
+        uint8_t r84 = a0[r72];
+        if (r77 != r84) break;
+        size_t r95 = r31 + 3;
+        uint8_t r100 = a2[r95];
+        uint8_t r107 = a0[r95];
+        if (r100 != r107) break;
         r5_0 = r5_0 + 4;
-        goto loop_2;
     }
-after_1:
-    v0 = (uint64_t)a5;
+    v0 = (size_t)a5;
     indvars_iv = r31;
-loop_13:
-    if (indvars_iv >= v0) {
-        r0_4_0 = 0;
-        r0_0_0_0 = 0;
-        goto return_20;
+    for (;;) {
+        if (indvars_iv >= v0) {
+            r0_4_0 = 0;
+            r0_0_0_0 = 0;
+            goto return_20;
+        }
+        uint8_t r59 = a2[indvars_iv];
+        uint8_t r66 = a0[indvars_iv];
+        if (r59 != r66) break;
+        indvars_iv = indvars_iv + 1;
     }
-    uint8_t r59 = a2[(size_t)indvars_iv];
-    uint8_t r66 = a0[(size_t)indvars_iv];
-    if (r59 != r66) goto return_20_split_loop_exit18;
-    indvars_iv = indvars_iv + 1;
-    goto loop_13;
-return_20_split_loop_exit18:
     r0_4_0 = (uint32_t)indvars_iv;
     r0_0_0_0 = 1;
 return_20:;
@@ -253,24 +249,23 @@ return_20:;
 }
 
 /* core::slice::edits::slice+T::copy_from_slice::<i8,20'core::clone::U8Clone{}> */
-static void core_slice_edits_slice_T_copy_from_slice_i8_core_clone_U8Clone(unsigned char *a0, unsigned char *a2, uint64_t a3) {
-    uint64_t r0_0;
-    if (((uint64_t)(uintptr_t)a0 - (uint64_t)(uintptr_t)a2) < a3) {
-        r0_0 = 0;
-        goto loop_4;
+static void core_slice_edits_slice_T_copy_from_slice_i8_core_clone_U8Clone(unsigned char *a0, unsigned char *a2, size_t a3) {
+    size_t r0_0;
+    if (((uint64_t)(size_t)(uintptr_t)a0 - (uint64_t)(size_t)(uintptr_t)a2) >= (uint64_t)a3) {
+        memmove(a0, a2, a3);
+        return;
     }
-    memmove(a0, a2, (size_t)a3);
-    return;
-loop_4:
-    if (r0_0 == a3) return;
-    uint8_t r26 = a2[(size_t)r0_0];
-    a0[(size_t)r0_0] = r26;
-    r0_0 = r0_0 + 1;
-    goto loop_4;
+    r0_0 = 0;
+    for (;;) {
+        if (r0_0 == a3) return;
+        uint8_t r26 = a2[r0_0];
+        a0[r0_0] = r26;
+        r0_0 = r0_0 + 1;
+    }
 }
 
-/* dfu_boot_c::trial::flash::looked */
-static void dfu_boot_c_trial_flash_looked(unsigned char *a0, unsigned char *a1, unsigned char *a2, uint64_t a3) {
+/* dfu_boot_c::trial::flash::looked: crates/dfu_boot_c/src/trial/flash.rt */
+static void dfu_boot_c_trial_flash_looked(unsigned char *a0, unsigned char *a1, unsigned char *a2, size_t a3) {
     _Alignas(8) unsigned char r3[32];
     unsigned char *const r3_8 = r3;
     unsigned char *const r3_3 = r3;
@@ -278,11 +273,11 @@ static void dfu_boot_c_trial_flash_looked(unsigned char *a0, unsigned char *a1, 
     _Alignas(4) unsigned char r12_8[29];
     _Alignas(8) unsigned char r4[24];
     _Alignas(8) unsigned char r3_4[16];
-    uint8_t r1_2_0_copyload, r6_4_0, r6_7_0, r6_7_039, r6_4_038, r9_0_045, r12_4_0;
+    uint8_t r1_2_0_copyload, r9_0_045, r12_4_0, r6_4_0, r6_7_0, r6_7_039, r6_4_038;
     uint32_t r1_38_0_copyload, r29, r56, r1_0_0_copyload, a0_a1, r5, r6613, r69, r72, r72_2, r72_4, r72_5;
     uint32_t r1_0, r9_820_0_0, r9_15_0, r9_17_0, r12_12_0_0, r12_12_3_0, r12_12_4_0, r12_10_0_0;
     unsigned char *r28, *r39, *r2;
-    uint64_t v3;
+    size_t v3;
     uint8_t r17, r5_2, r11, r31, r5_3, r11_2;
     memset(r12_8, 0, 29);
     dfu_boot_c_trial_flash_medium_of(r3, a1, PLACE(static_0), 0);
@@ -290,278 +285,278 @@ static void dfu_boot_c_trial_flash_looked(unsigned char *a0, unsigned char *a1, 
     if (r19 != 1) {
         r6_4_0 = 0;
         r6_7_0 = 0;
-        goto dfu_boot_c_trial_flash_refused_exit_thread;
     }
-    r1_2_0_copyload = r3[24];
-    r1_38_0_copyload = load32(r3 + 28);
-    r28 = a1 + 8;
-    r29 = load32(r28);
-    if (r1_38_0_copyload == 0) {
-        r6_4_0 = 1;
-        r6_7_0 = 0;
-        goto dfu_boot_c_trial_flash_refused_exit_thread;
+    else {
+        r1_2_0_copyload = r3[24];
+        r1_38_0_copyload = load32(r3 + 28);
+        r28 = a1 + 8;
+        r29 = load32(r28);
+        if (r1_38_0_copyload == 0) {
+            r6_4_0 = 1;
+            r6_7_0 = 0;
+        }
+        else {
+            if (r29 >= 2) {
+                uint64_t switch_load = load64(PLACE(switch_table_dfu_boot_c_trial_flash_looked) + 8 * (size_t)r1_2_0_copyload);
+                if ((switch_load * ((uint64_t)(size_t)r29 + 2)) > (uint64_t)(size_t)r1_38_0_copyload) {
+                    r6_7_039 = 2;
+                    r6_4_038 = 1;
+                    goto arm_1;
+                }
+                dfu_boot_c_trial_flash_medium_of(r7, a1, a2, a3);
+                uint8_t r38 = *r7;
+                if (r38 != 1) {
+                    *a0 = 1;
+                    a0[1] = 2;
+                    a0[2] = 0;
+                    memset(a0 + 8, 0, 40);
+                    return;
+                }
+                r39 = r7 + 8;
+                memcpy(r4, r39, 24);
+                r56 = load32(r28);
+                r1_0_0_copyload = load32(r4 + 20);
+                if (!((r1_0_0_copyload < 0x20001U) & ((r1_0_0_copyload & 255) == 0))) {
+                    r9_0_045 = 1;
+                    r12_12_0_0 = 0;
+                    r12_12_3_0 = 0;
+                    r12_12_4_0 = 0;
+                    r12_4_0 = 2;
+                    r12_10_0_0 = 0;
+                }
+                else {
+                    uint8_t r0_0_0_copyload = r4[16];
+                    v3 = (size_t)r0_0_0_copyload;
+                    uint32_t switch_load_2 = load32(PLACE(switch_table_dfu_slots_layout_gate_of) + 4 * v3);
+                    a0_a1 = umax32(r1_0_0_copyload, switch_load_2);
+                    r2 = r4 + 8;
+                    size_t r3_2 = (size_t)load64(r2);
+                    r5 = (uint32_t)r3_2;
+                    uint32_t pre = a0_a1 << 2;
+                    if (!(((pre + 0x2000000U) >= r5) & (((r5 & 1) == 0) ? (pre < r5) : !(r3_2 & 1)))) {
+                        r9_0_045 = 1;
+                        r12_12_0_0 = 0;
+                        r12_12_3_0 = 0;
+                        r12_12_4_0 = 0;
+                        r12_4_0 = 2;
+                        r12_10_0_0 = 0;
+                    }
+                    else {
+                        r6613 = r5 >> 1;
+                        r69 = r6613 - (a0_a1 << 1);
+                        uint32_t switch_load_3 = load32(PLACE(switch_table_dfu_slots_layout_is_whole) + 4 * v3);
+                        if ((switch_load_3 & r69) != 0) {
+                            r9_0_045 = 1;
+                            r12_12_0_0 = 0;
+                            r12_12_3_0 = 0;
+                            r12_12_4_0 = 0;
+                            r12_4_0 = 2;
+                            r12_10_0_0 = 0;
+                        }
+                        else {
+                            r17 = r1_0_0_copyload == 0;
+                            if (!r17) {
+                                if ((r69 % r1_0_0_copyload) != 0) {
+                                    r9_0_045 = 1;
+                                    r12_12_0_0 = 0;
+                                    r12_12_3_0 = 0;
+                                    r12_12_4_0 = 0;
+                                    r12_4_0 = 2;
+                                    r12_10_0_0 = 0;
+                                    goto join_10;
+                                }
+                            }
+                            r5_2 = dfu_slots_read_counts(r39, 0);
+                            r11 = dfu_slots_read_counts(r39, r6613);
+                            if (!(r5_2 | r11)) {
+                                r9_0_045 = 1;
+                                r12_12_0_0 = 0;
+                                r12_12_3_0 = 0;
+                                r12_12_4_0 = 0;
+                                r12_4_0 = 2;
+                                r12_10_0_0 = 0;
+                            }
+                            else {
+                                uint8_t r15 = dfu_slots_places_is_newest(r39, 0, r6613, r5_2, r11);
+                                r72 = (uint32_t)(r15 ? 0 : r6613);
+                                r72_2 = (uint32_t)(r15 ? r6613 : 0);
+                                if (r72 == 0) {
+                                    uint8_t r24 = dfu_slots_places_is_newest(r39, 0, r72_2, r5_2, r11);
+                                    if (!r24) {
+                                        r9_0_045 = 1;
+                                        r12_12_0_0 = 0;
+                                        r12_12_3_0 = 0;
+                                        r12_12_4_0 = 0;
+                                        r12_4_0 = 2;
+                                        r12_10_0_0 = 0;
+                                        goto join_10;
+                                    }
+                                }
+                                else {
+                                    uint8_t r33 = dfu_slots_places_is_newest(r39, r72, r72_2, r11, r5_2);
+                                    if (!r33) {
+                                        r9_0_045 = 1;
+                                        r12_12_0_0 = 0;
+                                        r12_12_3_0 = 0;
+                                        r12_12_4_0 = 0;
+                                        r12_4_0 = 2;
+                                        r12_10_0_0 = 0;
+                                        goto join_10;
+                                    }
+                                }
+                                dfu_slots_read_header_of(r3_3, r39, r72);
+                                uint8_t r18 = r3_3[1];
+                                if (r18 != 2) {
+                                    uint8_t r29_2 = dfu_slots_layout_is_formed(r3_3, r69);
+                                    if (!r29_2) {
+                                        r9_0_045 = 1;
+                                        r12_12_0_0 = 0;
+                                        r12_12_3_0 = 0;
+                                        r12_12_4_0 = 0;
+                                        r12_4_0 = 2;
+                                        r12_10_0_0 = 0;
+                                        goto join_10;
+                                    }
+                                }
+                                r31 = dfu_boot_trial_marks_is_set(r39, r72, 0);
+                                if (!r31) {
+                                    uint8_t r41 = dfu_boot_trial_marks_is_set(r39, r72_2, 0);
+                                    if (r41) {
+                                        unsigned char *v6 = r3_4 + 8;
+                                        store64(v6, 0);
+                                        store64(r3_4, (size_t)(uintptr_t)r4);
+                                        store32(v6, r72);
+                                        if (!r17) {
+                                            if ((r69 % r1_0_0_copyload) != 0) goto dfu_boot_trial_looking_comes_back_exit_thread;
+                                        }
+                                        r5_3 = dfu_slots_read_counts_2(r3_4, 0);
+                                        size_t r3_5 = (size_t)load64(r2);
+                                        r11_2 = dfu_slots_read_counts_2(r3_4, (uint32_t)r3_5 >> 1);
+                                        if (r5_3 | r11_2) {
+                                            size_t r3_6 = (size_t)load64(r2);
+                                            uint8_t r15_2 = dfu_slots_places_is_newest_2(r3_4, 0, (uint32_t)r3_6 >> 1, r5_3, r11_2);
+                                            size_t r3_7 = (size_t)load64(r2);
+                                            uint32_t r72_3 = (uint32_t)r3_7 >> 1;
+                                            r72_4 = (uint32_t)(r15_2 ? 0 : r72_3);
+                                            r72_5 = (uint32_t)(r15_2 ? r72_3 : 0);
+                                            if (r72_4 == 0) {
+                                                uint8_t r24_2 = dfu_slots_places_is_newest_2(r3_4, 0, r72_5, r5_3, r11_2);
+                                                if (!r24_2) goto dfu_boot_trial_looking_comes_back_exit_thread;
+                                            }
+                                            else {
+                                                uint8_t r33_2 = dfu_slots_places_is_newest_2(r3_4, r72_4, r72_5, r11_2, r5_3);
+                                                if (!r33_2) goto dfu_boot_trial_looking_comes_back_exit_thread;
+                                            }
+                                            dfu_slots_read_header_of_2(r3_8, r3_4, r72_4);
+                                            uint8_t r18_2 = r3_8[1];
+                                            if (r18_2 != 2) {
+                                                uint32_t r26 = dfu_slots_layout_capacity_of_2(r3_4);
+                                                uint8_t r29_3 = dfu_slots_layout_is_formed(r3_8, r26);
+                                                if (!r29_3) goto after_5;
+                                            }
+                                            r1_0 = 0;
+                                            for (;;) {
+                                                if (r1_0 == r56) {
+                                                    r9_820_0_0 = 1;
+                                                    r9_15_0 = r72_2;
+                                                    r9_17_0 = r56;
+                                                    goto arm_8;
+                                                }
+                                                uint32_t r11_3 = r1_0 + 1;
+                                                uint8_t r13 = dfu_boot_trial_marks_is_set(r4, r72, r11_3);
+                                                if (!r13) {
+                                                    r9_820_0_0 = 1;
+                                                    r9_15_0 = r72_2;
+                                                    r9_17_0 = r1_0;
+                                                    goto arm_8;
+                                                }
+                                                r1_0 = r11_3;
+                                            }
+                                        }
+dfu_boot_trial_looking_comes_back_exit_thread:;
+                                    }
+                                }
+after_5:
+                                r9_820_0_0 = 0;
+                                r9_15_0 = (uint32_t)r31;
+                                r9_17_0 = 0;
+arm_8:
+                                memcpy(r12_8 + 5, r4, 24);
+                                r9_0_045 = 0;
+                                r12_12_0_0 = r72;
+                                r12_12_3_0 = r9_15_0;
+                                r12_12_4_0 = r9_17_0;
+                                r12_4_0 = 0;
+                                r12_10_0_0 = r9_820_0_0;
+                            }
+                        }
+                    }
+                }
+join_10:
+                *a0 = r9_0_045;
+                a0[1] = r12_4_0;
+                a0[2] = 0;
+                memcpy(a0 + 8, r12_8 + 5, 24);
+                store32(a0 + 32, r12_10_0_0);
+                store32(a0 + 36, r12_12_0_0);
+                store32(a0 + 40, r12_12_3_0);
+                store32(a0 + 44, r12_12_4_0);
+                return;
+            }
+            r6_4_0 = 1;
+            r6_7_0 = 1;
+        }
     }
-    if (r29 >= 2) goto switch_lookup;
-    r6_4_0 = 1;
-    r6_7_0 = 1;
-dfu_boot_c_trial_flash_refused_exit_thread:
     r6_7_039 = r6_7_0;
     r6_4_038 = r6_4_0;
-    goto arm_1;
-switch_lookup:;
-    uint64_t switch_load = load64(PLACE(switch_table_dfu_boot_c_trial_flash_looked) + 8 * (size_t)r1_2_0_copyload);
-    if ((switch_load * ((uint64_t)r29 + 2)) > (uint64_t)r1_38_0_copyload) {
-        r6_7_039 = 2;
-        r6_4_038 = 1;
-        goto arm_1;
-    }
-    goto join_4;
 arm_1:
     *a0 = 1;
     a0[1] = r6_4_038;
     a0[2] = r6_7_039;
     memset(a0 + 8, 0, 40);
     return;
-join_4:
-    dfu_boot_c_trial_flash_medium_of(r7, a1, a2, a3);
-    uint8_t r38 = *r7;
-    if (r38 != 1) goto arm_6;
-    r39 = r7 + 8;
-    memcpy(r4, r39, 24);
-    r56 = load32(r28);
-    r1_0_0_copyload = load32(r4 + 20);
-    if (!((r1_0_0_copyload < 0x20001U) & ((r1_0_0_copyload & 255) == 0))) {
-        r9_0_045 = 1;
-        r12_12_0_0 = 0;
-        r12_12_3_0 = 0;
-        r12_12_4_0 = 0;
-        r12_4_0 = 2;
-        r12_10_0_0 = 0;
-        goto join_10;
-    }
-    uint8_t r0_0_0_copyload = r4[16];
-    v3 = (uint64_t)r0_0_0_copyload;
-    uint32_t switch_load_2 = load32(PLACE(switch_table_dfu_slots_layout_gate_of) + 4 * (size_t)v3);
-    a0_a1 = umax32(r1_0_0_copyload, switch_load_2);
-    r2 = r4 + 8;
-    uint64_t r3_2 = load64(r2);
-    r5 = (uint32_t)r3_2;
-    uint32_t pre = a0_a1 << 2;
-    if (!(((pre + 0x2000000U) >= r5) & (((r5 & 1) == 0) ? (pre < r5) : !(r3_2 & 1)))) {
-        r9_0_045 = 1;
-        r12_12_0_0 = 0;
-        r12_12_3_0 = 0;
-        r12_12_4_0 = 0;
-        r12_4_0 = 2;
-        r12_10_0_0 = 0;
-        goto join_10;
-    }
-    r6613 = r5 >> 1;
-    r69 = r6613 - (a0_a1 << 1);
-    uint32_t switch_load_3 = load32(PLACE(switch_table_dfu_slots_layout_is_whole) + 4 * (size_t)v3);
-    if ((switch_load_3 & r69) != 0) {
-        r9_0_045 = 1;
-        r12_12_0_0 = 0;
-        r12_12_3_0 = 0;
-        r12_12_4_0 = 0;
-        r12_4_0 = 2;
-        r12_10_0_0 = 0;
-        goto join_10;
-    }
-    r17 = r1_0_0_copyload == 0;
-    if (r17) goto join_3;
-    if ((r69 % r1_0_0_copyload) != 0) {
-        r9_0_045 = 1;
-        r12_12_0_0 = 0;
-        r12_12_3_0 = 0;
-        r12_12_4_0 = 0;
-        r12_4_0 = 2;
-        r12_10_0_0 = 0;
-        goto join_10;
-    }
-join_3:
-    r5_2 = dfu_slots_read_counts(r39, 0);
-    r11 = dfu_slots_read_counts(r39, r6613);
-    if (!(r5_2 | r11)) {
-        r9_0_045 = 1;
-        r12_12_0_0 = 0;
-        r12_12_3_0 = 0;
-        r12_12_4_0 = 0;
-        r12_4_0 = 2;
-        r12_10_0_0 = 0;
-        goto join_10;
-    }
-    uint8_t r15 = dfu_slots_places_is_newest(r39, 0, r6613, r5_2, r11);
-    r72 = (uint32_t)(r15 ? 0 : r6613);
-    r72_2 = (uint32_t)(r15 ? r6613 : 0);
-    if (r72 != 0) goto dfu_slots_places_has_newest_exit;
-    uint8_t r24 = dfu_slots_places_is_newest(r39, 0, r72_2, r5_2, r11);
-    if (r24) goto join_9;
-    r9_0_045 = 1;
-    r12_12_0_0 = 0;
-    r12_12_3_0 = 0;
-    r12_12_4_0 = 0;
-    r12_4_0 = 2;
-    r12_10_0_0 = 0;
-    goto join_10;
-dfu_slots_places_has_newest_exit:;
-    uint8_t r33 = dfu_slots_places_is_newest(r39, r72, r72_2, r11, r5_2);
-    if (!r33) {
-        r9_0_045 = 1;
-        r12_12_0_0 = 0;
-        r12_12_3_0 = 0;
-        r12_12_4_0 = 0;
-        r12_4_0 = 2;
-        r12_10_0_0 = 0;
-        goto join_10;
-    }
-join_9:
-    dfu_slots_read_header_of(r3_3, r39, r72);
-    uint8_t r18 = r3_3[1];
-    if (r18 != 2) goto dfu_slots_read_header_len_exit;
-    goto arm_1_2;
-dfu_slots_read_header_len_exit:;
-    uint8_t r29_2 = dfu_slots_layout_is_formed(r3_3, r69);
-    if (!r29_2) {
-        r9_0_045 = 1;
-        r12_12_0_0 = 0;
-        r12_12_3_0 = 0;
-        r12_12_4_0 = 0;
-        r12_4_0 = 2;
-        r12_10_0_0 = 0;
-        goto join_10;
-    }
-arm_1_2:
-    r31 = dfu_boot_trial_marks_is_set(r39, r72, 0);
-    if (r31) goto after_5;
-    uint8_t r41 = dfu_boot_trial_marks_is_set(r39, r72_2, 0);
-    if (!r41) goto after_5;
-    unsigned char *v6 = r3_4 + 8;
-    store64(v6, 0);
-    store64(r3_4, (uint64_t)(uintptr_t)r4);
-    store32(v6, r72);
-    if (r17) goto join_3_2;
-    if ((r69 % r1_0_0_copyload) != 0) goto dfu_boot_trial_looking_comes_back_exit_thread;
-join_3_2:
-    r5_3 = dfu_slots_read_counts_2(r3_4, 0);
-    uint64_t r3_5 = load64(r2);
-    r11_2 = dfu_slots_read_counts_2(r3_4, (uint32_t)r3_5 >> 1);
-    if (!(r5_3 | r11_2)) goto dfu_boot_trial_looking_comes_back_exit_thread;
-    uint64_t r3_6 = load64(r2);
-    uint8_t r15_2 = dfu_slots_places_is_newest_2(r3_4, 0, (uint32_t)r3_6 >> 1, r5_3, r11_2);
-    uint64_t r3_7 = load64(r2);
-    uint32_t r72_3 = (uint32_t)r3_7 >> 1;
-    r72_4 = (uint32_t)(r15_2 ? 0 : r72_3);
-    r72_5 = (uint32_t)(r15_2 ? r72_3 : 0);
-    if (r72_4 != 0) goto dfu_slots_places_has_newest_exit_2;
-    uint8_t r24_2 = dfu_slots_places_is_newest_2(r3_4, 0, r72_5, r5_3, r11_2);
-    if (r24_2) goto join_9_2;
-    goto dfu_boot_trial_looking_comes_back_exit_thread;
-dfu_slots_places_has_newest_exit_2:;
-    uint8_t r33_2 = dfu_slots_places_is_newest_2(r3_4, r72_4, r72_5, r11_2, r5_3);
-    if (!r33_2) goto dfu_boot_trial_looking_comes_back_exit_thread;
-join_9_2:
-    dfu_slots_read_header_of_2(r3_8, r3_4, r72_4);
-    uint8_t r18_2 = r3_8[1];
-    if (r18_2 != 2) goto dfu_boot_trial_looking_comes_back_exit;
-    goto loop_2_preheader;
-dfu_boot_trial_looking_comes_back_exit_thread:
-    goto after_5;
-dfu_boot_trial_looking_comes_back_exit:;
-    uint32_t r26 = dfu_slots_layout_capacity_of_2(r3_4);
-    uint8_t r29_3 = dfu_slots_layout_is_formed(r3_8, r26);
-    if (!r29_3) goto after_5;
-loop_2_preheader:
-    r1_0 = 0;
-loop_2:
-    if (r1_0 == r56) {
-        r9_820_0_0 = 1;
-        r9_15_0 = r72_2;
-        r9_17_0 = r56;
-        goto arm_8;
-    }
-    uint32_t r11_3 = r1_0 + 1;
-    uint8_t r13 = dfu_boot_trial_marks_is_set(r4, r72, r11_3);
-    if (r13) {
-        r1_0 = r11_3;
-        goto loop_2;
-    }
-    r9_820_0_0 = 1;
-    r9_15_0 = r72_2;
-    r9_17_0 = r1_0;
-    goto arm_8;
-after_5:
-    r9_820_0_0 = 0;
-    r9_15_0 = (uint32_t)r31;
-    r9_17_0 = 0;
-    goto arm_8;
-arm_6:
-    *a0 = 1;
-    a0[1] = 2;
-    a0[2] = 0;
-    memset(a0 + 8, 0, 40);
-    return;
-arm_8:
-    memcpy(r12_8 + 5, r4, 24);
-    r9_0_045 = 0;
-    r12_12_0_0 = r72;
-    r12_12_3_0 = r9_15_0;
-    r12_12_4_0 = r9_17_0;
-    r12_4_0 = 0;
-    r12_10_0_0 = r9_820_0_0;
-join_10:
-    *a0 = r9_0_045;
-    a0[1] = r12_4_0;
-    a0[2] = 0;
-    memcpy(a0 + 8, r12_8 + 5, 24);
-    store32(a0 + 32, r12_10_0_0);
-    store32(a0 + 36, r12_12_0_0);
-    store32(a0 + 40, r12_12_3_0);
-    store32(a0 + 44, r12_12_4_0);
-    return;
 }
 
-/* dfu_boot_c::trial::flash::medium_of */
-static void dfu_boot_c_trial_flash_medium_of(unsigned char *a0, unsigned char *a1, unsigned char *a2, uint64_t a3) {
+/* dfu_boot_c::trial::flash::medium_of: crates/dfu_boot_c/src/trial/flash.rt */
+static void dfu_boot_c_trial_flash_medium_of(unsigned char *a0, unsigned char *a1, unsigned char *a2, size_t a3) {
     _Alignas(4) unsigned char r0_10[3];
     uint8_t r9, r0_9_0;
     uint32_t r24, r0_11_0;
-    uint64_t r0_0_0_0, r0_5_0, r0_8_0;
+    size_t r0_0_0_0, r0_5_0, r0_8_0;
     uint32_t r7 = load32(a1);
     r9 = dfu_boot_c_trial_flash_unit_sized(r7);
     uint32_t switch_load = load32(PLACE(switch_table_dfu_boot_c_trial_flash_medium_of) + 4 * (size_t)r9);
-    if (switch_load == r7) goto join_3;
-    goto then_1;
-then_1:
-    memset(a0, 0, 32);
-    return;
-join_3:
+    if (switch_load != r7) {
+        memset(a0, 0, 32);
+        return;
+    }
     r24 = load32(a1 + 4);
-    if (!((r24 < 0x20001U) & ((r24 & 255) == 0))) goto arm_2;
-    if (a3 <= 0xffffffffU) goto join_3_2;
-    memset(r0_10, 0, 3);
-    r0_0_0_0 = 0;
-    r0_5_0 = 0;
-    r0_8_0 = 0;
-    r0_9_0 = 0;
-    r0_11_0 = 0;
-    goto dfu_asks_mapped_Mapped_with_sectors_exit;
-join_3_2:
-    memset(r0_10, 0, 3);
-    r0_0_0_0 = 1;
-    r0_5_0 = (uint64_t)(uintptr_t)a2;
-    r0_8_0 = a3;
-    r0_9_0 = r9;
-    r0_11_0 = r24;
-    goto dfu_asks_mapped_Mapped_with_sectors_exit;
-arm_2:
-    memset(r0_10, 0, 3);
-    r0_0_0_0 = 0;
-    r0_5_0 = 0;
-    r0_8_0 = 0;
-    r0_9_0 = 0;
-    r0_11_0 = 0;
-dfu_asks_mapped_Mapped_with_sectors_exit:
+    if (!((r24 < 0x20001U) & ((r24 & 255) == 0))) {
+        memset(r0_10, 0, 3);
+        r0_0_0_0 = 0;
+        r0_5_0 = 0;
+        r0_8_0 = 0;
+        r0_9_0 = 0;
+        r0_11_0 = 0;
+    }
+    else {
+        if (wide(a3) > 0xffffffffU) {
+            memset(r0_10, 0, 3);
+            r0_0_0_0 = 0;
+            r0_5_0 = 0;
+            r0_8_0 = 0;
+            r0_9_0 = 0;
+            r0_11_0 = 0;
+        }
+        else {
+            memset(r0_10, 0, 3);
+            r0_0_0_0 = 1;
+            r0_5_0 = (size_t)(uintptr_t)a2;
+            r0_8_0 = a3;
+            r0_9_0 = r9;
+            r0_11_0 = r24;
+        }
+    }
     store64(a0, r0_0_0_0);
     store64(a0 + 8, r0_5_0);
     store64(a0 + 16, r0_8_0);
@@ -571,12 +566,12 @@ dfu_asks_mapped_Mapped_with_sectors_exit:
     return;
 }
 
-/* dfu_boot_c::trial::flash::unit_sized */
+/* dfu_boot_c::trial::flash::unit_sized: crates/dfu_boot_c/src/trial/flash.rt */
 static uint8_t dfu_boot_c_trial_flash_unit_sized(uint32_t a0) {
     return (uint8_t)((a0 < 16) ? 0 : (uint8_t)((a0 < 64) ? 1 : (uint8_t)((a0 < 256) ? 2 : 3)));
 }
 
-/* dfu_slots::read::counts::<#1e2975bbbe5176a9> */
+/* dfu_slots::read::counts::<#1e2975bbbe5176a9>: crates/dfu_slots/src/read.rt */
 static uint8_t dfu_slots_read_counts(unsigned char *a0, uint32_t a1) {
     _Alignas(1) unsigned char r2_2[64];
     _Alignas(1) unsigned char r3_2[16];
@@ -587,123 +582,112 @@ static uint8_t dfu_slots_read_counts(unsigned char *a0, uint32_t a1) {
     unsigned char *r1_2, *r2_3;
     uint8_t common_ret_op, r1_0_in;
     uint8_t r2 = dfu_slots_read_byte_at(a0, a1);
-    if (r2 != 165) {
-        r1_0_in = 0;
-        goto join_3;
+    if (r2 != 165) r1_0_in = 0;
+    else {
+        dfu_slots_read_header_of(r3, a0, a1);
+        uint8_t r4_2_0_copyload = r3[1];
+        if (r4_2_0_copyload != 2) r1_0_in = 1;
+        else {
+            dfu_slots_read_header_of(r3_2, a0, a1);
+            r1_2_0_copyload = r3_2[1];
+            r1_3_0_copyload = r3_2[2];
+            r1_4_0_copyload = r3_2[3];
+            r1_5_0_copyload = load32u(r3_2 + 4);
+            r1_6_0_copyload = load32u(r3_2 + 8);
+            r1_7_0_copyload = load32u(r3_2 + 12);
+            uint32_t r10 = dfu_slots_layout_capacity_of(a0);
+            if (r10 < r1_5_0_copyload) common_ret_op = 0;
+            else {
+                store32(r1, 0xffffffffU);
+                memset(r2_2, 0, 64);
+                r1_2 = a0 + 16;
+                r2_3 = a0 + 20;
+                r3_0 = 0;
+                while (r3_0 < r1_5_0_copyload) {
+                    uint32_t a1_a0 = umin32(r1_5_0_copyload - r3_0, 64);
+                    size_t r28 = (size_t)a1_a0;
+                    uint8_t r0_0_0_copyload = *r1_2;
+                    uint32_t r1_0_0_copyload = load32(r2_3);
+                    uint32_t switch_load = load32(PLACE(switch_table_dfu_slots_layout_gate_of) + 4 * (size_t)r0_0_0_copyload);
+                    size_t r5_0_0_copyload = (size_t)load64(a0);
+                    core_slice_edits_slice_T_copy_from_slice_i8_core_clone_U8Clone(r2_2, (unsigned char *)(uintptr_t)r5_0_0_copyload + (size_t)((r3_0 + a1) + (umax32(r1_0_0_copyload, switch_load) << 1)), r28);
+                    dfu_suffix_crc_Crc_update_small(r1, r2_2, r28);
+                    r3_0 = a1_a0 + r3_0;
+                }
+                uint32_t r0_0_0_copyload_2 = load32(r1);
+                common_ret_op = ((((r1_2_0_copyload == 2) ? (r1_3_0_copyload == 0) : 0) ? (r1_4_0_copyload == 0) : 0) ? (r1_6_0_copyload == r0_0_0_copyload_2) : 0) ? (r1_7_0_copyload == 0) : 0;
+            }
+            r1_0_in = common_ret_op;
+        }
     }
-    dfu_slots_read_header_of(r3, a0, a1);
-    uint8_t r4_2_0_copyload = r3[1];
-    if (r4_2_0_copyload != 2) {
-        r1_0_in = 1;
-        goto join_3;
-    }
-    dfu_slots_read_header_of(r3_2, a0, a1);
-    r1_2_0_copyload = r3_2[1];
-    r1_3_0_copyload = r3_2[2];
-    r1_4_0_copyload = r3_2[3];
-    r1_5_0_copyload = load32u(r3_2 + 4);
-    r1_6_0_copyload = load32u(r3_2 + 8);
-    r1_7_0_copyload = load32u(r3_2 + 12);
-    uint32_t r10 = dfu_slots_layout_capacity_of(a0);
-    if (r10 < r1_5_0_copyload) {
-        common_ret_op = 0;
-        goto dfu_slots_read_is_intact_exit;
-    }
-    store32(r1, 0xffffffffU);
-    memset(r2_2, 0, 64);
-    r1_2 = a0 + 16;
-    r2_3 = a0 + 20;
-    r3_0 = 0;
-loop_2:
-    if (r3_0 >= r1_5_0_copyload) goto dfu_slots_register_register_of_exit;
-    uint32_t a1_a0 = umin32(r1_5_0_copyload - r3_0, 64);
-    uint64_t r28 = (uint64_t)a1_a0;
-    uint8_t r0_0_0_copyload = *r1_2;
-    uint32_t r1_0_0_copyload = load32(r2_3);
-    uint32_t switch_load = load32(PLACE(switch_table_dfu_slots_layout_gate_of) + 4 * (size_t)r0_0_0_copyload);
-    uint64_t r5_0_0_copyload = load64(a0);
-    core_slice_edits_slice_T_copy_from_slice_i8_core_clone_U8Clone(r2_2, (unsigned char *)(uintptr_t)r5_0_0_copyload + (size_t)((r3_0 + a1) + (umax32(r1_0_0_copyload, switch_load) << 1)), r28);
-    dfu_suffix_crc_Crc_update_small(r1, r2_2, r28);
-    r3_0 = a1_a0 + r3_0;
-    goto loop_2;
-dfu_slots_register_register_of_exit:;
-    uint32_t r0_0_0_copyload_2 = load32(r1);
-    common_ret_op = ((((r1_2_0_copyload == 2) ? (r1_3_0_copyload == 0) : 0) ? (r1_4_0_copyload == 0) : 0) ? (r1_6_0_copyload == r0_0_0_copyload_2) : 0) ? (r1_7_0_copyload == 0) : 0;
-dfu_slots_read_is_intact_exit:
-    r1_0_in = common_ret_op;
-join_3:
     return r1_0_in;
 }
 
-/* dfu_slots::read::byte_at::<#1e2975bbbe5176a9> */
+/* dfu_slots::read::byte_at::<#1e2975bbbe5176a9>: crates/dfu_slots/src/read.rt */
 static uint8_t dfu_slots_read_byte_at(unsigned char *a0, uint32_t a1) {
     _Alignas(4) unsigned char r1[1];
     *r1 = 0;
-    uint64_t r5_0_0_copyload = load64(a0);
+    size_t r5_0_0_copyload = (size_t)load64(a0);
     core_slice_edits_slice_T_copy_from_slice_i8_core_clone_U8Clone(r1, (unsigned char *)(uintptr_t)r5_0_0_copyload + (size_t)a1, 1);
     uint8_t r15 = *r1;
     return r15;
 }
 
-/* dfu_slots::read::header_of::<#1e2975bbbe5176a9> */
+/* dfu_slots::read::header_of::<#1e2975bbbe5176a9>: crates/dfu_slots/src/read.rt */
 static void dfu_slots_read_header_of(unsigned char *a0, unsigned char *a1, uint32_t a2) {
     _Alignas(1) unsigned char r1[16];
     memset(r1, 0, 16);
     uint8_t r0_0_0_copyload = a1[16];
     uint32_t r1_0_0_copyload = load32(a1 + 20);
     uint32_t switch_load = load32(PLACE(switch_table_dfu_slots_layout_gate_of) + 4 * (size_t)r0_0_0_copyload);
-    uint64_t r5_0_0_copyload = load64(a1);
+    size_t r5_0_0_copyload = (size_t)load64(a1);
     core_slice_edits_slice_T_copy_from_slice_i8_core_clone_U8Clone(r1, (unsigned char *)(uintptr_t)r5_0_0_copyload + (size_t)(umax32(r1_0_0_copyload, switch_load) + a2), 16);
     memcpy(a0, r1, 16);
     return;
 }
 
-/* dfu_slots::layout::capacity_of::<#1e2975bbbe5176a9> */
+/* dfu_slots::layout::capacity_of::<#1e2975bbbe5176a9>: crates/dfu_slots/src/layout.rt */
 static uint32_t dfu_slots_layout_capacity_of(unsigned char *a0) {
-    uint64_t r3 = load64(a0 + 8);
+    size_t r3 = (size_t)load64(a0 + 8);
     uint8_t r0_0_0_copyload = a0[16];
     uint32_t r1_0_0_copyload = load32(a0 + 20);
     uint32_t switch_load = load32(PLACE(switch_table_dfu_slots_layout_gate_of) + 4 * (size_t)r0_0_0_copyload);
     return ((uint32_t)r3 >> 1) - (umax32(r1_0_0_copyload, switch_load) << 1);
 }
 
-/* dfu_suffix::crc::Crc::update_small */
-static void dfu_suffix_crc_Crc_update_small(unsigned char *a0, unsigned char *a1, uint64_t a2) {
-    uint64_t r4_0;
+/* dfu_suffix::crc::Crc::update_small: crates/dfu_suffix/src/crc.rt */
+static void dfu_suffix_crc_Crc_update_small(unsigned char *a0, unsigned char *a1, size_t a2) {
+    size_t r4_0;
     uint32_t r3_0;
     uint32_t r5 = load32(a0);
     r4_0 = 0;
     r3_0 = r5;
-loop_3:
-    if (r4_0 == a2) goto dfu_suffix_small_after_bytes_exit;
-    uint8_t r23 = a1[(size_t)r4_0];
-    uint32_t r6 = r3_0 ^ (uint32_t)r23;
-    uint32_t r20 = load32(PLACE(static_1) + (size_t)((r6 << 2) & 60));
-    uint32_t r23_2 = (r6 >> 4) ^ r20;
-    uint32_t r20_2 = load32(PLACE(static_1) + (size_t)((r23_2 << 2) & 60));
-    r4_0 = r4_0 + 1;
-    r3_0 = (r23_2 >> 4) ^ r20_2;
-    goto loop_3;
-dfu_suffix_small_after_bytes_exit:
+    while (r4_0 != a2) {
+        uint8_t r23 = a1[r4_0];
+        uint32_t r6 = r3_0 ^ (uint32_t)r23;
+        uint32_t r20 = load32(PLACE(static_1) + (size_t)((r6 << 2) & 60));
+        uint32_t r23_2 = (r6 >> 4) ^ r20;
+        uint32_t r20_2 = load32(PLACE(static_1) + (size_t)((r23_2 << 2) & 60));
+        r4_0 = r4_0 + 1;
+        r3_0 = (r23_2 >> 4) ^ r20_2;
+    }
     store32(a0, r3_0);
     return;
 }
 
-/* dfu_slots::places::is_newest::<#1e2975bbbe5176a9> */
+/* dfu_slots::places::is_newest::<#1e2975bbbe5176a9>: crates/dfu_slots/src/places.rt */
 static uint8_t dfu_slots_places_is_newest(unsigned char *a0, uint32_t a1, uint32_t a2, uint8_t a3, uint8_t a4) {
     uint8_t r1_0_in;
-    if (!(a3 & a4)) {
-        r1_0_in = a3;
-        goto join_3;
+    if (!(a3 & a4)) r1_0_in = a3;
+    else {
+        uint8_t r13 = dfu_slots_read_generation(a0, a1);
+        uint8_t r14 = dfu_slots_read_generation(a0, a2);
+        r1_0_in = r13 == (uint8_t)(r14 + 1);
     }
-    uint8_t r13 = dfu_slots_read_generation(a0, a1);
-    uint8_t r14 = dfu_slots_read_generation(a0, a2);
-    r1_0_in = r13 == (uint8_t)(r14 + 1);
-join_3:
     return r1_0_in;
 }
 
-/* dfu_slots::read::generation::<#1e2975bbbe5176a9> */
+/* dfu_slots::read::generation::<#1e2975bbbe5176a9>: crates/dfu_slots/src/read.rt */
 static uint8_t dfu_slots_read_generation(unsigned char *a0, uint32_t a1) {
     uint8_t r0_0_0_copyload = a0[16];
     uint32_t r1_0_0_copyload = load32(a0 + 20);
@@ -712,69 +696,61 @@ static uint8_t dfu_slots_read_generation(unsigned char *a0, uint32_t a1) {
     return r7;
 }
 
-/* dfu_slots::layout::is_formed */
+/* dfu_slots::layout::is_formed: crates/dfu_slots/src/layout.rt */
 static uint8_t dfu_slots_layout_is_formed(unsigned char *a0, uint32_t a1) {
     uint8_t r1_0_in;
     uint32_t r17 = load32u(a0 + 4);
-    if (r17 > a1) {
-        r1_0_in = 0;
-        goto join_3;
+    if (r17 > a1) r1_0_in = 0;
+    else {
+        uint8_t r13 = a0[1];
+        if (r13 != 1) r1_0_in = 0;
+        else {
+            uint8_t r25 = a0[2];
+            if (r25 != 0) r1_0_in = 0;
+            else {
+                uint8_t r37 = a0[3];
+                if (r37 != 0) r1_0_in = 0;
+                else {
+                    uint32_t r17_2 = load32u(a0 + 8);
+                    if (r17_2 != 0) r1_0_in = 0;
+                    else {
+                        uint32_t r17_3 = load32u(a0 + 12);
+                        r1_0_in = r17_3 == 0;
+                    }
+                }
+            }
+        }
     }
-    uint8_t r13 = a0[1];
-    if (r13 != 1) {
-        r1_0_in = 0;
-        goto join_3;
-    }
-    uint8_t r25 = a0[2];
-    if (r25 != 0) {
-        r1_0_in = 0;
-        goto join_3;
-    }
-    uint8_t r37 = a0[3];
-    if (r37 != 0) {
-        r1_0_in = 0;
-        goto join_3;
-    }
-    uint32_t r17_2 = load32u(a0 + 8);
-    if (r17_2 != 0) {
-        r1_0_in = 0;
-        goto join_3;
-    }
-    uint32_t r17_3 = load32u(a0 + 12);
-    r1_0_in = r17_3 == 0;
-join_3:
     return r1_0_in;
 }
 
-/* dfu_boot::trial::marks::is_set::<#1e2975bbbe5176a9> */
+/* dfu_boot::trial::marks::is_set::<#1e2975bbbe5176a9>: crates/dfu_boot/src/trial/marks.rt */
 static uint8_t dfu_boot_trial_marks_is_set(unsigned char *a0, uint32_t a1, uint32_t a2) {
     _Alignas(1) unsigned char r1[256];
     unsigned char *r4_0_0_in;
-    uint64_t r23;
+    size_t r23;
     uint8_t r7_not_not_not_not_not_not_not_not_not_not_not_not_not;
     uint8_t r0_0_0_copyload = a0[16];
     uint32_t switch_load = load32(PLACE(switch_table_dfu_slots_layout_gate_of) + 4 * (size_t)r0_0_0_copyload);
     uint32_t r1_0_0_copyload = load32(a0 + 20);
-    uint64_t r11 = (uint64_t)switch_load;
+    size_t r11 = (size_t)switch_load;
     memset(r1, 0, 256);
-    uint64_t r5_0_0_copyload = load64(a0);
+    size_t r5_0_0_copyload = (size_t)load64(a0);
     core_slice_edits_slice_T_copy_from_slice_i8_core_clone_U8Clone(r1, (unsigned char *)(uintptr_t)r5_0_0_copyload + (size_t)(((switch_load + a1) + (switch_load * a2)) + umax32(r1_0_0_copyload, switch_load)), r11);
     r4_0_0_in = r1;
     r23 = r11;
-loop_2:
-    r7_not_not_not_not_not_not_not_not_not_not_not_not_not = r23 != 0;
-    if (!r7_not_not_not_not_not_not_not_not_not_not_not_not_not) goto dfu_boot_trial_marks_is_marked_exit;
-    uint8_t r2 = *r4_0_0_in;
-    if (r2 == 255) {
+    for (;;) {
+        r7_not_not_not_not_not_not_not_not_not_not_not_not_not = r23 != 0;
+        if (!r7_not_not_not_not_not_not_not_not_not_not_not_not_not) break;
+        uint8_t r2 = *r4_0_0_in;
+        if (r2 != 255) break;
         r4_0_0_in = r4_0_0_in + 1;
-        r23 = r23 + 0xffffffffffffffffULL;
-        goto loop_2;
+        r23 = r23 - 1;
     }
-dfu_boot_trial_marks_is_marked_exit:
     return r7_not_not_not_not_not_not_not_not_not_not_not_not_not;
 }
 
-/* dfu_slots::read::counts::<#513f0be27ee7ff3e> */
+/* dfu_slots::read::counts::<#513f0be27ee7ff3e>: crates/dfu_slots/src/read.rt */
 static uint8_t dfu_slots_read_counts_2(unsigned char *a0, uint32_t a1) {
     _Alignas(1) unsigned char r2_2[64];
     _Alignas(1) unsigned char r3_2[16];
@@ -784,54 +760,47 @@ static uint8_t dfu_slots_read_counts_2(unsigned char *a0, uint32_t a1) {
     uint32_t r1_5_0_copyload, r1_6_0_copyload, r1_7_0_copyload, r3_0;
     uint8_t common_ret_op, r1_0_in;
     uint8_t r2 = dfu_slots_read_byte_at_2(a0, a1);
-    if (r2 != 165) {
-        r1_0_in = 0;
-        goto join_3;
+    if (r2 != 165) r1_0_in = 0;
+    else {
+        dfu_slots_read_header_of_2(r3, a0, a1);
+        uint8_t r4_2_0_copyload = r3[1];
+        if (r4_2_0_copyload != 2) r1_0_in = 1;
+        else {
+            dfu_slots_read_header_of_2(r3_2, a0, a1);
+            r1_2_0_copyload = r3_2[1];
+            r1_3_0_copyload = r3_2[2];
+            r1_4_0_copyload = r3_2[3];
+            r1_5_0_copyload = load32u(r3_2 + 4);
+            r1_6_0_copyload = load32u(r3_2 + 8);
+            r1_7_0_copyload = load32u(r3_2 + 12);
+            uint32_t r10 = dfu_slots_layout_capacity_of_2(a0);
+            if (r10 < r1_5_0_copyload) common_ret_op = 0;
+            else {
+                store32(r1, 0xffffffffU);
+                memset(r2_2, 0, 64);
+                r3_0 = 0;
+                while (r3_0 < r1_5_0_copyload) {
+                    uint32_t a1_a0 = umin32(r1_5_0_copyload - r3_0, 64);
+                    size_t r28 = (size_t)a1_a0;
+                    size_t r2_wide = (size_t)load64(a0);
+                    unsigned char *r2_3 = (unsigned char *)(uintptr_t)r2_wide;
+                    uint8_t r0_0_0_copyload = r2_3[16];
+                    uint32_t r1_0_0_copyload = load32u(r2_3 + 20);
+                    uint32_t switch_load = load32(PLACE(switch_table_dfu_slots_layout_gate_of) + 4 * (size_t)r0_0_0_copyload);
+                    dfu_boot_trial_closed_ClosedMedium_read(a0, (r3_0 + a1) + (umax32(r1_0_0_copyload, switch_load) << 1), r2_2, r28);
+                    dfu_suffix_crc_Crc_update_small(r1, r2_2, r28);
+                    r3_0 = a1_a0 + r3_0;
+                }
+                uint32_t r0_0_0_copyload_2 = load32(r1);
+                common_ret_op = ((((r1_2_0_copyload == 2) ? (r1_3_0_copyload == 0) : 0) ? (r1_4_0_copyload == 0) : 0) ? (r1_6_0_copyload == r0_0_0_copyload_2) : 0) ? (r1_7_0_copyload == 0) : 0;
+            }
+            r1_0_in = common_ret_op;
+        }
     }
-    dfu_slots_read_header_of_2(r3, a0, a1);
-    uint8_t r4_2_0_copyload = r3[1];
-    if (r4_2_0_copyload != 2) {
-        r1_0_in = 1;
-        goto join_3;
-    }
-    dfu_slots_read_header_of_2(r3_2, a0, a1);
-    r1_2_0_copyload = r3_2[1];
-    r1_3_0_copyload = r3_2[2];
-    r1_4_0_copyload = r3_2[3];
-    r1_5_0_copyload = load32u(r3_2 + 4);
-    r1_6_0_copyload = load32u(r3_2 + 8);
-    r1_7_0_copyload = load32u(r3_2 + 12);
-    uint32_t r10 = dfu_slots_layout_capacity_of_2(a0);
-    if (r10 < r1_5_0_copyload) {
-        common_ret_op = 0;
-        goto dfu_slots_read_is_intact_exit;
-    }
-    store32(r1, 0xffffffffU);
-    memset(r2_2, 0, 64);
-    r3_0 = 0;
-loop_2:
-    if (r3_0 >= r1_5_0_copyload) goto dfu_slots_register_register_of_exit;
-    uint32_t a1_a0 = umin32(r1_5_0_copyload - r3_0, 64);
-    uint64_t r28 = (uint64_t)a1_a0;
-    uint64_t r2_wide = load64(a0);
-    unsigned char *r2_3 = (unsigned char *)(uintptr_t)r2_wide;
-    uint8_t r0_0_0_copyload = r2_3[16];
-    uint32_t r1_0_0_copyload = load32u(r2_3 + 20);
-    uint32_t switch_load = load32(PLACE(switch_table_dfu_slots_layout_gate_of) + 4 * (size_t)r0_0_0_copyload);
-    dfu_boot_trial_closed_ClosedMedium_read(a0, (r3_0 + a1) + (umax32(r1_0_0_copyload, switch_load) << 1), r2_2, r28);
-    dfu_suffix_crc_Crc_update_small(r1, r2_2, r28);
-    r3_0 = a1_a0 + r3_0;
-    goto loop_2;
-dfu_slots_register_register_of_exit:;
-    uint32_t r0_0_0_copyload_2 = load32(r1);
-    common_ret_op = ((((r1_2_0_copyload == 2) ? (r1_3_0_copyload == 0) : 0) ? (r1_4_0_copyload == 0) : 0) ? (r1_6_0_copyload == r0_0_0_copyload_2) : 0) ? (r1_7_0_copyload == 0) : 0;
-dfu_slots_read_is_intact_exit:
-    r1_0_in = common_ret_op;
-join_3:
     return r1_0_in;
 }
 
-/* dfu_slots::read::byte_at::<#513f0be27ee7ff3e> */
+/* dfu_slots::read::byte_at::<#513f0be27ee7ff3e>: crates/dfu_slots/src/read.rt */
 static uint8_t dfu_slots_read_byte_at_2(unsigned char *a0, uint32_t a1) {
     _Alignas(4) unsigned char r1[1];
     *r1 = 0;
@@ -840,26 +809,26 @@ static uint8_t dfu_slots_read_byte_at_2(unsigned char *a0, uint32_t a1) {
     return r15;
 }
 
-/* dfu_boot::trial::closed::ClosedMedium::read::<#1e2975bbbe5176a9> */
-static void dfu_boot_trial_closed_ClosedMedium_read(unsigned char *a0, uint32_t a1, unsigned char *a2, uint64_t a3) {
+/* dfu_boot::trial::closed::ClosedMedium::read::<#1e2975bbbe5176a9>: crates/dfu_boot/src/trial/closed.rt */
+static void dfu_boot_trial_closed_ClosedMedium_read(unsigned char *a0, uint32_t a1, unsigned char *a2, size_t a3) {
     uint32_t r29;
-    uint64_t r40;
-    uint64_t r18_wide = load64(a0);
-    uint64_t r5_0_0_copyload = load64u((unsigned char *)(uintptr_t)r18_wide);
+    size_t r40;
+    size_t r18_wide = (size_t)load64(a0);
+    size_t r5_0_0_copyload = (size_t)load64u((unsigned char *)(uintptr_t)r18_wide);
     core_slice_edits_slice_T_copy_from_slice_i8_core_clone_U8Clone(a2, (unsigned char *)(uintptr_t)r5_0_0_copyload + (size_t)a1, a3);
     r29 = load32(a0 + 8);
     if (a1 > r29) return;
-    r40 = (uint64_t)(r29 - a1);
+    r40 = (size_t)(r29 - a1);
     if (a3 <= r40) return;
-    a2[(size_t)r40] = 0;
+    a2[r40] = 0;
     return;
 }
 
-/* dfu_slots::read::header_of::<#513f0be27ee7ff3e> */
+/* dfu_slots::read::header_of::<#513f0be27ee7ff3e>: crates/dfu_slots/src/read.rt */
 static void dfu_slots_read_header_of_2(unsigned char *a0, unsigned char *a1, uint32_t a2) {
     _Alignas(1) unsigned char r1[16];
     memset(r1, 0, 16);
-    uint64_t r2_wide = load64(a1);
+    size_t r2_wide = (size_t)load64(a1);
     unsigned char *r2 = (unsigned char *)(uintptr_t)r2_wide;
     uint8_t r0_0_0_copyload = r2[16];
     uint32_t r1_0_0_copyload = load32u(r2 + 20);
@@ -869,34 +838,32 @@ static void dfu_slots_read_header_of_2(unsigned char *a0, unsigned char *a1, uin
     return;
 }
 
-/* dfu_slots::layout::capacity_of::<#513f0be27ee7ff3e> */
+/* dfu_slots::layout::capacity_of::<#513f0be27ee7ff3e>: crates/dfu_slots/src/layout.rt */
 static uint32_t dfu_slots_layout_capacity_of_2(unsigned char *a0) {
-    uint64_t r2_wide = load64(a0);
+    size_t r2_wide = (size_t)load64(a0);
     unsigned char *r2 = (unsigned char *)(uintptr_t)r2_wide;
-    uint64_t r3 = load64(r2 + 8);
+    size_t r3 = (size_t)load64(r2 + 8);
     uint8_t r0_0_0_copyload = r2[16];
     uint32_t r1_0_0_copyload = load32(r2 + 20);
     uint32_t switch_load = load32(PLACE(switch_table_dfu_slots_layout_gate_of) + 4 * (size_t)r0_0_0_copyload);
     return ((uint32_t)r3 >> 1) - (umax32(r1_0_0_copyload, switch_load) << 1);
 }
 
-/* dfu_slots::places::is_newest::<#513f0be27ee7ff3e> */
+/* dfu_slots::places::is_newest::<#513f0be27ee7ff3e>: crates/dfu_slots/src/places.rt */
 static uint8_t dfu_slots_places_is_newest_2(unsigned char *a0, uint32_t a1, uint32_t a2, uint8_t a3, uint8_t a4) {
     uint8_t r1_0_in;
-    if (!(a3 & a4)) {
-        r1_0_in = a3;
-        goto join_3;
+    if (!(a3 & a4)) r1_0_in = a3;
+    else {
+        uint8_t r13 = dfu_slots_read_generation_2(a0, a1);
+        uint8_t r14 = dfu_slots_read_generation_2(a0, a2);
+        r1_0_in = r13 == (uint8_t)(r14 + 1);
     }
-    uint8_t r13 = dfu_slots_read_generation_2(a0, a1);
-    uint8_t r14 = dfu_slots_read_generation_2(a0, a2);
-    r1_0_in = r13 == (uint8_t)(r14 + 1);
-join_3:
     return r1_0_in;
 }
 
-/* dfu_slots::read::generation::<#513f0be27ee7ff3e> */
+/* dfu_slots::read::generation::<#513f0be27ee7ff3e>: crates/dfu_slots/src/read.rt */
 static uint8_t dfu_slots_read_generation_2(unsigned char *a0, uint32_t a1) {
-    uint64_t r2_wide = load64(a0);
+    size_t r2_wide = (size_t)load64(a0);
     unsigned char *r2 = (unsigned char *)(uintptr_t)r2_wide;
     uint8_t r0_0_0_copyload = r2[16];
     uint32_t r1_0_0_copyload = load32u(r2 + 20);
@@ -905,37 +872,36 @@ static uint8_t dfu_slots_read_generation_2(unsigned char *a0, uint32_t a1) {
     return r7;
 }
 
-/* dfu_boot_c::trial::told::tell */
+/* dfu_boot_c::trial::told::tell: crates/dfu_boot_c/src/trial/told.rt */
 static uint32_t dfu_boot_c_trial_told_tell(unsigned char *a0, uint32_t a1, unsigned char *a2) {
     uint32_t r1_5_8_copyload, r1_8_12_copyload, r15_0;
     unsigned char *r17_3_0_a2_sroa_idx, *r17_4_0_a2_sroa_idx;
     uint8_t r2 = *a0;
     r1_5_8_copyload = load32(a0 + 8);
     r1_8_12_copyload = load32(a0 + 12);
-    if (r2 == 0) {
-        r15_0 = 0;
-        goto join_4;
+    if (r2 == 0) r15_0 = 0;
+    else {
+        uint8_t r6 = a0[4];
+        r17_3_0_a2_sroa_idx = a2 + 4;
+        r17_4_0_a2_sroa_idx = a2 + 8;
+        if (r6 != 0) {
+            store32(a2, 1);
+            store32(r17_3_0_a2_sroa_idx, r1_5_8_copyload);
+            store32(r17_4_0_a2_sroa_idx, a1);
+            r15_0 = 0xfffffff5U;
+        }
+        else {
+            store32(a2, 2);
+            store32(r17_3_0_a2_sroa_idx, r1_5_8_copyload);
+            store32(r17_4_0_a2_sroa_idx, r1_8_12_copyload);
+            memset(a2 + 12, 0, 256);
+            r15_0 = 0xfffffff5U;
+        }
     }
-    uint8_t r6 = a0[4];
-    r17_3_0_a2_sroa_idx = a2 + 4;
-    r17_4_0_a2_sroa_idx = a2 + 8;
-    if (r6 != 0) goto arm_6;
-    store32(a2, 2);
-    store32(r17_3_0_a2_sroa_idx, r1_5_8_copyload);
-    store32(r17_4_0_a2_sroa_idx, r1_8_12_copyload);
-    memset(a2 + 12, 0, 256);
-    r15_0 = 0xfffffff5U;
-    goto join_4;
-arm_6:
-    store32(a2, 1);
-    store32(r17_3_0_a2_sroa_idx, r1_5_8_copyload);
-    store32(r17_4_0_a2_sroa_idx, a1);
-    r15_0 = 0xfffffff5U;
-join_4:
     return r15_0;
 }
 
-/* dfu_boot_c::trial::told::image_in::<#1e2975bbbe5176a9> */
+/* dfu_boot_c::trial::told::image_in::<#1e2975bbbe5176a9>: crates/dfu_boot_c/src/trial/told.rt */
 static struct i32_i32 dfu_boot_c_trial_told_image_in(unsigned char *a0, uint32_t a1) {
     _Alignas(1) unsigned char r3[16];
     uint8_t r0_0_0_copyload = a0[16];
@@ -950,203 +916,191 @@ static struct i32_i32 dfu_boot_c_trial_told_image_in(unsigned char *a0, uint32_t
     return r12;
 }
 
-/* dfu_core_trial_runs */
+/* dfu_core_trial_runs: crates/dfu_boot_c/src/trial/calls.rt */
 int32_t dfu_core_trial_runs(const uint8_t *flash, size_t size, const struct dfu_ask *ask, const struct dfu_starting *starting, struct dfu_place *place) {
     unsigned char *a0 = (unsigned char *)(uintptr_t)flash;
-    uint64_t a1 = size;
+    size_t a1 = (size_t)size;
     unsigned char *a2 = (unsigned char *)(uintptr_t)ask;
     unsigned char *a3 = (unsigned char *)(uintptr_t)starting;
     unsigned char *a4 = (unsigned char *)(uintptr_t)place;
     unsigned char *r4, *r4_0_0_in, *r3_0_0_in;
-    uint64_t r18, r22, r4_4_0;
-    r4 = (unsigned char *)((uintptr_t)a0 + (uintptr_t)(uint64_t)((a0 == NULL) ? 4096 : 0));
+    size_t r18, r22, r4_4_0;
+    r4 = (unsigned char *)((uintptr_t)a0 + (uintptr_t)(size_t)((a0 == NULL) ? 4096 : 0));
     uint32_t r8 = load32(a2);
-    if (r8 != 2) {
-        r3_0_0_in = a3;
-        goto dfu_boot_c_trial_calls_dfu_core_trial_runs_exit;
+    if (r8 != 2) r3_0_0_in = a3;
+    else {
+        uint32_t r16 = load32(a2 + 4);
+        r18 = (size_t)r16;
+        uint32_t r20 = load32(a2 + 8);
+        r22 = (size_t)r20;
+        if (((uint64_t)r22 + (uint64_t)r18) <= (uint64_t)a1) {
+            r4_0_0_in = r4 + r18;
+            r4_4_0 = r22;
+            while (r4_4_0 != 0) {
+                uint8_t r2 = *r4_0_0_in;
+                if (r2 != 255) {
+                    r3_0_0_in = a3;
+                    goto dfu_boot_c_trial_calls_dfu_core_trial_runs_exit;
+                }
+                r4_0_0_in = r4_0_0_in + 1;
+                r4_4_0 = r4_4_0 - 1;
+            }
+        }
+        r3_0_0_in = a3 + 8;
     }
-    uint32_t r16 = load32(a2 + 4);
-    r18 = (uint64_t)r16;
-    uint32_t r20 = load32(a2 + 8);
-    r22 = (uint64_t)r20;
-    if ((r22 + r18) > a1) goto dfu_boot_c_trial_calls_is_there_exit_thread;
-    r4_0_0_in = r4 + (size_t)r18;
-    r4_4_0 = r22;
-loop_2:
-    if (r4_4_0 == 0) goto dfu_boot_c_trial_calls_is_there_exit_thread;
-    uint8_t r2 = *r4_0_0_in;
-    if (r2 == 255) {
-        r4_0_0_in = r4_0_0_in + 1;
-        r4_4_0 = r4_4_0 + 0xffffffffffffffffULL;
-        goto loop_2;
-    }
-    r3_0_0_in = a3;
-    goto dfu_boot_c_trial_calls_dfu_core_trial_runs_exit;
-dfu_boot_c_trial_calls_is_there_exit_thread:
-    r3_0_0_in = a3 + 8;
 dfu_boot_c_trial_calls_dfu_core_trial_runs_exit:;
     uint64_t r3_0_0 = load64a4(r3_0_0_in);
     store64a4(a4, r3_0_0);
     return signed32(0);
 }
 
-/* dfu_core_install_took */
+/* dfu_core_install_took: crates/dfu_boot_c/src/install/calls.rt */
 int32_t dfu_core_install_took(struct dfu_run_area *area, const uint8_t *image, size_t length, const uint8_t *run, size_t size, const struct dfu_ask *ask, uint32_t failed) {
     unsigned char *a0 = (unsigned char *)(uintptr_t)area;
     unsigned char *a1 = (unsigned char *)(uintptr_t)image;
-    uint64_t a2 = length;
+    size_t a2 = (size_t)length;
     unsigned char *a3 = (unsigned char *)(uintptr_t)run;
-    uint64_t a4 = size;
+    size_t a4 = (size_t)size;
     unsigned char *a5 = (unsigned char *)(uintptr_t)ask;
     uint32_t a6 = failed;
     unsigned char *r4, *r13;
     uint32_t r10, r1_61_0, r0_0_0_0_off0;
     uint8_t r1_0_0;
     uint64_t r18;
-    r4 = (unsigned char *)((uintptr_t)a1 + (uintptr_t)(uint64_t)((a1 == NULL) ? 4096 : 0));
-    r13 = (unsigned char *)((uintptr_t)a3 + (uintptr_t)(uint64_t)((a3 == NULL) ? 4096 : 0));
+    r4 = (unsigned char *)((uintptr_t)a1 + (uintptr_t)(size_t)((a1 == NULL) ? 4096 : 0));
+    r13 = (unsigned char *)((uintptr_t)a3 + (uintptr_t)(size_t)((a3 == NULL) ? 4096 : 0));
     r10 = load32(a0);
     uint32_t r4_2 = load32(a5);
     switch (r4_2) {
-    case 1: goto arm_1;
-    case 2: goto arm_2;
+    case 1: {
+        uint32_t r6 = load32(a5 + 4);
+        r1_0_0 = 1;
+        r1_61_0 = r6;
+        break;
+    }
+    case 2: {
+        uint32_t r10_2 = load32(a5 + 4);
+        r1_0_0 = 2;
+        r1_61_0 = r10_2;
+        break;
+    }
     default:
         r1_0_0 = 3;
         r1_61_0 = 0;
-        goto dfu_boot_c_install_numbers_due_of_exit;
+        break;
     }
-arm_1:;
-    uint32_t r6 = load32(a5 + 4);
-    r1_0_0 = 1;
-    r1_61_0 = r6;
-    goto dfu_boot_c_install_numbers_due_of_exit;
-arm_2:;
-    uint32_t r10_2 = load32(a5 + 4);
-    r1_0_0 = 2;
-    r1_61_0 = r10_2;
-dfu_boot_c_install_numbers_due_of_exit:
-    if (a6 != 0) {
-        r0_0_0_0_off0 = 0xffffffffU;
-        goto dfu_boot_c_install_calls_dfu_core_install_took_exit;
+    if (a6 != 0) r0_0_0_0_off0 = 0xffffffffU;
+    else {
+        uint8_t r25 = dfu_boot_install_area_is_run_area(a4, r10);
+        if (!r25) r0_0_0_0_off0 = 0xffffffffU;
+        else {
+            switch (r1_0_0) {
+            case 1:
+                if (((uint64_t)(size_t)r1_61_0 + (uint64_t)(size_t)r10) <= (uint64_t)a4) {
+                    uint8_t r29 = dfu_boot_install_area_are_blank(r13, r1_61_0, r1_61_0 + r10);
+                    if (r29) {
+                        r0_0_0_0_off0 = r1_61_0;
+                        goto dfu_boot_c_install_calls_dfu_core_install_took_exit;
+                    }
+                }
+                break;
+            case 2:
+                r18 = (uint64_t)(size_t)r1_61_0 + 256;
+                if ((uint64_t)a4 >= r18) {
+                    struct i8_i32 r46 = dfu_boot_install_compare_first_difference(r4, r13, r1_61_0, (uint32_t)(size_t)umin64(a2, r18));
+                    if (r46.a != 1) {
+                        r0_0_0_0_off0 = r1_61_0;
+                        goto dfu_boot_c_install_calls_dfu_core_install_took_exit;
+                    }
+                }
+                break;
+            case 3: break;
+            default: never();
+            }
+            r0_0_0_0_off0 = 0xffffffffU;
+        }
     }
-    uint8_t r25 = dfu_boot_install_area_is_run_area(a4, r10);
-    if (!r25) {
-        r0_0_0_0_off0 = 0xffffffffU;
-        goto dfu_boot_c_install_calls_dfu_core_install_took_exit;
-    }
-    switch (r1_0_0) {
-    case 1: goto arm_14;
-    case 2: goto arm_15;
-    case 3: goto after_13;
-    default: never();
-    }
-arm_14:
-    if (((uint64_t)r1_61_0 + (uint64_t)r10) > a4) goto after_13;
-    uint8_t r29 = dfu_boot_install_area_are_blank(r13, r1_61_0, r1_61_0 + r10);
-    if (r29) {
-        r0_0_0_0_off0 = r1_61_0;
-        goto dfu_boot_c_install_calls_dfu_core_install_took_exit;
-    }
-    goto after_13;
-arm_15:
-    r18 = (uint64_t)r1_61_0 + 256;
-    if (a4 < r18) goto after_13;
-    struct i8_i32 r46 = dfu_boot_install_compare_first_difference(r4, r13, r1_61_0, (uint32_t)umin64(a2, r18));
-    if (r46.a != 1) {
-        r0_0_0_0_off0 = r1_61_0;
-        goto dfu_boot_c_install_calls_dfu_core_install_took_exit;
-    }
-after_13:
-    r0_0_0_0_off0 = 0xffffffffU;
-    goto dfu_boot_c_install_calls_dfu_core_install_took_exit;
 dfu_boot_c_install_calls_dfu_core_install_took_exit:
     store32(a0 + 4, r0_0_0_0_off0);
     return signed32(0);
 }
 
-/* dfu_core_install_next */
+/* dfu_core_install_next: crates/dfu_boot_c/src/install/calls.rt */
 int32_t dfu_core_install_next(const struct dfu_run_area *area, const uint8_t *image, size_t length, const uint8_t *run, size_t size, struct dfu_ask *ask) {
     unsigned char *a0 = (unsigned char *)(uintptr_t)area;
     unsigned char *a1 = (unsigned char *)(uintptr_t)image;
-    uint64_t a2 = length;
+    size_t a2 = (size_t)length;
     unsigned char *a3 = (unsigned char *)(uintptr_t)run;
-    uint64_t a4 = size;
+    size_t a4 = (size_t)size;
     unsigned char *a5 = (unsigned char *)(uintptr_t)ask;
     unsigned char *r4, *r13;
     uint32_t r10, r12, a0_2, r7_0, r9_4_0, r16_2, r11_0;
     uint8_t r3, r24;
     struct i8_i32 r21_pn;
-    r4 = (unsigned char *)((uintptr_t)a1 + (uintptr_t)(uint64_t)((a1 == NULL) ? 4096 : 0));
-    r13 = (unsigned char *)((uintptr_t)a3 + (uintptr_t)(uint64_t)((a3 == NULL) ? 4096 : 0));
+    r4 = (unsigned char *)((uintptr_t)a1 + (uintptr_t)(size_t)((a1 == NULL) ? 4096 : 0));
+    r13 = (unsigned char *)((uintptr_t)a3 + (uintptr_t)(size_t)((a3 == NULL) ? 4096 : 0));
     r10 = load32(a0);
     r12 = load32(a0 + 4);
     r3 = r12 != 0xffffffffU;
     a0_2 = (uint32_t)(r3 ? r12 : 0);
     uint8_t r23 = dfu_boot_install_area_is_run_area(a4, r10);
-    if (!r23) {
-        r11_0 = 0xfffffffaU;
-        goto dfu_boot_c_install_calls_dfu_core_install_next_exit;
+    if (!r23) r11_0 = 0xfffffffaU;
+    else {
+        if (a2 == 0) r11_0 = 0xfffffff1U;
+        else {
+            if (a4 < a2) r11_0 = 0xfffffff9U;
+            else {
+                uint32_t r16 = (uint32_t)a2;
+                r7_0 = (uint32_t)(r3 ? umin32(r16, a0_2) : 0);
+                struct i8_i32 r21 = dfu_boot_install_compare_first_difference(r4, r13, r7_0, r16);
+                if (r21.a == 1) r21_pn = r21;
+                else {
+                    struct i8_i32 r37 = dfu_boot_install_compare_first_difference(r4, r13, 0, r7_0);
+                    if (r37.a != 1) {
+                        r11_0 = 0;
+                        goto dfu_boot_c_install_calls_dfu_core_install_next_exit;
+                    }
+                    r21_pn = r37;
+                }
+                r9_4_0 = r21_pn.b;
+                r16_2 = r9_4_0 & 0xffffff00U;
+                r24 = r10 == 0;
+                if (!(r3 ? (a0_2 <= r16_2) : 0)) {
+                    if (r24) trap();
+                }
+                else {
+                    if (r24) trap();
+                    if ((r12 - (r12 % r10)) == (r16_2 - (r16_2 % r10))) {
+                        uint8_t r47 = dfu_boot_install_area_are_blank(r13, r16_2, r16_2 + 256);
+                        if (r47) {
+                            store32(a5, 2);
+                            store32(a5 + 4, r16_2);
+                            store32(a5 + 8, 256);
+                            unsigned char *r27 = a5 + 12;
+                            size_t a1_a0 = umin_size(a2, (size_t)r16_2);
+                            memset(r27, 255, 256);
+                            core_slice_edits_slice_T_copy_from_slice_i8_core_clone_U8Clone(r27, r4 + a1_a0, umin_size(a2 - a1_a0, 256));
+                            r11_0 = 0xfffffff5U;
+                            goto dfu_boot_c_install_calls_dfu_core_install_next_exit;
+                        }
+                    }
+                }
+                store32(a5, 1);
+                store32(a5 + 4, r9_4_0 - (r9_4_0 % r10));
+                store32(a5 + 8, r10);
+                r11_0 = 0xfffffff5U;
+            }
+        }
     }
-    if (a2 == 0) {
-        r11_0 = 0xfffffff1U;
-        goto dfu_boot_c_install_calls_dfu_core_install_next_exit;
-    }
-    if (a4 < a2) {
-        r11_0 = 0xfffffff9U;
-        goto dfu_boot_c_install_calls_dfu_core_install_next_exit;
-    }
-    uint32_t r16 = (uint32_t)a2;
-    r7_0 = (uint32_t)(r3 ? umin32(r16, a0_2) : 0);
-    struct i8_i32 r21 = dfu_boot_install_compare_first_difference(r4, r13, r7_0, r16);
-    if (r21.a == 1) {
-        r21_pn = r21;
-        goto arm_10;
-    }
-    struct i8_i32 r37 = dfu_boot_install_compare_first_difference(r4, r13, 0, r7_0);
-    if (r37.a != 1) {
-        r11_0 = 0;
-        goto dfu_boot_c_install_calls_dfu_core_install_next_exit;
-    }
-    r21_pn = r37;
-arm_10:
-    r9_4_0 = r21_pn.b;
-    r16_2 = r9_4_0 & 0xffffff00U;
-    r24 = r10 == 0;
-    if (!(r3 ? (a0_2 <= r16_2) : 0)) goto else_2;
-    if (r24) trap();
-    if ((r12 - (r12 % r10)) == (r16_2 - (r16_2 % r10))) goto dfu_boot_install_deciding_may_program_exit;
-    goto arm_3;
-dfu_boot_install_deciding_may_program_exit:;
-    uint8_t r47 = dfu_boot_install_area_are_blank(r13, r16_2, r16_2 + 256);
-    if (r47) goto arm_4;
-    goto arm_3;
-else_2:
-    if (!r24) goto arm_3;
-    trap();
-arm_3:
-    store32(a5, 1);
-    store32(a5 + 4, r9_4_0 - (r9_4_0 % r10));
-    store32(a5 + 8, r10);
-    r11_0 = 0xfffffff5U;
-    goto dfu_boot_c_install_calls_dfu_core_install_next_exit;
-arm_4:
-    store32(a5, 2);
-    store32(a5 + 4, r16_2);
-    store32(a5 + 8, 256);
-    unsigned char *r27 = a5 + 12;
-    uint64_t a1_a0 = umin64(a2, (uint64_t)r16_2);
-    memset(r27, 255, 256);
-    core_slice_edits_slice_T_copy_from_slice_i8_core_clone_U8Clone(r27, r4 + (size_t)a1_a0, umin64(a2 - a1_a0, 256));
-    r11_0 = 0xfffffff5U;
 dfu_boot_c_install_calls_dfu_core_install_next_exit:
     return signed32(r11_0);
 }
 
-/* dfu_core_trial_confirm */
+/* dfu_core_trial_confirm: crates/dfu_boot_c/src/trial/calls.rt */
 int32_t dfu_core_trial_confirm(const struct dfu_tries *tries, const uint8_t *flash, size_t size, uint32_t at, struct dfu_ask *ask) {
     unsigned char *a0 = (unsigned char *)(uintptr_t)tries;
     unsigned char *a1 = (unsigned char *)(uintptr_t)flash;
-    uint64_t a2 = size;
+    size_t a2 = (size_t)size;
     uint32_t a3 = at;
     unsigned char *a4 = (unsigned char *)(uintptr_t)ask;
     _Alignas(8) unsigned char r6[48];
@@ -1154,188 +1108,185 @@ int32_t dfu_core_trial_confirm(const struct dfu_tries *tries, const uint8_t *fla
     uint32_t r3_12_28_copyload, r3_14_28_copyload, switch_load, a0_a1, r5, r7_0;
     uint8_t r18_not;
     memset(r6, 0, 48);
-    dfu_boot_c_trial_flash_looked(r6, a0, (unsigned char *)((uintptr_t)a1 + (uintptr_t)(uint64_t)((a1 == NULL) ? 4096 : 0)), a2);
+    dfu_boot_c_trial_flash_looked(r6, a0, (unsigned char *)((uintptr_t)a1 + (uintptr_t)(size_t)((a1 == NULL) ? 4096 : 0)), a2);
     uint8_t r19 = *r6;
-    if (r19 != 0) goto arm_2;
-    uint8_t r3_3_0_copyload = r6[24];
-    uint32_t r3_725_0_copyload = load32(r6 + 28);
-    uint8_t r23 = r6[32];
-    r3_12_28_copyload = load32(r6 + 36);
-    r3_14_28_copyload = load32(r6 + 40);
-    switch_load = load32(PLACE(switch_table_dfu_slots_layout_gate_of) + 4 * (size_t)r3_3_0_copyload);
-    a0_a1 = umax32(r3_725_0_copyload, switch_load);
-    r5 = a0_a1 << 1;
-    r18_not = a3 == (r5 + r3_12_28_copyload);
-    if (r23 != 0) goto arm_2_2;
-    if (!r18_not) goto arm_7;
-    if (r3_14_28_copyload & 1) {
-        r7_0 = 0;
-        goto dfu_boot_c_trial_calls_dfu_core_trial_confirm_exit;
+    if (r19 != 0) {
+        uint8_t r5_0_0_copyload = r6[1];
+        switch (r5_0_0_copyload) {
+        case 0:
+            r7_0 = 0xfffffffeU;
+            break;
+        case 1: {
+            uint8_t r5_3_1_copyload = r6[2];
+            r7_0 = (uint32_t)0xfffffff0U - (uint32_t)r5_3_1_copyload;
+            break;
+        }
+        case 2:
+            r7_0 = 0xfffffffdU;
+            break;
+        default: never();
+        }
     }
-    goto arm_5;
-arm_2_2:
-    if (r18_not) goto arm_5;
-    if (a3 == (r5 + r3_14_28_copyload)) {
-        r7_0 = 0;
+    else {
+        uint8_t r3_3_0_copyload = r6[24];
+        uint32_t r3_725_0_copyload = load32(r6 + 28);
+        uint8_t r23 = r6[32];
+        r3_12_28_copyload = load32(r6 + 36);
+        r3_14_28_copyload = load32(r6 + 40);
+        switch_load = load32(PLACE(switch_table_dfu_slots_layout_gate_of) + 4 * (size_t)r3_3_0_copyload);
+        a0_a1 = umax32(r3_725_0_copyload, switch_load);
+        r5 = a0_a1 << 1;
+        r18_not = a3 == (r5 + r3_12_28_copyload);
+        if (r23 == 0) {
+            if (!r18_not) goto arm_7;
+            if (r3_14_28_copyload & 1) {
+                r7_0 = 0;
+                goto dfu_boot_c_trial_calls_dfu_core_trial_confirm_exit;
+            }
+        }
+        else {
+            if (!r18_not) {
+                if (a3 != (r5 + r3_14_28_copyload)) goto arm_7;
+                r7_0 = 0;
+                goto dfu_boot_c_trial_calls_dfu_core_trial_confirm_exit;
+            }
+        }
+        store32(r13, 1);
+        store32(r13 + 4, 0);
+        store32(r13 + 8, (switch_load + r3_12_28_copyload) + a0_a1);
+        store32(r13 + 12, switch_load);
+        uint32_t r52 = load32(a0 + 4);
+        uint32_t r55 = dfu_boot_c_trial_told_tell(r13, r52, a4);
+        r7_0 = r55;
         goto dfu_boot_c_trial_calls_dfu_core_trial_confirm_exit;
-    }
-    goto arm_7;
-arm_5:
-    store32(r13, 1);
-    store32(r13 + 4, 0);
-    store32(r13 + 8, (switch_load + r3_12_28_copyload) + a0_a1);
-    store32(r13 + 12, switch_load);
-    uint32_t r52 = load32(a0 + 4);
-    uint32_t r55 = dfu_boot_c_trial_told_tell(r13, r52, a4);
-    r7_0 = r55;
-    goto dfu_boot_c_trial_calls_dfu_core_trial_confirm_exit;
 arm_7:
-    r7_0 = 0xffffffedU;
-    goto dfu_boot_c_trial_calls_dfu_core_trial_confirm_exit;
-arm_2:;
-    uint8_t r5_0_0_copyload = r6[1];
-    switch (r5_0_0_copyload) {
-    case 0:
-        r7_0 = 0xfffffffeU;
-        goto dfu_boot_c_trial_calls_dfu_core_trial_confirm_exit;
-    case 1: goto switch_lookup;
-    case 2: goto arm_3;
-    default: never();
+        r7_0 = 0xffffffedU;
     }
-arm_3:
-    r7_0 = 0xfffffffdU;
-    goto dfu_boot_c_trial_calls_dfu_core_trial_confirm_exit;
-switch_lookup:;
-    uint8_t r5_3_1_copyload = r6[2];
-    r7_0 = (uint32_t)0xfffffff0U - (uint32_t)r5_3_1_copyload;
-    goto dfu_boot_c_trial_calls_dfu_core_trial_confirm_exit;
 dfu_boot_c_trial_calls_dfu_core_trial_confirm_exit:
     return signed32(r7_0);
 }
 
-/* dfu_core_trial_end */
+/* dfu_core_trial_end: crates/dfu_boot_c/src/trial/calls.rt */
 int32_t dfu_core_trial_end(const struct dfu_tries *tries, const uint8_t *flash, size_t size, struct dfu_ask *ask) {
     unsigned char *a0 = (unsigned char *)(uintptr_t)tries;
     unsigned char *a1 = (unsigned char *)(uintptr_t)flash;
-    uint64_t a2 = size;
+    size_t a2 = (size_t)size;
     unsigned char *a3 = (unsigned char *)(uintptr_t)ask;
     _Alignas(8) unsigned char r5[48];
     _Alignas(4) unsigned char r7[16];
     uint32_t r6_0;
     memset(r5, 0, 48);
-    dfu_boot_c_trial_flash_looked(r5, a0, (unsigned char *)((uintptr_t)a1 + (uintptr_t)(uint64_t)((a1 == NULL) ? 4096 : 0)), a2);
+    dfu_boot_c_trial_flash_looked(r5, a0, (unsigned char *)((uintptr_t)a1 + (uintptr_t)(size_t)((a1 == NULL) ? 4096 : 0)), a2);
     uint8_t r16 = *r5;
-    if (r16 != 0) goto arm_2;
-    uint8_t r20 = r5[32];
-    uint32_t r21 = (uint32_t)r20;
-    uint32_t r3_4_28_copyload = load32(r5 + 36);
-    store32(r7, r21);
-    store32(r7 + 4, r21);
-    store32(r7 + 8, (uint32_t)((r20 == 0) ? 0 : r3_4_28_copyload));
-    store32(r7 + 12, 0);
-    uint32_t r34 = load32(a0 + 4);
-    uint32_t r37 = dfu_boot_c_trial_told_tell(r7, r34, a3);
-    r6_0 = r37;
-    goto dfu_boot_c_trial_calls_dfu_core_trial_end_exit;
-arm_2:;
-    uint8_t r4_0_0_copyload = r5[1];
-    switch (r4_0_0_copyload) {
-    case 0:
-        r6_0 = 0xfffffffeU;
-        goto dfu_boot_c_trial_calls_dfu_core_trial_end_exit;
-    case 1: goto switch_lookup;
-    case 2: goto arm_3;
-    default: never();
+    if (r16 == 0) {
+        uint8_t r20 = r5[32];
+        uint32_t r21 = (uint32_t)r20;
+        uint32_t r3_4_28_copyload = load32(r5 + 36);
+        store32(r7, r21);
+        store32(r7 + 4, r21);
+        store32(r7 + 8, (uint32_t)((r20 == 0) ? 0 : r3_4_28_copyload));
+        store32(r7 + 12, 0);
+        uint32_t r34 = load32(a0 + 4);
+        uint32_t r37 = dfu_boot_c_trial_told_tell(r7, r34, a3);
+        r6_0 = r37;
     }
-arm_3:
-    r6_0 = 0xfffffffdU;
-    goto dfu_boot_c_trial_calls_dfu_core_trial_end_exit;
-switch_lookup:;
-    uint8_t r4_3_1_copyload = r5[2];
-    r6_0 = (uint32_t)0xfffffff0U - (uint32_t)r4_3_1_copyload;
-    goto dfu_boot_c_trial_calls_dfu_core_trial_end_exit;
-dfu_boot_c_trial_calls_dfu_core_trial_end_exit:
+    else {
+        uint8_t r4_0_0_copyload = r5[1];
+        switch (r4_0_0_copyload) {
+        case 0:
+            r6_0 = 0xfffffffeU;
+            break;
+        case 1: {
+            uint8_t r4_3_1_copyload = r5[2];
+            r6_0 = (uint32_t)0xfffffff0U - (uint32_t)r4_3_1_copyload;
+            break;
+        }
+        case 2:
+            r6_0 = 0xfffffffdU;
+            break;
+        default: never();
+        }
+    }
     return signed32(r6_0);
 }
 
-/* dfu_core_trial_look */
+/* dfu_core_trial_look: crates/dfu_boot_c/src/trial/calls.rt */
 int32_t dfu_core_trial_look(const struct dfu_tries *tries, const uint8_t *flash, size_t size, struct dfu_standing *standing) {
     unsigned char *a0 = (unsigned char *)(uintptr_t)tries;
     unsigned char *a1 = (unsigned char *)(uintptr_t)flash;
-    uint64_t a2 = size;
+    size_t a2 = (size_t)size;
     unsigned char *a3 = (unsigned char *)(uintptr_t)standing;
     _Alignas(8) unsigned char r5[48];
     _Alignas(8) unsigned char r3[40];
     uint32_t r10_3_4_copyload, r10_5_4_copyload, r9_0_0_0, r9_0_4_0, r9_5_0_0, r9_5_4_0, r9_8_0, r9_10_0, r9_12_0, r6_0;
     memset(r5, 0, 48);
-    dfu_boot_c_trial_flash_looked(r5, a0, (unsigned char *)((uintptr_t)a1 + (uintptr_t)(uint64_t)((a1 == NULL) ? 4096 : 0)), a2);
+    dfu_boot_c_trial_flash_looked(r5, a0, (unsigned char *)((uintptr_t)a1 + (uintptr_t)(size_t)((a1 == NULL) ? 4096 : 0)), a2);
     uint8_t r14 = *r5;
-    if (r14 != 0) goto arm_2;
-    memcpy(r3, r5 + 8, 24);
-    uint8_t r18 = r5[32];
-    store32(r3 + 24, (uint32_t)r18);
-    unsigned char *r20 = r3 + 28;
-    memcpy(r20, r5 + 36, 12);
-    r10_3_4_copyload = load32(r20);
-    r10_5_4_copyload = load32(r3 + 32);
-    if (r18 != 0) goto arm_2_2;
-    struct i32_i32 r31 = dfu_boot_c_trial_told_image_in(r3, r10_3_4_copyload);
-    uint32_t r32 = r31.a;
-    uint32_t r33 = r31.b;
-    r9_0_0_0 = r32;
-    r9_0_4_0 = r33;
-    r9_5_0_0 = r32;
-    r9_5_4_0 = r33;
-    r9_8_0 = 0;
-    r9_10_0 = 0;
-    r9_12_0 = r10_5_4_copyload & 1;
-    goto dfu_boot_c_trial_told_standing_told_exit;
-arm_2_2:;
-    uint32_t r10_6_4_copyload = load32(r3 + 36);
-    uint32_t r23 = load32(a0 + 8);
-    struct i32_i32 r51 = dfu_boot_c_trial_told_image_in(r3, r10_3_4_copyload);
-    struct i32_i32 r59 = dfu_boot_c_trial_told_image_in(r3, r10_5_4_copyload);
-    r9_0_0_0 = r51.a;
-    r9_0_4_0 = r51.b;
-    r9_5_0_0 = r59.a;
-    r9_5_4_0 = r59.b;
-    r9_8_0 = 1;
-    r9_10_0 = r23 - r10_6_4_copyload;
-    r9_12_0 = 0;
-dfu_boot_c_trial_told_standing_told_exit:
-    store64a4(a3, ((uint64_t)r9_0_4_0 << 32) | (uint64_t)r9_0_0_0);
-    store64a4(a3 + 8, ((uint64_t)r9_5_4_0 << 32) | (uint64_t)r9_5_0_0);
-    store32(a3 + 16, r9_8_0);
-    store32(a3 + 20, r9_10_0);
-    store32(a3 + 24, r9_12_0);
-    r6_0 = 0;
-    goto dfu_boot_c_trial_calls_dfu_core_trial_look_exit;
-arm_2:;
-    uint8_t r4_0_0_copyload = r5[1];
-    switch (r4_0_0_copyload) {
-    case 0:
-        r6_0 = 0xfffffffeU;
-        goto dfu_boot_c_trial_calls_dfu_core_trial_look_exit;
-    case 1: goto switch_lookup;
-    case 2: goto arm_3;
-    default: never();
+    if (r14 != 0) {
+        uint8_t r4_0_0_copyload = r5[1];
+        switch (r4_0_0_copyload) {
+        case 0:
+            r6_0 = 0xfffffffeU;
+            break;
+        case 1: {
+            uint8_t r4_3_1_copyload = r5[2];
+            r6_0 = (uint32_t)0xfffffff0U - (uint32_t)r4_3_1_copyload;
+            break;
+        }
+        case 2:
+            r6_0 = 0xfffffffdU;
+            break;
+        default: never();
+        }
     }
-arm_3:
-    r6_0 = 0xfffffffdU;
-    goto dfu_boot_c_trial_calls_dfu_core_trial_look_exit;
-switch_lookup:;
-    uint8_t r4_3_1_copyload = r5[2];
-    r6_0 = (uint32_t)0xfffffff0U - (uint32_t)r4_3_1_copyload;
-    goto dfu_boot_c_trial_calls_dfu_core_trial_look_exit;
-dfu_boot_c_trial_calls_dfu_core_trial_look_exit:
+    else {
+        memcpy(r3, r5 + 8, 24);
+        uint8_t r18 = r5[32];
+        store32(r3 + 24, (uint32_t)r18);
+        unsigned char *r20 = r3 + 28;
+        memcpy(r20, r5 + 36, 12);
+        r10_3_4_copyload = load32(r20);
+        r10_5_4_copyload = load32(r3 + 32);
+        if (r18 == 0) {
+            struct i32_i32 r31 = dfu_boot_c_trial_told_image_in(r3, r10_3_4_copyload);
+            uint32_t r32 = r31.a;
+            uint32_t r33 = r31.b;
+            r9_0_0_0 = r32;
+            r9_0_4_0 = r33;
+            r9_5_0_0 = r32;
+            r9_5_4_0 = r33;
+            r9_8_0 = 0;
+            r9_10_0 = 0;
+            r9_12_0 = r10_5_4_copyload & 1;
+        }
+        else {
+            uint32_t r10_6_4_copyload = load32(r3 + 36);
+            uint32_t r23 = load32(a0 + 8);
+            struct i32_i32 r51 = dfu_boot_c_trial_told_image_in(r3, r10_3_4_copyload);
+            struct i32_i32 r59 = dfu_boot_c_trial_told_image_in(r3, r10_5_4_copyload);
+            r9_0_0_0 = r51.a;
+            r9_0_4_0 = r51.b;
+            r9_5_0_0 = r59.a;
+            r9_5_4_0 = r59.b;
+            r9_8_0 = 1;
+            r9_10_0 = r23 - r10_6_4_copyload;
+            r9_12_0 = 0;
+        }
+        store64a4(a3, ((uint64_t)(size_t)r9_0_4_0 << 32) | (uint64_t)(size_t)r9_0_0_0);
+        store64a4(a3 + 8, ((uint64_t)(size_t)r9_5_4_0 << 32) | (uint64_t)(size_t)r9_5_0_0);
+        store32(a3 + 16, r9_8_0);
+        store32(a3 + 20, r9_10_0);
+        store32(a3 + 24, r9_12_0);
+        r6_0 = 0;
+    }
     return signed32(r6_0);
 }
 
-/* dfu_core_trial_start */
+/* dfu_core_trial_start: crates/dfu_boot_c/src/trial/calls.rt */
 int32_t dfu_core_trial_start(const struct dfu_tries *tries, const uint8_t *flash, size_t size, struct dfu_ask *ask, struct dfu_starting *starting) {
     unsigned char *a0 = (unsigned char *)(uintptr_t)tries;
     unsigned char *a1 = (unsigned char *)(uintptr_t)flash;
-    uint64_t a2 = size;
+    size_t a2 = (size_t)size;
     unsigned char *a3 = (unsigned char *)(uintptr_t)ask;
     unsigned char *a4 = (unsigned char *)(uintptr_t)starting;
     _Alignas(8) unsigned char r6[48];
@@ -1343,157 +1294,147 @@ int32_t dfu_core_trial_start(const struct dfu_tries *tries, const uint8_t *flash
     _Alignas(4) unsigned char r13[16];
     uint32_t r8_3_4_copyload, r8_5_4_copyload, r8_6_4_copyload, r19, r9_0_0, r9_4_0, r9_6_0, r9_8_0, r9_10_0, r9_12_0, r7_0;
     memset(r6, 0, 48);
-    dfu_boot_c_trial_flash_looked(r6, a0, (unsigned char *)((uintptr_t)a1 + (uintptr_t)(uint64_t)((a1 == NULL) ? 4096 : 0)), a2);
+    dfu_boot_c_trial_flash_looked(r6, a0, (unsigned char *)((uintptr_t)a1 + (uintptr_t)(size_t)((a1 == NULL) ? 4096 : 0)), a2);
     uint8_t r18 = *r6;
-    if (r18 != 0) goto arm_2;
-    memcpy(r3, r6 + 8, 24);
-    uint8_t r22 = r6[32];
-    store32(r3 + 24, (uint32_t)r22);
-    unsigned char *r24 = r3 + 28;
-    memcpy(r24, r6 + 36, 12);
-    r8_3_4_copyload = load32(r24);
-    r8_5_4_copyload = load32(r3 + 32);
-    r8_6_4_copyload = load32(r3 + 36);
-    if (r22 == 0) {
-        r9_0_0 = 0;
-        r9_4_0 = 0;
-        r9_6_0 = 0;
-        r9_8_0 = 0;
-        r9_10_0 = r8_3_4_copyload;
-        r9_12_0 = r8_3_4_copyload;
-        goto dfu_boot_trial_standing_Standing_start_exit;
+    if (r18 != 0) {
+        uint8_t r5_0_0_copyload = r6[1];
+        switch (r5_0_0_copyload) {
+        case 0:
+            r7_0 = 0xfffffffeU;
+            break;
+        case 1: {
+            uint8_t r5_3_1_copyload = r6[2];
+            r7_0 = (uint32_t)0xfffffff0U - (uint32_t)r5_3_1_copyload;
+            break;
+        }
+        case 2:
+            r7_0 = 0xfffffffdU;
+            break;
+        default: never();
+        }
     }
-    uint32_t r32 = load32(a0 + 8);
-    if (r8_6_4_copyload >= r32) {
-        r9_0_0 = 1;
-        r9_4_0 = 1;
-        r9_6_0 = r8_3_4_copyload;
-        r9_8_0 = 0;
-        r9_10_0 = r8_5_4_copyload;
-        r9_12_0 = r8_5_4_copyload;
-        goto dfu_boot_trial_standing_Standing_start_exit;
+    else {
+        memcpy(r3, r6 + 8, 24);
+        uint8_t r22 = r6[32];
+        store32(r3 + 24, (uint32_t)r22);
+        unsigned char *r24 = r3 + 28;
+        memcpy(r24, r6 + 36, 12);
+        r8_3_4_copyload = load32(r24);
+        r8_5_4_copyload = load32(r3 + 32);
+        r8_6_4_copyload = load32(r3 + 36);
+        if (r22 == 0) {
+            r9_0_0 = 0;
+            r9_4_0 = 0;
+            r9_6_0 = 0;
+            r9_8_0 = 0;
+            r9_10_0 = r8_3_4_copyload;
+            r9_12_0 = r8_3_4_copyload;
+        }
+        else {
+            uint32_t r32 = load32(a0 + 8);
+            if (r8_6_4_copyload >= r32) {
+                r9_0_0 = 1;
+                r9_4_0 = 1;
+                r9_6_0 = r8_3_4_copyload;
+                r9_8_0 = 0;
+                r9_10_0 = r8_5_4_copyload;
+                r9_12_0 = r8_5_4_copyload;
+            }
+            else {
+                uint8_t r0_0_0_copyload = r3[16];
+                uint32_t switch_load = load32(PLACE(switch_table_dfu_slots_layout_gate_of) + 4 * (size_t)r0_0_0_copyload);
+                uint32_t r1_0_0_copyload = load32(r3 + 20);
+                r19 = ((switch_load + r8_3_4_copyload) + (switch_load * (r8_6_4_copyload + 1))) + umax32(r1_0_0_copyload, switch_load);
+                switch (r0_0_0_copyload) {
+                case 0:
+                case 1:
+                    r9_0_0 = 1;
+                    r9_4_0 = 0;
+                    r9_6_0 = r19;
+                    r9_8_0 = 16;
+                    r9_10_0 = r8_3_4_copyload;
+                    r9_12_0 = r8_5_4_copyload;
+                    break;
+                case 2:
+                    r9_0_0 = 1;
+                    r9_4_0 = 0;
+                    r9_6_0 = r19;
+                    r9_8_0 = 64;
+                    r9_10_0 = r8_3_4_copyload;
+                    r9_12_0 = r8_5_4_copyload;
+                    break;
+                case 3:
+                    r9_0_0 = 1;
+                    r9_4_0 = 0;
+                    r9_6_0 = r19;
+                    r9_8_0 = 256;
+                    r9_10_0 = r8_3_4_copyload;
+                    r9_12_0 = r8_5_4_copyload;
+                    break;
+                default: never();
+                }
+            }
+        }
+        struct i32_i32 r6_2 = dfu_boot_c_trial_told_image_in(r3, r9_10_0);
+        struct i32_i32 r12 = dfu_boot_c_trial_told_image_in(r3, r9_12_0);
+        store32(a4, r6_2.a);
+        store32(a4 + 4, r6_2.b);
+        store32(a4 + 8, r12.a);
+        store32(a4 + 12, r12.b);
+        store32(r13, r9_0_0);
+        store32(r13 + 4, r9_4_0);
+        store32(r13 + 8, r9_6_0);
+        store32(r13 + 12, r9_8_0);
+        uint32_t r47 = load32(a0 + 4);
+        uint32_t r50 = dfu_boot_c_trial_told_tell(r13, r47, a3);
+        r7_0 = r50;
     }
-    uint8_t r0_0_0_copyload = r3[16];
-    uint32_t switch_load = load32(PLACE(switch_table_dfu_slots_layout_gate_of) + 4 * (size_t)r0_0_0_copyload);
-    uint32_t r1_0_0_copyload = load32(r3 + 20);
-    r19 = ((switch_load + r8_3_4_copyload) + (switch_load * (r8_6_4_copyload + 1))) + umax32(r1_0_0_copyload, switch_load);
-    switch (r0_0_0_copyload) {
-    case 0:
-        r9_0_0 = 1;
-        r9_4_0 = 0;
-        r9_6_0 = r19;
-        r9_8_0 = 16;
-        r9_10_0 = r8_3_4_copyload;
-        r9_12_0 = r8_5_4_copyload;
-        goto dfu_boot_trial_standing_Standing_start_exit;
-    case 1:
-        r9_0_0 = 1;
-        r9_4_0 = 0;
-        r9_6_0 = r19;
-        r9_8_0 = 16;
-        r9_10_0 = r8_3_4_copyload;
-        r9_12_0 = r8_5_4_copyload;
-        goto dfu_boot_trial_standing_Standing_start_exit;
-    case 2: goto arm_3;
-    case 3: goto arm_4;
-    default: never();
-    }
-arm_3:
-    r9_0_0 = 1;
-    r9_4_0 = 0;
-    r9_6_0 = r19;
-    r9_8_0 = 64;
-    r9_10_0 = r8_3_4_copyload;
-    r9_12_0 = r8_5_4_copyload;
-    goto dfu_boot_trial_standing_Standing_start_exit;
-arm_4:
-    r9_0_0 = 1;
-    r9_4_0 = 0;
-    r9_6_0 = r19;
-    r9_8_0 = 256;
-    r9_10_0 = r8_3_4_copyload;
-    r9_12_0 = r8_5_4_copyload;
-    goto dfu_boot_trial_standing_Standing_start_exit;
-dfu_boot_trial_standing_Standing_start_exit:;
-    struct i32_i32 r6_2 = dfu_boot_c_trial_told_image_in(r3, r9_10_0);
-    struct i32_i32 r12 = dfu_boot_c_trial_told_image_in(r3, r9_12_0);
-    store32(a4, r6_2.a);
-    store32(a4 + 4, r6_2.b);
-    store32(a4 + 8, r12.a);
-    store32(a4 + 12, r12.b);
-    store32(r13, r9_0_0);
-    store32(r13 + 4, r9_4_0);
-    store32(r13 + 8, r9_6_0);
-    store32(r13 + 12, r9_8_0);
-    uint32_t r47 = load32(a0 + 4);
-    uint32_t r50 = dfu_boot_c_trial_told_tell(r13, r47, a3);
-    r7_0 = r50;
-    goto dfu_boot_c_trial_calls_dfu_core_trial_start_exit;
-arm_2:;
-    uint8_t r5_0_0_copyload = r6[1];
-    switch (r5_0_0_copyload) {
-    case 0:
-        r7_0 = 0xfffffffeU;
-        goto dfu_boot_c_trial_calls_dfu_core_trial_start_exit;
-    case 1: goto switch_lookup;
-    case 2: goto arm_3_2;
-    default: never();
-    }
-arm_3_2:
-    r7_0 = 0xfffffffdU;
-    goto dfu_boot_c_trial_calls_dfu_core_trial_start_exit;
-switch_lookup:;
-    uint8_t r5_3_1_copyload = r6[2];
-    r7_0 = (uint32_t)0xfffffff0U - (uint32_t)r5_3_1_copyload;
-    goto dfu_boot_c_trial_calls_dfu_core_trial_start_exit;
-dfu_boot_c_trial_calls_dfu_core_trial_start_exit:
     return signed32(r7_0);
 }
 
-/* dfu_core_trial_upload */
+/* dfu_core_trial_upload: crates/dfu_boot_c/src/trial/calls.rt */
 int32_t dfu_core_trial_upload(const struct dfu_tries *tries, const uint8_t *flash, size_t size, struct dfu_ask *ask) {
     unsigned char *a0 = (unsigned char *)(uintptr_t)tries;
     unsigned char *a1 = (unsigned char *)(uintptr_t)flash;
-    uint64_t a2 = size;
+    size_t a2 = (size_t)size;
     unsigned char *a3 = (unsigned char *)(uintptr_t)ask;
     _Alignas(8) unsigned char r5[48];
     _Alignas(4) unsigned char r7[16];
     uint32_t r6_0;
     memset(r5, 0, 48);
-    dfu_boot_c_trial_flash_looked(r5, a0, (unsigned char *)((uintptr_t)a1 + (uintptr_t)(uint64_t)((a1 == NULL) ? 4096 : 0)), a2);
+    dfu_boot_c_trial_flash_looked(r5, a0, (unsigned char *)((uintptr_t)a1 + (uintptr_t)(size_t)((a1 == NULL) ? 4096 : 0)), a2);
     uint8_t r16 = *r5;
-    if (r16 != 0) goto arm_2;
-    uint8_t r20 = r5[32];
-    uint32_t r3_4_28_copyload = load32(r5 + 36);
-    uint32_t r3_7_28_copyload = load32(r5 + 44);
-    uint32_t r30 = load32(a0 + 8);
-    uint8_t narrow = (r20 != 0) ? (r3_7_28_copyload >= r30) : 0;
-    uint32_t r7_4_0_0 = (uint32_t)narrow;
-    store32(r7, r7_4_0_0);
-    store32(r7 + 4, r7_4_0_0);
-    store32(r7 + 8, (uint32_t)(narrow ? r3_4_28_copyload : 0));
-    store32(r7 + 12, 0);
-    uint32_t r34 = load32(a0 + 4);
-    uint32_t r37 = dfu_boot_c_trial_told_tell(r7, r34, a3);
-    r6_0 = r37;
-    goto dfu_boot_c_trial_calls_dfu_core_trial_upload_exit;
-arm_2:;
-    uint8_t r4_0_0_copyload = r5[1];
-    switch (r4_0_0_copyload) {
-    case 0:
-        r6_0 = 0xfffffffeU;
-        goto dfu_boot_c_trial_calls_dfu_core_trial_upload_exit;
-    case 1: goto switch_lookup;
-    case 2: goto arm_3;
-    default: never();
+    if (r16 == 0) {
+        uint8_t r20 = r5[32];
+        uint32_t r3_4_28_copyload = load32(r5 + 36);
+        uint32_t r3_7_28_copyload = load32(r5 + 44);
+        uint32_t r30 = load32(a0 + 8);
+        uint8_t narrow = (r20 != 0) ? (r3_7_28_copyload >= r30) : 0;
+        uint32_t r7_4_0_0 = (uint32_t)narrow;
+        store32(r7, r7_4_0_0);
+        store32(r7 + 4, r7_4_0_0);
+        store32(r7 + 8, (uint32_t)(narrow ? r3_4_28_copyload : 0));
+        store32(r7 + 12, 0);
+        uint32_t r34 = load32(a0 + 4);
+        uint32_t r37 = dfu_boot_c_trial_told_tell(r7, r34, a3);
+        r6_0 = r37;
     }
-arm_3:
-    r6_0 = 0xfffffffdU;
-    goto dfu_boot_c_trial_calls_dfu_core_trial_upload_exit;
-switch_lookup:;
-    uint8_t r4_3_1_copyload = r5[2];
-    r6_0 = (uint32_t)0xfffffff0U - (uint32_t)r4_3_1_copyload;
-    goto dfu_boot_c_trial_calls_dfu_core_trial_upload_exit;
-dfu_boot_c_trial_calls_dfu_core_trial_upload_exit:
+    else {
+        uint8_t r4_0_0_copyload = r5[1];
+        switch (r4_0_0_copyload) {
+        case 0:
+            r6_0 = 0xfffffffeU;
+            break;
+        case 1: {
+            uint8_t r4_3_1_copyload = r5[2];
+            r6_0 = (uint32_t)0xfffffff0U - (uint32_t)r4_3_1_copyload;
+            break;
+        }
+        case 2:
+            r6_0 = 0xfffffffdU;
+            break;
+        default: never();
+        }
+    }
     return signed32(r6_0);
 }

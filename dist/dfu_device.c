@@ -113,29 +113,26 @@ static inline uint32_t usub_sat32(uint32_t x, uint32_t y) { return x < y ? 0 : (
 static inline uint64_t usub_sat64(uint64_t x, uint64_t y) { return x < y ? 0 : (uint64_t)(x - y); }
 static inline uint64_t wide(size_t x) { return x; }
 
-static _Alignas(1) const uint8_t static_0[1] = {
-    0
-};
-static _Alignas(4) const uint8_t static_2[64] = {
+static _Alignas(4) const uint8_t static_0[64] = {
     0, 0, 0, 0, 0x64, 0x10, 0xb7, 0x1d, 0xc8, 0x20, 0x6e, 0x3b, 0xac, 0x30, 0xd9, 0x26, 0x90, 0x41, 0xdc, 0x76,
     0xf4, 0x51, 0x6b, 0x6b, 0x58, 0x61, 0xb2, 0x4d, 0x3c, 0x71, 5, 0x50, 0x20, 0x83, 0xb8, 0xed, 0x44, 0x93, 0xf, 0xf0,
     0xe8, 0xa3, 0xd6, 0xd6, 0x8c, 0xb3, 0x61, 0xcb, 0xb0, 0xc2, 0x64, 0x9b, 0xd4, 0xd2, 0xd3, 0x86, 0x78, 0xe2, 0xa, 0xa0,
     0x1c, 0xf2, 0xbd, 0xbd
 };
+static _Alignas(1) const uint8_t static_2[1] = {
+    0
+};
+static _Alignas(1) const uint8_t static_3[1] = {
+    0xa5
+};
+static _Alignas(4) const uint32_t switch_table_dfu_core_numbers_Refusal_number[5] = {
+    0xfffffffe, 0xfffffff6, 0xfffffff4, 0xfffffffd, 0xfffffffc
+};
 static _Alignas(4) const uint32_t switch_table_dfu_slots_layout_fill_size[4] = {
     1, 0x10, 0x40, 0x100
 };
-static _Alignas(4) const uint32_t switch_table_dfu_device_c_numbers_Refusal_number[5] = {
-    0xfffffffe, 0xfffffff6, 0xfffffff4, 0xfffffffd, 0xfffffffc
-};
-static _Alignas(4) const uint8_t switch_table_dfu_device_table_decide[9] = {
-    3, 3, 3, 1, 3, 2, 3, 3, 3
-};
-static _Alignas(4) const uint32_t switch_table_dfu_device_table_decide_2[9] = {
-    0xf0c, 0xf0c, 0xf0c, 2, 0xf0c, 8, 0xf0c, 0xf0c, 0xf0c
-};
-static _Alignas(4) const uint32_t switch_table_dfu_asks_asking_Asking_is_fit[4] = {
-    0, 0xf, 0x3f, 0xff
+static _Alignas(4) const uint8_t switch_table_dfu_asks_asking_Asking_fail[13] = {
+    6, 6, 6, 3, 6, 3, 6, 6, 6, 6, 6, 6, 6
 };
 static _Alignas(4) const uint8_t switch_table_dfu_device_device_state_DeviceState_state[13] = {
     0, 1, 2, 3, 3, 4, 5, 6, 6, 7, 8, 9, 0xa
@@ -143,86 +140,94 @@ static _Alignas(4) const uint8_t switch_table_dfu_device_device_state_DeviceStat
 static _Alignas(8) const uint64_t switch_table_dfu_asks_asking_Asking_advance[4] = {
     0, 0xf, 0x3f, 0xff
 };
+static _Alignas(4) const uint32_t switch_table_dfu_asks_asking_Asking_is_fit[4] = {
+    0, 0xf, 0x3f, 0xff
+};
+static _Alignas(4) const uint8_t switch_table_dfu_device_table_decide[9] = {
+    3, 3, 3, 1, 3, 2, 3, 3, 3
+};
+static _Alignas(4) const uint32_t switch_table_dfu_device_table_decide_2[9] = {
+    0xf0c, 0xf0c, 0xf0c, 2, 0xf0c, 8, 0xf0c, 0xf0c, 0xf0c
+};
 static _Alignas(4) const uint32_t switch_table_dfu_core_state[12] = {
     0, 1, 2, 3, 3, 4, 5, 6, 6, 7, 8, 9
 };
 static _Alignas(8) const uint64_t switch_table_dfu_core_format_took[4] = {
     1, 0x10, 0x40, 0x100
 };
-static _Alignas(4) const uint32_t switch_table_dfu_core_would_stall[4] = {
-    0x10, 0x10, 0x40, 0x100
-};
 static _Alignas(4) const uint32_t switch_table_dfu_core_candidate[4] = {
     0xffffffff, 0xfffffff0, 0xffffffc0, 0xffffff00
 };
-static _Alignas(4) const uint8_t switch_table_dfu_core_took[13] = {
-    6, 6, 6, 3, 6, 3, 6, 6, 6, 6, 6, 6, 6
+static _Alignas(4) const uint32_t switch_table_dfu_core_would_stall[4] = {
+    0x10, 0x10, 0x40, 0x100
 };
 
-static uint8_t dfu_device_c_mode_has_mode(unsigned char *a0);
-static void dfu_device_c_mode_mode_of(unsigned char *a0, unsigned char *a1);
-static void dfu_device_c_config_settings_of(unsigned char *a0, unsigned char *a1);
+static uint8_t dfu_core_mode_has_mode(unsigned char *a0);
+static void dfu_core_mode_mode_of(unsigned char *a0, unsigned char *a1);
+static void dfu_core_config_settings_of(unsigned char *a0, unsigned char *a1);
 static struct i8_i32 dfu_asks_sector_Sector_new(uint32_t a0);
-static void dfu_device_c_config_functional_of(unsigned char *a0, unsigned char *a1);
-static void dfu_device_c_format_formatting_of(unsigned char *a0, unsigned char *a1, unsigned char *a2);
+static void dfu_core_config_functional_of(unsigned char *a0, unsigned char *a1);
+static void dfu_asks_noted_Noted_find(unsigned char *a0, unsigned char *a1, uint64_t a2, uint8_t a3, uint32_t a4);
+static void dfu_slots_places_check(unsigned char *a0, unsigned char *a1);
+static uint8_t dfu_slots_layout_is_sized(unsigned char *a0);
+static uint8_t dfu_slots_read_counts(unsigned char *a0, uint32_t a1);
+static uint8_t dfu_slots_read_is_open(unsigned char *a0, uint32_t a1);
+static uint8_t dfu_slots_read_byte_at(unsigned char *a0, uint32_t a1);
+static void core_slice_edits_slice_T_copy_from_slice_i8_core_clone_U8Clone(unsigned char *a0, unsigned char *a2, uint64_t a3);
+static uint32_t dfu_slots_layout_capacity_of(unsigned char *a0);
+static void dfu_slots_read_read_data(unsigned char *a0, uint32_t a1, uint32_t a2, unsigned char *a3, size_t a4);
+static void dfu_suffix_crc_Crc_update_small(unsigned char *a0, unsigned char *a1, uint64_t a2);
+static uint8_t dfu_slots_places_is_newest(unsigned char *a0, uint32_t a1, uint32_t a2, uint8_t a3, uint8_t a4);
+static uint8_t dfu_slots_read_generation(unsigned char *a0, uint32_t a1);
+static void dfu_slots_read_header_of(unsigned char *a0, unsigned char *a1, uint32_t a2);
+static void dfu_core_mode_idle_mode(unsigned char *a0, unsigned char *a1, unsigned char *a2);
+static void dfu_core_mode_mode_in(unsigned char *a0, unsigned char *a1, unsigned char *a2);
+static void dfu_core_mode_set_mode(unsigned char *a0, unsigned char *a1);
+static void dfu_core_format_formatting_of(unsigned char *a0, unsigned char *a1, unsigned char *a2);
 static uint8_t dfu_asks_formatting_Formatting_due(unsigned char *a0, size_t a2, unsigned char *a3);
 static uint8_t dfu_asks_format_piece_part_piece(unsigned char *a0, size_t a1, unsigned char *a2);
 static uint8_t dfu_asks_next_piece_sequence_piece(unsigned char *a0, unsigned char *a1);
 static uint8_t dfu_asks_next_piece_numbered_piece(unsigned char *a0, size_t a1, unsigned char *a2);
 static void dfu_asks_sector_locate(unsigned char *a0, uint32_t a1, uint64_t a2, size_t a3, uint64_t a4);
 static uint8_t dfu_asks_format_piece_open_piece(size_t a0, uint32_t a1, unsigned char *a2);
+static uint8_t dfu_asks_cut_stands(unsigned char *a0, size_t a1, unsigned char *a2);
+static void dfu_asks_runs_runs_of(unsigned char *a0, unsigned char *a1);
+static uint8_t dfu_asks_runs_are_same(unsigned char *a0, uint64_t a1, unsigned char *a2);
+static void dfu_wire_bytes_two_bytes(unsigned char *a0, uint16_t a1);
 static uint8_t dfu_asks_next_and_took_is_sound(uint32_t a0, unsigned char *a1);
 static void dfu_asks_cut_fill(unsigned char *a0, unsigned char *a1);
-static uint8_t dfu_asks_cut_byte_of(unsigned char *a0, uint64_t a1);
-static uint8_t dfu_slots_layout_is_sized(unsigned char *a0);
-static uint32_t dfu_slots_layout_capacity_of(unsigned char *a0);
-static void dfu_suffix_crc_Crc_update_small(unsigned char *a0, unsigned char *a1, uint64_t a2);
-static uint8_t dfu_asks_cut_stands(unsigned char *a0, size_t a1, unsigned char *a2);
-static void dfu_asks_noted_Noted_find(unsigned char *a0, unsigned char *a1, uint64_t a2, uint8_t a3, uint32_t a4);
-static void dfu_slots_places_check(unsigned char *a0, unsigned char *a1);
-static uint8_t dfu_slots_read_counts(unsigned char *a0, uint32_t a1);
-static uint8_t dfu_slots_read_is_open(unsigned char *a0, uint32_t a1);
-static uint8_t dfu_slots_read_byte_at(unsigned char *a0, uint32_t a1);
-static void core_slice_edits_slice_T_copy_from_slice_i8_core_clone_U8Clone(unsigned char *a0, unsigned char *a2, size_t a3);
-static void dfu_slots_read_read_data(unsigned char *a0, uint32_t a1, uint32_t a2, unsigned char *a3, size_t a4);
-static uint8_t dfu_slots_places_is_newest(unsigned char *a0, uint32_t a1, uint32_t a2, uint8_t a3, uint8_t a4);
-static uint8_t dfu_slots_read_generation(unsigned char *a0, uint32_t a1);
-static void dfu_slots_read_header_of(unsigned char *a0, unsigned char *a1, uint32_t a2);
-static uint8_t dfu_asks_blank_is_erased(unsigned char *a0, size_t a2, uint64_t a3);
-static void dfu_wire_bytes_two_bytes(unsigned char *a0, uint16_t a1);
-static void dfu_device_c_mode_mode_in(unsigned char *a0, unsigned char *a1, unsigned char *a2);
-static void dfu_device_c_mode_idle_mode(unsigned char *a0, unsigned char *a1, unsigned char *a2);
+static void dfu_core_keeping_found(unsigned char *a0, unsigned char *a1, size_t a2, unsigned char *a3);
+static uint8_t dfu_asks_next_piece_next_piece(unsigned char *a0, unsigned char *a1);
+static struct i64_i8 dfu_asks_asking_Asking_look_at(unsigned char *a0, unsigned char *a1, unsigned char *a2, size_t a3, unsigned char *a4, uint64_t a5, unsigned char *a6, size_t a7);
+static struct i8_i64 dfu_asks_asking_Asking_fail(unsigned char *a0, uint8_t a1, uint8_t a2, uint16_t a3, unsigned char *a4, uint64_t a5, unsigned char *a6);
+static void dfu_asks_finish_note(unsigned char *a0, unsigned char *a1, unsigned char *a2, uint64_t a3, uint8_t a4, uint32_t a5);
+static struct i8_i64 dfu_asks_asking_Asking_answer(unsigned char *a0, uint8_t a1, uint16_t a2, unsigned char *a3);
+static struct i8_i64 dfu_asks_asking_Asking_give(unsigned char *a0, uint8_t a1, uint16_t a2, unsigned char *a3);
+static void dfu_asks_asking_Asking_advance(unsigned char *a0, unsigned char *a1, unsigned char *a2, size_t a3, unsigned char *a4, uint64_t a5, unsigned char *a6, uint64_t a7, unsigned char *a8);
+static void dfu_core_keeping_keep(unsigned char *a0, unsigned char *a1);
 static uint8_t dfu_asks_closes_mode_closes(unsigned char *a0, unsigned char *a1, unsigned char *a2);
 static void dfu_wire_setups_Setup_request(unsigned char *a0, unsigned char *a1);
-static void dfu_device_c_mode_set_mode(unsigned char *a0, unsigned char *a1);
-static void dfu_device_table_decide(unsigned char *a0, unsigned char *a1, unsigned char *a2, unsigned char *a3);
-static void dfu_device_plans_block(unsigned char *a0, unsigned char *a1, uint32_t a2, uint16_t a3, uint16_t a4, uint16_t a5);
-static void dfu_device_plans_upload(unsigned char *a0, unsigned char *a1, uint32_t a2, uint16_t a3, uint16_t a4, uint16_t a5);
-static uint32_t dfu_device_c_power_start(unsigned char *a0, unsigned char *a1, unsigned char *a2, size_t a3, uint32_t a4);
-static void dfu_device_c_keeping_found(unsigned char *a0, unsigned char *a1, size_t a2, unsigned char *a3);
 static void dfu_asks_noted_look(unsigned char *a0, unsigned char *a1, unsigned char *a2);
 static void dfu_asks_asking_Asking_see(unsigned char *a0, unsigned char *a1, size_t a2, unsigned char *a3, size_t a4);
 static uint8_t dfu_asks_asking_Asking_is_fit(unsigned char *a0, size_t a1, unsigned char *a2, unsigned char *a3);
 static void dfu_asks_asking_Asking_carry_out(unsigned char *a0, unsigned char *a1, unsigned char *a2, uint8_t a3, uint16_t a4, unsigned char *a5, size_t a6, unsigned char *a7, size_t a8, unsigned char *a9, uint64_t a10, unsigned char *a11, unsigned char *a12, unsigned char *a13, size_t a14);
-static struct i8_i64 dfu_asks_asking_Asking_give(unsigned char *a0, uint8_t a1, uint16_t a2, unsigned char *a3);
 static void dfu_asks_asking_Asking_block_job(unsigned char *a0, unsigned char *a1, uint32_t a2, unsigned char *a3, unsigned char *a4);
-static void dfu_asks_asking_Asking_advance(unsigned char *a0, unsigned char *a1, unsigned char *a2, size_t a3, unsigned char *a4, uint64_t a5, unsigned char *a6, uint64_t a7, unsigned char *a8);
-static struct i64_i8 dfu_asks_asking_Asking_look_at(unsigned char *a0, unsigned char *a1, unsigned char *a2, size_t a3, unsigned char *a4, uint64_t a5, unsigned char *a6, size_t a7);
-static uint8_t dfu_asks_next_piece_next_piece(unsigned char *a0, unsigned char *a1);
-static void dfu_asks_finish_note(unsigned char *a0, unsigned char *a1, unsigned char *a2, uint64_t a3, uint8_t a4, uint32_t a5);
-static struct i8_i64 dfu_asks_asking_Asking_answer(unsigned char *a0, uint8_t a1, uint16_t a2, unsigned char *a3);
-static void dfu_device_c_keeping_keep(unsigned char *a0, unsigned char *a1);
+static void dfu_device_table_decide(unsigned char *a0, unsigned char *a1, unsigned char *a2, unsigned char *a3);
+static void dfu_device_plans_block(unsigned char *a0, unsigned char *a1, uint32_t a2, uint16_t a3, uint16_t a4, uint16_t a5);
+static void dfu_device_plans_upload(unsigned char *a0, unsigned char *a1, uint32_t a2, uint16_t a3, uint16_t a4, uint16_t a5);
+static uint32_t dfu_device_c_power_start(unsigned char *a0, unsigned char *a1, unsigned char *a2, size_t a3, uint32_t a4);
+static uint8_t dfu_asks_blank_is_erased(unsigned char *a0, size_t a2, uint64_t a3);
 
-/* dfu_device_c::mode::has_mode: crates/dfu_device_c/src/mode.rt */
-static uint8_t dfu_device_c_mode_has_mode(unsigned char *a0) {
+/* dfu_core::mode::has_mode: crates/dfu_core/src/mode.rt */
+static uint8_t dfu_core_mode_has_mode(unsigned char *a0) {
     _Alignas(4) unsigned char r1[20];
-    dfu_device_c_mode_mode_of(r1, a0);
+    dfu_core_mode_mode_of(r1, a0);
     uint8_t r3 = *r1;
     return r3 == 1;
 }
 
-/* dfu_device_c::mode::mode_of: crates/dfu_device_c/src/mode.rt */
-static void dfu_device_c_mode_mode_of(unsigned char *a0, unsigned char *a1) {
+/* dfu_core::mode::mode_of: crates/dfu_core/src/mode.rt */
+static void dfu_core_mode_mode_of(unsigned char *a0, unsigned char *a1) {
     uint32_t r35, r37, r11_172_0, r11_27_10_0_0, r11_36_0;
     uint16_t r39, r11_27_0_0;
     uint8_t r11_0_0, r11_15_0;
@@ -372,8 +377,8 @@ static void dfu_device_c_mode_mode_of(unsigned char *a0, unsigned char *a1) {
     return;
 }
 
-/* dfu_device_c::config::settings_of: crates/dfu_device_c/src/config.rt */
-static void dfu_device_c_config_settings_of(unsigned char *a0, unsigned char *a1) {
+/* dfu_core::config::settings_of: crates/dfu_core/src/config.rt */
+static void dfu_core_config_settings_of(unsigned char *a0, unsigned char *a1) {
     _Alignas(4) unsigned char r6[10];
     uint32_t r11, r53, r82, r84, r86, r22_4_0_10_0, r22_4_0_11_0, r22_4_0_12_0, r22_4_5_0, r22_0_0_0;
     uint8_t r3_0_0, r2_0_0_copyload, r2_3_0_copyload, r2_4_0_copyload, r2_6_0_copyload, r22_4_0_3_0, r22_4_0_4_0, r22_4_0_5_0, r22_4_0_6_0, r22_4_3_0;
@@ -407,7 +412,7 @@ static void dfu_device_c_config_settings_of(unsigned char *a0, unsigned char *a1
             }
             uint16_t r71 = load16(a1 + 4);
             uint32_t r73 = load32a2(a1 + 6);
-            dfu_device_c_config_functional_of(r6, a1);
+            dfu_core_config_functional_of(r6, a1);
             r82 = load32(a1 + 24);
             r84 = load32(a1 + 16);
             r86 = load32(a1 + 20);
@@ -499,8 +504,8 @@ static struct i8_i32 dfu_asks_sector_Sector_new(uint32_t a0) {
     return r24;
 }
 
-/* dfu_device_c::config::functional_of: crates/dfu_device_c/src/config.rt */
-static void dfu_device_c_config_functional_of(unsigned char *a0, unsigned char *a1) {
+/* dfu_core::config::functional_of: crates/dfu_core/src/config.rt */
+static void dfu_core_config_functional_of(unsigned char *a0, unsigned char *a1) {
     uint8_t r5 = a1[14];
     uint16_t r7 = load16(a1 + 10);
     uint16_t r9 = load16(a1 + 12);
@@ -514,8 +519,499 @@ static void dfu_device_c_config_functional_of(unsigned char *a0, unsigned char *
     return;
 }
 
-/* dfu_device_c::format::formatting_of: crates/dfu_device_c/src/format.rt */
-static void dfu_device_c_format_formatting_of(unsigned char *a0, unsigned char *a1, unsigned char *a2) {
+/* dfu_asks::noted::Noted::find */
+static void dfu_asks_noted_Noted_find(unsigned char *a0, unsigned char *a1, uint64_t a2, uint8_t a3, uint32_t a4) {
+    _Alignas(8) unsigned char r5[24];
+    _Alignas(4) unsigned char r14_6[16];
+    _Alignas(4) unsigned char r12[12];
+    uint8_t r14_0_0, r14_4_0;
+    memset(r14_6, 0, 16);
+    if (a2 >= 0x100000000ULL) {
+        memset(a0, 0, 18);
+        return;
+    }
+    store64(r5, (size_t)(uintptr_t)a1);
+    store64(r5 + 8, a2);
+    r5[16] = a3;
+    store32(r5 + 20, a4);
+    dfu_slots_places_check(r12, r5);
+    uint8_t r30 = *r12;
+    if (r30 != 0) {
+        r14_0_0 = 0;
+        r14_4_0 = 0;
+    }
+    else {
+        uint32_t r8_0_0_copyload = load32(r12 + 4);
+        dfu_slots_read_header_of(r14_6, r5, r8_0_0_copyload);
+        r14_0_0 = 1;
+        r14_4_0 = r8_0_0_copyload != 0;
+    }
+    *a0 = r14_0_0;
+    a0[1] = r14_4_0;
+    memcpy(a0 + 2, r14_6, 16);
+    return;
+}
+
+/* dfu_slots::places::check::<#c4c4734aca759fff>: crates/dfu_slots/src/places.rt */
+static void dfu_slots_places_check(unsigned char *a0, unsigned char *a1) {
+    _Alignas(1) unsigned char r3_4[16];
+    uint8_t r5, r11;
+    unsigned char *r2;
+    uint32_t r72_2, r72_3, r1_9_0_copyload, v3, v4;
+    uint8_t r1_2_0_copyload, v50, v5;
+    uint8_t r12 = dfu_slots_layout_is_sized(a1);
+    if (!r12) {
+        *a0 = 1;
+        a0[1] = 0;
+        store32(a0 + 4, 0);
+        store32(a0 + 8, 0);
+        return;
+    }
+    r5 = dfu_slots_read_counts(a1, 0);
+    r2 = a1 + 8;
+    size_t r3 = (size_t)load64(r2);
+    r11 = dfu_slots_read_counts(a1, (uint32_t)r3 >> 1);
+    if (!(r5 | r11)) {
+        *a0 = 1;
+        a0[1] = 1;
+        store32(a0 + 4, 0);
+        store32(a0 + 8, 0);
+        return;
+    }
+    size_t r3_2 = (size_t)load64(r2);
+    uint8_t r15 = dfu_slots_places_is_newest(a1, 0, (uint32_t)r3_2 >> 1, r5, r11);
+    size_t r3_3 = (size_t)load64(r2);
+    uint32_t r72 = (uint32_t)r3_3 >> 1;
+    r72_2 = (uint32_t)(r15 ? 0 : r72);
+    r72_3 = (uint32_t)(r15 ? r72 : 0);
+    if (r72_2 == 0) {
+        uint8_t r24 = dfu_slots_places_is_newest(a1, 0, r72_3, r5, r11);
+        if (!r24) goto then_7;
+    }
+    else {
+        uint8_t r33 = dfu_slots_places_is_newest(a1, r72_2, r72_3, r11, r5);
+        if (!r33) goto then_7;
+    }
+    dfu_slots_read_header_of(r3_4, a1, r72_2);
+    r1_2_0_copyload = r3_4[1];
+    r1_9_0_copyload = load32u(r3_4 + 12);
+    if (r1_2_0_copyload == 2) {
+        v50 = 0;
+        v3 = r72_3;
+        v4 = r72_2;
+        v5 = 0;
+    }
+    else {
+        uint32_t r1_6_0_copyload = load32u(r3_4 + 4);
+        uint32_t r1_8_0_copyload = load32u(r3_4 + 8);
+        uint8_t r1_5_0_copyload = r3_4[3];
+        uint8_t r1_4_0_copyload = r3_4[2];
+        uint32_t r26 = dfu_slots_layout_capacity_of(a1);
+        if (((((r1_2_0_copyload == 1) & (r1_6_0_copyload <= r26)) ? (r1_4_0_copyload == 0) : 0) ? (r1_5_0_copyload == 0) : 0) ? (r1_8_0_copyload == 0) : 0) {
+            if (r1_9_0_copyload == 0) {
+                v50 = 0;
+                v3 = r72_3;
+                v4 = r72_2;
+                v5 = 0;
+                goto v2;
+            }
+        }
+        v50 = 1;
+        v3 = 0;
+        v4 = 0;
+        v5 = 3;
+    }
+v2:
+    *a0 = v50;
+    a0[1] = v5;
+    store32(a0 + 4, v4);
+    store32(a0 + 8, v3);
+    return;
+then_7:
+    *a0 = 1;
+    a0[1] = 2;
+    store32(a0 + 4, 0);
+    store32(a0 + 8, 0);
+    return;
+}
+
+/* dfu_slots::layout::is_sized::<#c4c4734aca759fff>: crates/dfu_slots/src/layout.rt */
+static uint8_t dfu_slots_layout_is_sized(unsigned char *a0) {
+    uint32_t r1_0_0_copyload, a0_a1, r5, r69;
+    size_t v0;
+    uint8_t common_ret_op;
+    r1_0_0_copyload = load32(a0 + 20);
+    if (!((r1_0_0_copyload < 0x20001U) & ((r1_0_0_copyload & 255) == 0))) common_ret_op = 0;
+    else {
+        uint8_t r0_0_0_copyload = a0[16];
+        v0 = (size_t)r0_0_0_copyload;
+        uint32_t switch_load = load32(PLACE(switch_table_dfu_core_would_stall) + 4 * v0);
+        a0_a1 = umax32(r1_0_0_copyload, switch_load);
+        size_t r3 = (size_t)load64(a0 + 8);
+        r5 = (uint32_t)r3;
+        uint32_t pre = a0_a1 << 2;
+        if (!(((pre + 0x2000000U) >= r5) & (((r5 & 1) == 0) ? (pre < r5) : !(r3 & 1)))) common_ret_op = 0;
+        else {
+            r69 = (r5 >> 1) - (a0_a1 << 1);
+            uint32_t switch_load_2 = load32(PLACE(switch_table_dfu_asks_asking_Asking_is_fit) + 4 * v0);
+            if ((switch_load_2 & r69) != 0) common_ret_op = 0;
+            else {
+                if (r1_0_0_copyload == 0) common_ret_op = 1;
+                else {
+                    common_ret_op = (r69 % r1_0_0_copyload) == 0;
+                }
+            }
+        }
+    }
+    return common_ret_op;
+}
+
+/* dfu_slots::read::counts::<#c4c4734aca759fff>: crates/dfu_slots/src/read.rt */
+static uint8_t dfu_slots_read_counts(unsigned char *a0, uint32_t a1) {
+    _Alignas(1) unsigned char r2[64];
+    _Alignas(1) unsigned char r3_2[16];
+    _Alignas(1) unsigned char r3[16];
+    _Alignas(4) unsigned char r1[4];
+    uint8_t r1_2_0_copyload, r1_3_0_copyload, r1_4_0_copyload;
+    uint32_t r1_5_0_copyload, r1_6_0_copyload, r1_7_0_copyload, r3_0;
+    uint8_t common_ret_op, r1_0_in;
+    uint8_t r8 = dfu_slots_read_is_open(a0, a1);
+    if (!r8) r1_0_in = 0;
+    else {
+        dfu_slots_read_header_of(r3, a0, a1);
+        uint8_t r4_2_0_copyload = r3[1];
+        if (r4_2_0_copyload != 2) r1_0_in = 1;
+        else {
+            dfu_slots_read_header_of(r3_2, a0, a1);
+            r1_2_0_copyload = r3_2[1];
+            r1_3_0_copyload = r3_2[2];
+            r1_4_0_copyload = r3_2[3];
+            r1_5_0_copyload = load32u(r3_2 + 4);
+            r1_6_0_copyload = load32u(r3_2 + 8);
+            r1_7_0_copyload = load32u(r3_2 + 12);
+            uint32_t r10 = dfu_slots_layout_capacity_of(a0);
+            if (r10 < r1_5_0_copyload) common_ret_op = 0;
+            else {
+                store32(r1, 0xffffffffU);
+                memset(r2, 0, 64);
+                r3_0 = 0;
+                while (r3_0 < r1_5_0_copyload) {
+                    uint32_t a1_a0 = umin32(r1_5_0_copyload - r3_0, 64);
+                    size_t r28 = (size_t)a1_a0;
+                    dfu_slots_read_read_data(a0, a1, r3_0, r2, r28);
+                    dfu_suffix_crc_Crc_update_small(r1, r2, r28);
+                    r3_0 = a1_a0 + r3_0;
+                }
+                uint32_t r0_0_0_copyload = load32(r1);
+                common_ret_op = ((((r1_2_0_copyload == 2) ? (r1_3_0_copyload == 0) : 0) ? (r1_4_0_copyload == 0) : 0) ? (r1_6_0_copyload == r0_0_0_copyload) : 0) ? (r1_7_0_copyload == 0) : 0;
+            }
+            r1_0_in = common_ret_op;
+        }
+    }
+    return r1_0_in;
+}
+
+/* dfu_slots::read::is_open::<#c4c4734aca759fff>: crates/dfu_slots/src/read.rt */
+static uint8_t dfu_slots_read_is_open(unsigned char *a0, uint32_t a1) {
+    uint8_t r2 = dfu_slots_read_byte_at(a0, a1);
+    return r2 == 165;
+}
+
+/* dfu_slots::read::byte_at::<#c4c4734aca759fff>: crates/dfu_slots/src/read.rt */
+static uint8_t dfu_slots_read_byte_at(unsigned char *a0, uint32_t a1) {
+    _Alignas(4) unsigned char r1[1];
+    *r1 = 0;
+    size_t r5_0_0_copyload = (size_t)load64(a0);
+    core_slice_edits_slice_T_copy_from_slice_i8_core_clone_U8Clone(r1, (unsigned char *)(uintptr_t)r5_0_0_copyload + (size_t)a1, 1);
+    uint8_t r15 = *r1;
+    return r15;
+}
+
+/* core::slice::edits::slice+T::copy_from_slice::<i8,20'core::clone::U8Clone{}> */
+static void core_slice_edits_slice_T_copy_from_slice_i8_core_clone_U8Clone(unsigned char *a0, unsigned char *a2, uint64_t a3) {
+    uint64_t r0_0;
+    if (((uint64_t)(size_t)(uintptr_t)a0 - (uint64_t)(size_t)(uintptr_t)a2) >= a3) {
+        memmove(a0, a2, (size_t)a3);
+        return;
+    }
+    r0_0 = 0;
+    for (;;) {
+        if (r0_0 == a3) return;
+        uint8_t r26 = a2[(size_t)r0_0];
+        a0[(size_t)r0_0] = r26;
+        r0_0 = r0_0 + 1;
+    }
+}
+
+/* dfu_slots::layout::capacity_of::<#c4c4734aca759fff>: crates/dfu_slots/src/layout.rt */
+static uint32_t dfu_slots_layout_capacity_of(unsigned char *a0) {
+    size_t r3 = (size_t)load64(a0 + 8);
+    uint8_t r0_0_0_copyload = a0[16];
+    uint32_t r1_0_0_copyload = load32(a0 + 20);
+    uint32_t switch_load = load32(PLACE(switch_table_dfu_core_would_stall) + 4 * (size_t)r0_0_0_copyload);
+    return ((uint32_t)r3 >> 1) - (umax32(r1_0_0_copyload, switch_load) << 1);
+}
+
+/* dfu_slots::read::read_data::<#c4c4734aca759fff>: crates/dfu_slots/src/read.rt */
+static void dfu_slots_read_read_data(unsigned char *a0, uint32_t a1, uint32_t a2, unsigned char *a3, size_t a4) {
+    uint8_t r0_0_0_copyload = a0[16];
+    uint32_t r1_0_0_copyload = load32(a0 + 20);
+    uint32_t switch_load = load32(PLACE(switch_table_dfu_core_would_stall) + 4 * (size_t)r0_0_0_copyload);
+    size_t r5_0_0_copyload = (size_t)load64(a0);
+    core_slice_edits_slice_T_copy_from_slice_i8_core_clone_U8Clone(a3, (unsigned char *)(uintptr_t)r5_0_0_copyload + (size_t)((a2 + a1) + (umax32(r1_0_0_copyload, switch_load) << 1)), a4);
+    return;
+}
+
+/* dfu_suffix::crc::Crc::update_small: crates/dfu_suffix/src/crc.rt */
+static void dfu_suffix_crc_Crc_update_small(unsigned char *a0, unsigned char *a1, uint64_t a2) {
+    uint64_t r4_0;
+    uint32_t r3_0;
+    uint32_t r5 = load32(a0);
+    r4_0 = 0;
+    r3_0 = r5;
+    while (r4_0 != a2) {
+        uint8_t r23 = a1[(size_t)r4_0];
+        uint32_t r6 = r3_0 ^ (uint32_t)r23;
+        uint32_t r20 = load32(PLACE(static_0) + (size_t)((r6 << 2) & 60));
+        uint32_t r23_2 = (r6 >> 4) ^ r20;
+        uint32_t r20_2 = load32(PLACE(static_0) + (size_t)((r23_2 << 2) & 60));
+        r4_0 = r4_0 + 1;
+        r3_0 = (r23_2 >> 4) ^ r20_2;
+    }
+    store32(a0, r3_0);
+    return;
+}
+
+/* dfu_slots::places::is_newest::<#c4c4734aca759fff>: crates/dfu_slots/src/places.rt */
+static uint8_t dfu_slots_places_is_newest(unsigned char *a0, uint32_t a1, uint32_t a2, uint8_t a3, uint8_t a4) {
+    uint8_t r1_0_in;
+    if (!(a3 & a4)) r1_0_in = a3;
+    else {
+        uint8_t r13 = dfu_slots_read_generation(a0, a1);
+        uint8_t r14 = dfu_slots_read_generation(a0, a2);
+        r1_0_in = r13 == (uint8_t)(r14 + 1);
+    }
+    return r1_0_in;
+}
+
+/* dfu_slots::read::generation::<#c4c4734aca759fff>: crates/dfu_slots/src/read.rt */
+static uint8_t dfu_slots_read_generation(unsigned char *a0, uint32_t a1) {
+    uint8_t r0_0_0_copyload = a0[16];
+    uint32_t r1_0_0_copyload = load32(a0 + 20);
+    uint32_t switch_load = load32(PLACE(switch_table_dfu_core_would_stall) + 4 * (size_t)r0_0_0_copyload);
+    uint8_t r7 = dfu_slots_read_byte_at(a0, umax32(r1_0_0_copyload, switch_load) + a1);
+    return r7;
+}
+
+/* dfu_slots::read::header_of::<#c4c4734aca759fff>: crates/dfu_slots/src/read.rt */
+static void dfu_slots_read_header_of(unsigned char *a0, unsigned char *a1, uint32_t a2) {
+    _Alignas(1) unsigned char r1[16];
+    memset(r1, 0, 16);
+    uint8_t r0_0_0_copyload = a1[16];
+    uint32_t r1_0_0_copyload = load32(a1 + 20);
+    uint32_t switch_load = load32(PLACE(switch_table_dfu_core_would_stall) + 4 * (size_t)r0_0_0_copyload);
+    size_t r5_0_0_copyload = (size_t)load64(a1);
+    core_slice_edits_slice_T_copy_from_slice_i8_core_clone_U8Clone(r1, (unsigned char *)(uintptr_t)r5_0_0_copyload + (size_t)(umax32(r1_0_0_copyload, switch_load) + a2), 16);
+    memcpy(a0, r1, 16);
+    return;
+}
+
+/* dfu_core::mode::idle_mode: crates/dfu_core/src/mode.rt */
+static void dfu_core_mode_idle_mode(unsigned char *a0, unsigned char *a1, unsigned char *a2) {
+    _Alignas(4) unsigned char r7[56];
+    unsigned char *r52, *r54;
+    dfu_core_mode_mode_in(r7, a1, a2);
+    uint8_t r1_0_0_copyload = *r7;
+    r52 = a0 + 1;
+    if (r1_0_0_copyload != 0) {
+        uint8_t r1_3_1_copyload = r7[1];
+        *a0 = 1;
+        *r52 = r1_3_1_copyload;
+        memset(a0 + 4, 0, 52);
+        return;
+    }
+    uint32_t r31 = load32(a2 + 44);
+    r54 = a0 + 4;
+    if (r31 != 0) {
+        *a0 = 1;
+        *r52 = 2;
+        memset(r54, 0, 52);
+        return;
+    }
+    uint32_t r8_6_10_2_copyload = load32(r7 + 52);
+    uint32_t r8_6_9_2_copyload = load32(r7 + 48);
+    uint32_t r8_6_8_2_copyload = load32(r7 + 44);
+    uint8_t r8_6_6_2_copyload = r7[41];
+    uint8_t r8_6_5_2_copyload = r7[40];
+    *a0 = 0;
+    *r52 = 0;
+    memcpy(r54, r7 + 4, 36);
+    a0[40] = r8_6_5_2_copyload;
+    a0[41] = r8_6_6_2_copyload;
+    store16(a0 + 42, 0);
+    store32(a0 + 44, r8_6_8_2_copyload);
+    store32(a0 + 48, r8_6_9_2_copyload);
+    store32(a0 + 52, r8_6_10_2_copyload);
+    return;
+}
+
+/* dfu_core::mode::mode_in: crates/dfu_core/src/mode.rt */
+static void dfu_core_mode_mode_in(unsigned char *a0, unsigned char *a1, unsigned char *a2) {
+    _Alignas(4) unsigned char r3[40];
+    _Alignas(2) unsigned char r6_6_0[38];
+    _Alignas(4) unsigned char r5[20];
+    uint8_t r6_6_3_0, r6_6_4_0, r6_0_0, r6_4_0;
+    uint32_t r6_6_6_0, r6_6_7_0, r6_6_8_0;
+    memset(r6_6_0, 0, 38);
+    dfu_core_config_settings_of(r3, a1);
+    uint8_t r9 = *r3;
+    if (r9 != 1) {
+        *a0 = 1;
+        a0[1] = 0;
+        memset(a0 + 4, 0, 52);
+        return;
+    }
+    dfu_core_mode_mode_of(r5, a2);
+    uint8_t r16 = *r5;
+    if (r16 != 1) {
+        r6_6_3_0 = 0;
+        r6_6_4_0 = 0;
+        r6_6_6_0 = 0;
+        r6_6_7_0 = 0;
+        r6_6_8_0 = 0;
+        r6_0_0 = 1;
+        r6_4_0 = 4;
+    }
+    else {
+        uint8_t v2 = r5[4];
+        uint8_t v3 = r5[5];
+        uint32_t v4 = load32(r5 + 8);
+        uint32_t v5 = load32(r5 + 12);
+        uint32_t v6 = load32(r5 + 16);
+        memcpy(r6_6_0 + 2, r3 + 4, 36);
+        r6_6_3_0 = v2;
+        r6_6_4_0 = v3;
+        r6_6_6_0 = v4;
+        r6_6_7_0 = v5;
+        r6_6_8_0 = v6;
+        r6_0_0 = 0;
+        r6_4_0 = 0;
+    }
+    *a0 = r6_0_0;
+    a0[1] = r6_4_0;
+    memcpy(a0 + 4, r6_6_0 + 2, 36);
+    a0[40] = r6_6_3_0;
+    a0[41] = r6_6_4_0;
+    store16(a0 + 42, 0);
+    store32(a0 + 44, r6_6_6_0);
+    store32(a0 + 48, r6_6_7_0);
+    store32(a0 + 52, r6_6_8_0);
+    return;
+}
+
+/* dfu_core::mode::set_mode: crates/dfu_core/src/mode.rt */
+static void dfu_core_mode_set_mode(unsigned char *a0, unsigned char *a1) {
+    uint32_t v1, v2, r27_0_0, r27_15_0, r27_28_0;
+    uint16_t r1_14_0_0_extract_trunc, r27_41_0;
+    uint8_t v0 = *a1;
+    v1 = load32(a1 + 4);
+    v2 = load32(a1 + 8);
+    r1_14_0_0_extract_trunc = (uint16_t)v2;
+    switch (v0) {
+    case 0:
+        r27_0_0 = 0;
+        r27_15_0 = 0;
+        r27_28_0 = 0;
+        r27_41_0 = 0;
+        break;
+    case 1:
+        r27_0_0 = 1;
+        r27_15_0 = v1;
+        r27_28_0 = v2;
+        r27_41_0 = 0;
+        break;
+    case 2:
+        r27_0_0 = 2;
+        r27_15_0 = 0;
+        r27_28_0 = 0;
+        r27_41_0 = 0;
+        break;
+    case 3:
+        r27_0_0 = 3;
+        r27_15_0 = v1;
+        r27_28_0 = 0;
+        r27_41_0 = r1_14_0_0_extract_trunc;
+        break;
+    case 4:
+        r27_0_0 = 4;
+        r27_15_0 = v1;
+        r27_28_0 = 0;
+        r27_41_0 = r1_14_0_0_extract_trunc;
+        break;
+    case 5: {
+        uint32_t v3 = load32(a1 + 12);
+        r27_0_0 = 5;
+        r27_15_0 = v1;
+        r27_28_0 = v3;
+        r27_41_0 = r1_14_0_0_extract_trunc;
+        break;
+    }
+    case 6:
+        r27_0_0 = 6;
+        r27_15_0 = v1;
+        r27_28_0 = 0;
+        r27_41_0 = r1_14_0_0_extract_trunc;
+        break;
+    case 7:
+        r27_0_0 = 7;
+        r27_15_0 = v1;
+        r27_28_0 = 0;
+        r27_41_0 = 0;
+        break;
+    case 8:
+        r27_0_0 = 8;
+        r27_15_0 = 0;
+        r27_28_0 = 0;
+        r27_41_0 = 0;
+        break;
+    case 9:
+        r27_0_0 = 9;
+        r27_15_0 = v1;
+        r27_28_0 = v2;
+        r27_41_0 = 0;
+        break;
+    case 10:
+        r27_0_0 = 10;
+        r27_15_0 = 0;
+        r27_28_0 = 0;
+        r27_41_0 = 0;
+        break;
+    case 11:
+        r27_0_0 = 11;
+        r27_15_0 = v1;
+        r27_28_0 = 0;
+        r27_41_0 = r1_14_0_0_extract_trunc;
+        break;
+    case 12: {
+        uint8_t v4 = a1[1];
+        r27_0_0 = 12;
+        r27_15_0 = 0;
+        r27_28_0 = 0;
+        r27_41_0 = v4;
+        break;
+    }
+    default: never();
+    }
+    store32(a0, 300);
+    store32(a0 + 4, r27_0_0);
+    store32(a0 + 8, r27_15_0);
+    store32(a0 + 12, r27_28_0);
+    store16(a0 + 24, r27_41_0);
+    return;
+}
+
+/* dfu_core::format::formatting_of: crates/dfu_core/src/format.rt */
+static void dfu_core_format_formatting_of(unsigned char *a0, unsigned char *a1, unsigned char *a2) {
     uint8_t r26;
     uint32_t r1_16_0;
     uint32_t r15 = load32(a2 + 44);
@@ -916,6 +1412,157 @@ static uint8_t dfu_asks_format_piece_open_piece(size_t a0, uint32_t a1, unsigned
     return r17;
 }
 
+/* dfu_asks::cut::stands: crates/dfu_asks/src/cut.rt */
+static uint8_t dfu_asks_cut_stands(unsigned char *a0, size_t a1, unsigned char *a2) {
+    _Alignas(8) unsigned char r10[48];
+    uint64_t r3_2_0_copyload, r1_3_0_copyload, r1_6_0_copyload, r1_8_0_copyload, r3_0, r3_0_lcssa;
+    unsigned char *r44, *r53, *r86;
+    uint8_t r1_9_0_copyload;
+    uint8_t common_ret_op;
+    r3_2_0_copyload = load64(a2 + 80);
+    uint64_t r3_4_0_copyload = load64(a2 + 88);
+    if ((uint64_t)a1 < (r3_4_0_copyload + r3_2_0_copyload)) common_ret_op = 0;
+    else {
+        dfu_asks_runs_runs_of(r10, a2);
+        r44 = a0 + (size_t)r3_2_0_copyload;
+        size_t r1_0_0_copyload = (size_t)load64(r10);
+        r1_3_0_copyload = load64(r10 + 8);
+        r1_6_0_copyload = load64(r10 + 24);
+        r1_8_0_copyload = load64(r10 + 32);
+        r1_9_0_copyload = r10[40];
+        uint8_t r40 = dfu_asks_runs_are_same(r44, r1_3_0_copyload, (unsigned char *)(uintptr_t)r1_0_0_copyload);
+        if (!r40) common_ret_op = 0;
+        else {
+            size_t r1_5_0_copyload = (size_t)load64(r10 + 16);
+            r53 = r44 + (size_t)r1_3_0_copyload;
+            uint8_t r68 = dfu_asks_runs_are_same(r53, r1_6_0_copyload, (unsigned char *)(uintptr_t)r1_5_0_copyload);
+            if (!r68) common_ret_op = 0;
+            else {
+                r86 = r53 + (size_t)r1_6_0_copyload;
+                r3_0 = 0;
+                for (;;) {
+                    if (r3_0 == r1_8_0_copyload) {
+                        r3_0_lcssa = r1_8_0_copyload;
+                        break;
+                    }
+                    uint8_t r20 = r86[(size_t)r3_0];
+                    if (r20 != r1_9_0_copyload) {
+                        r3_0_lcssa = r3_0;
+                        break;
+                    }
+                    r3_0 = r3_0 + 1;
+                }
+                common_ret_op = r3_0_lcssa >= r1_8_0_copyload;
+            }
+        }
+    }
+    return common_ret_op;
+}
+
+/* dfu_asks::runs::runs_of: crates/dfu_asks/src/runs.rt */
+static void dfu_asks_runs_runs_of(unsigned char *a0, unsigned char *a1) {
+    uint64_t r15, r1_15_0, r1_7_0, r1_0_0;
+    unsigned char *r1_10_0;
+    r15 = load64(a1 + 88);
+    uint8_t r17 = a1[72];
+    if (r17 & 1) {
+        store64(a0, (uint64_t)(uintptr_t)static_2);
+        store64(a0 + 8, 0);
+        store64(a0 + 16, (uint64_t)(uintptr_t)static_2);
+        store64(a0 + 24, 0);
+        store64(a0 + 32, r15);
+        store64(a0 + 40, 255);
+        return;
+    }
+    uint8_t r25 = a1[96];
+    switch (r25) {
+    case 0: {
+        uint64_t r2_0_0_copyload = load64(a1 + 16);
+        uint64_t r2_3_0_copyload = load64(a1 + 24);
+        size_t r3_0_0_copyload = (size_t)load64(a1 + 32);
+        uint64_t r3_3_0_copyload = load64(a1 + 40);
+        r1_10_0 = (unsigned char *)(uintptr_t)r3_0_0_copyload;
+        r1_15_0 = r3_3_0_copyload;
+        r1_7_0 = r2_3_0_copyload;
+        r1_0_0 = r2_0_0_copyload;
+        break;
+    }
+    case 1: {
+        uint64_t r4_0_0_copyload = load64(a1 + 16);
+        uint64_t r4_3_0_copyload = load64(a1 + 24);
+        r1_10_0 = PLACE(static_2);
+        r1_15_0 = 0;
+        r1_7_0 = r4_3_0_copyload;
+        r1_0_0 = r4_0_0_copyload;
+        break;
+    }
+    case 2:
+        r1_10_0 = PLACE(static_2);
+        r1_15_0 = 0;
+        r1_7_0 = 16;
+        r1_0_0 = (size_t)(uintptr_t)(a1 + 56);
+        break;
+    case 3:
+        r1_10_0 = PLACE(static_2);
+        r1_15_0 = 0;
+        r1_7_0 = 1;
+        r1_0_0 = (uint64_t)(uintptr_t)static_3;
+        break;
+    case 4:
+        r1_10_0 = PLACE(static_2);
+        r1_15_0 = 0;
+        r1_7_0 = 0;
+        r1_0_0 = (uint64_t)(uintptr_t)static_2;
+        break;
+    default: never();
+    }
+    uint64_t r34 = load64(a1 + 104);
+    uint64_t a1_a0 = umin64(r1_7_0, r34);
+    uint64_t a1_a0_2 = umin64(r1_7_0 - a1_a0, r15);
+    uint64_t r20 = r15 - a1_a0_2;
+    uint64_t a1_a0_3 = umin64(r1_15_0, usub_sat64(r34, r1_7_0));
+    uint64_t a1_a0_4 = umin64(r1_15_0 - a1_a0_3, r20);
+    store64(a0, a1_a0 + r1_0_0);
+    store64(a0 + 8, a1_a0_2);
+    store64(a0 + 16, (size_t)(uintptr_t)(r1_10_0 + (size_t)a1_a0_3));
+    store64(a0 + 24, a1_a0_4);
+    store64(a0 + 32, r20 - a1_a0_4);
+    store64(a0 + 40, 0);
+    return;
+}
+
+/* dfu_asks::runs::are_same: crates/dfu_asks/src/runs.rt */
+static uint8_t dfu_asks_runs_are_same(unsigned char *a0, uint64_t a1, unsigned char *a2) {
+    uint64_t r5_0, r5_0_lcssa;
+    r5_0 = 0;
+    for (;;) {
+        if (r5_0 == a1) {
+            r5_0_lcssa = a1;
+            break;
+        }
+        uint8_t r24 = a0[(size_t)r5_0];
+        uint8_t r29 = a2[(size_t)r5_0];
+        if (r24 != r29) {
+            r5_0_lcssa = r5_0;
+            break;
+        }
+        r5_0 = r5_0 + 1;
+    }
+    return r5_0_lcssa >= a1;
+}
+
+/* dfu_wire::bytes::two_bytes: crates/dfu_wire/src/bytes.rt */
+static void dfu_wire_bytes_two_bytes(unsigned char *a0, uint16_t a1) {
+    _Alignas(4) unsigned char r5[2];
+    _Alignas(4) unsigned char r1[2];
+    store16(r1, 0);
+    store16(r5, a1);
+    core_slice_edits_slice_T_copy_from_slice_i8_core_clone_U8Clone(r1, r5, 2);
+    uint16_t v0 = load16(r1);
+    store16(a0, v0);
+    return;
+}
+
 /* dfu_asks::next_and_took::is_sound: crates/dfu_asks/src/next_and_took.rt */
 static uint8_t dfu_asks_next_and_took_is_sound(uint32_t a0, unsigned char *a1) {
     uint64_t r2_35_0_copyload;
@@ -935,523 +1582,681 @@ static uint8_t dfu_asks_next_and_took_is_sound(uint32_t a0, unsigned char *a1) {
 
 /* dfu_asks::cut::fill: crates/dfu_asks/src/cut.rt */
 static void dfu_asks_cut_fill(unsigned char *a0, unsigned char *a1) {
-    size_t a1_a0, r1_0;
-    uint64_t r9 = load64(a0 + 88);
-    a1_a0 = (size_t)umin64(r9, 256);
-    r1_0 = 0;
-    for (;;) {
-        if (r1_0 == a1_a0) return;
-        uint8_t r19 = dfu_asks_cut_byte_of(a0, r1_0);
-        a1[r1_0] = r19;
-        r1_0 = r1_0 + 1;
+    _Alignas(8) unsigned char r0[48];
+    uint64_t r27, r28, r4_0;
+    size_t a1_a0;
+    unsigned char *r61;
+    uint8_t r70;
+    dfu_asks_runs_runs_of(r0, a0);
+    uint64_t r21 = load64(r0 + 8);
+    uint64_t r24 = load64(r0 + 24);
+    r27 = r24 + r21;
+    uint64_t r30 = load64(a0 + 88);
+    a1_a0 = (size_t)umin64(r30, 256);
+    size_t r8_0_0_copyload = (size_t)load64(r0);
+    core_slice_edits_slice_T_copy_from_slice_i8_core_clone_U8Clone(a1, (unsigned char *)(uintptr_t)r8_0_0_copyload, r21);
+    size_t r13_0_0_copyload = (size_t)load64(r0 + 16);
+    core_slice_edits_slice_T_copy_from_slice_i8_core_clone_U8Clone(a1 + (size_t)r21, (unsigned char *)(uintptr_t)r13_0_0_copyload, r24);
+    r61 = a1 + (size_t)r27;
+    r70 = r0[40];
+    if ((uint64_t)a1_a0 == r27) return;
+    r28 = (uint64_t)a1_a0 + (r27 ^ 0xffffffffffffffffULL);
+    r4_0 = 0;
+    while (r4_0 != r28) {
+        r61[(size_t)r4_0] = r70;
+        r4_0 = r4_0 + 1;
+    }
+    r61[(size_t)r28] = r70;
+    return;
+}
+
+/* dfu_core::keeping::found: crates/dfu_core/src/keeping.rt */
+static void dfu_core_keeping_found(unsigned char *a0, unsigned char *a1, size_t a2, unsigned char *a3) {
+    _Alignas(4) unsigned char r6[40];
+    _Alignas(4) unsigned char r15[20];
+    _Alignas(4) unsigned char r22_4_17[16];
+    _Alignas(4) unsigned char r21_13[3];
+    uint32_t r24, r0_5108_0_copyload, v3, r1_9_12_copyload, r1_11_16_copyload, r6_2, r15_2, r8_5_0_0, r8_142_0, r74, r21_6_0_0, r21_9_0;
+    uint32_t r21_11_0, r21_14_0, r21_17_0;
+    unsigned char *r36, *r19;
+    uint8_t r0_3_0_copyload, r1_3_4_copyload, r1_5_5_copyload, r18, r8_11_0, r1_5_0_0, r21_12_0;
+    uint16_t r43, r65, r31, r1_8_0, r21_15_0, r21_16_0;
+    r24 = load32(a1 + 44);
+    if (r24 == 3) {
+        *a3 = 1;
+        a3[1] = 2;
+        memset(a3 + 8, 0, 128);
+        return;
+    }
+    dfu_core_config_settings_of(r6, a0);
+    uint8_t r35 = *r6;
+    if (r35 != 1) {
+        *a3 = 1;
+        a3[1] = 0;
+        memset(a3 + 8, 0, 128);
+        return;
+    }
+    r36 = r6 + 4;
+    r0_3_0_copyload = r6[32];
+    r0_5108_0_copyload = load32(r6 + 36);
+    r43 = load16(a0 + 12);
+    uint64_t switch_load = load64(PLACE(switch_table_dfu_core_format_took) + 8 * (size_t)r0_3_0_copyload);
+    if ((uint64_t)a2 < (switch_load + (uint64_t)(size_t)r43)) {
+        *a3 = 1;
+        a3[1] = 1;
+        memset(a3 + 8, 0, 128);
+        return;
+    }
+    r65 = load16(a1 + 26);
+    if (r43 < r65) {
+        *a3 = 1;
+        a3[1] = 4;
+        memset(a3 + 8, 0, 128);
+        return;
+    }
+    r31 = load16(a1 + 66);
+    if (r31 <= 256) {
+        dfu_core_mode_mode_of(r15, a1);
+        uint8_t r2 = *r15;
+        r1_3_4_copyload = r15[4];
+        r1_5_5_copyload = r15[5];
+        v3 = load32(r15 + 8);
+        r1_9_12_copyload = load32(r15 + 12);
+        r1_11_16_copyload = load32(r15 + 16);
+        if (r2 == 1) {
+            r6_2 = load32(a1 + 20);
+            if (r6_2 <= 1) {
+                r18 = r6_2 == 1;
+                r19 = a1 + 28;
+                if (r24 == 0) {
+                    memset(r21_13, 0, 3);
+                    r21_6_0_0 = 0;
+                    r21_9_0 = 0;
+                    r21_11_0 = 0;
+                    r21_12_0 = 0;
+                    r21_14_0 = 0;
+                    r21_15_0 = 0;
+                    r21_16_0 = 0;
+                    r21_17_0 = 0;
+                }
+                else {
+                    r15_2 = load32(a1 + 48);
+                    switch (r24) {
+                    case 1: {
+                        uint8_t r26 = a1[65];
+                        if (r26 >= 2) goto arm_15;
+                        r8_5_0_0 = 0;
+                        r8_11_0 = r26;
+                        r8_142_0 = 0;
+                        break;
+                    }
+                    case 2: {
+                        uint32_t r19_2 = load32(a1 + 52);
+                        uint8_t r17 = a1[64];
+                        r8_5_0_0 = 1;
+                        r8_11_0 = r17;
+                        r8_142_0 = r19_2;
+                        break;
+                    }
+                    default: goto arm_15;
+                    }
+                    r74 = load32(a1 + 60);
+                    if (r74 == 0) {
+                        r1_5_0_0 = 0;
+                        r1_8_0 = 0;
+                    }
+                    else {
+                        if (r74 >= 0x10001U) goto arm_15;
+                        r1_5_0_0 = 1;
+                        r1_8_0 = (uint16_t)((uint16_t)r74 + 0xffffU);
+                    }
+                    uint32_t r100 = load32(a1 + 56);
+                    memset(r21_13, 0, 3);
+                    r21_6_0_0 = 1;
+                    r21_9_0 = r8_5_0_0;
+                    r21_11_0 = r15_2;
+                    r21_12_0 = r8_11_0;
+                    r21_14_0 = r8_142_0;
+                    r21_15_0 = r1_5_0_0;
+                    r21_16_0 = r1_8_0;
+                    r21_17_0 = r100;
+                }
+                uint32_t r111 = load32(a1 + 16);
+                memcpy(r22_4_17, r19, 16);
+                *a3 = 0;
+                a3[1] = 0;
+                memcpy(a3 + 8, r36, 28);
+                a3[36] = r0_3_0_copyload;
+                memset(a3 + 37, 0, 3);
+                store32(a3 + 40, r0_5108_0_copyload);
+                a3[44] = r1_3_4_copyload;
+                a3[45] = r1_5_5_copyload;
+                store16(a3 + 46, 0);
+                store32(a3 + 48, v3);
+                store32(a3 + 52, r1_9_12_copyload);
+                store32(a3 + 56, r1_11_16_copyload);
+                store32(a3 + 60, 0);
+                store64(a3 + 64, (size_t)r65);
+                store64(a3 + 72, (size_t)r31);
+                store32(a3 + 80, r111);
+                a3[84] = r18;
+                memcpy(a3 + 85, r22_4_17, 16);
+                memset(a3 + 101, 0, 3);
+                store32(a3 + 104, r21_6_0_0);
+                store32(a3 + 108, r21_9_0);
+                store32(a3 + 112, r21_11_0);
+                a3[116] = r21_12_0;
+                memcpy(a3 + 117, r21_13, 3);
+                store32(a3 + 120, r21_14_0);
+                store16(a3 + 124, r21_15_0);
+                store16(a3 + 126, r21_16_0);
+                store32(a3 + 128, r21_17_0);
+                store32(a3 + 132, 0);
+                return;
+            }
+        }
+    }
+arm_15:
+    *a3 = 1;
+    a3[1] = 4;
+    memset(a3 + 8, 0, 128);
+    return;
+}
+
+/* dfu_asks::next_piece::next_piece: crates/dfu_asks/src/next_piece.rt */
+static uint8_t dfu_asks_next_piece_next_piece(unsigned char *a0, unsigned char *a1) {
+    _Alignas(4) unsigned char r2_3[16];
+    unsigned char *const r2_2 = r2_3;
+    _Alignas(4) unsigned char r1[16];
+    uint32_t r1_3_4_copyload;
+    uint8_t r1_6_8_copyload;
+    uint8_t common_ret_op, r15_0_in;
+    uint8_t r2 = *a0;
+    r1_3_4_copyload = load32(a0 + 4);
+    r1_6_8_copyload = a0[8];
+    if (r2 != 0) {
+        uint32_t r1_91_12_copyload = load32(a0 + 12);
+        unsigned char *v2 = r2_3 + 12;
+        store32(v2, 0);
+        uint32_t r8 = load32(a1 + 8);
+        a1[56] = r1_6_8_copyload;
+        a1[57] = 2;
+        a1[58] = 0;
+        a1[59] = 0;
+        store32(a1 + 60, r8);
+        store32(a1 + 64, r1_91_12_copyload);
+        store32(a1 + 68, 0);
+        size_t r13 = (size_t)load64(a1 + 24);
+        store32(r2_3, 2);
+        store32(r2_3 + 4, r1_3_4_copyload);
+        store32(r2_3 + 8, r8);
+        store16(v2, (uint16_t)r13);
+        uint8_t r22_2 = dfu_asks_next_piece_sequence_piece(r2_3, a1);
+        r15_0_in = r22_2;
+    }
+    else {
+        store64a4(r2_2 + 8, 0);
+        if (r1_6_8_copyload & 1) {
+            store32(r2_2, 0);
+            store32(r2_2 + 4, r1_3_4_copyload);
+            uint8_t r9 = dfu_asks_next_piece_sequence_piece(r2_2, a1);
+            if (r9) {
+                common_ret_op = 1;
+                goto dfu_asks_next_piece_block_piece_exit;
+            }
+        }
+        uint32_t r19 = load32(a1 + 8);
+        size_t r22 = (size_t)load64(a1 + 24);
+        size_t r27 = (size_t)load64(a1 + 40);
+        store32(r1, 1);
+        store32(r1 + 4, r1_3_4_copyload);
+        store32(r1 + 8, r19);
+        store16(r1 + 12, (uint16_t)r22);
+        store16(r1 + 14, (uint16_t)r27);
+        uint8_t r38 = dfu_asks_next_piece_sequence_piece(r1, a1);
+        common_ret_op = r38;
+dfu_asks_next_piece_block_piece_exit:
+        r15_0_in = common_ret_op;
+    }
+    return r15_0_in;
+}
+
+/* dfu_asks::asking::Asking::look_at: crates/dfu_asks/src/advance.rt */
+static struct i64_i8 dfu_asks_asking_Asking_look_at(unsigned char *a0, unsigned char *a1, unsigned char *a2, size_t a3, unsigned char *a4, uint64_t a5, unsigned char *a6, size_t a7) {
+    _Alignas(8) unsigned char r7[112];
+    _Alignas(4) unsigned char r12[16];
+    uint8_t r0_4_0;
+    uint64_t r0_0_0;
+    unsigned char *v0 = r12 + 8;
+    store32(v0, 0);
+    uint8_t r5_0_0_copyload = a0[28];
+    uint32_t r6_0_0_copyload = load32(a0 + 32);
+    uint32_t r17 = load32(a0 + 72);
+    uint64_t r8 = load64(a0 + 64);
+    uint64_t r26 = load64(a0 + 56);
+    uint32_t r24 = load32(a1 + 20);
+    *r7 = r5_0_0_copyload;
+    memset(r7 + 1, 0, 3);
+    store32(r7 + 4, r6_0_0_copyload);
+    store32(r7 + 8, r17);
+    store32(r7 + 12, 0);
+    store64(r7 + 16, (size_t)(uintptr_t)a4);
+    store64(r7 + 24, umin64(a5, r8));
+    store64(r7 + 32, (size_t)(uintptr_t)a2);
+    store64(r7 + 40, (size_t)umin64(a3, r26));
+    store64(r7 + 48, (size_t)r24);
+    memset(r7 + 56, 0, 40);
+    r7[96] = 4;
+    memset(r7 + 97, 0, 15);
+    uint8_t r26_2 = *a1;
+    store32(r12, (uint32_t)r26_2);
+    uint32_t v1 = load32(a1 + 4);
+    store32(r12 + 4, v1);
+    uint8_t v2 = a1[8];
+    *v0 = v2;
+    uint32_t v3 = load32(a1 + 12);
+    store32(r12 + 12, v3);
+    uint8_t r35 = dfu_asks_next_piece_next_piece(r12, r7);
+    if (!r35) {
+        r0_4_0 = 0;
+        r0_0_0 = 0;
+    }
+    else {
+        uint64_t r47 = load64(r7 + 88);
+        uint8_t r52 = dfu_asks_cut_stands(a6, a7, r7);
+        r0_4_0 = r52;
+        r0_0_0 = r47;
+    }
+    struct i64_i8 r59_half = (struct i64_i8){ 0, 0 };
+    r59_half.a = r0_0_0;
+    struct i64_i8 r59 = r59_half;
+    r59.b = r0_4_0;
+    return r59;
+}
+
+/* dfu_asks::asking::Asking::fail: crates/dfu_asks/src/advance.rt */
+static struct i8_i64 dfu_asks_asking_Asking_fail(unsigned char *a0, uint8_t a1, uint8_t a2, uint16_t a3, unsigned char *a4, uint64_t a5, unsigned char *a6) {
+    _Alignas(4) unsigned char r4[16];
+    store32(r4, 0);
+    unsigned char *r10 = a0 + 36;
+    uint8_t v0 = *r10;
+    *r4 = v0;
+    unsigned char *r12 = a0 + 37;
+    uint8_t v1 = *r12;
+    r4[1] = v1;
+    unsigned char *r14 = a0 + 40;
+    uint32_t v2 = load32(r14);
+    store32(r4 + 4, v2);
+    unsigned char *r16 = a0 + 44;
+    uint32_t v3 = load32(r16);
+    store32(r4 + 8, v3);
+    unsigned char *r18 = a0 + 48;
+    uint32_t v4 = load32(r18);
+    store32(r4 + 12, v4);
+    uint8_t r5_0_0_copyload = a0[28];
+    uint32_t r6_0_0_copyload = load32(a0 + 32);
+    dfu_asks_finish_note(a0 + 76, r4, a4, a5, r5_0_0_copyload, r6_0_0_copyload);
+    store64(a0 + 64, 0);
+    store32(a0 + 72, 0);
+    uint8_t v5 = *r10;
+    uint8_t switch_load = *(PLACE(switch_table_dfu_asks_asking_Asking_fail) + (size_t)v5);
+    *r10 = 12;
+    *r12 = (uint8_t)((a1 & 1) ? 7 : switch_load);
+    store32(r14, 0);
+    store32(r16, 0);
+    store32(r18, 0);
+    memset(a0 + 96, 0, 28);
+    struct i8_i64 r30 = dfu_asks_asking_Asking_answer(a0, a2, a3, a6);
+    return r30;
+}
+
+/* dfu_asks::finish::note: crates/dfu_asks/src/finish.rt */
+static void dfu_asks_finish_note(unsigned char *a0, unsigned char *a1, unsigned char *a2, uint64_t a3, uint8_t a4, uint32_t a5) {
+    _Alignas(4) unsigned char r15[18];
+    uint8_t v0 = *a1;
+    switch (v0) {
+    case 3:
+    case 5: return;
+    case 0:
+    case 1:
+    case 2:
+    case 4:
+    case 6:
+    case 7:
+    case 8:
+    case 9:
+    case 10:
+    case 11:
+    case 12: {
+        dfu_asks_noted_Noted_find(r15, a2, a3, a4, a5);
+        uint8_t r25 = *r15;
+        if (r25 != 1) return;
+        memcpy(a0, r15 + 1, 17);
+        return;
+    }
+    default: never();
     }
 }
 
-/* dfu_asks::cut::byte_of: crates/dfu_asks/src/cut.rt */
-static uint8_t dfu_asks_cut_byte_of(unsigned char *a0, uint64_t a1) {
-    uint64_t r4_3_0_copyload, r5_3_0_copyload, r25, r29;
-    unsigned char *r21, *r27, *r30;
-    uint8_t common_ret_op;
-    uint8_t r10 = a0[72];
-    if (r10 & 1) common_ret_op = 255;
+/* dfu_asks::asking::Asking::answer: crates/dfu_asks/src/finish.rt */
+static struct i8_i64 dfu_asks_asking_Asking_answer(unsigned char *a0, uint8_t a1, uint16_t a2, unsigned char *a3) {
+    struct i8_i64 r24_pn;
+    if (a1 == 0) r24_pn = (struct i8_i64){ 0, 0 };
     else {
-        uint8_t r3_0_0_copyload = a0[96];
-        size_t r4_0_0_copyload = (size_t)load64(a0 + 16);
-        r4_3_0_copyload = load64(a0 + 24);
-        size_t r5_0_0_copyload = (size_t)load64(a0 + 32);
-        r5_3_0_copyload = load64(a0 + 40);
-        r21 = a0 + 56;
-        uint64_t r23 = load64(a0 + 104);
-        r25 = r23 + a1;
-        r27 = (unsigned char *)(uintptr_t)r4_0_0_copyload;
-        r30 = (unsigned char *)(uintptr_t)r5_0_0_copyload;
-        switch (r3_0_0_copyload) {
+        struct i8_i64 r40 = dfu_asks_asking_Asking_give(a0, 1, a2, a3);
+        r24_pn = r40;
+    }
+    return r24_pn;
+}
+
+/* dfu_asks::asking::Asking::give: crates/dfu_asks/src/carry.rt */
+static struct i8_i64 dfu_asks_asking_Asking_give(unsigned char *a0, uint8_t a1, uint16_t a2, unsigned char *a3) {
+    _Alignas(8) unsigned char r5[8];
+    _Alignas(4) unsigned char r1[6];
+    _Alignas(1) unsigned char r4[6];
+    _Alignas(4) unsigned char r5_2[1];
+    uint8_t v0, r11_0_0, r6_0_0;
+    unsigned char *r10_0_in;
+    uint32_t r10_0;
+    size_t r6_61_0;
+    switch (a1) {
+    case 0:
+        r6_61_0 = 0;
+        r6_0_0 = a1;
+        break;
+    case 3:
+        r6_61_0 = 0;
+        r6_0_0 = 2;
+        break;
+    case 1: {
+        v0 = a0[36];
+        uint8_t v1 = a0[37];
+        switch (v0) {
+        case 12:
+            r10_0 = 0;
+            r11_0_0 = v1;
+            goto dfu_device_device_state_status_in_exit;
+        case 5:
+            r10_0_in = a0 + 20;
+            break;
+        case 9:
+            r10_0_in = a0 + 24;
+            break;
         case 0:
-            if (r25 < r4_3_0_copyload) {
-                uint8_t r23_2 = r27[(size_t)r25];
-                common_ret_op = r23_2;
-            }
-            else {
-                r29 = r25 - r4_3_0_copyload;
-                if (r29 >= r5_3_0_copyload) common_ret_op = 0;
-                else {
-                    uint8_t r42 = r30[(size_t)r29];
-                    common_ret_op = r42;
-                }
-            }
-            break;
         case 1:
-            if (r25 >= r4_3_0_copyload) common_ret_op = 0;
-            else {
-                uint8_t r23_3 = r27[(size_t)r25];
-                common_ret_op = r23_3;
-            }
-            break;
         case 2:
-            if (r25 >= 16) common_ret_op = 0;
-            else {
-                uint8_t r23_4 = r21[(size_t)r25];
-                common_ret_op = r23_4;
-            }
-            break;
         case 3:
-            common_ret_op = (uint8_t)((r25 == 0) ? 165 : 0);
-            break;
         case 4:
-            common_ret_op = 0;
-            break;
+        case 6:
+        case 7:
+        case 8:
+        case 10:
+        case 11:
+            r10_0 = 0;
+            r11_0_0 = 0;
+            goto dfu_device_device_state_status_in_exit;
         default: never();
         }
-    }
-    return common_ret_op;
-}
-
-/* dfu_slots::layout::is_sized::<#c4c4734aca759fff>: crates/dfu_slots/src/layout.rt */
-static uint8_t dfu_slots_layout_is_sized(unsigned char *a0) {
-    uint32_t r1_0_0_copyload, a0_a1, r5, r69;
-    size_t v0;
-    uint8_t common_ret_op;
-    r1_0_0_copyload = load32(a0 + 20);
-    if (!((r1_0_0_copyload < 0x20001U) & ((r1_0_0_copyload & 255) == 0))) common_ret_op = 0;
-    else {
-        uint8_t r0_0_0_copyload = a0[16];
-        v0 = (size_t)r0_0_0_copyload;
-        uint32_t switch_load = load32(PLACE(switch_table_dfu_core_would_stall) + 4 * v0);
-        a0_a1 = umax32(r1_0_0_copyload, switch_load);
-        size_t r3 = (size_t)load64(a0 + 8);
-        r5 = (uint32_t)r3;
-        uint32_t pre = a0_a1 << 2;
-        if (!(((pre + 0x2000000U) >= r5) & (((r5 & 1) == 0) ? (pre < r5) : !(r3 & 1)))) common_ret_op = 0;
-        else {
-            r69 = (r5 >> 1) - (a0_a1 << 1);
-            uint32_t switch_load_2 = load32(PLACE(switch_table_dfu_asks_asking_Asking_is_fit) + 4 * v0);
-            if ((switch_load_2 & r69) != 0) common_ret_op = 0;
-            else {
-                if (r1_0_0_copyload == 0) common_ret_op = 1;
-                else {
-                    common_ret_op = (r69 % r1_0_0_copyload) == 0;
-                }
-            }
-        }
-    }
-    return common_ret_op;
-}
-
-/* dfu_slots::layout::capacity_of::<#c4c4734aca759fff>: crates/dfu_slots/src/layout.rt */
-static uint32_t dfu_slots_layout_capacity_of(unsigned char *a0) {
-    size_t r3 = (size_t)load64(a0 + 8);
-    uint8_t r0_0_0_copyload = a0[16];
-    uint32_t r1_0_0_copyload = load32(a0 + 20);
-    uint32_t switch_load = load32(PLACE(switch_table_dfu_core_would_stall) + 4 * (size_t)r0_0_0_copyload);
-    return ((uint32_t)r3 >> 1) - (umax32(r1_0_0_copyload, switch_load) << 1);
-}
-
-/* dfu_suffix::crc::Crc::update_small: crates/dfu_suffix/src/crc.rt */
-static void dfu_suffix_crc_Crc_update_small(unsigned char *a0, unsigned char *a1, uint64_t a2) {
-    uint64_t r4_0;
-    uint32_t r3_0;
-    uint32_t r5 = load32(a0);
-    r4_0 = 0;
-    r3_0 = r5;
-    while (r4_0 != a2) {
-        uint8_t r23 = a1[(size_t)r4_0];
-        uint32_t r6 = r3_0 ^ (uint32_t)r23;
-        uint32_t r20 = load32(PLACE(static_2) + (size_t)((r6 << 2) & 60));
-        uint32_t r23_2 = (r6 >> 4) ^ r20;
-        uint32_t r20_2 = load32(PLACE(static_2) + (size_t)((r23_2 << 2) & 60));
-        r4_0 = r4_0 + 1;
-        r3_0 = (r23_2 >> 4) ^ r20_2;
-    }
-    store32(a0, r3_0);
-    return;
-}
-
-/* dfu_asks::cut::stands: crates/dfu_asks/src/cut.rt */
-static uint8_t dfu_asks_cut_stands(unsigned char *a0, size_t a1, unsigned char *a2) {
-    uint64_t r3_2_0_copyload, r3_4_0_copyload, r3_0, r3_0_lcssa;
-    unsigned char *r41;
-    uint8_t common_ret_op;
-    r3_2_0_copyload = load64(a2 + 80);
-    r3_4_0_copyload = load64(a2 + 88);
-    if ((uint64_t)a1 < (r3_4_0_copyload + r3_2_0_copyload)) common_ret_op = 0;
-    else {
-        r41 = a0 + (size_t)r3_2_0_copyload;
-        r3_0 = 0;
-        for (;;) {
-            if (r3_0 == r3_4_0_copyload) {
-                r3_0_lcssa = r3_4_0_copyload;
-                break;
-            }
-            uint8_t r21 = r41[(size_t)r3_0];
-            uint8_t r23 = dfu_asks_cut_byte_of(a2, r3_0);
-            if (r21 != r23) {
-                r3_0_lcssa = r3_0;
-                break;
-            }
-            r3_0 = r3_0 + 1;
-        }
-        common_ret_op = r3_0_lcssa >= r3_4_0_copyload;
-    }
-    return common_ret_op;
-}
-
-/* dfu_asks::noted::Noted::find */
-static void dfu_asks_noted_Noted_find(unsigned char *a0, unsigned char *a1, uint64_t a2, uint8_t a3, uint32_t a4) {
-    _Alignas(8) unsigned char r5[24];
-    _Alignas(4) unsigned char r14_6[16];
-    _Alignas(4) unsigned char r12[12];
-    uint8_t r14_0_0, r14_4_0;
-    memset(r14_6, 0, 16);
-    if (a2 >= 0x100000000ULL) {
-        memset(a0, 0, 18);
-        return;
-    }
-    store64(r5, (size_t)(uintptr_t)a1);
-    store64(r5 + 8, a2);
-    r5[16] = a3;
-    store32(r5 + 20, a4);
-    dfu_slots_places_check(r12, r5);
-    uint8_t r30 = *r12;
-    if (r30 != 0) {
-        r14_0_0 = 0;
-        r14_4_0 = 0;
-    }
-    else {
-        uint32_t r8_0_0_copyload = load32(r12 + 4);
-        dfu_slots_read_header_of(r14_6, r5, r8_0_0_copyload);
-        r14_0_0 = 1;
-        r14_4_0 = r8_0_0_copyload != 0;
-    }
-    *a0 = r14_0_0;
-    a0[1] = r14_4_0;
-    memcpy(a0 + 2, r14_6, 16);
-    return;
-}
-
-/* dfu_slots::places::check::<#c4c4734aca759fff>: crates/dfu_slots/src/places.rt */
-static void dfu_slots_places_check(unsigned char *a0, unsigned char *a1) {
-    _Alignas(1) unsigned char r3_4[16];
-    uint8_t r5, r11;
-    unsigned char *r2;
-    uint32_t r72_2, r72_3, r1_9_0_copyload, v3, v4;
-    uint8_t r1_2_0_copyload, v50, v5;
-    uint8_t r12 = dfu_slots_layout_is_sized(a1);
-    if (!r12) {
-        *a0 = 1;
-        a0[1] = 0;
-        store32(a0 + 4, 0);
-        store32(a0 + 8, 0);
-        return;
-    }
-    r5 = dfu_slots_read_counts(a1, 0);
-    r2 = a1 + 8;
-    size_t r3 = (size_t)load64(r2);
-    r11 = dfu_slots_read_counts(a1, (uint32_t)r3 >> 1);
-    if (!(r5 | r11)) {
-        *a0 = 1;
-        a0[1] = 1;
-        store32(a0 + 4, 0);
-        store32(a0 + 8, 0);
-        return;
-    }
-    size_t r3_2 = (size_t)load64(r2);
-    uint8_t r15 = dfu_slots_places_is_newest(a1, 0, (uint32_t)r3_2 >> 1, r5, r11);
-    size_t r3_3 = (size_t)load64(r2);
-    uint32_t r72 = (uint32_t)r3_3 >> 1;
-    r72_2 = (uint32_t)(r15 ? 0 : r72);
-    r72_3 = (uint32_t)(r15 ? r72 : 0);
-    if (r72_2 == 0) {
-        uint8_t r24 = dfu_slots_places_is_newest(a1, 0, r72_3, r5, r11);
-        if (!r24) goto then_7;
-    }
-    else {
-        uint8_t r33 = dfu_slots_places_is_newest(a1, r72_2, r72_3, r11, r5);
-        if (!r33) goto then_7;
-    }
-    dfu_slots_read_header_of(r3_4, a1, r72_2);
-    r1_2_0_copyload = r3_4[1];
-    r1_9_0_copyload = load32u(r3_4 + 12);
-    if (r1_2_0_copyload == 2) {
-        v50 = 0;
-        v3 = r72_3;
-        v4 = r72_2;
-        v5 = 0;
-    }
-    else {
-        uint32_t r1_6_0_copyload = load32u(r3_4 + 4);
-        uint32_t r1_8_0_copyload = load32u(r3_4 + 8);
-        uint8_t r1_5_0_copyload = r3_4[3];
-        uint8_t r1_4_0_copyload = r3_4[2];
-        uint32_t r26 = dfu_slots_layout_capacity_of(a1);
-        if (((((r1_2_0_copyload == 1) & (r1_6_0_copyload <= r26)) ? (r1_4_0_copyload == 0) : 0) ? (r1_5_0_copyload == 0) : 0) ? (r1_8_0_copyload == 0) : 0) {
-            if (r1_9_0_copyload == 0) {
-                v50 = 0;
-                v3 = r72_3;
-                v4 = r72_2;
-                v5 = 0;
-                goto v2;
-            }
-        }
-        v50 = 1;
-        v3 = 0;
-        v4 = 0;
-        v5 = 3;
-    }
-v2:
-    *a0 = v50;
-    a0[1] = v5;
-    store32(a0 + 4, v4);
-    store32(a0 + 8, v3);
-    return;
-then_7:
-    *a0 = 1;
-    a0[1] = 2;
-    store32(a0 + 4, 0);
-    store32(a0 + 8, 0);
-    return;
-}
-
-/* dfu_slots::read::counts::<#c4c4734aca759fff>: crates/dfu_slots/src/read.rt */
-static uint8_t dfu_slots_read_counts(unsigned char *a0, uint32_t a1) {
-    _Alignas(1) unsigned char r2[64];
-    _Alignas(1) unsigned char r3_2[16];
-    _Alignas(1) unsigned char r3[16];
-    _Alignas(4) unsigned char r1[4];
-    uint8_t r1_2_0_copyload, r1_3_0_copyload, r1_4_0_copyload;
-    uint32_t r1_5_0_copyload, r1_6_0_copyload, r1_7_0_copyload, r3_0;
-    uint8_t common_ret_op, r1_0_in;
-    uint8_t r8 = dfu_slots_read_is_open(a0, a1);
-    if (!r8) r1_0_in = 0;
-    else {
-        dfu_slots_read_header_of(r3, a0, a1);
-        uint8_t r4_2_0_copyload = r3[1];
-        if (r4_2_0_copyload != 2) r1_0_in = 1;
-        else {
-            dfu_slots_read_header_of(r3_2, a0, a1);
-            r1_2_0_copyload = r3_2[1];
-            r1_3_0_copyload = r3_2[2];
-            r1_4_0_copyload = r3_2[3];
-            r1_5_0_copyload = load32u(r3_2 + 4);
-            r1_6_0_copyload = load32u(r3_2 + 8);
-            r1_7_0_copyload = load32u(r3_2 + 12);
-            uint32_t r10 = dfu_slots_layout_capacity_of(a0);
-            if (r10 < r1_5_0_copyload) common_ret_op = 0;
-            else {
-                store32(r1, 0xffffffffU);
-                memset(r2, 0, 64);
-                r3_0 = 0;
-                while (r3_0 < r1_5_0_copyload) {
-                    uint32_t a1_a0 = umin32(r1_5_0_copyload - r3_0, 64);
-                    size_t r28 = (size_t)a1_a0;
-                    dfu_slots_read_read_data(a0, a1, r3_0, r2, r28);
-                    dfu_suffix_crc_Crc_update_small(r1, r2, r28);
-                    r3_0 = a1_a0 + r3_0;
-                }
-                uint32_t r0_0_0_copyload = load32(r1);
-                common_ret_op = ((((r1_2_0_copyload == 2) ? (r1_3_0_copyload == 0) : 0) ? (r1_4_0_copyload == 0) : 0) ? (r1_6_0_copyload == r0_0_0_copyload) : 0) ? (r1_7_0_copyload == 0) : 0;
-            }
-            r1_0_in = common_ret_op;
-        }
-    }
-    return r1_0_in;
-}
-
-/* dfu_slots::read::is_open::<#c4c4734aca759fff>: crates/dfu_slots/src/read.rt */
-static uint8_t dfu_slots_read_is_open(unsigned char *a0, uint32_t a1) {
-    uint8_t r2 = dfu_slots_read_byte_at(a0, a1);
-    return r2 == 165;
-}
-
-/* dfu_slots::read::byte_at::<#c4c4734aca759fff>: crates/dfu_slots/src/read.rt */
-static uint8_t dfu_slots_read_byte_at(unsigned char *a0, uint32_t a1) {
-    _Alignas(4) unsigned char r1[1];
-    *r1 = 0;
-    size_t r5_0_0_copyload = (size_t)load64(a0);
-    core_slice_edits_slice_T_copy_from_slice_i8_core_clone_U8Clone(r1, (unsigned char *)(uintptr_t)r5_0_0_copyload + (size_t)a1, 1);
-    uint8_t r15 = *r1;
-    return r15;
-}
-
-/* core::slice::edits::slice+T::copy_from_slice::<i8,20'core::clone::U8Clone{}> */
-static void core_slice_edits_slice_T_copy_from_slice_i8_core_clone_U8Clone(unsigned char *a0, unsigned char *a2, size_t a3) {
-    size_t r0_0;
-    if (((uint64_t)(size_t)(uintptr_t)a0 - (uint64_t)(size_t)(uintptr_t)a2) >= (uint64_t)a3) {
-        memmove(a0, a2, a3);
-        return;
-    }
-    r0_0 = 0;
-    for (;;) {
-        if (r0_0 == a3) return;
-        uint8_t r26 = a2[r0_0];
-        a0[r0_0] = r26;
-        r0_0 = r0_0 + 1;
-    }
-}
-
-/* dfu_slots::read::read_data::<#c4c4734aca759fff>: crates/dfu_slots/src/read.rt */
-static void dfu_slots_read_read_data(unsigned char *a0, uint32_t a1, uint32_t a2, unsigned char *a3, size_t a4) {
-    uint8_t r0_0_0_copyload = a0[16];
-    uint32_t r1_0_0_copyload = load32(a0 + 20);
-    uint32_t switch_load = load32(PLACE(switch_table_dfu_core_would_stall) + 4 * (size_t)r0_0_0_copyload);
-    size_t r5_0_0_copyload = (size_t)load64(a0);
-    core_slice_edits_slice_T_copy_from_slice_i8_core_clone_U8Clone(a3, (unsigned char *)(uintptr_t)r5_0_0_copyload + (size_t)((a2 + a1) + (umax32(r1_0_0_copyload, switch_load) << 1)), a4);
-    return;
-}
-
-/* dfu_slots::places::is_newest::<#c4c4734aca759fff>: crates/dfu_slots/src/places.rt */
-static uint8_t dfu_slots_places_is_newest(unsigned char *a0, uint32_t a1, uint32_t a2, uint8_t a3, uint8_t a4) {
-    uint8_t r1_0_in;
-    if (!(a3 & a4)) r1_0_in = a3;
-    else {
-        uint8_t r13 = dfu_slots_read_generation(a0, a1);
-        uint8_t r14 = dfu_slots_read_generation(a0, a2);
-        r1_0_in = r13 == (uint8_t)(r14 + 1);
-    }
-    return r1_0_in;
-}
-
-/* dfu_slots::read::generation::<#c4c4734aca759fff>: crates/dfu_slots/src/read.rt */
-static uint8_t dfu_slots_read_generation(unsigned char *a0, uint32_t a1) {
-    uint8_t r0_0_0_copyload = a0[16];
-    uint32_t r1_0_0_copyload = load32(a0 + 20);
-    uint32_t switch_load = load32(PLACE(switch_table_dfu_core_would_stall) + 4 * (size_t)r0_0_0_copyload);
-    uint8_t r7 = dfu_slots_read_byte_at(a0, umax32(r1_0_0_copyload, switch_load) + a1);
-    return r7;
-}
-
-/* dfu_slots::read::header_of::<#c4c4734aca759fff>: crates/dfu_slots/src/read.rt */
-static void dfu_slots_read_header_of(unsigned char *a0, unsigned char *a1, uint32_t a2) {
-    _Alignas(1) unsigned char r1[16];
-    memset(r1, 0, 16);
-    uint8_t r0_0_0_copyload = a1[16];
-    uint32_t r1_0_0_copyload = load32(a1 + 20);
-    uint32_t switch_load = load32(PLACE(switch_table_dfu_core_would_stall) + 4 * (size_t)r0_0_0_copyload);
-    size_t r5_0_0_copyload = (size_t)load64(a1);
-    core_slice_edits_slice_T_copy_from_slice_i8_core_clone_U8Clone(r1, (unsigned char *)(uintptr_t)r5_0_0_copyload + (size_t)(umax32(r1_0_0_copyload, switch_load) + a2), 16);
-    memcpy(a0, r1, 16);
-    return;
-}
-
-/* dfu_asks::blank::is_erased: crates/dfu_asks/src/blank.rt */
-static uint8_t dfu_asks_blank_is_erased(unsigned char *a0, size_t a2, uint64_t a3) {
-    unsigned char *r9_0_0_in;
-    uint64_t r23;
-    uint8_t r7;
-    r9_0_0_in = a0 + a2;
-    r23 = a3;
-    for (;;) {
-        r7 = r23 == 0;
-        if (r7) break;
-        uint8_t r2 = *r9_0_0_in;
-        if (r2 != 255) break;
-        r9_0_0_in = r9_0_0_in + 1;
-        r23 = r23 - 1;
-    }
-    return r7;
-}
-
-/* dfu_wire::bytes::two_bytes: crates/dfu_wire/src/bytes.rt */
-static void dfu_wire_bytes_two_bytes(unsigned char *a0, uint16_t a1) {
-    _Alignas(4) unsigned char r5[2];
-    _Alignas(4) unsigned char r1[2];
-    store16(r1, 0);
-    store16(r5, a1);
-    core_slice_edits_slice_T_copy_from_slice_i8_core_clone_U8Clone(r1, r5, 2);
-    uint16_t v0 = load16(r1);
-    store16(a0, v0);
-    return;
-}
-
-/* dfu_device_c::mode::mode_in: crates/dfu_device_c/src/mode.rt */
-static void dfu_device_c_mode_mode_in(unsigned char *a0, unsigned char *a1, unsigned char *a2) {
-    _Alignas(4) unsigned char r3[40];
-    _Alignas(2) unsigned char r6_6_0[38];
-    _Alignas(4) unsigned char r5[20];
-    uint8_t r6_6_3_0, r6_6_4_0, r6_0_0, r6_4_0;
-    uint32_t r6_6_6_0, r6_6_7_0, r6_6_8_0;
-    memset(r6_6_0, 0, 38);
-    dfu_device_c_config_settings_of(r3, a1);
-    uint8_t r9 = *r3;
-    if (r9 != 1) {
-        *a0 = 1;
-        a0[1] = 0;
-        memset(a0 + 4, 0, 52);
-        return;
-    }
-    dfu_device_c_mode_mode_of(r5, a2);
-    uint8_t r16 = *r5;
-    if (r16 != 1) {
-        r6_6_3_0 = 0;
-        r6_6_4_0 = 0;
-        r6_6_6_0 = 0;
-        r6_6_7_0 = 0;
-        r6_6_8_0 = 0;
+        uint32_t r10_0_2 = load32(r10_0_in);
+        if (r10_0_2 > 0xffffffU) trap();
+        r10_0 = r10_0_2;
+        r11_0_0 = 0;
+dfu_device_device_state_status_in_exit:;
+        uint8_t switch_load = *(PLACE(switch_table_dfu_device_device_state_DeviceState_state) + (size_t)v0);
+        unsigned char *v3 = r1 + 1;
+        memset(v3, 0, 5);
+        *r1 = r11_0_0;
+        store64(r5, (size_t)r10_0);
+        core_slice_edits_slice_T_copy_from_slice_i8_core_clone_U8Clone(v3, r5, 3);
+        r1[4] = switch_load;
+        memcpy(r4, r1, 6);
+        size_t a1_a0 = (size_t)umin16(a2, 6);
+        core_slice_edits_slice_T_copy_from_slice_i8_core_clone_U8Clone(a3, r4, a1_a0);
+        r6_61_0 = a1_a0;
         r6_0_0 = 1;
-        r6_4_0 = 4;
+        break;
     }
-    else {
-        uint8_t v2 = r5[4];
-        uint8_t v3 = r5[5];
-        uint32_t v4 = load32(r5 + 8);
-        uint32_t v5 = load32(r5 + 12);
-        uint32_t v6 = load32(r5 + 16);
-        memcpy(r6_6_0 + 2, r3 + 4, 36);
-        r6_6_3_0 = v2;
-        r6_6_4_0 = v3;
-        r6_6_6_0 = v4;
-        r6_6_7_0 = v5;
-        r6_6_8_0 = v6;
-        r6_0_0 = 0;
-        r6_4_0 = 0;
+    case 2: {
+        uint8_t v5 = a0[36];
+        uint8_t switch_load_2 = *(PLACE(switch_table_dfu_device_device_state_DeviceState_state) + (size_t)v5);
+        *r5_2 = switch_load_2;
+        size_t a1_a0_2 = (size_t)(a2 != 0);
+        core_slice_edits_slice_T_copy_from_slice_i8_core_clone_U8Clone(a3, r5_2, a1_a0_2);
+        r6_61_0 = a1_a0_2;
+        r6_0_0 = 1;
+        break;
     }
-    *a0 = r6_0_0;
-    a0[1] = r6_4_0;
-    memcpy(a0 + 4, r6_6_0 + 2, 36);
-    a0[40] = r6_6_3_0;
-    a0[41] = r6_6_4_0;
-    store16(a0 + 42, 0);
-    store32(a0 + 44, r6_6_6_0);
-    store32(a0 + 48, r6_6_7_0);
-    store32(a0 + 52, r6_6_8_0);
+    default: never();
+    }
+    struct i8_i64 r85_half = (struct i8_i64){ 0, 0 };
+    r85_half.a = r6_0_0;
+    struct i8_i64 r85 = r85_half;
+    r85.b = r6_61_0;
+    return r85;
+}
+
+/* dfu_asks::asking::Asking::advance */
+static void dfu_asks_asking_Asking_advance(unsigned char *a0, unsigned char *a1, unsigned char *a2, size_t a3, unsigned char *a4, uint64_t a5, unsigned char *a6, uint64_t a7, unsigned char *a8) {
+    _Alignas(4) unsigned char r9[24];
+    _Alignas(4) unsigned char r10[16];
+    unsigned char *r32, *r24, *r26, *r28, *r30, *r32_2, *r33_2;
+    size_t a1_a0;
+    uint64_t a1_a0_2, r52, r57, r10_0, r0_0_0;
+    uint8_t v8, r17_0_0, r17_7_0;
+    uint32_t r0_4_0, v9, v10, r81, r17_103_0, r17_15_0_0, r17_15_6_0_0, r17_20_0;
+    r32 = a1 + 96;
+    uint8_t r33 = *r32;
+    if (r33 != 1) {
+        *a0 = 1;
+        a0[1] = 0;
+        store64(a0 + 8, 0);
+        return;
+    }
+    memcpy(r9, a1 + 100, 24);
+    struct i64_i8 r61 = dfu_asks_asking_Asking_look_at(a1, r9, a2, a3, a4, a5, PLACE(static_2), 0);
+    if (r61.a != 0) {
+        *a0 = 0;
+        a0[1] = 0;
+        store64(a0 + 8, 0);
+        return;
+    }
+    store32(r10, 0);
+    r24 = a1 + 36;
+    uint8_t v1 = *r24;
+    *r10 = v1;
+    r26 = a1 + 37;
+    uint8_t v2 = *r26;
+    r10[1] = v2;
+    r28 = a1 + 40;
+    uint32_t v3 = load32(r28);
+    store32(r10 + 4, v3);
+    r30 = a1 + 44;
+    uint32_t v4 = load32(r30);
+    store32(r10 + 8, v4);
+    r32_2 = a1 + 48;
+    uint32_t v5 = load32(r32_2);
+    store32(r10 + 12, v5);
+    r33_2 = a1 + 28;
+    uint8_t r11_0_0_copyload = *r33_2;
+    uint32_t r12_0_0_copyload = load32(a1 + 32);
+    dfu_asks_finish_note(a1 + 76, r10, a6, a7, r11_0_0_copyload, r12_0_0_copyload);
+    uint8_t v6 = *r24;
+    switch (v6) {
+    case 3:
+    case 5: {
+        uint64_t r40 = load64(a1 + 56);
+        a1_a0 = (size_t)umin64(a3, r40);
+        uint64_t r47 = load64(a1 + 64);
+        a1_a0_2 = umin64(a5, r47);
+        uint8_t r13_0_0_copyload = *r33_2;
+        uint64_t switch_load = load64(PLACE(switch_table_dfu_asks_asking_Asking_advance) + 8 * (size_t)r13_0_0_copyload);
+        uint64_t r46 = a1_a0_2 + (uint64_t)a1_a0;
+        r52 = switch_load & r46;
+        r57 = r46 - r52;
+        r10_0 = 0;
+        while (r10_0 != r52) {
+            uint64_t r68 = r10_0 + r57;
+            uint8_t r27_0 = *((r68 < a1_a0_2) ? (a4 + (size_t)r68) : (a2 + ((size_t)r68 - (size_t)a1_a0_2)));
+            a4[(size_t)r10_0] = r27_0;
+            r10_0 = r10_0 + 1;
+        }
+        uint32_t r73 = load32(a1 + 72);
+        uint8_t pre = *r24;
+        v8 = pre;
+        r0_4_0 = uadd_sat32((uint32_t)a1_a0, r73);
+        r0_0_0 = r52;
+        break;
+    }
+    case 0:
+    case 1:
+    case 2:
+    case 4:
+    case 6:
+    case 7:
+    case 8:
+    case 9:
+    case 10:
+    case 11:
+    case 12:
+        v8 = v6;
+        r0_4_0 = 0;
+        r0_0_0 = 0;
+        break;
+    default: never();
+    }
+    store64(a1 + 64, r0_0_0);
+    store32(a1 + 72, r0_4_0);
+    uint64_t r65 = load64(a1 + 56);
+    v9 = load32(r28);
+    v10 = load32(r30);
+    r81 = (uint32_t)(size_t)umin64(a3, r65);
+    switch (v8) {
+    case 3:
+        r17_0_0 = 6;
+        r17_7_0 = 0;
+        r17_103_0 = uadd_sat32(r81, v9);
+        r17_15_0_0 = v10;
+        r17_15_6_0_0 = 0;
+        r17_20_0 = 0;
+        break;
+    case 5:
+        r17_0_0 = 4;
+        r17_7_0 = 0;
+        r17_103_0 = uadd_sat32(r81, v9);
+        r17_15_0_0 = v10;
+        r17_15_6_0_0 = 0;
+        r17_20_0 = 0;
+        break;
+    case 7:
+        r17_0_0 = 2;
+        r17_7_0 = 0;
+        r17_103_0 = 0;
+        r17_15_0_0 = 0;
+        r17_15_6_0_0 = 0;
+        r17_20_0 = 0;
+        break;
+    case 9: {
+        uint8_t r19_2_0_copyload = a1[8];
+        r17_0_0 = (uint8_t)((r19_2_0_copyload & 1) ? 8 : 10);
+        r17_7_0 = 0;
+        r17_103_0 = 0;
+        r17_15_0_0 = 0;
+        r17_15_6_0_0 = 0;
+        r17_20_0 = 0;
+        break;
+    }
+    case 0:
+    case 1:
+    case 2:
+    case 4:
+    case 6:
+    case 8:
+    case 10:
+    case 11:
+    case 12: {
+        uint32_t v11 = load32(r32_2);
+        uint8_t v12 = *r26;
+        r17_0_0 = v8;
+        r17_7_0 = v12;
+        r17_103_0 = v9;
+        r17_15_0_0 = v10;
+        r17_15_6_0_0 = v10 & 0xffff0000U;
+        r17_20_0 = v11;
+        break;
+    }
+    default: never();
+    }
+    *r24 = r17_0_0;
+    *r26 = r17_7_0;
+    store32(r28, r17_103_0);
+    store32(r30, r17_15_6_0_0 | (r17_15_0_0 & 0xffffU));
+    store32(r32_2, r17_20_0);
+    memset(r32, 0, 28);
+    uint8_t r91 = r9[16];
+    uint16_t r29_3_2_copyload = load16(r9 + 18);
+    struct i8_i64 r107 = dfu_asks_asking_Asking_answer(a1, r91, r29_3_2_copyload, a8);
+    *a0 = 1;
+    a0[1] = r107.a;
+    store64(a0 + 8, (size_t)r107.b);
     return;
 }
 
-/* dfu_device_c::mode::idle_mode: crates/dfu_device_c/src/mode.rt */
-static void dfu_device_c_mode_idle_mode(unsigned char *a0, unsigned char *a1, unsigned char *a2) {
-    _Alignas(4) unsigned char r7[56];
-    unsigned char *r52, *r54;
-    dfu_device_c_mode_mode_in(r7, a1, a2);
-    uint8_t r1_0_0_copyload = *r7;
-    r52 = a0 + 1;
-    if (r1_0_0_copyload != 0) {
-        uint8_t r1_3_1_copyload = r7[1];
-        *a0 = 1;
-        *r52 = r1_3_1_copyload;
-        memset(a0 + 4, 0, 52);
-        return;
+/* dfu_core::keeping::keep: crates/dfu_core/src/keeping.rt */
+static void dfu_core_keeping_keep(unsigned char *a0, unsigned char *a1) {
+    _Alignas(4) unsigned char r1[16];
+    uint32_t r3_54_4_copyload, r3_75_4_copyload, r3_10_4_copyload;
+    uint8_t r3_6_4_copyload, r3_8_4_copyload;
+    uint16_t r3_96_4_copyload;
+    unsigned char *r27;
+    store32(r1, 0);
+    uint8_t v0 = a0[36];
+    *r1 = v0;
+    uint8_t v1 = a0[37];
+    r1[1] = v1;
+    uint32_t v2 = load32(a0 + 40);
+    store32(r1 + 4, v2);
+    uint32_t v3 = load32(a0 + 44);
+    store32(r1 + 8, v3);
+    uint32_t v4 = load32(a0 + 48);
+    store32(r1 + 12, v4);
+    dfu_core_mode_set_mode(a1, r1);
+    uint8_t r20 = a0[96];
+    r3_54_4_copyload = load32(a0 + 104);
+    r3_6_4_copyload = a0[108];
+    r3_75_4_copyload = load32(a0 + 112);
+    r3_8_4_copyload = a0[116];
+    r3_96_4_copyload = load16(a0 + 118);
+    r3_10_4_copyload = load32(a0 + 120);
+    if (r20 == 0) store32(a1 + 44, 0);
+    else {
+        uint8_t r3_3_4_copyload = a0[100];
+        if (r3_3_4_copyload != 0) {
+            store32(a1 + 44, 2);
+            store32(a1 + 48, r3_54_4_copyload);
+            a1[64] = r3_6_4_copyload;
+            store32(a1 + 52, r3_75_4_copyload);
+        }
+        else {
+            store32(a1 + 44, 1);
+            store32(a1 + 48, r3_54_4_copyload);
+            r27 = a1 + 65;
+            if (r3_6_4_copyload & 1) *r27 = 1;
+            else {
+                *r27 = 0;
+            }
+        }
+        store32(a1 + 56, r3_10_4_copyload);
+        store32(a1 + 60, (uint32_t)((r3_8_4_copyload == 0) ? 0 : ((uint32_t)r3_96_4_copyload + 1)));
     }
-    uint32_t r31 = load32(a2 + 44);
-    r54 = a0 + 4;
-    if (r31 != 0) {
-        *a0 = 1;
-        *r52 = 2;
-        memset(r54, 0, 52);
-        return;
-    }
-    uint32_t r8_6_10_2_copyload = load32(r7 + 52);
-    uint32_t r8_6_9_2_copyload = load32(r7 + 48);
-    uint32_t r8_6_8_2_copyload = load32(r7 + 44);
-    uint8_t r8_6_6_2_copyload = r7[41];
-    uint8_t r8_6_5_2_copyload = r7[40];
-    *a0 = 0;
-    *r52 = 0;
-    memcpy(r54, r7 + 4, 36);
-    a0[40] = r8_6_5_2_copyload;
-    a0[41] = r8_6_6_2_copyload;
-    store16(a0 + 42, 0);
-    store32(a0 + 44, r8_6_8_2_copyload);
-    store32(a0 + 48, r8_6_9_2_copyload);
-    store32(a0 + 52, r8_6_10_2_copyload);
+    size_t r26 = (size_t)load64(a0 + 56);
+    store16(a1 + 26, (uint16_t)r26);
+    size_t r32 = (size_t)load64(a0 + 64);
+    store16(a1 + 66, (uint16_t)r32);
+    uint32_t r38 = load32(a0 + 72);
+    store32(a1 + 16, r38);
+    uint8_t r42 = a0[76];
+    store32(a1 + 20, (uint32_t)r42);
+    memmove(a1 + 28, a0 + 77, 16);
     return;
 }
 
@@ -1566,104 +2371,379 @@ after_14:
     return;
 }
 
-/* dfu_device_c::mode::set_mode: crates/dfu_device_c/src/mode.rt */
-static void dfu_device_c_mode_set_mode(unsigned char *a0, unsigned char *a1) {
-    uint32_t v1, v2, r27_0_0, r27_15_0, r27_28_0;
-    uint16_t r1_14_0_0_extract_trunc, r27_41_0;
-    uint8_t v0 = *a1;
-    v1 = load32(a1 + 4);
-    v2 = load32(a1 + 8);
-    r1_14_0_0_extract_trunc = (uint16_t)v2;
-    switch (v0) {
-    case 0:
-        r27_0_0 = 0;
-        r27_15_0 = 0;
-        r27_28_0 = 0;
-        r27_41_0 = 0;
-        break;
-    case 1:
-        r27_0_0 = 1;
-        r27_15_0 = v1;
-        r27_28_0 = v2;
-        r27_41_0 = 0;
-        break;
-    case 2:
-        r27_0_0 = 2;
-        r27_15_0 = 0;
-        r27_28_0 = 0;
-        r27_41_0 = 0;
-        break;
-    case 3:
-        r27_0_0 = 3;
-        r27_15_0 = v1;
-        r27_28_0 = 0;
-        r27_41_0 = r1_14_0_0_extract_trunc;
-        break;
-    case 4:
-        r27_0_0 = 4;
-        r27_15_0 = v1;
-        r27_28_0 = 0;
-        r27_41_0 = r1_14_0_0_extract_trunc;
-        break;
-    case 5: {
-        uint32_t v3 = load32(a1 + 12);
-        r27_0_0 = 5;
-        r27_15_0 = v1;
-        r27_28_0 = v3;
-        r27_41_0 = r1_14_0_0_extract_trunc;
+/* dfu_asks::noted::look: crates/dfu_asks/src/noted.rt */
+static void dfu_asks_noted_look(unsigned char *a0, unsigned char *a1, unsigned char *a2) {
+    uint32_t r3847_2, r3847_3, r99, r17;
+    unsigned char *r74, *r82;
+    size_t r3_0;
+    uint8_t r24 = dfu_slots_layout_is_sized(a1);
+    if (!r24) {
+        memset(a0, 0, 20);
+        return;
+    }
+    size_t r3 = (size_t)load64(a1 + 8);
+    uint32_t r3847 = (uint32_t)r3 >> 1;
+    uint8_t r39 = *a2;
+    uint8_t r40 = r39 & 1;
+    r3847_2 = (uint32_t)(r40 ? r3847 : 0);
+    r3847_3 = (uint32_t)(r40 ? 0 : r3847);
+    uint8_t r52 = dfu_slots_read_is_open(a1, r3847_2);
+    if (!r52) {
+        memset(a0, 0, 20);
+        return;
+    }
+    uint8_t r0_0_0_copyload = a1[16];
+    uint32_t r1_0_0_copyload = load32(a1 + 20);
+    uint32_t switch_load = load32(PLACE(switch_table_dfu_core_would_stall) + 4 * (size_t)r0_0_0_copyload);
+    size_t r13_0_0_copyload = (size_t)load64(a1);
+    r74 = (unsigned char *)(uintptr_t)r13_0_0_copyload + (size_t)(umax32(r1_0_0_copyload, switch_load) + r3847_2);
+    r82 = a2 + 1;
+    r3_0 = 0;
+    while (r3_0 != 16) {
+        uint8_t r19 = r74[r3_0];
+        uint8_t r24_2 = r82[r3_0];
+        if (r19 != r24_2) goto then_10;
+        r3_0 = r3_0 + 1;
+    }
+    r99 = dfu_slots_layout_capacity_of(a1);
+    r17 = load32u(a2 + 5);
+    if (r99 < r17) {
+        memset(a0, 0, 20);
+        return;
+    }
+    store32(a0, 1);
+    store32(a0 + 4, r3847_2);
+    store32(a0 + 8, r3847_3);
+    store32(a0 + 12, r99);
+    store32(a0 + 16, r17);
+    return;
+then_10:
+    memset(a0, 0, 20);
+    return;
+}
+
+/* dfu_asks::asking::Asking::see: crates/dfu_asks/src/calls.rt */
+static void dfu_asks_asking_Asking_see(unsigned char *a0, unsigned char *a1, size_t a2, unsigned char *a3, size_t a4) {
+    _Alignas(8) unsigned char r20[40];
+    _Alignas(8) unsigned char r3[24];
+    _Alignas(4) unsigned char r9[20];
+    unsigned char *r39;
+    if (wide(a4) > 0xffffffffU) {
+        *a0 = 1;
+        a0[1] = 1;
+        memset(a0 + 8, 0, 40);
+        return;
+    }
+    uint32_t r7_0_0_copyload = load32(a1 + 32);
+    uint8_t r6_0_0_copyload = a1[28];
+    store64(r3, (size_t)(uintptr_t)a3);
+    store64(r3 + 8, a4);
+    r3[16] = r6_0_0_copyload;
+    store32(r3 + 20, r7_0_0_copyload);
+    dfu_asks_noted_look(r9, r3, a1 + 76);
+    uint8_t r38 = *r9;
+    if (r38 != 1) {
+        *a0 = 1;
+        a0[1] = 1;
+        memset(a0 + 8, 0, 40);
+        return;
+    }
+    r39 = r9 + 4;
+    uint8_t r47 = dfu_asks_asking_Asking_is_fit(a1, a2, r3, r39);
+    if (!r47) {
+        *a0 = 1;
+        a0[1] = 2;
+        memset(a0 + 8, 0, 40);
+        return;
+    }
+    memcpy(r20, r3, 24);
+    memcpy(r20 + 24, r39, 16);
+    *a0 = 0;
+    a0[1] = 0;
+    memcpy(a0 + 8, r20, 40);
+    return;
+}
+
+/* dfu_asks::asking::Asking::is_fit: crates/dfu_asks/src/noted.rt */
+static uint8_t dfu_asks_asking_Asking_is_fit(unsigned char *a0, size_t a1, unsigned char *a2, unsigned char *a3) {
+    unsigned char *r16, *r43;
+    uint32_t r44, r46, r74, v2;
+    uint8_t r71, common_ret_op;
+    r16 = a0 + 56;
+    uint64_t r17 = load64(r16);
+    if ((uint64_t)a1 < r17) common_ret_op = 0;
+    else {
+        uint16_t r5_2_0_copyload = load16(a0 + 12);
+        if (umin_size(a1, 4096) < (size_t)r5_2_0_copyload) common_ret_op = 0;
+        else {
+            r43 = a0 + 72;
+            r44 = load32(r43);
+            r46 = load32(a3 + 8);
+            if (r44 > r46) common_ret_op = 0;
+            else {
+                uint64_t r42 = load64(a0 + 64);
+                uint8_t r10_0_0_copyload = a0[28];
+                uint32_t switch_load = load32(PLACE(switch_table_dfu_asks_asking_Asking_is_fit) + 4 * (size_t)r10_0_0_copyload);
+                if (r42 != (uint64_t)(size_t)(switch_load & r44)) common_ret_op = 0;
+                else {
+                    uint32_t r65 = load32(a3 + 4);
+                    uint8_t r67 = dfu_slots_read_is_open(a2, r65);
+                    r71 = !r67;
+                    r74 = load32(r43);
+                    uint8_t v1 = a0[36];
+                    v2 = load32(a0 + 40);
+                    switch (v1) {
+                    case 3:
+                    case 5: {
+                        uint64_t r92 = load64(r16);
+                        if (!((r92 != 0) ? ((r92 + (uint64_t)(size_t)v2) <= (uint64_t)(size_t)r46) : 0)) common_ret_op = 0;
+                        else {
+                            if (v2 == 0) common_ret_op = 1;
+                            else {
+                                common_ret_op = r71 ? (r74 == v2) : 0;
+                            }
+                        }
+                        break;
+                    }
+                    case 4:
+                    case 6:
+                    case 7:
+                    case 9:
+                        common_ret_op = (((v2 - 1) < r46) & r71) ? (r74 == v2) : 0;
+                        break;
+                    case 0:
+                    case 1:
+                    case 2:
+                    case 8:
+                    case 10:
+                    case 11:
+                    case 12:
+                        common_ret_op = 1;
+                        break;
+                    default: never();
+                    }
+                }
+            }
+        }
+    }
+    return common_ret_op;
+}
+
+/* dfu_asks::asking::Asking::carry_out: crates/dfu_asks/src/carry.rt */
+static void dfu_asks_asking_Asking_carry_out(unsigned char *a0, unsigned char *a1, unsigned char *a2, uint8_t a3, uint16_t a4, unsigned char *a5, size_t a6, unsigned char *a7, size_t a8, unsigned char *a9, uint64_t a10, unsigned char *a11, unsigned char *a12, unsigned char *a13, size_t a14) {
+    _Alignas(8) unsigned char r5[32];
+    _Alignas(8) unsigned char r0[16];
+    _Alignas(4) unsigned char r5_2[4];
+    uint32_t r1_517_4_copyload, r1_16_12_copyload, r1_19_16_copyload, r16_312_0_copyload, r16_513_0_copyload, r16_7_0_copyload, r12_0_0_copyload;
+    uint16_t r1_11_8_copyload, r1_15_8_copyload;
+    size_t r1, a1_a0_3;
+    uint8_t r16_0_0_copyload, r16_4_0_copyload, r35_0_1, r35_7_1, r35_0_0, r35_7_0;
+    uint64_t r16_6_0_copyload, r11_3_0_copyload, a1_a0_4, r3_0, r35_1343_1, r35_1343_0;
+    unsigned char *r49;
+    uint8_t r1_0_0_copyload = *a2;
+    r1_517_4_copyload = load32(a2 + 4);
+    r1_11_8_copyload = load16(a2 + 8);
+    r1_15_8_copyload = load16(a2 + 10);
+    r1_16_12_copyload = load32(a2 + 12);
+    r1_19_16_copyload = load32(a2 + 16);
+    switch (r1_0_0_copyload) {
+    case 0: {
+        uint8_t r1_3_1_copyload = a2[1];
+        a1[36] = (uint8_t)r1_517_4_copyload;
+        a1[37] = (uint8_t)(r1_517_4_copyload >> 8);
+        store16(a1 + 40, r1_11_8_copyload);
+        store16(a1 + 42, r1_15_8_copyload);
+        store32(a1 + 44, r1_16_12_copyload);
+        store32(a1 + 48, r1_19_16_copyload);
+        struct i8_i64 r99 = dfu_asks_asking_Asking_give(a1, r1_3_1_copyload, (uint16_t)((a3 & 1) ? a4 : 0), a13);
+        r35_0_0 = 1;
+        r35_7_0 = r99.a;
+        r35_1343_0 = (size_t)r99.b;
         break;
     }
-    case 6:
-        r27_0_0 = 6;
-        r27_15_0 = v1;
-        r27_28_0 = 0;
-        r27_41_0 = r1_14_0_0_extract_trunc;
+    case 1: {
+        size_t a1_a0 = umin_size(umin_size(a8, a6), 4096);
+        core_slice_edits_slice_T_copy_from_slice_i8_core_clone_U8Clone(a7, a5, a1_a0);
+        store64(a1 + 56, a1_a0);
+        a1[36] = (uint8_t)r1_517_4_copyload;
+        a1[37] = (uint8_t)(r1_517_4_copyload >> 8);
+        store16(a1 + 40, r1_11_8_copyload);
+        store16(a1 + 42, r1_15_8_copyload);
+        store32(a1 + 44, r1_16_12_copyload);
+        store32(a1 + 48, r1_19_16_copyload);
+        r35_0_0 = 1;
+        r35_7_0 = 0;
+        r35_1343_0 = 0;
         break;
-    case 7:
-        r27_0_0 = 7;
-        r27_15_0 = v1;
-        r27_28_0 = 0;
-        r27_41_0 = 0;
+    }
+    case 2: {
+        uint32_t r15 = load32(a12 + 12);
+        r1 = (size_t)r1_11_8_copyload;
+        size_t a1_a0_2 = umin_size(r1, (size_t)usub_sat32(r15, r1_517_4_copyload));
+        a1_a0_3 = umin_size(a14, a1_a0_2);
+        if (a1_a0_2 != 0) {
+            uint32_t r34 = load32(a12);
+            dfu_slots_read_read_data(a11, r34, r1_517_4_copyload, a13, a1_a0_3);
+        }
+        uint8_t r174 = a1_a0_3 < r1;
+        a1[36] = (uint8_t)(r174 ? 2 : 11);
+        a1[37] = 0;
+        store32(a1 + 40, (uint32_t)(r174 ? 0 : (r1_517_4_copyload + (uint32_t)r1_11_8_copyload)));
+        store16(a1 + 44, (uint16_t)(r174 ? 0 : r1_15_8_copyload));
+        store16(a1 + 46, 0);
+        store32(a1 + 48, 0);
+        r35_0_0 = 1;
+        r35_7_0 = 1;
+        r35_1343_0 = a1_a0_3;
         break;
-    case 8:
-        r27_0_0 = 8;
-        r27_15_0 = 0;
-        r27_28_0 = 0;
-        r27_41_0 = 0;
-        break;
-    case 9:
-        r27_0_0 = 9;
-        r27_15_0 = v1;
-        r27_28_0 = v2;
-        r27_41_0 = 0;
-        break;
-    case 10:
-        r27_0_0 = 10;
-        r27_15_0 = 0;
-        r27_28_0 = 0;
-        r27_41_0 = 0;
-        break;
-    case 11:
-        r27_0_0 = 11;
-        r27_15_0 = v1;
-        r27_28_0 = 0;
-        r27_41_0 = r1_14_0_0_extract_trunc;
-        break;
-    case 12: {
-        uint8_t v4 = a1[1];
-        r27_0_0 = 12;
-        r27_15_0 = 0;
-        r27_28_0 = 0;
-        r27_41_0 = v4;
+    }
+    case 3:
+    case 4: {
+        uint8_t r10 = a1[36];
+        switch (r10) {
+        case 3: {
+            uint32_t r13 = load32(a1 + 40);
+            dfu_asks_asking_Asking_block_job(r5, a1, r13, a11, a12);
+            break;
+        }
+        case 5: {
+            uint32_t r17 = load32(a1 + 40);
+            dfu_asks_asking_Asking_block_job(r5, a1, r17, a11, a12);
+            break;
+        }
+        case 0:
+        case 1:
+        case 2:
+        case 4:
+        case 6:
+        case 7:
+        case 8:
+        case 9:
+        case 10:
+        case 11:
+        case 12: {
+            uint32_t r16 = load32(a12 + 4);
+            uint8_t r0_0_0_copyload = a11[16];
+            uint32_t r1_0_0_copyload_2 = load32(a11 + 20);
+            uint32_t switch_load = load32(PLACE(switch_table_dfu_core_would_stall) + 4 * (size_t)r0_0_0_copyload);
+            uint32_t r22 = load32(a1 + 72);
+            uint64_t r26 = load64(a1 + 64);
+            uint8_t r37 = a1[77];
+            size_t r13_0_0_copyload = (size_t)load64(a11);
+            store32(r5_2, 0xffffffffU);
+            dfu_suffix_crc_Crc_update_small(r5_2, (unsigned char *)(uintptr_t)r13_0_0_copyload + (size_t)((umax32(r1_0_0_copyload_2, switch_load) << 1) + r16), (uint64_t)(size_t)r22 - r26);
+            dfu_suffix_crc_Crc_update_small(r5_2, a9, umin64(a10, r26));
+            uint32_t r1_2 = load32(r5_2);
+            store32(r5, 1);
+            store32(r5 + 4, r16);
+            r5[8] = (uint8_t)(r37 + 1);
+            store32(r5 + 12, r1_2);
+            store64(r5 + 16, r26);
+            store32(r5 + 24, r22);
+            break;
+        }
+        default: never();
+        }
+        r16_0_0_copyload = *r5;
+        r16_312_0_copyload = load32(r5 + 4);
+        r16_4_0_copyload = r5[8];
+        r16_513_0_copyload = load32(r5 + 12);
+        r16_6_0_copyload = load64(r5 + 16);
+        r16_7_0_copyload = load32(r5 + 24);
+        if (r16_7_0_copyload != 0) {
+            size_t r11_0_0_copyload = (size_t)load64(a11);
+            r12_0_0_copyload = load32(a1 + 32);
+            r49 = (unsigned char *)(uintptr_t)r11_0_0_copyload;
+            if (r12_0_0_copyload != 0) {
+                uint32_t r23 = load32(a12 + 4);
+                uint8_t r0_0_0_copyload_2 = a11[16];
+                uint32_t r1_0_0_copyload_3 = load32(a11 + 20);
+                uint32_t switch_load_2 = load32(PLACE(switch_table_dfu_core_would_stall) + 4 * (size_t)r0_0_0_copyload_2);
+                uint32_t r27 = load32(a1 + 72);
+                uint64_t r29 = load64(a1 + 64);
+                uint32_t r37_2 = ((r27 + r23) + (umax32(r1_0_0_copyload_3, switch_load_2) << 1)) - (uint32_t)r29;
+                size_t r1_3 = (size_t)r37_2;
+                r11_3_0_copyload = load64(a11 + 8);
+                uint64_t r41 = load64(a1 + 56);
+                uint32_t r22_2 = ((((r37_2 >> 15) % r12_0_0_copyload) << 15) | (r37_2 & 32767)) % r12_0_0_copyload;
+                a1_a0_4 = umin64(r11_3_0_copyload, (uint64_t)(size_t)((r22_2 == 0) ? 0 : (size_t)umin64((size_t)(r12_0_0_copyload - r22_2), r41 + r29)) + (uint64_t)r1_3);
+                r3_0 = r1_3;
+                for (;;) {
+                    if (r3_0 >= a1_a0_4) goto join_3;
+                    uint8_t r16_2 = r49[(size_t)r3_0];
+                    if (r16_2 != 255) break;
+                    r3_0 = r3_0 + 1;
+                }
+                struct i8_i64 r83 = dfu_asks_asking_Asking_fail(a1, 1, a3, a4, r49, r11_3_0_copyload, a13);
+                r35_0_1 = 1;
+                r35_7_1 = r83.a;
+                r35_1343_1 = (size_t)r83.b;
+                goto dfu_asks_asking_Asking_start_exit;
+            }
+        }
+join_3:
+        store64(a1 + 64, r16_6_0_copyload);
+        store32(a1 + 72, r16_7_0_copyload);
+        store32(a1 + 96, 1);
+        store32(a1 + 100, (uint32_t)r16_0_0_copyload);
+        store32(a1 + 104, r16_312_0_copyload);
+        a1[108] = r16_4_0_copyload;
+        memset(a1 + 109, 0, 3);
+        store32(a1 + 112, r16_513_0_copyload);
+        store16(a1 + 116, a3);
+        store16(a1 + 118, a4);
+        store32(a1 + 120, 0);
+        size_t r33_0_0_copyload = (size_t)load64(a11);
+        uint64_t r33_3_0_copyload = load64(a11 + 8);
+        dfu_asks_asking_Asking_advance(r0, a1, a7, a8, a9, a10, (unsigned char *)(uintptr_t)r33_0_0_copyload, r33_3_0_copyload, a13);
+        uint8_t v2 = *r0;
+        uint8_t v3 = r0[1];
+        uint64_t v4 = load64(r0 + 8);
+        r35_0_1 = v2;
+        r35_7_1 = v3;
+        r35_1343_1 = v4;
+dfu_asks_asking_Asking_start_exit:
+        r35_0_0 = r35_0_1;
+        r35_7_0 = r35_7_1;
+        r35_1343_0 = r35_1343_1;
         break;
     }
     default: never();
     }
-    store32(a0, 300);
-    store32(a0 + 4, r27_0_0);
-    store32(a0 + 8, r27_15_0);
-    store32(a0 + 12, r27_28_0);
-    store16(a0 + 24, r27_41_0);
+    *a0 = r35_0_0;
+    a0[1] = r35_7_0;
+    store64(a0 + 8, r35_1343_0);
+    return;
+}
+
+/* dfu_asks::asking::Asking::block_job: crates/dfu_asks/src/start.rt */
+static void dfu_asks_asking_Asking_block_job(unsigned char *a0, unsigned char *a1, uint32_t a2, unsigned char *a3, unsigned char *a4) {
+    uint32_t r14, r45_sink;
+    uint8_t sink;
+    uint64_t r43_sink;
+    r14 = load32(a4 + 4);
+    if (a2 == 0) {
+        uint8_t r18 = dfu_slots_read_is_open(a3, r14);
+        memset(a0 + 9, 0, 3);
+        sink = r18;
+        r43_sink = 0;
+        r45_sink = 0;
+    }
+    else {
+        uint64_t r43 = load64(a1 + 64);
+        uint32_t r45 = load32(a1 + 72);
+        memset(a0 + 9, 0, 3);
+        sink = 0;
+        r43_sink = r43;
+        r45_sink = r45;
+    }
+    store32(a0, 0);
+    store32(a0 + 4, r14);
+    a0[8] = sink;
+    store32(a0 + 12, 0);
+    store64(a0 + 16, r43_sink);
+    store32(a0 + 24, r45_sink);
+    store32(a0 + 28, 0);
     return;
 }
 
@@ -2362,7 +3442,7 @@ static uint32_t dfu_device_c_power_start(unsigned char *a0, unsigned char *a1, u
     _Alignas(4) unsigned char r7[40];
     _Alignas(4) unsigned char r8[18];
     uint32_t common_ret_op;
-    dfu_device_c_config_settings_of(r7, a0);
+    dfu_core_config_settings_of(r7, a0);
     uint8_t r14 = *r7;
     if (r14 != 1) common_ret_op = 0xfffffffeU;
     else {
@@ -2384,994 +3464,29 @@ static uint32_t dfu_device_c_power_start(unsigned char *a0, unsigned char *a1, u
     return common_ret_op;
 }
 
-/* dfu_device_c::keeping::found: crates/dfu_device_c/src/keeping.rt */
-static void dfu_device_c_keeping_found(unsigned char *a0, unsigned char *a1, size_t a2, unsigned char *a3) {
-    _Alignas(4) unsigned char r6[40];
-    _Alignas(4) unsigned char r14[20];
-    _Alignas(4) unsigned char r22_4_17[16];
-    _Alignas(4) unsigned char r20_13[3];
-    uint32_t r24, r0_5108_0_copyload, v3, r1_9_12_copyload, r1_11_16_copyload, r6_2, r15, r8_5_0_0, r8_142_0, r74, r20_6_0_0, r20_9_0;
-    uint32_t r20_11_0, r20_14_0, r20_17_0;
-    unsigned char *r36, *r19;
-    uint8_t r0_3_0_copyload, r1_3_4_copyload, r1_5_5_copyload, r18, r8_11_0, r1_5_0_0, r20_12_0;
-    uint16_t r43, r65, r31, r1_8_0, r20_15_0, r20_16_0;
-    r24 = load32(a1 + 44);
-    if (r24 == 3) {
-        *a3 = 1;
-        a3[1] = 2;
-        memset(a3 + 8, 0, 128);
-        return;
+/* dfu_asks::blank::is_erased: crates/dfu_asks/src/blank.rt */
+static uint8_t dfu_asks_blank_is_erased(unsigned char *a0, size_t a2, uint64_t a3) {
+    unsigned char *r9_0_0_in;
+    uint64_t r23;
+    uint8_t r7;
+    r9_0_0_in = a0 + a2;
+    r23 = a3;
+    for (;;) {
+        r7 = r23 == 0;
+        if (r7) break;
+        uint8_t r2 = *r9_0_0_in;
+        if (r2 != 255) break;
+        r9_0_0_in = r9_0_0_in + 1;
+        r23 = r23 - 1;
     }
-    dfu_device_c_config_settings_of(r6, a0);
-    uint8_t r35 = *r6;
-    if (r35 != 1) {
-        *a3 = 1;
-        a3[1] = 0;
-        memset(a3 + 8, 0, 128);
-        return;
-    }
-    r36 = r6 + 4;
-    r0_3_0_copyload = r6[32];
-    r0_5108_0_copyload = load32(r6 + 36);
-    r43 = load16(a0 + 12);
-    uint64_t switch_load = load64(PLACE(switch_table_dfu_core_format_took) + 8 * (size_t)r0_3_0_copyload);
-    if ((uint64_t)a2 < (switch_load + (uint64_t)(size_t)r43)) {
-        *a3 = 1;
-        a3[1] = 1;
-        memset(a3 + 8, 0, 128);
-        return;
-    }
-    r65 = load16(a1 + 26);
-    if (r43 < r65) {
-        *a3 = 1;
-        a3[1] = 4;
-        memset(a3 + 8, 0, 128);
-        return;
-    }
-    r31 = load16(a1 + 66);
-    if (r31 <= 256) {
-        dfu_device_c_mode_mode_of(r14, a1);
-        uint8_t r2 = *r14;
-        r1_3_4_copyload = r14[4];
-        r1_5_5_copyload = r14[5];
-        v3 = load32(r14 + 8);
-        r1_9_12_copyload = load32(r14 + 12);
-        r1_11_16_copyload = load32(r14 + 16);
-        if (r2 == 1) {
-            r6_2 = load32(a1 + 20);
-            if (r6_2 <= 1) {
-                r18 = r6_2 == 1;
-                r19 = a1 + 28;
-                if (r24 == 0) {
-                    memset(r20_13, 0, 3);
-                    r20_6_0_0 = 0;
-                    r20_9_0 = 0;
-                    r20_11_0 = 0;
-                    r20_12_0 = 0;
-                    r20_14_0 = 0;
-                    r20_15_0 = 0;
-                    r20_16_0 = 0;
-                    r20_17_0 = 0;
-                }
-                else {
-                    r15 = load32(a1 + 48);
-                    switch (r24) {
-                    case 1: {
-                        uint8_t r26 = a1[65];
-                        if (r26 >= 2) goto arm_15;
-                        r8_5_0_0 = 0;
-                        r8_11_0 = r26;
-                        r8_142_0 = 0;
-                        break;
-                    }
-                    case 2: {
-                        uint32_t r19_2 = load32(a1 + 52);
-                        uint8_t r17 = a1[64];
-                        r8_5_0_0 = 1;
-                        r8_11_0 = r17;
-                        r8_142_0 = r19_2;
-                        break;
-                    }
-                    default: goto arm_15;
-                    }
-                    r74 = load32(a1 + 60);
-                    if (r74 == 0) {
-                        r1_5_0_0 = 0;
-                        r1_8_0 = 0;
-                    }
-                    else {
-                        if (r74 >= 0x10001U) goto arm_15;
-                        r1_5_0_0 = 1;
-                        r1_8_0 = (uint16_t)((uint16_t)r74 + 0xffffU);
-                    }
-                    uint32_t r100 = load32(a1 + 56);
-                    memset(r20_13, 0, 3);
-                    r20_6_0_0 = 1;
-                    r20_9_0 = r8_5_0_0;
-                    r20_11_0 = r15;
-                    r20_12_0 = r8_11_0;
-                    r20_14_0 = r8_142_0;
-                    r20_15_0 = r1_5_0_0;
-                    r20_16_0 = r1_8_0;
-                    r20_17_0 = r100;
-                }
-                uint32_t r109 = load32(a1 + 16);
-                memcpy(r22_4_17, r19, 16);
-                *a3 = 0;
-                a3[1] = 0;
-                memcpy(a3 + 8, r36, 28);
-                a3[36] = r0_3_0_copyload;
-                memset(a3 + 37, 0, 3);
-                store32(a3 + 40, r0_5108_0_copyload);
-                a3[44] = r1_3_4_copyload;
-                a3[45] = r1_5_5_copyload;
-                store16(a3 + 46, 0);
-                store32(a3 + 48, v3);
-                store32(a3 + 52, r1_9_12_copyload);
-                store32(a3 + 56, r1_11_16_copyload);
-                store32(a3 + 60, 0);
-                store64(a3 + 64, (size_t)r65);
-                store64(a3 + 72, (size_t)r31);
-                store32(a3 + 80, r109);
-                a3[84] = r18;
-                memcpy(a3 + 85, r22_4_17, 16);
-                memset(a3 + 101, 0, 3);
-                store32(a3 + 104, r20_6_0_0);
-                store32(a3 + 108, r20_9_0);
-                store32(a3 + 112, r20_11_0);
-                a3[116] = r20_12_0;
-                memcpy(a3 + 117, r20_13, 3);
-                store32(a3 + 120, r20_14_0);
-                store16(a3 + 124, r20_15_0);
-                store16(a3 + 126, r20_16_0);
-                store32(a3 + 128, r20_17_0);
-                store32(a3 + 132, 0);
-                return;
-            }
-        }
-    }
-arm_15:
-    *a3 = 1;
-    a3[1] = 4;
-    memset(a3 + 8, 0, 128);
-    return;
-}
-
-/* dfu_asks::noted::look: crates/dfu_asks/src/noted.rt */
-static void dfu_asks_noted_look(unsigned char *a0, unsigned char *a1, unsigned char *a2) {
-    uint32_t r3847_2, r3847_3, r99, r17;
-    unsigned char *r74, *r82;
-    size_t r3_0;
-    uint8_t r24 = dfu_slots_layout_is_sized(a1);
-    if (!r24) {
-        memset(a0, 0, 20);
-        return;
-    }
-    size_t r3 = (size_t)load64(a1 + 8);
-    uint32_t r3847 = (uint32_t)r3 >> 1;
-    uint8_t r39 = *a2;
-    uint8_t r40 = r39 & 1;
-    r3847_2 = (uint32_t)(r40 ? r3847 : 0);
-    r3847_3 = (uint32_t)(r40 ? 0 : r3847);
-    uint8_t r52 = dfu_slots_read_is_open(a1, r3847_2);
-    if (!r52) {
-        memset(a0, 0, 20);
-        return;
-    }
-    uint8_t r0_0_0_copyload = a1[16];
-    uint32_t r1_0_0_copyload = load32(a1 + 20);
-    uint32_t switch_load = load32(PLACE(switch_table_dfu_core_would_stall) + 4 * (size_t)r0_0_0_copyload);
-    size_t r13_0_0_copyload = (size_t)load64(a1);
-    r74 = (unsigned char *)(uintptr_t)r13_0_0_copyload + (size_t)(umax32(r1_0_0_copyload, switch_load) + r3847_2);
-    r82 = a2 + 1;
-    r3_0 = 0;
-    while (r3_0 != 16) {
-        uint8_t r19 = r74[r3_0];
-        uint8_t r24_2 = r82[r3_0];
-        if (r19 != r24_2) goto then_10;
-        r3_0 = r3_0 + 1;
-    }
-    r99 = dfu_slots_layout_capacity_of(a1);
-    r17 = load32u(a2 + 5);
-    if (r99 < r17) {
-        memset(a0, 0, 20);
-        return;
-    }
-    store32(a0, 1);
-    store32(a0 + 4, r3847_2);
-    store32(a0 + 8, r3847_3);
-    store32(a0 + 12, r99);
-    store32(a0 + 16, r17);
-    return;
-then_10:
-    memset(a0, 0, 20);
-    return;
-}
-
-/* dfu_asks::asking::Asking::see: crates/dfu_asks/src/calls.rt */
-static void dfu_asks_asking_Asking_see(unsigned char *a0, unsigned char *a1, size_t a2, unsigned char *a3, size_t a4) {
-    _Alignas(8) unsigned char r20[40];
-    _Alignas(8) unsigned char r3[24];
-    _Alignas(4) unsigned char r9[20];
-    unsigned char *r39;
-    if (wide(a4) > 0xffffffffU) {
-        *a0 = 1;
-        a0[1] = 1;
-        memset(a0 + 8, 0, 40);
-        return;
-    }
-    uint32_t r7_0_0_copyload = load32(a1 + 32);
-    uint8_t r6_0_0_copyload = a1[28];
-    store64(r3, (size_t)(uintptr_t)a3);
-    store64(r3 + 8, a4);
-    r3[16] = r6_0_0_copyload;
-    store32(r3 + 20, r7_0_0_copyload);
-    dfu_asks_noted_look(r9, r3, a1 + 76);
-    uint8_t r38 = *r9;
-    if (r38 != 1) {
-        *a0 = 1;
-        a0[1] = 1;
-        memset(a0 + 8, 0, 40);
-        return;
-    }
-    r39 = r9 + 4;
-    uint8_t r47 = dfu_asks_asking_Asking_is_fit(a1, a2, r3, r39);
-    if (!r47) {
-        *a0 = 1;
-        a0[1] = 2;
-        memset(a0 + 8, 0, 40);
-        return;
-    }
-    memcpy(r20, r3, 24);
-    memcpy(r20 + 24, r39, 16);
-    *a0 = 0;
-    a0[1] = 0;
-    memcpy(a0 + 8, r20, 40);
-    return;
-}
-
-/* dfu_asks::asking::Asking::is_fit: crates/dfu_asks/src/noted.rt */
-static uint8_t dfu_asks_asking_Asking_is_fit(unsigned char *a0, size_t a1, unsigned char *a2, unsigned char *a3) {
-    unsigned char *r15, *r41, *r43;
-    uint64_t r40;
-    uint32_t r42, r44, r1_0_0_copyload, r5, r3_0, r62, r60, r71, v2;
-    size_t v0;
-    uint8_t r68, common_ret_op;
-    r15 = a0 + 56;
-    uint64_t r16 = load64(r15);
-    if ((uint64_t)a1 < r16) common_ret_op = 0;
-    else {
-        uint16_t r5_2_0_copyload = load16(a0 + 12);
-        if (umin_size(a1, 4096) < (size_t)r5_2_0_copyload) common_ret_op = 0;
-        else {
-            r40 = load64(a0 + 64);
-            r41 = a0 + 72;
-            r42 = load32(r41);
-            r43 = a3 + 4;
-            r44 = load32(r43);
-            uint32_t r11 = dfu_slots_layout_capacity_of(a2);
-            if (r11 < r42) common_ret_op = 0;
-            else {
-                uint8_t r0_0_0_copyload = a2[16];
-                v0 = (size_t)r0_0_0_copyload;
-                uint32_t switch_load = load32(PLACE(switch_table_dfu_asks_asking_Asking_is_fit) + 4 * v0);
-                if (r40 != (uint64_t)(size_t)(switch_load & r42)) common_ret_op = 0;
-                else {
-                    r1_0_0_copyload = load32(a2 + 20);
-                    if (r1_0_0_copyload == 0) r62 = r44;
-                    else {
-                        uint32_t switch_load_2 = load32(PLACE(switch_table_dfu_core_would_stall) + 4 * v0);
-                        size_t r3 = (size_t)load64(a2 + 8);
-                        r5 = (uint32_t)r3;
-                        r3_0 = ((r42 - (uint32_t)r40) + r44) + (umax32(r1_0_0_copyload, switch_load_2) << 1);
-                        while (r3_0 < r5) {
-                            if ((r3_0 % r1_0_0_copyload) == 0) break;
-                            uint8_t r37 = dfu_slots_read_byte_at(a2, r3_0);
-                            if (r37 != 255) {
-                                common_ret_op = 0;
-                                goto common_ret;
-                            }
-                            r3_0 = r3_0 + 1;
-                        }
-                        uint32_t r62_pre = load32(r43);
-                        r62 = r62_pre;
-                    }
-                    r60 = load32(a3 + 8);
-                    uint8_t r64 = dfu_slots_read_is_open(a2, r62);
-                    r68 = !r64;
-                    r71 = load32(r41);
-                    uint8_t v1 = a0[36];
-                    v2 = load32(a0 + 40);
-                    switch (v1) {
-                    case 3:
-                    case 5: {
-                        uint64_t r89 = load64(r15);
-                        if (!((r89 != 0) ? ((r89 + (uint64_t)(size_t)v2) <= (uint64_t)(size_t)r60) : 0)) common_ret_op = 0;
-                        else {
-                            if (v2 == 0) common_ret_op = 1;
-                            else {
-                                common_ret_op = r68 ? (r71 == v2) : 0;
-                            }
-                        }
-                        break;
-                    }
-                    case 4:
-                    case 6:
-                    case 7:
-                    case 9:
-                        common_ret_op = (((v2 - 1) < r60) & r68) ? (r71 == v2) : 0;
-                        break;
-                    case 0:
-                    case 1:
-                    case 2:
-                    case 8:
-                    case 10:
-                    case 11:
-                    case 12:
-                        common_ret_op = 1;
-                        break;
-                    default: never();
-                    }
-                }
-            }
-        }
-    }
-common_ret:
-    return common_ret_op;
-}
-
-/* dfu_asks::asking::Asking::carry_out: crates/dfu_asks/src/carry.rt */
-static void dfu_asks_asking_Asking_carry_out(unsigned char *a0, unsigned char *a1, unsigned char *a2, uint8_t a3, uint16_t a4, unsigned char *a5, size_t a6, unsigned char *a7, size_t a8, unsigned char *a9, uint64_t a10, unsigned char *a11, unsigned char *a12, unsigned char *a13, size_t a14) {
-    _Alignas(8) unsigned char r5[32];
-    _Alignas(8) unsigned char r0[16];
-    _Alignas(4) unsigned char r5_2[4];
-    uint32_t r1_517_4_copyload, r1_16_12_copyload, r1_19_16_copyload;
-    uint16_t r1_11_8_copyload, r1_15_8_copyload;
-    size_t r1, a1_a0_3;
-    uint8_t r35_0_0, r35_6_0;
-    uint64_t r35_1142_0;
-    uint8_t r1_0_0_copyload = *a2;
-    r1_517_4_copyload = load32(a2 + 4);
-    r1_11_8_copyload = load16(a2 + 8);
-    r1_15_8_copyload = load16(a2 + 10);
-    r1_16_12_copyload = load32(a2 + 12);
-    r1_19_16_copyload = load32(a2 + 16);
-    switch (r1_0_0_copyload) {
-    case 0: {
-        uint8_t r1_3_1_copyload = a2[1];
-        a1[36] = (uint8_t)r1_517_4_copyload;
-        a1[37] = (uint8_t)(r1_517_4_copyload >> 8);
-        store16(a1 + 40, r1_11_8_copyload);
-        store16(a1 + 42, r1_15_8_copyload);
-        store32(a1 + 44, r1_16_12_copyload);
-        store32(a1 + 48, r1_19_16_copyload);
-        struct i8_i64 r99 = dfu_asks_asking_Asking_give(a1, r1_3_1_copyload, (uint16_t)((a3 & 1) ? a4 : 0), a13);
-        r35_0_0 = 1;
-        r35_6_0 = r99.a;
-        r35_1142_0 = (size_t)r99.b;
-        break;
-    }
-    case 1: {
-        size_t a1_a0 = umin_size(umin_size(a8, a6), 4096);
-        core_slice_edits_slice_T_copy_from_slice_i8_core_clone_U8Clone(a7, a5, a1_a0);
-        store64(a1 + 56, a1_a0);
-        a1[36] = (uint8_t)r1_517_4_copyload;
-        a1[37] = (uint8_t)(r1_517_4_copyload >> 8);
-        store16(a1 + 40, r1_11_8_copyload);
-        store16(a1 + 42, r1_15_8_copyload);
-        store32(a1 + 44, r1_16_12_copyload);
-        store32(a1 + 48, r1_19_16_copyload);
-        r35_0_0 = 1;
-        r35_6_0 = 0;
-        r35_1142_0 = 0;
-        break;
-    }
-    case 2: {
-        uint32_t r15 = load32(a12 + 12);
-        r1 = (size_t)r1_11_8_copyload;
-        size_t a1_a0_2 = umin_size(r1, (size_t)usub_sat32(r15, r1_517_4_copyload));
-        a1_a0_3 = umin_size(a14, a1_a0_2);
-        if (a1_a0_2 != 0) {
-            uint32_t r34 = load32(a12);
-            dfu_slots_read_read_data(a11, r34, r1_517_4_copyload, a13, a1_a0_3);
-        }
-        uint8_t r174 = a1_a0_3 < r1;
-        a1[36] = (uint8_t)(r174 ? 2 : 11);
-        a1[37] = 0;
-        store32(a1 + 40, (uint32_t)(r174 ? 0 : (r1_517_4_copyload + (uint32_t)r1_11_8_copyload)));
-        store16(a1 + 44, (uint16_t)(r174 ? 0 : r1_15_8_copyload));
-        store16(a1 + 46, 0);
-        store32(a1 + 48, 0);
-        r35_0_0 = 1;
-        r35_6_0 = 1;
-        r35_1142_0 = a1_a0_3;
-        break;
-    }
-    case 3:
-    case 4: {
-        uint8_t r10 = a1[36];
-        switch (r10) {
-        case 3: {
-            uint32_t r13 = load32(a1 + 40);
-            dfu_asks_asking_Asking_block_job(r5, a1, r13, a11, a12);
-            break;
-        }
-        case 5: {
-            uint32_t r17 = load32(a1 + 40);
-            dfu_asks_asking_Asking_block_job(r5, a1, r17, a11, a12);
-            break;
-        }
-        case 0:
-        case 1:
-        case 2:
-        case 4:
-        case 6:
-        case 7:
-        case 8:
-        case 9:
-        case 10:
-        case 11:
-        case 12: {
-            uint32_t r16 = load32(a12 + 4);
-            uint8_t r0_0_0_copyload = a11[16];
-            uint32_t r1_0_0_copyload_2 = load32(a11 + 20);
-            uint32_t switch_load = load32(PLACE(switch_table_dfu_core_would_stall) + 4 * (size_t)r0_0_0_copyload);
-            uint32_t r22 = load32(a1 + 72);
-            uint64_t r26 = load64(a1 + 64);
-            uint8_t r37 = a1[77];
-            size_t r13_0_0_copyload = (size_t)load64(a11);
-            store32(r5_2, 0xffffffffU);
-            dfu_suffix_crc_Crc_update_small(r5_2, (unsigned char *)(uintptr_t)r13_0_0_copyload + (size_t)((umax32(r1_0_0_copyload_2, switch_load) << 1) + r16), (uint64_t)(size_t)r22 - r26);
-            dfu_suffix_crc_Crc_update_small(r5_2, a9, umin64(a10, r26));
-            uint32_t r1_2 = load32(r5_2);
-            store32(r5, 1);
-            store32(r5 + 4, r16);
-            r5[8] = (uint8_t)(r37 + 1);
-            store32(r5 + 12, r1_2);
-            store64(r5 + 16, r26);
-            store32(r5 + 24, r22);
-            break;
-        }
-        default: never();
-        }
-        uint8_t r14_0_0_copyload = *r5;
-        uint32_t r14_33_0_copyload = load32(r5 + 4);
-        uint8_t r14_4_0_copyload = r5[8];
-        uint32_t r14_54_0_copyload = load32(r5 + 12);
-        uint64_t r14_6_0_copyload = load64(r5 + 16);
-        uint32_t r14_7_0_copyload = load32(r5 + 24);
-        store64(a1 + 64, r14_6_0_copyload);
-        store32(a1 + 72, r14_7_0_copyload);
-        store32(a1 + 96, 1);
-        store32(a1 + 100, (uint32_t)r14_0_0_copyload);
-        store32(a1 + 104, r14_33_0_copyload);
-        a1[108] = r14_4_0_copyload;
-        memset(a1 + 109, 0, 3);
-        store32(a1 + 112, r14_54_0_copyload);
-        store16(a1 + 116, a3);
-        store16(a1 + 118, a4);
-        store32(a1 + 120, 0);
-        size_t r22_0_0_copyload = (size_t)load64(a11);
-        uint64_t r22_3_0_copyload = load64(a11 + 8);
-        dfu_asks_asking_Asking_advance(r0, a1, a7, a8, a9, a10, (unsigned char *)(uintptr_t)r22_0_0_copyload, r22_3_0_copyload, a13);
-        uint8_t v1 = *r0;
-        uint8_t v2 = r0[1];
-        uint64_t v3 = load64(r0 + 8);
-        r35_0_0 = v1;
-        r35_6_0 = v2;
-        r35_1142_0 = v3;
-        break;
-    }
-    default: never();
-    }
-    *a0 = r35_0_0;
-    a0[1] = r35_6_0;
-    store64(a0 + 8, r35_1142_0);
-    return;
-}
-
-/* dfu_asks::asking::Asking::give: crates/dfu_asks/src/carry.rt */
-static struct i8_i64 dfu_asks_asking_Asking_give(unsigned char *a0, uint8_t a1, uint16_t a2, unsigned char *a3) {
-    _Alignas(8) unsigned char r5[8];
-    _Alignas(4) unsigned char r1[6];
-    _Alignas(1) unsigned char r4[6];
-    _Alignas(4) unsigned char r5_2[1];
-    uint8_t v0, r11_0_0, r6_0_0;
-    unsigned char *r10_0_in;
-    uint32_t r10_0;
-    size_t r6_61_0;
-    switch (a1) {
-    case 0:
-        r6_61_0 = 0;
-        r6_0_0 = a1;
-        break;
-    case 3:
-        r6_61_0 = 0;
-        r6_0_0 = 2;
-        break;
-    case 1: {
-        v0 = a0[36];
-        uint8_t v1 = a0[37];
-        switch (v0) {
-        case 12:
-            r10_0 = 0;
-            r11_0_0 = v1;
-            goto dfu_device_device_state_status_in_exit;
-        case 5:
-            r10_0_in = a0 + 20;
-            break;
-        case 9:
-            r10_0_in = a0 + 24;
-            break;
-        case 0:
-        case 1:
-        case 2:
-        case 3:
-        case 4:
-        case 6:
-        case 7:
-        case 8:
-        case 10:
-        case 11:
-            r10_0 = 0;
-            r11_0_0 = 0;
-            goto dfu_device_device_state_status_in_exit;
-        default: never();
-        }
-        uint32_t r10_0_2 = load32(r10_0_in);
-        if (r10_0_2 > 0xffffffU) trap();
-        r10_0 = r10_0_2;
-        r11_0_0 = 0;
-dfu_device_device_state_status_in_exit:;
-        uint8_t switch_load = *(PLACE(switch_table_dfu_device_device_state_DeviceState_state) + (size_t)v0);
-        unsigned char *v3 = r1 + 1;
-        memset(v3, 0, 5);
-        *r1 = r11_0_0;
-        store64(r5, (size_t)r10_0);
-        core_slice_edits_slice_T_copy_from_slice_i8_core_clone_U8Clone(v3, r5, 3);
-        r1[4] = switch_load;
-        memcpy(r4, r1, 6);
-        size_t a1_a0 = (size_t)umin16(a2, 6);
-        core_slice_edits_slice_T_copy_from_slice_i8_core_clone_U8Clone(a3, r4, a1_a0);
-        r6_61_0 = a1_a0;
-        r6_0_0 = 1;
-        break;
-    }
-    case 2: {
-        uint8_t v5 = a0[36];
-        uint8_t switch_load_2 = *(PLACE(switch_table_dfu_device_device_state_DeviceState_state) + (size_t)v5);
-        *r5_2 = switch_load_2;
-        size_t a1_a0_2 = (size_t)(a2 != 0);
-        core_slice_edits_slice_T_copy_from_slice_i8_core_clone_U8Clone(a3, r5_2, a1_a0_2);
-        r6_61_0 = a1_a0_2;
-        r6_0_0 = 1;
-        break;
-    }
-    default: never();
-    }
-    struct i8_i64 r85_half = (struct i8_i64){ 0, 0 };
-    r85_half.a = r6_0_0;
-    struct i8_i64 r85 = r85_half;
-    r85.b = r6_61_0;
-    return r85;
-}
-
-/* dfu_asks::asking::Asking::block_job: crates/dfu_asks/src/start.rt */
-static void dfu_asks_asking_Asking_block_job(unsigned char *a0, unsigned char *a1, uint32_t a2, unsigned char *a3, unsigned char *a4) {
-    uint32_t r14, r45_sink;
-    uint8_t sink;
-    uint64_t r43_sink;
-    r14 = load32(a4 + 4);
-    if (a2 == 0) {
-        uint8_t r18 = dfu_slots_read_is_open(a3, r14);
-        memset(a0 + 9, 0, 3);
-        sink = r18;
-        r43_sink = 0;
-        r45_sink = 0;
-    }
-    else {
-        uint64_t r43 = load64(a1 + 64);
-        uint32_t r45 = load32(a1 + 72);
-        memset(a0 + 9, 0, 3);
-        sink = 0;
-        r43_sink = r43;
-        r45_sink = r45;
-    }
-    store32(a0, 0);
-    store32(a0 + 4, r14);
-    a0[8] = sink;
-    store32(a0 + 12, 0);
-    store64(a0 + 16, r43_sink);
-    store32(a0 + 24, r45_sink);
-    store32(a0 + 28, 0);
-    return;
-}
-
-/* dfu_asks::asking::Asking::advance */
-static void dfu_asks_asking_Asking_advance(unsigned char *a0, unsigned char *a1, unsigned char *a2, size_t a3, unsigned char *a4, uint64_t a5, unsigned char *a6, uint64_t a7, unsigned char *a8) {
-    _Alignas(4) unsigned char r9[24];
-    _Alignas(4) unsigned char r10[16];
-    unsigned char *r32, *r24, *r26, *r28, *r30, *r32_2, *r33_2;
-    size_t a1_a0;
-    uint64_t a1_a0_2, r52, r57, r10_0, r0_0_0;
-    uint8_t v8, r17_0_0, r17_7_0;
-    uint32_t r0_4_0, v9, v10, r81, r17_103_0, r17_15_0_0, r17_15_6_0_0, r17_20_0;
-    r32 = a1 + 96;
-    uint8_t r33 = *r32;
-    if (r33 != 1) {
-        *a0 = 1;
-        a0[1] = 0;
-        store64(a0 + 8, 0);
-        return;
-    }
-    memcpy(r9, a1 + 100, 24);
-    struct i64_i8 r61 = dfu_asks_asking_Asking_look_at(a1, r9, a2, a3, a4, a5, PLACE(static_0), 0);
-    if (r61.a != 0) {
-        *a0 = 0;
-        a0[1] = 0;
-        store64(a0 + 8, 0);
-        return;
-    }
-    store32(r10, 0);
-    r24 = a1 + 36;
-    uint8_t v1 = *r24;
-    *r10 = v1;
-    r26 = a1 + 37;
-    uint8_t v2 = *r26;
-    r10[1] = v2;
-    r28 = a1 + 40;
-    uint32_t v3 = load32(r28);
-    store32(r10 + 4, v3);
-    r30 = a1 + 44;
-    uint32_t v4 = load32(r30);
-    store32(r10 + 8, v4);
-    r32_2 = a1 + 48;
-    uint32_t v5 = load32(r32_2);
-    store32(r10 + 12, v5);
-    r33_2 = a1 + 28;
-    uint8_t r11_0_0_copyload = *r33_2;
-    uint32_t r12_0_0_copyload = load32(a1 + 32);
-    dfu_asks_finish_note(a1 + 76, r10, a6, a7, r11_0_0_copyload, r12_0_0_copyload);
-    uint8_t v6 = *r24;
-    switch (v6) {
-    case 3:
-    case 5: {
-        uint64_t r40 = load64(a1 + 56);
-        a1_a0 = (size_t)umin64(a3, r40);
-        uint64_t r47 = load64(a1 + 64);
-        a1_a0_2 = umin64(a5, r47);
-        uint8_t r13_0_0_copyload = *r33_2;
-        uint64_t switch_load = load64(PLACE(switch_table_dfu_asks_asking_Asking_advance) + 8 * (size_t)r13_0_0_copyload);
-        uint64_t r46 = a1_a0_2 + (uint64_t)a1_a0;
-        r52 = switch_load & r46;
-        r57 = r46 - r52;
-        r10_0 = 0;
-        while (r10_0 != r52) {
-            uint64_t r68 = r10_0 + r57;
-            uint8_t r27_0 = *((r68 < a1_a0_2) ? (a4 + (size_t)r68) : (a2 + ((size_t)r68 - (size_t)a1_a0_2)));
-            a4[(size_t)r10_0] = r27_0;
-            r10_0 = r10_0 + 1;
-        }
-        uint32_t r73 = load32(a1 + 72);
-        uint8_t pre = *r24;
-        v8 = pre;
-        r0_4_0 = uadd_sat32((uint32_t)a1_a0, r73);
-        r0_0_0 = r52;
-        break;
-    }
-    case 0:
-    case 1:
-    case 2:
-    case 4:
-    case 6:
-    case 7:
-    case 8:
-    case 9:
-    case 10:
-    case 11:
-    case 12:
-        v8 = v6;
-        r0_4_0 = 0;
-        r0_0_0 = 0;
-        break;
-    default: never();
-    }
-    store64(a1 + 64, r0_0_0);
-    store32(a1 + 72, r0_4_0);
-    uint64_t r65 = load64(a1 + 56);
-    v9 = load32(r28);
-    v10 = load32(r30);
-    r81 = (uint32_t)(size_t)umin64(a3, r65);
-    switch (v8) {
-    case 3:
-        r17_0_0 = 6;
-        r17_7_0 = 0;
-        r17_103_0 = uadd_sat32(r81, v9);
-        r17_15_0_0 = v10;
-        r17_15_6_0_0 = 0;
-        r17_20_0 = 0;
-        break;
-    case 5:
-        r17_0_0 = 4;
-        r17_7_0 = 0;
-        r17_103_0 = uadd_sat32(r81, v9);
-        r17_15_0_0 = v10;
-        r17_15_6_0_0 = 0;
-        r17_20_0 = 0;
-        break;
-    case 7:
-        r17_0_0 = 2;
-        r17_7_0 = 0;
-        r17_103_0 = 0;
-        r17_15_0_0 = 0;
-        r17_15_6_0_0 = 0;
-        r17_20_0 = 0;
-        break;
-    case 9: {
-        uint8_t r19_2_0_copyload = a1[8];
-        r17_0_0 = (uint8_t)((r19_2_0_copyload & 1) ? 8 : 10);
-        r17_7_0 = 0;
-        r17_103_0 = 0;
-        r17_15_0_0 = 0;
-        r17_15_6_0_0 = 0;
-        r17_20_0 = 0;
-        break;
-    }
-    case 0:
-    case 1:
-    case 2:
-    case 4:
-    case 6:
-    case 8:
-    case 10:
-    case 11:
-    case 12: {
-        uint32_t v11 = load32(r32_2);
-        uint8_t v12 = *r26;
-        r17_0_0 = v8;
-        r17_7_0 = v12;
-        r17_103_0 = v9;
-        r17_15_0_0 = v10;
-        r17_15_6_0_0 = v10 & 0xffff0000U;
-        r17_20_0 = v11;
-        break;
-    }
-    default: never();
-    }
-    *r24 = r17_0_0;
-    *r26 = r17_7_0;
-    store32(r28, r17_103_0);
-    store32(r30, r17_15_6_0_0 | (r17_15_0_0 & 0xffffU));
-    store32(r32_2, r17_20_0);
-    memset(r32, 0, 28);
-    uint8_t r91 = r9[16];
-    uint16_t r29_3_2_copyload = load16(r9 + 18);
-    struct i8_i64 r107 = dfu_asks_asking_Asking_answer(a1, r91, r29_3_2_copyload, a8);
-    *a0 = 1;
-    a0[1] = r107.a;
-    store64(a0 + 8, (size_t)r107.b);
-    return;
-}
-
-/* dfu_asks::asking::Asking::look_at: crates/dfu_asks/src/advance.rt */
-static struct i64_i8 dfu_asks_asking_Asking_look_at(unsigned char *a0, unsigned char *a1, unsigned char *a2, size_t a3, unsigned char *a4, uint64_t a5, unsigned char *a6, size_t a7) {
-    _Alignas(8) unsigned char r7[112];
-    _Alignas(4) unsigned char r12[16];
-    uint8_t r0_4_0;
-    uint64_t r0_0_0;
-    unsigned char *v0 = r12 + 8;
-    store32(v0, 0);
-    uint8_t r5_0_0_copyload = a0[28];
-    uint32_t r6_0_0_copyload = load32(a0 + 32);
-    uint32_t r17 = load32(a0 + 72);
-    uint64_t r8 = load64(a0 + 64);
-    uint64_t r26 = load64(a0 + 56);
-    uint32_t r24 = load32(a1 + 20);
-    *r7 = r5_0_0_copyload;
-    memset(r7 + 1, 0, 3);
-    store32(r7 + 4, r6_0_0_copyload);
-    store32(r7 + 8, r17);
-    store32(r7 + 12, 0);
-    store64(r7 + 16, (size_t)(uintptr_t)a4);
-    store64(r7 + 24, umin64(a5, r8));
-    store64(r7 + 32, (size_t)(uintptr_t)a2);
-    store64(r7 + 40, (size_t)umin64(a3, r26));
-    store64(r7 + 48, (size_t)r24);
-    memset(r7 + 56, 0, 40);
-    r7[96] = 4;
-    memset(r7 + 97, 0, 15);
-    uint8_t r26_2 = *a1;
-    store32(r12, (uint32_t)r26_2);
-    uint32_t v1 = load32(a1 + 4);
-    store32(r12 + 4, v1);
-    uint8_t v2 = a1[8];
-    *v0 = v2;
-    uint32_t v3 = load32(a1 + 12);
-    store32(r12 + 12, v3);
-    uint8_t r35 = dfu_asks_next_piece_next_piece(r12, r7);
-    if (!r35) {
-        r0_4_0 = 0;
-        r0_0_0 = 0;
-    }
-    else {
-        uint64_t r47 = load64(r7 + 88);
-        uint8_t r52 = dfu_asks_cut_stands(a6, a7, r7);
-        r0_4_0 = r52;
-        r0_0_0 = r47;
-    }
-    struct i64_i8 r59_half = (struct i64_i8){ 0, 0 };
-    r59_half.a = r0_0_0;
-    struct i64_i8 r59 = r59_half;
-    r59.b = r0_4_0;
-    return r59;
-}
-
-/* dfu_asks::next_piece::next_piece: crates/dfu_asks/src/next_piece.rt */
-static uint8_t dfu_asks_next_piece_next_piece(unsigned char *a0, unsigned char *a1) {
-    _Alignas(4) unsigned char r2_3[16];
-    unsigned char *const r2_2 = r2_3;
-    _Alignas(4) unsigned char r1[16];
-    uint32_t r1_3_4_copyload;
-    uint8_t r1_6_8_copyload;
-    uint8_t common_ret_op, r15_0_in;
-    uint8_t r2 = *a0;
-    r1_3_4_copyload = load32(a0 + 4);
-    r1_6_8_copyload = a0[8];
-    if (r2 != 0) {
-        uint32_t r1_91_12_copyload = load32(a0 + 12);
-        unsigned char *v2 = r2_3 + 12;
-        store32(v2, 0);
-        uint32_t r8 = load32(a1 + 8);
-        a1[56] = r1_6_8_copyload;
-        a1[57] = 2;
-        a1[58] = 0;
-        a1[59] = 0;
-        store32(a1 + 60, r8);
-        store32(a1 + 64, r1_91_12_copyload);
-        store32(a1 + 68, 0);
-        size_t r13 = (size_t)load64(a1 + 24);
-        store32(r2_3, 2);
-        store32(r2_3 + 4, r1_3_4_copyload);
-        store32(r2_3 + 8, r8);
-        store16(v2, (uint16_t)r13);
-        uint8_t r22_2 = dfu_asks_next_piece_sequence_piece(r2_3, a1);
-        r15_0_in = r22_2;
-    }
-    else {
-        store64a4(r2_2 + 8, 0);
-        if (r1_6_8_copyload & 1) {
-            store32(r2_2, 0);
-            store32(r2_2 + 4, r1_3_4_copyload);
-            uint8_t r9 = dfu_asks_next_piece_sequence_piece(r2_2, a1);
-            if (r9) {
-                common_ret_op = 1;
-                goto dfu_asks_next_piece_block_piece_exit;
-            }
-        }
-        uint32_t r19 = load32(a1 + 8);
-        size_t r22 = (size_t)load64(a1 + 24);
-        size_t r27 = (size_t)load64(a1 + 40);
-        store32(r1, 1);
-        store32(r1 + 4, r1_3_4_copyload);
-        store32(r1 + 8, r19);
-        store16(r1 + 12, (uint16_t)r22);
-        store16(r1 + 14, (uint16_t)r27);
-        uint8_t r38 = dfu_asks_next_piece_sequence_piece(r1, a1);
-        common_ret_op = r38;
-dfu_asks_next_piece_block_piece_exit:
-        r15_0_in = common_ret_op;
-    }
-    return r15_0_in;
-}
-
-/* dfu_asks::finish::note: crates/dfu_asks/src/finish.rt */
-static void dfu_asks_finish_note(unsigned char *a0, unsigned char *a1, unsigned char *a2, uint64_t a3, uint8_t a4, uint32_t a5) {
-    _Alignas(4) unsigned char r15[18];
-    uint8_t v0 = *a1;
-    switch (v0) {
-    case 3:
-    case 5: return;
-    case 0:
-    case 1:
-    case 2:
-    case 4:
-    case 6:
-    case 7:
-    case 8:
-    case 9:
-    case 10:
-    case 11:
-    case 12: {
-        dfu_asks_noted_Noted_find(r15, a2, a3, a4, a5);
-        uint8_t r25 = *r15;
-        if (r25 != 1) return;
-        memcpy(a0, r15 + 1, 17);
-        return;
-    }
-    default: never();
-    }
-}
-
-/* dfu_asks::asking::Asking::answer: crates/dfu_asks/src/finish.rt */
-static struct i8_i64 dfu_asks_asking_Asking_answer(unsigned char *a0, uint8_t a1, uint16_t a2, unsigned char *a3) {
-    struct i8_i64 r24_pn;
-    if (a1 == 0) r24_pn = (struct i8_i64){ 0, 0 };
-    else {
-        struct i8_i64 r40 = dfu_asks_asking_Asking_give(a0, 1, a2, a3);
-        r24_pn = r40;
-    }
-    return r24_pn;
-}
-
-/* dfu_device_c::keeping::keep: crates/dfu_device_c/src/keeping.rt */
-static void dfu_device_c_keeping_keep(unsigned char *a0, unsigned char *a1) {
-    _Alignas(4) unsigned char r1[16];
-    uint32_t r3_54_4_copyload, r3_75_4_copyload, r3_10_4_copyload;
-    uint8_t r3_6_4_copyload, r3_8_4_copyload;
-    uint16_t r3_96_4_copyload;
-    unsigned char *r27;
-    store32(r1, 0);
-    uint8_t v0 = a0[36];
-    *r1 = v0;
-    uint8_t v1 = a0[37];
-    r1[1] = v1;
-    uint32_t v2 = load32(a0 + 40);
-    store32(r1 + 4, v2);
-    uint32_t v3 = load32(a0 + 44);
-    store32(r1 + 8, v3);
-    uint32_t v4 = load32(a0 + 48);
-    store32(r1 + 12, v4);
-    dfu_device_c_mode_set_mode(a1, r1);
-    uint8_t r20 = a0[96];
-    r3_54_4_copyload = load32(a0 + 104);
-    r3_6_4_copyload = a0[108];
-    r3_75_4_copyload = load32(a0 + 112);
-    r3_8_4_copyload = a0[116];
-    r3_96_4_copyload = load16(a0 + 118);
-    r3_10_4_copyload = load32(a0 + 120);
-    if (r20 == 0) store32(a1 + 44, 0);
-    else {
-        uint8_t r3_3_4_copyload = a0[100];
-        if (r3_3_4_copyload != 0) {
-            store32(a1 + 44, 2);
-            store32(a1 + 48, r3_54_4_copyload);
-            a1[64] = r3_6_4_copyload;
-            store32(a1 + 52, r3_75_4_copyload);
-        }
-        else {
-            store32(a1 + 44, 1);
-            store32(a1 + 48, r3_54_4_copyload);
-            r27 = a1 + 65;
-            if (r3_6_4_copyload & 1) *r27 = 1;
-            else {
-                *r27 = 0;
-            }
-        }
-        store32(a1 + 56, r3_10_4_copyload);
-        store32(a1 + 60, (uint32_t)((r3_8_4_copyload == 0) ? 0 : ((uint32_t)r3_96_4_copyload + 1)));
-    }
-    size_t r26 = (size_t)load64(a0 + 56);
-    store16(a1 + 26, (uint16_t)r26);
-    size_t r32 = (size_t)load64(a0 + 64);
-    store16(a1 + 66, (uint16_t)r32);
-    uint32_t r38 = load32(a0 + 72);
-    store32(a1 + 16, r38);
-    uint8_t r42 = a0[76];
-    store32(a1 + 20, (uint32_t)r42);
-    memmove(a1 + 28, a0 + 77, 16);
-    return;
-}
-
-/* dfu_core_version: crates/dfu_device_c/src/config.rt */
-int32_t dfu_core_version(void) {
-    return signed32(300);
+    return r7;
 }
 
 /* dfu_core_code: crates/dfu_device_c/src/tells.rt */
 int32_t dfu_core_code(const struct dfu_record *record) {
     unsigned char *a0 = (unsigned char *)(uintptr_t)record;
     uint32_t common_ret_op;
-    uint8_t r7 = dfu_device_c_mode_has_mode(a0);
+    uint8_t r7 = dfu_core_mode_has_mode(a0);
     if (!r7) common_ret_op = 0xfffffffcU;
     else {
         uint32_t r17 = load32(a0 + 4);
@@ -3384,11 +3499,43 @@ int32_t dfu_core_code(const struct dfu_record *record) {
     return signed32(common_ret_op);
 }
 
+/* dfu_core_image: crates/dfu_device_c/src/image.rt */
+int32_t dfu_core_image(const struct dfu_config *config, const uint8_t *flash, size_t size, struct dfu_place *place) {
+    unsigned char *a0 = (unsigned char *)(uintptr_t)config;
+    unsigned char *a1 = (unsigned char *)(uintptr_t)flash;
+    size_t a2 = (size_t)size;
+    unsigned char *a3 = (unsigned char *)(uintptr_t)place;
+    _Alignas(4) unsigned char r5[40];
+    _Alignas(4) unsigned char r10[18];
+    uint8_t r3_2_0_copyload;
+    uint32_t r3_31_0_copyload, common_ret_op;
+    store64a4(r5 + 32, 0);
+    dfu_core_config_settings_of(r5, a0);
+    uint8_t r12 = *r5;
+    if (r12 != 1) common_ret_op = 0xfffffffeU;
+    else {
+        r3_2_0_copyload = r5[32];
+        r3_31_0_copyload = load32(r5 + 36);
+        dfu_asks_noted_Noted_find(r10, a1, a2, r3_2_0_copyload, r3_31_0_copyload);
+        uint8_t r1_0_0_copyload = *r10;
+        if (r1_0_0_copyload != 1) common_ret_op = 0xfffffffdU;
+        else {
+            uint8_t r5_4_0_0_copyload = r10[1];
+            uint32_t r5_4_6_0_copyload = load32a2(r10 + 6);
+            uint32_t switch_load = load32(PLACE(switch_table_dfu_core_would_stall) + 4 * (size_t)r3_2_0_copyload);
+            store32(a3, (umax32(r3_31_0_copyload, switch_load) << 1) + (uint32_t)((r5_4_0_0_copyload & 1) ? (uint32_t)(a2 >> 1) : 0));
+            store32(a3 + 4, r5_4_6_0_copyload);
+            common_ret_op = 0;
+        }
+    }
+    return signed32(common_ret_op);
+}
+
 /* dfu_core_state: crates/dfu_device_c/src/tells.rt */
 int32_t dfu_core_state(const struct dfu_record *record) {
     unsigned char *a0 = (unsigned char *)(uintptr_t)record;
     uint32_t r14, common_ret_op;
-    uint8_t r4 = dfu_device_c_mode_has_mode(a0);
+    uint8_t r4 = dfu_core_mode_has_mode(a0);
     if (!r4) common_ret_op = 0xfffffffcU;
     else {
         r14 = load32(a0 + 4);
@@ -3401,69 +3548,157 @@ int32_t dfu_core_state(const struct dfu_record *record) {
     return signed32(common_ret_op);
 }
 
-/* dfu_core_format_next: crates/dfu_device_c/src/format.rt */
-int32_t dfu_core_format_next(const struct dfu_config *config, const struct dfu_record *record, const uint8_t *flash, size_t size, const uint8_t *image, size_t length, struct dfu_ask *ask) {
+/* dfu_core_too_long: crates/dfu_device_c/src/long.rt */
+int32_t dfu_core_too_long(const struct dfu_config *config, struct dfu_record *record, const uint8_t setup[8]) {
     unsigned char *a0 = (unsigned char *)(uintptr_t)config;
     unsigned char *a1 = (unsigned char *)(uintptr_t)record;
-    (void)flash;
-    size_t a3 = (size_t)size;
-    unsigned char *a4 = (unsigned char *)(uintptr_t)image;
-    size_t a5 = (size_t)length;
-    unsigned char *a6 = (unsigned char *)(uintptr_t)ask;
-    _Alignas(8) unsigned char r5[112];
-    _Alignas(4) unsigned char r8[40];
-    _Alignas(4) unsigned char r9[28];
-    unsigned char *r13, *r22, *r42;
-    uint32_t r6_41_0_copyload, common_ret_op;
-    uint64_t r6_4_0_copyload, r6_5_0_copyload;
-    r13 = (unsigned char *)((uintptr_t)a4 + (uintptr_t)(size_t)((a4 == NULL) ? 4096 : 0));
-    store64a4(r8 + 32, 0);
-    dfu_device_c_config_settings_of(r8, a0);
-    uint8_t r15 = *r8;
-    if (r15 != 1) common_ret_op = 0xfffffffeU;
+    unsigned char *a2 = (unsigned char *)(uintptr_t)setup;
+    _Alignas(4) unsigned char r8[56];
+    _Alignas(4) unsigned char r6[16];
+    uint8_t r3_3_0_copyload, r3_4_0_copyload, r13_4_0, r13_7_0;
+    uint64_t r2_0_0_copyload;
+    uint32_t r13_107_0, r13_13_0, r13_16_0, common_ret_op;
+    store32(r6, 0);
+    memset(r8, 0, 56);
+    dfu_core_mode_idle_mode(r8, a0, a1);
+    uint8_t r18 = *r8;
+    if (r18 != 0) {
+        uint8_t r4_0_0_copyload = r8[1];
+        uint32_t switch_load = load32(PLACE(switch_table_dfu_core_numbers_Refusal_number) + 4 * (size_t)r4_0_0_copyload);
+        common_ret_op = switch_load;
+    }
     else {
-        dfu_device_c_format_formatting_of(r9, r8 + 4, a1);
-        uint8_t r19 = *r9;
-        if (r19 != 1) common_ret_op = 0xfffffffcU;
+        uint16_t r3_0_3_0_copyload = load16(r8 + 16);
+        r3_3_0_copyload = r8[40];
+        r3_4_0_copyload = r8[41];
+        r2_0_0_copyload = load64u(a2);
+        if (!((((size_t)r2_0_0_copyload & 255) == 33) ? (r3_0_3_0_copyload < (uint16_t)(size_t)(r2_0_0_copyload >> 48)) : 0)) common_ret_op = 0xfffffff7U;
         else {
-            unsigned char *r20 = r9 + 4;
-            uint8_t r6_0_0_copyload = *r20;
-            r6_41_0_copyload = load32(r9 + 8);
-            uint32_t r6_52_0_copyload = load32(r9 + 24);
-            r22 = a6 + 12;
-            *r5 = r6_0_0_copyload;
-            memset(r5 + 1, 0, 3);
-            store32(r5 + 4, r6_41_0_copyload);
-            store32(r5 + 8, 0);
-            store32(r5 + 12, 0);
-            store64(r5 + 16, (uint64_t)(uintptr_t)static_0);
-            store64(r5 + 24, 0);
-            store64(r5 + 32, (size_t)(uintptr_t)r13);
-            store64(r5 + 40, a5);
-            store64(r5 + 48, (size_t)r6_52_0_copyload);
-            memset(r5 + 56, 0, 40);
-            r5[96] = 4;
-            memset(r5 + 97, 0, 15);
-            uint8_t r30 = dfu_asks_formatting_Formatting_due(r20, a3, r5);
-            if (r30) {
-                r42 = r5 + 72;
-                r6_4_0_copyload = load64(r5 + 80);
-                r6_5_0_copyload = load64(r5 + 88);
-                uint8_t r45 = dfu_asks_next_and_took_is_sound(r6_41_0_copyload, r42);
-                if (r45 ? ((uint64_t)a3 >= (r6_5_0_copyload + r6_4_0_copyload)) : 0) {
-                    dfu_asks_cut_fill(r5, r22);
-                    uint8_t r11_6_8_copyload = *r42;
-                    store32(a6, (uint32_t)((r11_6_8_copyload & 1) ? 1 : 2));
-                    store32(a6 + 4, (uint32_t)r6_4_0_copyload);
-                    store32(a6 + 8, (uint32_t)r6_5_0_copyload);
-                    common_ret_op = 0;
-                    goto dfu_device_c_format_dfu_core_format_next_exit;
+            uint8_t r34 = a0[15];
+            uint32_t r3_8_0_copyload = load32(r8 + 52);
+            uint32_t r3_7_0_copyload = load32(r8 + 48);
+            uint32_t r3_6_0_copyload = load32(r8 + 44);
+            if (!(((r2_0_0_copyload & 0xff0000000000ULL) == 0) & (r34 == (uint8_t)(size_t)(r2_0_0_copyload >> 32)))) {
+                r13_4_0 = r3_3_0_copyload;
+                r13_7_0 = r3_4_0_copyload;
+                r13_107_0 = r3_6_0_copyload;
+                r13_13_0 = r3_7_0_copyload;
+                r13_16_0 = r3_8_0_copyload;
+            }
+            else {
+                switch (r3_3_0_copyload) {
+                case 0:
+                case 1:
+                    r13_4_0 = 0;
+                    r13_7_0 = 0;
+                    r13_107_0 = 0;
+                    r13_13_0 = 0;
+                    r13_16_0 = 0;
+                    break;
+                case 10:
+                    r13_4_0 = r3_3_0_copyload;
+                    r13_7_0 = 0;
+                    r13_107_0 = 0;
+                    r13_13_0 = 0;
+                    r13_16_0 = 0;
+                    break;
+                case 12:
+                    r13_4_0 = r3_3_0_copyload;
+                    r13_7_0 = r3_4_0_copyload;
+                    r13_107_0 = 0;
+                    r13_13_0 = 0;
+                    r13_16_0 = 0;
+                    break;
+                case 2:
+                case 3:
+                case 4:
+                case 5:
+                case 6:
+                case 7:
+                case 8:
+                case 9:
+                case 11:
+                    r13_4_0 = 12;
+                    r13_7_0 = 15;
+                    r13_107_0 = 0;
+                    r13_13_0 = 0;
+                    r13_16_0 = 0;
+                    break;
+                default: never();
                 }
             }
-            common_ret_op = 0xfffffffcU;
+            *r6 = r13_4_0;
+            r6[1] = r13_7_0;
+            store32(r6 + 4, r13_107_0);
+            store32(r6 + 8, r13_13_0);
+            store32(r6 + 12, r13_16_0);
+            dfu_core_mode_set_mode(a1, r6);
+            common_ret_op = 0xffffffffU;
         }
     }
-dfu_device_c_format_dfu_core_format_next_exit:
+    return signed32(common_ret_op);
+}
+
+/* dfu_core_version: crates/dfu_device_c/src/config.rt */
+int32_t dfu_core_version(void) {
+    return signed32(300);
+}
+
+/* dfu_core_due: crates/dfu_device_c/src/tells.rt */
+int32_t dfu_core_due(const struct dfu_config *config, const struct dfu_record *record) {
+    unsigned char *a0 = (unsigned char *)(uintptr_t)config;
+    unsigned char *a1 = (unsigned char *)(uintptr_t)record;
+    _Alignas(4) unsigned char r6[56];
+    uint32_t r3_6_0_copyload, r3_7_0_copyload, r0_4_0, common_ret_op;
+    memset(r6, 0, 56);
+    dfu_core_mode_mode_in(r6, a0, a1);
+    uint8_t r10 = *r6;
+    if (r10 != 0) {
+        uint8_t r4_0_0_copyload = r6[1];
+        uint32_t switch_load = load32(PLACE(switch_table_dfu_core_numbers_Refusal_number) + 4 * (size_t)r4_0_0_copyload);
+        common_ret_op = switch_load;
+    }
+    else {
+        uint8_t r3_3_0_copyload = r6[40];
+        r3_6_0_copyload = load32(r6 + 44);
+        r3_7_0_copyload = load32(r6 + 48);
+        switch (r3_3_0_copyload) {
+        case 1: {
+            uint8_t r3_0_3_0_copyload = r6[13];
+            if (r3_0_3_0_copyload & 1) r0_4_0 = 1;
+            else {
+                r0_4_0 = umax32(usub_sat32(r3_6_0_copyload, r3_7_0_copyload), 1);
+            }
+            break;
+        }
+        case 5: {
+            uint32_t r3_8_0_copyload = load32(r6 + 52);
+            uint32_t r3_0_5_0_copyload = load32(r6 + 24);
+            r0_4_0 = umax32(usub_sat32(r3_0_5_0_copyload, r3_8_0_copyload), 1);
+            break;
+        }
+        case 9: {
+            uint32_t r3_0_6_0_copyload = load32(r6 + 28);
+            r0_4_0 = umax32(usub_sat32(r3_0_6_0_copyload, r3_7_0_copyload), 1);
+            break;
+        }
+        case 0:
+        case 2:
+        case 3:
+        case 4:
+        case 6:
+        case 7:
+        case 8:
+        case 10:
+        case 11:
+        case 12:
+            common_ret_op = 0;
+            goto dfu_device_c_tells_dfu_core_due_exit;
+        default: never();
+        }
+        common_ret_op = umin32(r0_4_0, 0x7fffffffU);
+    }
+dfu_device_c_tells_dfu_core_due_exit:
     return signed32(common_ret_op);
 }
 
@@ -3481,10 +3716,10 @@ int32_t dfu_core_format_start(const struct dfu_config *config, struct dfu_record
     unsigned char *r4, *r13;
     uint32_t r5_31_0_copyload, common_ret_op;
     uint8_t r5_2_0_copyload;
-    r4 = (unsigned char *)((uintptr_t)a2 + (uintptr_t)(size_t)((a2 == NULL) ? 4096 : 0));
-    r13 = (unsigned char *)((uintptr_t)a4 + (uintptr_t)(size_t)((a4 == NULL) ? 4096 : 0));
+    r4 = a2;
+    r13 = a4;
     store64a4(r8 + 32, 0);
-    dfu_device_c_config_settings_of(r8, a0);
+    dfu_core_config_settings_of(r8, a0);
     uint8_t r18 = *r8;
     if (r18 != 1) common_ret_op = 0xfffffffeU;
     else {
@@ -3533,23 +3768,23 @@ int32_t dfu_core_format_took(const struct dfu_config *config, struct dfu_record 
     _Alignas(4) unsigned char r8[28];
     _Alignas(4) unsigned char r6[24];
     unsigned char *r4, *r13, *r30;
-    size_t wide_2395;
+    size_t wide_9016;
     uint8_t r3_0_0_copyload, r7_0_0_0, r6_2;
     uint32_t r4_0_0_copyload, r31, r100, r7_8_0, r26, r3_3_4_copyload, common_ret_op;
-    r4 = (unsigned char *)((uintptr_t)a2 + (uintptr_t)(size_t)((a2 == NULL) ? 4096 : 0));
-    r13 = (unsigned char *)((uintptr_t)a4 + (uintptr_t)(size_t)((a4 == NULL) ? 4096 : 0));
+    r4 = a2;
+    r13 = a4;
     store64a4(r7 + 32, 0);
-    dfu_device_c_config_settings_of(r7, a0);
+    dfu_core_config_settings_of(r7, a0);
     uint8_t r18 = *r7;
     if (r18 != 1) common_ret_op = 0xfffffffeU;
     else {
-        dfu_device_c_format_formatting_of(r8, r7 + 4, a1);
+        dfu_core_format_formatting_of(r8, r7 + 4, a1);
         uint8_t r23 = *r8;
         if (r23 != 1) common_ret_op = 0xfffffffcU;
         else {
             unsigned char *r24 = r8 + 4;
             memcpy(r6, r24, 24);
-            wide_2395 = (size_t)(uintptr_t)r13;
+            wide_9016 = (size_t)(uintptr_t)r13;
             r3_0_0_copyload = *r6;
             r4_0_0_copyload = load32(r6 + 4);
             r30 = r6 + 20;
@@ -3559,9 +3794,9 @@ int32_t dfu_core_format_took(const struct dfu_config *config, struct dfu_record 
             store32(r5 + 4, r4_0_0_copyload);
             store32(r5 + 8, 0);
             store32(r5 + 12, 0);
-            store64(r5 + 16, (uint64_t)(uintptr_t)static_0);
+            store64(r5 + 16, (uint64_t)(uintptr_t)static_2);
             store64(r5 + 24, 0);
-            store64(r5 + 32, wide_2395);
+            store64(r5 + 32, wide_9016);
             store64(r5 + 40, a5);
             store64(r5 + 48, (size_t)r31);
             memset(r5 + 56, 0, 40);
@@ -3581,9 +3816,9 @@ int32_t dfu_core_format_took(const struct dfu_config *config, struct dfu_record 
                         store32(r3 + 4, r4_0_0_copyload);
                         store32(r3 + 8, 0);
                         store32(r3 + 12, 0);
-                        store64(r3 + 16, (uint64_t)(uintptr_t)static_0);
+                        store64(r3 + 16, (uint64_t)(uintptr_t)static_2);
                         store64(r3 + 24, 0);
-                        store64(r3 + 32, wide_2395);
+                        store64(r3 + 32, wide_9016);
                         store64(r3 + 40, a5);
                         store64(r3 + 48, (size_t)r100);
                         memset(r3 + 56, 0, 40);
@@ -3652,83 +3887,6 @@ dfu_device_c_format_dfu_core_format_took_exit:
     return signed32(common_ret_op);
 }
 
-/* dfu_core_image: crates/dfu_device_c/src/image.rt */
-int32_t dfu_core_image(const struct dfu_config *config, const uint8_t *flash, size_t size, struct dfu_place *place) {
-    unsigned char *a0 = (unsigned char *)(uintptr_t)config;
-    unsigned char *a1 = (unsigned char *)(uintptr_t)flash;
-    size_t a2 = (size_t)size;
-    unsigned char *a3 = (unsigned char *)(uintptr_t)place;
-    _Alignas(4) unsigned char r5[40];
-    _Alignas(4) unsigned char r10[18];
-    uint8_t r3_2_0_copyload;
-    uint32_t r3_31_0_copyload, common_ret_op;
-    store64a4(r5 + 32, 0);
-    dfu_device_c_config_settings_of(r5, a0);
-    uint8_t r12 = *r5;
-    if (r12 != 1) common_ret_op = 0xfffffffeU;
-    else {
-        r3_2_0_copyload = r5[32];
-        r3_31_0_copyload = load32(r5 + 36);
-        dfu_asks_noted_Noted_find(r10, (unsigned char *)((uintptr_t)a1 + (uintptr_t)(size_t)((a1 == NULL) ? 4096 : 0)), a2, r3_2_0_copyload, r3_31_0_copyload);
-        uint8_t r1_0_0_copyload = *r10;
-        if (r1_0_0_copyload != 1) common_ret_op = 0xfffffffdU;
-        else {
-            uint8_t r5_4_0_0_copyload = r10[1];
-            uint32_t r5_4_6_0_copyload = load32a2(r10 + 6);
-            uint32_t switch_load = load32(PLACE(switch_table_dfu_core_would_stall) + 4 * (size_t)r3_2_0_copyload);
-            store32(a3, (umax32(r3_31_0_copyload, switch_load) << 1) + (uint32_t)((r5_4_0_0_copyload & 1) ? (uint32_t)(a2 >> 1) : 0));
-            store32(a3 + 4, r5_4_6_0_copyload);
-            common_ret_op = 0;
-        }
-    }
-    return signed32(common_ret_op);
-}
-
-/* dfu_core_is_blank: crates/dfu_device_c/src/blank.rt */
-int32_t dfu_core_is_blank(const struct dfu_config *config, const uint8_t *flash, size_t size) {
-    unsigned char *a0 = (unsigned char *)(uintptr_t)config;
-    unsigned char *a1 = (unsigned char *)(uintptr_t)flash;
-    size_t a2 = (size_t)size;
-    _Alignas(4) unsigned char r7[40];
-    _Alignas(8) unsigned char r5[24];
-    unsigned char *r4;
-    uint8_t r3_2_0_copyload;
-    uint32_t r17, common_ret_op;
-    uint64_t r26;
-    r4 = (unsigned char *)((uintptr_t)a1 + (uintptr_t)(size_t)((a1 == NULL) ? 4096 : 0));
-    store64a4(r7 + 32, 0);
-    dfu_device_c_config_settings_of(r7, a0);
-    uint8_t r14 = *r7;
-    if (r14 != 1) common_ret_op = 0xfffffffeU;
-    else {
-        r3_2_0_copyload = r7[32];
-        uint32_t r3_31_0_copyload = load32(r7 + 36);
-        struct i8_i32 r15 = dfu_asks_sector_Sector_new(r3_31_0_copyload);
-        r17 = r15.b;
-        if (!((wide(a2) < 0x100000000ULL) & (r15.a & 1))) common_ret_op = 0xfffffffdU;
-        else {
-            store64(r5, (size_t)(uintptr_t)r4);
-            store64(r5 + 8, a2);
-            r5[16] = r3_2_0_copyload;
-            memset(r5 + 17, 0, 3);
-            store32(r5 + 20, r17);
-            uint8_t r10 = dfu_slots_layout_is_sized(r5);
-            if (!r10) common_ret_op = 0xfffffffaU;
-            else {
-                uint32_t switch_load = load32(PLACE(switch_table_dfu_core_would_stall) + 4 * (size_t)r3_2_0_copyload);
-                r26 = (uint64_t)(size_t)umax32(r17, switch_load) << 1;
-                uint8_t r31 = dfu_asks_blank_is_erased(r4, 0, r26);
-                if (!r31) common_ret_op = 0;
-                else {
-                    uint8_t r50 = dfu_asks_blank_is_erased(r4, a2 >> 1, r26);
-                    common_ret_op = (uint32_t)r50;
-                }
-            }
-        }
-    }
-    return signed32(common_ret_op);
-}
-
 /* dfu_core_functional: crates/dfu_device_c/src/config.rt */
 int32_t dfu_core_functional(const struct dfu_config *config, uint8_t out[9]) {
     unsigned char *a0 = (unsigned char *)(uintptr_t)config;
@@ -3739,11 +3897,11 @@ int32_t dfu_core_functional(const struct dfu_config *config, uint8_t out[9]) {
     _Alignas(4) unsigned char r21[2];
     _Alignas(4) unsigned char r27[2];
     uint32_t common_ret_op;
-    dfu_device_c_config_settings_of(r1, a0);
+    dfu_core_config_settings_of(r1, a0);
     uint8_t r3 = *r1;
     if (r3 != 1) common_ret_op = 0xfffffffeU;
     else {
-        dfu_device_c_config_functional_of(r4, a0);
+        dfu_core_config_functional_of(r4, a0);
         uint8_t r5_0_0_copyload = *r4;
         uint8_t r5_3_0_copyload = r4[1];
         uint8_t r5_4_0_copyload = r4[2];
@@ -3771,99 +3929,282 @@ int32_t dfu_core_functional(const struct dfu_config *config, uint8_t out[9]) {
     return signed32(common_ret_op);
 }
 
-/* dfu_core_due: crates/dfu_device_c/src/tells.rt */
-int32_t dfu_core_due(const struct dfu_config *config, const struct dfu_record *record) {
+/* dfu_core_format_next: crates/dfu_device_c/src/format.rt */
+int32_t dfu_core_format_next(const struct dfu_config *config, const struct dfu_record *record, const uint8_t *flash, size_t size, const uint8_t *image, size_t length, struct dfu_ask *ask) {
     unsigned char *a0 = (unsigned char *)(uintptr_t)config;
     unsigned char *a1 = (unsigned char *)(uintptr_t)record;
-    _Alignas(4) unsigned char r6[56];
-    uint32_t r3_6_0_copyload, r3_7_0_copyload, r0_4_0, common_ret_op;
-    memset(r6, 0, 56);
-    dfu_device_c_mode_mode_in(r6, a0, a1);
-    uint8_t r10 = *r6;
-    if (r10 != 0) {
-        uint8_t r4_0_0_copyload = r6[1];
-        uint32_t switch_load = load32(PLACE(switch_table_dfu_device_c_numbers_Refusal_number) + 4 * (size_t)r4_0_0_copyload);
-        common_ret_op = switch_load;
-    }
+    (void)flash;
+    size_t a3 = (size_t)size;
+    unsigned char *a4 = (unsigned char *)(uintptr_t)image;
+    size_t a5 = (size_t)length;
+    unsigned char *a6 = (unsigned char *)(uintptr_t)ask;
+    _Alignas(8) unsigned char r5[112];
+    _Alignas(4) unsigned char r8[40];
+    _Alignas(4) unsigned char r9[28];
+    unsigned char *r13, *r22, *r42;
+    uint32_t r6_41_0_copyload, common_ret_op;
+    uint64_t r6_6_0_copyload, r6_8_0_copyload;
+    r13 = a4;
+    store64a4(r8 + 32, 0);
+    dfu_core_config_settings_of(r8, a0);
+    uint8_t r15 = *r8;
+    if (r15 != 1) common_ret_op = 0xfffffffeU;
     else {
-        uint8_t r3_3_0_copyload = r6[40];
-        r3_6_0_copyload = load32(r6 + 44);
-        r3_7_0_copyload = load32(r6 + 48);
-        switch (r3_3_0_copyload) {
-        case 1: {
-            uint8_t r3_0_3_0_copyload = r6[13];
-            if (r3_0_3_0_copyload & 1) r0_4_0 = 1;
-            else {
-                r0_4_0 = umax32(usub_sat32(r3_6_0_copyload, r3_7_0_copyload), 1);
+        dfu_core_format_formatting_of(r9, r8 + 4, a1);
+        uint8_t r19 = *r9;
+        if (r19 != 1) common_ret_op = 0xfffffffcU;
+        else {
+            unsigned char *r20 = r9 + 4;
+            uint8_t r6_0_0_copyload = *r20;
+            r6_41_0_copyload = load32(r9 + 8);
+            uint32_t r6_52_0_copyload = load32(r9 + 24);
+            r22 = a6 + 12;
+            *r5 = r6_0_0_copyload;
+            memset(r5 + 1, 0, 3);
+            store32(r5 + 4, r6_41_0_copyload);
+            store32(r5 + 8, 0);
+            store32(r5 + 12, 0);
+            store64(r5 + 16, (uint64_t)(uintptr_t)static_2);
+            store64(r5 + 24, 0);
+            store64(r5 + 32, (size_t)(uintptr_t)r13);
+            store64(r5 + 40, a5);
+            store64(r5 + 48, (size_t)r6_52_0_copyload);
+            memset(r5 + 56, 0, 40);
+            r5[96] = 4;
+            memset(r5 + 97, 0, 15);
+            uint8_t r30 = dfu_asks_formatting_Formatting_due(r20, a3, r5);
+            if (r30) {
+                r42 = r5 + 72;
+                r6_6_0_copyload = load64(r5 + 80);
+                r6_8_0_copyload = load64(r5 + 88);
+                uint8_t r45 = dfu_asks_next_and_took_is_sound(r6_41_0_copyload, r42);
+                if (r45 ? ((uint64_t)a3 >= (r6_8_0_copyload + r6_6_0_copyload)) : 0) {
+                    uint8_t r6_0_0_copyload_2 = *r42;
+                    dfu_asks_cut_fill(r5, r22);
+                    store32(a6, (uint32_t)((r6_0_0_copyload_2 & 1) ? 1 : 2));
+                    store32(a6 + 4, (uint32_t)r6_6_0_copyload);
+                    store32(a6 + 8, (uint32_t)r6_8_0_copyload);
+                    common_ret_op = 0;
+                    goto dfu_device_c_format_dfu_core_format_next_exit;
+                }
             }
-            break;
+            common_ret_op = 0xfffffffcU;
         }
-        case 5: {
-            uint32_t r3_8_0_copyload = load32(r6 + 52);
-            uint32_t r3_0_5_0_copyload = load32(r6 + 24);
-            r0_4_0 = umax32(usub_sat32(r3_0_5_0_copyload, r3_8_0_copyload), 1);
-            break;
-        }
-        case 9: {
-            uint32_t r3_0_6_0_copyload = load32(r6 + 28);
-            r0_4_0 = umax32(usub_sat32(r3_0_6_0_copyload, r3_7_0_copyload), 1);
-            break;
-        }
-        case 0:
-        case 2:
-        case 3:
-        case 4:
-        case 6:
-        case 7:
-        case 8:
-        case 10:
-        case 11:
-        case 12:
-            common_ret_op = 0;
-            goto dfu_device_c_tells_dfu_core_due_exit;
-        default: never();
-        }
-        common_ret_op = umin32(r0_4_0, 0x7fffffffU);
     }
-dfu_device_c_tells_dfu_core_due_exit:
+dfu_device_c_format_dfu_core_format_next_exit:
     return signed32(common_ret_op);
 }
 
-/* dfu_core_closes: crates/dfu_device_c/src/closes.rt */
-int32_t dfu_core_closes(const struct dfu_config *config, const struct dfu_record *record, const uint8_t setup[8]) {
+/* dfu_core_next: crates/dfu_device_c/src/calls.rt */
+int32_t dfu_core_next(const struct dfu_config *config, const struct dfu_record *record, const uint8_t *block, size_t most, const uint8_t *flash, size_t size, struct dfu_ask *ask) {
     unsigned char *a0 = (unsigned char *)(uintptr_t)config;
     unsigned char *a1 = (unsigned char *)(uintptr_t)record;
-    unsigned char *a2 = (unsigned char *)(uintptr_t)setup;
-    _Alignas(4) unsigned char r7[56];
-    _Alignas(4) unsigned char r2[16];
-    _Alignas(8) unsigned char r5[8];
-    uint32_t common_ret_op;
-    store32(r2, 0);
-    memset(r7, 0, 56);
-    dfu_device_c_mode_idle_mode(r7, a0, a1);
-    uint8_t r14 = *r7;
-    if (r14 != 0) {
-        uint8_t r4_0_0_copyload = r7[1];
-        uint32_t switch_load = load32(PLACE(switch_table_dfu_device_c_numbers_Refusal_number) + 4 * (size_t)r4_0_0_copyload);
+    unsigned char *a2 = (unsigned char *)(uintptr_t)block;
+    size_t a3 = (size_t)most;
+    unsigned char *a4 = (unsigned char *)(uintptr_t)flash;
+    size_t a5 = (size_t)size;
+    unsigned char *a6 = (unsigned char *)(uintptr_t)ask;
+    _Alignas(8) unsigned char r5[136];
+    _Alignas(8) unsigned char r10[112];
+    _Alignas(8) unsigned char r7[24];
+    _Alignas(4) unsigned char r18[16];
+    _Alignas(4) unsigned char r16[12];
+    unsigned char *r4, *r13, *r62, *v2;
+    uint16_t r54;
+    uint8_t r5_0_0_copyload, r11_0_0_copyload;
+    uint32_t r6_0_0_copyload, common_ret_op;
+    uint64_t r11_6_0_copyload, r11_8_0_copyload;
+    size_t a1_2;
+    r4 = a2;
+    r13 = a4;
+    memset(r5, 0, 136);
+    dfu_core_keeping_found(a0, a1, a3, r5);
+    uint8_t r32 = *r5;
+    if (r32 != 0) {
+        uint8_t r17_0_0_copyload = r5[1];
+        uint32_t switch_load = load32(PLACE(switch_table_dfu_core_numbers_Refusal_number) + 4 * (size_t)r17_0_0_copyload);
         common_ret_op = switch_load;
     }
     else {
-        uint8_t r3_3_0_copyload = r7[40];
-        uint8_t r3_4_0_copyload = r7[41];
-        uint32_t r3_6_0_copyload = load32(r7 + 44);
-        uint32_t r3_7_0_copyload = load32(r7 + 48);
-        uint32_t r3_8_0_copyload = load32(r7 + 52);
-        *r2 = r3_3_0_copyload;
-        r2[1] = r3_4_0_copyload;
-        store32(r2 + 4, r3_6_0_copyload);
-        store32(r2 + 8, r3_7_0_copyload);
-        store32(r2 + 12, r3_8_0_copyload);
-        uint8_t r30 = a0[15];
-        uint64_t r2_0_0_copyload = load64u(a2);
-        store64(r5, (uint64_t)((r30 == (uint8_t)(size_t)(r2_0_0_copyload >> 32)) ? 0 : 0x100000000ULL) | (r2_0_0_copyload & 0xffffff00ffffffffULL));
-        uint8_t r34 = dfu_asks_closes_mode_closes(r7 + 4, r2, r5);
-        common_ret_op = (uint32_t)r34;
+        if (wide(a5) > 0xffffffffU) common_ret_op = 0xfffffffcU;
+        else {
+            r54 = load16(a0 + 12);
+            r62 = a6 + 12;
+            v2 = r18 + 8;
+            store32(v2, 0);
+            uint8_t r29 = r5[104];
+            if (r29 == 1) {
+                size_t r1 = (size_t)r54;
+                uint32_t r13_3_9_0_copyload = load32(r5 + 128);
+                uint32_t r13_3_7_0_copyload = load32(r5 + 120);
+                uint8_t r13_3_5_0_copyload = r5[116];
+                uint32_t r13_3_4_0_copyload = load32(r5 + 112);
+                uint8_t r13_3_0_0_copyload = r5[108];
+                r5_0_0_copyload = r5[36];
+                r6_0_0_copyload = load32(r5 + 40);
+                uint32_t r17 = load32(r5 + 80);
+                uint64_t r8 = load64(r5 + 72);
+                uint64_t r26 = load64(r5 + 64);
+                *r10 = r5_0_0_copyload;
+                memset(r10 + 1, 0, 3);
+                store32(r10 + 4, r6_0_0_copyload);
+                store32(r10 + 8, r17);
+                store32(r10 + 12, 0);
+                store64(r10 + 16, (size_t)(uintptr_t)(r4 + r1));
+                store64(r10 + 24, umin64((uint64_t)a3 - (uint64_t)r1, r8));
+                store64(r10 + 32, (size_t)(uintptr_t)r4);
+                store64(r10 + 40, (size_t)umin64(r1, r26));
+                store64(r10 + 48, (size_t)r13_3_9_0_copyload);
+                memset(r10 + 56, 0, 40);
+                r10[96] = 4;
+                memset(r10 + 97, 0, 15);
+                store32(r18, (uint32_t)r13_3_0_0_copyload);
+                store32(r18 + 4, r13_3_4_0_copyload);
+                *v2 = r13_3_5_0_copyload;
+                store32(r18 + 12, r13_3_7_0_copyload);
+                uint8_t r57 = dfu_asks_next_piece_next_piece(r18, r10);
+                if (r57) {
+                    unsigned char *r69 = r10 + 72;
+                    r11_0_0_copyload = *r69;
+                    r11_6_0_copyload = load64(r10 + 80);
+                    r11_8_0_copyload = load64(r10 + 88);
+                    uint8_t r72 = dfu_asks_next_and_took_is_sound(r6_0_0_copyload, r69);
+                    if (r72) {
+                        memset(r16, 0, 12);
+                        size_t r2412 = a5 >> 1;
+                        a1_2 = (size_t)((r11_6_0_copyload < (uint64_t)r2412) ? 0 : r2412);
+                        if ((uint64_t)(a1_2 + r2412) >= (r11_8_0_copyload + r11_6_0_copyload)) {
+                            uint8_t r45 = r13[a1_2];
+                            if (r45 == 165) {
+                                store64(r7, (size_t)(uintptr_t)r13);
+                                store64(r7 + 8, a5);
+                                r7[16] = r5_0_0_copyload;
+                                memset(r7 + 17, 0, 3);
+                                store32(r7 + 20, r6_0_0_copyload);
+                                dfu_slots_places_check(r16, r7);
+                                uint8_t r65 = *r16;
+                                if (r65 != 0) goto dfu_asks_next_and_took_is_spare_exit_thread;
+                                uint32_t r8_2_0_copyload = load32(r16 + 8);
+                                if (a1_2 != (size_t)r8_2_0_copyload) goto dfu_asks_asking_Asking_next_exit_thread37;
+                            }
+                            dfu_asks_cut_fill(r10, r62);
+                            store32(a6, (uint32_t)((r11_0_0_copyload & 1) ? 1 : 2));
+                            store32(a6 + 4, (uint32_t)r11_6_0_copyload);
+                            store32(a6 + 8, (uint32_t)r11_8_0_copyload);
+                            common_ret_op = 0;
+                            goto dfu_device_c_calls_dfu_core_next_exit;
+                        }
+dfu_asks_next_and_took_is_spare_exit_thread:
+dfu_asks_asking_Asking_next_exit_thread37:
+                        common_ret_op = 0xfffffffcU;
+                        goto dfu_device_c_calls_dfu_core_next_exit;
+                    }
+                }
+            }
+            common_ret_op = 0xfffffffcU;
+        }
     }
+dfu_device_c_calls_dfu_core_next_exit:
+    return signed32(common_ret_op);
+}
+
+/* dfu_core_took: crates/dfu_device_c/src/calls.rt */
+int32_t dfu_core_took(const struct dfu_config *config, struct dfu_record *record, uint8_t *block, size_t most, const uint8_t *flash, size_t size, uint32_t failed, uint8_t *out, size_t room) {
+    unsigned char *a0 = (unsigned char *)(uintptr_t)config;
+    unsigned char *a1 = (unsigned char *)(uintptr_t)record;
+    unsigned char *a2 = (unsigned char *)(uintptr_t)block;
+    size_t a3 = (size_t)most;
+    unsigned char *a4 = (unsigned char *)(uintptr_t)flash;
+    size_t a5 = (size_t)size;
+    uint32_t a6 = failed;
+    unsigned char *a7 = (unsigned char *)(uintptr_t)out;
+    size_t a8 = (size_t)room;
+    _Alignas(8) unsigned char r7[136];
+    _Alignas(8) unsigned char r40[16];
+    unsigned char *r4, *r13, *r22, *r58, *r19, *r62, *r65, *r9_9_0_r65_sroa_idx, *r9_13_0_r65_sroa_idx;
+    size_t r1, r27_2015_0_ph27;
+    uint64_t r21, r92;
+    uint8_t r92_not;
+    uint8_t r9_0_0_copyload, r9_9_0_copyload, r27_15_0_ph26;
+    uint16_t r9_113_0_copyload;
+    uint32_t r9_13_0_copyload, common_ret_op;
+    struct i64_i8 r91;
+    r4 = a2;
+    r13 = a4;
+    r22 = a7;
+    memset(r7, 0, 136);
+    if (a8 < 6) common_ret_op = 0xfffffffbU;
+    else {
+        dfu_core_keeping_found(a0, a1, a3, r7);
+        uint8_t r56 = *r7;
+        if (r56 != 0) {
+            uint8_t r22_0_0_copyload = r7[1];
+            uint32_t switch_load = load32(PLACE(switch_table_dfu_core_numbers_Refusal_number) + 4 * (size_t)r22_0_0_copyload);
+            common_ret_op = switch_load;
+        }
+        else {
+            r58 = r7 + 8;
+            uint16_t r73 = load16(a0 + 12);
+            r1 = (size_t)r73;
+            r19 = r4 + r1;
+            r21 = (uint64_t)a3 - (uint64_t)r1;
+            r92_not = a6 == 0;
+            memset(r40, 0, 16);
+            r62 = r7 + 104;
+            uint8_t r63 = *r62;
+            if (r63 == 1) {
+                r65 = r7 + 108;
+                r9_0_0_copyload = *r65;
+                r9_9_0_r65_sroa_idx = r7 + 124;
+                r9_9_0_copyload = *r9_9_0_r65_sroa_idx;
+                r9_113_0_copyload = load16(r7 + 126);
+                r9_13_0_r65_sroa_idx = r7 + 128;
+                r9_13_0_copyload = load32(r9_13_0_r65_sroa_idx);
+                r91 = dfu_asks_asking_Asking_look_at(r58, r65, r4, r1, r19, r21, r13, a5);
+                r92 = r91.a;
+                if (r92 != 0) {
+                    if (!(r92_not & (r91.b & 1))) {
+                        struct i8_i64 r146 = dfu_asks_asking_Asking_fail(r58, r92_not, r9_9_0_copyload, r9_113_0_copyload, r13, a5, r22);
+                        r27_2015_0_ph27 = (size_t)r146.b;
+                        r27_15_0_ph26 = r146.a;
+                    }
+                    else {
+                        store32(r62, 1);
+                        store32(r65, (uint32_t)r9_0_0_copyload);
+                        memset(r7 + 117, 0, 3);
+                        store16(r9_9_0_r65_sroa_idx, r9_9_0_copyload);
+                        store32(r9_13_0_r65_sroa_idx, r9_13_0_copyload + (uint32_t)r92);
+                        dfu_asks_asking_Asking_advance(r40, r58, r4, r1, r19, r21, r13, a5, r22);
+                        uint8_t r0_1928_8_copyload32 = *r40;
+                        uint8_t r0_26_9_copyload37 = r40[1];
+                        size_t r0_3339_16_copyload43 = (size_t)load64(r40 + 8);
+                        if (r0_1928_8_copyload32 == 0) {
+                            dfu_core_keeping_keep(r58, a1);
+                            common_ret_op = 0xfffffff5U;
+                            goto dfu_device_c_calls_dfu_core_took_exit;
+                        }
+                        r27_2015_0_ph27 = r0_3339_16_copyload43;
+                        r27_15_0_ph26 = r0_26_9_copyload37;
+                    }
+                    dfu_core_keeping_keep(r58, a1);
+                    switch (r27_15_0_ph26) {
+                    case 0:
+                        common_ret_op = 0;
+                        goto dfu_device_c_calls_dfu_core_took_exit;
+                    case 1:
+                        common_ret_op = (uint32_t)r27_2015_0_ph27;
+                        goto dfu_device_c_calls_dfu_core_took_exit;
+                    case 2:
+                        common_ret_op = 0xffffffffU;
+                        goto dfu_device_c_calls_dfu_core_took_exit;
+                    default: never();
+                    }
+                }
+            }
+            common_ret_op = 0xfffffffcU;
+        }
+    }
+dfu_device_c_calls_dfu_core_took_exit:
     return signed32(common_ret_op);
 }
 
@@ -3878,11 +4219,11 @@ int32_t dfu_core_refuse(const struct dfu_config *config, struct dfu_record *reco
     uint32_t r2_6_0_copyload, r2_7_0_copyload, r2_8_0_copyload, r12_76_0, r12_10_0, r12_13_0, common_ret_op;
     memset(r6, 0, 56);
     store32(r11, 0);
-    dfu_device_c_mode_idle_mode(r6, a0, a1);
+    dfu_core_mode_idle_mode(r6, a0, a1);
     uint8_t r13 = *r6;
     if (r13 != 0) {
         uint8_t r3_0_0_copyload = r6[1];
-        uint32_t switch_load = load32(PLACE(switch_table_dfu_device_c_numbers_Refusal_number) + 4 * (size_t)r3_0_0_copyload);
+        uint32_t switch_load = load32(PLACE(switch_table_dfu_core_numbers_Refusal_number) + 4 * (size_t)r3_0_0_copyload);
         common_ret_op = switch_load;
     }
     else {
@@ -3935,7 +4276,7 @@ int32_t dfu_core_refuse(const struct dfu_config *config, struct dfu_record *reco
         store32(r11 + 4, r12_76_0);
         store32(r11 + 8, r12_10_0);
         store32(r11 + 12, r12_13_0);
-        dfu_device_c_mode_set_mode(a1, r11);
+        dfu_core_mode_set_mode(a1, r11);
         common_ret_op = 0;
     }
 dfu_device_c_refuse_dfu_core_refuse_exit:
@@ -3958,11 +4299,11 @@ int32_t dfu_core_refuse_close(const struct dfu_config *config, struct dfu_record
     store32(r2, 0);
     memset(r8, 0, 56);
     store32(r19, 12);
-    dfu_device_c_mode_idle_mode(r8, a0, a1);
+    dfu_core_mode_idle_mode(r8, a0, a1);
     uint8_t r21 = *r8;
     if (r21 != 0) {
         uint8_t r4_0_0_copyload = r8[1];
-        uint32_t switch_load = load32(PLACE(switch_table_dfu_device_c_numbers_Refusal_number) + 4 * (size_t)r4_0_0_copyload);
+        uint32_t switch_load = load32(PLACE(switch_table_dfu_core_numbers_Refusal_number) + 4 * (size_t)r4_0_0_copyload);
         common_ret_op = switch_load;
     }
     else {
@@ -3998,188 +4339,12 @@ int32_t dfu_core_refuse_close(const struct dfu_config *config, struct dfu_record
             store32(r19 + 4, 0);
             store32(r19 + 8, 0);
             store32(r19 + 12, 0);
-            dfu_device_c_mode_set_mode(a1, r19);
+            dfu_core_mode_set_mode(a1, r19);
             common_ret_op = 0xffffffffU;
         }
     }
 dfu_device_c_refuse_dfu_core_refuse_close_exit:
     return signed32(common_ret_op);
-}
-
-/* dfu_core_too_long: crates/dfu_device_c/src/long.rt */
-int32_t dfu_core_too_long(const struct dfu_config *config, struct dfu_record *record, const uint8_t setup[8]) {
-    unsigned char *a0 = (unsigned char *)(uintptr_t)config;
-    unsigned char *a1 = (unsigned char *)(uintptr_t)record;
-    unsigned char *a2 = (unsigned char *)(uintptr_t)setup;
-    _Alignas(4) unsigned char r8[56];
-    _Alignas(4) unsigned char r6[16];
-    uint8_t r3_3_0_copyload, r3_4_0_copyload, r13_4_0, r13_7_0;
-    uint64_t r2_0_0_copyload;
-    uint32_t r13_107_0, r13_13_0, r13_16_0, common_ret_op;
-    store32(r6, 0);
-    memset(r8, 0, 56);
-    dfu_device_c_mode_idle_mode(r8, a0, a1);
-    uint8_t r18 = *r8;
-    if (r18 != 0) {
-        uint8_t r4_0_0_copyload = r8[1];
-        uint32_t switch_load = load32(PLACE(switch_table_dfu_device_c_numbers_Refusal_number) + 4 * (size_t)r4_0_0_copyload);
-        common_ret_op = switch_load;
-    }
-    else {
-        uint16_t r3_0_3_0_copyload = load16(r8 + 16);
-        r3_3_0_copyload = r8[40];
-        r3_4_0_copyload = r8[41];
-        r2_0_0_copyload = load64u(a2);
-        if (!((((size_t)r2_0_0_copyload & 255) == 33) ? (r3_0_3_0_copyload < (uint16_t)(size_t)(r2_0_0_copyload >> 48)) : 0)) common_ret_op = 0xfffffff7U;
-        else {
-            uint8_t r34 = a0[15];
-            uint32_t r3_8_0_copyload = load32(r8 + 52);
-            uint32_t r3_7_0_copyload = load32(r8 + 48);
-            uint32_t r3_6_0_copyload = load32(r8 + 44);
-            if (!(((r2_0_0_copyload & 0xff0000000000ULL) == 0) & (r34 == (uint8_t)(size_t)(r2_0_0_copyload >> 32)))) {
-                r13_4_0 = r3_3_0_copyload;
-                r13_7_0 = r3_4_0_copyload;
-                r13_107_0 = r3_6_0_copyload;
-                r13_13_0 = r3_7_0_copyload;
-                r13_16_0 = r3_8_0_copyload;
-            }
-            else {
-                switch (r3_3_0_copyload) {
-                case 0:
-                case 1:
-                    r13_4_0 = 0;
-                    r13_7_0 = 0;
-                    r13_107_0 = 0;
-                    r13_13_0 = 0;
-                    r13_16_0 = 0;
-                    break;
-                case 10:
-                    r13_4_0 = r3_3_0_copyload;
-                    r13_7_0 = 0;
-                    r13_107_0 = 0;
-                    r13_13_0 = 0;
-                    r13_16_0 = 0;
-                    break;
-                case 12:
-                    r13_4_0 = r3_3_0_copyload;
-                    r13_7_0 = r3_4_0_copyload;
-                    r13_107_0 = 0;
-                    r13_13_0 = 0;
-                    r13_16_0 = 0;
-                    break;
-                case 2:
-                case 3:
-                case 4:
-                case 5:
-                case 6:
-                case 7:
-                case 8:
-                case 9:
-                case 11:
-                    r13_4_0 = 12;
-                    r13_7_0 = 15;
-                    r13_107_0 = 0;
-                    r13_13_0 = 0;
-                    r13_16_0 = 0;
-                    break;
-                default: never();
-                }
-            }
-            *r6 = r13_4_0;
-            r6[1] = r13_7_0;
-            store32(r6 + 4, r13_107_0);
-            store32(r6 + 8, r13_13_0);
-            store32(r6 + 12, r13_16_0);
-            dfu_device_c_mode_set_mode(a1, r6);
-            common_ret_op = 0xffffffffU;
-        }
-    }
-    return signed32(common_ret_op);
-}
-
-/* dfu_core_would_stall: crates/dfu_device_c/src/stalls.rt */
-int32_t dfu_core_would_stall(const struct dfu_config *config, const struct dfu_record *record, size_t size, const uint8_t setup[8]) {
-    unsigned char *a0 = (unsigned char *)(uintptr_t)config;
-    unsigned char *a1 = (unsigned char *)(uintptr_t)record;
-    size_t a2 = (size_t)size;
-    unsigned char *a3 = (unsigned char *)(uintptr_t)setup;
-    _Alignas(4) unsigned char r7[56];
-    _Alignas(8) unsigned char r12[32];
-    _Alignas(4) unsigned char r17[24];
-    _Alignas(4) unsigned char r1[16];
-    _Alignas(8) unsigned char r18[8];
-    _Alignas(4) unsigned char r10[6];
-    _Alignas(4) unsigned char r16_2[6];
-    uint32_t common_ret_op;
-    memset(r7, 0, 56);
-    dfu_device_c_mode_idle_mode(r7, a0, a1);
-    uint8_t r16 = *r7;
-    if (r16 != 0) {
-        uint8_t r4_0_0_copyload = r7[1];
-        uint32_t switch_load_2 = load32(PLACE(switch_table_dfu_device_c_numbers_Refusal_number) + 4 * (size_t)r4_0_0_copyload);
-        common_ret_op = switch_load_2;
-    }
-    else {
-        uint32_t r3_0_3_0_copyload = load32(r7 + 20);
-        uint32_t r3_0_4_0_copyload = load32(r7 + 24);
-        uint32_t r3_0_5_0_copyload = load32(r7 + 28);
-        uint8_t r3_0_6_0_copyload = r7[32];
-        uint32_t r3_0_8_0_copyload = load32(r7 + 36);
-        uint8_t r3_3_0_copyload = r7[40];
-        uint8_t r3_4_0_copyload = r7[41];
-        uint32_t r3_6_0_copyload = load32(r7 + 44);
-        uint32_t r3_7_0_copyload = load32(r7 + 48);
-        uint32_t r3_8_0_copyload = load32(r7 + 52);
-        uint8_t r32 = a0[15];
-        uint64_t r2_0_0_copyload = load64u(a3);
-        uint32_t switch_load = load32(PLACE(switch_table_dfu_core_would_stall) + 4 * (size_t)r3_0_6_0_copyload);
-        memcpy(r12, r7 + 10, 10);
-        store16(r12 + 10, 0);
-        store32(r12 + 12, r3_0_3_0_copyload);
-        store32(r12 + 16, r3_0_4_0_copyload);
-        store32(r12 + 20, r3_0_5_0_copyload);
-        store64(r12 + 24, (size_t)usub_sat64(a2 >> 1, (uint64_t)(size_t)umax32(r3_0_8_0_copyload, switch_load) << 1));
-        store64(r18, (uint64_t)((r32 == (uint8_t)(size_t)(r2_0_0_copyload >> 32)) ? 0 : 0x100000000ULL) | (r2_0_0_copyload & 0xffffff00ffffffffULL));
-        dfu_wire_setups_Setup_request(r16_2, r18);
-        store32(r1, 0);
-        *r1 = r3_3_0_copyload;
-        r1[1] = r3_4_0_copyload;
-        store32(r1 + 4, r3_6_0_copyload);
-        store32(r1 + 8, r3_7_0_copyload);
-        store32(r1 + 12, r3_8_0_copyload);
-        uint8_t r11 = *r16_2;
-        store16(r10, r11);
-        uint16_t v6 = load16(r16_2 + 2);
-        store16(r10 + 2, v6);
-        uint16_t v7 = load16(r16_2 + 4);
-        store16(r10 + 4, v7);
-        memset(r17, 0, 24);
-        dfu_device_table_decide(r17, r12, r1, r10);
-        uint8_t r1_0_0_copyload = *r17;
-        uint8_t r1_3_1_copyload = r17[1];
-        common_ret_op = (uint32_t)(((uint8_t)(r1_0_0_copyload + 253) < 254) ? (r1_3_1_copyload == 3) : 0);
-    }
-    return signed32(common_ret_op);
-}
-
-/* dfu_core_begin: crates/dfu_device_c/src/power.rt */
-int32_t dfu_core_begin(const struct dfu_config *config, struct dfu_record *record, const uint8_t *flash, size_t size) {
-    unsigned char *a0 = (unsigned char *)(uintptr_t)config;
-    unsigned char *a1 = (unsigned char *)(uintptr_t)record;
-    unsigned char *a2 = (unsigned char *)(uintptr_t)flash;
-    size_t a3 = (size_t)size;
-    uint32_t r8 = dfu_device_c_power_start(a0, a1, (unsigned char *)((uintptr_t)a2 + (uintptr_t)(size_t)((a2 == NULL) ? 4096 : 0)), a3, 2);
-    return signed32(r8);
-}
-
-/* dfu_core_power_on: crates/dfu_device_c/src/power.rt */
-int32_t dfu_core_power_on(const struct dfu_config *config, struct dfu_record *record, const uint8_t *flash, size_t size) {
-    unsigned char *a0 = (unsigned char *)(uintptr_t)config;
-    unsigned char *a1 = (unsigned char *)(uintptr_t)record;
-    unsigned char *a2 = (unsigned char *)(uintptr_t)flash;
-    size_t a3 = (size_t)size;
-    uint32_t r8 = dfu_device_c_power_start(a0, a1, (unsigned char *)((uintptr_t)a2 + (uintptr_t)(size_t)((a2 == NULL) ? 4096 : 0)), a3, 0);
-    return signed32(r8);
 }
 
 /* dfu_core_candidate: crates/dfu_device_c/src/image.rt */
@@ -4196,13 +4361,13 @@ int32_t dfu_core_candidate(const struct dfu_config *config, const struct dfu_rec
     uint32_t r11_0_0_copyload, r4_2_0_copyload, v4, common_ret_op;
     uint8_t r10_0_0_copyload;
     size_t r2_0_0;
-    r4 = (unsigned char *)((uintptr_t)a2 + (uintptr_t)(size_t)((a2 == NULL) ? 4096 : 0));
+    r4 = a2;
     memset(r3, 0, 136);
-    dfu_device_c_keeping_found(a0, a1, 4352, r3);
+    dfu_core_keeping_found(a0, a1, 4352, r3);
     uint8_t r22 = *r3;
     if (r22 != 0) {
         uint8_t r13_0_0_copyload = r3[1];
-        uint32_t switch_load_4 = load32(PLACE(switch_table_dfu_device_c_numbers_Refusal_number) + 4 * (size_t)r13_0_0_copyload);
+        uint32_t switch_load_4 = load32(PLACE(switch_table_dfu_core_numbers_Refusal_number) + 4 * (size_t)r13_0_0_copyload);
         common_ret_op = switch_load_4;
     }
     else {
@@ -4260,7 +4425,7 @@ int32_t dfu_core_candidate(const struct dfu_config *config, const struct dfu_rec
             r2_0_0 = 3;
         }
 dfu_device_c_numbers_refused_exit:;
-        uint32_t switch_load_3 = load32(PLACE(switch_table_dfu_device_c_numbers_Refusal_number) + 4 * r2_0_0);
+        uint32_t switch_load_3 = load32(PLACE(switch_table_dfu_core_numbers_Refusal_number) + 4 * r2_0_0);
         common_ret_op = switch_load_3;
     }
 dfu_device_c_image_dfu_core_candidate_exit:
@@ -4286,14 +4451,14 @@ int32_t dfu_core_elapse(const struct dfu_config *config, struct dfu_record *reco
     uint64_t r21, r21_2, r15, r18;
     uint8_t r0_0_4_0_copyload, r0_0_5_0_copyload, v4, r18_0_0;
     uint32_t v5, v6, v7, r18_1547_0, r18_22_0, r18_29_0, r18_36_0, common_ret_op;
-    r4 = (unsigned char *)((uintptr_t)a2 + (uintptr_t)(size_t)((a2 == NULL) ? 4096 : 0));
-    r13 = (unsigned char *)((uintptr_t)a4 + (uintptr_t)(size_t)((a4 == NULL) ? 4096 : 0));
+    r4 = a2;
+    r13 = a4;
     memset(r5, 0, 136);
-    dfu_device_c_keeping_found(a0, a1, a3, r5);
+    dfu_core_keeping_found(a0, a1, a3, r5);
     uint8_t r42 = *r5;
     if (r42 != 0) {
         uint8_t r18_0_0_copyload = r5[1];
-        uint32_t switch_load_2 = load32(PLACE(switch_table_dfu_device_c_numbers_Refusal_number) + 4 * (size_t)r18_0_0_copyload);
+        uint32_t switch_load_2 = load32(PLACE(switch_table_dfu_core_numbers_Refusal_number) + 4 * (size_t)r18_0_0_copyload);
         common_ret_op = switch_load_2;
     }
     else {
@@ -4420,19 +4585,73 @@ int32_t dfu_core_elapse(const struct dfu_config *config, struct dfu_record *reco
                 store32(r12 + 16, r18_36_0);
                 store32(r12 + 20, 0);
                 memset(r13_2, 0, 6);
-                dfu_asks_asking_Asking_carry_out(r29, r44, r12, 0, 0, PLACE(static_0), 0, r4, r1, r19, r21, r5_2, v3, r13_2, 6);
+                dfu_asks_asking_Asking_carry_out(r29, r44, r12, 0, 0, PLACE(static_2), 0, r4, r1, r19, r21, r5_2, v3, r13_2, 6);
                 uint8_t v10 = *r29;
-                dfu_device_c_keeping_keep(r44, a1);
+                dfu_core_keeping_keep(r44, a1);
                 common_ret_op = (uint32_t)((v10 == 0) ? 0xfffffff5U : 0);
                 goto dfu_device_c_calls_dfu_core_elapse_exit;
             }
             uint8_t r1_3_1_copyload = r19_2[1];
             r2_0_0 = (size_t)(((uint32_t)0x4040302U >> (((uint32_t)r1_3_1_copyload << 3) & 31)) & 7);
         }
-        uint32_t switch_load = load32(PLACE(switch_table_dfu_device_c_numbers_Refusal_number) + 4 * r2_0_0);
+        uint32_t switch_load = load32(PLACE(switch_table_dfu_core_numbers_Refusal_number) + 4 * r2_0_0);
         common_ret_op = switch_load;
     }
 dfu_device_c_calls_dfu_core_elapse_exit:
+    return signed32(common_ret_op);
+}
+
+/* dfu_core_usb_reset: crates/dfu_device_c/src/calls.rt */
+int32_t dfu_core_usb_reset(const struct dfu_config *config, struct dfu_record *record, uint8_t *block, size_t most, const uint8_t *flash, size_t size) {
+    unsigned char *a0 = (unsigned char *)(uintptr_t)config;
+    unsigned char *a1 = (unsigned char *)(uintptr_t)record;
+    (void)block;
+    size_t a3 = (size_t)most;
+    unsigned char *a4 = (unsigned char *)(uintptr_t)flash;
+    size_t a5 = (size_t)size;
+    _Alignas(8) unsigned char r5[136];
+    _Alignas(8) unsigned char r14[48];
+    unsigned char *r13, *r38;
+    uint16_t r53;
+    size_t r2_0_0;
+    uint32_t common_ret_op;
+    r13 = a4;
+    memset(r5, 0, 136);
+    dfu_core_keeping_found(a0, a1, a3, r5);
+    uint8_t r36 = *r5;
+    if (r36 != 0) {
+        uint8_t r18_0_0_copyload = r5[1];
+        uint32_t switch_load_2 = load32(PLACE(switch_table_dfu_core_numbers_Refusal_number) + 4 * (size_t)r18_0_0_copyload);
+        common_ret_op = switch_load_2;
+    }
+    else {
+        r38 = r5 + 8;
+        r53 = load16(a0 + 12);
+        memset(r14, 0, 48);
+        uint8_t r2 = r5[104];
+        if (r2 == 1) r2_0_0 = 2;
+        else {
+            dfu_asks_asking_Asking_see(r14, r38, (size_t)r53, r13, a5);
+            uint8_t r1_0_0_copyload = *r14;
+            if (r1_0_0_copyload == 0) {
+                unsigned char *r42 = r5 + 44;
+                uint8_t v4 = *r42;
+                *r42 = (uint8_t)((v4 == 1) ? 2 : 0);
+                r5[45] = 0;
+                store32(r5 + 48, 0);
+                store32(r5 + 52, 0);
+                store32(r5 + 56, 0);
+                dfu_core_keeping_keep(r38, a1);
+                common_ret_op = 0;
+                goto dfu_device_c_calls_dfu_core_usb_reset_exit;
+            }
+            uint8_t r1_3_1_copyload = r14[1];
+            r2_0_0 = (size_t)(((uint32_t)0x4040302U >> (((uint32_t)r1_3_1_copyload << 3) & 31)) & 7);
+        }
+        uint32_t switch_load = load32(PLACE(switch_table_dfu_core_numbers_Refusal_number) + 4 * r2_0_0);
+        common_ret_op = switch_load;
+    }
+dfu_device_c_calls_dfu_core_usb_reset_exit:
     return signed32(common_ret_op);
 }
 
@@ -4465,19 +4684,19 @@ int32_t dfu_core_handle(const struct dfu_config *config, struct dfu_record *reco
     size_t r1, r0_97_8_copyload8_pre, r2_0_0;
     uint32_t r12_3_0_copyload, common_ret_op;
     uint8_t r38, r0_5_1_copyload5_pre;
-    r4 = (unsigned char *)((uintptr_t)a2 + (uintptr_t)(size_t)((a2 == NULL) ? 4096 : 0));
-    r13 = (unsigned char *)((uintptr_t)a4 + (uintptr_t)(size_t)((a4 == NULL) ? 4096 : 0));
-    r22 = (unsigned char *)((uintptr_t)a7 + (uintptr_t)(size_t)((a7 == NULL) ? 4096 : 0));
-    r31 = (unsigned char *)((uintptr_t)a9 + (uintptr_t)(size_t)((a9 == NULL) ? 4096 : 0));
+    r4 = a2;
+    r13 = a4;
+    r22 = a7;
+    r31 = a9;
     memset(r9, 0, 136);
     r4_2 = load16(a0 + 12);
     if (a10 < (size_t)umax16(r4_2, 6)) common_ret_op = 0xfffffffbU;
     else {
-        dfu_device_c_keeping_found(a0, a1, a3, r9);
+        dfu_core_keeping_found(a0, a1, a3, r9);
         uint8_t r66 = *r9;
         if (r66 != 0) {
             uint8_t r27_0_0_copyload = r9[1];
-            uint32_t switch_load_2 = load32(PLACE(switch_table_dfu_device_c_numbers_Refusal_number) + 4 * (size_t)r27_0_0_copyload);
+            uint32_t switch_load_2 = load32(PLACE(switch_table_dfu_core_numbers_Refusal_number) + 4 * (size_t)r27_0_0_copyload);
             common_ret_op = switch_load_2;
         }
         else {
@@ -4554,7 +4773,7 @@ int32_t dfu_core_handle(const struct dfu_config *config, struct dfu_record *reco
                                 uint8_t r0_0_0_copyload3_pre = *r17;
                                 r0_5_1_copyload5_pre = r17[1];
                                 r0_97_8_copyload8_pre = (size_t)load64(r17 + 8);
-                                dfu_device_c_keeping_keep(r68, a1);
+                                dfu_core_keeping_keep(r68, a1);
                                 if (r0_0_0_copyload3_pre == 0) {
                                     common_ret_op = 0xfffffff5U;
                                     goto dfu_device_c_calls_dfu_core_handle_exit;
@@ -4571,7 +4790,7 @@ int32_t dfu_core_handle(const struct dfu_config *config, struct dfu_record *reco
                                 }
                             }
                         }
-                        dfu_device_c_keeping_keep(r68, a1);
+                        dfu_core_keeping_keep(r68, a1);
 arm_3:
                         common_ret_op = 0xffffffffU;
                         goto dfu_device_c_calls_dfu_core_handle_exit;
@@ -4580,7 +4799,7 @@ arm_3:
                     r2_0_0 = (size_t)(((uint32_t)0x4040302U >> (((uint32_t)r1_3_1_copyload << 3) & 31)) & 7);
                 }
             }
-            uint32_t switch_load = load32(PLACE(switch_table_dfu_device_c_numbers_Refusal_number) + 4 * r2_0_0);
+            uint32_t switch_load = load32(PLACE(switch_table_dfu_core_numbers_Refusal_number) + 4 * r2_0_0);
             common_ret_op = switch_load;
         }
     }
@@ -4588,299 +4807,170 @@ dfu_device_c_calls_dfu_core_handle_exit:
     return signed32(common_ret_op);
 }
 
-/* dfu_core_next: crates/dfu_device_c/src/calls.rt */
-int32_t dfu_core_next(const struct dfu_config *config, const struct dfu_record *record, const uint8_t *block, size_t most, const uint8_t *flash, size_t size, struct dfu_ask *ask) {
+/* dfu_core_begin: crates/dfu_device_c/src/power.rt */
+int32_t dfu_core_begin(const struct dfu_config *config, struct dfu_record *record, const uint8_t *flash, size_t size) {
     unsigned char *a0 = (unsigned char *)(uintptr_t)config;
     unsigned char *a1 = (unsigned char *)(uintptr_t)record;
-    unsigned char *a2 = (unsigned char *)(uintptr_t)block;
-    size_t a3 = (size_t)most;
-    unsigned char *a4 = (unsigned char *)(uintptr_t)flash;
-    size_t a5 = (size_t)size;
-    unsigned char *a6 = (unsigned char *)(uintptr_t)ask;
-    _Alignas(8) unsigned char r5[136];
-    _Alignas(8) unsigned char r10[112];
-    _Alignas(8) unsigned char r7[24];
-    _Alignas(4) unsigned char r18[16];
-    _Alignas(4) unsigned char r16[12];
-    unsigned char *r4, *r13, *r62, *v2, *r69;
-    uint16_t r54;
-    uint8_t r5_0_0_copyload;
-    uint32_t r6_0_0_copyload, common_ret_op;
-    uint64_t r11_4_0_copyload, r11_5_0_copyload;
-    size_t a1_2;
-    r4 = (unsigned char *)((uintptr_t)a2 + (uintptr_t)(size_t)((a2 == NULL) ? 4096 : 0));
-    r13 = (unsigned char *)((uintptr_t)a4 + (uintptr_t)(size_t)((a4 == NULL) ? 4096 : 0));
-    memset(r5, 0, 136);
-    dfu_device_c_keeping_found(a0, a1, a3, r5);
-    uint8_t r32 = *r5;
-    if (r32 != 0) {
-        uint8_t r17_0_0_copyload = r5[1];
-        uint32_t switch_load = load32(PLACE(switch_table_dfu_device_c_numbers_Refusal_number) + 4 * (size_t)r17_0_0_copyload);
+    unsigned char *a2 = (unsigned char *)(uintptr_t)flash;
+    size_t a3 = (size_t)size;
+    uint32_t r8 = dfu_device_c_power_start(a0, a1, a2, a3, 2);
+    return signed32(r8);
+}
+
+/* dfu_core_power_on: crates/dfu_device_c/src/power.rt */
+int32_t dfu_core_power_on(const struct dfu_config *config, struct dfu_record *record, const uint8_t *flash, size_t size) {
+    unsigned char *a0 = (unsigned char *)(uintptr_t)config;
+    unsigned char *a1 = (unsigned char *)(uintptr_t)record;
+    unsigned char *a2 = (unsigned char *)(uintptr_t)flash;
+    size_t a3 = (size_t)size;
+    uint32_t r8 = dfu_device_c_power_start(a0, a1, a2, a3, 0);
+    return signed32(r8);
+}
+
+/* dfu_core_closes: crates/dfu_device_c/src/closes.rt */
+int32_t dfu_core_closes(const struct dfu_config *config, const struct dfu_record *record, const uint8_t setup[8]) {
+    unsigned char *a0 = (unsigned char *)(uintptr_t)config;
+    unsigned char *a1 = (unsigned char *)(uintptr_t)record;
+    unsigned char *a2 = (unsigned char *)(uintptr_t)setup;
+    _Alignas(4) unsigned char r7[56];
+    _Alignas(4) unsigned char r2[16];
+    _Alignas(8) unsigned char r5[8];
+    uint32_t common_ret_op;
+    store32(r2, 0);
+    memset(r7, 0, 56);
+    dfu_core_mode_idle_mode(r7, a0, a1);
+    uint8_t r14 = *r7;
+    if (r14 != 0) {
+        uint8_t r4_0_0_copyload = r7[1];
+        uint32_t switch_load = load32(PLACE(switch_table_dfu_core_numbers_Refusal_number) + 4 * (size_t)r4_0_0_copyload);
         common_ret_op = switch_load;
     }
     else {
-        if (wide(a5) > 0xffffffffU) common_ret_op = 0xfffffffcU;
-        else {
-            r54 = load16(a0 + 12);
-            r62 = a6 + 12;
-            v2 = r18 + 8;
-            store32(v2, 0);
-            uint8_t r29 = r5[104];
-            if (r29 == 1) {
-                size_t r1 = (size_t)r54;
-                uint32_t r13_3_9_0_copyload = load32(r5 + 128);
-                uint32_t r13_3_7_0_copyload = load32(r5 + 120);
-                uint8_t r13_3_5_0_copyload = r5[116];
-                uint32_t r13_3_4_0_copyload = load32(r5 + 112);
-                uint8_t r13_3_0_0_copyload = r5[108];
-                r5_0_0_copyload = r5[36];
-                r6_0_0_copyload = load32(r5 + 40);
-                uint32_t r17 = load32(r5 + 80);
-                uint64_t r8 = load64(r5 + 72);
-                uint64_t r26 = load64(r5 + 64);
-                *r10 = r5_0_0_copyload;
-                memset(r10 + 1, 0, 3);
-                store32(r10 + 4, r6_0_0_copyload);
-                store32(r10 + 8, r17);
-                store32(r10 + 12, 0);
-                store64(r10 + 16, (size_t)(uintptr_t)(r4 + r1));
-                store64(r10 + 24, umin64((uint64_t)a3 - (uint64_t)r1, r8));
-                store64(r10 + 32, (size_t)(uintptr_t)r4);
-                store64(r10 + 40, (size_t)umin64(r1, r26));
-                store64(r10 + 48, (size_t)r13_3_9_0_copyload);
-                memset(r10 + 56, 0, 40);
-                r10[96] = 4;
-                memset(r10 + 97, 0, 15);
-                store32(r18, (uint32_t)r13_3_0_0_copyload);
-                store32(r18 + 4, r13_3_4_0_copyload);
-                *v2 = r13_3_5_0_copyload;
-                store32(r18 + 12, r13_3_7_0_copyload);
-                uint8_t r57 = dfu_asks_next_piece_next_piece(r18, r10);
-                if (r57) {
-                    r69 = r10 + 72;
-                    r11_4_0_copyload = load64(r10 + 80);
-                    r11_5_0_copyload = load64(r10 + 88);
-                    uint8_t r72 = dfu_asks_next_and_took_is_sound(r6_0_0_copyload, r69);
-                    if (r72) {
-                        memset(r16, 0, 12);
-                        size_t r2412 = a5 >> 1;
-                        a1_2 = (size_t)((r11_4_0_copyload < (uint64_t)r2412) ? 0 : r2412);
-                        if ((uint64_t)(a1_2 + r2412) >= (r11_5_0_copyload + r11_4_0_copyload)) {
-                            uint8_t r45 = r13[a1_2];
-                            if (r45 == 165) {
-                                store64(r7, (size_t)(uintptr_t)r13);
-                                store64(r7 + 8, a5);
-                                r7[16] = r5_0_0_copyload;
-                                memset(r7 + 17, 0, 3);
-                                store32(r7 + 20, r6_0_0_copyload);
-                                dfu_slots_places_check(r16, r7);
-                                uint8_t r65 = *r16;
-                                if (r65 != 0) goto dfu_asks_next_and_took_is_spare_exit_thread;
-                                uint32_t r8_2_0_copyload = load32(r16 + 8);
-                                if (a1_2 != (size_t)r8_2_0_copyload) goto dfu_asks_asking_Asking_next_exit_thread35;
-                            }
-                            dfu_asks_cut_fill(r10, r62);
-                            uint8_t r25_4_0_0_copyload = *r69;
-                            store32(a6, (uint32_t)((r25_4_0_0_copyload & 1) ? 1 : 2));
-                            store32(a6 + 4, (uint32_t)r11_4_0_copyload);
-                            store32(a6 + 8, (uint32_t)r11_5_0_copyload);
-                            common_ret_op = 0;
-                            goto dfu_device_c_calls_dfu_core_next_exit;
-                        }
-dfu_asks_next_and_took_is_spare_exit_thread:
-dfu_asks_asking_Asking_next_exit_thread35:
-                        common_ret_op = 0xfffffffcU;
-                        goto dfu_device_c_calls_dfu_core_next_exit;
-                    }
-                }
-            }
-            common_ret_op = 0xfffffffcU;
-        }
+        uint8_t r3_3_0_copyload = r7[40];
+        uint8_t r3_4_0_copyload = r7[41];
+        uint32_t r3_6_0_copyload = load32(r7 + 44);
+        uint32_t r3_7_0_copyload = load32(r7 + 48);
+        uint32_t r3_8_0_copyload = load32(r7 + 52);
+        *r2 = r3_3_0_copyload;
+        r2[1] = r3_4_0_copyload;
+        store32(r2 + 4, r3_6_0_copyload);
+        store32(r2 + 8, r3_7_0_copyload);
+        store32(r2 + 12, r3_8_0_copyload);
+        uint8_t r30 = a0[15];
+        uint64_t r2_0_0_copyload = load64u(a2);
+        store64(r5, (uint64_t)((r30 == (uint8_t)(size_t)(r2_0_0_copyload >> 32)) ? 0 : 0x100000000ULL) | (r2_0_0_copyload & 0xffffff00ffffffffULL));
+        uint8_t r34 = dfu_asks_closes_mode_closes(r7 + 4, r2, r5);
+        common_ret_op = (uint32_t)r34;
     }
-dfu_device_c_calls_dfu_core_next_exit:
     return signed32(common_ret_op);
 }
 
-/* dfu_core_took: crates/dfu_device_c/src/calls.rt */
-int32_t dfu_core_took(const struct dfu_config *config, struct dfu_record *record, uint8_t *block, size_t most, const uint8_t *flash, size_t size, uint32_t failed, uint8_t *out, size_t room) {
+/* dfu_core_is_blank: crates/dfu_device_c/src/blank.rt */
+int32_t dfu_core_is_blank(const struct dfu_config *config, const uint8_t *flash, size_t size) {
     unsigned char *a0 = (unsigned char *)(uintptr_t)config;
-    unsigned char *a1 = (unsigned char *)(uintptr_t)record;
-    unsigned char *a2 = (unsigned char *)(uintptr_t)block;
-    size_t a3 = (size_t)most;
-    unsigned char *a4 = (unsigned char *)(uintptr_t)flash;
-    size_t a5 = (size_t)size;
-    uint32_t a6 = failed;
-    unsigned char *a7 = (unsigned char *)(uintptr_t)out;
-    size_t a8 = (size_t)room;
-    _Alignas(8) unsigned char r7[136];
-    _Alignas(4) unsigned char r4_2[16];
-    _Alignas(8) unsigned char r40[16];
-    unsigned char *r4, *r13, *r22, *r58, *r19, *r62, *r65, *r9_9_0_r65_sroa_idx, *r9_13_0_r65_sroa_idx;
-    size_t r1, r27_2015_0_ph27;
-    uint64_t r21, r92;
-    uint8_t r92_not;
-    uint8_t r9_0_0_copyload, r9_9_0_copyload, r27_15_0_ph26;
-    uint16_t r9_113_0_copyload;
-    uint32_t r9_13_0_copyload, common_ret_op;
-    struct i64_i8 r91;
-    r4 = (unsigned char *)((uintptr_t)a2 + (uintptr_t)(size_t)((a2 == NULL) ? 4096 : 0));
-    r13 = (unsigned char *)((uintptr_t)a4 + (uintptr_t)(size_t)((a4 == NULL) ? 4096 : 0));
-    r22 = (unsigned char *)((uintptr_t)a7 + (uintptr_t)(size_t)((a7 == NULL) ? 4096 : 0));
-    memset(r7, 0, 136);
-    if (a8 < 6) common_ret_op = 0xfffffffbU;
+    unsigned char *a1 = (unsigned char *)(uintptr_t)flash;
+    size_t a2 = (size_t)size;
+    _Alignas(4) unsigned char r7[40];
+    _Alignas(8) unsigned char r5[24];
+    unsigned char *r4;
+    uint8_t r3_2_0_copyload;
+    uint32_t r17, common_ret_op;
+    uint64_t r26;
+    r4 = a1;
+    store64a4(r7 + 32, 0);
+    dfu_core_config_settings_of(r7, a0);
+    uint8_t r14 = *r7;
+    if (r14 != 1) common_ret_op = 0xfffffffeU;
     else {
-        dfu_device_c_keeping_found(a0, a1, a3, r7);
-        uint8_t r56 = *r7;
-        if (r56 != 0) {
-            uint8_t r22_0_0_copyload = r7[1];
-            uint32_t switch_load_2 = load32(PLACE(switch_table_dfu_device_c_numbers_Refusal_number) + 4 * (size_t)r22_0_0_copyload);
-            common_ret_op = switch_load_2;
-        }
+        r3_2_0_copyload = r7[32];
+        uint32_t r3_31_0_copyload = load32(r7 + 36);
+        struct i8_i32 r15 = dfu_asks_sector_Sector_new(r3_31_0_copyload);
+        r17 = r15.b;
+        if (!((wide(a2) < 0x100000000ULL) & (r15.a & 1))) common_ret_op = 0xfffffffdU;
         else {
-            r58 = r7 + 8;
-            uint16_t r73 = load16(a0 + 12);
-            r1 = (size_t)r73;
-            r19 = r4 + r1;
-            r21 = (uint64_t)a3 - (uint64_t)r1;
-            r92_not = a6 == 0;
-            memset(r40, 0, 16);
-            r62 = r7 + 104;
-            uint8_t r63 = *r62;
-            if (r63 == 1) {
-                r65 = r7 + 108;
-                r9_0_0_copyload = *r65;
-                r9_9_0_r65_sroa_idx = r7 + 124;
-                r9_9_0_copyload = *r9_9_0_r65_sroa_idx;
-                r9_113_0_copyload = load16(r7 + 126);
-                r9_13_0_r65_sroa_idx = r7 + 128;
-                r9_13_0_copyload = load32(r9_13_0_r65_sroa_idx);
-                r91 = dfu_asks_asking_Asking_look_at(r58, r65, r4, r1, r19, r21, r13, a5);
-                r92 = r91.a;
-                if (r92 != 0) {
-                    if (r92_not & (r91.b & 1)) {
-                        store32(r62, 1);
-                        store32(r65, (uint32_t)r9_0_0_copyload);
-                        memset(r7 + 117, 0, 3);
-                        store16(r9_9_0_r65_sroa_idx, r9_9_0_copyload);
-                        store32(r9_13_0_r65_sroa_idx, r9_13_0_copyload + (uint32_t)r92);
-                        dfu_asks_asking_Asking_advance(r40, r58, r4, r1, r19, r21, r13, a5, r22);
-                        uint8_t r0_1928_8_copyload32 = *r40;
-                        uint8_t r0_26_9_copyload37 = r40[1];
-                        size_t r0_3339_16_copyload43 = (size_t)load64(r40 + 8);
-                        if (r0_1928_8_copyload32 == 0) {
-                            dfu_device_c_keeping_keep(r58, a1);
-                            common_ret_op = 0xfffffff5U;
-                            goto dfu_device_c_calls_dfu_core_took_exit;
-                        }
-                        r27_2015_0_ph27 = r0_3339_16_copyload43;
-                        r27_15_0_ph26 = r0_26_9_copyload37;
-                    }
-                    else {
-                        store32(r4_2, 0);
-                        unsigned char *r10 = r7 + 44;
-                        uint8_t v2 = *r10;
-                        *r4_2 = v2;
-                        unsigned char *r12 = r7 + 45;
-                        uint8_t v3 = *r12;
-                        r4_2[1] = v3;
-                        unsigned char *r14 = r7 + 48;
-                        uint32_t v4 = load32(r14);
-                        store32(r4_2 + 4, v4);
-                        unsigned char *r16 = r7 + 52;
-                        uint32_t v5 = load32(r16);
-                        store32(r4_2 + 8, v5);
-                        unsigned char *r18 = r7 + 56;
-                        uint32_t v6 = load32(r18);
-                        store32(r4_2 + 12, v6);
-                        uint8_t r5_0_0_copyload = r7[36];
-                        uint32_t r6_0_0_copyload = load32(r7 + 40);
-                        dfu_asks_finish_note(r7 + 84, r4_2, r13, a5, r5_0_0_copyload, r6_0_0_copyload);
-                        store64(r7 + 72, 0);
-                        store32(r7 + 80, 0);
-                        uint8_t v7 = *r10;
-                        uint8_t switch_load = *(PLACE(switch_table_dfu_core_took) + (size_t)v7);
-                        *r10 = 12;
-                        *r12 = (uint8_t)(r92_not ? 7 : switch_load);
-                        store32(r14, 0);
-                        store32(r16, 0);
-                        store32(r18, 0);
-                        memset(r62, 0, 28);
-                        struct i8_i64 r30 = dfu_asks_asking_Asking_answer(r58, r9_9_0_copyload, r9_113_0_copyload, r22);
-                        r27_2015_0_ph27 = (size_t)r30.b;
-                        r27_15_0_ph26 = r30.a;
-                    }
-                    dfu_device_c_keeping_keep(r58, a1);
-                    switch (r27_15_0_ph26) {
-                    case 0:
-                        common_ret_op = 0;
-                        goto dfu_device_c_calls_dfu_core_took_exit;
-                    case 1:
-                        common_ret_op = (uint32_t)r27_2015_0_ph27;
-                        goto dfu_device_c_calls_dfu_core_took_exit;
-                    case 2:
-                        common_ret_op = 0xffffffffU;
-                        goto dfu_device_c_calls_dfu_core_took_exit;
-                    default: never();
-                    }
+            store64(r5, (size_t)(uintptr_t)r4);
+            store64(r5 + 8, a2);
+            r5[16] = r3_2_0_copyload;
+            memset(r5 + 17, 0, 3);
+            store32(r5 + 20, r17);
+            uint8_t r10 = dfu_slots_layout_is_sized(r5);
+            if (!r10) common_ret_op = 0xfffffffaU;
+            else {
+                uint32_t switch_load = load32(PLACE(switch_table_dfu_core_would_stall) + 4 * (size_t)r3_2_0_copyload);
+                r26 = (uint64_t)(size_t)umax32(r17, switch_load) << 1;
+                uint8_t r31 = dfu_asks_blank_is_erased(r4, 0, r26);
+                if (!r31) common_ret_op = 0;
+                else {
+                    uint8_t r50 = dfu_asks_blank_is_erased(r4, a2 >> 1, r26);
+                    common_ret_op = (uint32_t)r50;
                 }
             }
-            common_ret_op = 0xfffffffcU;
         }
     }
-dfu_device_c_calls_dfu_core_took_exit:
     return signed32(common_ret_op);
 }
 
-/* dfu_core_usb_reset: crates/dfu_device_c/src/calls.rt */
-int32_t dfu_core_usb_reset(const struct dfu_config *config, struct dfu_record *record, uint8_t *block, size_t most, const uint8_t *flash, size_t size) {
+/* dfu_core_would_stall: crates/dfu_device_c/src/stalls.rt */
+int32_t dfu_core_would_stall(const struct dfu_config *config, const struct dfu_record *record, size_t size, const uint8_t setup[8]) {
     unsigned char *a0 = (unsigned char *)(uintptr_t)config;
     unsigned char *a1 = (unsigned char *)(uintptr_t)record;
-    (void)block;
-    size_t a3 = (size_t)most;
-    unsigned char *a4 = (unsigned char *)(uintptr_t)flash;
-    size_t a5 = (size_t)size;
-    _Alignas(8) unsigned char r5[136];
-    _Alignas(8) unsigned char r14[48];
-    unsigned char *r13, *r38;
-    uint16_t r53;
-    size_t r2_0_0;
+    size_t a2 = (size_t)size;
+    unsigned char *a3 = (unsigned char *)(uintptr_t)setup;
+    _Alignas(4) unsigned char r7[56];
+    _Alignas(8) unsigned char r12[32];
+    _Alignas(4) unsigned char r17[24];
+    _Alignas(4) unsigned char r1[16];
+    _Alignas(8) unsigned char r18[8];
+    _Alignas(4) unsigned char r10[6];
+    _Alignas(4) unsigned char r16_2[6];
     uint32_t common_ret_op;
-    r13 = (unsigned char *)((uintptr_t)a4 + (uintptr_t)(size_t)((a4 == NULL) ? 4096 : 0));
-    memset(r5, 0, 136);
-    dfu_device_c_keeping_found(a0, a1, a3, r5);
-    uint8_t r36 = *r5;
-    if (r36 != 0) {
-        uint8_t r18_0_0_copyload = r5[1];
-        uint32_t switch_load_2 = load32(PLACE(switch_table_dfu_device_c_numbers_Refusal_number) + 4 * (size_t)r18_0_0_copyload);
+    memset(r7, 0, 56);
+    dfu_core_mode_idle_mode(r7, a0, a1);
+    uint8_t r16 = *r7;
+    if (r16 != 0) {
+        uint8_t r4_0_0_copyload = r7[1];
+        uint32_t switch_load_2 = load32(PLACE(switch_table_dfu_core_numbers_Refusal_number) + 4 * (size_t)r4_0_0_copyload);
         common_ret_op = switch_load_2;
     }
     else {
-        r38 = r5 + 8;
-        r53 = load16(a0 + 12);
-        memset(r14, 0, 48);
-        uint8_t r2 = r5[104];
-        if (r2 == 1) r2_0_0 = 2;
-        else {
-            dfu_asks_asking_Asking_see(r14, r38, (size_t)r53, r13, a5);
-            uint8_t r1_0_0_copyload = *r14;
-            if (r1_0_0_copyload == 0) {
-                unsigned char *r42 = r5 + 44;
-                uint8_t v4 = *r42;
-                *r42 = (uint8_t)((v4 == 1) ? 2 : 0);
-                r5[45] = 0;
-                store32(r5 + 48, 0);
-                store32(r5 + 52, 0);
-                store32(r5 + 56, 0);
-                dfu_device_c_keeping_keep(r38, a1);
-                common_ret_op = 0;
-                goto dfu_device_c_calls_dfu_core_usb_reset_exit;
-            }
-            uint8_t r1_3_1_copyload = r14[1];
-            r2_0_0 = (size_t)(((uint32_t)0x4040302U >> (((uint32_t)r1_3_1_copyload << 3) & 31)) & 7);
-        }
-        uint32_t switch_load = load32(PLACE(switch_table_dfu_device_c_numbers_Refusal_number) + 4 * r2_0_0);
-        common_ret_op = switch_load;
+        uint32_t r3_0_3_0_copyload = load32(r7 + 20);
+        uint32_t r3_0_4_0_copyload = load32(r7 + 24);
+        uint32_t r3_0_5_0_copyload = load32(r7 + 28);
+        uint8_t r3_0_6_0_copyload = r7[32];
+        uint32_t r3_0_8_0_copyload = load32(r7 + 36);
+        uint8_t r3_3_0_copyload = r7[40];
+        uint8_t r3_4_0_copyload = r7[41];
+        uint32_t r3_6_0_copyload = load32(r7 + 44);
+        uint32_t r3_7_0_copyload = load32(r7 + 48);
+        uint32_t r3_8_0_copyload = load32(r7 + 52);
+        uint8_t r32 = a0[15];
+        uint64_t r2_0_0_copyload = load64u(a3);
+        uint32_t switch_load = load32(PLACE(switch_table_dfu_core_would_stall) + 4 * (size_t)r3_0_6_0_copyload);
+        memcpy(r12, r7 + 10, 10);
+        store16(r12 + 10, 0);
+        store32(r12 + 12, r3_0_3_0_copyload);
+        store32(r12 + 16, r3_0_4_0_copyload);
+        store32(r12 + 20, r3_0_5_0_copyload);
+        store64(r12 + 24, (size_t)usub_sat64(a2 >> 1, (uint64_t)(size_t)umax32(r3_0_8_0_copyload, switch_load) << 1));
+        store64(r18, (uint64_t)((r32 == (uint8_t)(size_t)(r2_0_0_copyload >> 32)) ? 0 : 0x100000000ULL) | (r2_0_0_copyload & 0xffffff00ffffffffULL));
+        dfu_wire_setups_Setup_request(r16_2, r18);
+        store32(r1, 0);
+        *r1 = r3_3_0_copyload;
+        r1[1] = r3_4_0_copyload;
+        store32(r1 + 4, r3_6_0_copyload);
+        store32(r1 + 8, r3_7_0_copyload);
+        store32(r1 + 12, r3_8_0_copyload);
+        uint8_t r11 = *r16_2;
+        store16(r10, r11);
+        uint16_t v6 = load16(r16_2 + 2);
+        store16(r10 + 2, v6);
+        uint16_t v7 = load16(r16_2 + 4);
+        store16(r10 + 4, v7);
+        memset(r17, 0, 24);
+        dfu_device_table_decide(r17, r12, r1, r10);
+        uint8_t r1_0_0_copyload = *r17;
+        uint8_t r1_3_1_copyload = r17[1];
+        common_ret_op = (uint32_t)(((uint8_t)(r1_0_0_copyload + 253) < 254) ? (r1_3_1_copyload == 3) : 0);
     }
-dfu_device_c_calls_dfu_core_usb_reset_exit:
     return signed32(common_ret_op);
 }

@@ -274,26 +274,26 @@ static _Alignas(8) const uint64_t switch_table_dfu_host_name_1[11] = {
 
 static uint8_t dfu_host_c_watching_is_download(unsigned char *a0);
 static uint8_t dfu_host_c_watching_is_other(unsigned char *a0, unsigned char *a1);
-static void dfuse_file_file_read(unsigned char *a0, unsigned char *a1, size_t a2);
+static void dfu_formats_dfuse_file_read(unsigned char *a0, unsigned char *a1, size_t a2);
 static void dfu_suffix_parse_read_small(unsigned char *a0, unsigned char *a1, size_t a2);
 static void dfu_suffix_crc_Crc_update_small(unsigned char *a0, unsigned char *a1, uint64_t a2);
 static void core_slice_edits_slice_T_copy_from_slice_i8_core_clone_U8Clone(unsigned char *a0, unsigned char *a2, size_t a3);
-static void dfuse_file_headings_take_heading(unsigned char *a0, unsigned char *a1, uint64_t a2);
-static void dfuse_file_elements_take_element(unsigned char *a0, unsigned char *a1, uint64_t a2);
-static void dfuse_memory_map_Map_read(unsigned char *a0, unsigned char *a1, size_t a2);
-static void dfuse_memory_place_take_address(unsigned char *a0, unsigned char *a1, uint64_t a2);
-static void dfuse_memory_digits_take_number(unsigned char *a0, size_t a1, size_t a2, unsigned char *a3, uint64_t a4);
-static uint64_t dfuse_memory_digits_digit_value(uint8_t a0);
+static void dfu_formats_dfuse_headings_take_heading(unsigned char *a0, unsigned char *a1, uint64_t a2);
+static void dfu_formats_dfuse_elements_take_element(unsigned char *a0, unsigned char *a1, uint64_t a2);
+static void dfu_formats_memory_map_Map_read(unsigned char *a0, unsigned char *a1, size_t a2);
+static void dfu_formats_memory_place_take_address(unsigned char *a0, unsigned char *a1, uint64_t a2);
+static void dfu_formats_memory_digits_take_number(unsigned char *a0, size_t a1, size_t a2, unsigned char *a3, uint64_t a4);
+static uint64_t dfu_formats_memory_digits_digit_value(uint8_t a0);
 static void dfu_host_c_file_file_in(unsigned char *a0, unsigned char *a1, size_t a2);
-static uint8_t dfu_images_endings_ends_in(unsigned char *a0, size_t a1, unsigned char *a2, size_t a3);
-static uint8_t dfu_images_looks_has_digits(unsigned char *a0, uint64_t a1);
-static uint8_t dfu_images_digits_hex_digit(uint8_t a0);
+static uint8_t dfu_formats_images_endings_ends_in(unsigned char *a0, size_t a1, unsigned char *a2, size_t a3);
+static uint8_t dfu_formats_images_looks_has_digits(unsigned char *a0, uint64_t a1);
+static uint8_t dfu_formats_images_digits_hex_digit(uint8_t a0);
 static uint8_t core_slice_reads_slice_T_starts_with_i8_core_cmp_numbers_U8PartialEq(unsigned char *a0, size_t a1, unsigned char *a2, size_t a3);
 static uint8_t core_slice_scan_any_in_ends(unsigned char *a0, size_t a1, size_t a2);
 static uint64_t core_slice_scan_skip_groups(unsigned char *a0, uint64_t a1, size_t a2, size_t a3);
 static uint8_t core_slice_scan_any_in_run(unsigned char *a0, size_t a1, size_t a2);
-static uint8_t dfu_images_text_is_text(unsigned char *a0, size_t a1);
-static void dfu_images_places_bad_from(unsigned char *a0, uint8_t a1, unsigned char *a2, size_t a3);
+static uint8_t dfu_formats_images_text_is_text(unsigned char *a0, size_t a1);
+static void dfu_formats_images_places_bad_from(unsigned char *a0, uint8_t a1, unsigned char *a2, size_t a3);
 static void dfu_host_c_reports_report_at(unsigned char *a0, uint64_t a1, uint32_t a2);
 static void dfu_host_c_holding_session_of(unsigned char *a0, unsigned char *a1, unsigned char *a2, size_t a3);
 static void dfu_host_c_holding_record_of(unsigned char *a0, unsigned char *a1, uint64_t a2);
@@ -324,7 +324,7 @@ static void dfuse_host_asking_setup_of(unsigned char *a0, unsigned char *a1);
 static struct i8_i64 dfuse_host_plan_Plan_command_of(unsigned char *a0, unsigned char *a1, uint8_t a2, uint64_t a3);
 static uint64_t dfuse_host_plan_Plan_page_start(unsigned char *a0, uint64_t a1);
 static void dfuse_host_plan_Plan_page_of(unsigned char *a0, unsigned char *a1, uint64_t a2);
-static void dfuse_memory_lookups_range_at(unsigned char *a0, uint64_t a1, unsigned char *a2, uint64_t a3);
+static void dfu_formats_memory_lookups_range_at(unsigned char *a0, uint64_t a1, unsigned char *a2, uint64_t a3);
 static void dfuse_host_asking_address_command(unsigned char *a0, uint8_t a1, size_t a2);
 static uint64_t dfuse_host_plan_Plan_end_of_work(unsigned char *a0, unsigned char *a1);
 static uint64_t dfuse_host_image_image_end(unsigned char *a0, uint64_t a1);
@@ -390,8 +390,8 @@ static uint8_t dfu_host_c_watching_is_other(unsigned char *a0, unsigned char *a1
     return r1_0_in;
 }
 
-/* dfuse_file::file::read: crates/dfuse_file/src/file.rt */
-static void dfuse_file_file_read(unsigned char *a0, unsigned char *a1, size_t a2) {
+/* dfu_formats::dfuse::file::read: crates/dfu_formats/src/dfuse/file.rt */
+static void dfu_formats_dfuse_file_read(unsigned char *a0, unsigned char *a1, size_t a2) {
     _Alignas(8) unsigned char r9[72];
     unsigned char *const r5 = r9;
     _Alignas(8) unsigned char r8[48];
@@ -435,7 +435,7 @@ static void dfuse_file_file_read(unsigned char *a0, unsigned char *a1, size_t a2
                     r6_24_0 = 0;
                     r6_26_0 = 0;
                     r6_27_0 = 0;
-                    goto dfuse_file_file_read_file_exit;
+                    goto dfu_formats_dfuse_file_read_file_exit;
                 }
                 uint8_t r20 = *a1;
                 if (r20 != 68) {
@@ -447,7 +447,7 @@ static void dfuse_file_file_read(unsigned char *a0, unsigned char *a1, size_t a2
                     r6_24_0 = 0;
                     r6_26_0 = 0;
                     r6_27_0 = 0;
-                    goto dfuse_file_file_read_file_exit;
+                    goto dfu_formats_dfuse_file_read_file_exit;
                 }
                 uint8_t r29 = a1[1];
                 if (r29 != 102) {
@@ -459,7 +459,7 @@ static void dfuse_file_file_read(unsigned char *a0, unsigned char *a1, size_t a2
                     r6_24_0 = 0;
                     r6_26_0 = 0;
                     r6_27_0 = 0;
-                    goto dfuse_file_file_read_file_exit;
+                    goto dfu_formats_dfuse_file_read_file_exit;
                 }
                 uint8_t r41 = a1[2];
                 if (r41 != 117) {
@@ -471,7 +471,7 @@ static void dfuse_file_file_read(unsigned char *a0, unsigned char *a1, size_t a2
                     r6_24_0 = 0;
                     r6_26_0 = 0;
                     r6_27_0 = 0;
-                    goto dfuse_file_file_read_file_exit;
+                    goto dfu_formats_dfuse_file_read_file_exit;
                 }
                 uint8_t r53 = a1[3];
                 if (r53 != 83) {
@@ -483,7 +483,7 @@ static void dfuse_file_file_read(unsigned char *a0, unsigned char *a1, size_t a2
                     r6_24_0 = 0;
                     r6_26_0 = 0;
                     r6_27_0 = 0;
-                    goto dfuse_file_file_read_file_exit;
+                    goto dfu_formats_dfuse_file_read_file_exit;
                 }
                 uint8_t r65 = a1[4];
                 if (r65 != 101) {
@@ -495,7 +495,7 @@ static void dfuse_file_file_read(unsigned char *a0, unsigned char *a1, size_t a2
                     r6_24_0 = 0;
                     r6_26_0 = 0;
                     r6_27_0 = 0;
-                    goto dfuse_file_file_read_file_exit;
+                    goto dfu_formats_dfuse_file_read_file_exit;
                 }
                 uint8_t r57 = a1[5];
                 if (r57 != 1) {
@@ -507,7 +507,7 @@ static void dfuse_file_file_read(unsigned char *a0, unsigned char *a1, size_t a2
                     r6_24_0 = 0;
                     r6_26_0 = 0;
                     r6_27_0 = 0;
-                    goto dfuse_file_file_read_file_exit;
+                    goto dfu_formats_dfuse_file_read_file_exit;
                 }
                 uint32_t r26 = load32u(a1 + 6);
                 size_t r73 = (size_t)r26;
@@ -520,7 +520,7 @@ static void dfuse_file_file_read(unsigned char *a0, unsigned char *a1, size_t a2
                     r6_24_0 = 0;
                     r6_26_0 = 0;
                     r6_27_0 = 0;
-                    goto dfuse_file_file_read_file_exit;
+                    goto dfu_formats_dfuse_file_read_file_exit;
                 }
                 r98 = a1[10];
                 if (r98 == 0) {
@@ -532,7 +532,7 @@ static void dfuse_file_file_read(unsigned char *a0, unsigned char *a1, size_t a2
                     r6_24_0 = 0;
                     r6_26_0 = 0;
                     r6_27_0 = 0;
-                    goto dfuse_file_file_read_file_exit;
+                    goto dfu_formats_dfuse_file_read_file_exit;
                 }
                 wide_1311 = (size_t)(uintptr_t)(a1 + 11);
                 r19 = r2_0 - 11;
@@ -548,8 +548,8 @@ static void dfuse_file_file_read(unsigned char *a0, unsigned char *a1, size_t a2
                 r3_5_0 = r19;
                 r7_0 = 0;
                 for (;;) {
-                    if (r7_0 >= r98) goto dfuse_file_targets_check_targets_exit;
-                    dfuse_file_headings_take_heading(r9, (unsigned char *)(uintptr_t)r3_0_0, r3_5_0);
+                    if (r7_0 >= r98) goto dfu_formats_dfuse_targets_check_targets_exit;
+                    dfu_formats_dfuse_headings_take_heading(r9, (unsigned char *)(uintptr_t)r3_0_0, r3_5_0);
                     uint8_t r22 = *r9;
                     if (r22 == 1) break;
                     r5_2_0_copyload = load32(r5_2_0_r25_sroa_idx);
@@ -561,9 +561,9 @@ static void dfuse_file_file_read(unsigned char *a0, unsigned char *a1, size_t a2
                     r3_5_0_2 = r5_4_0_copyload;
                     r6_0 = 0;
                     while (r6_0 != r5_2_0_copyload) {
-                        dfuse_file_elements_take_element(r8, (unsigned char *)(uintptr_t)r3_0_0_2, r3_5_0_2);
+                        dfu_formats_dfuse_elements_take_element(r8, (unsigned char *)(uintptr_t)r3_0_0_2, r3_5_0_2);
                         uint8_t r18 = *r8;
-                        if (r18 != 0) goto dfuse_file_elements_check_elements_exit_thread;
+                        if (r18 != 0) goto dfu_formats_dfuse_elements_check_elements_exit_thread;
                         size_t r4_2_0_copyload = (size_t)load64(r4_2_0_r19_sroa_idx);
                         uint64_t r4_3_0_copyload = load64(r4_3_0_r19_sroa_idx);
                         r3_0_0_2 = r4_2_0_copyload;
@@ -572,7 +572,7 @@ static void dfuse_file_file_read(unsigned char *a0, unsigned char *a1, size_t a2
                     }
                     if (r3_5_0_2 != 0) {
                         r4_0_0_copyload_pn = 11;
-                        goto dfuse_file_targets_check_targets_exit_thread;
+                        goto dfu_formats_dfuse_targets_check_targets_exit_thread;
                     }
                     r3_0_0 = r5_5_0_0_copyload;
                     r3_5_0 = r5_5_3_0_copyload;
@@ -580,11 +580,11 @@ static void dfuse_file_file_read(unsigned char *a0, unsigned char *a1, size_t a2
                 }
                 uint8_t r4_0_0_copyload_2 = r9[1];
                 r4_0_0_copyload_pn = r4_0_0_copyload_2;
-                goto dfuse_file_targets_check_targets_exit_thread;
-dfuse_file_elements_check_elements_exit_thread:;
+                goto dfu_formats_dfuse_targets_check_targets_exit_thread;
+dfu_formats_dfuse_elements_check_elements_exit_thread:;
                 uint8_t r5_0_0_copyload = *r21;
                 r4_0_0_copyload_pn = r5_0_0_copyload;
-dfuse_file_targets_check_targets_exit_thread:
+dfu_formats_dfuse_targets_check_targets_exit_thread:
                 r6_17_1_0 = 0;
                 r6_17_8_0 = 0;
                 r6_17_9_0 = 0;
@@ -593,8 +593,8 @@ dfuse_file_targets_check_targets_exit_thread:
                 r6_24_0 = 0;
                 r6_26_0 = 0;
                 r6_27_0 = 0;
-                goto dfuse_file_file_read_file_exit;
-dfuse_file_targets_check_targets_exit:
+                goto dfu_formats_dfuse_file_read_file_exit;
+dfu_formats_dfuse_targets_check_targets_exit:
                 if (r3_5_0 == 0) {
                     r6_17_1_0 = r7_0_0;
                     r6_17_8_0 = r7_0_0_2;
@@ -604,7 +604,7 @@ dfuse_file_targets_check_targets_exit:
                     r6_24_0 = r98;
                     r6_26_0 = wide_1311;
                     r6_27_0 = r19;
-                    goto dfuse_file_file_read_file_exit;
+                    goto dfu_formats_dfuse_file_read_file_exit;
                 }
                 r6_17_1_0 = 0;
                 r6_17_8_0 = 0;
@@ -614,7 +614,7 @@ dfuse_file_targets_check_targets_exit:
                 r6_24_0 = 0;
                 r6_26_0 = 0;
                 r6_27_0 = 0;
-                goto dfuse_file_file_read_file_exit;
+                goto dfu_formats_dfuse_file_read_file_exit;
             }
             r5_4_0 = 5;
             break;
@@ -649,7 +649,7 @@ dfuse_file_targets_check_targets_exit:
     r6_24_0 = 0;
     r6_26_0 = 0;
     r6_27_0 = 0;
-dfuse_file_file_read_file_exit:
+dfu_formats_dfuse_file_read_file_exit:
     *a0 = r6_0_0;
     a0[1] = r6_9_0;
     store16(a0 + 8, r6_17_1_0);
@@ -849,8 +849,8 @@ static void core_slice_edits_slice_T_copy_from_slice_i8_core_clone_U8Clone(unsig
     }
 }
 
-/* dfuse_file::headings::take_heading: crates/dfuse_file/src/headings.rt */
-static void dfuse_file_headings_take_heading(unsigned char *a0, unsigned char *a1, uint64_t a2) {
+/* dfu_formats::dfuse::headings::take_heading: crates/dfu_formats/src/dfuse/headings.rt */
+static void dfu_formats_dfuse_headings_take_heading(unsigned char *a0, unsigned char *a1, uint64_t a2) {
     size_t r57;
     uint64_t r19;
     if (a2 < 274) {
@@ -910,8 +910,8 @@ static void dfuse_file_headings_take_heading(unsigned char *a0, unsigned char *a
     return;
 }
 
-/* dfuse_file::elements::take_element: crates/dfuse_file/src/elements.rt */
-static void dfuse_file_elements_take_element(unsigned char *a0, unsigned char *a1, uint64_t a2) {
+/* dfu_formats::dfuse::elements::take_element: crates/dfu_formats/src/dfuse/elements.rt */
+static void dfu_formats_dfuse_elements_take_element(unsigned char *a0, unsigned char *a1, uint64_t a2) {
     uint32_t r26, r26_2;
     unsigned char *r16;
     size_t wide_1311, r49;
@@ -957,8 +957,8 @@ static void dfuse_file_elements_take_element(unsigned char *a0, unsigned char *a
     return;
 }
 
-/* dfuse_memory::map::Map::read: crates/dfuse_memory/src/map.rt */
-static void dfuse_memory_map_Map_read(unsigned char *a0, unsigned char *a1, size_t a2) {
+/* dfu_formats::memory::map::Map::read */
+static void dfu_formats_memory_map_Map_read(unsigned char *a0, unsigned char *a1, size_t a2) {
     _Alignas(2) unsigned char r20_11[782];
     _Alignas(8) unsigned char r3[776];
     _Alignas(2) unsigned char r0_17_11[776];
@@ -1005,7 +1005,7 @@ static void dfuse_memory_map_Map_read(unsigned char *a0, unsigned char *a1, size
                 r4_0 = r27;
             }
             uint64_t r47 = r3_0 + 1;
-            dfuse_memory_place_take_address(r16_2, r16 + (size_t)r47, (uint64_t)r19 - r47);
+            dfu_formats_memory_place_take_address(r16_2, r16 + (size_t)r47, (uint64_t)r19 - r47);
             uint8_t r1_0_0_copyload = *r16_2;
             if (r1_0_0_copyload != 0) {
                 uint8_t r1_3_1_copyload = r16_2[1];
@@ -1014,7 +1014,7 @@ static void dfuse_memory_map_Map_read(unsigned char *a0, unsigned char *a1, size
                 r0_7_0 = r1_3_1_copyload;
                 r0_131_0 = 0;
                 r0_19_0 = 0;
-                goto dfuse_memory_map_read_map_exit;
+                goto dfu_formats_memory_map_read_map_exit;
             }
             r8_6_3_6_copyload = load64(r16_2 + 8);
             r8_6_5_6_copyload = (size_t)load64(r16_2 + 16);
@@ -1041,7 +1041,7 @@ static void dfuse_memory_map_Map_read(unsigned char *a0, unsigned char *a1, size
             r5_4_0 = r8_6_6_6_copyload;
             r4_0_2 = r8_6_3_6_copyload;
             for (;;) {
-                dfuse_memory_digits_take_number(r5, 10, 5, (unsigned char *)(uintptr_t)r5_0_0, r5_4_0);
+                dfu_formats_memory_digits_take_number(r5, 10, 5, (unsigned char *)(uintptr_t)r5_0_0, r5_4_0);
                 uint8_t r19_2 = *r5;
                 if (r19_2 != 1) goto arm_2_2;
                 r21 = load64(r20);
@@ -1052,7 +1052,7 @@ static void dfuse_memory_map_Map_read(unsigned char *a0, unsigned char *a1, size
                 if (r3_4_0_copyload == 0) goto arm_2_2;
                 uint8_t r25_2 = *r29_2;
                 if (r25_2 != 42) goto arm_2_2;
-                dfuse_memory_digits_take_number(r4, 10, 5, r29_2 + 1, r3_4_0_copyload - 1);
+                dfu_formats_memory_digits_take_number(r4, 10, 5, r29_2 + 1, r3_4_0_copyload - 1);
                 uint8_t r15 = *r4;
                 if (r15 != 1) goto arm_6;
                 r17 = load64(r16_3);
@@ -1124,7 +1124,7 @@ arm_3:
                     r8_13_0 = r21_2;
                     break;
                 case 47: {
-                    dfuse_memory_place_take_address(r12, r16_4, r19_4);
+                    dfu_formats_memory_place_take_address(r12, r16_4, r19_4);
                     uint8_t r42 = *r12;
                     if (r42 != 0) goto arm_10;
                     uint64_t r5_0_0_copyload = load64(r43);
@@ -1194,14 +1194,14 @@ arm_8:
             r0_7_0 = 0;
             r0_131_0 = wide_1311;
             r0_19_0 = r3_0_2;
-            goto dfuse_memory_map_read_map_exit;
+            goto dfu_formats_memory_map_read_map_exit;
 then_11:
             memcpy(r0_20, r0_17_11, 776);
             r0_0_0 = 1;
             r0_7_0 = 8;
             r0_131_0 = 0;
             r0_19_0 = 0;
-            goto dfuse_memory_map_read_map_exit;
+            goto dfu_formats_memory_map_read_map_exit;
 arm_10:;
             uint8_t r6_0_0_copyload = r12[1];
             r8_6_0 = r6_0_0_copyload;
@@ -1219,7 +1219,7 @@ arm_9:
             r0_7_0 = r20_6_0;
             r0_131_0 = 0;
             r0_19_0 = 0;
-            goto dfuse_memory_map_read_map_exit;
+            goto dfu_formats_memory_map_read_map_exit;
         }
     }
 arm_2:
@@ -1228,7 +1228,7 @@ arm_2:
     r0_7_0 = 0;
     r0_131_0 = 0;
     r0_19_0 = 0;
-dfuse_memory_map_read_map_exit:
+dfu_formats_memory_map_read_map_exit:
     *a0 = r0_0_0;
     a0[1] = r0_7_0;
     store64(a0 + 8, r0_131_0);
@@ -1237,8 +1237,8 @@ dfuse_memory_map_read_map_exit:
     return;
 }
 
-/* dfuse_memory::place::take_address: crates/dfuse_memory/src/place.rt */
-static void dfuse_memory_place_take_address(unsigned char *a0, unsigned char *a1, uint64_t a2) {
+/* dfu_formats::memory::place::take_address: crates/dfu_formats/src/memory/place.rt */
+static void dfu_formats_memory_place_take_address(unsigned char *a0, unsigned char *a1, uint64_t a2) {
     _Alignas(8) unsigned char r5[32];
     unsigned char *r6_0_0, *r28;
     uint64_t r6_4_0, r3_0_0_copyload, r3_4_0_copyload, r7_9_3_0, r7_72_0;
@@ -1275,7 +1275,7 @@ static void dfuse_memory_place_take_address(unsigned char *a0, unsigned char *a1
             }
         }
     }
-    dfuse_memory_digits_take_number(r5, 16, 8, r6_0_0, r6_4_0);
+    dfu_formats_memory_digits_take_number(r5, 16, 8, r6_0_0, r6_4_0);
     uint8_t r25_3 = *r5;
     if (r25_3 != 1) {
         r7_9_0_0 = 0;
@@ -1318,8 +1318,8 @@ static void dfuse_memory_place_take_address(unsigned char *a0, unsigned char *a1
     return;
 }
 
-/* dfuse_memory::digits::take_number: crates/dfuse_memory/src/digits.rt */
-static void dfuse_memory_digits_take_number(unsigned char *a0, size_t a1, size_t a2, unsigned char *a3, uint64_t a4) {
+/* dfu_formats::memory::digits::take_number: crates/dfu_formats/src/memory/digits.rt */
+static void dfu_formats_memory_digits_take_number(unsigned char *a0, size_t a1, size_t a2, unsigned char *a3, uint64_t a4) {
     uint64_t r4_0, r3_0_lcssa, r4_0_2, r3_0;
     r4_0 = 0;
     for (;;) {
@@ -1328,7 +1328,7 @@ static void dfuse_memory_digits_take_number(unsigned char *a0, size_t a1, size_t
             break;
         }
         uint8_t r25 = a3[(size_t)r4_0];
-        uint64_t r27 = dfuse_memory_digits_digit_value(r25);
+        uint64_t r27 = dfu_formats_memory_digits_digit_value(r25);
         if ((uint64_t)a1 <= r27) {
             r3_0_lcssa = r4_0;
             break;
@@ -1343,7 +1343,7 @@ static void dfuse_memory_digits_take_number(unsigned char *a0, size_t a1, size_t
     r3_0 = 0;
     while (r4_0_2 != r3_0_lcssa) {
         uint8_t r27_2 = a3[(size_t)r4_0_2];
-        uint64_t r29 = dfuse_memory_digits_digit_value(r27_2);
+        uint64_t r29 = dfu_formats_memory_digits_digit_value(r27_2);
         r4_0_2 = r4_0_2 + 1;
         r3_0 = r29 + (r3_0 * (uint64_t)a1);
     }
@@ -1354,8 +1354,8 @@ static void dfuse_memory_digits_take_number(unsigned char *a0, size_t a1, size_t
     return;
 }
 
-/* dfuse_memory::digits::digit_value: crates/dfuse_memory/src/digits.rt */
-static uint64_t dfuse_memory_digits_digit_value(uint8_t a0) {
+/* dfu_formats::memory::digits::digit_value: crates/dfu_formats/src/memory/digits.rt */
+static uint64_t dfu_formats_memory_digits_digit_value(uint8_t a0) {
     uint64_t r1_0;
     if (a0 < 48) r1_0 = 16;
     else {
@@ -1388,8 +1388,8 @@ static void dfu_host_c_file_file_in(unsigned char *a0, unsigned char *a1, size_t
     return;
 }
 
-/* dfu_images::endings::ends_in: crates/dfu_images/src/endings.rt */
-static uint8_t dfu_images_endings_ends_in(unsigned char *a0, size_t a1, unsigned char *a2, size_t a3) {
+/* dfu_formats::images::endings::ends_in: crates/dfu_formats/src/images/endings.rt */
+static uint8_t dfu_formats_images_endings_ends_in(unsigned char *a0, size_t a1, unsigned char *a2, size_t a3) {
     unsigned char *r16;
     size_t r5_0;
     uint8_t exitcond_not, common_ret_op;
@@ -1415,25 +1415,25 @@ static uint8_t dfu_images_endings_ends_in(unsigned char *a0, size_t a1, unsigned
     return common_ret_op;
 }
 
-/* dfu_images::looks::has_digits: crates/dfu_images/src/looks.rt */
-static uint8_t dfu_images_looks_has_digits(unsigned char *a0, uint64_t a1) {
+/* dfu_formats::images::looks::has_digits: crates/dfu_formats/src/images/looks.rt */
+static uint8_t dfu_formats_images_looks_has_digits(unsigned char *a0, uint64_t a1) {
     uint8_t r5_0_off0;
     if (a1 < 2) r5_0_off0 = 0;
     else {
         uint8_t r28 = *a0;
-        uint8_t r30 = dfu_images_digits_hex_digit(r28);
+        uint8_t r30 = dfu_formats_images_digits_hex_digit(r28);
         if (r30 >= 16) r5_0_off0 = 0;
         else {
             uint8_t r37 = a0[1];
-            uint8_t r39 = dfu_images_digits_hex_digit(r37);
+            uint8_t r39 = dfu_formats_images_digits_hex_digit(r37);
             r5_0_off0 = r39 < 16;
         }
     }
     return r5_0_off0;
 }
 
-/* dfu_images::digits::hex_digit: crates/dfu_images/src/digits.rt */
-static uint8_t dfu_images_digits_hex_digit(uint8_t a0) {
+/* dfu_formats::images::digits::hex_digit: crates/dfu_formats/src/images/digits.rt */
+static uint8_t dfu_formats_images_digits_hex_digit(uint8_t a0) {
     uint8_t r1_0;
     if (a0 < 48) r1_0 = 16;
     else {
@@ -1517,8 +1517,8 @@ static uint8_t core_slice_scan_any_in_run(unsigned char *a0, size_t a1, size_t a
     return r1_0_off0;
 }
 
-/* dfu_images::text::is_text: crates/dfu_images/src/text.rt */
-static uint8_t dfu_images_text_is_text(unsigned char *a0, size_t a1) {
+/* dfu_formats::images::text::is_text: crates/dfu_formats/src/images/text.rt */
+static uint8_t dfu_formats_images_text_is_text(unsigned char *a0, size_t a1) {
     uint8_t r3_0_0, r3_5_0, r3_8_0, r27, r10_5_011, r10_8_010, r10_10_09;
     size_t r4_0;
     uint8_t r3_0_in;
@@ -1630,8 +1630,8 @@ join_3:
     return r3_0_in;
 }
 
-/* dfu_images::places::bad_from: crates/dfu_images/src/places.rt */
-static void dfu_images_places_bad_from(unsigned char *a0, uint8_t a1, unsigned char *a2, size_t a3) {
+/* dfu_formats::images::places::bad_from: crates/dfu_formats/src/images/places.rt */
+static void dfu_formats_images_places_bad_from(unsigned char *a0, uint8_t a1, unsigned char *a2, size_t a3) {
     uint64_t r4_0, r5_0;
     size_t r6_0, r6_0_2;
     uint8_t r3_0_0, r29, r2_7_0;
@@ -1660,7 +1660,7 @@ static void dfu_images_places_bad_from(unsigned char *a0, uint8_t a1, unsigned c
                 default: goto arm_12;
                 }
             case 1: {
-                uint8_t r36 = dfu_images_digits_hex_digit(r29);
+                uint8_t r36 = dfu_formats_images_digits_hex_digit(r29);
                 if (r36 < 16) {
                     r2_7_0 = 1;
                     goto arm_11;
@@ -2099,7 +2099,7 @@ arm_5:
 static void dfu_host_c_holding_record_of(unsigned char *a0, unsigned char *a1, uint64_t a2) {
     uint8_t r9, r16, r20, r6_3_1_copyload, r1_6_0_0_extract_trunc;
     uint16_t r14, r24, v0, r41;
-    uint32_t r6_7_4_copyload, r38, r24_0_0, r24_63_0;
+    uint32_t r6_7_4_copyload, r38, r24_0_0, r24_77_0;
     uint64_t r6_9_8_copyload, r24_52_0;
     r9 = *a1;
     r14 = load16(a1 + 24);
@@ -2118,133 +2118,133 @@ static void dfu_host_c_holding_record_of(unsigned char *a0, unsigned char *a1, u
     case 0:
         r24_0_0 = 0;
         r24_52_0 = 0;
-        r24_63_0 = 0;
+        r24_77_0 = 0;
         break;
     case 1:
         r24_0_0 = 1;
         r24_52_0 = 0;
-        r24_63_0 = 0;
+        r24_77_0 = 0;
         break;
     case 2:
         r24_0_0 = 2;
         r24_52_0 = 0;
-        r24_63_0 = 0;
+        r24_77_0 = 0;
         break;
     case 3:
         r24_0_0 = 3;
         r24_52_0 = 0;
-        r24_63_0 = 0;
+        r24_77_0 = 0;
         break;
     case 4:
         r24_0_0 = 4;
         r24_52_0 = 0;
-        r24_63_0 = 0;
+        r24_77_0 = 0;
         break;
     case 5:
         r24_0_0 = 5;
         r24_52_0 = 0;
-        r24_63_0 = 0;
+        r24_77_0 = 0;
         break;
     case 6:
         r24_0_0 = 6;
         r24_52_0 = 0;
-        r24_63_0 = r6_7_4_copyload;
+        r24_77_0 = r6_7_4_copyload;
         break;
     case 7:
         r24_0_0 = 7;
         r24_52_0 = 0;
-        r24_63_0 = 0;
+        r24_77_0 = 0;
         break;
     case 8:
         r24_0_0 = 8;
         r24_52_0 = r6_9_8_copyload;
-        r24_63_0 = 0;
+        r24_77_0 = 0;
         break;
     case 9:
         r24_0_0 = 9;
         r24_52_0 = r6_9_8_copyload;
-        r24_63_0 = 0;
+        r24_77_0 = 0;
         break;
     case 10:
         r24_0_0 = 10;
         r24_52_0 = r6_9_8_copyload;
-        r24_63_0 = 0;
+        r24_77_0 = 0;
         break;
     case 11: {
         uint32_t r6_11_16_copyload = load32(a1 + 48);
         r24_0_0 = 11;
         r24_52_0 = r6_9_8_copyload;
-        r24_63_0 = r6_11_16_copyload;
+        r24_77_0 = r6_11_16_copyload;
         break;
     }
     case 12:
         r24_0_0 = 12;
         r24_52_0 = 0;
-        r24_63_0 = 0;
+        r24_77_0 = 0;
         break;
     case 13:
         r24_0_0 = 13;
         r24_52_0 = 0;
-        r24_63_0 = 0;
+        r24_77_0 = 0;
         break;
     case 14:
         r24_0_0 = 14;
         r24_52_0 = 0;
-        r24_63_0 = 0;
+        r24_77_0 = 0;
         break;
     case 15:
         r24_0_0 = 15;
         r24_52_0 = 0;
-        r24_63_0 = r6_7_4_copyload;
+        r24_77_0 = r6_7_4_copyload;
         break;
     case 16:
         r24_0_0 = 16;
         r24_52_0 = 0;
-        r24_63_0 = r6_7_4_copyload;
+        r24_77_0 = r6_7_4_copyload;
         break;
     case 17:
         r24_0_0 = 17;
         r24_52_0 = 0;
-        r24_63_0 = 0;
+        r24_77_0 = 0;
         break;
     case 18:
         r24_0_0 = 18;
         r24_52_0 = (size_t)v0;
-        r24_63_0 = 0;
+        r24_77_0 = 0;
         break;
     case 19:
         r24_0_0 = 19;
         r24_52_0 = (size_t)v0;
-        r24_63_0 = 0;
+        r24_77_0 = 0;
         break;
     case 20: {
         struct i32_i32 r10 = dfu_host_c_reports_report_numbers(r6_3_1_copyload, r1_6_0_0_extract_trunc);
         r24_0_0 = 20;
         r24_52_0 = (size_t)r10.a;
-        r24_63_0 = r10.b;
+        r24_77_0 = r10.b;
         break;
     }
     case 21:
         r24_0_0 = 21;
         r24_52_0 = 0;
-        r24_63_0 = 0;
+        r24_77_0 = 0;
         break;
     case 22:
         r24_0_0 = 22;
         r24_52_0 = 0;
-        r24_63_0 = 0;
+        r24_77_0 = 0;
         break;
     case 23: {
         struct i32_i32 r10_2 = dfu_host_c_reports_report_numbers(r6_3_1_copyload, r1_6_0_0_extract_trunc);
         r24_0_0 = 23;
         r24_52_0 = (size_t)r10_2.a;
-        r24_63_0 = r10_2.b;
+        r24_77_0 = r10_2.b;
         break;
     }
     case 24:
         r24_0_0 = 24;
         r24_52_0 = 0;
-        r24_63_0 = 0;
+        r24_77_0 = 0;
         break;
     default: never();
     }
@@ -2253,7 +2253,7 @@ static void dfu_host_c_holding_record_of(unsigned char *a0, unsigned char *a1, u
     store64(a0 + 8, r24_52_0);
     store64(a0 + 16, a2);
     store32(a0 + 24, r24_0_0);
-    store32(a0 + 28, r24_63_0);
+    store32(a0 + 28, r24_77_0);
     store32(a0 + 32, r38);
     store16(a0 + 36, r41);
     store16(a0 + 38, r14);
@@ -4170,7 +4170,7 @@ static void dfu_host_c_dfuse_holding_map_of(unsigned char *a0, unsigned char *a1
     _Alignas(8) unsigned char r5_4[792];
     size_t r5_0_0_0;
     memset(r5_4, 0, 792);
-    dfuse_memory_map_Map_read(r4, a1, a2);
+    dfu_formats_memory_map_Map_read(r4, a1, a2);
     uint8_t r10 = *r4;
     if (r10 != 0) r5_0_0_0 = 0;
     else {
@@ -4530,7 +4530,7 @@ static void dfuse_host_plan_Plan_page_of(unsigned char *a0, unsigned char *a1, u
     size_t r12_wide = (size_t)load64(a1);
     unsigned char *r12 = (unsigned char *)(uintptr_t)r12_wide;
     uint64_t r4 = load64(r12 + 784);
-    dfuse_memory_lookups_range_at(r4_2, a2, r12 + 16, r4);
+    dfu_formats_memory_lookups_range_at(r4_2, a2, r12 + 16, r4);
     r11 = *r4_2;
     if (r11 != 1) {
         r5_4_0_0 = 0;
@@ -4553,8 +4553,8 @@ static void dfuse_host_plan_Plan_page_of(unsigned char *a0, unsigned char *a1, u
     return;
 }
 
-/* dfuse_memory::lookups::range_at: crates/dfuse_memory/src/lookups.rt */
-static void dfuse_memory_lookups_range_at(unsigned char *a0, uint64_t a1, unsigned char *a2, uint64_t a3) {
+/* dfu_formats::memory::lookups::range_at: crates/dfu_formats/src/memory/lookups.rt */
+static void dfu_formats_memory_lookups_range_at(unsigned char *a0, uint64_t a1, unsigned char *a2, uint64_t a3) {
     _Alignas(8) unsigned char r0_5[24];
     uint64_t r3_0;
     unsigned char *r23;
@@ -4887,9 +4887,9 @@ static uint8_t dfuse_host_plan_Plan_grants(unsigned char *a0, unsigned char *a1)
         r4 = load64(r30 + 784);
         r4_0 = r34;
         while (r4_0 < r14) {
-            dfuse_memory_lookups_range_at(r7, r4_0, r5, r4);
+            dfu_formats_memory_lookups_range_at(r7, r4_0, r5, r4);
             uint8_t r20 = *r7;
-            if (r20 != 1) goto dfuse_memory_map_Map_grants_exit_thread;
+            if (r20 != 1) goto dfu_formats_memory_map_Map_grants_exit_thread;
             r5_0_0_copyload = load32(r21);
             r5_36_0_copyload = load64(r5_36_0_r21_sroa_idx);
             r5_4_0_copyload = load32(r5_4_0_r21_sroa_idx);
@@ -4898,16 +4898,16 @@ static uint8_t dfuse_host_plan_Plan_grants(unsigned char *a0, unsigned char *a1)
             r5_7_0_copyload = *r5_7_0_r21_sroa_idx;
             or_cond_old = (r5_6_0_copyload & 1) ? 1 : r31;
             if (r5_5_0_copyload & 1) {
-                if (!(or_cond_old ? ((r5_7_0_copyload & 1) ? 1 : r50) : 0)) goto dfuse_memory_map_Map_grants_exit_thread;
+                if (!(or_cond_old ? ((r5_7_0_copyload & 1) ? 1 : r50) : 0)) goto dfu_formats_memory_map_Map_grants_exit_thread;
             }
             else {
-                if (!((r15 ? or_cond_old : 0) ? ((r5_7_0_copyload & 1) ? 1 : r50) : 0)) goto dfuse_memory_map_Map_grants_exit_thread;
+                if (!((r15 ? or_cond_old : 0) ? ((r5_7_0_copyload & 1) ? 1 : r50) : 0)) goto dfu_formats_memory_map_Map_grants_exit_thread;
             }
             r4_0 = (r5_36_0_copyload * (uint64_t)(size_t)r5_4_0_copyload) + (uint64_t)(size_t)r5_0_0_copyload;
         }
         r3_0 = r3_0 + 1;
     }
-dfuse_memory_map_Map_grants_exit_thread:
+dfu_formats_memory_map_Map_grants_exit_thread:
     r3_04 = r3_0 >= r2_3_0_copyload;
 common_ret:
     return r3_04;
@@ -5933,7 +5933,7 @@ int32_t dfuse_file_image(const uint8_t *file, size_t length, uint8_t setting, st
     uint32_t r1_5_0_copyload, r4_0_0, common_ret_op;
     r13 = (unsigned char *)((uintptr_t)a3 + (uintptr_t)(size_t)((a3 == NULL) ? 4096 : 0));
     memset(r10, 0, 32);
-    dfuse_file_file_read(r10, (unsigned char *)((uintptr_t)a0 + (uintptr_t)(size_t)((a0 == NULL) ? 4096 : 0)), a1);
+    dfu_formats_dfuse_file_read(r10, (unsigned char *)((uintptr_t)a0 + (uintptr_t)(size_t)((a0 == NULL) ? 4096 : 0)), a1);
     uint8_t r23 = *r10;
     if (r23 != 0) {
         uint8_t r7_0_0_copyload = r10[1];
@@ -5963,8 +5963,8 @@ int32_t dfuse_file_image(const uint8_t *file, size_t length, uint8_t setting, st
             r5_9_0_2 = r5_9_0;
             for (;;) {
                 memset(r4, 0, 72);
-                if (r5_0_0_2 == 0) goto dfuse_file_targets_Targets_next_target_exit_thread;
-                dfuse_file_headings_take_heading(r4, (unsigned char *)(uintptr_t)r5_6_0_2, r5_9_0_2);
+                if (r5_0_0_2 == 0) goto dfu_formats_dfuse_targets_Targets_next_target_exit_thread;
+                dfu_formats_dfuse_headings_take_heading(r4, (unsigned char *)(uintptr_t)r5_6_0_2, r5_9_0_2);
                 uint8_t r31 = *r4;
                 if (r31 == 1) goto after_1_critedge;
                 uint8_t r1_0_0_copyload = *r32;
@@ -5986,9 +5986,9 @@ int32_t dfuse_file_image(const uint8_t *file, size_t length, uint8_t setting, st
             for (;;) {
                 memset(r4_2, 0, 48);
                 if (r4_0_0 == 0) break;
-                dfuse_file_elements_take_element(r4_2, (unsigned char *)(uintptr_t)r4_57_0, r4_7_0);
+                dfu_formats_dfuse_elements_take_element(r4_2, (unsigned char *)(uintptr_t)r4_57_0, r4_7_0);
                 uint8_t r25 = *r4_2;
-                if (r25 != 0) goto dfuse_file_elements_Elements_next_element_exit;
+                if (r25 != 0) goto dfu_formats_dfuse_elements_Elements_next_element_exit;
                 r4_57_8_copyload = (size_t)load64(v1);
                 r4_7_8_copyload = load64(r4_7_8_sroa_idx);
                 memcpy(r8_4, r26, 24);
@@ -6000,7 +6000,7 @@ int32_t dfuse_file_image(const uint8_t *file, size_t length, uint8_t setting, st
                 r5_0 = r5_0 + 1;
             }
             goto arm_10;
-dfuse_file_elements_Elements_next_element_exit:
+dfu_formats_dfuse_elements_Elements_next_element_exit:
 arm_10:
             r5_0_0 = r35;
             r5_6_0 = r1_8_0_0_copyload;
@@ -6008,7 +6008,7 @@ arm_10:
             r4_0_off0 = 1;
             r3_0 = r5_0;
         }
-dfuse_file_targets_Targets_next_target_exit_thread:
+dfu_formats_dfuse_targets_Targets_next_target_exit_thread:
         goto after_1;
 after_1_critedge:
 after_1:
@@ -6034,7 +6034,7 @@ int32_t dfuse_read_map(const uint8_t *text, size_t length, struct dfuse_map *out
     _Alignas(8) unsigned char r5[800];
     uint32_t r6_0;
     memset(r5, 0, 800);
-    dfuse_memory_map_Map_read(r5, (unsigned char *)((uintptr_t)a0 + (uintptr_t)(size_t)((a0 == NULL) ? 4096 : 0)), a1);
+    dfu_formats_memory_map_Map_read(r5, (unsigned char *)((uintptr_t)a0 + (uintptr_t)(size_t)((a0 == NULL) ? 4096 : 0)), a1);
     uint8_t r13 = *r5;
     if (r13 != 0) {
         uint8_t r4_0_0_copyload = r5[1];
@@ -6061,7 +6061,7 @@ int32_t dfuse_read_range(const uint8_t *text, size_t length, uint32_t number, st
     size_t r33;
     uint32_t common_ret_op;
     memset(r7, 0, 800);
-    dfuse_memory_map_Map_read(r7, (unsigned char *)((uintptr_t)a0 + (uintptr_t)(size_t)((a0 == NULL) ? 4096 : 0)), a1);
+    dfu_formats_memory_map_Map_read(r7, (unsigned char *)((uintptr_t)a0 + (uintptr_t)(size_t)((a0 == NULL) ? 4096 : 0)), a1);
     uint8_t r19 = *r7;
     if (r19 != 0) {
         uint8_t r5_0_0_copyload = r7[1];
@@ -6143,91 +6143,91 @@ uint32_t dfu_image_look(const uint8_t *file, size_t length, const uint8_t *name,
     uint32_t r9_0_2, r1_0_6_extract_trunc, r7_0_2, r7_0_3, r9_0, r7_0;
     r4 = (unsigned char *)((uintptr_t)a0 + (uintptr_t)(size_t)((a0 == NULL) ? 4096 : 0));
     r13 = (unsigned char *)((uintptr_t)a2 + (uintptr_t)(size_t)((a2 == NULL) ? 4096 : 0));
-    uint8_t r78 = dfu_images_endings_ends_in(PLACE(static_2), 4, r13, a3);
+    uint8_t r78 = dfu_formats_images_endings_ends_in(PLACE(static_2), 4, r13, a3);
     if (r78) {
         r7_7_0 = 0;
         r7_4_0 = 1;
         r7_0_0 = 1;
     }
     else {
-        uint8_t r94 = dfu_images_endings_ends_in(PLACE(static_3), 4, r13, a3);
+        uint8_t r94 = dfu_formats_images_endings_ends_in(PLACE(static_3), 4, r13, a3);
         if (r94) {
             r7_7_0 = 0;
             r7_4_0 = 0;
             r7_0_0 = 1;
         }
         else {
-            uint8_t r107 = dfu_images_endings_ends_in(PLACE(static_4), 5, r13, a3);
+            uint8_t r107 = dfu_formats_images_endings_ends_in(PLACE(static_4), 5, r13, a3);
             if (r107) {
                 r7_7_0 = 0;
                 r7_4_0 = 0;
                 r7_0_0 = 1;
             }
             else {
-                uint8_t r123 = dfu_images_endings_ends_in(PLACE(static_5), 4, r13, a3);
+                uint8_t r123 = dfu_formats_images_endings_ends_in(PLACE(static_5), 4, r13, a3);
                 if (r123) {
                     r7_7_0 = 0;
                     r7_4_0 = 0;
                     r7_0_0 = 1;
                 }
                 else {
-                    uint8_t r139 = dfu_images_endings_ends_in(PLACE(static_6), 4, r13, a3);
+                    uint8_t r139 = dfu_formats_images_endings_ends_in(PLACE(static_6), 4, r13, a3);
                     if (r139) {
                         r7_7_0 = 0;
                         r7_4_0 = 0;
                         r7_0_0 = 1;
                     }
                     else {
-                        uint8_t r159 = dfu_images_endings_ends_in(PLACE(static_7), 4, r13, a3);
+                        uint8_t r159 = dfu_formats_images_endings_ends_in(PLACE(static_7), 4, r13, a3);
                         if (r159) {
                             r7_7_0 = 1;
                             r7_4_0 = 0;
                             r7_0_0 = 1;
                         }
                         else {
-                            uint8_t r172 = dfu_images_endings_ends_in(PLACE(static_8), 4, r13, a3);
+                            uint8_t r172 = dfu_formats_images_endings_ends_in(PLACE(static_8), 4, r13, a3);
                             if (r172) {
                                 r7_7_0 = 1;
                                 r7_4_0 = 0;
                                 r7_0_0 = 1;
                             }
                             else {
-                                uint8_t r188 = dfu_images_endings_ends_in(PLACE(static_9), 4, r13, a3);
+                                uint8_t r188 = dfu_formats_images_endings_ends_in(PLACE(static_9), 4, r13, a3);
                                 if (r188) {
                                     r7_7_0 = 1;
                                     r7_4_0 = 0;
                                     r7_0_0 = 1;
                                 }
                                 else {
-                                    uint8_t r204 = dfu_images_endings_ends_in(PLACE(static_10), 5, r13, a3);
+                                    uint8_t r204 = dfu_formats_images_endings_ends_in(PLACE(static_10), 5, r13, a3);
                                     if (r204) {
                                         r7_7_0 = 1;
                                         r7_4_0 = 0;
                                         r7_0_0 = 1;
                                     }
                                     else {
-                                        uint8_t r220 = dfu_images_endings_ends_in(PLACE(static_11), 4, r13, a3);
+                                        uint8_t r220 = dfu_formats_images_endings_ends_in(PLACE(static_11), 4, r13, a3);
                                         if (r220) {
                                             r7_7_0 = 1;
                                             r7_4_0 = 0;
                                             r7_0_0 = 1;
                                         }
                                         else {
-                                            uint8_t r240 = dfu_images_endings_ends_in(PLACE(static_12), 4, r13, a3);
+                                            uint8_t r240 = dfu_formats_images_endings_ends_in(PLACE(static_12), 4, r13, a3);
                                             if (r240) {
                                                 r7_7_0 = 2;
                                                 r7_4_0 = 0;
                                                 r7_0_0 = 1;
                                             }
                                             else {
-                                                uint8_t r257 = dfu_images_endings_ends_in(PLACE(static_13), 4, r13, a3);
+                                                uint8_t r257 = dfu_formats_images_endings_ends_in(PLACE(static_13), 4, r13, a3);
                                                 if (r257) {
                                                     r7_7_0 = 3;
                                                     r7_4_0 = 0;
                                                     r7_0_0 = 1;
                                                 }
                                                 else {
-                                                    uint8_t r270 = dfu_images_endings_ends_in(PLACE(static_14), 4, r13, a3);
+                                                    uint8_t r270 = dfu_formats_images_endings_ends_in(PLACE(static_14), 4, r13, a3);
                                                     r7_7_0 = (size_t)(r270 ? 3 : 0);
                                                     r7_4_0 = 0;
                                                     r7_0_0 = r270;
@@ -6292,34 +6292,34 @@ uint32_t dfu_image_look(const uint8_t *file, size_t length, const uint8_t *name,
             break;
         default:
             r3_0_0_in_lcssa = r3_0_0_in;
-            goto dfu_images_text_unblanked_exit;
+            goto dfu_formats_images_text_unblanked_exit;
         }
     }
-dfu_images_text_unblanked_exit:;
+dfu_formats_images_text_unblanked_exit:;
     uint8_t r72 = core_slice_reads_slice_T_starts_with_i8_core_cmp_numbers_U8PartialEq(r4, a1, PLACE(static_15), 5);
     if (!r72) {
         if (!r18) {
             r23 = *r3_0_0_in_lcssa;
             if (r23 == 58) {
-                uint8_t r37 = dfu_images_looks_has_digits(r3_0_0_in_lcssa + 1, r3_7_0 - 1);
+                uint8_t r37 = dfu_formats_images_looks_has_digits(r3_0_0_in_lcssa + 1, r3_7_0 - 1);
                 if (!r37) {
-                    uint8_t r44 = dfu_images_text_is_text(r4, a1);
+                    uint8_t r44 = dfu_formats_images_text_is_text(r4, a1);
                     if (!r44) goto else_8;
                 }
                 memset(r4_2, 0, 24);
-                dfu_images_places_bad_from(r4_2, 58, r4_0_0_in, r4_4_0);
+                dfu_formats_images_places_bad_from(r4_2, 58, r4_0_0_in, r4_4_0);
                 r14_4_0_2 = 1;
-                goto dfu_images_places_bad_place_exit;
+                goto dfu_formats_images_places_bad_place_exit;
             }
             if ((r3_7_0 != 1) & (r23 == 83)) {
                 uint8_t r28 = r3_0_0_in_lcssa[1];
                 if ((uint8_t)(r28 + 208) < 10) {
-                    uint8_t r55 = dfu_images_looks_has_digits(r3_0_0_in_lcssa + 2, (uint64_t)r3_7_0 - 2);
+                    uint8_t r55 = dfu_formats_images_looks_has_digits(r3_0_0_in_lcssa + 2, (uint64_t)r3_7_0 - 2);
                     if (r55) {
                         memset(r4_2, 0, 24);
-                        dfu_images_places_bad_from(r4_2, 83, r4_0_0_in, r4_4_0);
+                        dfu_formats_images_places_bad_from(r4_2, 83, r4_0_0_in, r4_4_0);
                         r14_4_0_2 = 257;
-                        goto dfu_images_places_bad_place_exit;
+                        goto dfu_formats_images_places_bad_place_exit;
                     }
                 }
             }
@@ -6333,17 +6333,17 @@ else_8:;
                 uint8_t r137 = core_slice_reads_slice_T_starts_with_i8_core_cmp_numbers_U8PartialEq(r4, a1, PLACE(static_18), 4);
                 if (r137) {
                     r14_4_0 = 258;
-                    goto dfu_images_looks_look_at_exit_thread;
+                    goto dfu_formats_images_looks_look_at_exit_thread;
                 }
                 uint8_t r155 = core_slice_reads_slice_T_starts_with_i8_core_cmp_numbers_U8PartialEq(r4, a1, PLACE(static_19), 2);
                 if (r155) {
                     r14_4_0 = 514;
-                    goto dfu_images_looks_look_at_exit_thread;
+                    goto dfu_formats_images_looks_look_at_exit_thread;
                 }
-                uint8_t r167 = dfu_images_text_is_text(r4, a1);
+                uint8_t r167 = dfu_formats_images_text_is_text(r4, a1);
                 if (r167) {
                     r14_4_0 = 770;
-                    goto dfu_images_looks_look_at_exit_thread;
+                    goto dfu_formats_images_looks_look_at_exit_thread;
                 }
                 if (r7_0_0 == 0) {
                     v13 = 0;
@@ -6356,13 +6356,13 @@ else_8:;
                 r9_4_5_0 = 0;
                 r14_4_0_3 = ((r7_4_0 << 16) | (r7_7_0 << 24)) | 1026;
                 r9_0_0_0 = 0;
-                goto dfu_images_looks_look_at_exit;
+                goto dfu_formats_images_looks_look_at_exit;
             }
             r14_4_0_ph36 = 769;
         }
         memset(r4_2, 0, 24);
         r14_4_0_2 = r14_4_0_ph36;
-dfu_images_places_bad_place_exit:;
+dfu_formats_images_places_bad_place_exit:;
         uint8_t r28_2 = *r4_2;
         uint64_t r9_4_0_0_copyload = load64(r4_2 + 8);
         uint64_t r9_4_5_0_copyload = load64(r4_2 + 16);
@@ -6370,7 +6370,7 @@ dfu_images_places_bad_place_exit:;
         r9_4_5_0 = r9_4_5_0_copyload;
         r14_4_0_3 = r14_4_0_2;
         r9_0_0_0 = r28_2 == 1;
-dfu_images_looks_look_at_exit:
+dfu_formats_images_looks_look_at_exit:
         r0_0_5_mask = (uint64_t)r14_4_0_3 + ((uint64_t)(size_t)r7_0_0 << 32);
         r0_0_6 = r0_0_5_mask | (((uint64_t)r7_4_0 << 40) | ((uint64_t)r7_7_0 << 48));
         r1_0_1_extract_shift = (size_t)(r0_0_6 >> 8);
@@ -6403,7 +6403,7 @@ dfu_images_looks_look_at_exit:
         }
     }
     r14_4_0 = 2;
-dfu_images_looks_look_at_exit_thread:;
+dfu_formats_images_looks_look_at_exit_thread:;
     uint64_t r0_0_5_mask_4 = (uint64_t)r14_4_0 | ((uint64_t)(size_t)r7_0_0 << 32);
     uint64_t r0_0_6_4 = r0_0_5_mask_4 | (((uint64_t)r7_4_0 << 40) | ((uint64_t)r7_7_0 << 48));
     r1_0_1_extract_shift_2 = (size_t)(r0_0_6_4 >> 8);
@@ -6738,7 +6738,7 @@ int32_t dfuse_read_file(const uint8_t *file, size_t length, struct dfuse_file *o
     unsigned char *r32, *r1_8_0_r32_sroa_idx, *r1_8_5_0_r1_8_0_r32_sroa_idx_sroa_idx;
     uint32_t v2, r6_0;
     memset(r5, 0, 32);
-    dfuse_file_file_read(r5, (unsigned char *)((uintptr_t)a0 + (uintptr_t)(size_t)((a0 == NULL) ? 4096 : 0)), a1);
+    dfu_formats_dfuse_file_read(r5, (unsigned char *)((uintptr_t)a0 + (uintptr_t)(size_t)((a0 == NULL) ? 4096 : 0)), a1);
     uint8_t r13 = *r5;
     if (r13 != 0) {
         uint8_t r4_0_0_copyload = r5[1];
@@ -6754,7 +6754,7 @@ int32_t dfuse_read_file(const uint8_t *file, size_t length, struct dfuse_file *o
         memset(r4, 0, 72);
         if (r3_5_0_copyload == 0) v2 = 256;
         else {
-            dfuse_file_headings_take_heading(r4, (unsigned char *)(uintptr_t)r3_61_0_copyload, r3_7_0_copyload);
+            dfu_formats_dfuse_headings_take_heading(r4, (unsigned char *)(uintptr_t)r3_61_0_copyload, r3_7_0_copyload);
             uint8_t r31 = *r4;
             if (r31 == 1) v2 = 256;
             else {
@@ -6771,7 +6771,7 @@ int32_t dfuse_read_file(const uint8_t *file, size_t length, struct dfuse_file *o
                     r1_0_0 = (uint8_t)(r1_0_0_in + 255);
                     memset(r4_2, 0, 72);
                     if (r1_0_0 == 0) break;
-                    dfuse_file_headings_take_heading(r4_2, (unsigned char *)(uintptr_t)r1_9_0, r1_14_0);
+                    dfu_formats_dfuse_headings_take_heading(r4_2, (unsigned char *)(uintptr_t)r1_9_0, r1_14_0);
                     uint8_t r31_2 = *r4_2;
                     if (r31_2 == 1) goto return_5_critedge;
                     uint8_t r1_0_0_copyload_2 = *r32;
@@ -7517,7 +7517,7 @@ int32_t dfuse_begin(struct dfuse_session *session, const uint8_t *map, size_t ma
     memset(r16_5, 0, 46);
     memset(r16_10, 0, 5);
     memset(r20, 0, 64);
-    dfuse_memory_map_Map_read(r11, (unsigned char *)((uintptr_t)a1 + (uintptr_t)(size_t)((a1 == NULL) ? 4096 : 0)), a2);
+    dfu_formats_memory_map_Map_read(r11, (unsigned char *)((uintptr_t)a1 + (uintptr_t)(size_t)((a1 == NULL) ? 4096 : 0)), a2);
     uint8_t r26 = *r11;
     if (r26 != 0) {
         uint8_t r7_0_0_copyload = r11[1];
@@ -7717,14 +7717,15 @@ int32_t dfuse_take(struct dfuse_session *session, const uint8_t *map, size_t map
     unsigned char *r22, *r31, *v3, *v4, *v5, *r23, *r23_2;
     size_t r3_16_0_0, r3_16_8_0, r18;
     uint8_t r3_9_0_0, r5_0_0_copyload, r5_10_0_copyload, r5_14_0_copyload, r5_5_3_0, r5_5_7_0, r5_0_0, r13_10_3_0, r13_10_9_0, r13_0_0, r13_6_0, r17_10_3_0;
-    uint8_t r17_10_7_0, r17_0_0, r17_8_0, v10, v11, v12, v16, v17, v18, v19, v20, v21;
-    uint8_t v30, v31, v32, v33, v34, v35, v36, v37, v38, v43, v44, v45;
-    uint8_t v46, v47, v48, r12_23_0_in, r12_0_0, r12_108_0_in, r12_17_0_in, r17_0_0_2, r17_16_0, r17_31_0;
-    uint64_t r5_6_0_copyload, r5_8_0_copyload, r5_13_0_copyload, r9_21_6_0_copyload, r9_21_0_0_copyload, r9_19_8_copyload20, r9_17_8_copyload19, r9_1317_8_copyload18, r33, r17_94_8_copyload239, r17_83_8_copyload234, r17_72_8_copyload231;
-    uint64_t r17_61_8_copyload228, r17_46223_8_copyload225, r14_4, r11_5_0, r11_9_0, r17_94_8_copyload240, r17_83_8_copyload235, r17_72_8_copyload232, r17_61_8_copyload229, r17_46223_8_copyload226, r12_26_0, r12_13_0;
-    uint64_t r12_15_0, r12_19_0, r17_46223_0, r17_61_0, r17_72_0, r17_83_0, r17_94_0;
-    uint32_t r5_18_0_copyload, r5_5_6_0, r13_10_8_0, r17_10_6_0, r9_25_8_copyload22, r9_23_8_copyload21, r17_110_8_copyload247, r17_100_8_copyload244, r17_110_8_copyload248, r17_100_8_copyload245, r12_29_0, r12_21_0;
-    uint32_t r17_100_0, r17_110_0, common_ret_op;
+    uint8_t r17_10_7_0, r17_0_0, r17_8_0, v10, v11, v12, r9_0_0, r9_5_0, r9_9_0, r9_1319_0_in, v16, v17;
+    uint8_t v18, v19, v20, v21, v30, v31, v32, v33, v34, v35, v36, v37;
+    uint8_t v38, v43, v44, v45, v46, v47, v48, r12_23_0_in, r12_0_0, r12_108_0_in, r12_17_0_in, r17_0_0_2;
+    uint8_t r17_16_0, r17_31_0;
+    uint64_t r5_6_0_copyload, r5_8_0_copyload, r5_13_0_copyload, r9_23_8_copyload26, r9_21_8_copyload25, r9_19_8_copyload24, r9_17_8_copyload23, r9_1321_8_copyload22, r9_17_0, r9_20_0, r33, r17_94_8_copyload244;
+    uint64_t r17_83_8_copyload241, r17_72_8_copyload238, r17_61_8_copyload235, r17_46230_8_copyload232, r14_4, r11_5_0, r11_9_0, r17_94_8_copyload245, r17_83_8_copyload242, r17_72_8_copyload239, r17_61_8_copyload236, r17_46230_8_copyload233;
+    uint64_t r12_26_0, r12_13_0, r12_15_0, r12_19_0, r17_46230_0, r17_61_0, r17_72_0, r17_83_0, r17_94_0;
+    uint32_t r5_18_0_copyload, r5_5_6_0, r13_10_8_0, r17_10_6_0, r9_27_8_copyload28, r9_25_8_copyload27, r9_28_0, r9_31_0, r17_111_8_copyload250, r17_101_8_copyload247, r17_111_8_copyload251, r17_101_8_copyload248;
+    uint32_t r12_29_0, r12_21_0, r17_101_0, r17_111_0, common_ret_op;
     uint8_t common_ret_op_2;
     uint16_t r8_3_0_copyload, r8_5_0_copyload;
     r22 = (unsigned char *)((uintptr_t)a6 + (uintptr_t)(size_t)((a6 == NULL) ? 4096 : 0));
@@ -7999,13 +8000,13 @@ int32_t dfuse_take(struct dfuse_session *session, const uint8_t *map, size_t map
                             r17_0_0_2 = 0;
                             r17_16_0 = 0;
                             r17_31_0 = 0;
-                            r17_46223_0 = r18;
+                            r17_46230_0 = r18;
                             r17_61_0 = r5_6_0_copyload;
                             r17_72_0 = r5_8_0_copyload;
                             r17_83_0 = 0;
                             r17_94_0 = 0;
-                            r17_100_0 = 1;
-                            r17_110_0 = 0;
+                            r17_101_0 = 1;
+                            r17_111_0 = 0;
                             break;
                         case 1:
                         case 2:
@@ -8015,13 +8016,13 @@ int32_t dfuse_take(struct dfuse_session *session, const uint8_t *map, size_t map
                             r17_0_0_2 = 0;
                             r17_16_0 = 0;
                             r17_31_0 = 0;
-                            r17_46223_0 = r18;
+                            r17_46230_0 = r18;
                             r17_61_0 = r5_6_0_copyload;
                             r17_72_0 = r5_8_0_copyload;
                             r17_83_0 = 0;
                             r17_94_0 = 0;
-                            r17_100_0 = 0;
-                            r17_110_0 = 0;
+                            r17_101_0 = 0;
+                            r17_111_0 = 0;
                             break;
                         default: never();
                         }
@@ -8036,13 +8037,13 @@ int32_t dfuse_take(struct dfuse_session *session, const uint8_t *map, size_t map
                             switch (r17_8_0) {
                             case 0:
                             case 1:
-                                r9_21_6_0_copyload = 0;
-                                r9_21_0_0_copyload = 0;
-                                r9_25_8_copyload22 = 0;
-                                r9_23_8_copyload21 = 0;
-                                r9_19_8_copyload20 = 0;
-                                r9_17_8_copyload19 = 0;
-                                r9_1317_8_copyload18 = 0;
+                                r9_27_8_copyload28 = 0;
+                                r9_25_8_copyload27 = 0;
+                                r9_23_8_copyload26 = 0;
+                                r9_21_8_copyload25 = 0;
+                                r9_19_8_copyload24 = 0;
+                                r9_17_8_copyload23 = 0;
+                                r9_1321_8_copyload22 = 0;
                                 v10 = 0;
                                 v11 = 6;
                                 v12 = 1;
@@ -8050,24 +8051,24 @@ int32_t dfuse_take(struct dfuse_session *session, const uint8_t *map, size_t map
                             case 2: {
                                 dfuse_host_plan_Plan_settle(r9_3, r31, r1_2, 0, 0);
                                 uint8_t pre = *r9_3;
-                                uint8_t pre8 = r9_3[1];
-                                uint8_t pre9 = r9_3[2];
-                                uint64_t r9_1317_8_copyload18_pre = load64(r9_3 + 8);
-                                uint64_t r9_17_8_copyload19_pre = load64(r9_3 + 16);
-                                uint64_t r9_19_8_copyload20_pre = load64(r9_3 + 24);
-                                uint32_t r9_23_8_copyload21_pre = load32(r9_3 + 48);
-                                uint32_t r9_25_8_copyload22_pre = load32(r9_3 + 52);
-                                uint64_t r9_21_0_0_copyload_pre = load64(r9_3 + 32);
-                                uint64_t r9_21_6_0_copyload_pre = load64(r9_3 + 40);
-                                r9_21_6_0_copyload = r9_21_6_0_copyload_pre;
-                                r9_21_0_0_copyload = r9_21_0_0_copyload_pre;
-                                r9_25_8_copyload22 = r9_25_8_copyload22_pre;
-                                r9_23_8_copyload21 = r9_23_8_copyload21_pre;
-                                r9_19_8_copyload20 = r9_19_8_copyload20_pre;
-                                r9_17_8_copyload19 = r9_17_8_copyload19_pre;
-                                r9_1317_8_copyload18 = r9_1317_8_copyload18_pre;
-                                v10 = pre9;
-                                v11 = pre8;
+                                uint8_t pre6 = r9_3[1];
+                                uint8_t pre7 = r9_3[2];
+                                uint64_t r9_1321_8_copyload22_pre = load64(r9_3 + 8);
+                                uint64_t r9_17_8_copyload23_pre = load64(r9_3 + 16);
+                                uint64_t r9_19_8_copyload24_pre = load64(r9_3 + 24);
+                                uint64_t r9_21_8_copyload25_pre = load64(r9_3 + 32);
+                                uint64_t r9_23_8_copyload26_pre = load64(r9_3 + 40);
+                                uint32_t r9_25_8_copyload27_pre = load32(r9_3 + 48);
+                                uint32_t r9_27_8_copyload28_pre = load32(r9_3 + 52);
+                                r9_27_8_copyload28 = r9_27_8_copyload28_pre;
+                                r9_25_8_copyload27 = r9_25_8_copyload27_pre;
+                                r9_23_8_copyload26 = r9_23_8_copyload26_pre;
+                                r9_21_8_copyload25 = r9_21_8_copyload25_pre;
+                                r9_19_8_copyload24 = r9_19_8_copyload24_pre;
+                                r9_17_8_copyload23 = r9_17_8_copyload23_pre;
+                                r9_1321_8_copyload22 = r9_1321_8_copyload22_pre;
+                                v10 = pre7;
+                                v11 = pre6;
                                 v12 = pre;
                                 break;
                             }
@@ -8075,13 +8076,13 @@ int32_t dfuse_take(struct dfuse_session *session, const uint8_t *map, size_t map
                             case 5:
                             case 6:
                             case 9:
-                                r9_21_6_0_copyload = 0;
-                                r9_21_0_0_copyload = 0;
-                                r9_25_8_copyload22 = 0;
-                                r9_23_8_copyload21 = 0;
-                                r9_19_8_copyload20 = r5_8_0_copyload;
-                                r9_17_8_copyload19 = r5_6_0_copyload;
-                                r9_1317_8_copyload18 = r18;
+                                r9_27_8_copyload28 = 0;
+                                r9_25_8_copyload27 = 0;
+                                r9_23_8_copyload26 = 0;
+                                r9_21_8_copyload25 = 0;
+                                r9_19_8_copyload24 = r5_8_0_copyload;
+                                r9_17_8_copyload23 = r5_6_0_copyload;
+                                r9_1321_8_copyload22 = r18;
                                 v10 = 0;
                                 v11 = 0;
                                 v12 = 0;
@@ -8090,13 +8091,13 @@ int32_t dfuse_take(struct dfuse_session *session, const uint8_t *map, size_t map
                             case 7:
                             case 8:
                             case 10:
-                                r9_21_6_0_copyload = 0;
-                                r9_21_0_0_copyload = 0;
-                                r9_25_8_copyload22 = 0;
-                                r9_23_8_copyload21 = 2;
-                                r9_19_8_copyload20 = r5_8_0_copyload;
-                                r9_17_8_copyload19 = r5_6_0_copyload;
-                                r9_1317_8_copyload18 = r18;
+                                r9_27_8_copyload28 = 0;
+                                r9_25_8_copyload27 = 2;
+                                r9_23_8_copyload26 = 0;
+                                r9_21_8_copyload25 = 0;
+                                r9_19_8_copyload24 = r5_8_0_copyload;
+                                r9_17_8_copyload23 = r5_6_0_copyload;
+                                r9_1321_8_copyload22 = r18;
                                 v10 = 0;
                                 v11 = 0;
                                 v12 = 0;
@@ -8106,25 +8107,25 @@ int32_t dfuse_take(struct dfuse_session *session, const uint8_t *map, size_t map
                             r17_0_0_2 = v12;
                             r17_16_0 = v11;
                             r17_31_0 = v10;
-                            r17_46223_0 = r9_1317_8_copyload18;
-                            r17_61_0 = r9_17_8_copyload19;
-                            r17_72_0 = r9_19_8_copyload20;
-                            r17_83_0 = r9_21_0_0_copyload;
-                            r17_94_0 = r9_21_6_0_copyload;
-                            r17_100_0 = r9_23_8_copyload21;
-                            r17_110_0 = r9_25_8_copyload22;
+                            r17_46230_0 = r9_1321_8_copyload22;
+                            r17_61_0 = r9_17_8_copyload23;
+                            r17_72_0 = r9_19_8_copyload24;
+                            r17_83_0 = r9_21_8_copyload25;
+                            r17_94_0 = r9_23_8_copyload26;
+                            r17_101_0 = r9_25_8_copyload27;
+                            r17_111_0 = r9_27_8_copyload28;
                             break;
                         case 4:
                             r17_0_0_2 = 0;
                             r17_16_0 = 0;
                             r17_31_0 = 0;
-                            r17_46223_0 = r18;
+                            r17_46230_0 = r18;
                             r17_61_0 = r5_6_0_copyload;
                             r17_72_0 = r5_8_0_copyload;
                             r17_83_0 = 0;
                             r17_94_0 = 0;
-                            r17_100_0 = 2;
-                            r17_110_0 = 0;
+                            r17_101_0 = 2;
+                            r17_111_0 = 0;
                             break;
                         case 0:
                         case 1:
@@ -8134,13 +8135,13 @@ int32_t dfuse_take(struct dfuse_session *session, const uint8_t *map, size_t map
                             r17_0_0_2 = 0;
                             r17_16_0 = 0;
                             r17_31_0 = 0;
-                            r17_46223_0 = r18;
+                            r17_46230_0 = r18;
                             r17_61_0 = r5_6_0_copyload;
                             r17_72_0 = r5_8_0_copyload;
                             r17_83_0 = 0;
                             r17_94_0 = 0;
-                            r17_100_0 = 1;
-                            r17_110_0 = 0;
+                            r17_101_0 = 1;
+                            r17_111_0 = 0;
                             break;
                         default: never();
                         }
@@ -8151,216 +8152,193 @@ int32_t dfuse_take(struct dfuse_session *session, const uint8_t *map, size_t map
                             switch (r17_10_7_0) {
                             case 0:
                             case 1:
-                                r17_0_0_2 = 1;
-                                r17_16_0 = 6;
-                                r17_31_0 = 0;
-                                r17_46223_0 = 0;
-                                r17_61_0 = 0;
-                                r17_72_0 = 0;
-                                r17_83_0 = 0;
-                                r17_94_0 = 0;
-                                r17_100_0 = 0;
-                                r17_110_0 = 0;
+                                r9_0_0 = 1;
+                                r9_5_0 = 6;
+                                r9_9_0 = 0;
+                                r9_1319_0_in = 0;
+                                r9_17_0 = 0;
+                                r9_20_0 = 0;
+                                r9_28_0 = 0;
+                                r9_31_0 = 0;
                                 break;
                             case 2:
-                                r17_0_0_2 = 0;
-                                r17_16_0 = 0;
-                                r17_31_0 = 0;
-                                r17_46223_0 = r18;
-                                r17_61_0 = r5_6_0_copyload;
-                                r17_72_0 = r5_8_0_copyload;
-                                r17_83_0 = 0;
-                                r17_94_0 = 0;
-                                r17_100_0 = 1;
-                                r17_110_0 = 0;
+                                r9_0_0 = 0;
+                                r9_5_0 = 0;
+                                r9_9_0 = 0;
+                                r9_1319_0_in = r5_0_0_copyload;
+                                r9_17_0 = r5_6_0_copyload;
+                                r9_20_0 = r5_8_0_copyload;
+                                r9_28_0 = 1;
+                                r9_31_0 = 0;
                                 break;
                             case 5:
                             case 9:
-                                r17_0_0_2 = 0;
-                                r17_16_0 = 0;
-                                r17_31_0 = 0;
-                                r17_46223_0 = r18;
-                                r17_61_0 = r5_6_0_copyload;
-                                r17_72_0 = r5_8_0_copyload;
-                                r17_83_0 = 0;
-                                r17_94_0 = 0;
-                                r17_100_0 = 0;
-                                r17_110_0 = 0;
+                                r9_0_0 = 0;
+                                r9_5_0 = 0;
+                                r9_9_0 = 0;
+                                r9_1319_0_in = r5_0_0_copyload;
+                                r9_17_0 = r5_6_0_copyload;
+                                r9_20_0 = r5_8_0_copyload;
+                                r9_28_0 = 0;
+                                r9_31_0 = 0;
                                 break;
                             case 10:
                                 switch (r5_0_0_copyload) {
                                 case 0:
-                                    r17_0_0_2 = r5_0_0_copyload;
-                                    r17_16_0 = r5_0_0_copyload;
-                                    r17_31_0 = r5_0_0_copyload;
-                                    r17_46223_0 = 0;
-                                    r17_61_0 = r5_6_0_copyload;
-                                    r17_72_0 = r5_8_0_copyload;
-                                    r17_83_0 = 0;
-                                    r17_94_0 = 0;
-                                    r17_100_0 = 4;
-                                    r17_110_0 = 0;
-                                    break;
+                                    r9_0_0 = r5_0_0_copyload;
+                                    r9_5_0 = r5_0_0_copyload;
+                                    r9_9_0 = r5_0_0_copyload;
+                                    r9_1319_0_in = r5_0_0_copyload;
+                                    r9_17_0 = r5_6_0_copyload;
+                                    r9_20_0 = r5_8_0_copyload;
+                                    r9_28_0 = 4;
+                                    r9_31_0 = 0;
+                                    goto dfuse_host_clearing_on_ask_status_exit;
                                 case 3:
                                 case 5:
                                     switch (r17_10_3_0) {
-                                    case 11:
-                                        r17_0_0_2 = 1;
-                                        r17_16_0 = 3;
-                                        r17_31_0 = 0;
-                                        r17_46223_0 = 0;
-                                        r17_61_0 = 0;
-                                        r17_72_0 = 0;
-                                        r17_83_0 = 0;
-                                        r17_94_0 = 0;
-                                        r17_100_0 = 0;
-                                        r17_110_0 = 0;
-                                        break;
+                                    case 11: break;
                                     case 15:
-                                        r17_0_0_2 = 0;
-                                        r17_16_0 = 0;
-                                        r17_31_0 = 0;
-                                        r17_46223_0 = r18;
-                                        r17_61_0 = r5_6_0_copyload;
-                                        r17_72_0 = r5_8_0_copyload;
-                                        r17_83_0 = 0;
-                                        r17_94_0 = 0;
-                                        r17_100_0 = 4;
-                                        r17_110_0 = 0;
-                                        break;
+                                        r9_0_0 = 0;
+                                        r9_5_0 = 0;
+                                        r9_9_0 = 0;
+                                        r9_1319_0_in = r5_0_0_copyload;
+                                        r9_17_0 = r5_6_0_copyload;
+                                        r9_20_0 = r5_8_0_copyload;
+                                        r9_28_0 = 4;
+                                        r9_31_0 = 0;
+                                        goto dfuse_host_clearing_on_ask_status_exit;
                                     default:
-                                        r17_0_0_2 = 1;
-                                        r17_16_0 = 2;
-                                        r17_31_0 = r17_10_3_0;
-                                        r17_46223_0 = 0;
-                                        r17_61_0 = 0;
-                                        r17_72_0 = 0;
-                                        r17_83_0 = 0;
-                                        r17_94_0 = 0;
-                                        r17_100_0 = 0;
-                                        r17_110_0 = 0;
-                                        break;
+                                        r9_0_0 = 1;
+                                        r9_5_0 = 2;
+                                        r9_9_0 = r17_10_3_0;
+                                        r9_1319_0_in = 0;
+                                        r9_17_0 = 0;
+                                        r9_20_0 = 0;
+                                        r9_28_0 = 0;
+                                        r9_31_0 = 0;
+                                        goto dfuse_host_clearing_on_ask_status_exit;
                                     }
                                     break;
                                 case 1:
                                 case 2:
                                 case 4:
                                 case 6:
-                                    if (r17_10_3_0 == 11) {
-                                        r17_0_0_2 = 1;
-                                        r17_16_0 = 3;
-                                        r17_31_0 = 0;
-                                        r17_46223_0 = 0;
-                                        r17_61_0 = 0;
-                                        r17_72_0 = 0;
-                                        r17_83_0 = 0;
-                                        r17_94_0 = 0;
-                                        r17_100_0 = 0;
-                                        r17_110_0 = 0;
-                                    }
-                                    else {
-                                        r17_0_0_2 = 0;
-                                        r17_16_0 = 0;
-                                        r17_31_0 = 0;
-                                        r17_46223_0 = r18;
-                                        r17_61_0 = r5_6_0_copyload;
-                                        r17_72_0 = r5_8_0_copyload;
-                                        r17_83_0 = 0;
-                                        r17_94_0 = 0;
-                                        r17_100_0 = 4;
-                                        r17_110_0 = 0;
+                                    if (r17_10_3_0 != 11) {
+                                        r9_0_0 = 0;
+                                        r9_5_0 = 0;
+                                        r9_9_0 = 0;
+                                        r9_1319_0_in = r5_0_0_copyload;
+                                        r9_17_0 = r5_6_0_copyload;
+                                        r9_20_0 = r5_8_0_copyload;
+                                        r9_28_0 = 4;
+                                        r9_31_0 = 0;
+                                        goto dfuse_host_clearing_on_ask_status_exit;
                                     }
                                     break;
                                 default: never();
                                 }
+                                r9_0_0 = 1;
+                                r9_5_0 = 3;
+                                r9_9_0 = 0;
+                                r9_1319_0_in = 0;
+                                r9_17_0 = 0;
+                                r9_20_0 = 0;
+                                r9_28_0 = 0;
+                                r9_31_0 = 0;
                                 break;
                             case 3:
                             case 4:
                             case 6:
                             case 7:
                             case 8:
-                                r17_0_0_2 = 0;
-                                r17_16_0 = 0;
-                                r17_31_0 = 0;
-                                r17_46223_0 = r18;
-                                r17_61_0 = r5_6_0_copyload;
-                                r17_72_0 = r5_8_0_copyload;
-                                r17_83_0 = 0;
-                                r17_94_0 = 0;
-                                r17_100_0 = 3;
-                                r17_110_0 = r17_10_6_0;
+                                r9_0_0 = 0;
+                                r9_5_0 = 0;
+                                r9_9_0 = 0;
+                                r9_1319_0_in = r5_0_0_copyload;
+                                r9_17_0 = r5_6_0_copyload;
+                                r9_20_0 = r5_8_0_copyload;
+                                r9_28_0 = 3;
+                                r9_31_0 = r17_10_6_0;
                                 break;
                             default: never();
                             }
                             break;
                         case 4:
-                            r17_0_0_2 = 0;
-                            r17_16_0 = 0;
-                            r17_31_0 = 0;
-                            r17_46223_0 = r18;
-                            r17_61_0 = r5_6_0_copyload;
-                            r17_72_0 = r5_8_0_copyload;
-                            r17_83_0 = 0;
-                            r17_94_0 = 0;
-                            r17_100_0 = 3;
-                            r17_110_0 = 100;
+                            r9_0_0 = 0;
+                            r9_5_0 = 0;
+                            r9_9_0 = 0;
+                            r9_1319_0_in = r5_0_0_copyload;
+                            r9_17_0 = r5_6_0_copyload;
+                            r9_20_0 = r5_8_0_copyload;
+                            r9_28_0 = 3;
+                            r9_31_0 = 100;
                             break;
                         case 0:
                         case 2:
                         case 3:
                         case 5:
                         case 6:
-                            r17_0_0_2 = 0;
-                            r17_16_0 = 0;
-                            r17_31_0 = 0;
-                            r17_46223_0 = r18;
-                            r17_61_0 = r5_6_0_copyload;
-                            r17_72_0 = r5_8_0_copyload;
-                            r17_83_0 = 0;
-                            r17_94_0 = 0;
-                            r17_100_0 = 2;
-                            r17_110_0 = 0;
+                            r9_0_0 = 0;
+                            r9_5_0 = 0;
+                            r9_9_0 = 0;
+                            r9_1319_0_in = r5_0_0_copyload;
+                            r9_17_0 = r5_6_0_copyload;
+                            r9_20_0 = r5_8_0_copyload;
+                            r9_28_0 = 2;
+                            r9_31_0 = 0;
                             break;
                         default: never();
                         }
+dfuse_host_clearing_on_ask_status_exit:
+                        r17_0_0_2 = r9_0_0;
+                        r17_16_0 = r9_5_0;
+                        r17_31_0 = r9_9_0;
+                        r17_46230_0 = (size_t)r9_1319_0_in;
+                        r17_61_0 = r9_17_0;
+                        r17_72_0 = r9_20_0;
+                        r17_83_0 = 0;
+                        r17_94_0 = 0;
+                        r17_101_0 = r9_28_0;
+                        r17_111_0 = r9_31_0;
                         break;
                     case 3: {
                         uint8_t v14 = r17_0_0 == 6;
                         r17_0_0_2 = 0;
                         r17_16_0 = 0;
                         r17_31_0 = 0;
-                        r17_46223_0 = r18;
+                        r17_46230_0 = r18;
                         r17_61_0 = r5_6_0_copyload;
                         r17_72_0 = r5_8_0_copyload;
                         r17_83_0 = 0;
                         r17_94_0 = 0;
-                        r17_100_0 = (uint32_t)(v14 ? 1 : 3);
-                        r17_110_0 = (uint32_t)(v14 ? 0 : r5_18_0_copyload);
+                        r17_101_0 = (uint32_t)(v14 ? 1 : 3);
+                        r17_111_0 = (uint32_t)(v14 ? 0 : r5_18_0_copyload);
                         break;
                     }
                     case 4:
                         r17_0_0_2 = 0;
                         r17_16_0 = 0;
                         r17_31_0 = 0;
-                        r17_46223_0 = r18;
+                        r17_46230_0 = r18;
                         r17_61_0 = r5_6_0_copyload;
                         r17_72_0 = r5_8_0_copyload;
                         r17_83_0 = 0;
                         r17_94_0 = 0;
-                        r17_100_0 = 0;
-                        r17_110_0 = 0;
+                        r17_101_0 = 0;
+                        r17_111_0 = 0;
                         break;
                     case 5:
                         r17_0_0_2 = 0;
                         r17_16_0 = 0;
                         r17_31_0 = 0;
-                        r17_46223_0 = r18;
+                        r17_46230_0 = r18;
                         r17_61_0 = r5_6_0_copyload;
                         r17_72_0 = r5_8_0_copyload;
                         r17_83_0 = (size_t)r5_10_0_copyload;
                         r17_94_0 = r5_13_0_copyload;
-                        r17_100_0 = (uint32_t)((r17_0_0 == 0) ? 7 : 6);
-                        r17_110_0 = 0;
+                        r17_101_0 = (uint32_t)((r17_0_0 == 0) ? 7 : 6);
+                        r17_111_0 = 0;
                         break;
                     case 6: {
                         store64(r1_3, r18);
@@ -8456,23 +8434,23 @@ int32_t dfuse_take(struct dfuse_session *session, const uint8_t *map, size_t map
                             break;
                         default: never();
                         }
-                        uint64_t r17_46223_8_copyload224 = load64(r12_2 + 8);
-                        uint64_t r17_61_8_copyload227 = load64(r12_2 + 16);
-                        uint64_t r17_72_8_copyload230 = load64(r12_2 + 24);
-                        uint64_t r17_83_8_copyload233 = load64(r12_2 + 32);
-                        uint64_t r17_94_8_copyload238 = load64(r12_2 + 40);
-                        uint32_t r17_100_8_copyload243 = load32(r12_2 + 48);
-                        uint32_t r17_110_8_copyload246 = load32(r12_2 + 52);
+                        uint64_t r17_46230_8_copyload231 = load64(r12_2 + 8);
+                        uint64_t r17_61_8_copyload234 = load64(r12_2 + 16);
+                        uint64_t r17_72_8_copyload237 = load64(r12_2 + 24);
+                        uint64_t r17_83_8_copyload240 = load64(r12_2 + 32);
+                        uint64_t r17_94_8_copyload243 = load64(r12_2 + 40);
+                        uint32_t r17_101_8_copyload246 = load32(r12_2 + 48);
+                        uint32_t r17_111_8_copyload249 = load32(r12_2 + 52);
                         r17_0_0_2 = v21;
                         r17_16_0 = v20;
                         r17_31_0 = v19;
-                        r17_46223_0 = r17_46223_8_copyload224;
-                        r17_61_0 = r17_61_8_copyload227;
-                        r17_72_0 = r17_72_8_copyload230;
-                        r17_83_0 = r17_83_8_copyload233;
-                        r17_94_0 = r17_94_8_copyload238;
-                        r17_100_0 = r17_100_8_copyload243;
-                        r17_110_0 = r17_110_8_copyload246;
+                        r17_46230_0 = r17_46230_8_copyload231;
+                        r17_61_0 = r17_61_8_copyload234;
+                        r17_72_0 = r17_72_8_copyload237;
+                        r17_83_0 = r17_83_8_copyload240;
+                        r17_94_0 = r17_94_8_copyload243;
+                        r17_101_0 = r17_101_8_copyload246;
+                        r17_111_0 = r17_111_8_copyload249;
                         break;
                     }
                     case 7:
@@ -8635,26 +8613,26 @@ int32_t dfuse_take(struct dfuse_session *session, const uint8_t *map, size_t map
                             r17_0_0_2 = v38;
                             r17_16_0 = v37;
                             r17_31_0 = v36;
-                            r17_46223_0 = r12_1327_8_copyload28;
+                            r17_46230_0 = r12_1327_8_copyload28;
                             r17_61_0 = r12_17_8_copyload29;
                             r17_72_0 = r12_19_8_copyload30;
                             r17_83_0 = r12_21_8_copyload31;
                             r17_94_0 = r12_23_8_copyload32;
-                            r17_100_0 = r12_25_8_copyload33;
-                            r17_110_0 = r12_27_8_copyload34;
+                            r17_101_0 = r12_25_8_copyload33;
+                            r17_111_0 = r12_27_8_copyload34;
                             break;
                         }
                         case 4:
                             r17_0_0_2 = 0;
                             r17_16_0 = 0;
                             r17_31_0 = 0;
-                            r17_46223_0 = r18;
+                            r17_46230_0 = r18;
                             r17_61_0 = r5_6_0_copyload;
                             r17_72_0 = r5_8_0_copyload;
                             r17_83_0 = (size_t)r5_10_0_copyload;
                             r17_94_0 = r5_13_0_copyload;
-                            r17_100_0 = 8;
-                            r17_110_0 = (uint32_t)((r5_18_0_copyload == 0) ? 100 : r5_18_0_copyload);
+                            r17_101_0 = 8;
+                            r17_111_0 = (uint32_t)((r5_18_0_copyload == 0) ? 100 : r5_18_0_copyload);
                             break;
                         case 0:
                         case 2:
@@ -8664,13 +8642,13 @@ int32_t dfuse_take(struct dfuse_session *session, const uint8_t *map, size_t map
                             r17_0_0_2 = 0;
                             r17_16_0 = 0;
                             r17_31_0 = 0;
-                            r17_46223_0 = r18;
+                            r17_46230_0 = r18;
                             r17_61_0 = r5_6_0_copyload;
                             r17_72_0 = r5_8_0_copyload;
                             r17_83_0 = (size_t)r5_10_0_copyload;
                             r17_94_0 = r5_13_0_copyload;
-                            r17_100_0 = 7;
-                            r17_110_0 = r5_18_0_copyload;
+                            r17_101_0 = 7;
+                            r17_111_0 = r5_18_0_copyload;
                             break;
                         default: never();
                         }
@@ -8679,13 +8657,13 @@ int32_t dfuse_take(struct dfuse_session *session, const uint8_t *map, size_t map
                         r17_0_0_2 = 0;
                         r17_16_0 = 0;
                         r17_31_0 = 0;
-                        r17_46223_0 = r18;
+                        r17_46230_0 = r18;
                         r17_61_0 = r5_6_0_copyload;
                         r17_72_0 = r5_8_0_copyload;
                         r17_83_0 = (size_t)r5_10_0_copyload;
                         r17_94_0 = r5_13_0_copyload;
-                        r17_100_0 = (uint32_t)((r17_0_0 == 6) ? 7 : 8);
-                        r17_110_0 = r5_18_0_copyload;
+                        r17_101_0 = (uint32_t)((r17_0_0 == 6) ? 7 : 8);
+                        r17_111_0 = r5_18_0_copyload;
                         break;
                     case 9:
                     case 10:
@@ -8699,33 +8677,33 @@ int32_t dfuse_take(struct dfuse_session *session, const uint8_t *map, size_t map
                             uint8_t pre_7 = *r14_3;
                             uint8_t pre10_2 = r14_3[1];
                             uint8_t pre11_2 = r14_3[2];
-                            uint64_t r17_46223_8_copyload225_pre = load64(r14_3 + 8);
-                            uint64_t r17_61_8_copyload228_pre = load64(r14_3 + 16);
-                            uint64_t r17_72_8_copyload231_pre = load64(r14_3 + 24);
-                            uint64_t r17_83_8_copyload234_pre = load64(r14_3 + 32);
-                            uint64_t r17_94_8_copyload239_pre = load64(r14_3 + 40);
-                            uint32_t r17_100_8_copyload244_pre = load32(r14_3 + 48);
-                            uint32_t r17_110_8_copyload247_pre = load32(r14_3 + 52);
-                            r17_110_8_copyload247 = r17_110_8_copyload247_pre;
-                            r17_100_8_copyload244 = r17_100_8_copyload244_pre;
-                            r17_94_8_copyload239 = r17_94_8_copyload239_pre;
-                            r17_83_8_copyload234 = r17_83_8_copyload234_pre;
-                            r17_72_8_copyload231 = r17_72_8_copyload231_pre;
-                            r17_61_8_copyload228 = r17_61_8_copyload228_pre;
-                            r17_46223_8_copyload225 = r17_46223_8_copyload225_pre;
+                            uint64_t r17_46230_8_copyload232_pre = load64(r14_3 + 8);
+                            uint64_t r17_61_8_copyload235_pre = load64(r14_3 + 16);
+                            uint64_t r17_72_8_copyload238_pre = load64(r14_3 + 24);
+                            uint64_t r17_83_8_copyload241_pre = load64(r14_3 + 32);
+                            uint64_t r17_94_8_copyload244_pre = load64(r14_3 + 40);
+                            uint32_t r17_101_8_copyload247_pre = load32(r14_3 + 48);
+                            uint32_t r17_111_8_copyload250_pre = load32(r14_3 + 52);
+                            r17_111_8_copyload250 = r17_111_8_copyload250_pre;
+                            r17_101_8_copyload247 = r17_101_8_copyload247_pre;
+                            r17_94_8_copyload244 = r17_94_8_copyload244_pre;
+                            r17_83_8_copyload241 = r17_83_8_copyload241_pre;
+                            r17_72_8_copyload238 = r17_72_8_copyload238_pre;
+                            r17_61_8_copyload235 = r17_61_8_copyload235_pre;
+                            r17_46230_8_copyload232 = r17_46230_8_copyload232_pre;
                             v43 = pre11_2;
                             v44 = pre10_2;
                             v45 = pre_7;
                             break;
                         }
                         case 4:
-                            r17_110_8_copyload247 = 0;
-                            r17_100_8_copyload244 = 0;
-                            r17_94_8_copyload239 = 0;
-                            r17_83_8_copyload234 = 0;
-                            r17_72_8_copyload231 = r5_8_0_copyload;
-                            r17_61_8_copyload228 = r5_6_0_copyload;
-                            r17_46223_8_copyload225 = r18;
+                            r17_111_8_copyload250 = 0;
+                            r17_101_8_copyload247 = 0;
+                            r17_94_8_copyload244 = 0;
+                            r17_83_8_copyload241 = 0;
+                            r17_72_8_copyload238 = r5_8_0_copyload;
+                            r17_61_8_copyload235 = r5_6_0_copyload;
+                            r17_46230_8_copyload232 = r18;
                             v43 = 0;
                             v44 = 0;
                             v45 = 0;
@@ -8735,13 +8713,13 @@ int32_t dfuse_take(struct dfuse_session *session, const uint8_t *map, size_t map
                         case 3:
                         case 5:
                         case 6:
-                            r17_110_8_copyload247 = r5_18_0_copyload;
-                            r17_100_8_copyload244 = (uint32_t)r5_14_0_copyload;
-                            r17_94_8_copyload239 = r5_13_0_copyload;
-                            r17_83_8_copyload234 = (size_t)r5_10_0_copyload;
-                            r17_72_8_copyload231 = r5_8_0_copyload;
-                            r17_61_8_copyload228 = r5_6_0_copyload;
-                            r17_46223_8_copyload225 = r18;
+                            r17_111_8_copyload250 = r5_18_0_copyload;
+                            r17_101_8_copyload247 = (uint32_t)r5_14_0_copyload;
+                            r17_94_8_copyload244 = r5_13_0_copyload;
+                            r17_83_8_copyload241 = (size_t)r5_10_0_copyload;
+                            r17_72_8_copyload238 = r5_8_0_copyload;
+                            r17_61_8_copyload235 = r5_6_0_copyload;
+                            r17_46230_8_copyload232 = r18;
                             v43 = 0;
                             v44 = 0;
                             v45 = 0;
@@ -8751,26 +8729,26 @@ int32_t dfuse_take(struct dfuse_session *session, const uint8_t *map, size_t map
                         r17_0_0_2 = v45;
                         r17_16_0 = v44;
                         r17_31_0 = v43;
-                        r17_46223_0 = r17_46223_8_copyload225;
-                        r17_61_0 = r17_61_8_copyload228;
-                        r17_72_0 = r17_72_8_copyload231;
-                        r17_83_0 = r17_83_8_copyload234;
-                        r17_94_0 = r17_94_8_copyload239;
-                        r17_100_0 = r17_100_8_copyload244;
-                        r17_110_0 = r17_110_8_copyload247;
+                        r17_46230_0 = r17_46230_8_copyload232;
+                        r17_61_0 = r17_61_8_copyload235;
+                        r17_72_0 = r17_72_8_copyload238;
+                        r17_83_0 = r17_83_8_copyload241;
+                        r17_94_0 = r17_94_8_copyload244;
+                        r17_101_0 = r17_101_8_copyload247;
+                        r17_111_0 = r17_111_8_copyload250;
                         break;
                     case 11:
                         memset(r11_3, 0, 56);
                         switch (r17_0_0) {
                         case 3:
                             if (!(r17_8_0 & 1)) {
-                                r17_110_8_copyload248 = 0;
-                                r17_100_8_copyload245 = 0;
-                                r17_94_8_copyload240 = 0;
-                                r17_83_8_copyload235 = 0;
-                                r17_72_8_copyload232 = 0;
-                                r17_61_8_copyload229 = 0;
-                                r17_46223_8_copyload226 = 0;
+                                r17_111_8_copyload251 = 0;
+                                r17_101_8_copyload248 = 0;
+                                r17_94_8_copyload245 = 0;
+                                r17_83_8_copyload242 = 0;
+                                r17_72_8_copyload239 = 0;
+                                r17_61_8_copyload236 = 0;
+                                r17_46230_8_copyload233 = 0;
                                 v46 = 0;
                                 v47 = 1;
                                 v48 = 1;
@@ -8810,33 +8788,33 @@ int32_t dfuse_take(struct dfuse_session *session, const uint8_t *map, size_t map
                                 uint8_t pre_8 = *r11_3;
                                 uint8_t pre20 = r11_3[1];
                                 uint8_t pre21 = r11_3[2];
-                                uint64_t r17_46223_8_copyload226_pre = load64(r11_3 + 8);
-                                uint64_t r17_61_8_copyload229_pre = load64(r11_3 + 16);
-                                uint64_t r17_72_8_copyload232_pre = load64(r11_3 + 24);
-                                uint64_t r17_83_8_copyload235_pre = load64(r11_3 + 32);
-                                uint64_t r17_94_8_copyload240_pre = load64(r11_3 + 40);
-                                uint32_t r17_100_8_copyload245_pre = load32(r11_3 + 48);
-                                uint32_t r17_110_8_copyload248_pre = load32(r11_3 + 52);
-                                r17_110_8_copyload248 = r17_110_8_copyload248_pre;
-                                r17_100_8_copyload245 = r17_100_8_copyload245_pre;
-                                r17_94_8_copyload240 = r17_94_8_copyload240_pre;
-                                r17_83_8_copyload235 = r17_83_8_copyload235_pre;
-                                r17_72_8_copyload232 = r17_72_8_copyload232_pre;
-                                r17_61_8_copyload229 = r17_61_8_copyload229_pre;
-                                r17_46223_8_copyload226 = r17_46223_8_copyload226_pre;
+                                uint64_t r17_46230_8_copyload233_pre = load64(r11_3 + 8);
+                                uint64_t r17_61_8_copyload236_pre = load64(r11_3 + 16);
+                                uint64_t r17_72_8_copyload239_pre = load64(r11_3 + 24);
+                                uint64_t r17_83_8_copyload242_pre = load64(r11_3 + 32);
+                                uint64_t r17_94_8_copyload245_pre = load64(r11_3 + 40);
+                                uint32_t r17_101_8_copyload248_pre = load32(r11_3 + 48);
+                                uint32_t r17_111_8_copyload251_pre = load32(r11_3 + 52);
+                                r17_111_8_copyload251 = r17_111_8_copyload251_pre;
+                                r17_101_8_copyload248 = r17_101_8_copyload248_pre;
+                                r17_94_8_copyload245 = r17_94_8_copyload245_pre;
+                                r17_83_8_copyload242 = r17_83_8_copyload242_pre;
+                                r17_72_8_copyload239 = r17_72_8_copyload239_pre;
+                                r17_61_8_copyload236 = r17_61_8_copyload236_pre;
+                                r17_46230_8_copyload233 = r17_46230_8_copyload233_pre;
                                 v46 = pre21;
                                 v47 = pre20;
                                 v48 = pre_8;
                             }
                             break;
                         case 4:
-                            r17_110_8_copyload248 = 0;
-                            r17_100_8_copyload245 = 0;
-                            r17_94_8_copyload240 = 0;
-                            r17_83_8_copyload235 = 0;
-                            r17_72_8_copyload232 = r5_8_0_copyload;
-                            r17_61_8_copyload229 = r5_6_0_copyload;
-                            r17_46223_8_copyload226 = r18;
+                            r17_111_8_copyload251 = 0;
+                            r17_101_8_copyload248 = 0;
+                            r17_94_8_copyload245 = 0;
+                            r17_83_8_copyload242 = 0;
+                            r17_72_8_copyload239 = r5_8_0_copyload;
+                            r17_61_8_copyload236 = r5_6_0_copyload;
+                            r17_46230_8_copyload233 = r18;
                             v46 = 0;
                             v47 = 0;
                             v48 = 0;
@@ -8846,13 +8824,13 @@ int32_t dfuse_take(struct dfuse_session *session, const uint8_t *map, size_t map
                         case 2:
                         case 5:
                         case 6:
-                            r17_110_8_copyload248 = 0;
-                            r17_100_8_copyload245 = 11;
-                            r17_94_8_copyload240 = r5_13_0_copyload;
-                            r17_83_8_copyload235 = (size_t)r5_10_0_copyload;
-                            r17_72_8_copyload232 = r5_8_0_copyload;
-                            r17_61_8_copyload229 = r5_6_0_copyload;
-                            r17_46223_8_copyload226 = r18;
+                            r17_111_8_copyload251 = 0;
+                            r17_101_8_copyload248 = 11;
+                            r17_94_8_copyload245 = r5_13_0_copyload;
+                            r17_83_8_copyload242 = (size_t)r5_10_0_copyload;
+                            r17_72_8_copyload239 = r5_8_0_copyload;
+                            r17_61_8_copyload236 = r5_6_0_copyload;
+                            r17_46230_8_copyload233 = r18;
                             v46 = 0;
                             v47 = 0;
                             v48 = 0;
@@ -8862,25 +8840,25 @@ int32_t dfuse_take(struct dfuse_session *session, const uint8_t *map, size_t map
                         r17_0_0_2 = v48;
                         r17_16_0 = v47;
                         r17_31_0 = v46;
-                        r17_46223_0 = r17_46223_8_copyload226;
-                        r17_61_0 = r17_61_8_copyload229;
-                        r17_72_0 = r17_72_8_copyload232;
-                        r17_83_0 = r17_83_8_copyload235;
-                        r17_94_0 = r17_94_8_copyload240;
-                        r17_100_0 = r17_100_8_copyload245;
-                        r17_110_0 = r17_110_8_copyload248;
+                        r17_46230_0 = r17_46230_8_copyload233;
+                        r17_61_0 = r17_61_8_copyload236;
+                        r17_72_0 = r17_72_8_copyload239;
+                        r17_83_0 = r17_83_8_copyload242;
+                        r17_94_0 = r17_94_8_copyload245;
+                        r17_101_0 = r17_101_8_copyload248;
+                        r17_111_0 = r17_111_8_copyload251;
                         break;
                     case 12:
                         r17_0_0_2 = 0;
                         r17_16_0 = 0;
                         r17_31_0 = 0;
-                        r17_46223_0 = r18;
+                        r17_46230_0 = r18;
                         r17_61_0 = r5_6_0_copyload;
                         r17_72_0 = r5_8_0_copyload;
                         r17_83_0 = (size_t)r5_10_0_copyload;
                         r17_94_0 = r5_13_0_copyload;
-                        r17_100_0 = (uint32_t)((r17_0_0 == 0) ? 14 : 13);
-                        r17_110_0 = 0;
+                        r17_101_0 = (uint32_t)((r17_0_0 == 0) ? 14 : 13);
+                        r17_111_0 = 0;
                         break;
                     case 13:
                         switch (r17_0_0) {
@@ -8931,13 +8909,13 @@ int32_t dfuse_take(struct dfuse_session *session, const uint8_t *map, size_t map
                         r17_0_0_2 = 0;
                         r17_16_0 = 0;
                         r17_31_0 = 0;
-                        r17_46223_0 = r18;
+                        r17_46230_0 = r18;
                         r17_61_0 = r5_6_0_copyload;
                         r17_72_0 = r5_8_0_copyload;
                         r17_83_0 = (size_t)r12_23_0_in;
                         r17_94_0 = r12_26_0;
-                        r17_100_0 = r12_29_0;
-                        r17_110_0 = 0;
+                        r17_101_0 = r12_29_0;
+                        r17_111_0 = 0;
                         break;
                     case 14:
                         if (r17_0_0 != 1) {
@@ -9003,26 +8981,26 @@ dfuse_host_closing_on_close_poll_exit:
                         r17_0_0_2 = r12_0_0;
                         r17_16_0 = 0;
                         r17_31_0 = r12_0_0;
-                        r17_46223_0 = (size_t)r12_108_0_in;
+                        r17_46230_0 = (size_t)r12_108_0_in;
                         r17_61_0 = r12_13_0;
                         r17_72_0 = r12_15_0;
                         r17_83_0 = (size_t)r12_17_0_in;
                         r17_94_0 = r12_19_0;
-                        r17_100_0 = r12_21_0;
-                        r17_110_0 = 0;
+                        r17_101_0 = r12_21_0;
+                        r17_111_0 = 0;
                         break;
                     default: never();
                     }
                     *r13 = r17_0_0_2;
                     r13[1] = r17_16_0;
                     r13[2] = r17_31_0;
-                    store64(r13 + 8, r17_46223_0);
+                    store64(r13 + 8, r17_46230_0);
                     store64(r13 + 16, r17_61_0);
                     store64(r13 + 24, r17_72_0);
                     store64(r13 + 32, r17_83_0);
                     store64(r13 + 40, r17_94_0);
-                    store32(r13 + 48, r17_100_0);
-                    store32(r13 + 52, r17_110_0);
+                    store32(r13 + 48, r17_101_0);
+                    store32(r13 + 52, r17_111_0);
                     dfuse_host_session_Session_spent(r10_2, r12, r13, r8_3_0_copyload);
                 }
                 memcpy(r11_2, r10_2, 104);
