@@ -79,8 +79,7 @@ row 1 old 'WrongTarget: ' "$stuck" --device 1209:0001,1209:00ff other.dfu
 row 1 old 'WrongTarget: ' "$stuck" --device ffff:ffff,1209:00ff new.dfu
 row 4 old '' "$stuck" --device 1209:0001,1209:00fe new.dfu
 row 0 - '1209:00ff path 1-1 ' "$stuck" --device 1209:0001,1209:00ff --list
-for words in '1209:0001,' 1209:0001,1209:00f 1209:0001,1209:00fff 1209:0001,1209 '1209:0001;1209:00ff' 1209:0001,1209:00ff,1209:00ff \
-    1209:00011,209:00ff ,1209:0001 1209:0001,1209:00fg; do
+for words in 1209:0001,1209:00fff '1209:0001;1209:00ff' 1209:0001,1209:00ff,1209:00ff 1209:00011,209:00ff 1209:0001,1209:00fg; do
     row 2 - '' '' --device "$words" new.dfu
 done
 
