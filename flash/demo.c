@@ -1,6 +1,6 @@
 /* SPDX-License-Identifier: MIT OR Apache-2.0 */
-/* The order of the demo. Each step is what the program does for a real board (one.c), over the simulated one, and after each it is looked at
-   whether the board has what it has to have. */
+/* The order of the demo. Each step is what the program does for a real board (one.c), over the simulated one. After each step the demo
+   looks at whether the board has what it must have. */
 #include "demo.h"
 #include "advice.h"
 #include "demo_board.h"

@@ -1,6 +1,6 @@
 /* SPDX-License-Identifier: MIT OR Apache-2.0 */
-/* Values as dfu-util 0.11 reads them: identifiers with fewer digits or none, a serial number for each mode, and an address with what is to be
-   done there. */
+/* Values as dfu-util 0.11 reads them: identifiers with fewer digits or none, a serial number for each mode, and an address with what
+   is to be done there. */
 #include "dfu_util.h"
 #include "standard.h"
 #include "values.h"

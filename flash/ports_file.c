@@ -1,6 +1,6 @@
 /* SPDX-License-Identifier: MIT OR Apache-2.0 */
-/* A line is a path as --list shows it, = and a name, as `3-1.4 = bay 7`, with blanks around each if you like. A line that is empty or begins
-   with # is none. */
+/* A line is a path as --list shows it, = and a name, as `3-1.4 = bay 7`, with blanks around each if you like. A line that is empty or
+   begins with # is none. */
 #include "ports_file.h"
 #include "files.h"
 #include "find.h"

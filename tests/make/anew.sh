@@ -13,7 +13,8 @@ done
 touch include/dfu_device.h
 says 0
 is 'a header that changed' [ "$(grep -c -e ' -c -o ' "$work/said")" -ge 2 ]
-is 'what reads another one stays' [ "$(grep -c -e ' -c -o .*/objects/flash/' "$work/said")" -eq "$(grep -l '#include <dfu_device' flash/*.c | wc -l)" ]
+reading=$(grep -l '#include <dfu_device' flash/*.c | wc -l)
+is 'what reads another one stays' [ "$(grep -c -e ' -c -o .*/objects/flash/' "$work/said")" -eq "$reading" ]
 touch dist/os.c
 says 0
 compiled 'os.c changed' 1

@@ -52,7 +52,7 @@ for ids in 0x1209:0x0001 1209:1 :1 '1209:*' 0x1209:0x0001,:0x00ff ,1209:0001; do
     row 0 new 'verified: ' '' "--device=$ids" -D new.dfu
 done
 row 0 new 'verified: ' 'USB_START=app USB_AWAY=4 USB_DFU_IDS=1209:00ff:0100' --device 0x1209:0x1,:0xff --download new.dfu --reset
-for ids in , x 1209:x 01209:0001 1209:00001 1209-0001; do
+for ids in ',' x 1209:x 01209:0001 1209:00001 1209-0001; do
     row 2 - '' '' --device "$ids" new.dfu
     says '--device takes VID:PID or VID:PID,VID:PID, four hexadecimal digits each'
 done

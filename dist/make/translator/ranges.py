@@ -1,8 +1,8 @@
 """The most that each number is, as the module alone shows it, where a size of C has 32 bits.
 
-All values begin with 0. Each line raises its value to the most that it makes of the ones that it reads, and each call raises the parameters
-to what it hands over, until nothing changes. A value that rises often goes up to the next power of two, so that this ends. What is read from
-memory, or given by C as a uint64_t, may be any number; a `size_t` of C and a pointer are below 2 to the 32."""
+All values begin with 0. Each line raises its value to the most that it makes of the ones that it reads, and each call raises the
+parameters to what it hands over, until nothing changes. A value that rises often goes up to the next power of two, so that this ends.
+What is read from memory, or given by C as a uint64_t, may be any number; a `size_t` of C and a pointer are below 2 to the 32."""
 from conditions import Conditions
 from text import bits, constant, halves
 

@@ -1,7 +1,8 @@
 """Which of a module's i64 are a size_t in C: 32 bits on a processor of 32 bits, and 64 on one of 64.
 
-One is so if it has at most 32 bits, as ranges.py finds where size_t has 32; or if nobody reads more than its low 32 bits then: a place that it
-moves, a number of bytes, a number of 32 bits that is made of it. All begin as such, and each line that reads more takes what it reads away."""
+One is so if it has at most 32 bits, as ranges.py finds where size_t has 32; or if nobody reads more than its low 32 bits then: a place
+that it moves, a number of bytes, a number of 32 bits that is made of it. All begin as such, and each line that reads more takes what it
+reads away."""
 from ranges import SIZE, Ranges
 from text import bits, constant
 

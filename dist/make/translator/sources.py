@@ -1,4 +1,4 @@
-"""The source that a function was proved in: its file in crates/, beside the folder of the header. The module has no lines of its sources."""
+"""The source that a function was proved in: its file in crates/, beside the folder of the header. The module has no line numbers."""
 import glob
 import os
 import re
