@@ -86,8 +86,9 @@ ITEMS_BECOME = [
     ("fn f<R: Drop>(r: R) {\n    g(r);\n}", "fn f<R>(r: R) {\n    g(r);\n}"),
     ("fn f<R: Drop + Copy>(r: R) {\n    g(r);\n}", "fn f<R: Copy>(r: R) {\n    g(r);\n}"),
     ("// Of all.\nghost use A.{b};\n\nfn f() {}", "// Of all.\n\nfn f() {}"),
-    ("#[derive(Drop)]\nstruct S;", "struct S;"),
-    ("#[derive(Clone, Drop, Debug)]\nstruct S;", "#[derive(Clone, Debug)]\nstruct S;"),
+    ("#[derive(Drop)]\nstruct S;", "#[derive(Debug, PartialEq, Eq)]\nstruct S;"),
+    ("#[derive(Clone, Drop, Debug)]\nstruct S;", "#[derive(Clone, Debug, PartialEq, Eq)]\nstruct S;"),
+    ("#[derive(Eq, Error, PartialEq)]\nstruct S;", "#[derive(Debug, PartialEq, Eq, Error)]\nstruct S;"),
     ("#[tactic(auto, using(a::b))]\nfn f() {}", "fn f() {}"),
     ("struct S {\n    // Why.\n    ghost few: { a { b } = c },\n    x: u8,\n}", "struct S {\n    x: u8,\n}"),
     ("// Why.\nimpl Model for S {\n    ghost view = { a };\n}\n\nstruct S;", "struct S;"),
@@ -115,6 +116,8 @@ PROGRAM_BECOMES = [
     ("fn f() {\n    'a: loop {\n        break 'a;\n    }\n}", "fn f() {\n    'a: loop {\n        break 'a;\n    }\n}"),
     ("fn f(b: &[u8]) -> Option<&[u8]> {\n    b.get(1..)\n}", "fn f(b: &[u8]) -> Option<&[u8]> {\n    b.get(1..)\n}"),
     ("pub use dfu_sim::{Event, laws, run};", "pub use crate::sim::{Event, run};"),
+    ("#[derive(Drop)]\nstruct S;", "struct S;"),
+    ("#[derive(Clone, Copy)]\nstruct S;", "#[derive(Clone, Copy, Debug, PartialEq, Eq)]\nstruct S;"),
 ]
 # What a program may not have either: what it is, the line, and a word of the reason.
 PROGRAM_REFUSED = [

@@ -5,7 +5,7 @@ use dfu_slots::{Unit, WriteFault};
 
 /// A format that asks for its writes, as it is kept between two calls. Its flash is mapped, and passed in at each call with
 /// the image.
-#[derive(Clone, Copy, Debug, PartialEq, Eq, Drop)]
+#[derive(Clone, Copy, Drop)]
 pub struct Formatting {
     /// The unit in which the flash is written.
     pub unit: Unit,
@@ -20,7 +20,7 @@ pub struct Formatting {
 }
 
 /// How far a format has come: which of its parts is being carried out.
-#[derive(Clone, Copy, Debug, PartialEq, Eq, Drop)]
+#[derive(Clone, Copy, Drop)]
 pub enum FormatStep {
     /// The gate of the second slot is closed.
     CloseSecond,
@@ -40,7 +40,7 @@ pub enum FormatStep {
 }
 
 /// What comes of a piece of a format that was carried out, or was not.
-#[derive(Clone, Copy, Debug, PartialEq, Eq)]
+#[derive(Clone, Copy)]
 pub enum FormatProgress {
     /// More writes are due: `next`, carry it out, `took`, until `took` answers otherwise.
     Asks,

@@ -9,7 +9,7 @@ use crate::{Asking, Noted, Sector};
 use dfu_slots::{Unit, length_in};
 
 /// Where an image is in the flash.
-#[derive(Clone, Copy, Debug, PartialEq, Eq, Drop)]
+#[derive(Clone, Copy, Drop)]
 pub struct ImagePlace {
     /// Where its first byte is.
     pub at: u32,

@@ -15,7 +15,7 @@ use dfu_slots::{
 };
 
 /// What is noted of the active image: which slot has it, and that slot's header as it was. A call that finds it there reads no image.
-#[derive(Clone, Copy, Debug, PartialEq, Eq, Drop)]
+#[derive(Clone, Copy, Drop)]
 pub struct Noted {
     /// Whether it is the second slot.
     pub second: bool,

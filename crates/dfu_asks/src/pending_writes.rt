@@ -4,7 +4,7 @@ use crate::Sector;
 use dfu_slots::Unit;
 
 /// What is left to be written of a row, and what the row answers then.
-#[derive(Clone, Copy, Debug, PartialEq, Eq, Drop)]
+#[derive(Clone, Copy, Drop)]
 pub struct PendingWrites {
     /// What is written.
     pub job: SlotWrite,
@@ -15,7 +15,7 @@ pub struct PendingWrites {
 }
 
 /// What is written for a row: what its writes are made of and can no longer be read from the flash once some are carried out.
-#[derive(Clone, Copy, Debug, PartialEq, Eq, Drop)]
+#[derive(Clone, Copy, Drop)]
 pub enum SlotWrite {
     /// A block is written after what was put.
     Block {

@@ -3,7 +3,7 @@
 use dfu_device::Answer;
 
 /// What comes of a call of a device that asks.
-#[derive(Clone, Copy, Debug, PartialEq, Eq)]
+#[derive(Clone, Copy)]
 pub enum Reply {
     /// Writes are due: `next`, carry it out, `took`, until `took` answers otherwise.
     Asks,
@@ -24,7 +24,7 @@ pub struct FlashOp {
 }
 
 /// Why a call of a device that asks is refused. Nothing changes then.
-#[derive(Clone, Copy, Debug, PartialEq, Eq, Drop)]
+#[derive(Clone, Copy, Drop)]
 pub enum Refusal {
     /// Writes are due: they come first.
     Asked,

@@ -5,7 +5,7 @@ ghost use Rattle.dfu_asks.specs.Position.{LeadsToErase, LeadsTo, LeadsInto};
 use dfu_slots::{MAX_SECTOR, PAGE};
 
 /// How many bytes of flash are erased at a time: 0 if it is written over in place, else a multiple of 256 up to 131,072.
-#[derive(Clone, Copy, Debug, PartialEq, Eq, Drop)]
+#[derive(Clone, Copy, Drop)]
 pub struct Sector {
     size: u32,
     ghost pages: { size % 256 ≡ 0 },

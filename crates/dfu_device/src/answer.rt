@@ -15,7 +15,7 @@ use arrayvec::ArrayVec;
 use dfu_slots::{Medium, Slots};
 
 /// How a device answers a setup. The bytes of an answer are in the buffer that the caller gave.
-#[derive(Clone, Copy, Debug, PartialEq, Eq)]
+#[derive(Clone, Copy)]
 pub enum Answer {
     /// The request is acknowledged; there are no bytes.
     Ack,

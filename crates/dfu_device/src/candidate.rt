@@ -10,7 +10,7 @@ use dfu_slots::Medium;
 
 /// Where an image is that was received and is not in place yet. Its first bytes are on the medium, in the spare slot. The others, fewer
 /// than a unit of the medium, are held back in memory (`Slots::held`).
-#[derive(Clone, Copy, Debug, PartialEq, Eq)]
+#[derive(Clone, Copy)]
 pub struct Candidate {
     /// Where its first byte is on the medium.
     pub at: u32,

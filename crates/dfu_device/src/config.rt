@@ -15,7 +15,7 @@ use thiserror::Error;
 ///
 /// On a medium with sectors both times are to have room for erases: a block takes at most one, and one more for each sector
 /// that begins in the transfer size and a unit; an image takes two or three.
-#[derive(Clone, Copy, Debug)]
+#[derive(Clone, Copy)]
 pub struct Config {
     ids: Ids,
     functional: Functional,
@@ -43,7 +43,7 @@ impl Model for Config {
 }
 
 /// Why a device cannot be set up, in the order in which the faults are checked.
-#[derive(Clone, Copy, Debug, PartialEq, Eq, Drop, Error)]
+#[derive(Clone, Copy, Debug, Drop, Error)]
 pub enum ConfigFault {
     /// The transfer size of the functional descriptor is 0 or over 4,096 bytes.
     #[error("the transfer size is not 1 to 4096 bytes")]
@@ -58,7 +58,7 @@ pub enum ConfigFault {
 }
 
 /// What the table reads of a device beside its mode: its fixed settings.
-#[derive(Clone, Copy, Debug, PartialEq, Eq)]
+#[derive(Clone, Copy)]
 pub struct Profile {
     /// The functional descriptor.
     pub functional: Functional,

@@ -3,7 +3,7 @@
 use crate::device_state::DeviceState;
 
 /// What a decision answers. A status and a state are those of the device after the row.
-#[derive(Clone, Copy, Debug, PartialEq, Eq)]
+#[derive(Clone, Copy)]
 pub enum Reply {
     /// The request is acknowledged.
     Ack,
@@ -17,7 +17,7 @@ pub enum Reply {
 
 /// What a row of the device table says is to be done. Only the medium is left open: if a write has a fault, the device
 /// enters dfuERROR in place of the mode that is named here, and a status in its answer is that of dfuERROR.
-#[derive(Clone, Copy, Debug, PartialEq, Eq)]
+#[derive(Clone, Copy)]
 pub enum Decision {
     /// A mode is entered, and nothing of the slot store is called.
     Sure {

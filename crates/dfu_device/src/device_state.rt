@@ -19,7 +19,7 @@ use dfu_wire::{Code, State, Status};
 ///
 /// `written` is how many bytes of a download were put in the spare slot of the store; `number` is that of the next
 /// block; `passed` is how many milliseconds passed in this state.
-#[derive(Clone, Copy, Debug, PartialEq, Eq, Drop)]
+#[derive(Clone, Copy, Drop)]
 pub enum DeviceState {
     /// appIDLE: the application runs.
     AppIdle,

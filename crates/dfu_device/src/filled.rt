@@ -7,7 +7,7 @@ ghost use Rattle.dfu_device.specs.Parts.{is_filled};
 use crate::device_state::DeviceState;
 
 /// What decides whether a mode goes with a slot store.
-#[derive(Clone, Copy, Debug, PartialEq, Eq)]
+#[derive(Clone, Copy)]
 pub struct PutSoFar {
     /// The most bytes of an image.
     pub room: u32,

@@ -11,7 +11,7 @@ use dfu_slots::Medium;
 use dfu_wire::Code;
 
 /// Why the program of a device refuses an image (USB DFU 1.1, section 6.1.2, bStatus).
-#[derive(Clone, Copy, Debug, PartialEq, Eq, Drop)]
+#[derive(Clone, Copy, Drop)]
 pub enum Objection {
     /// The image is not for this device: errTARGET.
     Target,

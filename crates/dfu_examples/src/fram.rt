@@ -6,7 +6,7 @@ ghost use Rattle.dfu_slots.specs.Medium.{KeepsOutside};
 use dfu_slots::{Failed, Medium, Unit};
 
 /// Why a driver's write failed. The store does the same for each.
-#[derive(Clone, Copy, Debug, PartialEq, Eq, Drop)]
+#[derive(Clone, Copy, Drop)]
 pub enum ChipFault {
     /// The chip is protected from writes.
     Protected,

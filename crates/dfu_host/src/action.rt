@@ -3,7 +3,7 @@
 use crate::report::Report;
 
 /// What a host asks its caller to do.
-#[derive(Clone, Copy, Debug, PartialEq, Eq)]
+#[derive(Clone, Copy)]
 pub enum Action<'f> {
     /// Send this request (USB DFU 1.1, section 3). `body` is what goes out with it: a block of
     /// the payload with a DNLOAD, else nothing. If the setup's first byte is A1h, the device

@@ -6,7 +6,7 @@ ghost use Rattle.dfu_host.specs.FaultName.{host_fault_name};
 use thiserror::Error;
 
 /// Why a session does not begin. A call returns the first that holds, in this order.
-#[derive(Clone, Copy, Debug, PartialEq, Eq, Error)]
+#[derive(Clone, Copy, Debug, Error)]
 pub enum HostFault {
     /// The file's payload has no bytes. Only for downloads.
     #[error("the payload is empty")]

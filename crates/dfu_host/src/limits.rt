@@ -1,7 +1,7 @@
 //! How long a session may last.
 
 /// How long a session may last.
-#[derive(Clone, Copy, Debug, PartialEq, Eq)]
+#[derive(Clone, Copy)]
 pub struct Limits {
     /// How often `take` may be called until the host gives up; 0 counts as 1.
     pub actions: u32,

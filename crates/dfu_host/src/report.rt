@@ -10,7 +10,7 @@ use dfu_wire::Code;
 /// Only [`Report::Installed`] and [`Report::Verified`] say that the payload of this session is in
 /// place. [`Report::Different`] says that the device gave other bytes than those, and
 /// [`Report::Uploaded`] that it gave an image. All others leave open which image the device has.
-#[derive(Clone, Copy, Debug, PartialEq, Eq)]
+#[derive(Clone, Copy)]
 pub enum Report {
     /// A tolerant device took the whole payload, reported dfuIDLE with OK after it, and was
     /// reset.

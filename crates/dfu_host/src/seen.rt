@@ -1,7 +1,7 @@
 //! What a host sees.
 
 /// What came of an action. What doesn't fit the action is taken as [`Seen::Nothing`].
-#[derive(Clone, Copy, Debug, PartialEq, Eq)]
+#[derive(Clone, Copy)]
 pub enum Seen<'s> {
     /// A request that has no answer of bytes was acknowledged.
     Ack,

@@ -48,7 +48,7 @@ pub(crate) struct Delivery<'t> {
 }
 
 /// What comes back of a request.
-#[derive(Clone, Copy, Debug, PartialEq, Eq)]
+#[derive(Clone, Copy)]
 pub(crate) enum Response {
     /// The device's answer.
     Answered(Answer),

@@ -5,7 +5,7 @@ use dfu_device::Objection;
 use dfu_host::Limits;
 
 /// What happens to a link. A file lasts as long as its session, a tear as long as the event.
-#[derive(Clone, Copy, Debug, PartialEq, Eq)]
+#[derive(Clone, Copy)]
 pub enum Event<'f, 't> {
     /// A whole DFU file (USB DFU 1.1, appendix B) is offered to the device. The session that begins
     /// has so many actions and takes so many restarts.

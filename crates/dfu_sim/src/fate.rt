@@ -7,7 +7,7 @@
 /// Of its range the first bytes become those of `tear`, as many as `tear` has and fit in, and the rest keeps the old bytes. It
 /// fails, or with `Lie` answers that it worked. Of `tear` at most 4,096 bytes count. If the action makes no such write, none is
 /// harmed; with `Cut` the power is cut at its end all the same.
-#[derive(Clone, Copy, Debug, PartialEq, Eq)]
+#[derive(Clone, Copy)]
 pub enum Fate<'t> {
     /// It goes as it should.
     Pass,

@@ -5,7 +5,7 @@ use dfu_suffix::SuffixFault;
 use thiserror::Error;
 
 /// Why an event is refused.
-#[derive(Clone, Copy, Debug, PartialEq, Eq, Error)]
+#[derive(Clone, Copy, Debug, Error)]
 pub enum LinkFault {
     /// A file is offered or an upload is to begin while a session is live. Looked for first.
     #[error("a session is live already")]
@@ -24,7 +24,7 @@ pub enum LinkFault {
 }
 
 /// Why an offer or an upload is refused.
-#[derive(Clone, Copy, Debug, PartialEq, Eq, Error)]
+#[derive(Clone, Copy, Debug, Error)]
 pub enum OfferFault {
     /// The bytes are no DFU file: this is the first fault of `dfu_suffix::read`. Only an offer has it.
     #[error("{0}")]

@@ -16,7 +16,7 @@ use std::alloc::Global;
 
 /// Where a run stopped: before the event `at`, counted from 0, which was refused or for whose report
 /// there was no memory. `reports` are those of the events before it.
-#[derive(Debug, Drop)]
+#[derive(Drop)]
 pub struct Stop {
     pub fault: LinkFault,
     pub at: usize,

@@ -2,7 +2,7 @@
 use thiserror::Error;
 
 /// Why `format` gave the medium back. It looks for them in this order.
-#[derive(Clone, Copy, Debug, PartialEq, Eq, Drop, Error)]
+#[derive(Clone, Copy, Debug, Drop, Error)]
 pub enum FormatFault {
     /// The medium's length is not 2 * (2 * G + C) with C from 1 to 16,777,216 and whole in the unit and the sector, G being
     /// the most of 16, the unit's size and the sector's; or its sector is not 0, nor a multiple of 256 up to 131,072.
@@ -21,7 +21,7 @@ pub enum FormatFault {
 ///
 /// A slot counts if its gate is open and, if its header is of version 2, that header is well formed: its zero
 /// bytes are 0, its length is at most C, and its register is that of so many bytes from the front of the slot's data.
-#[derive(Clone, Copy, Debug, PartialEq, Eq, Drop, Error)]
+#[derive(Clone, Copy, Debug, Drop, Error)]
 pub enum OpenFault {
     /// The medium's length is not 2 * (2 * G + C) with C from 1 to 16,777,216 and whole in the unit and the sector, G being
     /// the most of 16, the unit's size and the sector's; or its sector is not 0, nor a multiple of 256 up to 131,072.
@@ -40,7 +40,7 @@ pub enum OpenFault {
 }
 
 /// How a write of the store went wrong.
-#[derive(Clone, Copy, Debug, PartialEq, Eq, Drop)]
+#[derive(Clone, Copy, Drop)]
 pub enum WriteFault {
     /// The medium reported that it failed.
     Failed,
@@ -49,7 +49,7 @@ pub enum WriteFault {
 }
 
 /// Why `begin`, `put` or `commit` did not do what was asked.
-#[derive(Clone, Copy, Debug, PartialEq, Eq, Drop, Error)]
+#[derive(Clone, Copy, Debug, Drop, Error)]
 pub enum PutFault {
     /// What was to be put ends past the capacity, and the spare's gate is closed.
     /// Nothing was written. Only `put` returns it: what was put lies within the capacity.

@@ -29,7 +29,7 @@ pub const OPEN_GATE: u8 = 0xa5;
 pub const CLOSED_GATE: u8 = 0x00;
 
 /// How many bytes a medium writes at a time: the place and the length of a write are multiples of it.
-#[derive(Clone, Copy, Debug, PartialEq, Eq, Drop)]
+#[derive(Clone, Copy, Drop)]
 pub enum Unit {
     /// One byte: any place and any length.
     Byte,

@@ -9,7 +9,7 @@ use crate::fault::WriteFault;
 use thiserror::Error;
 
 /// A write failed: its range may hold any bytes now, and all other bytes are as they were.
-#[derive(Clone, Copy, Debug, PartialEq, Eq, Drop, Error)]
+#[derive(Clone, Copy, Debug, Drop, Error)]
 #[error("a write to the medium failed")]
 pub struct Failed;
 

@@ -4,7 +4,7 @@ use crate::Failed;
 use arrayvec::ArrayVec;
 
 /// How a write ended.
-#[derive(Clone, Copy, Debug, PartialEq, Eq)]
+#[derive(Clone, Copy)]
 pub enum WriteEnd {
     Worked,
     Failed,
@@ -13,7 +13,7 @@ pub enum WriteEnd {
 }
 
 /// A write: whether it erased, where, how many bytes, and how it ended.
-#[derive(Clone, Copy, Debug, PartialEq, Eq)]
+#[derive(Clone, Copy)]
 pub struct WriteNote {
     pub erases: bool,
     pub at: u32,

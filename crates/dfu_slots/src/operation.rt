@@ -1,7 +1,7 @@
 //! One operation on a medium, and what its bytes are.
 
 /// What the bytes of an operation are, with zeros after them.
-#[derive(Clone, Copy, Debug, PartialEq, Eq, Drop)]
+#[derive(Clone, Copy, Drop)]
 pub enum Source {
     /// The bytes held back, and after them the block, or an image.
     Joined,
@@ -16,7 +16,7 @@ pub enum Source {
 }
 
 /// An operation on a medium.
-#[derive(Clone, Copy, Debug, PartialEq, Eq, Drop)]
+#[derive(Clone, Copy, Drop)]
 pub enum Op {
     /// A sector is erased.
     Erase {

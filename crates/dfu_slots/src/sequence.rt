@@ -13,7 +13,7 @@ pub(crate) const MAX_WRITE: u32 = 4096;
 pub const MAX_OPERATIONS: usize = 3;
 
 /// A change of a medium, by the numbers that its operations depend on.
-#[derive(Clone, Copy, Debug, PartialEq, Eq, Drop)]
+#[derive(Clone, Copy, Drop)]
 pub enum Sequence {
     /// The gate of a slot is closed.
     Close {

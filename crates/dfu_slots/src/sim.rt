@@ -12,7 +12,7 @@ use std::marker::Model;
 use thiserror::Error;
 
 /// There was no memory for the medium.
-#[derive(Clone, Copy, Debug, PartialEq, Eq, Drop, Error)]
+#[derive(Clone, Copy, Debug, Drop, Error)]
 #[error("out of memory")]
 pub struct NoMemory;
 

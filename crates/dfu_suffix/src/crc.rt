@@ -9,7 +9,7 @@ use std::marker::Model;
 
 /// The register over the bytes so far: reflected CRC-32 with the polynomial EDB88320h, which begins at
 /// FFFFFFFFh and has no final complement. Its complement is the usual CRC-32.
-#[derive(Clone, Copy, Debug, PartialEq, Eq)]
+#[derive(Clone, Copy)]
 pub struct Crc {
     register: u32,
 }

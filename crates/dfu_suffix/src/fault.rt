@@ -8,7 +8,7 @@ use thiserror::Error;
 /// Why a file isn't read, checked or written. `read` and `check` answer the first of TooLarge,
 /// TooShort, NoSignature, BadLength, DfuSe, BadCrc whose condition holds, looked for in this
 /// order; `add` looks for TooLarge and then AlreadySuffixed.
-#[derive(Clone, Copy, Debug, PartialEq, Eq, Error)]
+#[derive(Clone, Copy, Debug, Error)]
 pub enum SuffixFault {
     /// The file has under 16 bytes.
     #[error("the file has under 16 bytes, too few for a suffix")]

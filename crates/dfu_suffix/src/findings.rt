@@ -8,7 +8,7 @@ use crate::summary::u32_at;
 
 /// What `check_with` finds in a file of 16 to 16,777,216 bytes: its length, two fields of its suffix (USB DFU 1.1,
 /// appendix B) as they are written, and the register that dwCRC has to be.
-#[derive(Clone, Copy, Debug, PartialEq, Eq)]
+#[derive(Clone, Copy)]
 pub struct Findings {
     /// How many bytes the file has.
     pub count: u32,

@@ -8,7 +8,7 @@ use std::alloc::Global;
 use std::io::Read;
 
 /// Why what a reader gives was not all gathered.
-#[derive(Clone, Copy, Debug, PartialEq, Eq)]
+#[derive(Clone, Copy)]
 pub enum GatherFault {
     /// The reader gives more bytes than the limit.
     TooLarge,

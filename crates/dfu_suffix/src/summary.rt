@@ -13,7 +13,7 @@ use byteorder::{ByteOrder, LittleEndian};
 use dfu_wire::Ids;
 
 /// A file's fields and the length of its payload, as `check` answers them.
-#[derive(Clone, Copy, Debug, PartialEq, Eq)]
+#[derive(Clone, Copy)]
 pub struct Summary {
     /// How many bytes the payload has, at most 16,777,200.
     pub payload: u32,

@@ -5,7 +5,7 @@ ghost use Rattle.dfu_suffix.specs.Writing.{WritesWhole};
 use std::io::Write;
 
 /// The writer failed, or took nothing of what was left.
-#[derive(Clone, Copy, Debug, PartialEq, Eq)]
+#[derive(Clone, Copy)]
 pub struct OutputError;
 
 /// Writes the whole text. It doesn't flush.

@@ -6,7 +6,7 @@ ghost use Rattle.dfu_wire.specs.Code.{code_byte, code_name};
 use crate::WireFault;
 
 /// A status code, as bStatus says it.
-#[derive(Clone, Copy, Debug, PartialEq, Eq)]
+#[derive(Clone, Copy)]
 pub enum Code {
     /// 00h: all is well.
     Ok,

@@ -6,7 +6,7 @@ ghost use Rattle.dfu_wire.specs.FaultName.{wire_fault_name};
 use thiserror::Error;
 
 /// Why bytes or numbers are not a value of the wire. Each reader says in which order it looks.
-#[derive(Clone, Copy, Debug, PartialEq, Eq, Error)]
+#[derive(Clone, Copy, Debug, Error)]
 pub enum WireFault {
     /// There are fewer bytes than the value has: no bytes of a functional descriptor, or fewer than its
     /// first byte says (if that is 7 or 9), and under 6 of a status.

@@ -30,7 +30,7 @@ const TYPE: u8 = 0x21;
 ///
 /// Bits 4 to 7 of bmAttributes are reserved: ignored on reading, and written as 0. Bit 3 is read the
 /// same of either version, though DFU 1.0 reserved it.
-#[derive(Clone, Copy, Debug, PartialEq, Eq)]
+#[derive(Clone, Copy)]
 pub struct Functional {
     /// bitCanDnload: a host may send an image.
     pub can_download: bool,

@@ -2,7 +2,7 @@
 
 /// The identifiers of a device, as its device descriptor and the suffix of a file have them (USB
 /// DFU 1.1, appendix B). In a file FFFFh in a field means that the file doesn't say.
-#[derive(Clone, Copy, Debug, PartialEq, Eq)]
+#[derive(Clone, Copy)]
 pub struct Ids {
     /// bcdDevice: the release of the device.
     pub device: u16,

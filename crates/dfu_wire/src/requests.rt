@@ -18,7 +18,7 @@ use crate::setups::{IN, OUT};
 /// | CLRSTATUS | 21h | 4 | none | 0 |
 /// | GETSTATE | A1h | 5 | none | most bytes of the answer |
 /// | ABORT | 21h | 6 | none | 0 |
-#[derive(Clone, Copy, Debug, PartialEq, Eq)]
+#[derive(Clone, Copy)]
 pub enum Request {
     /// Leave the application for upgrade mode at a reset within `timeout` milliseconds.
     Detach { timeout: u16 },

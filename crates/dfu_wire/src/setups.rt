@@ -16,7 +16,7 @@ pub(crate) const IN: u8 = 0xa1;
 
 /// The eight bytes that begin a request. Any eight bytes are a setup; numbers of two bytes have
 /// their low byte first.
-#[derive(Clone, Copy, Debug, PartialEq, Eq)]
+#[derive(Clone, Copy)]
 pub struct Setup {
     /// bmRequestType, byte 0: 21h sends to the device, A1h reads from it, others are not DFU.
     pub kind: u8,

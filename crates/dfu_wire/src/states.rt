@@ -6,7 +6,7 @@ ghost use Rattle.dfu_wire.specs.State.{state_byte, state_name};
 use crate::WireFault;
 
 /// A state of a device, as bState says it.
-#[derive(Clone, Copy, Debug, PartialEq, Eq)]
+#[derive(Clone, Copy)]
 pub enum State {
     /// 0: the application runs.
     AppIdle,

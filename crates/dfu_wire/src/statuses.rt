@@ -20,7 +20,7 @@ const LONGEST_POLL: u32 = 0xff_ffff;
 /// | 5 | iString: ignored on reading, and written as 0 | |
 ///
 /// Its poll time is always at most 16,777,215.
-#[derive(Clone, Copy, Debug, PartialEq, Eq)]
+#[derive(Clone, Copy)]
 pub struct Status {
     code: Code,
     poll: u32,

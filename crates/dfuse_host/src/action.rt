@@ -3,7 +3,7 @@
 use crate::report::Report;
 
 /// What a session asks its caller to do.
-#[derive(Clone, Copy, Debug, PartialEq, Eq)]
+#[derive(Clone, Copy)]
 pub enum Action<'f> {
     /// Send this request with this body: bytes of the image with a DNLOAD, else nothing. The answer is asked for if the setup's
     /// first byte is A1h.

@@ -3,7 +3,7 @@
 use thiserror::Error;
 
 /// Why a plan is refused, before anything is sent: the first of these that holds.
-#[derive(Clone, Copy, Debug, PartialEq, Eq, Error)]
+#[derive(Clone, Copy, Debug, Error)]
 pub enum PlanFault {
     /// The transfer size is 0.
     #[error("the device takes blocks of 0 bytes")]

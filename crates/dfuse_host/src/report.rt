@@ -3,7 +3,7 @@
 use dfu_wire::Code;
 
 /// Whether the device left for its application.
-#[derive(Clone, Copy, Debug, PartialEq, Eq)]
+#[derive(Clone, Copy)]
 pub enum Leaving {
     /// It wasn't asked to.
     Stayed,
@@ -14,7 +14,7 @@ pub enum Leaving {
 }
 
 /// How a session ended.
-#[derive(Clone, Copy, Debug, PartialEq, Eq)]
+#[derive(Clone, Copy)]
 pub enum Report {
     /// Each byte of the image was read back, and is the image's.
     Verified(Leaving),

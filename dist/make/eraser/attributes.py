@@ -6,18 +6,24 @@ from tokens import Token, end_of_group, next_code, text_of
 TAKEN = {"tactic", "cycle"}
 CHANGED = {"rattlefmt::skip": "#[rustfmt::skip]"}
 KEPT = {"inline", "error", "from", "repr", "must_use", "cold", "non_exhaustive"}
-DERIVES = {"Clone", "Copy", "Debug", "Default", "PartialEq", "Eq", "PartialOrd", "Ord", "Hash", "Error"}
+# In the order in which they are written.
+DERIVES = ["Clone", "Copy", "Debug", "Default", "PartialEq", "Eq", "PartialOrd", "Ord", "Hash", "Error"]
 # A type that may be dropped says so in Rattle; in Rust each may.
 TAKEN_DERIVE = "Drop"
+# Users and tests print and compare values. The proved code seldom does, so the sources leave these out, and nothing is proved of them.
+ADDED_DERIVES = ("Debug", "PartialEq", "Eq")
+# The program's other types hold streams and files, which cannot be compared.
+VALUE = "Clone"
 
 
-def without_tactics(path, tokens, kept=frozenset()):
-    """The tokens with their attributes as Rust has them; `kept` names more that stay."""
+def without_tactics(path, tokens, kept=frozenset(), values_only=False):
+    """The tokens with their attributes as Rust has them; `kept` names more that stay. Each type of a library can be printed and compared,
+    and with `values_only` each that is a value."""
     made, at = [], 0
     while at < len(tokens):
         if tokens[at].text == "#" and tokens[at].kind == "mark":
             end = end_of_attribute(path, tokens, at)
-            new = attribute(path, tokens[at:end + 1], KEPT | kept)
+            new = attribute(path, tokens[at:end + 1], KEPT | kept, values_only)
             if new:
                 made.append(Token("attribute", new, tokens[at].line))
             elif made and made[-1].kind == "space":
@@ -46,7 +52,7 @@ def end_of_attribute(path, tokens, at):
     return end_of_group(path, tokens, opening)
 
 
-def attribute(path, tokens, kept):
+def attribute(path, tokens, kept, values_only):
     """What stands for an attribute in Rust, or None."""
     code = [it.text for it in tokens if it.is_code()]
     is_inner = code[1] == "!"
@@ -59,18 +65,17 @@ def attribute(path, tokens, kept):
     if not is_inner and name in CHANGED:
         return CHANGED[name]
     if not is_inner and name == "derive":
-        return derive(path, tokens, body[2:-1])
+        return derive(path, tokens, body[2:-1], values_only)
     if is_inner or name not in kept:
         raise Refusal(path, tokens[0].line, f"an attribute that the eraser does not know: {text_of(tokens)}")
     return text_of(tokens)
 
 
-def derive(path, tokens, words):
+def derive(path, tokens, words, values_only):
     names = [it for it in words if it != ","]
     for name in names:
         if name != TAKEN_DERIVE and name not in DERIVES:
             raise Refusal(path, tokens[0].line, f"a derive that the eraser does not know: {name}")
-    if TAKEN_DERIVE not in names:
-        return text_of(tokens)
-    left = [it for it in names if it != TAKEN_DERIVE]
+    added = () if values_only and VALUE not in names else ADDED_DERIVES
+    left = sorted({*names, *added} - {TAKEN_DERIVE}, key=DERIVES.index)
     return f"#[derive({', '.join(left)})]" if left else None

@@ -64,7 +64,7 @@ class Source:
     def erase(self, macros, memory, kept=frozenset(), allowed=frozenset(), system=None):
         tokens = without_laws(self.path, with_shared_macros(self.path, self.tokens))
         tokens = without_proofs(self.path, tokens)
-        tokens = without_tactics(self.path, tokens, kept)
+        tokens = without_tactics(self.path, tokens, kept, system is not None)
         words = Words(self.path, tokens, macros, memory, allowed, system)
         self.tokens = with_items(self.path, words.run())
         self.takes_memory = words.takes_memory

@@ -1,7 +1,7 @@
 //! What is due next of a run area.
 
 /// Why no image is started.
-#[derive(Clone, Copy, Debug, Drop, PartialEq, Eq)]
+#[derive(Clone, Copy, Drop)]
 pub enum Refusal {
     /// The sectors are not of a multiple of 256 bytes up to 131,072, or the run area is not whole in them, or has 2^32 bytes or more.
     WrongSize,
@@ -12,7 +12,7 @@ pub enum Refusal {
 }
 
 /// What is due next.
-#[derive(Clone, Copy, Debug, Drop, PartialEq, Eq)]
+#[derive(Clone, Copy, Drop)]
 pub enum Due {
     /// Nothing: no image can be started.
     Refuse(Refusal),

@@ -9,7 +9,7 @@ use crate::trial::{Operation, Standing};
 use dfu_slots::{Medium, data_at};
 
 /// How a running image is confirmed.
-#[derive(Clone, Copy, Debug, PartialEq, Eq, Drop)]
+#[derive(Clone, Copy, Drop)]
 pub enum Confirmation {
     /// By this operation.
     By(Operation),

@@ -6,7 +6,7 @@ ghost use Rattle.dfu_boot.specs.trial.Laws.{Carried, HasWorked, HasFailed};
 use dfu_slots::{Failed, Medium};
 
 /// One operation on the medium, which the caller carries out. Whatever becomes of it, only the bytes of its range may change.
-#[derive(Clone, Copy, Debug, PartialEq, Eq, Drop)]
+#[derive(Clone, Copy, Drop)]
 pub enum Operation {
     /// So many zeros, at most 256, are programmed from there on: a mark, all of whose bytes are FFh. Place, and length.
     Mark(u32, u32),

@@ -1,7 +1,7 @@
 //! The standing of the images of a medium.
 
 /// Nothing is on trial.
-#[derive(Clone, Copy, Debug, PartialEq, Eq, Drop)]
+#[derive(Clone, Copy, Drop)]
 pub struct Settled {
     /// Where the slot of the active image begins.
     pub slot: u32,
@@ -10,7 +10,7 @@ pub struct Settled {
 }
 
 /// An image on trial.
-#[derive(Clone, Copy, Debug, PartialEq, Eq, Drop)]
+#[derive(Clone, Copy, Drop)]
 pub struct Trial {
     /// Where its slot begins.
     pub slot: u32,
@@ -21,7 +21,7 @@ pub struct Trial {
 }
 
 /// The standing of the images of a medium.
-#[derive(Clone, Copy, Debug, PartialEq, Eq, Drop)]
+#[derive(Clone, Copy, Drop)]
 pub enum Standing {
     /// Nothing is on trial: the active image runs.
     Settled(Settled),

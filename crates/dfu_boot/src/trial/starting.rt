@@ -8,7 +8,7 @@ use crate::trial::{Operation, Standing};
 use dfu_slots::Medium;
 
 /// What starts, and what the caller carries out before.
-#[derive(Clone, Copy, Debug, PartialEq, Eq, Drop)]
+#[derive(Clone, Copy, Drop)]
 pub struct Starting {
     /// The operation that is carried out first, if any.
     pub operation: Option<Operation>,

@@ -8,7 +8,7 @@ use dfu_slots::Medium;
 use thiserror::Error;
 
 /// Why so many tries are refused. They are looked for in this order.
-#[derive(Clone, Copy, Debug, PartialEq, Eq, Drop, Error)]
+#[derive(Clone, Copy, Debug, Drop, Error)]
 pub enum TriesFault {
     /// The medium has no sectors, so no marks are erased with a header.
     #[error("the medium has no sectors, so no room for marks")]

@@ -4,7 +4,7 @@ use thiserror::Error;
 
 /// Why bytes aren't a DfuSe file: the first of these that holds. Up to BadCrc the suffix is looked at, from the end of the file; then the
 /// rest from its front, target by target.
-#[derive(Clone, Copy, Debug, PartialEq, Eq, Error)]
+#[derive(Clone, Copy, Debug, Error)]
 pub enum FileFault {
     /// The file has over 16,777,216 bytes.
     #[error("the file has over 16777216 bytes")]

@@ -10,7 +10,7 @@ use crate::dfuse::listing::put;
 use thiserror::Error;
 
 /// Why a file has no image for a setting: the first of these that holds.
-#[derive(Clone, Copy, Debug, PartialEq, Eq, Error)]
+#[derive(Clone, Copy, Debug, Error)]
 pub enum ImageFault {
     /// No target is for this alternate setting.
     #[error("the file has nothing for this alternate setting")]

@@ -11,7 +11,7 @@ use dfu_suffix::SuffixFault;
 use thiserror::Error;
 
 /// Why a file can't be written to an address: the first of these that holds.
-#[derive(Clone, Copy, Debug, PartialEq, Eq, Error)]
+#[derive(Clone, Copy, Debug, Error)]
 pub enum RawFault {
     /// The file has over 16,777,216 bytes.
     #[error("the file has over 16777216 bytes")]

@@ -6,7 +6,7 @@ ghost use Rattle.dfu_formats.specs.images.Endings.{name_ending, ends_in};
 use crate::images::format::Format;
 
 /// What the ending of a file's name says that it is.
-#[derive(Clone, Copy, Debug, PartialEq, Eq)]
+#[derive(Clone, Copy)]
 pub enum Ending {
     /// A file of a format that builds produce.
     Of(Format),

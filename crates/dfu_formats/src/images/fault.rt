@@ -3,7 +3,7 @@
 use thiserror::Error;
 
 /// Why a file has no image. Lines are counted from 1, and blocks and segments from 0.
-#[derive(Clone, Copy, Debug, PartialEq, Eq, Error)]
+#[derive(Clone, Copy, Debug, Error)]
 pub enum ImageFault {
     /// An allocation was refused.
     #[error("an allocation was refused")]

@@ -1,7 +1,7 @@
 //! Formats of files.
 
 /// A format of files that builds produce.
-#[derive(Clone, Copy, Debug, PartialEq, Eq)]
+#[derive(Clone, Copy)]
 pub enum Format {
     /// Intel HEX.
     IntelHex,

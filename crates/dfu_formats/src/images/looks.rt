@@ -10,7 +10,7 @@ use crate::images::places::{Place, bad_place};
 use crate::images::text::{is_text, unblanked, unmarked};
 
 /// A file of which no image is taken.
-#[derive(Clone, Copy, Debug, PartialEq, Eq)]
+#[derive(Clone, Copy)]
 pub enum NotImage {
     /// It begins as a DfuSe file.
     DfuSe,
@@ -25,7 +25,7 @@ pub enum NotImage {
 }
 
 /// What a file is.
-#[derive(Clone, Copy, Debug, PartialEq, Eq)]
+#[derive(Clone, Copy)]
 pub enum Looks {
     /// Nothing is known against a raw image.
     Raw,
@@ -36,7 +36,7 @@ pub enum Looks {
 }
 
 /// A look at a file.
-#[derive(Clone, Copy, Debug, PartialEq, Eq)]
+#[derive(Clone, Copy)]
 pub struct Look {
     /// What it is.
     pub looks: Looks,

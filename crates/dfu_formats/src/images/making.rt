@@ -13,7 +13,7 @@ use std::alloc::Global;
 use thiserror::Error;
 
 /// The bytes from the lowest address of a file to its highest one.
-#[derive(Debug, Drop)]
+#[derive(Drop)]
 pub struct Image {
     /// The address of the first byte.
     pub address: u32,
@@ -22,7 +22,7 @@ pub struct Image {
 }
 
 /// Why there is no image of a file.
-#[derive(Clone, Copy, Debug, PartialEq, Eq, Error)]
+#[derive(Clone, Copy, Debug, Error)]
 pub enum ImageFileFault {
     /// It can't be read.
     #[error("{0}")]

@@ -8,7 +8,7 @@ use crate::images::format::Format;
 use crate::images::text::{is_blank_byte, unmarked};
 
 /// A place in a text. Both numbers count from 1, and columns count bytes.
-#[derive(Clone, Copy, Debug, PartialEq, Eq)]
+#[derive(Clone, Copy)]
 pub struct Place {
     /// The line.
     pub line: u64,

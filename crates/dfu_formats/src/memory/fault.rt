@@ -4,7 +4,7 @@ use thiserror::Error;
 
 /// Why a string isn't a memory map. It is read from the front, and the first fault met is the answer; Overlaps is looked for
 /// once all is read.
-#[derive(Clone, Copy, Debug, PartialEq, Eq, Error)]
+#[derive(Clone, Copy, Debug, Error)]
 pub enum MapFault {
     /// It doesn't begin with `@`, or has no `/` after the name.
     #[error("the string has no memory map")]

@@ -4,7 +4,7 @@ ghost use Rattle.std.specs.Prelude.{◌≡◌};
 ghost use Rattle.dfu_formats.specs.memory.Lookups.{grants};
 
 /// What may be done with a page.
-#[derive(Clone, Copy, Debug, Default, PartialEq, Eq)]
+#[derive(Clone, Copy, Default)]
 pub struct Access {
     pub is_readable: bool,
     pub is_erasable: bool,
@@ -23,7 +23,7 @@ impl Access {
 }
 
 /// Pages of one size, one after the other.
-#[derive(Clone, Copy, Debug, Default, PartialEq, Eq)]
+#[derive(Clone, Copy, Default)]
 pub struct Pages {
     /// The address of the first byte.
     pub start: u32,
@@ -36,7 +36,7 @@ pub struct Pages {
 }
 
 /// A page.
-#[derive(Clone, Copy, Debug, PartialEq, Eq)]
+#[derive(Clone, Copy)]
 pub struct Page {
     /// The address of the first byte.
     pub start: u32,

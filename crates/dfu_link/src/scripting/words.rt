@@ -147,7 +147,7 @@ macro_rules! one_of {
 pub(crate) use one_of;
 
 /// The first word of a line.
-#[derive(Clone, Copy, Debug, PartialEq, Eq)]
+#[derive(Clone, Copy)]
 pub(crate) enum Keyword {
     Ids,
     Device,
@@ -171,7 +171,7 @@ pub(crate) enum Keyword {
 }
 
 /// The word after `go`.
-#[derive(Clone, Copy, Debug, PartialEq, Eq)]
+#[derive(Clone, Copy)]
 pub(crate) enum FateKeyword {
     Pass,
     LostOut,

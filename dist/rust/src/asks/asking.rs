@@ -8,7 +8,7 @@ use crate::slots::Unit;
 
 /// A device that asks for its writes, as it is kept between two calls. Its flash is mapped, and passed in at each call. So are
 /// the memory of the block that is not written, and that of the bytes put that are held back, fewer than a unit has.
-#[derive(Clone, Copy)]
+#[derive(Clone, Copy, Debug, PartialEq, Eq)]
 pub struct Asking {
     /// What it is set up with.
     pub config: Config,

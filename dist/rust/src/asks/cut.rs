@@ -9,7 +9,7 @@ use crate::asks::runs::runs_of;
 use crate::slots::{OPEN_GATE, Source};
 
 /// A search for the next piece of a series of writes, and the piece once it is found.
-#[derive(Clone, Copy)]
+#[derive(Clone, Copy, Debug, PartialEq, Eq)]
 pub(crate) struct Cut<'a> {
     /// What the writes are made of.
     pub(crate) stock: WriteInputs<'a>,

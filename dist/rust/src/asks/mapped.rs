@@ -7,6 +7,7 @@ use crate::slots::{Failed, Medium, Unit};
 
 /// Flash that is mapped into memory: it is read there, and no write or erase through this works. Its owner writes it, in this unit,
 /// in place or in sectors that it erases before.
+#[derive(Debug, PartialEq, Eq)]
 pub struct Mapped<'m> {
     pub(crate) bytes: &'m [u8],
     pub(crate) unit: Unit,

@@ -36,7 +36,7 @@ impl Noted {
 }
 
 /// What a call sees of its flash by what is noted.
-#[derive(Clone, Copy)]
+#[derive(Clone, Copy, Debug, PartialEq, Eq)]
 pub(crate) struct View {
     /// Where the active slot begins.
     pub(crate) active: u32,

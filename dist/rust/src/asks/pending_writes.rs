@@ -38,7 +38,7 @@ pub enum SlotWrite {
 }
 
 /// What the writes of a `SlotWrite` are made of, beside it: the unit, where the puts end, the bytes held back, and the block.
-#[derive(Clone, Copy)]
+#[derive(Clone, Copy, Debug, PartialEq, Eq)]
 pub(crate) struct WriteInputs<'a> {
     pub(crate) unit: Unit,
     pub(crate) sector: Sector,

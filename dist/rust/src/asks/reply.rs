@@ -15,7 +15,7 @@ pub enum Reply {
 
 /// An operation on the flash: `len` bytes are to be programmed at `at`, or to be erased there. The call that gives it puts the
 /// bytes of a program at the front of the buffer that it is handed.
-#[derive(Clone, Copy)]
+#[derive(Clone, Copy, Debug, PartialEq, Eq)]
 pub struct FlashOp {
     /// Whether it erases: the `len` bytes there are FFh then.
     pub erases: bool,

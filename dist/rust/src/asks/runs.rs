@@ -6,7 +6,7 @@ use crate::asks::cut::Cut;
 use crate::slots::Source;
 
 /// Bytes that lie in two slices, and bytes of one value after them.
-#[derive(Clone, Copy)]
+#[derive(Clone, Copy, Debug, PartialEq, Eq)]
 pub(crate) struct Runs<'a> {
     /// The first of them.
     pub(crate) front: &'a [u8],

@@ -32,7 +32,7 @@ impl Sector {
 }
 
 /// The position after so many bytes of a write and of the erases before it.
-#[derive(Clone, Copy)]
+#[derive(Clone, Copy, Debug, PartialEq, Eq)]
 pub(crate) enum Position {
     /// So many bytes of a sector are to be erased there.
     Erase {

@@ -10,6 +10,7 @@ const EVERY: Places = [[u64::MAX; 16]; 12];
 
 /// A judge of one device, about which nothing is known at first: it follows every device at once, with each set of habits.
 /// It takes no memory beyond its own 3,080 bytes.
+#[derive(Debug, PartialEq, Eq)]
 pub struct Judge {
     // Up to the first departure both are the same, and `since` is not used.
     has_departed: bool,

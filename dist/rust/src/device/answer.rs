@@ -23,7 +23,7 @@ pub enum Answer {
 /// those of the core after the row.
 ///
 /// `asked` is wLength, the most bytes that are sent.
-#[derive(Clone, Copy)]
+#[derive(Clone, Copy, Debug, PartialEq, Eq)]
 pub(crate) enum PendingAnswer {
     /// The request is acknowledged.
     Ack,

@@ -11,7 +11,7 @@ use thiserror::Error;
 ///
 /// On a medium with sectors both times are to have room for erases: a block takes at most one, and one more for each sector
 /// that begins in the transfer size and a unit; an image takes two or three.
-#[derive(Clone, Copy, Debug)]
+#[derive(Clone, Copy, Debug, PartialEq, Eq)]
 pub struct Config {
     ids: Ids,
     functional: Functional,

@@ -43,6 +43,7 @@ use crate::wire::{Code, Functional, Ids, State};
 /// - The state then says what runs: the application in appIDLE and appDETACH, else the upgrade. A
 ///   device with bitWillDetach goes from appDETACH to dfuIDLE by a tick, and there its maker detaches it
 ///   from the bus. In dfuMANIFEST-WAIT-RESET it waits for its maker or the host to reset it.
+#[derive(Debug, PartialEq, Eq)]
 pub struct Device<M: Medium> {
     // A layer of its own: its functions read its fields, which keep an invariant, and a caller of
     // `Device` sees one plain value, `DeviceView`, and not those fields.

@@ -21,6 +21,7 @@ fn hold(block: &mut ArrayVec<u8, 4096>, bytes: &[u8]) {
 
 /// The core of a device: what is fixed, the slot store, the state, and the block that is not
 /// written yet.
+#[derive(Debug, PartialEq, Eq)]
 pub struct DeviceCore<M: Medium> {
     pub config: Config,
     pub slots: Slots<M>,

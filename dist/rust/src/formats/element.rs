@@ -5,6 +5,7 @@
 use crate::memory::Vec;
 
 /// Bytes that follow one another, and the address of the first. There is at least one byte, and the last has an address of 32 bits.
+#[derive(Debug, PartialEq, Eq)]
 pub struct Element {
     address: u32,
     bytes: Vec<u8>,

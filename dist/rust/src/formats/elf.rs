@@ -15,6 +15,7 @@ fn is_elf(file: &[u8]) -> bool {
 }
 
 /// The file that segments are read from.
+#[derive(Debug, PartialEq, Eq)]
 struct Segments<'t> {
     file: &'t [u8],
 }

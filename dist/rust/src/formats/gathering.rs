@@ -8,6 +8,7 @@ use crate::formats::limits::{MAX_ELEMENTS, MAX_IMAGE};
 use crate::memory::{Global, Vec};
 
 /// Elements that are complete, by address, and the one that still grows.
+#[derive(Debug, PartialEq, Eq)]
 pub(crate) struct Gathering {
     complete: Vec<Element>,
     address: u64,

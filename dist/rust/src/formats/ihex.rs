@@ -24,6 +24,7 @@ fn spelled(at: usize, line: &[u8]) -> Result<ArrayVec<u8, MAX_RECORD>, ImageFaul
 }
 
 /// A record: where its data goes, counted from the base, its type, and its data.
+#[derive(Debug, PartialEq, Eq)]
 struct Record<'t> {
     offset: u32,
     kind: u8,

@@ -38,6 +38,7 @@ fn bare(line: &[u8]) -> &[u8] {
 
 /// What was read of a text up to a line: the elements, what Intel HEX counts offsets from, whether that is a segment of 65,536 bytes,
 /// how many S-records of data there were, whether the text may end here, and whether only blank lines may follow.
+#[derive(Debug, PartialEq, Eq)]
 pub(crate) struct State {
     pub gathering: Gathering,
     pub base: u64,

@@ -11,7 +11,7 @@ use crate::memory::{Global, Vec};
 use thiserror::Error;
 
 /// The bytes from the lowest address of a file to its highest one.
-#[derive(Debug)]
+#[derive(Debug, PartialEq, Eq)]
 pub struct Image {
     /// The address of the first byte.
     pub address: u32,

@@ -16,7 +16,7 @@ pub struct Place {
 }
 
 /// A part of a line: before the mark of a record, behind the mark, and behind the digits.
-#[derive(Clone, Copy)]
+#[derive(Clone, Copy, Debug, PartialEq, Eq)]
 enum Part {
     Front,
     Digits,

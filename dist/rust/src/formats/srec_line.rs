@@ -8,6 +8,7 @@ use crate::formats::limits::MAX_RECORD;
 use arrayvec::ArrayVec;
 
 /// The type of a record, and its bytes.
+#[derive(Debug, PartialEq, Eq)]
 pub(crate) struct Typed {
     kind: u8,
     bytes: ArrayVec<u8, MAX_RECORD>,
@@ -46,6 +47,7 @@ fn number(bytes: &[u8]) -> u64 {
 }
 
 /// A record: its type, its address, and its data.
+#[derive(Debug, PartialEq, Eq)]
 pub(crate) struct Record<'t> {
     pub(crate) kind: u8,
     pub(crate) address: u64,

@@ -36,7 +36,7 @@ fn is_text_byte(byte: u8) -> bool {
 }
 
 /// What is awaited of a character of UTF-8: how many bytes, and the bounds of the next one.
-#[derive(Clone, Copy)]
+#[derive(Clone, Copy, Debug, PartialEq, Eq)]
 struct Awaited {
     left: u8,
     low: u8,

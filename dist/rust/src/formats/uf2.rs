@@ -58,6 +58,7 @@ fn flashed(
 }
 
 /// What blocks have to name: how many they are, and the family of the first.
+#[derive(Debug, PartialEq, Eq)]
 struct Blocks {
     total: usize,
     family: u32,

@@ -3,7 +3,7 @@
 //! What a session is for.
 
 /// What a session is for. It takes no memory: the caller keeps what an upload fetches.
-#[derive(Clone, Copy)]
+#[derive(Clone, Copy, Debug, PartialEq, Eq)]
 pub enum Goal<'f> {
     /// To install a payload, which has at least one byte.
     Load(&'f [u8]),

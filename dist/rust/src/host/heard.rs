@@ -8,7 +8,7 @@ use crate::host::task::Task;
 use crate::wire::{State, Status};
 
 /// What a host understands of what came of its action.
-#[derive(Clone, Copy)]
+#[derive(Clone, Copy, Debug, PartialEq, Eq)]
 pub(crate) enum Heard {
     Acked,
     Told(Status),

@@ -19,6 +19,7 @@ use crate::memory::{Global, Vec};
 ///
 /// It does nothing itself: its caller does what `next` asks for and gives `take` what came of it,
 /// until `next` returns `Done`. It takes memory only for the parts of an upload.
+#[derive(Debug, PartialEq, Eq)]
 pub struct Host<'f> {
     session: Session<'f>,
     memory: Memory,
@@ -129,6 +130,7 @@ impl<'f> Host<'f> {
 }
 
 /// The memory of a host: a vector for the parts of an upload, which grows, or nothing.
+#[derive(Debug, PartialEq, Eq)]
 pub(crate) enum Memory {
     Nothing,
     Bytes(Vec<u8>),

@@ -3,7 +3,7 @@
 //! A part of an upload that is to be kept.
 
 /// A part of an upload that is to be kept: the bytes join what was kept since the fetching began.
-#[derive(Clone, Copy)]
+#[derive(Clone, Copy, Debug, PartialEq, Eq)]
 pub(crate) struct UploadPart<'s> {
     /// Its number; part 0 is the first, and nothing is kept before it.
     pub(crate) number: u16,

@@ -7,7 +7,7 @@ use crate::host::goal::Goal;
 use crate::host::phase::Phase;
 
 /// A session taken apart: plain values, which a caller may keep between two calls.
-#[derive(Clone, Copy)]
+#[derive(Clone, Copy, Debug, PartialEq, Eq)]
 pub struct Parts<'f> {
     /// What the session is for.
     pub goal: Goal<'f>,

@@ -6,7 +6,7 @@ use crate::host::report::Report;
 
 /// A phase of a session, with what the session has to remember in it. Blocks are counted from 0,
 /// poll times are in milliseconds.
-#[derive(Clone, Copy)]
+#[derive(Clone, Copy, Debug, PartialEq, Eq)]
 pub enum Phase {
     /// Ask for the status, to find the device's state.
     Find,

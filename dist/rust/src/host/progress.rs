@@ -9,7 +9,7 @@ use crate::host::report::Report;
 use crate::host::task::Task;
 
 /// How far a session has come.
-#[derive(Clone, Copy)]
+#[derive(Clone, Copy, Debug, PartialEq, Eq)]
 pub(crate) struct Progress {
     pub(crate) phase: Phase,
     /// The actions that are left.

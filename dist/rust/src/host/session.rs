@@ -17,6 +17,7 @@ use crate::suffix::File;
 use crate::wire::{Functional, Ids};
 
 /// A session of a host, for a caller that keeps what an upload fetches itself. It takes no memory.
+#[derive(Debug, PartialEq, Eq)]
 pub struct Session<'f> {
     task: Task<'f>,
     progress: Progress,

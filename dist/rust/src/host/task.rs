@@ -9,6 +9,7 @@ use crate::host::report::Report;
 use crate::wire::Request;
 
 /// What a session is to do, and what its device's descriptor says.
+#[derive(Debug, PartialEq, Eq)]
 pub(crate) struct Task<'f> {
     pub(crate) goal: Goal<'f>,
     /// The most bytes of a block, at least 1.

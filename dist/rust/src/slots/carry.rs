@@ -10,7 +10,7 @@ use crate::slots::writes::write_some;
 use crate::slots::{Medium, WriteFault};
 
 /// The bytes that the operations of a change take theirs from.
-#[derive(Clone, Copy)]
+#[derive(Clone, Copy, Debug, PartialEq, Eq)]
 pub(crate) struct Sources<'b> {
     /// The bytes held back.
     pub held: &'b [u8],

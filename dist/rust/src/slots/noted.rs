@@ -35,6 +35,7 @@ impl Default for WriteNote {
 }
 
 /// The last writes of a medium, and how many there were.
+#[derive(Debug, PartialEq, Eq)]
 pub struct LastWrites {
     /// The last 16 of them, in their order.
     pub notes: ArrayVec<WriteNote, 16>,

@@ -7,7 +7,7 @@ use crate::slots::read::{counts, generation, header_len};
 use crate::slots::{Medium, OpenFault};
 
 /// Where the active slot and the spare one begin.
-#[derive(Clone, Copy)]
+#[derive(Clone, Copy, Debug, PartialEq, Eq)]
 pub struct Places {
     /// Where the active slot begins.
     pub active: u32,
@@ -16,7 +16,7 @@ pub struct Places {
 }
 
 /// Which of the two slots count.
-#[derive(Clone, Copy)]
+#[derive(Clone, Copy, Debug, PartialEq, Eq)]
 pub struct Counted {
     pub first: bool,
     pub second: bool,

@@ -9,6 +9,7 @@ use crate::slots::{Medium, Unit, WriteFault};
 use arrayvec::ArrayVec;
 
 /// The puts since `begin`. Their whole units are written, and the rest is held back.
+#[derive(Debug, PartialEq, Eq)]
 pub struct Puts {
     /// The bytes held back, fewer than a unit has.
     pub held: ArrayVec<u8, MAX_UNIT>,

@@ -20,7 +20,7 @@ impl From<AllocError> for NoMemory {
 }
 
 /// What the next writes do.
-#[derive(Clone, Copy)]
+#[derive(Clone, Copy, Debug, PartialEq, Eq)]
 pub enum Mode {
     /// They all work.
     Whole,
@@ -33,6 +33,7 @@ pub enum Mode {
 }
 
 /// What the next writes do, and how often one has failed.
+#[derive(Debug, PartialEq, Eq)]
 pub struct SimFuse {
     failures: u64,
     mode: Mode,
@@ -49,6 +50,7 @@ impl SimFuse {
 }
 
 /// A medium in memory that can be set to fail or to lie.
+#[derive(Debug, PartialEq, Eq)]
 pub struct SimMedium {
     bytes: Vec<u8>,
     fuse: SimFuse,

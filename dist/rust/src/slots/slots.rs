@@ -13,6 +13,7 @@ use crate::slots::{Faulty, FormatFault, Medium, OpenFault, format};
 /// when the store is made, and again after each `commit`.
 ///
 /// The medium is written in whole units; of the bytes put, what makes no whole unit yet is held back.
+#[derive(Debug, PartialEq, Eq)]
 pub struct Slots<M: Medium> {
     pub(crate) medium: M,
     pub(crate) puts: Puts,

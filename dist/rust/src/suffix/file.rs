@@ -24,6 +24,7 @@ pub(crate) const DFUSE: u16 = 0x011a;
 
 /// A file of the grammar: its payload, as a slice of the bytes that were read, and the fields of
 /// its suffix. Only `read` makes one.
+#[derive(Debug, PartialEq, Eq)]
 pub struct File<'f> {
     pub(crate) payload: &'f [u8],
     pub(crate) ids: Ids,

@@ -5,6 +5,7 @@
 use crate::slots::{Failed, Medium, Unit};
 
 /// The medium with a closed gate there. No write through this works.
+#[derive(Debug, PartialEq, Eq)]
 pub(crate) struct Closed<'m, M: Medium> {
     pub(crate) medium: &'m M,
     pub(crate) gate: u32,

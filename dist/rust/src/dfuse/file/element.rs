@@ -3,7 +3,7 @@
 //! A part of an image.
 
 /// Bytes, and the address at which they are to be stored. A program in C lends its image as a list of them.
-#[derive(Clone, Copy)]
+#[derive(Clone, Copy, Debug, PartialEq, Eq)]
 #[repr(C)]
 pub struct Element<'f> {
     pub address: u32,

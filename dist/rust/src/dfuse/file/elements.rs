@@ -7,6 +7,7 @@ use crate::dfuse::file::fault::FileFault;
 use crate::dfuse::file::numbers::number_at;
 
 /// An element, and the bytes after it.
+#[derive(Debug, PartialEq, Eq)]
 struct Split<'f> {
     element: Element<'f>,
     rest: &'f [u8],
@@ -57,6 +58,7 @@ pub(crate) fn check_elements(count: u32, bytes: &[u8]) -> Result<(), FileFault> 
 }
 
 /// The elements of a target, in the order of the file.
+#[derive(Debug, PartialEq, Eq)]
 pub struct Elements<'f> {
     left: u32,
     rest: &'f [u8],

@@ -10,6 +10,7 @@ use crate::dfuse::file::targets::{Targets, check_targets};
 use crate::wire::Ids;
 
 /// A DfuSe file: the device that it is for, and one to 255 targets, as slices of the bytes that were read. Only `read` makes one.
+#[derive(Debug, PartialEq, Eq)]
 pub struct File<'f> {
     ids: Ids,
     count: u8,

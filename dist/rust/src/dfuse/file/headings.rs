@@ -7,6 +7,7 @@ use crate::dfuse::file::marks::is_target;
 use crate::dfuse::file::numbers::number_at;
 
 /// What a target says before its elements, the bytes of these, and the bytes after the target.
+#[derive(Debug, PartialEq, Eq)]
 pub(crate) struct Heading<'f> {
     pub setting: u8,
     pub named: u32,

@@ -8,6 +8,7 @@ use crate::suffix::{Crc, SuffixFault};
 use crate::wire::Ids;
 
 /// The bytes before the suffix, and the identifiers in it.
+#[derive(Debug, PartialEq, Eq)]
 pub(crate) struct Suffixed<'f> {
     pub payload: &'f [u8],
     pub ids: Ids,

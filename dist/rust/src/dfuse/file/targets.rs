@@ -7,6 +7,7 @@ use crate::dfuse::file::fault::FileFault;
 use crate::dfuse::file::headings::take_heading;
 
 /// What goes into the memory of an alternate setting.
+#[derive(Debug, PartialEq, Eq)]
 pub struct Target<'f> {
     /// The alternate setting.
     pub setting: u8,
@@ -34,6 +35,7 @@ pub(crate) fn check_targets(count: u8, bytes: &[u8]) -> Result<(), FileFault> {
 }
 
 /// The targets of a file, in its order.
+#[derive(Debug, PartialEq, Eq)]
 pub struct Targets<'f> {
     left: u8,
     rest: &'f [u8],

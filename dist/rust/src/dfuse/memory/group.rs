@@ -9,12 +9,14 @@ use crate::dfuse::memory::pages::{Access, Pages};
 use crate::dfuse::memory::text::{Number, behind, front};
 
 /// What may be done with pages, and the text after the letter that says it.
+#[derive(Debug, PartialEq, Eq)]
 struct Allowed<'t> {
     access: Access,
     rest: &'t [u8],
 }
 
 /// A range, and the text after it.
+#[derive(Debug, PartialEq, Eq)]
 pub(crate) struct Group<'t> {
     pub pages: Pages,
     pub rest: &'t [u8],

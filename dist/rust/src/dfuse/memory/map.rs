@@ -13,6 +13,7 @@ use crate::dfuse::memory::ranges::take_ranges;
 use arrayvec::ArrayVec;
 
 /// A memory map: the name of a memory, and its ranges of pages, no two of which share an address.
+#[derive(Debug, PartialEq, Eq)]
 pub struct Map<'t> {
     name: &'t [u8],
     ranges: ArrayVec<Pages, MOST_RANGES>,

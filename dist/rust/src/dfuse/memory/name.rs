@@ -6,6 +6,7 @@ use crate::dfuse::memory::fault::MapFault;
 use crate::dfuse::memory::text::behind;
 
 /// A name, and the text after it.
+#[derive(Debug, PartialEq, Eq)]
 pub(crate) struct Named<'t> {
     pub name: &'t [u8],
     pub rest: &'t [u8],

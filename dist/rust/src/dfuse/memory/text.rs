@@ -3,6 +3,7 @@
 //! Pieces taken off the front of a text.
 
 /// A number, and the text after it.
+#[derive(Debug, PartialEq, Eq)]
 pub(crate) struct Number<'t> {
     pub value: u64,
     pub rest: &'t [u8],

@@ -11,7 +11,7 @@ use crate::dfuse::session::step::Step;
 use crate::dfuse::session::work::Work;
 
 /// What a DNLOAD asks for.
-#[derive(Clone, Copy)]
+#[derive(Clone, Copy, Debug, PartialEq, Eq)]
 pub(crate) enum Command {
     /// Set the address pointer.
     SetAddress(u64),

@@ -9,7 +9,7 @@ use crate::dfuse::session::work::Work;
 use crate::wire::{State, Status};
 
 /// What is understood of what is seen of an action.
-#[derive(Clone, Copy)]
+#[derive(Clone, Copy, Debug, PartialEq, Eq)]
 pub(crate) enum Heard {
     Acked,
     Told(Status),

@@ -8,7 +8,7 @@ use crate::dfuse::session::step::Step;
 use crate::dfuse::session::work::Work;
 
 /// What a session works at, what it knows of the device, and what it does next.
-#[derive(Clone, Copy)]
+#[derive(Clone, Copy, Debug, PartialEq, Eq)]
 pub struct Standing {
     pub work: Work,
     pub place: Place,
@@ -16,7 +16,7 @@ pub struct Standing {
 }
 
 /// A phase of a session.
-#[derive(Clone, Copy)]
+#[derive(Clone, Copy, Debug, PartialEq, Eq)]
 pub enum Phase {
     /// It goes on.
     On(Standing),

@@ -3,7 +3,7 @@
 //! What is known of the device's address pointer.
 
 /// What is known of the device's address pointer, once the device is ready for a command.
-#[derive(Clone, Copy)]
+#[derive(Clone, Copy, Debug, PartialEq, Eq)]
 pub enum Place {
     /// Nothing.
     Lost,

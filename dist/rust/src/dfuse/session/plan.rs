@@ -7,7 +7,7 @@ use crate::dfuse::file::Element;
 use crate::dfuse::memory::{Map, Page};
 
 /// What a session is to do.
-#[derive(Clone, Copy)]
+#[derive(Clone, Copy, Debug, PartialEq, Eq)]
 pub struct Plan<'f> {
     /// The memory.
     pub map: &'f Map<'f>,

@@ -16,7 +16,7 @@ use crate::dfuse::session::step::Step;
 use crate::dfuse::session::work::Work;
 
 /// A session: what it is to do, its phase, and what is left of its limits. It is plain data, which can be kept between two calls.
-#[derive(Clone, Copy)]
+#[derive(Clone, Copy, Debug, PartialEq, Eq)]
 pub struct Session<'f> {
     pub plan: Plan<'f>,
     pub phase: Phase,

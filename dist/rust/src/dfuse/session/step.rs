@@ -3,7 +3,7 @@
 //! What is done next of a work.
 
 /// What is done next of a work. Times are in milliseconds.
-#[derive(Clone, Copy)]
+#[derive(Clone, Copy, Debug, PartialEq, Eq)]
 pub enum Step {
     /// Drop with ABORT what was sent and not started, as by an earlier session. GETSTATUS would start it.
     Abort,

@@ -3,7 +3,7 @@
 //! What a session works at.
 
 /// What a session works at, in this order, but for `EraseAgain`. The front is the first bytes of the image, which are written last.
-#[derive(Clone, Copy)]
+#[derive(Clone, Copy, Debug, PartialEq, Eq)]
 pub enum Work {
     /// Erase each page that has a byte of the image from this address on.
     Erase { at: u64 },
