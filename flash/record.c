@@ -5,6 +5,7 @@
 #include "clock.h"
 #include "json.h"
 #include "next.h"
+#include "stamp.h"
 #include "standard.h"
 #include "station.h"
 #include "status.h"
@@ -109,6 +110,8 @@ static void begin_line(void)
         say_text(stdout, "", station_port(each.path), " ");
     if (each.is->serial[0] != '\0')
         say_text(stdout, "serial ", each.is->serial, " ");
+    if (stamp_taken() != NULL)
+        say_text(stdout, "stamp ", stamp_taken(), " ");
     printf("%.1f s ", each_seconds());
 }
 
