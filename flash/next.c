@@ -82,7 +82,7 @@ static const struct {
     {REFUSED_NO_RESET, "bring it to DFU mode by its button, or by --detach, and run it again"},
     {REFUSED_MIXED, "name the setting by --alt"},
     {REFUSED_NO_STAMP, "add entries to the list, and run it again"},
-    {REFUSED_STAMP_OUTSIDE, "correct --stamp-at: it is counted from the image's first byte, or with DfuSe an address"},
+    {REFUSED_STAMP_OUTSIDE, "correct --stamp-at, which counts from the image's first byte, or with DfuSe is an address"},
     {REFUSED_NO_ROOM, "correct --stamp-at; or build the image with room there, such as bytes that are all ff"},
     {DFUSE_FILE_TOO_LARGE, "give a file of at most 16777216 bytes"},
     {DFUSE_FILE_TOO_SHORT, SHORT},

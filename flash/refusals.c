@@ -41,7 +41,7 @@ static const struct refusal refusals[] = {
     {REFUSED_LARGE_BLOCKS, "LargeBlocks", "the device counts in blocks of over 4096 bytes, which Linux does not carry"},
     {REFUSED_NO_RESET, "CannotReset", "this system resets no device: bring it to DFU mode by hand, as by its button, or try --detach"},
     {REFUSED_MIXED, "Mixed", "the file has images for several alternate settings: see --alt"},
-    {REFUSED_NO_STAMP, "NoEntry", "each entry of the list of --stamp is used, or goes to a board now"},
+    {REFUSED_NO_STAMP, "NoEntry", "the list of --stamp has no entry left"},
     {REFUSED_STAMP_OUTSIDE, "OutsideTheImage", "the place of --stamp-at is not in the image"},
     {REFUSED_NO_ROOM, "NoRoom", "the place of --stamp-at has bytes that are not all the same, so the image has something there"},
     {DFUSE_FILE_TOO_LARGE, "TooLarge", "the file has over 16777216 bytes"},

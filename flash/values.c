@@ -198,7 +198,8 @@ bool value_length(const char *text, struct words *words)
 bool value_stamp(const char *text, struct words *words)
 {
     words->stamp = text;
-    return (*text != '\0' && strcmp(text, "-") != 0) || words_refuse("--stamp takes the name of a file, beside which LIST.used is kept", text);
+    return (*text != '\0' && strcmp(text, "-") != 0)
+           || words_refuse("--stamp takes the name of a file, beside which LIST.used is kept", text);
 }
 
 /* PLACE:BYTES. */
