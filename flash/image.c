@@ -11,6 +11,7 @@
 #include "standard.h"
 
 #include <dfu_host.h>
+#include <inttypes.h>
 #include <stdio.h>
 #include <stdlib.h>
 #include <string.h>
@@ -179,6 +180,18 @@ static int32_t read_raw(struct image *image, const struct words *words, const st
     return take_suffix(image);
 }
 
+/* Both sums, as a file has them. */
+static void say_sums(const struct image *image)
+{
+    uint32_t said = 0;
+    char seen[80];
+    for (int at = 0; at < 4; at++)
+        said |= (uint32_t)image->bytes[image->length - 4 + (size_t)at] << 8 * at;
+    snprintf(seen, sizeof seen, "it says the check sum %08" PRIx32 ", and its bytes have %08" PRIx32, said,
+             crc_of(image->bytes, image->length - 4));
+    advice_first(seen);
+}
+
 /* What begins as a DfuSe file is none without addresses, whatever is wrong with it; but a sound file of DFU 1.1 may have any image. */
 static int32_t take_bytes(struct image *image, const struct words *words)
 {
@@ -202,5 +215,7 @@ int32_t image_read(struct image *image, const struct words *words)
     if (!file_read(words->file, &image->bytes, &image->length))
         return IMAGE_UNREAD;
     refusal = take_bytes(image, words);
+    if (refusal == DFU_FILE_BAD_CRC || refusal == DFUSE_FILE_BAD_CRC)
+        say_sums(image);
     return refusal != 0 ? refusal : stamp_place(image, words);
 }

@@ -176,6 +176,8 @@ static void print_short(int status, const char *name, const char *words, const c
 {
     begin(status, name);
     json_text("words", words);
+    if (status == STATUS_FILE && say_reason() != NULL)
+        json_text("reason", say_reason());
     if (is_known())
         printf(",\"vendor\":\"%04x\",\"product\":\"%04x\",\"release\":\"%04x\"", each.is->vendor, each.is->product, each.is->release);
     if (path_known() != NULL)

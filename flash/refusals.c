@@ -34,7 +34,7 @@ static const struct refusal refusals[] = {
     {DFU_WRONG_LENGTH, "WrongLength", "the device's functional descriptor has neither 9 nor 7 bytes"},
     {DFU_WRONG_TYPE, "WrongType", "the device's functional descriptor is of another type"},
     {REFUSED_ANY, "ForAny", "the file is for any device, and --all takes one for a vendor and a product: see --device"},
-    {REFUSED_NO_ADDRESS, "NoAddress", "the device speaks DfuSe, and the file has no addresses: see --address"},
+    {REFUSED_NO_ADDRESS, "NoAddress", "the device speaks DfuSe, and nothing says at which address: see --address"},
     {REFUSED_RUN_TIME, "RunTimeMode", "the device speaks DfuSe and is in run-time mode: bring it to DFU mode first, as by --detach"},
     {REFUSED_NOT_DFUSE, "NotDfuSe", "the device speaks DFU 1.1, which has no addresses"},
     {REFUSED_OWN_ADDRESS, "OwnAddress", "the file is a DfuSe file, which has addresses of its own"},

@@ -40,11 +40,9 @@ static struct {
 
 static bool fail(const char *ending, size_t line, const char *why)
 {
-    say_text(stderr, "dfu-flash: ", list.list, ending);
-    if (line > 0)
-        fprintf(stderr, ", line %zu", line);
-    fprintf(stderr, ": %s\n", why);
-    return false;
+    char place[40];
+    snprintf(place, sizeof place, line > 0 ? "%s, line %zu" : "%s", ending, line);
+    return say_failed(list.list, place, why);
 }
 
 /* Its bytes, and 00 behind them up to the end of the place. NULL, or why it has none. */

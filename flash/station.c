@@ -111,11 +111,8 @@ static bool open_report(const char *name)
         station.file = -1;
         why = "what is there is no report of this program, and stays as it is";
     }
-    if (station.file < 0) {
-        say_text(stderr, "dfu-flash: ", name, " can't be the report: ");
-        fprintf(stderr, "%s\n", why);
-        return false;
-    }
+    if (station.file < 0)
+        return say_failed(name, " can't be the report", why);
     station.is_open = true;
     return front[0] != '\0' || !station.is_csv || append_line(station.file, header, strlen(header));
 }

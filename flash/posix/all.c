@@ -45,8 +45,7 @@ static bool has_folder(void)
     struct stat is;
     if (folder == NULL || (stat(folder, &is) == 0 && S_ISDIR(is.st_mode) && access(folder, W_OK | X_OK) == 0))
         return true;
-    say_text(stderr, "dfu-flash: no logs can be made in ", folder, ": it has to be a folder that is there\n");
-    return false;
+    return say_failed(folder, " can't have the logs", "it has to be a folder that is there, in which files can be made");
 }
 
 /* The file says for which devices it is, or --device does. What is for any would go to whatever has DFU on the bus. */
