@@ -81,7 +81,8 @@ void advise_refused(const struct session *session, int32_t refusal)
 {
     const struct found *is = &session->wire.device->is;
     char more[80];
-    if (refusal == DFU_BAD_DESCRIPTOR && session->transfer == 0) {
+    bool has_none = refusal == DFU_SHORT && facts_lacks_descriptor(is);
+    if ((refusal == DFU_BAD_DESCRIPTOR || has_none) && session->transfer == 0) {
         snprintf(more, sizeof more, "--transfer-size %d", SMALLEST_BLOCK);
         advice_run(more);
     } else if (refusal == REFUSED_NO_ADDRESS && name_memory(is, session->is_upload, more, sizeof more))

@@ -94,10 +94,25 @@ static int32_t begin_by_another(struct session *session, int32_t refusal)
     return begin(session, session->another, sizeof session->another);
 }
 
+/* A device in DFU mode that has no functional descriptor: who says how large its blocks are has it taken for one that does what is asked,
+   and nothing else, so that a download is neither compared nor known to be in place. */
+static size_t stand_in(const struct session *session, uint8_t descriptor[9])
+{
+    const struct found *is = &session->wire.device->is;
+    const uint8_t other[FUNCTIONAL_BYTES] = {
+        FUNCTIONAL_BYTES, FUNCTIONAL_TYPE, session->is_upload ? CAN_UPLOAD : CAN_DOWNLOAD, 0, 0, 0, 0, VERSION_1_1 & 0xff, VERSION_1_1 >> 8,
+    };
+    if (session->transfer == 0 || !facts_lacks_descriptor(is))
+        return is->descriptor_size;
+    memcpy(descriptor, other, sizeof other);
+    return sizeof other;
+}
+
 int32_t session_begin(struct session *session)
 {
     const struct found *is = &session->wire.device->is;
     uint8_t descriptor[9];
+    size_t size;
     int32_t refusal;
     session->goal = goal_of(session);
     session->odd = 0;
@@ -112,7 +127,8 @@ int32_t session_begin(struct session *session)
     memcpy(session->known, is->descriptor, sizeof session->known);
     memcpy(descriptor, is->descriptor, sizeof descriptor);
     session->known_size = is->descriptor_size;
-    cut(descriptor, is->descriptor_size, session->transfer);
-    refusal = begin(session, descriptor, session->known_size);
+    size = stand_in(session, descriptor);
+    cut(descriptor, size, session->transfer);
+    refusal = begin(session, descriptor, size);
     return refusal == 0 ? 0 : begin_by_another(session, refusal);
 }

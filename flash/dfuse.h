@@ -33,6 +33,8 @@ struct dfuse {
     struct dfuse_watch watch;  /* when the device is given up */
     uint8_t string;            /* iString of the last GETSTATUS that said dfuERROR, or 0 */
     uint32_t protections;      /* how often it said errVENDOR while it was read */
+    uint32_t shown;            /* the work that progress was last of, */
+    uint64_t shown_to;         /* and up to which byte */
     struct dfuse_action done;  /* the report */
 };
 

@@ -81,11 +81,25 @@ static struct answer perform(struct session *session, const struct dfuse_action 
     return answer;
 }
 
+/* The last step of a part is seen by the next part: what was erased or written is whole then, but for the front, which is written last. */
+static void show_end(struct session *session)
+{
+    const struct dfuse *dfuse = &session->dfuse;
+    uint64_t total = session->payload_length, front = dfuse->plan.front < total ? dfuse->plan.front : 0;
+    if (dfuse->shown == DFUSE_ERASE && dfuse->host.work == DFUSE_WRITE)
+        progress_at(&session->progress, PROGRESS_ERASING, total);
+    else if (dfuse->shown == DFUSE_WRITE && dfuse->host.work == DFUSE_COMPARE)
+        progress_at(&session->progress, PROGRESS_SENDING, dfuse->shown_to < front ? total : total - front);
+}
+
 /* How far it is, by the address at which the host works. */
 static void show(struct session *session)
 {
-    const struct dfuse *dfuse = &session->dfuse;
+    struct dfuse *dfuse = &session->dfuse;
     uint64_t done = dfuse_below(dfuse, dfuse->host.at);
+    show_end(session);
+    dfuse->shown = dfuse->host.work;
+    dfuse->shown_to = done;
     if (dfuse->host.work == DFUSE_ERASE)
         progress_at(&session->progress, PROGRESS_ERASING, done);
     else if (dfuse->host.work == DFUSE_WRITE)

@@ -41,3 +41,8 @@ struct dfu_facts facts_of(const struct session *session, bool is_reached, bool i
         .same = is_as_begun(session),
     };
 }
+
+bool facts_lacks_descriptor(const struct found *is)
+{
+    return is->is_upgrade && is->descriptor_size == 0 && is->name[0] != '@';
+}

@@ -12,4 +12,8 @@ void facts_note(struct session *session);
 /* What is seen now: whether a request went out to the device, and whether it is gone, is known to the caller. */
 struct dfu_facts facts_of(const struct session *session, bool is_reached, bool is_gone);
 
+/* Whether it is in DFU mode with no functional descriptor, so that nothing says how large its blocks are. One with a memory map is none of
+   these: it may be a DfuSe device. */
+bool facts_lacks_descriptor(const struct found *is);
+
 #endif

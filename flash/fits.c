@@ -42,6 +42,12 @@ static bool is_fit_for_station(const struct words *words)
         return words_refuse("--report and --ports go with a FILE, --upload or --detach, and with no --dry-run", "");
     if (words->boards != 0 && !words->all)
         return words_refuse("--count goes with --all", "");
+    if ((words->stamp != NULL) != (words->stamp_bytes != 0))
+        return words_refuse("--stamp and --stamp-at go together", "");
+    if (words->stamp != NULL && words->job != JOB_DOWNLOAD)
+        return words_refuse("--stamp goes with a FILE that is flashed", "");
+    if (words->stamp != NULL && words->retry != 0)
+        return words_refuse("--retry doesn't go with --stamp: a board that went may have its entry, and another may come in its place", "");
     return words->retry == 0 || (words->job == JOB_DOWNLOAD && !words->dry_run)
            || words_refuse("--retry goes with a FILE that is flashed", "");
 }

@@ -62,6 +62,8 @@ static const char options[] =
     "  --ports <FILE>       Take names for paths from FILE, a line each, as 3-1.4 = bay 7\n"
     "  --retry <N>          Try a device that went or fell silent N times more\n"
     "  --count <N>          End --all once N devices are flashed\n"
+    "  --stamp <LIST>       Write the next line of LIST into each image, as a serial number or a key\n"
+    "  --stamp-at <P:N>     Where --stamp writes: from place P of the image on, N bytes at most, as 0x40:16\n"
     "  --list               List the devices that are there\n"
     "  --demo               Show with a simulated board what this program does; no USB is touched\n"
     "  -h, --help           Print help\n"

@@ -7,9 +7,11 @@
 #include "looks.h"
 #include "say.h"
 #include "session.h"
+#include "stamp.h"
 #include "standard.h"
 
 #include <dfu_host.h>
+#include <inttypes.h>
 #include <stdio.h>
 #include <stdlib.h>
 #include <string.h>
@@ -34,6 +36,13 @@ static uint32_t crc_of(const uint8_t *bytes, size_t length)
     return crc;
 }
 
+/* The last four bytes of a suffix. */
+static void put_crc(uint8_t *place, uint32_t crc)
+{
+    for (int at = 0; at < 4; at++)
+        place[at] = (uint8_t)(crc >> 8 * at & 0xff);
+}
+
 /* For any release of the device. */
 static void add_suffix(struct image *image, uint16_t vendor, uint16_t product)
 {
@@ -51,12 +60,9 @@ static void add_suffix(struct image *image, uint16_t vendor, uint16_t product)
         'D',
         SUFFIX_BYTES,
     };
-    uint32_t crc;
     memcpy(image->bytes + image->length, suffix, sizeof suffix);
-    image->length += sizeof suffix;
-    crc = crc_of(image->bytes, image->length);
-    for (int at = 0; at < 4; at++)
-        image->bytes[image->length++] = (uint8_t)(crc >> 8 * at & 0xff);
+    image->length += SUFFIX_BYTES;
+    put_crc(image->bytes + image->length - 4, crc_of(image->bytes, image->length - 4));
 }
 
 /* Whether the words say for which device a raw image is, since nothing else does. */
@@ -96,6 +102,12 @@ static int32_t take_suffix(struct image *image)
     image->vendor = file.vendor;
     image->product = file.product;
     return 0;
+}
+
+int32_t image_seal(struct image *image)
+{
+    put_crc(image->bytes + image->length - 4, crc_of(image->bytes, image->length - 4));
+    return image->is_dfuse ? dfuse_read_file(image->bytes, image->length, &image->says) : take_suffix(image);
 }
 
 uint32_t image_crc(const struct image *image)
@@ -168,13 +180,23 @@ static int32_t read_raw(struct image *image, const struct words *words, const st
     return take_suffix(image);
 }
 
+/* Both sums, as a file has them. */
+static void say_sums(const struct image *image)
+{
+    uint32_t said = 0;
+    char seen[80];
+    for (int at = 0; at < 4; at++)
+        said |= (uint32_t)image->bytes[image->length - 4 + (size_t)at] << 8 * at;
+    snprintf(seen, sizeof seen, "it says the check sum %08" PRIx32 ", and its bytes have %08" PRIx32, said,
+             crc_of(image->bytes, image->length - 4));
+    advice_first(seen);
+}
+
 /* What begins as a DfuSe file is none without addresses, whatever is wrong with it; but a sound file of DFU 1.1 may have any image. */
-int32_t image_read(struct image *image, const struct words *words)
+static int32_t take_bytes(struct image *image, const struct words *words)
 {
     struct dfu_look look;
     int32_t refusal;
-    if (!file_read(words->file, &image->bytes, &image->length))
-        return IMAGE_UNREAD;
     look = looks_of(image->bytes, image->length, words->file);
     refusal = take_suffix(image);
     image->is_dfuse = refusal == DFU_FILE_DFUSE || (look.looks == DFU_LOOKS_DFUSE && (refusal != 0 || words->has_address));
@@ -185,4 +207,15 @@ int32_t image_read(struct image *image, const struct words *words)
     if (refusal == 0)
         warn(image);
     return refusal == DFU_FILE_NO_SIGNATURE || refusal == DFU_FILE_TOO_SHORT ? read_raw(image, words, &look, refusal) : refusal;
+}
+
+int32_t image_read(struct image *image, const struct words *words)
+{
+    int32_t refusal;
+    if (!file_read(words->file, &image->bytes, &image->length))
+        return IMAGE_UNREAD;
+    refusal = take_bytes(image, words);
+    if (refusal == DFU_FILE_BAD_CRC || refusal == DFUSE_FILE_BAD_CRC)
+        say_sums(image);
+    return refusal != 0 ? refusal : stamp_place(image, words);
 }

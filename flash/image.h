@@ -16,6 +16,7 @@ struct image {
     uint16_t vendor, product; /* for which device it is, as its suffix says; FFFFh is any */
     bool is_dfuse;            /* it is a DfuSe file, */
     struct dfuse_file says;   /* which says this */
+    size_t stamp_at;          /* with --stamp: the offset of its place in the file */
 };
 
 /* Reads FILE of the words. A raw image, which has no suffix, gets one for the device that --device names. 0; a refusal of the host
@@ -26,6 +27,9 @@ int32_t image_read(struct image *image, const struct words *words);
 
 /* The CRC-32 of the payload, as zlib and gzip have it; with a DfuSe file of the whole file. */
 uint32_t image_crc(const struct image *image);
+
+/* The suffix is made anew, with the check sum of what the file has now. 0, or a refusal. */
+int32_t image_seal(struct image *image);
 
 /* Makes one of these bytes, with a suffix for a device. 0; a refusal of the host; or IMAGE_UNREAD if there is no memory. */
 int32_t image_make(struct image *image, const uint8_t *bytes, size_t length, uint16_t vendor, uint16_t product);

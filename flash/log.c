@@ -11,13 +11,6 @@
 #include <errno.h>
 #include <string.h>
 
-static bool fail(const char *name, const char *what, const char *why)
-{
-    say_text(stderr, "dfu-flash: ", name, what);
-    fprintf(stderr, ": %s\n", why);
-    return false;
-}
-
 bool log_open(struct log *log, const char *name)
 {
     if (name == NULL)
@@ -26,7 +19,7 @@ bool log_open(struct log *log, const char *name)
     log->file = fresh_open(name);
     if (log->file != NULL)
         return true;
-    return fail(name, " can't be made", errno == EEXIST ? "it is there already" : strerror(errno));
+    return say_failed(name, " can't be made", errno == EEXIST ? "it is there already" : strerror(errno));
 }
 
 void log_device(struct log *log, const struct device *device)
@@ -82,7 +75,7 @@ bool log_close(struct log *log)
 {
     if (log->file != NULL && !fresh_close(log->file)) {
         log->is_cut = true;
-        fail(log->name, " was not written whole", strerror(errno));
+        say_failed(log->name, " was not written whole", strerror(errno));
     }
     log->file = NULL;
     return !log->is_cut;

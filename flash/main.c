@@ -9,6 +9,7 @@
 #include "one.h"
 #include "platform.h"
 #include "record.h"
+#include "stamp.h"
 #include "station.h"
 #include "status.h"
 #include "streams.h"
@@ -25,7 +26,7 @@ int main(int count, char **texts)
         return STATUS_WORDS;
     if (words.quiet)
         next_hush();
-    if (!station_begin(&words))
+    if (!station_begin(&words) || !stamp_begin(&words))
         return record_none(STATUS_FILE, words.json);
     if (words.job == JOB_DEMO)
         return demo_run(&words);

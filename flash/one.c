@@ -13,6 +13,7 @@
 #include "record.h"
 #include "say.h"
 #include "session.h"
+#include "stamp.h"
 #include "standard.h"
 #include "station.h"
 #include "status.h"
@@ -21,6 +22,7 @@
 #include "worker.h"
 #include "transport.h"
 
+#include <inttypes.h>
 #include <stdio.h>
 #include <stdlib.h>
 #include <string.h>
@@ -92,6 +94,20 @@ static int run_detach(const struct words *words, const struct wanted *wanted)
     return work_print(&session, words, &verdict);
 }
 
+/* Writes this board's entry into the image, and says which. */
+static int32_t take_stamp(const struct words *words, struct image *image)
+{
+    int32_t refusal = stamp_image(image, words);
+    if (refusal != 0)
+        return refusal;
+    station_image(words, image);
+    if (!words->quiet) {
+        say_text(stderr, "dfu-flash: ", stamp_next(), "");
+        fprintf(stderr, " is written at 0x%" PRIx64 "\n", words->stamp_place);
+    }
+    return 0;
+}
+
 /* Sends nothing: file and device are looked for, and the session begins, or is refused. */
 static int prepare(const struct words *words, struct image *image, struct wanted *wanted)
 {
@@ -109,7 +125,8 @@ static int prepare(const struct words *words, struct image *image, struct wanted
     if (status != STATUS_DONE)
         return stop_cause != STOP_NONE ? say_stopped(words) : say_none(words, status);
     work_ask(&session, words);
-    refusal = session_begin(&session);
+    refusal = words->stamp == NULL ? 0 : take_stamp(words, image);
+    refusal = refusal != 0 ? refusal : session_begin(&session);
     return refusal < 0 ? work_refused(&session, words, refusal) : STATUS_DONE;
 }
 

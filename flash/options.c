@@ -25,6 +25,7 @@ const struct option options[] = {
     {"list", no_argument, NULL, LIST},             {"demo", no_argument, NULL, DEMO},             {"help", no_argument, NULL, HELP},
     {"report", required_argument, NULL, REPORT},   {"ports", required_argument, NULL, PORTS},
     {"count", required_argument, NULL, BOARDS},    {"retry", required_argument, NULL, RETRY},
+    {"stamp", required_argument, NULL, STAMP},     {"stamp-at", required_argument, NULL, STAMP_AT},
     {"version", no_argument, NULL, VERSION},       {NULL, 0, NULL, 0},
 };
 /* clang-format on */
@@ -46,6 +47,8 @@ static const struct {
     {"vid", "did you mean --device?"},
     {"pid", "did you mean --device?"},
     {"port", "did you mean --path?"},
+    {"serials", "did you mean --stamp?"},
+    {"keys", "did you mean --stamp?"},
 };
 /* clang-format on */
 

@@ -29,9 +29,9 @@ static char *trim(char *text)
 
 static bool fail(const char *file, size_t line, const char *why)
 {
-    say_text(stderr, "dfu-flash: ", file, "");
-    fprintf(stderr, ", line %zu: %s\n", line, why);
-    return false;
+    char place[40];
+    snprintf(place, sizeof place, ", line %zu", line);
+    return say_failed(file, place, why);
 }
 
 static bool take_line(const char *file, size_t number, char *line)

@@ -32,8 +32,7 @@ bool file_read(const char *name, uint8_t **bytes, size_t *length)
     }
     if (!is_read) {
         int error = errno;
-        say_text(stderr, "dfu-flash: ", file == stdin ? "standard input" : name, " can't be read: ");
-        fprintf(stderr, "%s\n", strerror(error));
+        say_failed(file == stdin ? "standard input" : name, " can't be read", strerror(error));
         free(*bytes);
         *bytes = NULL;
     }

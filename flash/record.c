@@ -5,6 +5,7 @@
 #include "clock.h"
 #include "json.h"
 #include "next.h"
+#include "stamp.h"
 #include "standard.h"
 #include "station.h"
 #include "status.h"
@@ -109,6 +110,8 @@ static void begin_line(void)
         say_text(stdout, "", station_port(each.path), " ");
     if (each.is->serial[0] != '\0')
         say_text(stdout, "serial ", each.is->serial, " ");
+    if (stamp_taken() != NULL)
+        say_text(stdout, "stamp ", stamp_taken(), " ");
     printf("%.1f s ", each_seconds());
 }
 
@@ -173,6 +176,8 @@ static void print_short(int status, const char *name, const char *words, const c
 {
     begin(status, name);
     json_text("words", words);
+    if (status == STATUS_FILE && say_reason() != NULL)
+        json_text("reason", say_reason());
     if (is_known())
         printf(",\"vendor\":\"%04x\",\"product\":\"%04x\",\"release\":\"%04x\"", each.is->vendor, each.is->product, each.is->release);
     if (path_known() != NULL)

@@ -39,6 +39,21 @@ void say_text(FILE *out, const char *before, const char *text, const char *after
     fputs(after, out);
 }
 
+static char reason[512];
+
+bool say_failed(const char *name, const char *what, const char *why)
+{
+    say_text(stderr, "dfu-flash: ", name, what);
+    fprintf(stderr, ": %s\n", why);
+    snprintf(reason, sizeof reason, "%s%s: %s", name, what, why);
+    return false;
+}
+
+const char *say_reason(void)
+{
+    return reason[0] != '\0' ? reason : NULL;
+}
+
 void say_found(FILE *out, const struct found *found)
 {
     fprintf(out, "%s%04x:%04x path %s", say_mark, found->vendor, found->product, found->path);

@@ -5,6 +5,7 @@
 
 #include "find.h"
 
+#include <stdbool.h>
 #include <stdint.h>
 #include <stdio.h>
 
@@ -16,6 +17,12 @@ void say_found(FILE *out, const struct found *found);
 
 /* A text that others chose, as a name of a file, between two of this program's. */
 void say_text(FILE *out, const char *before, const char *text, const char *after);
+
+/* A line about a file that failed: its name, what can't be done with it, and why. Always false. */
+bool say_failed(const char *name, const char *what, const char *why);
+
+/* The last of these, for a record; NULL if there was none. */
+const char *say_reason(void);
 
 /* Why a device isn't opened, or its interface isn't claimed, by `access`; and what helps. The status that this is. */
 int say_no_access(const struct found *found);

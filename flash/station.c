@@ -6,6 +6,7 @@
 #include "json.h"
 #include "ports_file.h"
 #include "say.h"
+#include "stamp.h"
 #include "text.h"
 
 #include <inttypes.h>
@@ -15,7 +16,10 @@
 
 #define LINE_ROOM 16384
 
-static const char header[] = "time,status,report,words,image,crc32,vendor,product,release,serial,path,port,seconds\n";
+#define COLUMNS "time,status,report,words,image,crc32,vendor,product,release,serial,path,port,seconds"
+
+static const char *header = COLUMNS "\n";
+static const char stamp_header[] = COLUMNS ",stamp\n"; /* with --stamp */
 static const char json_front[] = "{\"time\":\"";
 
 static struct {
@@ -98,7 +102,7 @@ void station_time(char text[32])
 /* Whether the report is one that is added to: it is new, or its front is that of one. */
 static bool open_report(const char *name)
 {
-    char front[sizeof header];
+    char front[sizeof stamp_header];
     const char *why, *end = strrchr(name, '.');
     station.is_csv = end != NULL && (strcmp(end, ".csv") == 0 || strcmp(end, ".CSV") == 0);
     station.file = append_open(name, front, sizeof front, &why);
@@ -107,17 +111,15 @@ static bool open_report(const char *name)
         station.file = -1;
         why = "what is there is no report of this program, and stays as it is";
     }
-    if (station.file < 0) {
-        say_text(stderr, "dfu-flash: ", name, " can't be the report: ");
-        fprintf(stderr, "%s\n", why);
-        return false;
-    }
+    if (station.file < 0)
+        return say_failed(name, " can't be the report", why);
     station.is_open = true;
     return front[0] != '\0' || !station.is_csv || append_line(station.file, header, strlen(header));
 }
 
 bool station_begin(const struct words *words)
 {
+    header = words->stamp != NULL ? stamp_header : header;
     return (words->ports == NULL || ports_file_read(words->ports)) && (words->report == NULL || open_report(words->report));
 }
 
@@ -140,6 +142,8 @@ void station_json(const char *path)
     json_text("time", time);
     if (station_port(path) != NULL)
         json_text("port", station_port(path));
+    if (stamp_taken() != NULL)
+        json_text("stamp", stamp_taken());
     if (!station.has_image)
         return;
     if (station.image != NULL)
@@ -152,6 +156,7 @@ bool station_add(int status, const char *report, const char *words, const char *
     struct line line = {.length = 0};
     char time[32], number[16], crc[9], ids[3][8] = {"", "", ""}, took[32];
     bool is_known = is != NULL && (is->vendor != 0 || is->product != 0);
+    stamp_end(status, report);
     if (!station.is_open)
         return true;
     station_time(time);
@@ -175,6 +180,8 @@ bool station_add(int status, const char *report, const char *words, const char *
     put_member(&line, "path", path, false);
     put_member(&line, "port", station_port(path), false);
     put_member(&line, "seconds", took, true);
+    if (header == stamp_header)
+        put_member(&line, "stamp", stamp_taken(), false);
     put(&line, station.is_csv ? "\n" : "}\n", station.is_csv ? 1 : 2);
     if (!line.is_full && append_line(station.file, line.text, line.length))
         return true;

@@ -2,6 +2,7 @@
 /* What the value of each option may be. */
 #include "values.h"
 #include "dfu_util.h"
+#include "stamp.h"
 
 #include <ctype.h>
 #include <errno.h>
@@ -192,4 +193,23 @@ bool value_length(const char *text, struct words *words)
     const char *rest;
     return (value_is_length(text, &words->length, &rest) && *rest == '\0')
            || words_refuse("--length takes bytes, from 1 to 4294967295, or as 0x1000", text);
+}
+
+bool value_stamp(const char *text, struct words *words)
+{
+    words->stamp = text;
+    return (*text != '\0' && strcmp(text, "-") != 0)
+           || words_refuse("--stamp takes the name of a file, beside which LIST.used is kept", text);
+}
+
+/* PLACE:BYTES. */
+bool value_stamp_at(const char *text, struct words *words)
+{
+    const char *rest = text + strspn(text, "0");
+    uint32_t place = 0;
+    bool is_zero = rest != text && *rest == ':';
+    bool is = (is_zero || value_is_length(text, &place, &rest)) && *rest == ':' && value_is_length(rest + 1, &words->stamp_bytes, &rest)
+              && *rest == '\0' && words->stamp_bytes <= STAMP_BYTES;
+    words->stamp_place = place;
+    return is || words_refuse("--stamp-at takes a place and from 1 to 256 bytes, as 0x40:16", text);
 }

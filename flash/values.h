@@ -18,6 +18,8 @@ bool value_retry(const char *text, struct words *words);
 bool value_transfer(const char *text, struct words *words);
 bool value_address(const char *text, struct words *words);
 bool value_length(const char *text, struct words *words);
+bool value_stamp(const char *text, struct words *words);
+bool value_stamp_at(const char *text, struct words *words);
 
 /* A hexadecimal number after 0x, up to 32 bits, at the front of `text`; and a count of bytes from 1 on, decimal or hexadecimal. What
    follows it is in `rest`. */

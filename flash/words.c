@@ -112,6 +112,8 @@ static bool take_option(struct words *words, int code, int count, char **texts)
     case PORTS: words->ports = optarg; return *optarg != '\0' || words_refuse("--ports takes the name of a file", "");
     case BOARDS: return value_boards(optarg, words);
     case RETRY: return value_retry(optarg, words);
+    case STAMP: return value_stamp(optarg, words);
+    case STAMP_AT: return value_stamp_at(optarg, words);
     case DEMO: return is_job(words, JOB_DEMO);
     case 'h':
     case HELP: words->job = JOB_HELP; return true;

@@ -41,6 +41,9 @@ struct words {
     const char *folder;         /* and --log; or NULL */
     const char *report, *ports; /* --report and --ports, or NULL */
     uint32_t boards, retry;     /* --count and --retry, 0 if they weren't given */
+    const char *stamp;          /* the list of --stamp, or NULL; */
+    uint64_t stamp_place;       /* and --stamp-at: from where on an entry is written, */
+    uint32_t stamp_bytes;       /* and how many bytes it has at most, 0 if it wasn't given */
     const struct bay *bay;      /* of one of several devices: where it is; else NULL */
 };
 

@@ -8,9 +8,11 @@
 #include "next.h"
 #include "record.h"
 #include "say.h"
+#include "stamp.h"
 #include "standard.h"
 #include "status.h"
 #include "stop.h"
+#include "worker.h"
 
 #include <stdio.h>
 
@@ -48,6 +50,14 @@ void work_ask(struct session *session, const struct words *words)
     session->wire.trace.is_on = words->verbose || words->log != NULL;
 }
 
+/* From here on the entry of --stamp is this board's. The first process of several knows before the record does. */
+static bool take_entry(const struct session *session, const struct words *words)
+{
+    if (words->stamp != NULL && words->bay != NULL)
+        worker_print_taken();
+    return stamp_take(session->wire.device->path);
+}
+
 /* Opens the device; from here on signals and --timeout end what is done with it. */
 int work_begin(struct session *session, const struct words *words)
 {
@@ -59,6 +69,8 @@ int work_begin(struct session *session, const struct words *words)
         session->wire.device->is.access = error;
         return record_none(say_no_access(&session->wire.device->is), words->json);
     }
+    if (words->job == JOB_DOWNLOAD && !take_entry(session, words))
+        return record_none(STATUS_FILE, words->json);
     stop_catch(words->timeout);
     session->began_ms = clock_ms();
     return STATUS_DONE;

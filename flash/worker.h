@@ -21,6 +21,8 @@ struct worker {
     int64_t began_ms;
     int64_t deadline_ms; /* when it is killed, or 0: never */
     bool is_killed;
+    struct stamp *stamp; /* the entry that the device is to get, or NULL, */
+    bool has_stamp;      /* and it has it */
     bool is_early; /* it looks whether the device is another one than before, and as a rule it isn't */
 };
 
@@ -43,10 +45,16 @@ void worker_stop(struct worker *worker, int64_t deadline_ms);
 /* Ends it at once. */
 void worker_kill(struct worker *worker);
 
+/* It has ended: an entry that its device didn't take is for another one; with one that it took, what is recorded next has that. */
+void worker_leave_stamp(struct worker *worker);
+
 /* It has ended: gives back what it took. */
 void worker_drop(struct worker *worker);
 
 /* In that process: prints how the device was seen in a mode, for the bay. */
 void worker_print_serial(bool is_upgrade, const char *serial);
+
+/* In that process: prints that the device takes its entry of --stamp. */
+void worker_print_taken(void);
 
 #endif

@@ -7,7 +7,7 @@ const ITS_MAP = 'Nothing was sent. Choose another memory, if there is one; else 
 const FOR_THE_MAP = 'Nothing was sent. Compare the file and the address with the map.'
 
 export const DFUSE_REFUSALS = {
-  NoAddress: ['NoAddress', 'the device speaks DfuSe, and the file has no addresses: see --address',
+  NoAddress: ['NoAddress', 'the device speaks DfuSe, and nothing says at which address: see --address',
     'Say at which address the image is to be.'],
   RunTimeMode: ['RunTimeMode', 'the device speaks DfuSe and is in run-time mode: bring it to DFU mode first, as by --detach',
     'Bring it to DFU mode by hand, as by its button, and connect it again.'],

@@ -10,6 +10,7 @@
 #include "../record.h"
 #include "../say.h"
 #include "../session.h"
+#include "../stamp.h"
 #include "../standard.h"
 #include "../station.h"
 #include "../status.h"
@@ -44,8 +45,7 @@ static bool has_folder(void)
     struct stat is;
     if (folder == NULL || (stat(folder, &is) == 0 && S_ISDIR(is.st_mode) && access(folder, W_OK | X_OK) == 0))
         return true;
-    say_text(stderr, "dfu-flash: no logs can be made in ", folder, ": it has to be a folder that is there\n");
-    return false;
+    return say_failed(folder, " can't have the logs", "it has to be a folder that is there, in which files can be made");
 }
 
 /* The file says for which devices it is, or --device does. What is for any would go to whatever has DFU on the bus. */
@@ -64,6 +64,8 @@ static int take_file(void)
         all.wanted.vendor = all.image.vendor;
         all.wanted.product = all.image.product;
     }
+    if (refusal == 0 && all.words->stamp != NULL && stamp_left() == 0)
+        refusal = REFUSED_NO_STAMP;
     if (refusal == 0 && (all.wanted.vendor == ANY_ID || all.wanted.product == ANY_ID))
         refusal = REFUSED_ANY;
     if (refusal != 0)
@@ -71,9 +73,12 @@ static int take_file(void)
     return STATUS_DONE;
 }
 
-/* With --count: whether as many are flashed, or at work, as there are to be. */
+/* With --count: whether as many are flashed, or at work, as there are to be; with --stamp, whether there is no entry for another one: a
+   board that is there at once is refused for that, and one that comes later isn't begun. */
 static bool is_enough(void)
 {
+    if (all.words->stamp != NULL && all.words->wait && stamp_free() == 0)
+        return true;
     return all.words->boards != 0 && all.crew.flashed + (unsigned)all.crew.count >= all.words->boards;
 }
 
@@ -159,6 +164,8 @@ static void print_summary(int64_t began_ms)
     json_text("words", words);
     json_number("flashed", all.crew.flashed);
     json_number("failed", all.crew.failed);
+    if (all.words->stamp != NULL)
+        json_number("entries", stamp_left());
     station_json(NULL);
     printf(",\"seconds\":%.3f}\n", seconds);
     all.crew.is_out = record_out() && all.crew.is_out;
@@ -186,5 +193,9 @@ int all_run(const struct words *words)
     print_summary(began_ms);
     if (!words->quiet)
         fprintf(stderr, "dfu-flash: %u flashed, %u not\n", all.crew.flashed, all.crew.failed);
+    if (words->stamp != NULL && !words->quiet) {
+        say_text(stderr, "dfu-flash: ", words->stamp, " has ");
+        fprintf(stderr, "%zu more\n", stamp_left());
+    }
     return all.crew.is_out ? all.crew.worst : STATUS_FILE;
 }

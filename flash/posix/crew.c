@@ -5,6 +5,7 @@
 #include "../clock.h"
 #include "../record.h"
 #include "../rows.h"
+#include "../stamp.h"
 #include "../status.h"
 #include "../stop.h"
 #include "wake.h"
@@ -96,6 +97,7 @@ static void end(struct crew *crew, struct worker *worker, int status, const char
 {
     bool is_same = status == BAY_SAME || status == BAY_TAKEN;
     rows_clear(&rows);
+    worker_leave_stamp(worker);
     if (why != NULL)
         print_lost(crew, worker, status, why);
     else if (!is_same)
@@ -110,6 +112,7 @@ static void end(struct crew *crew, struct worker *worker, int status, const char
     if (!is_same)
         count_end(crew, status);
     bay_end(worker->bay, is_same, clock_ms());
+    stamp_is(NULL, false);
     worker_drop(worker);
 }
 

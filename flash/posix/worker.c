@@ -6,6 +6,7 @@
 #include "../clock.h"
 #include "../one.h"
 #include "../record.h"
+#include "../stamp.h"
 #include "../status.h"
 #include "../stop.h"
 #include "../text.h"
@@ -111,10 +112,12 @@ bool worker_begin(struct worker *worker, const struct words *words, struct image
     pid_t first = getpid();
     bool has_pipes = make_pipes(out, err);
     memset(worker, 0, sizeof *worker);
+    worker->stamp = stamp_hold();
     fflush(NULL);
     worker->process = has_pipes ? fork() : -1;
     if (worker->process == 0) {
         leave_first(out[1], err[1], first);
+        stamp_is(worker->stamp, false);
         work(words, image, bay, has_rows);
     }
     if (has_pipes) {
@@ -127,6 +130,7 @@ bool worker_begin(struct worker *worker, const struct words *words, struct image
             close(out[0]);
             close(err[0]);
         }
+        worker_leave_stamp(worker);
         return false;
     }
     reader_begin(&worker->out, out[0]);
@@ -142,12 +146,19 @@ bool worker_begin(struct worker *worker, const struct words *words, struct image
 /* The first character of a line that is for the first process alone. */
 #define ROW_MARK '\t'
 #define SERIAL_MARK '\v'
+#define STAMP_MARK '\f'
 
 void worker_print_serial(bool is_upgrade, const char *serial)
 {
     printf("%c%d", SERIAL_MARK, is_upgrade);
     text_hex(stdout, (const uint8_t *)serial, strlen(serial));
     putchar('\n');
+}
+
+void worker_print_taken(void)
+{
+    printf("%c\n", STAMP_MARK);
+    fflush(stdout);
 }
 
 /* The serial number in a line, by its bytes. */
@@ -168,6 +179,8 @@ static void take_line(void *with, const char *line)
     struct worker *worker = with;
     if (line[0] == ROW_MARK)
         snprintf(worker->row, sizeof worker->row, "%s", line + 1);
+    else if (line[0] == STAMP_MARK)
+        worker->has_stamp = true;
     else if (line[0] == SERIAL_MARK)
         take_serial(worker->bay, line + 1);
     else {
@@ -218,6 +231,13 @@ void worker_kill(struct worker *worker)
     kill(worker->process, SIGKILL);
     worker->is_killed = true;
     worker->deadline_ms = 0;
+}
+
+void worker_leave_stamp(struct worker *worker)
+{
+    if (worker->stamp != NULL && !worker->has_stamp)
+        stamp_release(worker->stamp);
+    stamp_is(worker->has_stamp ? worker->stamp : NULL, worker->has_stamp);
 }
 
 void worker_drop(struct worker *worker)

@@ -13,9 +13,13 @@ int all_run(const struct words *words)
     return STATUS_WORDS;
 }
 
-/* There is no first process that would read it. */
+/* There is no first process that would read these. */
 void worker_print_serial(bool is_upgrade, const char *serial)
 {
     (void)is_upgrade;
     (void)serial;
+}
+
+void worker_print_taken(void)
+{
 }

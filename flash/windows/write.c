@@ -18,9 +18,7 @@
 
 static bool fail(const char *name, const char *why)
 {
-    say_text(stderr, "dfu-flash: ", name, " can't be made: ");
-    fprintf(stderr, "%s\n", why);
-    return false;
+    return say_failed(name, " can't be made", why);
 }
 
 static bool fail_by_windows(const char *name)

@@ -55,16 +55,17 @@ _dfu_flash() {
         COMPREPLY=($(compgen -d -- "$word"))
         return
         ;;
-    --upload | --report | --ports | -U | -D)
+    --upload | --report | --ports | --stamp | -U | -D)
         compopt -o default
         return
         ;;
-    --interface | --retry | --count | --timeout | --limits | --transfer-size | --address | --length | -i | -t | -s) return ;;
+    --interface | --retry | --count | --stamp-at | --timeout | --limits | --transfer-size | --address | --length | -i | -t | -s) return ;;
     esac
     case $word in
     -*)
         COMPREPLY=($(compgen -W '--device --path --serial --interface --alt --no-verify --raw --upload --force --detach
-            --wait --timeout --limits --transfer-size --address --length --no-leave --dry-run --quiet --verbose --json --all --log --report --ports --retry --count --list --demo -h --help -V --version' -- "$word"))
+            --wait --timeout --limits --transfer-size --address --length --no-leave --dry-run --quiet --verbose --json --all
+            --log --report --ports --retry --count --stamp --stamp-at --list --demo -h --help -V --version' -- "$word"))
         ;;
     *) compopt -o default ;;
     esac

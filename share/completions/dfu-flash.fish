@@ -46,6 +46,8 @@ complete -c dfu-flash -r -F -l report -d 'Add a line for each device to FILE: CS
 complete -c dfu-flash -r -F -l ports -d 'Take names for paths from FILE, a line each, as 3-1.4 = bay 7'
 complete -c dfu-flash -x -l retry -d 'Try a device that went or fell silent N times more'
 complete -c dfu-flash -x -l count -d 'End --all once N devices are flashed'
+complete -c dfu-flash -r -F -l stamp -d 'Write the next line of LIST into each image, as a serial number or a key'
+complete -c dfu-flash -x -l stamp-at -d 'Where --stamp writes: from place P of the image on, N bytes at most, as 0x40:16'
 complete -c dfu-flash -s l -l list -d 'List the devices that are there'
 complete -c dfu-flash -l demo -d 'Show with a simulated board what this program does; no USB is touched'
 complete -c dfu-flash -s h -l help -d 'Print help'

@@ -83,7 +83,32 @@ steps 1 'USB_DEVICE=dfuse USB_MAPS=@F/0x08000000/4*1Ka,4*1Kg USB_PAGES=@F/0x0800
 # Where something is wrong.
 steps 1 'USB_DEVICE=uboot USB_SAID=0' 'run: dfu-flash --transfer-size 8 new.dfu' new.dfu
 row 0 new 'verified: ' 'USB_SAID=0' --transfer-size 8 new.dfu
-steps 1 USB_DESCRIPTOR=0 'tell the maker of the device' new.dfu
+steps 1 USB_DESCRIPTOR=0 'run: dfu-flash --transfer-size 8 new.dfu' new.dfu
+row 8 new 'unconfirmed: ' USB_DESCRIPTOR=0 --transfer-size 8 new.dfu
+row 0 old 'uploaded: ' USB_DESCRIPTOR=0 --transfer-size 8 --upload lacking
+expect 'an upload without a functional descriptor' cmp old lacking
+# One in run-time mode has another there, and one with a memory map may speak DfuSe: a block could be its command to erase.
+row 1 old 'Short: ' 'USB_START=app USB_APP_PROTOCOL=0 USB_APP_DESCRIPTOR=0' --transfer-size 8 new.dfu
+next 'tell the maker of the device'
+row 1 - 'Short: ' 'USB_DEVICE=dfuse USB_DESCRIPTOR=0' --transfer-size 8 new.dfu
+next 'tell the maker of the device'
+expect 'a memory map: nothing is sent' is_silent
+row 1 old 'BadCrc: ' '' damaged.dfu
+says_sums() {
+    grep -q '^next: it says the check sum [0-9a-f]\{8\}, and its bytes have [0-9a-f]\{8\}: get the file anew$' err
+}
+expect 'both sums' says_sums
+row 3 - '{"status":3,' '' --json nowhere.dfu
+expect 'a record has the reason' grep -q "\"reason\":\"nowhere.dfu can't be read: No such file or directory\",\"next\":" out
+row 3 - '{"status":3,' '' --json --log nowhere --all new.dfu
+expect 'so of a folder' grep -q '"reason":"nowhere can.t have the logs: ' out
+# Each part of a session with DfuSe is shown up to its end.
+head -c 3000 /dev/urandom > parts
+row 0 - 'verified: ' USB_DEVICE=dfuse --quiet --address 0x08000000 --raw --device 1209:0001 parts
+row 0 - 'verified: ' USB_DEVICE=dfuse --address 0x08000000 --raw --device 1209:0001 parts
+for part in 'erasing: 100%, 3000' 'downloading: 90%, 2968' 'comparing: 100%, 3000'; do
+    says "$part of 3000 bytes"
+done
 memory='use the image for this memory, or another address or setting; see --list'
 ends='is past the end of the memory at 08003fff; the image is to'
 row 1 - 'OutsideTheMap: ' USB_DEVICE=dfuse --address 0x08003fff new

@@ -1,0 +1,54 @@
+/* SPDX-License-Identifier: MIT OR Apache-2.0 */
+/* A serial number or a key for each board: the next entry of the list of --stamp is written into the image at --stamp-at. An entry goes
+   to one board, whatever becomes of it: LIST.used has each before anything of it is sent (used.h). */
+#ifndef DFU_FLASH_STAMP_H
+#define DFU_FLASH_STAMP_H
+
+#include "image.h"
+#include "words.h"
+
+#include <stdbool.h>
+#include <stddef.h>
+#include <stdint.h>
+
+#define STAMP_BYTES 256 /* that a place has at most */
+
+/* An entry of the list. */
+struct stamp;
+
+/* Reads the list and the record of what is used. False if one can't be used, which is then said. */
+bool stamp_begin(const struct words *words);
+
+/* The next one that no board has, which is then held for one; NULL if there is none. */
+struct stamp *stamp_hold(void);
+
+/* It was held for a board that didn't take it. */
+void stamp_release(struct stamp *stamp);
+
+/* How many no board has: with those that are held, or without. */
+size_t stamp_left(void);
+size_t stamp_free(void);
+
+/* The board of this process gets this one; NULL: none. With `is_taken` it has it already. */
+void stamp_is(struct stamp *stamp, bool is_taken);
+
+/* From here on the board has it: the record says so. False if it can't, which is then said; nothing may be sent then. */
+bool stamp_take(const char *path);
+
+/* The board has ended so. */
+void stamp_end(int status, const char *report);
+
+/* How the records name the entry that the board has, or NULL; and the one that it is to get. */
+const char *stamp_taken(void);
+const char *stamp_next(void);
+
+/* Looks where in the file --stamp-at is: 0; or a refusal, if that is no room for an entry. */
+int32_t stamp_place(struct image *image, const struct words *words);
+
+/* Writes the entry of this process's board into the image, whose suffix is made anew. 0, or a refusal. */
+int32_t stamp_image(struct image *image, const struct words *words);
+
+/* The bytes of this process's entry, as many as the place has. */
+void stamp_bytes(uint8_t bytes[STAMP_BYTES]);
+
+#endif
