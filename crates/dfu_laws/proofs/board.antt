@@ -13,4 +13,8 @@ pub mod Each
 pub mod Runs
 pub mod Boards
 pub mod Accepts
+pub mod Counting
+pub mod Bounds
+pub mod Asked
+pub mod Fewer
 pub mod Served

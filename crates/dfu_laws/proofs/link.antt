@@ -4,6 +4,7 @@ pub mod Timed
 pub mod Acted
 pub mod Became
 pub mod Sent
+pub mod Handed
 pub mod Played
 pub mod Ran
 pub mod Sessions

@@ -4,3 +4,4 @@ pub mod Keeps
 pub mod Accepts
 pub mod Refines
 pub mod Steps
+pub mod Counts

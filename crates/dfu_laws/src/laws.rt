@@ -3,6 +3,7 @@
 //! called.
 
 ghost use Rattle.dfu_laws.specs.board.Keeps.{RunKeeps, RunStays, RunInstalls};
+ghost use Rattle.dfu_laws.specs.board.Counts.{RunAsksFew};
 ghost use Rattle.dfu_laws.specs.board.Accepts.{RunAccepts, HistoryAccepts};
 ghost use Rattle.dfu_laws.specs.board.Refines.{RunRefines, IdleRefines};
 ghost use Rattle.dfu_laws.specs.link.Plays.{PlaysGive, PlaysInstall, PlaysKnow, PlaysKnowWithin, PlaysRun};
@@ -65,6 +66,16 @@ pub fn boards_take_what_is_accepted()
     ensures in_time { HistoryAccepts }
 {
     boards_keep_an_image();
+}
+
+/// For any steps of a board since power on: while a call is not answered, a board that writes a block has asked for writes at most as often
+/// as `DFU_BLOCK_ERASES` and `DFU_BLOCK_PROGRAMS` say together, and one that puts an image in place at most as often as
+/// `DFU_COMMIT_ERASES` and `DFU_COMMIT_PROGRAMS` do. So the loop that carries out what is asked for ends.
+pub fn boards_ask_few_times()
+    ensures { RunAsksFew }
+{
+    boards_are_devices();
+    steps_are_the_writes();
 }
 
 /// For all that comes to a board over a link with a host, from power on: if the host reports Installed or Verified, the payload with which

@@ -14,6 +14,7 @@ ghost use Rattle.dfu_asks.specs.Mapped.{grain_of, mapped};
 ghost use Rattle.dfu_asks.specs.Jobs.{asked};
 ghost use Rattle.dfu_laws.specs.board.Board.{Board, BoardStep, Handle, Elapse, UsbReset, RefuseClose, Refuse, Write, Took, Restart, Nothing, medium_on};
 ghost use Rattle.dfu_laws.specs.board.Happens.{IsHanded, IsPoweredOn, BoardStarts, Happens, IsRun};
+ghost use Rattle.dfu_laws.specs.board.Counts.{GoesFurther};
 ghost use Rattle.dfu_laws.specs.board.Steps.{board, result_said, said_of_reset, said_of_close};
 
 use crate::laws::boards_keep_an_image;
@@ -122,6 +123,8 @@ pub fn took(
     out: &mut [u8],
 ) -> Result<Reply, Refusal>
     ensures step { Happens (board asking.old block.now held.old flash.now) (Took failed) (result_said result out.new)
+        (board asking.new block.now held.new flash.now) }
+    ensures further { GoesFurther (board asking.old block.now held.old flash.now) (Took failed) (result_said result out.new)
         (board asking.new block.now held.new flash.now) }
     ensures refused { IfErr result (λ e. IsNotTaken e (lent asking.old block.now held.old) (length out.old)) }
     ensures same { IsSetUpAs asking.old asking.new }

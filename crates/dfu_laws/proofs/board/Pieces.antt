@@ -5,7 +5,7 @@ use Rattle.dfu_asks.specs.Steps.{Step, step_writes}
 use Rattle.dfu_asks.specs.Carried.{total, IsPart, IsPiece}
 
 -- A number is below another, or it is not.
-below_or_not : (n k : ℕ) → (n < k) ⊎ (k ≤ n)
+pub below_or_not : (n k : ℕ) → (n < k) ⊎ (k ≤ n)
 below_or_not n zero = inr (omega arith)
 below_or_not zero (suc k) = inl (omega arith)
 below_or_not (suc n) (suc k) = elim (below_or_not n k) [

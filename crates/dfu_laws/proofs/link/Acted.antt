@@ -35,7 +35,7 @@ use Rattle.dfu_laws.proofs.link.Timed.{DeviceWell}
 abbrev pub StaysLive : Session → Session → Type 0
 StaysLive before now = (live_of now ≡ live_of before) ⊎ (live_of now ≡ NoOne)
 
-says_lives : {tolerant : Bool} {m m' : Machine} {report : Option Report} → SaysReport tolerant m report m'
+pub says_lives : {tolerant : Bool} {m m' : Machine} {report : Option Report} → SaysReport tolerant m report m'
     → (m'.live ≡ m.live) ⊎ (m'.live ≡ NoOne)
 says_lives says_not = inl refl
 says_lives s = inr refl
@@ -67,10 +67,10 @@ settled_gives h (Over report) bytes e = absurd (cc)
 settled_gives h phase bytes e = absurd (cc)
 
 -- So they do of what a host takes.
-abbrev GivesUploaded : Took → Type 0
+abbrev pub GivesUploaded : Took → Type 0
 GivesUploaded t = (bytes : List ℕ) → t.answer.gave ≡ Some bytes → t.answer.report ≡ Some Uploaded
 
-took_gives : (h : HostState) (heard : Heard) → GivesUploaded (took h heard)
+pub took_gives : (h : HostState) (heard : Heard) → GivesUploaded (took h heard)
 took_gives h heard bytes e = settled_gives (after h heard) (after h heard).phase bytes e
 
 module _ (simulation : Simulation) (only : OnlyOffered) (c : Profile) (sized : 0 < c.transfer) (past : List (List ℕ)) where

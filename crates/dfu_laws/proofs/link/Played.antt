@@ -21,12 +21,13 @@ use Rattle.dfu_sim.specs.Simulation.{Simulation, OnlyOffered}
 use Rattle.dfu_sim.proofs.Objecting.{refusal_sound, refusal_fact}
 use Rattle.dfu_laws.specs.board.Board.{Board, Handle, Elapse, UsbReset, Refuse, Event, Says, BoardStep}
 use Rattle.dfu_laws.specs.board.Refines.{IsIdle, IdleRefines}
-use Rattle.dfu_laws.specs.link.Calls.{Reaches}
-use Rattle.dfu_laws.specs.link.Comes.{BoardLink, IsUnderWay, left, BoardComes, passes, sends, objects, refuses, waits, resets, is_reset, restarts}
+use Rattle.dfu_laws.specs.link.Calls.{Reaches, lost, behind}
+use Rattle.dfu_laws.specs.link.Comes.{BoardLink, IsUnderWay, left, BoardComes, passes, sends, objects, refuses, waits, resets, is_reset, restarts, hands_over, hands_back}
 use Rattle.dfu_laws.proofs.link.Served.{IsOf, served}
 use Rattle.dfu_laws.proofs.link.Fixed.{row_profile}
 use Rattle.dfu_laws.proofs.link.Timed.{DeviceWell, timed}
 use Rattle.dfu_laws.proofs.link.Acted.{ActedWell, acted_well, told_well, no_time}
+use Rattle.dfu_laws.proofs.link.Handed.{powered_by, handed_over, handed_back}
 use Rattle.dfu_laws.proofs.link.Became.{Became, then_well, resets_well, reaches_well, elapses_well}
 use Rattle.dfu_laws.proofs.link.Stopped.{stops_by}
 use Rattle.dfu_laws.proofs.link.Sent.{hears_nothing, sent_well, objected_well}
@@ -187,3 +188,19 @@ module _ (refines : IdleRefines) (simulation : Simulation) (only : OnlyOffered) 
       stops in
       took_on c first past last l d x.device b' (notify_restart l.session) s x.idle x.profile_is
       (told_well simulation only c sized past (situation d) (situation x.device) l.session s.offered s.fact x.well)
+  went_on first last l _ d _ _ s (hands_over {h = h} {power = power} {begins = begins} {b' = b'} heard live enters own run event) =
+      let f = subst (λ (x : Session). SessionFact c (situation d) x) live s.fact in
+      let o = subst (λ (x : Session). IsLiveOffer past (live_of x)) live s.offered in
+      let x = stops_by refines past c l.board b' d (Elapse 0) (Passing 0) _ s.idle s.profile_is s.sound refl
+      (λ mid more says reaches. way_well l.session (Elapse 0) l.board mid d more says s.idle s.profile_is s.sound s.offered s.fact tt reaches)
+      (behind power begins lost run event) in
+      let w = handed_over c past (situation d) (situation x.device) h heard o f enters own x.well in
+      took_on c first past last l d x.device b' (took h heard) s x.idle x.profile_is
+      (subst (λ (y : Session). ActedWell c past y (situation d) (situation x.device) (took h heard)) (sym live) w)
+  went_on first last l _ d _ _ s (hands_back {h = h} {power = power} {b' = b'} live is run event) =
+      let f = subst (λ (x : Session). SessionFact c (situation d) x) live s.fact in
+      let o = subst (λ (x : Session). IsLiveOffer past (live_of x)) live s.offered in
+      let x = powered_by refines l.board b' d power s.idle run event in
+      let w = handed_back c past (situation d) (situation x.device) h o f is x.same in
+      took_on c first past last l d x.device b' (took h WasReset) s x.idle (x.fixed ∙ s.profile_is)
+      (subst (λ (y : Session). ActedWell c past y (situation d) (situation x.device) (took h WasReset)) (sym live) w)

@@ -6,7 +6,7 @@ use Rattle.dfu_sim.specs.Play.{Answered}
 use Rattle.dfu_laws.specs.board.Board.{Board, Event, Handle, Says, BoardStep}
 use Rattle.dfu_laws.specs.board.Happens.{IsRun}
 use Rattle.dfu_laws.specs.link.Calls.{Reaches, lost, once, twice, Objects, refused_once, refused_twice, Stops, behind, within, within_second}
-use Rattle.dfu_laws.specs.link.Comes.{BoardLink, BoardComes, passes, sends, objects, refuses, waits, resets, is_reset, restarts}
+use Rattle.dfu_laws.specs.link.Comes.{BoardLink, BoardComes, passes, sends, objects, refuses, waits, resets, is_reset, restarts, hands_over, hands_back}
 use Rattle.dfu_laws.specs.link.Plays.{starts, offers, uploads, aborts as gives_up, goes_on, PlaysRun}
 
 run_append : (b mid b' : Board) (xs ys : List BoardStep) → IsRun b xs mid → IsRun mid ys b' → IsRun b (xs ++ ys) b'
@@ -65,6 +65,8 @@ comes_run l _ steps _ (resets live is serves) = serves.run
 comes_run l _ _ _ (is_reset {call = call} {steps = steps} {more = more} {says = says} {mid = mid} {b' = b'} way reaches serves) =
     run_append l.board mid b' steps more (reaches_run call l.board mid steps says reaches) serves.run
 comes_run l _ steps _ (restarts {call = call} {b' = b'} way stops) = stops_run call l.board b' steps stops
+comes_run l _ _ _ (hands_over heard live enters own run event) = run
+comes_run l _ _ _ (hands_back live is run event) = run
 
 -- Each list of plays is a run of the board.
 pub plays_run : PlaysRun

@@ -48,7 +48,7 @@ carried (Refuse why) says due due' rows c t = refused (Refusing why) due due' sa
 carried (Restart begins) says due due' rows c t = elim c [ ]
 
 -- The rows of a call that is answered: one of its cause, with this answer, and nothing is due.
-answered : (cause : Cause) (due due' end : Option Cause) (says : Says) (a : Answer) (out : List ℕ) (rows first later : List TableRow)
+pub answered : (cause : Cause) (due due' end : Option Cause) (says : Says) (a : Answer) (out : List ℕ) (rows first later : List TableRow)
     → says ≡ Answers a out → TellsCall cause due says first due' → rows ≡ first ++ later → later ≡ [] → end ≡ due'
     → IsOne cause a out rows × (end ≡ None)
 answered cause due due' end says a out rows first later e t are none same =
@@ -88,7 +88,7 @@ call_tells call cause a out _ rows due is (with_writes s rest event says w) (fir
     (subst (λ (r : List TableRow). IsOne cause a out r) (sym same) y.0, y.1)
 
 -- A history of one row is that row.
-one_row : (d d' : DeviceView) (cause : Cause) (a : Answer) (out : List ℕ) (rows : List TableRow) → IsOne cause a out rows
+pub one_row : (d d' : DeviceView) (cause : Cause) (a : Answer) (out : List ℕ) (rows : List TableRow) → IsOne cause a out rows
     → IsHistory d rows d' → Row d cause a out d'
 one_row d d' cause a out rows one h =
     let x : IsHistory d (one.row ∷ []) d' = subst (λ (r : List TableRow). IsHistory d r d') one.rows_are h in

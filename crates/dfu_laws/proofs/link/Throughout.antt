@@ -1,5 +1,5 @@
 -- The image is known at each step of all that may come.
-use Rattle.std.specs.Prelude.{◌≡◌, ◌⊎◌, ℕ, ◌<◌, List, Option}
+use Rattle.std.specs.Prelude.{◌≡◌, ◌⊎◌, ℕ, ◌<◌, Bool, false, List, [], ◌∷◌, Option}
 use Rattle.std.proofs.Common.{refl, sym, subst}
 use Rattle.dfu_slots.specs.Seen.{image_of}
 use Rattle.dfu_device.specs.declared.objection.Objection.{Objection}
@@ -11,10 +11,11 @@ use Rattle.dfu_sim.specs.LinkAgreement.{IsSound}
 use Rattle.dfu_sim.specs.Play.{Answered}
 use Rattle.dfu_sim.specs.LinkView.{Session}
 use Rattle.dfu_sim.specs.Simulation.{Simulation, OnlyOffered}
-use Rattle.dfu_laws.specs.board.Board.{Board, Handle, Elapse, UsbReset, RefuseClose, Refuse, Event, Says, BoardStep}
+use Rattle.dfu_laws.specs.board.Board.{Board, Handle, Elapse, UsbReset, RefuseClose, Refuse, Restart, Event, Says, BoardStep}
+use Rattle.dfu_laws.specs.board.Happens.{IsRun}
 use Rattle.dfu_laws.specs.board.Refines.{IsIdle, IdleRefines}
-use Rattle.dfu_laws.specs.link.Calls.{Reaches, Objects, refused_once, refused_twice}
-use Rattle.dfu_laws.specs.link.Comes.{BoardLink, IsUnderWay, BoardComes, passes, sends, objects, refuses, waits, resets, is_reset, restarts}
+use Rattle.dfu_laws.specs.link.Calls.{Reaches, lost, Objects, refused_once, refused_twice, behind}
+use Rattle.dfu_laws.specs.link.Comes.{BoardLink, IsUnderWay, BoardComes, passes, sends, objects, refuses, waits, resets, is_reset, restarts, hands_over, hands_back}
 use Rattle.dfu_laws.specs.link.Plays.{KnownIsActive}
 use Rattle.dfu_laws.proofs.link.Served.{served}
 use Rattle.dfu_laws.proofs.link.Became.{Became}
@@ -51,6 +52,14 @@ module _ (refines : IdleRefines) (simulation : Simulation) (only : OnlyOffered) 
       serves.run
       (call_known refines c first past mid b' x.device (Handle setup body) (Transfer setup body) ys a out x.idle there refl more at)
 
+  -- Through a restart with no call under way.
+  power_within : (l : BoardLink) (b' : Board) (d : DeviceView) (power : BoardStep) (begins : Bool) → Stands c first past last l d
+      → IsRun l.board (power ∷ []) b' → power.event ≡ Restart begins → KnownIsActive first past b'
+      → Through refines c first past l.board (power ∷ [])
+  power_within l b' d power begins s run event at =
+      stops_known refines c first past l.board b' d (Elapse 0) (Passing 0) (power ∷ []) s.idle (record { sound = s.sound; known = s.known })
+      refl (leads_on l d (Elapse 0) s tt) (behind power begins lost run event) at
+
   -- The image is known after each of the steps that come next, if it is at their end.
   pub comes_known : (l l' : BoardLink) (d : DeviceView) (steps : List BoardStep) (answer : Answered) → Stands c first past last l d
       → KnownIsActive first past l'.board → BoardComes l steps answer l' → Through refines c first past l.board steps
@@ -85,3 +94,6 @@ module _ (refines : IdleRefines) (simulation : Simulation) (only : OnlyOffered) 
       let cause = way_cause l.session call way in
       stops_known refines c first past l.board b' d call cause.0 steps s.idle (record { sound = s.sound; known = s.known }) cause.1
       (leads_on l d call s way) stops at
+  comes_known l _ d _ _ s at (hands_over {power = power} {begins = begins} {b' = b'} heard live enters own run event) =
+      power_within l b' d power begins s run event at
+  comes_known l _ d _ _ s at (hands_back {power = power} {b' = b'} live is run event) = power_within l b' d power false s run event at

@@ -1,16 +1,17 @@
 -- What may come to a board and to the host of its session over a link.
-use Rattle.std.specs.Prelude.{◌≡◌, ◌⊎◌, ℕ, List, [], ◌++◌, IsTrue}
+use Rattle.std.specs.Prelude.{◌≡◌, ◌⊎◌, ℕ, Bool, false, List, [], ◌∷◌, ◌++◌, IsTrue}
 use Rattle.dfu_wire.specs.declared.requests.Request.{Request}
 use Rattle.dfu_device.specs.declared.answer.Answer.{Answer}
 use Rattle.dfu_device.specs.declared.objection.Objection.{Objection}
-use Rattle.dfu_host.specs.Phases.{Deed, Send, Wait, Reset, Heard, NoRoom, Nothing as NothingHeard, Waited, WasReset}
+use Rattle.dfu_host.specs.Phases.{Enter, Deed, Send, Wait, Reset, Heard, NoRoom, Nothing as NothingHeard, Waited, WasReset}
 use Rattle.dfu_host.specs.Table.{deed}
 use Rattle.dfu_host.specs.Host.{HostState, wants_memory}
 use Rattle.dfu_host.specs.Wire.{IsAsked}
 use Rattle.dfu_sim.specs.LinkView.{Session, Hosted}
 use Rattle.dfu_sim.specs.Bytes.{HearsAnswer}
 use Rattle.dfu_sim.specs.Play.{Answered, silent, Took, took, notify_restart}
-use Rattle.dfu_laws.specs.board.Board.{Board, Event, Handle, Elapse, UsbReset, Refuse, Says, Answers, BoardStep}
+use Rattle.dfu_laws.specs.board.Board.{Board, Event, Handle, Elapse, UsbReset, Refuse, Restart, Says, Answers, BoardStep}
+use Rattle.dfu_laws.specs.board.Happens.{IsRun}
 use Rattle.dfu_laws.specs.link.Calls.{Serves, Reaches, Objects, Stops}
 
 -- A board, and the session that is live.
@@ -29,6 +30,12 @@ abbrev pub IsUnderWay : Session → Event → Type 0
 IsUnderWay session (Elapse ms) = Unit {0}
 IsUnderWay (Hosted h) (Handle setup body) = (q : Request) × (deed h.task h.phase ≡ Send q body) × IsAsked q setup
 IsUnderWay session call = ⊥
+
+-- A host hears that its own wait, or its own reset of the bus, is over, and of nothing else.
+abbrev pub HearsOwn : Deed → Heard → Type 0
+HearsOwn (Wait ms) heard = heard ≡ Waited
+HearsOwn Reset heard = heard ≡ WasReset
+HearsOwn d heard = ⊥
 
 -- This board, with what becomes of the session.
 abbrev pub left : Board → Took → BoardLink
@@ -69,3 +76,14 @@ pub data BoardComes (l : BoardLink) : List BoardStep → Answered → BoardLink 
   -- The power goes and comes back, with this call under way. A live host hears of that and of no answer.
   restarts : {call : Event} {steps : List BoardStep} {b' : Board} → IsUnderWay l.session call → Stops call l.board steps b'
       → BoardComes l steps (notify_restart l.session).answer (left b' (notify_restart l.session))
+  -- The application hands over to its bootloader, which is another program: where the host resets the bus after a DETACH, or waits for the
+  -- device to leave, the board restarts. It begins for the host, or is in appIDLE. The host hears of its own reset or wait, and of no
+  -- restart.
+  hands_over : {h : HostState} {power : BoardStep} {begins : Bool} {b' : Board} (heard : Heard) → l.session ≡ Hosted h → h.phase ≡ Enter
+      → HearsOwn (deed h.task h.phase) heard → IsRun l.board (power ∷ []) b' → power.event ≡ Restart begins
+      → BoardComes l (power ∷ []) (took h heard).answer (left b' (took h heard))
+  -- The bootloader hands back to the application: the host resets the bus, in any phase, and by that the board restarts in appIDLE. The
+  -- host hears of its reset, and of no restart.
+  hands_back : {h : HostState} {power : BoardStep} {b' : Board} → l.session ≡ Hosted h → deed h.task h.phase ≡ Reset
+      → IsRun l.board (power ∷ []) b' → power.event ≡ Restart false
+      → BoardComes l (power ∷ []) (took h WasReset).answer (left b' (took h WasReset))
