@@ -8,10 +8,11 @@ use Rattle.dfu_host.specs.declared.fault.HostFault.{HostFault}
 use Rattle.dfu_host.specs.declared.limits.Limits.{Limits}
 use Rattle.dfu_host.specs.Host.{started}
 use Rattle.dfu_host.specs.Phases.{Goal}
-use Rattle.dfu_host_c.specs.Beginning.{BeginsSession, HasBegunAs, HostRefuses, IsContent}
+use Rattle.dfu_host_core.specs.Beginning.{BeginsSession, HasBegunAs, IsContent}
+use Rattle.dfu_host_c.specs.Refusing.{HostRefuses}
 use Rattle.dfu_host_c.specs.Refusals.{refused_number}
 use Rattle.dfu_host_c.specs.declared.refusals.Refusal.TheVariants as refusal
-use Rattle.dfu_host_c.specs.declared.session.DfuSession.{DfuSession}
+use Rattle.dfu_host_core.specs.declared.session.DfuSession.{DfuSession}
 use Rattle.dfu_host_c.proofs.Refused.{refused_for}
 
 -- If a call is refused exactly by the first fault, and was not, there is no fault.

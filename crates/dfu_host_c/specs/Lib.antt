@@ -1,14 +1,8 @@
-pub mod ReportNumbers
 pub mod ReportNames
-pub mod PhaseNumbers
-pub mod WrittenNumbers
-pub mod Sessions
 pub mod FileRecords
+pub mod Ids
 pub mod Looks
 pub mod Refusals
-pub mod Told
-pub mod Actions
-pub mod Calls
-pub mod Beginning
+pub mod Refusing
 pub mod dfuse
 pub mod Watch

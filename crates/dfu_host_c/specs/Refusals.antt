@@ -71,14 +71,6 @@ refused_number (refusal.DfuseFile dfuse.Trailing) = negsuc 85
 refused_number (refusal.Image image.NoSuchSetting) = negsuc 86
 refused_number (refusal.Image image.TooManyElements) = negsuc 87
 
--- A record that is not that of a session is refused with -41.
-abbrev pub no_session : ℤ
-no_session = negsuc 40
-
--- If there is no such number of what is seen, the call is refused with -42.
-abbrev pub no_seen : ℤ
-no_seen = negsuc 41
-
 -- A buffer that is too short for a body is refused with -43.
 abbrev pub no_room : ℤ
 no_room = negsuc 42

@@ -1,7 +1,7 @@
 -- The names of reports by their numbers.
 use Rattle.std.specs.Prelude.{ℕ, List, [], option_map, unwrap_or}
 use Rattle.dfu_host.specs.ReportName.{report_name}
-use Rattle.dfu_host_c.specs.ReportNumbers.{report_at}
+use Rattle.dfu_host_core.specs.ReportNumbers.{report_at}
 
 -- The name of the report of this number; no bytes if there is no such report.
 abbrev pub name_at : ℕ → List ℕ

@@ -3,7 +3,7 @@
 -- acknowledged the request, 1 it answered with bytes, 2 it stalled, 3 the action was not finished, 4 the wait is over, 5 the bus was reset,
 -- 6 the device was restarted, 7 it left by itself.
 use Rattle.std.specs.Prelude.{ℕ, suc, ◌==◌, ◌&&◌, ◌||◌, not, nat_lt, nat_le, Bool, slice_index, if◌then◌else◌}
-use Rattle.dfu_host_c.specs.declared.action.DfuAction.{DfuAction}
+use Rattle.dfu_host_core.specs.declared.action.DfuAction.{DfuAction}
 use Rattle.dfu_host_c.specs.declared.watch.DfuWatch.{DfuWatch}
 use Rattle.dfu_host_c.specs.declared.watch.DfuFacts.{DfuFacts}
 

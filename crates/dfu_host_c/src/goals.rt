@@ -3,7 +3,7 @@
 ghost use Rattle.std.specs.Prelude.{◌≡◌, List, ℕ, IfSome, Some, None};
 ghost use Rattle.std.specs.Borrow.{Bor};
 ghost use Rattle.dfu_host.specs.Goals.{Carries};
-ghost use Rattle.dfu_host_c.specs.Sessions.{goal_at};
+ghost use Rattle.dfu_host_core.specs.Sessions.{goal_at};
 
 use dfu_host::Goal;
 

@@ -4,11 +4,11 @@ ghost use Rattle.std.specs.Prelude.{◌≡◌, List, ℕ, IfSome, None, Some};
 ghost use Rattle.std.specs.Borrow.{Bor};
 ghost use Rattle.dfu_host.specs.Goals.{Carries};
 ghost use Rattle.dfu_host.specs.declared.parts.Parts.{Parts};
-ghost use Rattle.dfu_host_c.specs.Sessions.{IsRecord, IsWritten, parts_of};
+ghost use Rattle.dfu_host_core.specs.Sessions.{IsRecord, IsWritten, parts_of};
 
 use crate::goals::{goal_at, goal_number};
 use crate::phases::{numbers_of, phase_at};
-use crate::session::DfuSession;
+use dfu_host_core::DfuSession;
 use crate::version::VERSION;
 use dfu_host::{Parts, Session};
 

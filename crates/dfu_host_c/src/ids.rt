@@ -1,7 +1,7 @@
 //! The identifiers of a device, for C.
 
 ghost use Rattle.std.specs.Prelude.{◌≡◌};
-ghost use Rattle.dfu_host_c.specs.Sessions.{ids_of};
+ghost use Rattle.dfu_host_c.specs.Ids.{ids_of};
 
 use dfu_wire::Ids;
 

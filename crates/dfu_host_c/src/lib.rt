@@ -18,7 +18,6 @@ mod phases;
 mod refusals;
 mod reports;
 mod seen;
-mod session;
 mod steps;
 mod tables;
 mod version;

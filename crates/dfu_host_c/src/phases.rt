@@ -1,23 +1,13 @@
 //! Phases as numbers, both ways.
 
 ghost use Rattle.std.specs.Prelude.{◌≡◌, Some};
-ghost use Rattle.dfu_host_c.specs.PhaseNumbers.{part_at, phase_at};
-ghost use Rattle.dfu_host_c.specs.ReportNumbers.{report_at, report_numbers};
-ghost use Rattle.dfu_host_c.specs.WrittenNumbers.{numbers_in};
+ghost use Rattle.dfu_host_core.specs.PhaseNumbers.{part_at, phase_at};
+ghost use Rattle.dfu_host_core.specs.ReportNumbers.{report_at, report_numbers};
+ghost use Rattle.dfu_host_core.specs.WrittenNumbers.{numbers_in};
 
 use crate::reports::{report_at, report_numbers};
 use dfu_host::{Phase, Report};
-
-/// A phase as numbers.
-#[derive(Clone, Copy)]
-pub(crate) struct EncodedPhase {
-    /// Which phase.
-    pub(crate) which: u32,
-    /// The block, the part or the report.
-    pub(crate) number: u64,
-    /// The poll time in milliseconds, or the code of a report.
-    pub(crate) more: u32,
-}
+use dfu_host_core::EncodedPhase;
 
 /// The phase of these numbers; None if there is no such phase.
 pub(crate) fn phase_at(which: u32, number: u64, more: u32) -> Option<Phase>

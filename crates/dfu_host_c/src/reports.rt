@@ -2,7 +2,7 @@
 
 ghost use Rattle.std.specs.Prelude.{◌≡◌, Some};
 ghost use Rattle.dfu_wire.specs.Code.{code_byte};
-ghost use Rattle.dfu_host_c.specs.ReportNumbers.{code_at, report_at, report_numbers};
+ghost use Rattle.dfu_host_core.specs.ReportNumbers.{code_at, report_at, report_numbers};
 
 use crate::tables::numbers;
 use dfu_host::Report;

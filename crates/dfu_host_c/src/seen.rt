@@ -1,7 +1,7 @@
 //! What is seen, by its number.
 
 ghost use Rattle.std.specs.Prelude.{◌≡◌};
-ghost use Rattle.dfu_host_c.specs.Told.{seen_at};
+ghost use Rattle.dfu_host_core.specs.Told.{seen_at};
 ghost use Rattle.dfu_host_c.specs.dfuse.Told.{dfuse_seen_at};
 
 use dfu_host::Seen;

@@ -1,21 +1,19 @@
 //! The calls that step a session.
 
-ghost use Rattle.std.specs.Prelude.{◌≡◌, ◌⊎◌, ◌≤◌, List, ℕ, None, pos, length};
+ghost use Rattle.std.specs.Prelude.{◌≤◌, List, ℕ, length};
 ghost use Rattle.std.specs.Borrow.{Bor};
 ghost use Rattle.dfu_host.specs.Goals.{Carries};
 ghost use Rattle.dfu_host.specs.Host.{HostRow};
 ghost use Rattle.dfu_host.specs.Rooms.{TakesPartIn};
 ghost use Rattle.dfu_host.specs.Storing.{Stores};
-ghost use Rattle.dfu_host_c.specs.Calls.{GivenUp, NoRecord, NotHeld, SessionStands, TookSeen};
-ghost use Rattle.dfu_host_c.specs.Sessions.{IsHeldSession, IsWritten, host_in};
-ghost use Rattle.dfu_host_c.specs.Refusals.{no_session, no_seen};
-ghost use Rattle.dfu_host_c.specs.Told.{seen_at};
+ghost use Rattle.dfu_host_core.specs.Calls.{AbortComes, TakeComes};
+ghost use Rattle.dfu_host_core.specs.Sessions.{IsHeldSession, IsWritten, host_in};
 
 use crate::holding::{record_of, session_of};
 use crate::refusals::{NO_SEEN, NO_SESSION};
 use crate::seen::seen_at;
-use crate::session::DfuSession;
 use dfu_host::{Seen, Session};
+use dfu_host_core::DfuSession;
 
 /// One step of a session whose record is this: the record that follows.
 fn step(given: &DfuSession, host: &mut Session<'_>, kept: &mut [u8], seen: Seen<'_>) -> DfuSession
@@ -41,10 +39,7 @@ pub extern "C" fn dfu_host_take(
     seen: u32,
     bytes: &[u8],
 ) -> i32
-    ensures outcome { ((result ≡ pos 0) × TookSeen session.old session.new payload.entry kept.old kept.new seen bytes.entry)
-        ⊎ ((result ≡ no_session) × NotHeld session.old payload.entry kept.old × (session.new ≡ session.old) × (kept.new ≡ kept.old))
-        ⊎ ((result ≡ no_seen) × SessionStands session.old payload.entry kept.old × (seen_at seen bytes.entry ≡ None)
-        × (session.new ≡ session.old) × (kept.new ≡ kept.old)) }
+    ensures outcome { TakeComes session.old payload.entry kept.old seen bytes.entry result session.new kept.new }
 {
     let Some(mut host) = session_of(session, payload) else {
         return NO_SESSION;
@@ -62,8 +57,7 @@ pub extern "C" fn dfu_host_take(
 /// Gives a session up: 0 or `DFU_NO_SESSION`.
 #[unsafe(no_mangle)]
 pub extern "C" fn dfu_host_abort(session: &mut DfuSession, payload: &[u8]) -> i32
-    ensures outcome { ((result ≡ pos 0) × GivenUp session.old session.new payload.entry)
-        ⊎ ((result ≡ no_session) × NoRecord session.old payload.entry × (session.new ≡ session.old)) }
+    ensures outcome { AbortComes session.old payload.entry result session.new }
 {
     let Some(mut host) = session_of(session, payload) else {
         return NO_SESSION;

@@ -1,7 +1,7 @@
 //! The version of the library.
 
 ghost use Rattle.std.specs.Prelude.{◌≡◌, pos};
-ghost use Rattle.dfu_host_c.specs.Sessions.{version};
+ghost use Rattle.dfu_host_core.specs.Sessions.{version};
 
 /// The version, 0.3.0: 10,000 for each major one, 100 for each minor one, and 1 for each patch.
 pub(crate) const VERSION: u32 = 300;

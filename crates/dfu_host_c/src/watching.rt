@@ -18,7 +18,7 @@ ghost use Rattle.dfu_host_c.specs.Watch.{
   watched,
 };
 
-use crate::action::DfuAction;
+use dfu_host_core::DfuAction;
 use crate::watch::{DfuFacts, DfuWatch};
 
 /// What `dfu_watch_before` and `dfu_watch_after` return.

@@ -1,4 +1,5 @@
 mod board
 mod link
 mod in_c
+mod ends
 mod judge

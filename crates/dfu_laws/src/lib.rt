@@ -3,9 +3,11 @@
 //! beside a table of the standard that was made apart. No program calls them.
 #![tactic(auto)]
 
+mod hosts;
 mod laws;
 pub mod steps;
 
+pub use hosts::core_ends_install;
 pub use laws::{
     answers_are_kept, boards_are_devices, boards_ask_few_times, boards_install, boards_keep_an_image,
     boards_take_what_is_accepted, core_boards_are_devices, core_boards_install,

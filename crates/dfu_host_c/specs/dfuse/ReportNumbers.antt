@@ -6,7 +6,7 @@ use Rattle.dfuse_host.specs.declared.report.Report.{Report}
 use Rattle.dfuse_host.specs.declared.report.Report.TheVariants as report
 use Rattle.dfuse_host.specs.declared.report.Leaving.{Leaving}
 use Rattle.dfuse_host.specs.declared.report.Leaving.TheVariants as leaving
-use Rattle.dfu_host_c.specs.ReportNumbers.{code_at}
+use Rattle.dfu_host_core.specs.ReportNumbers.{code_at}
 
 -- How a device left, by this number; None if it is over 2.
 abbrev pub leaving_at : ℕ → Option Leaving

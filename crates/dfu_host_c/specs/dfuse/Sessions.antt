@@ -8,7 +8,7 @@ use Rattle.dfuse_host.specs.declared.phase.Phase.{Phase}
 use Rattle.dfuse_host.specs.declared.limits.Limits.{Limits}
 use Rattle.dfuse_host.specs.declared.plan.Plan.{Plan}
 use Rattle.dfuse_host.specs.declared.session.Session.{Session}
-use Rattle.dfu_host_c.specs.Sessions.{version}
+use Rattle.dfu_host_core.specs.Sessions.{version}
 use Rattle.dfu_host_c.specs.dfuse.PhaseNumbers.{dfuse_numbers_in, dfuse_phase_at}
 use Rattle.dfu_host_c.specs.declared.dfuse.phases.EncodedDfusePhase.{EncodedDfusePhase}
 use Rattle.dfu_host_c.specs.declared.dfuse.plan.DfusePlan.{DfusePlan}

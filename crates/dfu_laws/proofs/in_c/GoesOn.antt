@@ -14,11 +14,11 @@ use Rattle.dfu_laws.specs.in_c.Plays.{CoreLink, CorePlays, CorePlaysGoOn}
 use Rattle.dfu_laws.proofs.in_c.Each.{powers_on}
 use Rattle.dfu_laws.proofs.in_c.Played.{comes_on}
 
-run_append : (b mid b' : CoreBoard) (xs ys : List CoreStep) → IsCoreRun b xs mid → IsCoreRun mid ys b' → IsCoreRun b (xs ++ ys) b'
+pub run_append : (b mid b' : CoreBoard) (xs ys : List CoreStep) → IsCoreRun b xs mid → IsCoreRun mid ys b' → IsCoreRun b (xs ++ ys) b'
 run_append b mid b' [] ys run more = subst (λ (x : CoreBoard). IsCoreRun x ys b') run more
 run_append b mid b' (x ∷ xs) ys run more = (run.0, run.1, run_append x.after mid b' xs ys run.2 more)
 
-are_append : (xs ys : List CoreStep) (ts us : List BoardStep) → AreStepsOf xs ts → AreStepsOf ys us → AreStepsOf (xs ++ ys) (ts ++ us)
+pub are_append : (xs ys : List CoreStep) (ts us : List BoardStep) → AreStepsOf xs ts → AreStepsOf ys us → AreStepsOf (xs ++ ys) (ts ++ us)
 are_append [] ys [] us are more = more
 are_append (x ∷ xs) ys (t ∷ ts) us are more = (are.0, are_append xs ys ts us are.1 more)
 are_append [] ys (t ∷ ts) us are more = absurd are

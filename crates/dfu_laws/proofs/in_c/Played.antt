@@ -20,7 +20,7 @@ use Rattle.dfu_laws.proofs.in_c.Each.{powers_on}
 use Rattle.dfu_laws.proofs.in_c.Runs.{same_flash}
 
 -- A board in C is one board.
-one_board : (b : CoreBoard) (x y : Board) → IsBoardOf b x → IsBoardOf b y → x ≡ y
+pub one_board : (b : CoreBoard) (x y : Board) → IsBoardOf b x → IsBoardOf b y → x ≡ y
 one_board b x y h k =
     h.is ∙ ap (λ (a : Asking). board_of_core b a) (one_device b.config b.kept x.asking y.asking h.kept k.kept) ∙ sym k.is
 

@@ -1,5 +1,5 @@
 use Rattle.std.proofs.Common.{inl, refl}
-use Rattle.dfu_host_c.specs.Calls.{GivenUp}
+use Rattle.dfu_host_core.specs.Calls.{GivenUp}
 use Rattle.dfu_host_c.proofs.steps.dfu_host_abort.Goals as goal
 
 pub returns : goal.returns

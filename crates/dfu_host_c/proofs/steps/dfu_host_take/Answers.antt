@@ -1,6 +1,6 @@
 use Rattle.std.proofs.Common.{inl, refl, sym, ◌∙◌, arith}
-use Rattle.dfu_host_c.specs.Calls.{TookSeen}
-use Rattle.dfu_host_c.specs.Sessions.{IsHeldSession}
+use Rattle.dfu_host_core.specs.Calls.{TookSeen}
+use Rattle.dfu_host_core.specs.Sessions.{IsHeldSession}
 use Rattle.dfu_host_c.proofs.steps.dfu_host_take.Goals as goal
 
 pub returns : goal.returns

@@ -1,7 +1,6 @@
 -- Which session a record holds.
 use Rattle.std.specs.Prelude.{◌≡◌, ℕ, ◌==◌, ◌≤◌, not, if◌then◌else◌, List, length, take, Option, Some, None, option_and_then, option_map}
 use Rattle.std.specs.Borrow.{Bor}
-use Rattle.dfu_wire.specs.declared.ids.Ids.{Ids}
 use Rattle.dfu_host.specs.declared.goal.Goal.{Goal}
 use Rattle.dfu_host.specs.declared.goal.Goal.TheVariants as goal
 use Rattle.dfu_host.specs.declared.limits.Limits.{Limits}
@@ -9,18 +8,13 @@ use Rattle.dfu_host.specs.declared.phase.Phase.{Phase}
 use Rattle.dfu_host.specs.declared.parts.Parts.{Parts}
 use Rattle.dfu_host.specs.Host.{HostState}
 use Rattle.dfu_host.specs.InParts.{IsSession, host_of}
-use Rattle.dfu_host_c.specs.PhaseNumbers.{phase_at}
-use Rattle.dfu_host_c.specs.WrittenNumbers.{numbers_in}
-use Rattle.dfu_host_c.specs.declared.ids.DfuIds.{DfuIds}
-use Rattle.dfu_host_c.specs.declared.session.DfuSession.{DfuSession}
+use Rattle.dfu_host_core.specs.PhaseNumbers.{phase_at}
+use Rattle.dfu_host_core.specs.WrittenNumbers.{numbers_in}
+use Rattle.dfu_host_core.specs.declared.session.DfuSession.{DfuSession}
 
 -- The version of the library, 0.3.0: 10,000 for each major one, 100 for each minor one, and 1 for each patch.
 abbrev pub version : ℕ
 version = 300
-
--- The identifiers of a device.
-abbrev pub ids_of : DfuIds → Ids
-ids_of r = record { device = r.device; product = r.product; vendor = r.vendor }
 
 -- The limits of a session, by its two numbers.
 abbrev pub limits_of : (actions restarts : ℕ) → Limits

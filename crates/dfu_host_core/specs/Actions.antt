@@ -4,8 +4,8 @@ use Rattle.dfu_wire.specs.declared.requests.Request.{Request}
 use Rattle.dfu_host.specs.declared.report.Report.{Report}
 use Rattle.dfu_host.specs.Phases.{Deed, Send, Wait, Reset, Done}
 use Rattle.dfu_host.specs.Wire.{IsAsked}
-use Rattle.dfu_host_c.specs.ReportNumbers.{report_at, report_numbers}
-use Rattle.dfu_host_c.specs.declared.action.DfuAction.{DfuAction}
+use Rattle.dfu_host_core.specs.ReportNumbers.{report_at, report_numbers}
+use Rattle.dfu_host_core.specs.declared.action.DfuAction.{DfuAction}
 
 -- The record says to send this request: its setup asks for it, and its body is that many bytes of the payload from a place on. They end
 -- within the payload.

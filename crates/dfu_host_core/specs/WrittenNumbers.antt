@@ -2,8 +2,8 @@
 use Rattle.std.specs.Prelude.{ℕ}
 use Rattle.dfu_host.specs.declared.phase.Phase.{Phase}
 use Rattle.dfu_host.specs.declared.phase.Phase.TheVariants as phase
-use Rattle.dfu_host_c.specs.ReportNumbers.{report_numbers}
-use Rattle.dfu_host_c.specs.declared.phases.EncodedPhase.{EncodedPhase}
+use Rattle.dfu_host_core.specs.ReportNumbers.{report_numbers}
+use Rattle.dfu_host_core.specs.declared.encoded.EncodedPhase.{EncodedPhase}
 
 -- The numbers of a phase: which it is, its block, part or report, and its poll time or code.
 abbrev of : (which number more : ℕ) → EncodedPhase

@@ -2,7 +2,7 @@
 use Rattle.std.specs.Prelude.{ℕ, ◌==◌, nat_lt, if◌then◌else◌, Option, Some, None, option_map}
 use Rattle.dfu_host.specs.declared.phase.Phase.{Phase}
 use Rattle.dfu_host.specs.declared.phase.Phase.TheVariants as phase
-use Rattle.dfu_host_c.specs.ReportNumbers.{report_at}
+use Rattle.dfu_host_core.specs.ReportNumbers.{report_at}
 
 -- The part of this number; None if it is over 65,535.
 abbrev pub part_at : ℕ → Option ℕ

@@ -1,0 +1,38 @@
+-- When a session does not begin for a program in C, and why.
+use Rattle.std.specs.Prelude.{◌≡◌, ◌⊎◌, ℕ, ℤ, List, Option, Some}
+use Rattle.dfu_wire.specs.declared.functionals.Functional.{Functional}
+use Rattle.dfu_wire.specs.declared.ids.Ids.{Ids}
+use Rattle.dfu_wire.specs.Functional.{IsFunctional, FirstFunctionalFault}
+use Rattle.dfu_suffix.specs.Grammar.{Content, First}
+use Rattle.dfu_host.specs.declared.fault.HostFault.{HostFault}
+use Rattle.dfu_host_core.specs.Beginning.{IsContent}
+use Rattle.dfu_host_c.specs.Refusals.{IsRefusedFor}
+use Rattle.dfu_host_c.specs.declared.refusals.Refusal.TheVariants as refusal
+
+-- The bytes are not a file, and this is the number of their first fault.
+abbrev pub IsNoFile : (file : List ℕ) → (result : ℤ) → Type 0
+IsNoFile file result = IsRefusedFor refusal.File (λ fault. First fault file) result
+
+-- The bytes are not a descriptor, and this is the number of their first fault.
+abbrev pub IsNoDescriptor : (descriptor : List ℕ) → (result : ℤ) → Type 0
+IsNoDescriptor descriptor result = IsRefusedFor refusal.Wire (λ fault. FirstFunctionalFault fault descriptor) result
+
+-- The file or the descriptor is faulty. The fault of the file comes first.
+abbrev pub IsUnread : (file descriptor : List ℕ) → (result : ℤ) → Type 0
+IsUnread file descriptor result =
+    IsNoFile file result ⊎ ((content : Content) × IsContent content file × IsNoDescriptor descriptor result)
+
+-- The file and the descriptor were read, and the host refuses the session by the first of these faults.
+pub record HostRefuses (first : Content → Functional → Ids → Option HostFault) (file descriptor : List ℕ) (device : Ids)
+    (result : ℤ) : Type 0 where
+  pub content : Content
+  pub functional : Functional
+  pub is_content : IsContent content file
+  pub is_functional : IsFunctional functional descriptor
+  pub refused : IsRefusedFor refusal.Host (λ fault. first content functional device ≡ Some fault) result
+
+-- The descriptor was read, and the host refuses the upload by the first of these faults.
+pub record RefusesUpload (first : Functional → Option HostFault) (descriptor : List ℕ) (result : ℤ) : Type 0 where
+  pub functional : Functional
+  pub is_functional : IsFunctional functional descriptor
+  pub refused : IsRefusedFor refusal.Host (λ fault. first functional ≡ Some fault) result

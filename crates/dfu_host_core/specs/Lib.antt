@@ -1,0 +1,10 @@
+pub mod ReportNumbers
+pub mod PhaseNumbers
+pub mod WrittenNumbers
+pub mod Numbers
+pub mod Sessions
+pub mod Told
+pub mod Actions
+pub mod Calls
+pub mod Beginning
+pub mod Runs

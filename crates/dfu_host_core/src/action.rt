@@ -1,0 +1,19 @@
+//! What is to be done next, as a record for C.
+
+/// `struct dfu_action`: what is to be done next. The header says what each number means.
+#[repr(C)]
+#[derive(Drop)]
+pub struct DfuAction {
+    /// 0 to send, 1 to wait, 2 to reset the bus, 3 if the session is over.
+    pub what: u32,
+    /// The milliseconds of a wait, or the number of a report.
+    pub value: u32,
+    /// Where the body begins in the payload.
+    pub from: u64,
+    /// How many bytes the body has.
+    pub length: u64,
+    /// The code of the report Refused.
+    pub code: u32,
+    /// The setup that is sent.
+    pub setup: [u8; 8],
+}

@@ -1,0 +1,12 @@
+//! A phase as a record keeps it.
+
+/// A phase as numbers.
+#[derive(Clone, Copy)]
+pub struct EncodedPhase {
+    /// Which phase.
+    pub which: u32,
+    /// The block, the part or the report.
+    pub number: u64,
+    /// The poll time in milliseconds, or the code of a report.
+    pub more: u32,
+}

@@ -1,0 +1,5 @@
+pub mod Actions
+pub mod Heard
+pub mod Settled
+pub mod Came
+pub mod Played

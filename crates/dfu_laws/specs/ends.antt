@@ -1,0 +1,3 @@
+pub mod Sessions
+pub mod Comes
+pub mod Plays

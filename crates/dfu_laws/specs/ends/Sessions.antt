@@ -1,0 +1,69 @@
+-- A session as a program in C runs it: what the calls of its record say and make of it.
+use Rattle.std.specs.Prelude.{◌≡◌, ◌≢◌, ◌⊎◌, ℕ, pos, List, take, drop, Option, Some, None}
+use Rattle.std.specs.Borrow.{Bor}
+use Rattle.dfu_device.specs.declared.answer.Answer.TheVariants as answer
+use Rattle.dfu_host.specs.declared.report.Report.{Report}
+use Rattle.dfu_host.specs.declared.report.Report.TheVariants.{Uploaded}
+use Rattle.dfu_sim.specs.LinkView.{Session, Nobody, Hosted}
+use Rattle.dfu_sim.specs.Play.{Answered, silent}
+use Rattle.dfu_host_core.specs.declared.action.DfuAction.{DfuAction}
+use Rattle.dfu_host_core.specs.ReportNumbers.{report_at}
+use Rattle.dfu_host_core.specs.Calls.{IsNextAction}
+use Rattle.dfu_host_core.specs.Runs.{CoreHost, IsCoreHost, CoreTake, HostCalled}
+use Rattle.dfu_laws.specs.board.Board.{Event, Elapse, Handle, Says, Answers}
+
+-- The session in C that is live: none, or a record with its buffer, over a payload of these bytes.
+pub data CoreSession : Type 0 where
+  NoSession : CoreSession
+  InSession : (payload : List ℕ) (x : CoreHost) → CoreSession
+
+-- It is this session of a host.
+abbrev pub IsSessionOf : CoreSession → Session → Type 0
+IsSessionOf NoSession Nobody = Unit {0}
+IsSessionOf (InSession payload x) (Hosted h) = IsCoreHost payload x h
+IsSessionOf s session = ⊥
+
+-- dfu_host_next returns 0 with this action, wherever the payload is in memory.
+abbrev pub Wants : (payload : List ℕ) → CoreHost → DfuAction → Type 0
+Wants payload x a = (slice : Bor (List ℕ)) × (slice.now ≡ payload) × IsNextAction x.kept slice a
+
+-- The bytes of the payload that an action sends.
+abbrev pub body_in : (payload : List ℕ) → DfuAction → List ℕ
+body_in payload a = take a.length (drop a.from payload)
+
+-- dfu_host_take returns 0 for this number of what is seen, with these bytes.
+abbrev pub IsGiven : (payload : List ℕ) → CoreHost → (seen : ℕ) → (bytes : List ℕ) → CoreHost → Type 0
+IsGiven payload x seen bytes x' = HostCalled payload x (CoreTake seen bytes) (pos 0) x'
+
+-- The number and bytes that tell a session of what is sent back: 0 an acknowledgement, 1 an answer with its bytes, 2 a stall; or 3, that
+-- nothing came back, whatever was sent.
+abbrev pub TellsOf : Says → (seen : ℕ) → (bytes : List ℕ) → Type 0
+TellsOf (Answers answer.Ack out) seen bytes = (seen ≡ 0) ⊎ (seen ≡ 3)
+TellsOf (Answers answer.Bytes out) seen bytes = ((seen ≡ 1) × (bytes ≡ out)) ⊎ (seen ≡ 3)
+TellsOf (Answers answer.Stall out) seen bytes = (seen ≡ 2) ⊎ (seen ≡ 3)
+TellsOf says seen bytes = seen ≡ 3
+
+-- What is given with a report: with Uploaded the bytes that the session keeps.
+abbrev pub gave_with : Report → List ℕ → Option (List ℕ)
+gave_with Uploaded bytes = Some bytes
+gave_with report bytes = None
+
+-- What dfu_host_next says of a session that was told something, and what is reported: it goes on; or it is over, with a report.
+pub data Settles (payload : List ℕ) (x : CoreHost) : Answered → CoreSession → Type 0 where
+  stays_live : (a : DfuAction) → Wants payload x a → a.what ≢ 3 → Settles payload x silent (InSession payload x)
+  is_over : (a : DfuAction) (report : Report) → Wants payload x a → a.what ≡ 3 → report_at a.value a.code ≡ Some report
+      → Settles payload x (record { report = Some report; gave = gave_with report (take x.kept.kept x.buffer) }) NoSession
+
+-- A live session is told that the device was restarted, by the number 6.
+pub data HearsRestart : CoreSession → Answered → CoreSession → Type 0 where
+  nobody_hears : HearsRestart NoSession silent NoSession
+  hears_it : {payload bytes : List ℕ} {x x' : CoreHost} {said : Answered} {s' : CoreSession} → IsGiven payload x 6 bytes x'
+      → Settles payload x' said s' → HearsRestart (InSession payload x) said s'
+
+-- The calls of a board that may be under way as the bus is reset or the power goes: the program tells of time that passed, or the session's
+-- request came.
+abbrev pub IsAtWork : CoreSession → Event → Type 0
+IsAtWork s (Elapse ms) = Unit {0}
+IsAtWork (InSession payload x) (Handle setup body) = (a : DfuAction) × Wants payload x a × (a.what ≡ 0) × (setup ≡ a.setup)
+    × (body ≡ body_in payload a)
+IsAtWork s call = ⊥
