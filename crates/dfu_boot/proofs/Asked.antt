@@ -20,27 +20,6 @@ module _ (m : MediumState) (tries : ℕ) (t : Trial) (are : AreTries m.grain tri
   pub trial_in : t.slot + slot_size m.bytes ≤ length m.bytes
   trial_in = slot_in m t.slot t.base stands.0.sized stands.0.places
 
-  -- The mark of the next start.
-  module _ (lt : t.starts < tries) where
-    next_is : is_set m t.slot (t.starts + 1) ≡ false
-    next_is =
-        let e : 1 + starts m tries t.slot ≡ t.starts + 1 = omega (arith, stands.1) in
-        sym (ap (λ (k : ℕ). is_set m t.slot k) e) ∙ next_unset m t.slot 1 tries (omega (arith, stands.1, lt))
-
-    pub start_in : mark_at m.grain t.slot (t.starts + 1) + mark_size m.grain ≤ length m.bytes
-    start_in = mark_in m tries t.slot (t.starts + 1) stands.0.sized are (omega (arith, lt)) trial_in
-
-    -- The medium takes it, and it lies within the medium.
-    pub start_taken : (at len : ℕ) → at ≡ mark_at m.grain t.slot (t.starts + 1) → len ≡ mark_size m.grain
-        → MediumTakes m (Mark at len) × MarkIsWithin m (Mark at len)
-    start_taken at len at_is len_is =
-        let next = mark_at m.grain t.slot (t.starts + 1) in
-        subst (λ (k : ℕ). MediumTakes m (Mark k len) × MarkIsWithin m (Mark k len)) (sym at_is)
-        (subst (λ (n : ℕ). MediumTakes m (Mark next n) × MarkIsWithin m (Mark next n)) (sym len_is) (
-          mark_taken m t.slot t.base stands.0.sized stands.0.places tries (t.starts + 1) are (omega (arith, lt)) next_is,
-          (start_in, gate_most m.grain.unit),
-        ))
-
   -- The confirmation.
   pub confirm_in : mark_at m.grain t.slot 0 + mark_size m.grain ≤ length m.bytes
   confirm_in = mark_in m tries t.slot 0 stands.0.sized are (omega arith) trial_in

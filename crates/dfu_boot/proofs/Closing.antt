@@ -1,17 +1,14 @@
--- A medium as it reads once a gate of it is closed.
-use Rattle.std.proofs.Common.{◌≡◌, ◌⊎◌, ⊎_elim, ℕ, ◌+◌, ◌≤◌, List, [], ◌∷◌, length, slice_index, true, false, sym, ◌∙◌, ap, subst, arith}
+-- The places of the two slots that a look finds, and what is not on trial.
+use Rattle.std.proofs.Common.{◌≡◌, ◌⊎◌, ⊎_elim, ℕ, true, false, sym, ◌∙◌, ap, subst}
 use Rattle.std.proofs.lemmas.Bool.{true≢false}
-use Rattle.dfu_slots.specs.Medium.{MediumState, KeepsOutside, written}
-use Rattle.dfu_slots.specs.Layout.{ArePlaces, OPEN}
+use Rattle.dfu_slots.specs.Medium.{MediumState}
+use Rattle.dfu_slots.specs.Layout.{ArePlaces}
 use Rattle.dfu_slots.specs.Image.{gate_of, slot_of, IsNewest, HasImage, active_at, spare_at}
 use Rattle.dfu_slots.proofs.Stands.{standing}
-use Rattle.dfu_slots.proofs.Sectors.{gate_wide}
-use Rattle.dfu_slots.proofs.Torn.{written_torn, written_range, first_of_range, keeps_wider}
 use Rattle.dfu_slots.proofs.Newest.{places_are, places_newest}
 use Rattle.dfu_boot.specs.trial.Marks.{is_set}
-use Rattle.dfu_boot.specs.trial.Trial.{IsFilled, HasTrial, image_at, closed}
-use Rattle.dfu_boot.proofs.Places.{slot_in}
-use Rattle.dfu_boot.proofs.Slots.{active_filled, comes_back, came_back}
+use Rattle.dfu_boot.specs.trial.Trial.{IsFilled, HasTrial}
+use Rattle.dfu_boot.proofs.Slots.{active_filled}
 
 module _ (m : MediumState) (p q : ℕ) (has : HasImage m) (active : p ≡ active_at (gate_of m) m.bytes)
     (spare : q ≡ spare_at (gate_of m) m.bytes) where
@@ -49,30 +46,3 @@ module _ (m : MediumState) (p q : ℕ) (has : HasImage m) (active : p ≡ active
       (λ rest. ⊎_elim
       (λ unset. true≢false (sym t.trial.confirmed ∙ ap (λ (x : ℕ). is_set m x 0) there.1 ∙ unset))
       (λ none. none (subst (λ (x : ℕ). IsFilled (slot_of m x)) there.1 t.trial.other)) rest) why
-
-  abbrev left : List ℕ
-  left = written m.bytes p (0 ∷ [])
-
-  inside : p + 1 ≤ length m.bytes
-  inside = omega (arith, slot_in m p q has.active.sized found, has.active.sized.room)
-
-  keeps : KeepsOutside p (p + gate_of m) m.bytes left
-  keeps = keeps_wider p (p + 1) p (p + gate_of m) m.bytes left (written_torn m.bytes p (0 ∷ []) inside) (omega arith)
-      (omega (arith, gate_wide m.grain))
-
-  shut : ¬ (slice_index left p ≡ OPEN)
-  shut is_open =
-      let zero_there : slice_index left p ≡ 0 =
-      first_of_range left p (p + 1) 0 [] (omega arith) (written_range m.bytes p (0 ∷ []) inside) in
-      omega (arith, is_open, zero_there)
-
-  -- If the medium has an image then, it is that in the spare slot.
-  pub closed_filled : HasImage (closed m p) → IsFilled (slot_of m q)
-  closed_filled there = came_back m (closed m p) p q has.active.sized found keeps shut there
-
-  -- And it has one, if the spare slot has.
-  pub filled_closed : IsFilled (slot_of m q) → HasImage (closed m p)
-  filled_closed full = record {
-    image = image_at (closed m p) q;
-    active = comes_back m (closed m p) p q has.active.sized found keeps shut full;
-  }

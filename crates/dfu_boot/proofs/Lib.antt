@@ -7,6 +7,7 @@ mod Downloading
 pub mod Erasing
 pub mod Few
 pub mod Filling
+pub mod Fitting
 pub mod Fresh
 pub mod Holding
 mod Keeping

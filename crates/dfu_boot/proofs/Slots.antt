@@ -92,13 +92,3 @@ module _ (m now : MediumState) (at base : ℕ) (sized : IsSized m) (places : Are
   pub comes_back : ¬ (slice_index now.bytes at ≡ OPEN) → IsFilled (slot_of m base) → Active w (image_at w base)
   comes_back shut full = active_there w base at (sized_left m now keeps.size sized)
       (places_left m now keeps.size base at (turned m.bytes at base places)) (newest_again shut full) (subst IsFilled (sym other_left) full)
-
-  -- An image is active then only if it has one.
-  pub came_back : ¬ (slice_index now.bytes at ≡ OPEN) → HasImage w → IsFilled (slot_of m base)
-  came_back shut has =
-      let a = has.active in
-      let full = active_filled w has.image a in
-      ⊎_elim
-      (λ same. absurd (shut (subst (λ (p : ℕ). Counts (slot (gate_of m) now.bytes p)) same.0 full.counts).is_open))
-      (λ other. subst IsFilled other_left (subst (λ (p : ℕ). IsFilled (slot (gate_of m) now.bytes p)) other.0 full))
-      (same_or_turned now.bytes at base a.at a.spare (places_left m now keeps.size at base places) a.places)

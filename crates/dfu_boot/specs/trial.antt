@@ -3,3 +3,4 @@ pub mod Trial
 pub mod Calls
 pub mod Laws
 pub mod Lists
+pub mod Again

@@ -2,6 +2,7 @@
 //! while the next image is written beside it.
 #![tactic(auto)]
 
+mod both;
 mod carry;
 mod changes;
 mod erasing;
@@ -24,6 +25,7 @@ mod steps;
 mod writes;
 
 // For a caller that reads a medium by itself, and knows which slot is active.
+pub use both::{Both, check_both};
 pub use fault::{FormatFault, OpenFault, PutFault, WriteFault};
 pub use layout::{
     MAX_SECTOR, MAX_UNIT, OPEN_GATE, PAGE, Unit, VERSION, capacity_of, gate_of, is_sized,

@@ -1,7 +1,6 @@
 -- Which image of a medium is on trial.
-use Rattle.std.specs.Prelude.{◌≡◌, ℕ, ◌^◌, ◌-◌, true, false, List, [], ◌∷◌, take}
-use Rattle.dfu_slots.specs.Medium.{MediumState, written}
-use Rattle.dfu_slots.specs.Medium.Fuse.{Unknown}
+use Rattle.std.specs.Prelude.{◌≡◌, ℕ, true, false, List, take}
+use Rattle.dfu_slots.specs.Medium.{MediumState}
 use Rattle.dfu_slots.specs.Layout.{Slot, ArePlaces, HasHeader, header_length}
 use Rattle.dfu_slots.specs.Image.{slot_of, IsSized, Counts, IsNewest}
 use Rattle.dfu_boot.specs.trial.Marks.{is_set}
@@ -31,13 +30,3 @@ pub record HasTrial (m : MediumState) : Type 0 where
 -- The image in the slot that begins there.
 abbrev pub image_at : MediumState → ℕ → List ℕ
 image_at m at = take (header_length (slot_of m at)) (slot_of m at).data_bytes
-
--- The medium as it reads once the gate there is closed; nothing is known of its writes.
-abbrev pub closed : MediumState → ℕ → MediumState
-closed m at = record {
-  bytes = written m.bytes at (0 ∷ []);
-  failures = 2 ^ 64 - 1;
-  fuse = Unknown;
-  grain = m.grain;
-  tag = [];
-}

@@ -4,7 +4,12 @@ use Rattle.dfu_boot.specs.trial.Laws.{CarriedIf, Starts}
 use Rattle.dfu_boot.specs.declared.trial.operation.Operation.{Operation}
 use Rattle.dfu_boot.specs.declared.trial.starting.Starting.{Starting}
 use Rattle.dfu_boot.proofs.Starts.{starts_so, starts_has, within_kept}
+use Rattle.dfu_boot.proofs.Fitting.{stands_fits}
 use Rattle.dfu_boot.proofs.trial.booting.boot.Goals as goal
+
+pub start-starting-requires-clause-stands : goal.start-starting-requires-clause-stands
+start-starting-requires-clause-stands g c =
+    stands_fits (g.M.Medium.state c.args.medium.now) c.args.tries c.in_ok-standing.standing c.in_ok-standing.ensures.standing
 
 pub carry_out-requires-clause-taken : goal.carry_out-requires-clause-taken
 carry_out-requires-clause-taken g c =

@@ -1,0 +1,78 @@
+//! A look that was handed on: the standing is found again without reading the images.
+ghost use Rattle.std.specs.Prelude.{◌≡◌, IfSome, IsTrue};
+ghost use Rattle.dfu_slots.specs.Layout.{ArePlaces};
+ghost use Rattle.dfu_slots.specs.Image.{IsSized, slot_of, Counts, IsNewest};
+ghost use Rattle.dfu_boot.specs.trial.Marks.{AreTries};
+ghost use Rattle.dfu_boot.specs.trial.Calls.{IsStanding, image_place};
+ghost use Rattle.dfu_boot.specs.trial.Again.{Fits, AreWhole};
+
+use crate::trial::marks::{is_set, starts};
+use crate::trial::{Settled, Standing, Trial};
+use dfu_slots::{Medium, Places, capacity_of, data_at, generation, is_open, is_sized};
+
+// Where the slots are, if the data of one begins there.
+fn places_by_data<M: Medium>(medium: &M, at: u32) -> Option<Places>
+    requires { IsSized (M.state medium.now) }
+    ensures places { IfSome result (λ p. ArePlaces (M.state medium.now).bytes p.active p.spare) }
+    ensures at { IfSome result (λ p. image_place (M.state medium.now).grain p.active ≡ at) }
+{
+    let second = medium.len() / 2;
+    if at == data_at(medium, 0) {
+        return Some(Places {
+            active: 0,
+            spare: second,
+        });
+    }
+    if at == data_at(medium, second) {
+        return Some(Places {
+            active: second,
+            spare: 0,
+        });
+    }
+    None
+}
+
+// Whether the gate of the first of two slots is open, and that of the second is not, or its header is one generation behind: the first is
+// the newest then, if it counts.
+fn is_ahead<M: Medium>(medium: &M, places: Places) -> bool
+    requires sized { IsSized (M.state medium.now) }
+    requires places { ArePlaces (M.state medium.now).bytes places.active places.spare }
+    ensures { IsTrue result → Counts (slot_of (M.state medium.now) places.active) →
+        IsNewest (slot_of (M.state medium.now) places.active) (slot_of (M.state medium.now) places.spare) }
+{
+    if !is_open(medium, places.active) {
+        return false;
+    }
+    !is_open(medium, places.spare)
+        || generation(medium, places.active) == generation(medium, places.spare).wrapping_add(1)
+}
+
+/// Finds the standing again that a look before found: the image that begins at `at` was active, and if it was on trial the one that begins
+/// at `base` was to come back. It reads gates, headers and marks, and no image: all that it takes from the look is that these images are
+/// whole. None if another slot may have the active image by now, or if an image may be on trial that the look didn't say: look anew then.
+pub fn look_again<M: Medium>(medium: &M, tries: u32, at: u32, base: Option<u32>) -> Option<Standing>
+    requires tries { AreTries (M.state medium.now).grain tries }
+    ensures stands { IfSome result (λ s. AreWhole (M.state medium.now) at base → IsStanding (M.state medium.now) tries s) }
+    ensures fits { IfSome result (λ s. Fits (M.state medium.now) tries s) }
+{
+    if !is_sized(medium) {
+        return None;
+    }
+    let places = places_by_data(medium, at)?;
+    if !is_ahead(medium, places) {
+        return None;
+    }
+    let slot = places.active;
+    let is_confirmed = is_set(medium, slot, 0);
+    if is_confirmed || !is_open(medium, places.spare) || !is_set(medium, places.spare, 0) {
+        return Some(Standing::Settled(Settled { slot, is_confirmed }));
+    }
+    if base? != data_at(medium, places.spare) {
+        return None;
+    }
+    Some(Standing::OnTrial(Trial {
+        slot,
+        base: places.spare,
+        starts: starts(medium, tries, slot),
+    }))
+}

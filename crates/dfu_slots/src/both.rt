@@ -1,0 +1,77 @@
+//! What one look at a medium shows of both its slots.
+ghost use Rattle.std.specs.Prelude.{◌≡◌, ℕ, OnOk, IfOk, IfErr, IfSome, IfNone};
+ghost use Rattle.dfu_slots.specs.Layout.{slot_size, HasHeader};
+ghost use Rattle.dfu_slots.specs.Image.{gate_of, IsSized, slot_of, Counts, counts, active_at, spare_at, HasImage};
+ghost use Rattle.dfu_slots.specs.Changes.{IsOpenFault};
+
+use crate::layout::is_sized;
+use crate::places::{Counted, count_slots, find_places, has_newest, is_none};
+use crate::read::header_len;
+use crate::{Medium, OpenFault, Places};
+
+/// Where the slots of a medium with an active image are, and whether the spare one has an image too.
+#[derive(Clone, Copy, Drop)]
+pub struct Both {
+    /// Where the active slot and the spare one begin.
+    pub places: Places,
+    /// How long the image in the spare slot is, if that counts and its header is well formed.
+    pub spare_len: Option<u32>,
+}
+
+// How long the image in the spare slot is, if that counts and its header is well formed.
+fn spare_len<M: Medium>(medium: &M, spare: u32, counted: Counted) -> Option<u32>
+    requires sized { IsSized (M.state medium.now) }
+    requires spare { spare ≡ spare_at (gate_of (M.state medium.now)) (M.state medium.now).bytes }
+    requires first { counted.first ≡ counts (slot_of (M.state medium.now) 0) }
+    requires second { counted.second ≡ counts (slot_of (M.state medium.now) (slot_size (M.state medium.now).bytes)) }
+    ensures counts { IfSome result (λ len. Counts (slot_of (M.state medium.now) spare)) }
+    ensures some { IfSome result (λ len. HasHeader (slot_of (M.state medium.now) spare) len) }
+    ensures none { IfNone result (Counts (slot_of (M.state medium.now) spare) → (len : ℕ) → ¬ HasHeader (slot_of (M.state medium.now) spare) len) }
+{
+    let counts = if spare == 0 {
+        counted.first
+    } else {
+        counted.second
+    };
+    if !counts {
+        return None;
+    }
+    header_len(medium, spare)
+}
+
+/// Where the slots of a medium with an active image are, and how long the image in the spare slot is, if that has one; or else the first
+/// fault. It reads what `check` reads.
+///
+/// # Errors
+///
+/// Those of `check`: the medium has no active image.
+pub fn check_both<M: Medium>(medium: &M) -> Result<Both, OpenFault>
+    ensures ok { OnOk result (HasImage (M.state medium.now)) }
+    ensures active { IfOk result (λ b. b.places.active ≡ active_at (gate_of (M.state medium.now)) (M.state medium.now).bytes) }
+    ensures spare { IfOk result (λ b. b.places.spare ≡ spare_at (gate_of (M.state medium.now)) (M.state medium.now).bytes) }
+    ensures counts { IfOk result (λ b. IfSome b.spare_len (λ len. Counts (slot_of (M.state medium.now) b.places.spare))) }
+    ensures some { IfOk result (λ b. IfSome b.spare_len (λ len. HasHeader (slot_of (M.state medium.now) b.places.spare) len)) }
+    ensures none { IfOk result (λ b. IfNone b.spare_len (Counts (slot_of (M.state medium.now) b.places.spare) →
+        (len : ℕ) → ¬ HasHeader (slot_of (M.state medium.now) b.places.spare) len)) }
+    ensures fault { IfErr result (λ fault. IsOpenFault fault (M.state medium.now)) }
+    ensures sized { OnOk result (IsSized (M.state medium.now)) }
+{
+    if !is_sized(medium) {
+        return Err(OpenFault::WrongSize);
+    }
+    let counted = count_slots(medium);
+    if is_none(counted) {
+        return Err(OpenFault::NoImage);
+    }
+    let places = find_places(medium, counted);
+    if !has_newest(medium, places, counted) {
+        return Err(OpenFault::TwoImages);
+    }
+    match header_len(medium, places.active) {
+        Some(_) => Ok(Both {
+            places,
+            spare_len: spare_len(medium, places.spare, counted),
+        }),
+        None => Err(OpenFault::BadHeader),
+    }
+}
