@@ -1,7 +1,7 @@
 //! What the words of a command line ask for.
 
 /// What is to be done, with the texts of the words or their defaults.
-#[derive(Debug, Drop)]
+#[derive(Drop)]
 pub enum Subcommand {
     /// Check each file, or standard input if it is `-`.
     Check {
@@ -79,7 +79,7 @@ pub enum Subcommand {
 }
 
 /// A subcommand, and how it is to be done.
-#[derive(Debug, Drop)]
+#[derive(Drop)]
 pub struct ParsedArgs {
     /// What is to be done.
     pub subcommand: Subcommand,
@@ -88,7 +88,7 @@ pub struct ParsedArgs {
 }
 
 /// Why the words ask for no subcommand.
-#[derive(Debug, Drop)]
+#[derive(Drop)]
 pub enum ArgsFault {
     /// The parser refused the words, or they ask for help: its text and its exit status.
     Words(clap::Error),
