@@ -3,8 +3,8 @@
 //! `parse_subcommand` reads them. The crate opens no file and prints nothing.
 #![tactic(auto)]
 
-mod arguments;
 mod command_line;
+mod commands;
 mod help;
 mod subcommand;
 mod words;

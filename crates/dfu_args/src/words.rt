@@ -1,44 +1,78 @@
 //! From the words of a command line to a subcommand.
 
-ghost use Rattle.std.specs.Prelude.{◌≡◌, IfErr, IfOk, IfSome, Some, codes, map, true};
+ghost use Rattle.std.specs.Prelude.{◌≡◌, IfErr, IfOk, IfSome, Some, codes, is_some, map, true};
+ghost use Rattle.std.specs.Option.{option_map};
 ghost use Rattle.std.specs.String.{string_bytes};
-ghost use Rattle.clap.specs.Words.{HasKind, Kinds, first_of, found_of, has_subcommand, matches_of, rows_of, subcommand_of, subcommand_rows_of};
+ghost use Rattle.clap.specs.Words.{all_of, first_of, found_of, has_subcommand, rows_of, subcommand_of, subcommand_rows_of};
 ghost use Rattle.dfu_args.specs.CommandLine.{asks_why, dfu_app, is_on, rows_in, States};
 ghost use Rattle.dfu_args.specs.Complete.{HasTexts, IsComplete, arguments_of};
-ghost use Rattle.dfu_args.specs.Refusals.{EndsBy, TellsFault, word_faults};
+ghost use Rattle.dfu_args.specs.Refusals.{EndsBy, word_faults};
 
-use crate::arguments::{is_on, text_if, text_of, texts_of};
-use crate::command_line::dfu_command;
+use crate::command_line::matches_of;
 use crate::subcommand::{ArgsFault, ParsedArgs, Subcommand};
 use clap::ArgMatches;
-use clap::error::ErrorKind;
 use std::alloc::Global;
 
-/// What clap makes of the words.
-fn matches_of<'a>(alloc: Global, words: &'a [String]) -> Result<ArgMatches<'a>, ArgsFault>
-    ensures top { IfOk result (λ m. rows_of (found_of m) ≡ matches_of dfu_app (map string_bytes words.now)) }
-    ensures rows { IfOk result (λ m. subcommand_rows_of m ≡ subcommand_of dfu_app (map string_bytes words.now)) }
-    ensures named { IfOk result (λ m. has_subcommand m ≡ true) }
-    ensures complete { IfOk result (λ m. IfSome (subcommand_rows_of m) (λ p. IsComplete p.0 p.1)) }
-    ensures faults { EndsBy (word_faults (map string_bytes words.now)) result }
+/// The text of an argument.
+// Many calls have it: once in the program is enough.
+#[inline(never)]
+fn text_of(alloc: Global, found: &ArgMatches<'_>, id: &str) -> Result<String, ArgsFault>
+    requires there { is_some (first_of id.now (rows_of (found_of found.now))) ≡ true }
+    ensures memory { IfErr result (λ f. f ≡ ArgsFault.NoMemory) }
+    ensures text { IfOk result (λ t. first_of id.now (rows_of (found_of found.now)) ≡ Some (string_bytes t)) }
 {
-    let command = match dfu_command(alloc) {
-        Ok(command) => command,
-        Err(_) => return Err(ArgsFault::NoMemory),
+    let Some(text) = found.get_str(id) else {
+        unreachable!()
     };
-    match command.try_get_matches_from(words) {
-        Ok(matches) => Ok(matches),
-        Err(error) => Err(fault_of(error)),
+    match String::from_str(alloc, text) {
+        Ok(text) => Ok(text),
+        Err(_) => Err(ArgsFault::NoMemory),
     }
 }
 
-/// The fault of an error of the parser: out of memory, or the words.
-fn fault_of(error: clap::Error) -> ArgsFault
-    ensures { (kinds : Kinds) → HasKind kinds error → TellsFault kinds result }
+/// The texts of an argument, of which there is one at least.
+#[inline(never)]
+fn texts_of(alloc: Global, found: &ArgMatches<'_>, id: &str) -> Result<Vec<String>, ArgsFault>
+    requires there { is_some (first_of id.now (rows_of (found_of found.now))) ≡ true }
+    ensures memory { IfErr result (λ f. f ≡ ArgsFault.NoMemory) }
+    ensures texts { IfOk result (λ t. all_of id.now (rows_of (found_of found.now)) ≡ Some (map string_bytes t.items)) }
 {
-    match error.kind() {
-        ErrorKind::OutOfMemory => ArgsFault::NoMemory,
-        _ => ArgsFault::Words(error),
+    let Some(values) = found.get_strs(id) else {
+        unreachable!()
+    };
+    let mut texts: Vec<String> = Vec::new(alloc);
+    for value in values {
+        let Ok(text) = String::from_str(alloc, value) else {
+            return Err(ArgsFault::NoMemory);
+        };
+        if texts.push(text).is_err() {
+            return Err(ArgsFault::NoMemory);
+        }
+    }
+    Ok(texts)
+}
+
+/// The text of an option, if it was given.
+fn text_if(alloc: Global, found: &ArgMatches<'_>, id: &str) -> Result<Option<String>, ArgsFault>
+    ensures memory { IfErr result (λ f. f ≡ ArgsFault.NoMemory) }
+    ensures text { IfOk result (λ t. first_of id.now (rows_of (found_of found.now)) ≡ option_map string_bytes t) }
+{
+    let Some(text) = found.get_str(id) else {
+        return Ok(None);
+    };
+    match String::from_str(alloc, text) {
+        Ok(text) => Ok(Some(text)),
+        Err(_) => Err(ArgsFault::NoMemory),
+    }
+}
+
+/// Whether a flag was given.
+fn is_on(found: &ArgMatches<'_>, id: &str) -> bool
+    ensures { result ≡ is_on (first_of id.now (rows_of (found_of found.now))) }
+{
+    match found.get_str(id) {
+        Some(text) => text == "true",
+        None => false,
     }
 }
 
@@ -130,11 +164,15 @@ fn parse_judge(alloc: Global, found: &ArgMatches<'_>) -> Result<Subcommand, Args
     })
 }
 
-fn parse_named(alloc: Global, name: &str, found: &ArgMatches<'_>) -> Result<Subcommand, ArgsFault>
-    requires complete { IsComplete name.now (rows_of (found_of found.now)) }
-    ensures subcommand { IfOk result (λ j. States (Some (name.now, rows_of (found_of found.now))) j) }
+fn chosen(alloc: Global, matches: &ArgMatches<'_>) -> Result<Subcommand, ArgsFault>
+    requires named { has_subcommand matches.now ≡ true }
+    requires complete { IfSome (subcommand_rows_of matches.now) (λ p. IsComplete p.0 p.1) }
+    ensures subcommand { IfOk result (λ j. States (subcommand_rows_of matches.now) j) }
     ensures memory { IfErr result (λ f. f ≡ ArgsFault.NoMemory) }
 {
+    let Some((name, found)) = matches.subcommand() else {
+        unreachable!()
+    };
     match name {
         "check" => parse_check(alloc, found),
         "add" => parse_add(alloc, found),
@@ -144,18 +182,6 @@ fn parse_named(alloc: Global, name: &str, found: &ArgMatches<'_>) -> Result<Subc
         "run" => parse_run(alloc, found),
         "judge" => parse_judge(alloc, found),
         _ => unreachable!(),
-    }
-}
-
-fn chosen(alloc: Global, matches: &ArgMatches<'_>) -> Result<Subcommand, ArgsFault>
-    requires named { has_subcommand matches.now ≡ true }
-    requires complete { IfSome (subcommand_rows_of matches.now) (λ p. IsComplete p.0 p.1) }
-    ensures subcommand { IfOk result (λ j. States (subcommand_rows_of matches.now) j) }
-    ensures memory { IfErr result (λ f. f ≡ ArgsFault.NoMemory) }
-{
-    match matches.subcommand() {
-        Some((name, found)) => parse_named(alloc, name, found),
-        None => unreachable!(),
     }
 }
 

@@ -2,7 +2,7 @@ use Rattle.std.proofs.Common.{ap, ◌∙◌}
 use Rattle.clap.specs.Words.{found_of}
 use Rattle.clap.proofs.WalkLemmas.{first_value-rows}
 use Rattle.dfu_args.specs.CommandLine.{is_on}
-use Rattle.dfu_args.proofs.arguments.is_on.Goals as goal
+use Rattle.dfu_args.proofs.words.is_on.Goals as goal
 
 pub returns-in-Some : goal.returns-in-Some
 returns-in-Some c = c.eq.ensures ∙ ap is_on (c.in-Some.ensures ∙ first_value-rows (found_of c.args.found.now) c.args.id.now)

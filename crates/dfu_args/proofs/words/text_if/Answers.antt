@@ -1,7 +1,7 @@
-use Rattle.std.proofs.Common.{None, Some, ap, sym, ◌∙◌}
+use Rattle.std.proofs.Common.{Some, ap, sym, ◌∙◌}
 use Rattle.clap.specs.Words.{found_of}
 use Rattle.clap.proofs.WalkLemmas.{first_value-rows}
-use Rattle.dfu_args.proofs.arguments.text_if.Goals as goal
+use Rattle.dfu_args.proofs.words.text_if.Goals as goal
 
 pub returns-in_default-clause-text : goal.returns-in_default-clause-text
 returns-in_default-clause-text c = sym (first_value-rows (found_of c.args.found.now) c.args.id.now) ∙ sym c.in_default.ensures

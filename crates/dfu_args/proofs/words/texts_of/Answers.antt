@@ -1,9 +1,9 @@
-use Rattle.std.proofs.Common.{ap, is_some, map, take, sym, true≢false, Some, arith, ◌∙◌}
+use Rattle.std.proofs.Common.{ap, is_some, map, sym, true≢false, Some, arith, ◌∙◌}
 use Rattle.std.proofs.lemmas.List.{take_all}
 use Rattle.clap.specs.Words.{found_of, rows_of}
 use Rattle.clap.proofs.WalkLemmas.{raw_values-rows}
 use Rattle.dfu_args.proofs.Texts.{none_first}
-use Rattle.dfu_args.proofs.arguments.texts_of.Goals as goal
+use Rattle.dfu_args.proofs.words.texts_of.Goals as goal
 
 pub unreachable-requires : goal.unreachable-requires
 unreachable-requires c =

@@ -1,7 +1,7 @@
 use Rattle.std.proofs.Common.{map}
 use Rattle.std.specs.String.{string_bytes}
 use Rattle.dfu_args.proofs.CommandLaws.{complete_from, faultless, faulty, met, stated, stated_above}
-use Rattle.dfu_args.proofs.words.matches_of.Goals as goal
+use Rattle.dfu_args.proofs.command_line.matches_of.Goals as goal
 
 pub returns-in-Ok-try_get_matches_from : goal.returns-in-Ok-try_get_matches_from
 returns-in-Ok-try_get_matches_from c = record {

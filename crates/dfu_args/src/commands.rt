@@ -1,0 +1,124 @@
+//! The commands: their arguments, one a row.
+
+use crate::help;
+
+/// An argument of a command: its id, which is the name of an option too; its kind; and its text in `--help`.
+#[derive(Clone, Copy)]
+pub(crate) struct Row<'a>(pub(crate) &'a str, pub(crate) Kind<'a>, pub(crate) &'a str);
+
+/// How an argument is given.
+#[derive(Clone, Copy)]
+pub(crate) enum Kind<'a> {
+    /// A positional argument that has to be there, by its name in `--help`.
+    Needed(&'a str),
+    /// A positional argument that has to be there, once or more often, by its name in `--help`.
+    Repeated(&'a str),
+    /// A positional argument that may be there more often than once: its name in `--help`, and its default.
+    Optional(&'a str, &'a str),
+    /// An option with a value, and its default.
+    Option(&'a str),
+    /// An option with a value, which has none if it isn't given.
+    Unset,
+    /// A flag, which is off if it isn't given.
+    Flag,
+}
+
+/// A subcommand: its name, what `--help` prints before and behind its arguments, and these.
+#[derive(Clone, Copy)]
+pub(crate) struct Listed<'a> {
+    pub(crate) name: &'a str,
+    pub(crate) about: &'a str,
+    pub(crate) example: &'a str,
+    pub(crate) rows: &'a [Row<'a>],
+}
+
+const EXPLAIN: Row<'static> = Row("explain", Kind::Flag, help::EXPLAIN);
+
+/// The arguments of the command before its subcommand.
+pub(crate) const TOP: [Row<'static>; 1] = [EXPLAIN];
+
+/// The subcommands.
+pub(crate) const COMMANDS: [Listed<'static>; 7] = [
+    Listed {
+        name: "check",
+        about: help::CHECK,
+        example: help::CHECK_EXAMPLE,
+        rows: &[
+            Row("file", Kind::Repeated("FILE"), help::CHECK_FILE),
+            Row("json", Kind::Flag, help::JSON),
+            EXPLAIN,
+        ],
+    },
+    Listed {
+        name: "add",
+        about: help::ADD,
+        example: help::ADD_EXAMPLE,
+        rows: &[
+            Row("file", Kind::Needed("FILE"), help::ADD_FILE),
+            Row("to", Kind::Needed("OUT"), help::ADD_OUT),
+            Row("vid", Kind::Option("ffff"), help::ADD_VID),
+            Row("pid", Kind::Option("ffff"), help::ADD_PID),
+            Row("did", Kind::Option("ffff"), help::ADD_DID),
+            Row("format", Kind::Unset, help::ADD_FORMAT),
+            Row("fill", Kind::Unset, help::ADD_FILL),
+            EXPLAIN,
+        ],
+    },
+    Listed {
+        name: "extract",
+        about: help::EXTRACT,
+        example: help::EXTRACT_EXAMPLE,
+        rows: &[
+            Row("file", Kind::Needed("FILE"), help::CHECK_FILE),
+            Row("to", Kind::Needed("OUT"), help::ADD_OUT),
+            EXPLAIN,
+        ],
+    },
+    Listed {
+        name: "set",
+        about: help::SET,
+        example: help::SET_EXAMPLE,
+        rows: &[
+            Row("file", Kind::Needed("FILE"), help::SET_FILE),
+            Row("vid", Kind::Unset, help::ADD_VID),
+            Row("pid", Kind::Unset, help::ADD_PID),
+            Row("did", Kind::Unset, help::ADD_DID),
+            EXPLAIN,
+        ],
+    },
+    Listed {
+        name: "show",
+        about: help::SHOW,
+        example: help::SHOW_EXAMPLE,
+        rows: &[
+            Row("kind", Kind::Needed("KIND"), help::SHOW_KIND),
+            Row("hex", Kind::Repeated("HEX"), help::SHOW_HEX),
+            Row("json", Kind::Flag, help::JSON),
+            EXPLAIN,
+        ],
+    },
+    Listed {
+        name: "run",
+        about: help::RUN,
+        example: help::RUN_EXAMPLE,
+        rows: &[
+            Row("script", Kind::Needed("SCRIPT"), help::RUN_SCRIPT),
+            Row("trace", Kind::Flag, help::RUN_TRACE),
+            Row("file", Kind::Unset, help::RUN_FILE),
+            EXPLAIN,
+        ],
+    },
+    Listed {
+        name: "judge",
+        about: help::JUDGE,
+        example: help::JUDGE_EXAMPLE,
+        rows: &[
+            Row("file", Kind::Optional("FILE", "-"), help::JUDGE_FILE),
+            Row("interface", Kind::Option("0"), help::JUDGE_INTERFACE),
+            Row("device", Kind::Option("only"), help::JUDGE_DEVICE),
+            Row("dfuse", Kind::Flag, help::JUDGE_DFUSE),
+            Row("json", Kind::Flag, help::JSON),
+            EXPLAIN,
+        ],
+    },
+];
