@@ -2,7 +2,7 @@
 use Rattle.std.specs.Prelude.{◌≡◌, ◌↔◌, Bool, IsTrue, ℕ, ◌+◌, ◌^◌, ◌≤◌, ◌<◌, true, false, List, ◌++◌, length, drop, replicate, slice_range}
 use Rattle.dfu_asks.specs.declared.pending_writes.WriteInputs.{WriteInputs}
 use Rattle.dfu_asks.specs.declared.cut.Cut.{Cut}
-use Rattle.dfu_asks.specs.declared.runs.Runs.{Runs}
+use Rattle.dfu_asks.specs.declared.cut.Runs.{Runs}
 use Rattle.dfu_slots.specs.declared.operation.Source.{Source}
 use Rattle.dfu_slots.specs.Operations.{source_of}
 use Rattle.dfu_asks.specs.Steps.{Step}

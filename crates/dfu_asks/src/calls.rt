@@ -12,11 +12,23 @@ ghost use Rattle.dfu_asks.specs.Lent.{lent, HasRoom, IsSetUpAs};
 ghost use Rattle.dfu_asks.specs.Asks.{device_in, IsDevice};
 ghost use Rattle.dfu_asks.specs.Calls.{DeviceCalled, HasAtMost};
 ghost use Rattle.dfu_asks.specs.Refused.{IsKeptOn, IsThere, Fits, IsRefusedCall, IsServed};
+ghost use Rattle.dfu_asks.specs.Addressed.{addressed};
 
 use crate::noted::{View, look};
 use crate::{Asking, Mapped, Refusal, Reply};
 use dfu_device::{Answer, asked_length, decide, decide_time, goes_with};
 use dfu_wire::{Code, Request, Setup, State};
+
+/// The setup as a device takes it whose interface has this number (bInterfaceNumber): with wIndex 0 if that is its wIndex (USB DFU 1.1,
+/// section 3), and else with another one, of which a device stalls each request and stays as it is. A program whose interface is not
+/// number 0 makes so of each setup what it hands in, to `handle` and to the calls that ask or refuse beforehand.
+pub fn addressed(interface: u8, setup: &[u8; 8]) -> [u8; 8]
+    ensures { result ≡ addressed interface setup.now }
+{
+    let mut own = *setup;
+    own[4] = u8::from(setup[4] != interface);
+    own
+}
 
 impl Asking {
     /// The state of the standard (USB DFU 1.1, section 6.1.2, bState).

@@ -1,12 +1,16 @@
-//! The piece that is found, and its bytes in place.
-ghost use Rattle.std.specs.Prelude.{◌≡◌, ◌+◌, ◌^◌, ◌<◌, ◌≤◌, ◌++◌, ◌↔◌, ℕ, false, length, replicate, slice_index, slice_range, IsTrue};
-ghost use Rattle.dfu_asks.specs.Jobs.{asked, IsFit};
-ghost use Rattle.dfu_asks.specs.Cuts.{step_of, IsCut};
+//! The piece that is found, and its bytes: in runs, as they lie in memory one after the other, in place, and read back.
+ghost use Rattle.std.specs.Prelude.{◌≡◌, ◌+◌, ◌^◌, ◌<◌, ◌≤◌, ◌++◌, ◌↔◌, ℕ, false, length, replicate, slice_index, slice_range, IsTrue, ◌∷◌, [], take, drop};
+ghost use Rattle.dfu_asks.specs.Jobs.{asked, IsFit, steps_for};
+ghost use Rattle.dfu_asks.specs.Cuts.{step_of, IsCut, source_bytes, run_bytes, IsNextPiece};
+ghost use Rattle.dfu_slots.specs.Layout.{OPEN};
+ghost use Rattle.dfu_asks.specs.declared.pending_writes.PendingWrites.{PendingWrites};
+ghost use Rattle.dfu_asks.specs.Carried.{total};
+ghost use Rattle.dfu_asks.specs.Lent.{lent};
+ghost use Rattle.dfu_asks.specs.Asks.{writes_in, steps_in};
 
-use crate::FlashOp;
-use crate::next_piece::MAX_PROGRAM;
+use crate::next_piece::{MAX_PROGRAM, next_piece};
 use crate::pending_writes::WriteInputs;
-use crate::runs::runs_of;
+use crate::{Asking, FlashOp, PendingWrites};
 use dfu_slots::{OPEN_GATE, Source};
 
 /// A search for the next piece of a series of writes, and the piece once it is found.
@@ -45,6 +49,124 @@ pub(crate) fn cut_at<'a>(stock: WriteInputs<'a>, done: u32) -> Cut<'a>
     }
 }
 
+/// Bytes that lie in two slices, and bytes of one value after them.
+#[derive(Clone, Copy, Drop)]
+struct Runs<'a> {
+    /// The first of them.
+    front: &'a [u8],
+    /// Those after it.
+    back: &'a [u8],
+    /// How many come then.
+    rest: usize,
+    /// What each of these is.
+    pad: u8,
+}
+
+// At most so many bytes of a slice, without its first ones.
+fn run<'a>(bytes: &'a [u8], skip: usize, most: usize) -> &'a [u8]
+    ensures { result.now ≡ take most (drop skip bytes.now) }
+{
+    let skip = skip.min(bytes.len());
+    let len = most.min(bytes.len() - skip);
+    &bytes[skip..skip + len]
+}
+
+// So many bytes of two slices, one after the other, and of zeros after both, without the first ones.
+fn runs_in<'a>(front: &'a [u8], back: &'a [u8], skip: usize, len: usize) -> Runs<'a>
+    requires { skip + len ≤ length front.now + length back.now + 256 }
+    ensures bytes { run_bytes result ≡ take len (drop skip ((front.now ++ back.now) ++ replicate 256 0)) }
+    ensures few { length result.front.now + length result.back.now ≤ len }
+    ensures size { length result.front.now + length result.back.now + result.rest ≡ len }
+{
+    let first = run(front, skip, len);
+    let left = len - first.len();
+    let second = run(back, skip.saturating_sub(front.len()), left);
+    Runs {
+        front: first,
+        back: second,
+        rest: left - second.len(),
+        pad: 0,
+    }
+}
+
+// The two slices that the source of a piece is, one after the other, if this is an open gate.
+fn sides_of<'a>(cut: &'a Cut<'_>, gate: &'a [u8; 1]) -> (&'a [u8], &'a [u8])
+    requires { gate.now ≡ OPEN ∷ [] }
+    ensures { result.0.now ++ result.1.now ≡ source_bytes cut.now.source cut.now.stock cut.now.front }
+{
+    match cut.source {
+        Source::Joined => (cut.stock.held, cut.stock.block),
+        Source::Held => (cut.stock.held, &[]),
+        Source::Header => (&cut.front, &[]),
+        Source::Opened => (gate, &[]),
+        Source::Closed => (&[], &[]),
+    }
+}
+
+/// The bytes of a piece, if this is an open gate.
+pub(crate) fn runs_of<'a>(cut: &'a Cut<'_>, gate: &'a [u8; 1]) -> Runs<'a>
+    requires cut { (sector : ℕ) × IsCut sector cut.now }
+    requires gate { gate.now ≡ OPEN ∷ [] }
+    ensures bytes { run_bytes result ≡ (step_of cut.now).write.bytes }
+    ensures few { length result.front.now + length result.back.now ≤ 256 }
+    ensures size { length result.front.now + length result.back.now + result.rest ≡ cut.now.piece.len }
+{
+    let len = cut.piece.len;
+    if cut.piece.erases {
+        return Runs {
+            front: &[],
+            back: &[],
+            rest: len,
+            pad: 0xff,
+        };
+    }
+    let (front, back) = sides_of(cut, gate);
+    runs_in(front, back, cut.from, len)
+}
+
+// Whether two slices have the same bytes: that is less code than `==`.
+fn are_same(one: &[u8], other: &[u8]) -> bool
+    requires { length one.now ≡ length other.now }
+    ensures { IsTrue result ↔ (one.now ≡ other.now) }
+{
+    for i in 0..one.len() {
+        if one[i] != other[i] {
+            return false;
+        }
+    }
+    true
+}
+
+// Whether each byte of a slice is this one.
+fn are_all(bytes: &[u8], byte: u8) -> bool
+    ensures { IsTrue result ↔ (bytes.now ≡ replicate (length bytes.now) byte) }
+{
+    for i in 0..bytes.len() {
+        if bytes[i] != byte {
+            return false;
+        }
+    }
+    true
+}
+
+impl Runs<'_> {
+    /// Whether these are its bytes.
+    pub(crate) fn are(self, bytes: &[u8]) -> bool
+        requires { length bytes.now ≡ length self.front.now + length self.back.now + self.rest }
+        ensures { IsTrue result ↔ (bytes.now ≡ run_bytes self.entry) }
+    {
+        let middle = self.front.len();
+        let end = middle + self.back.len();
+        if !are_same(&bytes[..middle], self.front) {
+            return false;
+        }
+        if !are_same(&bytes[middle..end], self.back) {
+            return false;
+        }
+        are_all(&bytes[end..end + self.rest], self.pad)
+    }
+}
+
 /// Puts the bytes of a piece at the front of a buffer; of an erase at most 256, each FFh.
 pub(crate) fn fill(cut: &Cut<'_>, out: &mut [u8; MAX_PROGRAM])
     requires { (sector : ℕ) × IsCut sector cut.now }
@@ -74,4 +196,50 @@ pub(crate) fn stands(flash: &[u8], cut: &Cut<'_>) -> bool
     }
     let at = piece.at as usize;
     runs_of(cut, &[OPEN_GATE]).are(&flash[at..at + piece.len])
+}
+
+impl Asking {
+    /// The bytes held back, of the memory that they are in.
+    pub(crate) fn held_in<'a>(&self, held: &'a [u8]) -> &'a [u8]
+        ensures bytes { result.now ≡ take self.now.held_len held.now }
+        ensures few { length result.now ≤ 256 }
+    {
+        &held[..self.held_len.min(held.len())]
+    }
+
+    /// What the writes of a job are made of.
+    pub(crate) fn stock<'a>(&self, block: &'a [u8], held: &'a [u8]) -> WriteInputs<'a>
+        ensures steps { (w : PendingWrites) → steps_for w.job result ≡ steps_in (lent self.now block.now held.now) w }
+        ensures sector { result.sector ≡ self.now.sector }
+        ensures few { length result.held.now ≤ 256 }
+        ensures most { length result.block.now ≤ 4096 }
+    {
+        WriteInputs {
+            unit: self.unit,
+            sector: self.sector,
+            put_end: self.put_end,
+            held: self.held_in(held),
+            block: &block[..self.block_len.min(block.len())],
+        }
+    }
+
+    /// How many bytes the next piece of this work has, and whether they are on this flash; or 0 if no piece is left.
+    pub(crate) fn look_at(
+        &self,
+        work: &PendingWrites,
+        block: &[u8],
+        held: &[u8],
+        flash: &[u8],
+    ) -> (usize, bool)
+        ensures next { 0 < result.0 →
+            IsNextPiece (steps_in (lent self.now block.now held.now) work.now) work.now.done flash.now result.0 result.1 }
+        ensures end { work.now.done + result.0 < 2 ^ 32 }
+        ensures none { result.0 ≡ 0 → total (writes_in (lent self.now block.now held.now) work.now) ≤ work.now.done }
+    {
+        let mut cut = cut_at(self.stock(block, held), work.done);
+        if !next_piece(work.job, &mut cut) {
+            return (0, false);
+        }
+        (cut.piece.len, stands(flash, &cut))
+    }
 }

@@ -1,14 +1,18 @@
-//! What becomes of a device at the end of a row.
-ghost use Rattle.std.specs.Prelude.{◌≡◌, ◌≤◌, ℕ, List, [], length, take, true, false, if◌then◌else◌};
+//! How a device goes on with what is left to be written of a row, and what becomes of it at the end of the row.
+ghost use Rattle.std.specs.Prelude.{◌≡◌, ◌≤◌, ℕ, List, [], length, take, true, false, if◌then◌else◌, ◌<◌, ◌↔◌, Some};
 ghost use Rattle.dfu_slots.specs.Image.{HasImage};
 ghost use Rattle.dfu_slots.specs.Writes.{put_rest};
 ghost use Rattle.dfu_asks.specs.Mapped.{grain_of, mapped};
 ghost use Rattle.dfu_asks.specs.Noted.{IsNoted};
 ghost use Rattle.dfu_asks.specs.Lent.{lent, HasRoom, IsSetUpAs};
-ghost use Rattle.dfu_asks.specs.Asks.{is_block, capped, done_mode, failed_mode, IsFinished, IsBrokenOff, NotesAfter, IsAnswered, GivesAnswer};
+ghost use Rattle.dfu_asks.specs.Asks.{is_block, capped, done_mode, failed_mode, IsFinished, IsBrokenOff, NotesAfter, IsAnswered, GivesAnswer, device_of, IsWorking, writes_in, steps_in};
+ghost use Rattle.dfu_slots.specs.Seen.{SlotsState};
+ghost use Rattle.dfu_asks.specs.declared.pending_writes.PendingWrites.{PendingWrites};
+ghost use Rattle.dfu_asks.specs.Carried.{total, carried, IsReached};
+ghost use Rattle.dfu_asks.specs.Calls.{DueComes, HasAtMost};
 
-use crate::{Asking, Noted, Sector};
-use dfu_device::{Answer, Config, DeviceState, Reply};
+use crate::{Asking, Noted, Reply, Sector};
+use dfu_device::{Answer, Config, DeviceState};
 use dfu_slots::{Unit, WriteFault};
 use dfu_wire::Code;
 
@@ -156,8 +160,61 @@ impl Asking {
         ensures { GivesAnswer (λ x sent. IsAnswered self.now.config self.now.mode asked x sent) result.0 result.1 out.old out.new }
     {
         match asked {
-            None => self.give(Reply::Ack, 0, out),
-            Some(len) => self.give(Reply::Status, len, out),
+            None => self.give(dfu_device::Reply::Ack, 0, out),
+            Some(len) => self.give(dfu_device::Reply::Status, len, out),
         }
+    }
+
+    /// Asks for the next write of what is left to be written, or comes to the end of the row.
+    pub(crate) fn advance(
+        &mut self,
+        block: &[u8],
+        held: &mut [u8],
+        flash: &[u8],
+        out: &mut [u8],
+    ) -> Reply
+        requires room { 6 ≤ length out.old }
+        requires memory { HasRoom self.old.unit held.old }
+        ensures outcome { let a = lent self.old block.now held.old in (work : PendingWrites) (len : ℕ) (s : SlotsState) (was : List ℕ) →
+            self.old.work ≡ Some work → IsWorking a work len s was →
+            flash.now ≡ carried was (writes_in a work) work.done → IsReached (steps_in a work) work.done →
+            DueComes (device_of a s) len s was flash.now out.old (lent self.new block.now held.new) out.new result }
+        ensures more { (work : PendingWrites) → self.old.work ≡ Some work →
+            (result ≡ Reply.Asks) ↔ (work.done < total (writes_in (lent self.old block.now held.old) work)) }
+        ensures kept { result ≡ Reply.Asks → self.new.work ≡ self.old.work }
+        ensures few { HasAtMost 6 result }
+        ensures same { IsSetUpAs self.old self.new }
+        ensures block { self.new.block_len ≡ self.old.block_len }
+    {
+        let Some(work) = self.work else {
+            return Reply::Answered(Answer::Ack, 0);
+        };
+        // (Without a flash it says whether a piece is left.)
+        let (len, _) = self.look_at(&work, block, held, &[]);
+        if len > 0 {
+            return Reply::Asks;
+        }
+        self.finish(block, held, flash);
+        let (answer, count) = self.answer(work.asked, out);
+        Reply::Answered(answer, count)
+    }
+
+    /// A write had this fault: the row ends with it.
+    pub(crate) fn fail(
+        &mut self,
+        fault: WriteFault,
+        asked: Option<u16>,
+        flash: &[u8],
+        out: &mut [u8],
+    ) -> (Answer, usize)
+        requires { 6 ≤ length out.old }
+        ensures broken { (block held : List ℕ) → IsBrokenOff fault (lent self.old block held) (lent self.new block held) }
+        ensures notes { (block held : List ℕ) → NotesAfter self.old.mode flash.now (lent self.old block held) (lent self.new block held) }
+        ensures gives { GivesAnswer (λ x sent. IsAnswered self.old.config self.new.mode asked x sent) result.0 result.1 out.old out.new }
+        ensures same { IsSetUpAs self.old self.new }
+        ensures block { self.new.block_len ≡ self.old.block_len }
+    {
+        self.break_off(fault, flash);
+        self.answer(asked, out)
     }
 }

@@ -1,5 +1,5 @@
-//! What is to be written of a row that begins.
-ghost use Rattle.std.specs.Prelude.{◌≡◌, ◌⊎◌, ◌+◌, ◌≤◌, ◌++◌, true, ℕ, List, Option, length, take, slice_range, Some, IsTrue};
+//! What is to be written of a row that begins, and whether flash is erased where it is programmed with no erase before.
+ghost use Rattle.std.specs.Prelude.{◌≡◌, ◌⊎◌, ◌+◌, ◌≤◌, ◌++◌, true, ℕ, List, Option, length, take, slice_range, Some, IsTrue, ◌^◌, ◌<◌, ◌↔◌, slice_index};
 ghost use Rattle.dfu_suffix.specs.Register.{register};
 ghost use Rattle.dfu_device.specs.Parts.{stage_of, is_put};
 ghost use Rattle.dfu_asks.specs.declared.pending_writes.PendingWrites.{PendingWrites};
@@ -9,13 +9,56 @@ ghost use Rattle.dfu_asks.specs.Lent.{lent, HasRoom, IsSetUpAs};
 ghost use Rattle.dfu_asks.specs.Due.{IsDueStage};
 ghost use Rattle.dfu_asks.specs.Asks.{device_in, store_in, IsDevice, IsBlockJob, IsCommitJob, IsJobOf};
 ghost use Rattle.dfu_asks.specs.Calls.{DueComes, HasAtMost};
+ghost use Rattle.dfu_asks.specs.Ahead.{IsStretch, IsClear};
 
-use crate::ahead::is_clear;
 use crate::noted::View;
-use crate::{Asking, Mapped, PendingWrites, Reply, SlotWrite};
+use crate::sector::behind_edge;
+use crate::{Asking, Mapped, PendingWrites, Reply, Sector, SlotWrite};
 use dfu_device::DeviceState;
 use dfu_slots::{WriteFault, data_at, is_open};
 use dfu_suffix::Crc;
+
+// Where so many bytes from there on end, or the first sector begins among them.
+fn stretch_end(size: u32, at: u64, len: u64) -> u64
+    requires some { 0 < size }
+    requires most { size ≤ 2 ^ 17 }
+    requires small { at < 2 ^ 43 }
+    requires short { len < 2 ^ 43 }
+    ensures { IsStretch size at len result }
+{
+    let behind = behind_edge(size, at);
+    if behind == 0 {
+        return at;
+    }
+    at + len.min(u64::from(size - behind))
+}
+
+// Whether these bytes of flash are FFh.
+fn are_erased(flash: &[u8], from: usize, to: usize) -> bool
+    requires { to ≤ length flash.now }
+    ensures { IsTrue result ↔ ((p : ℕ) → from ≤ p → p < to → slice_index flash.now p ≡ 255) }
+{
+    for i in from..to {
+        if flash[i] != 0xff {
+            return false;
+        }
+    }
+    true
+}
+
+// Whether so many bytes from there on are FFh, up to the sector that begins next; flash without sectors is written over.
+fn is_clear(flash: &[u8], sector: Sector, at: u64, len: u64) -> bool
+    requires small { at < 2 ^ 43 }
+    requires short { len < 2 ^ 43 }
+    ensures { IsTrue result ↔ IsClear sector.size flash.now at len }
+{
+    let size = sector.size();
+    if size == 0 {
+        return true;
+    }
+    let end = stretch_end(size, at, len).min(flash.len() as u64);
+    are_erased(flash, at as usize, end as usize)
+}
 
 // The register over bytes of flash, and these after them.
 fn register_of(flash: &[u8], from: usize, size: usize, held: &[u8]) -> u32

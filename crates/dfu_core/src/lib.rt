@@ -9,7 +9,6 @@ mod mode;
 mod numbers;
 mod record;
 mod records;
-mod work;
 
 pub use config::{DfuConfig, Settings, VERSION, functional_of, settings_of};
 pub use format::{formatting_of, keep_format};

@@ -21,7 +21,7 @@ use Rattle.dfu_device.specs.Table.{Plan, Writes, Commits, write_code, commit_cod
 use Rattle.dfu_device.specs.DeviceView.{DeviceView, profile, profile_of}
 use Rattle.dfu_device.specs.Parts.{stage_of, is_put, is_filled, is_sound}
 use Rattle.dfu_device.specs.Rows.{Answers, Done, Elapses, meant, asked_length, Committed, FailedCommit, WroteBlock, FailedBlock}
-use Rattle.dfu_device.specs.Decision.{profile_in, reply_in, plan_of, HoldsWritten, HasLength, Decides, DecidesTime, Allows, AllowsAsked}
+use Rattle.dfu_device.specs.Decision.{profile_in, reply_in, plan_of, HoldsWritten, HoldsTime, HasLength, Decides, DecidesTime, Allows, AllowsAsked}
 use Rattle.dfu_device.specs.inside.PendingAnswer.{pending_answer_of, AnswersPending, DonePending, ServedPending}
 
 -- A reply is answered as its pending answer is.
@@ -73,6 +73,14 @@ pub holds_written : (m : DeviceState) (b : ℕ) (s : SlotsState) → IsTrue (is_
 holds_written (device_state.DownloadIdle written number) b s sound = length-take-le written (spare_of s) (grind (arith, common_steps))
 holds_written m b s sound = tt
 
+-- So is what a time depends on.
+pub holds_time : (m : DeviceState) (b : List ℕ) (s : SlotsState) → IsTrue (is_sound m (length b) s)
+    → HoldsTime m (length b) (spare_of s) b
+holds_time (device_state.DownloadBusy written number passed) b s sound =
+    (length-take-le written (spare_of s) (grind (arith, common_steps)), refl)
+holds_time (device_state.Manifest written passed) b s sound = length-take-le written (spare_of s) (grind (arith, common_steps))
+holds_time m b s sound = tt
+
 -- The parts of a device are filled as its mode says.
 pub filled : (m : DeviceState) (b : ℕ) (s : SlotsState) → IsTrue (is_sound m b s) → IsTrue (is_filled m b s)
 filled m b s sound = grind (arith, common_steps)
@@ -103,14 +111,15 @@ served p q m block body d asked w w' x same sound stage decides fits len done = 
 
 -- What is decided on a time and carried out is its row.
 pub passed : (p : ProfileRead) (ms : ℕ) (m : DeviceState) (block body : List ℕ) (d : Decision) (w w' : DeviceView) (x : PendingAnswer)
-    → profile_in p ≡ profile w → w.stage ≡ stage_of m (spare_of w.slots) block → DecidesTime p m ms d → body ≡ []
+    → profile_in p ≡ profile w → IsTrue (is_sound m (length block) w.slots) → w.stage ≡ stage_of m (spare_of w.slots) block
+    → DecidesTime p m (length block) ms d → body ≡ []
     → DonePending (plan_of (profile w) (image_of w.slots) (spare_of w.slots) block body d) 0 w x w' → x ≡ pending_answer.Ack
     → Elapses ms w w'
-passed p ms m block body d w w' x same stage decides none done silent =
+passed p ms m block body d w w' x same sound stage decides none done silent =
     let image = image_of w.slots in
     let spare = spare_of w.slots in
     let there : plan_of (profile_in p) image spare block [] d ≡ time_plan (profile_in p) (stage_of m spare block) ms =
-    decides image spare block in
+    decides image spare block (holds_time m block w.slots sound) in
     let here : plan_of (profile w) image spare block [] d ≡ time_plan (profile w) w.stage ms =
     subst (λ (c : Profile). plan_of c image spare block [] d ≡ time_plan c (stage_of m spare block) ms) same there
     ∙ ap (λ (st : Stage). time_plan (profile w) st ms) (sym stage) in

@@ -18,7 +18,7 @@ use Rattle.dfu_device.specs.Rows.{meant}
 
 -- The profile that the code reads.
 abbrev pub profile_in : ProfileRead → Profile
-profile_in p = profile_from p.functional p.least p.busy_ms p.manifest_ms p.capacity
+profile_in p = profile_from p.functional p.least p.busy_ms p.manifest_ms p.pace p.capacity
 
 -- What is answered by a device that has entered this stage.
 abbrev pub reply_in : Profile → Stage → ReplyRead → Reply
@@ -61,6 +61,12 @@ abbrev pub HoldsWritten : DeviceState → (spare : List ℕ) → Type 0
 HoldsWritten (device_state.DownloadIdle written number) spare = length (take written spare) ≡ written
 HoldsWritten m spare = Unit {0}
 
+-- What a time depends on is there: the bytes that count as written are in the spare slot, and the block has so many bytes.
+abbrev pub HoldsTime : DeviceState → ℕ → (spare block : List ℕ) → Type 0
+HoldsTime (device_state.DownloadBusy written number passed) n spare block = (length (take written spare) ≡ written) × (length block ≡ n)
+HoldsTime (device_state.Manifest written passed) n spare block = length (take written spare) ≡ written
+HoldsTime m n spare block = Unit {0}
+
 -- A body has the length that its request says.
 abbrev pub HasLength : Asked → (body : List ℕ) → Type 0
 HasLength (asked.Dnload block len) body = length body ≡ len
@@ -71,9 +77,9 @@ abbrev pub Decides : ProfileRead → DeviceState → Asked → Decision → Type
 Decides p m q d = (image spare block body : List ℕ) → HoldsWritten m spare → HasLength q body
     → plan_of (profile_in p) image spare block body d ≡ plan (profile_in p) image (stage_of m spare block) (meant q body)
 
--- What is decided on so many milliseconds in this mode is their row.
-abbrev pub DecidesTime : ProfileRead → DeviceState → ℕ → Decision → Type 0
-DecidesTime p m ms d = (image spare block : List ℕ)
+-- What is decided on so many milliseconds in this mode, with a block of n bytes, is their row.
+abbrev pub DecidesTime : ProfileRead → DeviceState → (n ms : ℕ) → Decision → Type 0
+DecidesTime p m n ms d = (image spare block : List ℕ) → HoldsTime m n spare block
     → plan_of (profile_in p) image spare block [] d ≡ time_plan (profile_in p) (stage_of m spare block) ms
 
 -- A mode in which nothing is taken.

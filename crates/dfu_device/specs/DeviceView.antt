@@ -4,6 +4,7 @@ use Rattle.dfu_wire.specs.declared.functionals.Functional.{Functional}
 use Rattle.dfu_slots.specs.Medium.{MediumState}
 use Rattle.dfu_slots.specs.Seen.{SlotsState, store_on, image_of, spare_of, room_of}
 use Rattle.dfu_device.specs.Stage.{Profile, Stage, InAppIdle, InDownloadSync, InDownloadSyncWritten, InDownloadBusy, InDownloadIdle, InManifestSync, InManifest}
+use Rattle.dfu_device.specs.declared.config.Pace.{Pace}
 use Rattle.dfu_device.specs.Setting.{Setting}
 use Rattle.dfu_device.specs.Outcome.{Situation}
 
@@ -17,9 +18,9 @@ pub record DeviceView : Type 0 where
 abbrev pub powered_on : Setting → MediumState → DeviceView
 powered_on config m = record { config = config; slots = store_on m; stage = InAppIdle }
 
--- The profile of a device with this functional descriptor, the fewest and the most bytes of an image, and its two times.
-abbrev pub profile_from : Functional → (least busy manifest capacity : ℕ) → Profile
-profile_from f least busy manifest capacity = record {
+-- The profile of a device with this functional descriptor, the fewest and the most bytes of an image, and its times.
+abbrev pub profile_from : Functional → (least busy manifest : ℕ) → Pace → (capacity : ℕ) → Profile
+profile_from f least busy manifest pace capacity = record {
   can_download = f.can_download;
   can_upload = f.can_upload;
   tolerant = f.tolerant;
@@ -29,12 +30,13 @@ profile_from f least busy manifest capacity = record {
   least = least;
   busy = busy;
   manifest = manifest;
+  pace = pace;
   capacity = capacity;
 }
 
 -- The profile of a device that is set up like this, with room for images of so many bytes.
 abbrev pub profile_of : Setting → ℕ → Profile
-profile_of s room = profile_from s.functional s.least s.busy_ms s.manifest_ms room
+profile_of s room = profile_from s.functional s.least s.busy_ms s.manifest_ms s.pace room
 
 -- The profile by which a device goes.
 abbrev pub profile : DeviceView → Profile

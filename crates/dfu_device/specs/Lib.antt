@@ -1,3 +1,4 @@
+pub mod Pace
 pub mod Stage
 pub mod Table
 pub mod Outcome

@@ -6,6 +6,7 @@ use Rattle.std.proofs.lemmas.List.{length-take}
 use Rattle.dfu_wire.specs.declared.codes.Code.{Code}
 use Rattle.dfu_wire.specs.declared.codes.Code.TheVariants.{Address as ErrAddress, NotDone as ErrNotDone, StalledPkt as ErrStalledPkt}
 use Rattle.dfu_slots.specs.declared.fault.WriteFault.{WriteFault}
+use Rattle.dfu_device.specs.Pace.{block_ms, image_ms}
 use Rattle.dfu_device.specs.Stage.{Request, Dnload, Upload, GetStatus, ClrStatus, GetState, OtherRequest, Reply, Ack, StatusOf, StateOf, Data, Stall, Profile, Stage, InAppDetach, InDfuIdle, InDownloadSync, InDownloadBusy, InDownloadIdle, InManifestSync, InManifestSyncComplete, InManifest, InManifestWaitReset, InUploadIdle, InError, state_of}
 use Rattle.dfu_device.specs.Table.{Plan, Sure, Writes, Commits, ack, error, has_no_bytes, block_plan, further_plan, upload_plan, plan, time_plan}
 use Rattle.dfu_device.specs.Outcome.{Situation, Luck, Works, FailsOld, FailsNew, outcome}
@@ -170,12 +171,12 @@ time_form c image (InAppDetach timer passed) ms =
 time_form c image (InDownloadBusy before block number passed) ms =
     let P : Plan → Type 0 = RowForm c image (InDownloadBusy before block number passed) OtherRequest in
     either_way P (ms == 0) _ _ (quiet (tt, tt) tt (λ y. absurd y) (refl, refl))
-    (either_way P (nat_le c.busy (passed + ms)) _ _ (quiet ((tt, tt), λ fault. (tt, tt)) (refl, refl) (λ y. absurd y) (refl, refl))
+    (either_way P (nat_le (block_ms c.pace c.busy (length before) (length block)) (passed + ms)) _ _ (quiet ((tt, tt), λ fault. (tt, tt)) (refl, refl) (λ y. absurd y) (refl, refl))
     (quiet (tt, tt) tt (λ y. absurd y) (refl, refl)))
 time_form c image (InManifest taken passed) ms =
     let P : Plan → Type 0 = RowForm c image (InManifest taken passed) OtherRequest in
     either_way P (ms == 0) _ _ (quiet (tt, tt) tt (λ y. absurd y) (refl, refl))
-    (either_way P (nat_le c.manifest (passed + ms)) _ _
+    (either_way P (nat_le (image_ms c.pace c.manifest (length taken)) (passed + ms)) _ _
     (either_way (λ (next : Stage). P (Commits taken Ack next (λ fault. Ack))) c.tolerant InManifestSyncComplete InManifestWaitReset
     (quiet ((tt, tt), λ fault. (tt, tt)) refl (λ y. absurd y) (refl, refl))
     (quiet ((tt, tt), λ fault. (tt, tt)) refl (λ y. absurd y) (refl, refl)))

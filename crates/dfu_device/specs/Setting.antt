@@ -2,22 +2,24 @@
 use Rattle.std.specs.Prelude.{◌≡◌, ◌⊎◌, ℕ, ◌≤◌, ◌<◌, ◌^◌, false}
 use Rattle.dfu_wire.specs.declared.functionals.Functional.{Functional}
 use Rattle.dfu_wire.specs.declared.ids.Ids.{Ids}
+use Rattle.dfu_device.specs.declared.config.Pace.{Pace}
 use Rattle.dfu_device.specs.declared.config.ConfigFault.{ConfigFault}
 use Rattle.dfu_device.specs.declared.config.ConfigFault.TheVariants as fault
 
--- What a device is set up with: who it is, its functional descriptor, the fewest bytes of an image, and how many milliseconds it takes to
--- write a block and to put an image in place.
+-- What a device is set up with: who it is, its functional descriptor, the fewest bytes of an image, how many milliseconds each block and
+-- each image take beside the erases and programs of its flash, and how long these take.
 pub record Setting : Type 0 where
   pub ids : Ids
   pub functional : Functional
   pub least : ℕ
   pub busy_ms : ℕ
   pub manifest_ms : ℕ
+  pub pace : Pace
 
 -- The setting of these values, in this order.
-abbrev pub setting_from : Ids → Functional → (least busy_ms manifest_ms : ℕ) → Setting
-setting_from ids functional least busy_ms manifest_ms =
-    record { ids = ids; functional = functional; least = least; busy_ms = busy_ms; manifest_ms = manifest_ms }
+abbrev pub setting_from : Ids → Functional → (least busy_ms manifest_ms : ℕ) → Pace → Setting
+setting_from ids functional least busy_ms manifest_ms pace =
+    record { ids = ids; functional = functional; least = least; busy_ms = busy_ms; manifest_ms = manifest_ms; pace = pace }
 
 -- Blocks have 1 to 4,096 bytes.
 pub record HasTransfer (s : Setting) : Type 0 where

@@ -1,10 +1,12 @@
 -- The words of the device table: what a host asks, what a device answers, and the states with what each keeps
 -- (USB DFU 1.1, sections 3 and 6.1.2).
-use Rattle.std.specs.Prelude.{ℕ, Bool, List}
+use Rattle.std.specs.Prelude.{ℕ, Bool, List, length}
 use Rattle.dfu_wire.specs.declared.states.State.{State}
 use Rattle.dfu_wire.specs.declared.states.State.TheVariants.{AppIdle, AppDetach, DfuIdle, DownloadSync, DownloadBusy, DownloadIdle, ManifestSync, Manifest, ManifestWaitReset, UploadIdle, Error}
 use Rattle.dfu_wire.specs.declared.codes.Code.{Code}
 use Rattle.dfu_wire.specs.declared.codes.Code.TheVariants.{Ok as NoFault}
+use Rattle.dfu_device.specs.declared.config.Pace.{Pace}
+use Rattle.dfu_device.specs.Pace.{block_ms, image_ms}
 
 -- What a host asks: one of the seven requests of the class, with what the table reads of it, or another request of the class.
 pub data Request : Type 0 where
@@ -42,9 +44,12 @@ pub record Profile : Type 0 where
   pub transfer : ℕ
   -- The fewest bytes of an image.
   pub least : ℕ
-  -- How long a block takes to be written, and an image to be put in place.
+  -- How long each block and each image take beside the erases and programs of the flash; with 0 what is due is written before a status
+  -- is answered.
   pub busy : ℕ
   pub manifest : ℕ
+  -- How long an erase and a program take.
+  pub pace : Pace
   -- The most bytes of an image.
   pub capacity : ℕ
 
@@ -86,10 +91,11 @@ abbrev pub code_of : Stage → Code
 code_of (InError code) = code
 code_of stage = NoFault
 
--- The poll time of a stage: how long a host is to wait in dfuDNBUSY and in dfuMANIFEST, and 0 in every other state.
+-- The poll time of a stage: how long a host is to wait in dfuDNBUSY for this block and in dfuMANIFEST for this image, and 0 in every other
+-- state.
 abbrev pub poll_of : Profile → Stage → ℕ
-poll_of c (InDownloadBusy before block number passed) = c.busy
-poll_of c (InManifest taken passed) = c.manifest
+poll_of c (InDownloadBusy before block number passed) = block_ms c.pace c.busy (length before) (length block)
+poll_of c (InManifest taken passed) = image_ms c.pace c.manifest (length taken)
 poll_of c stage = 0
 
 -- The status of a stage.

@@ -7,6 +7,7 @@ use Rattle.dfu_slots.specs.declared.fault.WriteFault.{WriteFault}
 use Rattle.dfu_slots.specs.declared.fault.WriteFault.TheVariants.{Failed, NotVerified}
 use Rattle.dfu_device.specs.declared.objection.Objection.{Objection}
 use Rattle.dfu_device.specs.declared.objection.Objection.TheVariants.{Target, File}
+use Rattle.dfu_device.specs.Pace.{block_ms, image_ms}
 use Rattle.dfu_device.specs.Stage.{Request, Detach, Dnload, Upload, GetStatus, ClrStatus, GetState, Abort, Reply, Ack, StateOf, Data, Stall, Profile, Stage, InAppIdle, InAppDetach, InDfuIdle, InDownloadSync, InDownloadSyncWritten, InDownloadBusy, InDownloadIdle, InManifestSync, InManifestSyncComplete, InManifest, InManifestWaitReset, InUploadIdle, InError, state_of, status_of}
 
 -- What a row does. Only the medium is left open: if it works the first reply and stage come, if a write has a fault the last reply
@@ -178,12 +179,13 @@ time_plan c (InAppDetach timer passed) ms =
 -- dfuDNBUSY.
 time_plan c (InDownloadBusy before block number passed) ms =
     if ms == 0 then ack (InDownloadBusy before block number passed)
-    else if nat_le c.busy (passed + ms) then Writes before block Ack (InDownloadSyncWritten (before ++ block) number) (λ fault. Ack)
+    else if nat_le (block_ms c.pace c.busy (length before) (length block)) (passed + ms)
+    then Writes before block Ack (InDownloadSyncWritten (before ++ block) number) (λ fault. Ack)
     else ack (InDownloadBusy before block number (passed + ms))
 -- dfuMANIFEST. A device that is not tolerant of manifestation waits for a reset.
 time_plan c (InManifest taken passed) ms =
     if ms == 0 then ack (InManifest taken passed)
-    else if nat_le c.manifest (passed + ms)
+    else if nat_le (image_ms c.pace c.manifest (length taken)) (passed + ms)
     then Commits taken Ack (if c.tolerant then InManifestSyncComplete else InManifestWaitReset) (λ fault. Ack)
     else ack (InManifest taken (passed + ms))
 time_plan c stage ms = ack stage

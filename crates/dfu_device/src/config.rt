@@ -1,20 +1,50 @@
 //! What a device is set up with.
 
 ghost use Rattle.std.specs.Prelude.{◌≡◌, ◌≤◌, ◌<◌, ◌^◌, IfOk, IfErr};
+ghost use Rattle.dfu_device.specs.Pace.{no_pace};
 ghost use Rattle.dfu_device.specs.Setting.{IsAllowed, FirstFault, of_this_version};
 ghost use Rattle.dfu_device.specs.DeviceView.{profile_of};
 ghost use Rattle.dfu_device.specs.Decision.{profile_in};
 
+use dfu_slots::Unit;
 use dfu_wire::{Functional, Ids};
 use std::marker::Model;
 use thiserror::Error;
 
+/// How long the flash of a device takes, and in which steps it is written. A status then says the time of the block or of the image that it
+/// stands for: the erases and programs that are due for it, beside `busy_ms` or `manifest_ms`.
+#[derive(Clone, Copy, Drop)]
+pub struct Pace {
+    /// Milliseconds to erase a sector.
+    pub erase_ms: u16,
+    /// Milliseconds to program 256 bytes.
+    pub program_ms: u16,
+    /// The unit in which it is written.
+    pub unit: Unit,
+    /// How many bytes are erased at a time; 0 if it is written over in place.
+    pub sector: u32,
+}
+
+impl Pace {
+    /// Erases and programs take no time of their own.
+    pub fn none() -> Pace
+        ensures { result ≡ no_pace }
+    {
+        Pace {
+            erase_ms: 0,
+            program_ms: 0,
+            unit: Unit::Byte,
+            sector: 0,
+        }
+    }
+}
+
 /// What a device is set up with: who it is, its functional descriptor, the fewest bytes of an image
-/// (1 to 16,777,216), and how long it takes to write a block and to put an image in place (0 to
-/// 16,777,215 ms; at least 1 ms for an image if the device is not tolerant of manifestation).
+/// (1 to 16,777,216), how long it takes to write a block and to put an image in place (0 to
+/// 16,777,215 ms; at least 1 ms for an image if the device is not tolerant of manifestation), and the pace of its flash.
 ///
-/// On a medium with sectors both times are to have room for erases: a block takes at most one, and one more for each sector
-/// that begins in the transfer size and a unit; an image takes two or three.
+/// Without a pace both times are to have room for the erases of a medium with sectors: a block takes at most one, and one more for each
+/// sector that begins in the transfer size and a unit; an image takes two or three.
 #[derive(Clone, Copy)]
 pub struct Config {
     ids: Ids,
@@ -22,6 +52,7 @@ pub struct Config {
     least: u32,
     busy_ms: u32,
     manifest_ms: u32,
+    pace: Pace,
 }
 
 impl Model for Config {
@@ -29,9 +60,9 @@ impl Model for Config {
 
     ghost Value = { Setting };
 
-    ghost view = { λ c. setting_from c.ids c.functional c.least c.busy_ms c.manifest_ms };
+    ghost view = { λ c. setting_from c.ids c.functional c.least c.busy_ms c.manifest_ms c.pace };
 
-    ghost invariant = { λ c. IsAllowed (setting_from c.ids c.functional c.least c.busy_ms c.manifest_ms) };
+    ghost invariant = { λ c. IsAllowed (setting_from c.ids c.functional c.least c.busy_ms c.manifest_ms c.pace) };
 
     ghost inverse = { λ s. record {
       ids = s.ids;
@@ -39,6 +70,7 @@ impl Model for Config {
       least = s.least;
       busy_ms = s.busy_ms;
       manifest_ms = s.manifest_ms;
+      pace = s.pace;
     } };
 }
 
@@ -64,10 +96,12 @@ pub struct Profile {
     pub functional: Functional,
     /// The fewest bytes of an image.
     pub least: u32,
-    /// How long a block takes to be written, in milliseconds.
+    /// How long each block takes beside the erases and programs of the flash, in milliseconds.
     pub busy_ms: u32,
-    /// How long an image takes to be put in place, in milliseconds.
+    /// How long each image takes beside them, in milliseconds.
     pub manifest_ms: u32,
+    /// How long the flash takes for an erase and for a program.
+    pub pace: Pace,
     /// The most bytes of an image.
     pub capacity: u64,
 }
@@ -92,10 +126,17 @@ impl Config {
           least = least;
           busy_ms = busy_ms;
           manifest_ms = manifest_ms;
+          pace = no_pace;
         }) }
         ensures allowed { IfOk result (λ c. IsAllowed c) }
-        ensures err { IfErr result (λ e. FirstFault e
-            (record { ids = ids; functional = functional; least = least; busy_ms = busy_ms; manifest_ms = manifest_ms })) }
+        ensures err { IfErr result (λ e. FirstFault e (record {
+          ids = ids;
+          functional = functional;
+          least = least;
+          busy_ms = busy_ms;
+          manifest_ms = manifest_ms;
+          pace = no_pace;
+        })) }
     {
         if functional.transfer == 0 || functional.transfer > 4096 {
             return Err(ConfigFault::BadTransfer);
@@ -118,7 +159,15 @@ impl Config {
             least,
             busy_ms,
             manifest_ms,
+            pace: Pace::none(),
         })
+    }
+
+    /// The same, with the times of its flash.
+    pub fn with_pace(self, pace: Pace) -> Config
+        ensures { result ≡ record self { pace = pace } }
+    {
+        Config { pace, ..self }
     }
 
     /// Who the device is.
@@ -166,6 +215,13 @@ impl Config {
         self.manifest_ms
     }
 
+    /// The times of its flash.
+    pub(crate) fn pace(&self) -> Pace
+        ensures { result ≡ self.now.pace }
+    {
+        self.pace
+    }
+
     /// What the table reads of a device that is set up like this, with room for images of so many bytes.
     pub fn profile(&self, capacity: u64) -> Profile
         ensures profile { profile_in result ≡ profile_of self.now capacity }
@@ -177,6 +233,7 @@ impl Config {
             least: self.least(),
             busy_ms: self.busy_ms(),
             manifest_ms: self.manifest_ms(),
+            pace: self.pace,
             capacity,
         }
     }

@@ -161,7 +161,8 @@ impl<M: Medium> DeviceCore<M> {
     pub(crate) fn elapse(&mut self, ms: u32)
         ensures row { Elapses ms (shown self.old) (shown self.new) }
     {
-        let decision = decide_time(&self.profile(), self.mode, ms);
+        let block_len = self.block.as_slice().len();
+        let decision = decide_time(&self.profile(), self.mode, block_len, ms);
         let _ = self.carry_out(decision, 0, &[]);
     }
 }

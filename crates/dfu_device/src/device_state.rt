@@ -2,15 +2,16 @@
 
 ghost use Rattle.std.specs.Prelude.{◌≡◌, ◌<◌, ◌^◌, ℕ, List, true, length, take};
 ghost use Rattle.dfu_slots.specs.Seen.{SlotsState};
-ghost use Rattle.dfu_device.specs.Stage.{state_of, code_of, InError, poll_of, status_of};
+ghost use Rattle.dfu_device.specs.Stage.{state_of, code_of, InError, status_of};
 ghost use Rattle.dfu_device.specs.DeviceView.{profile_of};
 ghost use Rattle.dfu_device.specs.Rows.{Answers};
 ghost use Rattle.dfu_device.specs.Candidate.{candidate_length};
-ghost use Rattle.dfu_device.specs.Decision.{HoldsWritten};
+ghost use Rattle.dfu_device.specs.Decision.{HoldsWritten, HoldsTime};
 ghost use Rattle.dfu_device.specs.Table.{reset_stage, may_close, refuse_stage, objection_code};
 ghost use Rattle.dfu_device.specs.Parts.{stage_of, is_filled};
 
 use crate::objection::Objection;
+use crate::time_table::poll_ms;
 use crate::{Answer, Config};
 use dfu_wire::{Code, State, Status};
 
@@ -185,25 +186,13 @@ impl DeviceState {
     }
 }
 
-// How long the host is to wait in a mode, in milliseconds (bwPollTimeout).
-fn poll_ms(config: &Config, mode: DeviceState) -> u32
-    ensures value { (room : ℕ) (spare block : List ℕ) → result ≡ poll_of (profile_of config.now room) (stage_of mode spare block) }
-    ensures fits { result < 2 ^ 24 }
-{
-    match mode {
-        DeviceState::DownloadBusy { .. } => config.busy_ms(),
-        DeviceState::Manifest { .. } => config.manifest_ms(),
-        _ => 0,
-    }
-}
-
-/// The six bytes of the status of a device that is set up like this, in a mode.
-pub fn status_in(config: &Config, mode: DeviceState) -> [u8; 6]
-    ensures answers { (room : ℕ) (spare block : List ℕ) (len : ℕ) →
+/// The six bytes of the status of a device that is set up like this, in a mode, with a block of so many bytes.
+pub fn status_in(config: &Config, mode: DeviceState, block_len: usize) -> [u8; 6]
+    ensures answers { (room : ℕ) (spare block : List ℕ) (len : ℕ) → HoldsTime mode block_len spare block →
         Answers len (status_of (profile_of config.now room) (stage_of mode spare block)) Answer.Bytes (take len result) }
     ensures size { length result ≡ 6 }
 {
-    let Ok(status) = Status::new(mode.code(), poll_ms(config, mode), mode.state()) else {
+    let Ok(status) = Status::new(mode.code(), poll_ms(config, mode, block_len), mode.state()) else {
         unreachable!()
     };
     status.encode()

@@ -2,7 +2,7 @@
 ghost use Rattle.std.specs.Prelude.{◌⊎◌};
 ghost use Rattle.dfu_core.specs.Blank.{ToldBlank, RefusesBlank};
 
-use crate::numbers::told_number;
+use crate::tells::told_number;
 use dfu_asks::Mapped;
 use dfu_core::{DfuConfig, settings_of};
 

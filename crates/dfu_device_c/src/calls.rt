@@ -13,7 +13,7 @@ ghost use Rattle.dfu_core.specs.Kept.{with_memory};
 ghost use Rattle.dfu_core.specs.Numbers.{NO_ROOM};
 ghost use Rattle.dfu_core.specs.Writes.{ask_step, HandsOut, RefusesPiece, HandsNothing};
 
-use crate::numbers::{NO_ROOM, kind_of, number_of, refused, room_for};
+use crate::tells::{NO_ROOM, kind_of, number_of, refused, room_for};
 use dfu_asks::{Reply, addressed};
 use dfu_core::{ASKS, DfuAsk, DfuConfig, DfuRecord, Refusal, found, keep};
 

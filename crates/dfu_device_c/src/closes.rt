@@ -4,7 +4,7 @@ ghost use Rattle.dfu_asks.specs.Addressed.{addressed};
 ghost use Rattle.dfu_core.specs.Closes.{ToldClose};
 ghost use Rattle.dfu_core.specs.Idle.{IsIdleRecord, RefusesSetup};
 
-use crate::numbers::told_number;
+use crate::tells::told_number;
 use dfu_asks::{addressed, mode_closes};
 use dfu_core::{DfuConfig, DfuRecord, idle_mode};
 

@@ -3,7 +3,7 @@ ghost use Rattle.std.specs.Prelude.{◌≡◌, ◌⊎◌, ◌==◌, not, ℕ, Li
 ghost use Rattle.dfu_asks.specs.Formats.{AsksFormat};
 ghost use Rattle.dfu_core.specs.Formats.{StartsFormat, IsNoStart, HandsFormat, RefusesFormat, GoesFormat};
 
-use crate::numbers::{format_number, kind_of};
+use crate::tells::{format_number, kind_of};
 use dfu_asks::{FormatProgress, Formatting};
 use dfu_core::{
     ASKS, DfuAsk, DfuConfig, DfuRecord, blank, formatting_of, keep_format, settings_of,

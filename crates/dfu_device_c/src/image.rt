@@ -4,7 +4,7 @@ ghost use Rattle.dfu_core.specs.Candidate.{HasCandidate, HasNone, RefusesCandida
 ghost use Rattle.dfu_core.specs.Power.{RefusesPower};
 ghost use Rattle.dfu_core.specs.Image.{ImageIsFound};
 
-use crate::numbers::refused;
+use crate::tells::refused;
 use dfu_asks::ImagePlace;
 use dfu_core::{DfuConfig, DfuPlace, DfuRecord, Refusal, found, settings_of};
 

@@ -30,7 +30,6 @@ mod config;
 mod format;
 mod image;
 mod long;
-mod numbers;
 mod power;
 mod refuse;
 mod stalls;

@@ -1,5 +1,5 @@
-use Rattle.std.proofs.Common.{ℕ, length, refl, sym, subst}
-use Rattle.dfu_device.specs.Decision.{IsPossible}
+use Rattle.std.proofs.Common.{ℕ, List, length, refl, sym, subst}
+use Rattle.dfu_device.specs.Decision.{IsPossible, DecidesTime}
 use Rattle.dfu_device.specs.inside.View.{shown}
 use Rattle.dfu_device.proofs.Carried.{filled, passed}
 use Rattle.dfu_device.proofs.device_core.DeviceCore.elapse.Goals as goal
@@ -17,6 +17,8 @@ returns g c =
     record {
       row = passed c.profile.result c.args.ms d.mode d.block.items _ c.decide_time-decision.result (shown d)
           (shown c.carry_out.new.self)
-          c.carry_out.result c.profile.ensures.profile refl c.decide_time-decision.ensures.row refl c.carry_out.ensures.row
+          c.carry_out.result c.profile.ensures.profile d.sound refl
+          (subst (λ (l : List ℕ). DecidesTime c.profile.result d.mode (length l) c.args.ms c.decide_time-decision.result) c.as_slice-block_len.ensures.value
+          c.decide_time-decision.ensures.row) refl c.carry_out.ensures.row
           (c.carry_out.ensures.silent c.decide_time-decision.ensures.silent);
     }

@@ -2,7 +2,7 @@ use Rattle.std.proofs.Common.{◌≡◌, ℕ, ◌+◌, ◌-◌, ◌%◌, min, sy
 use Rattle.std.proofs.lemmas.Nat.{mod_below}
 use Rattle.dfu_asks.specs.Ahead.{IsStretch}
 use Rattle.dfu_asks.proofs.Clear.{stretch_none, stretch_some}
-use Rattle.dfu_asks.proofs.ahead.stretch_end.Goals as goal
+use Rattle.dfu_asks.proofs.start.stretch_end.Goals as goal
 
 pub returns-then-behind-eq0 : goal.returns-then-behind-eq0
 returns-then-behind-eq0 c =

@@ -1,6 +1,6 @@
 use Rattle.std.proofs.Common.{◌≡◌, ◌-◌, ◌++◌, length, take, drop, replicate, ◌∙◌}
 use Rattle.dfu_asks.proofs.Running.{in_runs}
-use Rattle.dfu_asks.proofs.runs.runs_in.Goals as goal
+use Rattle.dfu_asks.proofs.cut.runs_in.Goals as goal
 
 pub returns-clause-bytes : goal.returns-clause-bytes
 returns-clause-bytes c =

@@ -1,7 +1,7 @@
 use Rattle.std.proofs.Common.{◌≡◌, ◌↔◌, ◌≤◌, ◌<◌, IsTrue, ℕ, min, length, slice_index, refl, subst, arith}
 use Rattle.dfu_asks.specs.Ahead.{IsClear}
 use Rattle.dfu_asks.proofs.Clear.{clear_told}
-use Rattle.dfu_asks.proofs.ahead.is_clear.Goals as goal
+use Rattle.dfu_asks.proofs.start.is_clear.Goals as goal
 
 pub returns-then-size-eq0 : goal.returns-then-size-eq0
 returns-then-size-eq0 c = (λ t some. absurd (omega (arith, some, c.size-size.ensures.value, c.if-size-eq0.true)), λ clear. refl)

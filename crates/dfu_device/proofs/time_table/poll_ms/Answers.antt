@@ -4,7 +4,7 @@ use Rattle.dfu_device.specs.declared.device_state.DeviceState.TheVariants as dev
 use Rattle.dfu_device.specs.Stage.{Profile, poll_of}
 use Rattle.dfu_device.specs.DeviceView.{profile_of}
 use Rattle.dfu_device.specs.Parts.{stage_of}
-use Rattle.dfu_device.proofs.device_state.poll_ms.Goals as goal
+use Rattle.dfu_device.proofs.time_table.poll_ms.Goals as goal
 
 -- In every other state a host has not to wait.
 no_poll : (c : Profile) (m : DeviceState) (spare block : List ℕ)
@@ -16,7 +16,7 @@ no_poll c m spare block busy manifest = refl
 
 pub returns-in_default : goal.returns-in_default
 returns-in_default c = record {
-  value = λ room spare block.
+  value = λ room spare block holds.
       no_poll (profile_of c.args.config.now room) c.args.mode spare block c.in_default.not-DownloadBusy c.in_default.not-Manifest;
   fits = omega arith;
 }

@@ -1,7 +1,7 @@
 use Rattle.std.proofs.Common.{◌≡◌, ◌↔◌, ◌≤◌, ℕ, IsTrue, ◌+◌, ◌-◌, List, length, take, drop, replicate, ap, ◌∙◌, subst, arith}
 use Rattle.std.proofs.lemmas.List.{take_all, length-take, length-drop}
 use Rattle.dfu_asks.proofs.Running.{runs_are}
-use Rattle.dfu_asks.proofs.runs.Runs.are.Goals as goal
+use Rattle.dfu_asks.proofs.cut.Runs.are.Goals as goal
 
 pub returns : goal.returns
 returns c =
