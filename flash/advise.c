@@ -1,6 +1,7 @@
 /* SPDX-License-Identifier: MIT OR Apache-2.0 */
 /* What is seen of boards, files and memories makes the next step a line to type, or says where something is wrong. */
 #include "advice.h"
+#include "facts.h"
 #include "one.h"
 #include "session.h"
 #include "standard.h"

@@ -74,17 +74,17 @@ struct session {
 };
 
 /* The program's own refusals, beside the host's. */
-#define REFUSED_ANY (-102)          /* the file is for any device, and would go to all */
-#define REFUSED_NO_ADDRESS (-103)   /* the device speaks DfuSe, and nobody said at which address */
-#define REFUSED_RUN_TIME (-104)     /* it does, and is in run-time mode */
-#define REFUSED_NOT_DFUSE (-105)    /* an address was given, and the device has none */
-#define REFUSED_OWN_ADDRESS (-106)  /* an address was given, and the file has its own */
-#define REFUSED_LARGE_BLOCKS (-107) /* a DfuSe device's blocks are larger than Linux carries */
-#define REFUSED_MIXED (-108)        /* the file has targets of several settings, and none was asked for */
+#define REFUSED_ANY (-102)           /* the file is for any device, and would go to all */
+#define REFUSED_NO_ADDRESS (-103)    /* the device speaks DfuSe, and nobody said at which address */
+#define REFUSED_RUN_TIME (-104)      /* it does, and is in run-time mode */
+#define REFUSED_NOT_DFUSE (-105)     /* an address was given, and the device has none */
+#define REFUSED_OWN_ADDRESS (-106)   /* an address was given, and the file has its own */
+#define REFUSED_LARGE_BLOCKS (-107)  /* a DfuSe device's blocks are larger than Linux carries */
+#define REFUSED_MIXED (-108)         /* the file has targets of several settings, and none was asked for */
 #define REFUSED_NO_STAMP (-121)      /* each entry of the list of --stamp is used, */
 #define REFUSED_STAMP_OUTSIDE (-122) /* its place isn't in the image, */
 #define REFUSED_NO_ROOM (-123)       /* or has bytes of the image */
-#define REFUSED_NO_RESET (-120)     /* only a reset would bring the device to DFU mode, and this system makes none */
+#define REFUSED_NO_RESET (-120)      /* only a reset would bring the device to DFU mode, and this system makes none */
 
 /* What it is for, in a word. */
 const char *goal_name(enum goal goal);

@@ -23,7 +23,7 @@ struct worker {
     bool is_killed;
     struct stamp *stamp; /* the entry that the device is to get, or NULL, */
     bool has_stamp;      /* and it has it */
-    bool is_early; /* it looks whether the device is another one than before, and as a rule it isn't */
+    bool is_early;       /* it looks whether the device is another one than before, and as a rule it isn't */
 };
 
 /* Begins a process that flashes the device in the bay, with the image that was read. With `has_rows` it says how far it is. False if

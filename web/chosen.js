@@ -120,7 +120,7 @@ export class ChosenFile {
     const isSuffixed = !lacksSuffix(this, this.bytes)
     const isOther = !isSuffixed && !mayBeRaw(this, this.bytes)
     const { name, words, advice } = refusalOf(isOther ? REFUSAL.FILE_NO_SIGNATURE : this.said.refusal)
-    const said = isOther ? otherThanRaw(this.look, this.bytes) : { words, advice }
+    const said = isOther ? otherThanRaw(this.look, this.bytes, this.name) : { words, advice }
     say('file-refused', `${name}: ${said.words}. ${said.advice}`)
     if (!isSuffixed && !isCut(this.look)) this.raw.ask(this.bytes, isOther)
   }

@@ -61,7 +61,7 @@ export class FlashView {
     by('simulate').disabled = by('next').disabled = this.isGoing
     by('hint').textContent = this.isGoing ? this.clock.isStopped ? CANCELLING : 'Leave the device plugged in, and this page open.'
       : isReady || this.outcome.isShown() ? '' : this.file.bytes === null ? 'A file is missing.'
-      : this.board === null ? 'A device is missing.' : ''
+      : this.board === null ? 'A device is missing.' : this.file.isGood() ? '' : 'The file is refused.'
     for (const id of ['verify', 'sure', 'settings']) by(id).disabled = this.isGoing
     this.file.lock(this.isGoing)
     this.words.lock(this.isGoing)

@@ -13,17 +13,20 @@ export const WORDS = {
   CUT: "the file's name ends in .dfu, and it has no DFU suffix: it was cut short or changed; get it anew",
 }
 
-const ofFormat = format => `\`dfu add --format ${format} IN OUT --vid 1209 --pid 0001\` makes a DFU file of its image, ` +
-  "with your board's identifiers."
+// The line to type, with the file's own name if that is a word of each shell as it is, and isn't that of the file that is made.
+const typed = (format, name) => {
+  const files = /^\w[\w.+-]*$/.test(name) && !/\.dfu$/i.test(name) ? `${name} ${name.replace(/\.[^.]*$/, '')}.dfu` : 'IN OUT'
+  return `\`dfu add --format ${format} ${files} --vid 1209 --pid 0001\` makes a DFU file of its image, with your board's identifiers.`
+}
 
 const OTHERS = {
-  [LOOKS.IHEX]: ['FORMAT', 'Intel HEX', ofFormat('ihex')],
-  [LOOKS.SREC]: ['FORMAT', 'Motorola S-records', ofFormat('srec')],
-  [LOOKS.ELF]: ['FORMAT', 'an ELF file', ofFormat('elf')],
-  [LOOKS.UF2]: ['FORMAT', 'UF2', `It is for a bootloader that shows itself as a disk. ${ofFormat('uf2')}`],
-  [LOOKS.ZIP]: ['ARCHIVE', 'a zip archive', 'Unpack it first.'],
-  [LOOKS.GZIP]: ['ARCHIVE', 'a gzip archive', 'Unpack it first.'],
-  [LOOKS.TEXT]: ['TEXT', 'text', 'A page of a server may have come in place of the file.'],
+  [LOOKS.IHEX]: ['FORMAT', 'Intel HEX', name => typed('ihex', name)],
+  [LOOKS.SREC]: ['FORMAT', 'Motorola S-records', name => typed('srec', name)],
+  [LOOKS.ELF]: ['FORMAT', 'an ELF file', name => typed('elf', name)],
+  [LOOKS.UF2]: ['FORMAT', 'UF2', name => `It is for a bootloader that shows itself as a disk. ${typed('uf2', name)}`],
+  [LOOKS.ZIP]: ['ARCHIVE', 'a zip archive', () => 'Unpack it first.'],
+  [LOOKS.GZIP]: ['ARCHIVE', 'a gzip archive', () => 'Unpack it first.'],
+  [LOOKS.TEXT]: ['TEXT', 'text', () => 'A page of a server may have come in place of the file.'],
 }
 const MARK = [0xef, 0xbb, 0xbf]
 const LINE_FEED = 10
@@ -40,12 +43,12 @@ function byteAt(bytes, line, column) {
 export const isCut = ({ looks, named }) => looks === LOOKS.NAMED && named === NAMED.DFU
 
 // { words, advice } of a file that isn't raw.
-export function otherThanRaw(look, bytes) {
+export function otherThanRaw(look, bytes, file) {
   const { looks, line, column } = look
   if (isCut(look)) return { words: WORDS.CUT, advice: 'Download the file again.' }
   if (OTHERS[looks] === undefined) return { words: WORDS.NAMED, advice: 'Its name says one of HEX, S-records, UF2 and ELF.' }
   const [words, name, advice] = OTHERS[looks]
   const seen = `It looks like ${name}`
-  if (line === 0) return { words: WORDS[words], advice: `${seen}. ${advice}` }
+  if (line === 0) return { words: WORDS[words], advice: `${seen}. ${advice(file)}` }
   return { words: WORDS.DAMAGED, advice: `${seen}, but line ${line}, column ${column} is ${byteAt(bytes, line, column)}.` }
 }

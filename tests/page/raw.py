@@ -28,6 +28,9 @@ ODD = {'mark.bin': (b'\xef\xbb\xbf' + HEX, OF_FORMAT, "with your board's identif
        'marked.hex': (b'\xef\xbb\xbf' + HEX[:-2] + b'~\n', DAMAGED, "line 2, column 11 is '~'."),
        'page.dfu': (b'<!DOCTYPE html>\n<title>404</title>\n', 'the file is text and no image', 'in place of the file.'),
        'it.s19': (NEW, OF_NAME, 'one of HEX, S-records, UF2 and ELF.'), 'it.UF2': (NEW, OF_NAME, 'one of HEX, S-records, UF2 and ELF.')}
+# The line to type, by the file's name: one that no shell takes as it is, or that is the new file's, isn't in it.
+TYPED = {'fw-1.2.hex': 'fw-1.2.hex fw-1.2.dfu', 'noend': 'noend noend.dfu', 'two words.hex': 'IN OUT', "it's.hex": 'IN OUT', '-x.hex': 'IN OUT',
+         'x.DFU': 'IN OUT'}
 CUT = "NoSignature: the file's name ends in .dfu, and it has no DFU suffix: it was cut short or changed; get it anew. "
 
 
@@ -147,6 +150,11 @@ def others(browser, address, work):
                      f' && document.getElementById("file-refused").textContent.endsWith({json.dumps(end)})')
         check_that(f'{name}: what to do', shown(browser, '#file-refused').endswith(end), shown(browser, '#file-refused'))
         is_shut(browser, name)
+    for name, files in TYPED.items():
+        give_file(browser, work, HEX, name)
+        words = f'It looks like Intel HEX. `dfu add --format ihex {files} --vid 1209 --pid 0001` makes'
+        browser.wait(f'document.getElementById("file-refused").textContent.includes({json.dumps(words)})')
+        check_that(f'{name}: what to type', words in shown(browser, '#file-refused'), shown(browser, '#file-refused'))
     for name, payload in (('one byte', b'\1'), ('what only begins so', b':1\1'), ('the text of a suffix', b'UFD' + bytes(30)),
                           ('cut', suffixed(NEW)[:-5])):
         give_file(browser, work, payload, name)

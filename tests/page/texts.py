@@ -87,10 +87,10 @@ def of_dfuse(browser):
                 shown = browser.run('return runs.dfuseWordsOf(...arguments)', number_of[number], number_of[leaving])
                 check(f'the words of {name}, {leaving}', shown, [name, status[status_of], said(*rest) + behind])
     refusals = re.findall(r'\{(DFUSE|REFUSED)(_\w+), "(\w+)", ' + TEXT, (TOP / 'flash/refusals.c').read_text())
-    check_that('the refusals of DfuSe are found', len(refusals) == 43, refusals)
+    check_that('the refusals of DfuSe are found', len(refusals) == 46, refusals)
     for kind, number, name, words_of in refusals:
-        # (the page has no --all, and says in a text of its own where a system makes no reset)
-        if name not in ('ForAny', 'CannotReset'):
+        # (the page has no --all and no --stamp, and says in a text of its own where a system makes no reset)
+        if name not in ('ForAny', 'NoEntry', 'OutsideTheImage', 'NoRoom', 'CannotReset'):
             shown = browser.run('const it = runs.refusalOf(arguments[0]); return [it.name, it.words]',
                                number_of[kind + number] if kind == 'DFUSE' else name)
             check(f'the words of {name}', shown, [name, words_of])

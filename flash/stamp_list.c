@@ -1,0 +1,160 @@
+/* SPDX-License-Identifier: MIT OR Apache-2.0 */
+/* A line of the list is an entry: text, or after 0x bytes in hexadecimal. With a tab in it, what is before that is its name in records,
+   so that they don't have a key. A line that is empty or begins with # is none. */
+#include "stamp_list.h"
+#include "files.h"
+#include "say.h"
+#include "text.h"
+
+#include <ctype.h>
+#include <stdio.h>
+#include <stdlib.h>
+#include <string.h>
+
+#define BLANKS " \t\r"
+#define DIGITS "0123456789abcdefABCDEF"
+
+struct stamp_list stamp_list;
+
+bool stamp_list_fail(const char *ending, size_t line, const char *why)
+{
+    char place[40];
+    snprintf(place, sizeof place, line > 0 ? "%s, line %zu" : "%s", ending, line);
+    return say_failed(stamp_list.file, place, why);
+}
+
+const char *stamp_list_bytes(const char *value, uint8_t bytes[STAMP_BYTES])
+{
+    static char long_one[64];
+    bool is_hex = value[0] == '0' && (value[1] == 'x' || value[1] == 'X');
+    size_t length = strlen(value), digits = is_hex ? length - 2 : 0;
+    memset(bytes, 0, STAMP_BYTES);
+    if (is_hex && (digits == 0 || digits % 2 != 0 || value[2 + strspn(value + 2, DIGITS)] != '\0'))
+        return "0x is before bytes, of two hexadecimal digits each";
+    if (!text_is_typed(value))
+        return "it has a control character, or is no UTF-8";
+    length = is_hex ? digits / 2 : length;
+    snprintf(long_one, sizeof long_one, "it has %zu bytes, and its place %zu", length, stamp_list.bytes);
+    if (length > stamp_list.bytes)
+        return long_one;
+    for (size_t at = 0; at < length; at++) {
+        const char pair[3] = {value[is_hex ? 2 + 2 * at : at], is_hex ? value[3 + 2 * at] : '\0', '\0'};
+        bytes[at] = is_hex ? (uint8_t)strtoul(pair, NULL, 16) : (uint8_t)value[at];
+    }
+    return NULL;
+}
+
+/* Takes the blanks away from both ends. */
+static char *trim(char *text)
+{
+    size_t length;
+    text += strspn(text, BLANKS);
+    for (length = strlen(text); length > 0 && strchr(BLANKS, text[length - 1]) != NULL; length--)
+        text[length - 1] = '\0';
+    return text;
+}
+
+/* Bytes in hexadecimal are named in small letters, so that the same ones have the same name. */
+static void name_it(struct stamp *stamp)
+{
+    char *tab = strchr(stamp->name, '\t');
+    stamp->value = tab == NULL ? stamp->name : trim(tab + 1);
+    if (tab != NULL) {
+        *tab = '\0';
+        stamp->name = trim(stamp->name);
+    } else if (strncmp(stamp->name, "0x", 2) == 0 || strncmp(stamp->name, "0X", 2) == 0)
+        for (char *at = stamp->name; *at != '\0'; at++)
+            *at = (char)tolower((unsigned char)*at);
+}
+
+static bool take_line(size_t number, char *line, size_t *room)
+{
+    uint8_t bytes[STAMP_BYTES];
+    struct stamp *stamp;
+    const char *why;
+    line = trim(line);
+    if (*line == '\0' || *line == '#')
+        return true;
+    if (stamp_list.count == *room) {
+        stamp = realloc(stamp_list.stamps, (2 * *room + 64) * sizeof *stamp);
+        if (stamp == NULL)
+            return stamp_list_fail("", number, "there is no memory");
+        stamp_list.stamps = stamp;
+        *room = 2 * *room + 64;
+    }
+    stamp = &stamp_list.stamps[stamp_list.count++];
+    *stamp = (struct stamp){.name = line, .line = number};
+    name_it(stamp);
+    why = stamp_list_bytes(stamp->value, bytes);
+    if (why == NULL && (!text_is_typed(stamp->name) || strlen(stamp->name) > 2 * STAMP_BYTES + 2))
+        why = "its name is too long, has a control character, or is no UTF-8";
+    return why == NULL || stamp_list_fail("", number, why);
+}
+
+int stamp_list_by_name(const void *one, const void *other)
+{
+    return strcmp((*(struct stamp *const *)one)->name, (*(struct stamp *const *)other)->name);
+}
+
+static int by_bytes(const void *one, const void *other)
+{
+    uint8_t ones[STAMP_BYTES], others[STAMP_BYTES];
+    stamp_list_bytes((*(struct stamp *const *)one)->value, ones);
+    stamp_list_bytes((*(struct stamp *const *)other)->value, others);
+    return memcmp(ones, others, STAMP_BYTES);
+}
+
+bool stamp_list_sort(struct stamp **sorted)
+{
+    int (*const orders[])(const void *, const void *) = {by_bytes, stamp_list_by_name};
+    for (size_t at = 0; at < stamp_list.count; at++)
+        sorted[at] = &stamp_list.stamps[at];
+    for (int order = 0; order < 2; order++) {
+        qsort(sorted, stamp_list.count, sizeof(struct stamp *), orders[order]);
+        for (size_t at = 1; at < stamp_list.count; at++) {
+            char why[80];
+            size_t first = sorted[at - 1]->line, second = sorted[at]->line;
+            if (orders[order](&sorted[at - 1], &sorted[at]) != 0)
+                continue;
+            snprintf(why, sizeof why, "it is the same as line %zu", first < second ? first : second);
+            return stamp_list_fail("", first < second ? second : first, why);
+        }
+    }
+    return true;
+}
+
+bool stamp_list_lines(char *text, void *with, bool (*take)(size_t number, char *line, void *with))
+{
+    size_t number = 1;
+    for (char *line = text; line != NULL; number++) {
+        char *end = strchr(line, '\n');
+        if (end != NULL)
+            *end++ = '\0';
+        if (!take(number, line, with))
+            return false;
+        line = end;
+    }
+    return true;
+}
+
+static bool take_entry(size_t number, char *line, void *with)
+{
+    return take_line(number, line, with);
+}
+
+bool stamp_list_read(void)
+{
+    static const char mark[] = "\xef\xbb\xbf";
+    uint8_t *bytes;
+    size_t length, room = 0;
+    char *text;
+    if (!file_read(stamp_list.file, &bytes, &length))
+        return false;
+    bytes[length] = '\0'; /* there is room behind a file (files.h) */
+    text = (char *)bytes;
+    if (strlen(text) != length)
+        return stamp_list_fail("", 0, "there is a NUL in it");
+    if (!stamp_list_lines(strncmp(text, mark, 3) == 0 ? text + 3 : text, &room, take_entry))
+        return false;
+    return stamp_list.count > 0 || stamp_list_fail("", 0, "there is no entry in it");
+}

@@ -1,0 +1,44 @@
+/* SPDX-License-Identifier: MIT OR Apache-2.0 */
+/* The list of --stamp. */
+#ifndef DFU_FLASH_STAMP_LIST_H
+#define DFU_FLASH_STAMP_LIST_H
+
+#include "stamp.h"
+
+enum stamp_state { STAMP_FREE, STAMP_HELD, STAMP_USED };
+
+struct stamp {
+    char *name, *value; /* how records name it, and what is written */
+    size_t line;
+    enum stamp_state state;
+    const char *lost_at; /* the path of the board that took it, if nothing says how that ended */
+};
+
+struct stamp_list {
+    struct stamp *stamps;
+    size_t count;
+    const char *file;
+    size_t bytes; /* that the place has */
+};
+
+extern struct stamp_list stamp_list;
+
+/* Reads the file. False if it can't be used, which is then said. */
+bool stamp_list_read(void);
+
+/* Puts the entries in the order of their names, if no two are the same: neither what is written, nor the name. If two are, that is said. */
+bool stamp_list_sort(struct stamp **sorted);
+
+/* Compares two places of that order by the names there. */
+int stamp_list_by_name(const void *one, const void *other);
+
+/* The bytes of an entry, and 00 behind them up to the end of the place. NULL, or why it has none. */
+const char *stamp_list_bytes(const char *value, uint8_t bytes[STAMP_BYTES]);
+
+/* Says what is wrong with the list, or with LIST.used; line 0 is none. Always false. */
+bool stamp_list_fail(const char *ending, size_t line, const char *why);
+
+/* Hands each line to `take`, from number 1 on, as long as that is true. */
+bool stamp_list_lines(char *text, void *with, bool (*take)(size_t number, char *line, void *with));
+
+#endif
