@@ -146,7 +146,8 @@ module _ (c : Profile) (past : List (List ℕ)) where
       } in
       subst (λ (x : HostState). ActedWell c past (Hosted x) s s' (took x WasReset)) same
       (taken_well s s' q WasReset device
-      (goal_taken c past h.task.goal s s' [] Enter h.actions h.restarts true WasReset tt offered f.some (goal_anywhere c h.task.goal s Enter tt)
+      (goal_taken c past h.task.goal s s' [] Enter h.actions h.restarts true WasReset tt offered f.some
+      (goal_anywhere c h.task.goal s Enter tt)
       (enter_next h.task.goal s' c.will_detach)))
 
   -- The image stays, and no bytes are closed.
