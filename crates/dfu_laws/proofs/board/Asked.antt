@@ -103,55 +103,61 @@ work_same b cause d k =
     let a = lent_on b in
     let w = k.asks.work in
     let on = k.asks.working in
-    due_same k.s a.mode w.asked k.len w.job (grain_in a) a.put_end a.held a.block (ap (λ (m : MediumState). m.grain) on.medium) on.sound on.due
+    due_same k.s a.mode w.asked k.len w.job (grain_in a) a.put_end a.held a.block (ap (λ (m : MediumState). m.grain) on.medium) on.sound
+    on.due
     ∙ ap (λ (x : DeviceView). series x w.job) k.device
 
 -- The bounds.
 
 module _ (s : SlotsState) (store : IsStore s) (u : WriteUnit) (sector : ℕ) (grain : s.medium.grain ≡ record { unit = u; sector = sector })
-    where
-  held_low : length s.held < unit_size u
-  held_low = subst (λ (g : Grain). length s.held < unit_size g.unit) grain
-      (subst (λ (x : ℕ). x < unit_size s.medium.grain.unit) (sym store.puts.part) (mod-lt s.put_end (unit_some s.medium.grain.unit)))
+  where
+    -- The steps of a job have at most so many pieces.
+    abbrev IsBounded : SlotWrite → ℕ → (held block : List ℕ) → Type 0
+    IsBounded j end held block =
+        count (job_steps j (record { unit = u; sector = sector }) end held block) ≤ most_asks j (length block) sector
 
-  wide : 0 < sector → 256 ≤ sector
-  wide some =
-      let whole = subst (λ (g : Grain). g.sector % 256 ≡ 0) grain store.has_image.active.sized.whole.pages in
-      omega (arith, some, whole)
+    held_low : length s.held < unit_size u
+    held_low = subst (λ (g : Grain). length s.held < unit_size g.unit) grain
+        (subst (λ (x : ℕ). x < unit_size s.medium.grain.unit) (sym store.puts.part) (mod-lt s.put_end (unit_some s.medium.grain.unit)))
 
-  before_low : (n : ℕ) → length (held_before s n) < unit_size u
-  before_low n = by_test (n == 0)
-    where
-      by_test : (b : Bool) → length (if b then [] else s.held) < unit_size u
-      by_test true = omega (arith, held_low)
-      by_test false = held_low
+    wide : 0 < sector → 256 ≤ sector
+    wide some =
+        let whole = subst (λ (g : Grain). g.sector % 256 ≡ 0) grain store.has_image.active.sized.whole.pages in
+        omega (arith, some, whole)
 
-  block_bound : (n : ℕ) (j : SlotWrite) (end : ℕ) (held block : List ℕ) → IsBlockJob n s j end held
-      → count (job_steps j (record { unit = u; sector = sector }) end held block) ≤ most_asks j (length block) sector
-  block_bound n j end held block is =
-      let close = (n == 0) && not (is_begun s) in
-      let none : close ≡ true → length held ≡ 0 = λ e.
-      ap (λ (l : List ℕ). length l) is.held_is
-      ∙ ap (λ (b : Bool). length (if b then [] else s.held)) (and_parts (n == 0) (not (is_begun s)) e).0 in
-      subst (λ (x : SlotWrite). count (job_steps x (record { unit = u; sector = sector }) end held block) ≤ most_asks x (length block) sector)
-      (sym is.job_is)
-      (block_count u sector (spare_at (gate_of s.medium) s.medium.bytes) close end held block
-      (subst (λ (l : List ℕ). length l < unit_size u) (sym is.held_is) (before_low n)) none wide)
+    before_low : (n : ℕ) → length (held_before s n) < unit_size u
+    before_low n = by_test (n == 0)
+      where
+        by_test : (b : Bool) → length (if b then [] else s.held) < unit_size u
+        by_test true = omega (arith, held_low)
+        by_test false = held_low
 
-  commit_bound : (n : ℕ) (j : SlotWrite) (end : ℕ) (held block : List ℕ) → IsCommitJob n s j end held
-      → count (job_steps j (record { unit = u; sector = sector }) end held block) ≤ most_asks j (length block) sector
-  commit_bound n j end held block is =
-      subst (λ (x : SlotWrite). count (job_steps x (record { unit = u; sector = sector }) end held block) ≤ most_asks x (length block) sector)
-      (sym is.job_is)
-      (commit_count u sector _ _ _ end held block (subst (λ (l : List ℕ). length l < unit_size u) (sym is.held_is) held_low) wide)
+    block_bound : (n : ℕ) (j : SlotWrite) (end : ℕ) (held block : List ℕ) → IsBlockJob n s j end held
+        → IsBounded j end held block
+    block_bound n j end held block is =
+        let close = (n == 0) && not (is_begun s) in
+        let none : close ≡ true → length held ≡ 0 = λ e.
+        ap (λ (l : List ℕ). length l) is.held_is
+        ∙ ap (λ (b : Bool). length (if b then [] else s.held)) (and_parts (n == 0) (not (is_begun s)) e).0 in
+        subst (λ (x : SlotWrite). IsBounded x end held block)
+        (sym is.job_is)
+        (block_count u sector (spare_at (gate_of s.medium) s.medium.bytes) close end held block
+        (subst (λ (l : List ℕ). length l < unit_size u) (sym is.held_is) (before_low n)) none wide)
 
-  due_bound : (m : DeviceState) (asked : Option ℕ) (len : ℕ) (j : SlotWrite) (end : ℕ) (held block : List ℕ) → IsDue m asked len s j end held
-      → count (job_steps j (record { unit = u; sector = sector }) end held block) ≤ most_asks j (length block) sector
-  due_bound (device_state.DownloadSync n number) asked len j end held block due = block_bound n j end held block due.1
-  due_bound (device_state.DownloadBusy n number passed) asked len j end held block due = block_bound n j end held block due.1
-  due_bound (device_state.ManifestSync n) asked len j end held block due = commit_bound n j end held block due.1
-  due_bound (device_state.Manifest n passed) asked len j end held block due = commit_bound n j end held block due.1
-  due_bound m asked len j end held block due = elim due [ ]
+    commit_bound : (n : ℕ) (j : SlotWrite) (end : ℕ) (held block : List ℕ) → IsCommitJob n s j end held
+        → IsBounded j end held block
+    commit_bound n j end held block is =
+        subst (λ (x : SlotWrite). IsBounded x end held block)
+        (sym is.job_is)
+        (commit_count u sector _ _ _ end held block (subst (λ (l : List ℕ). length l < unit_size u) (sym is.held_is) held_low) wide)
+
+    due_bound : (m : DeviceState) (asked : Option ℕ) (len : ℕ) (j : SlotWrite) (end : ℕ) (held block : List ℕ)
+        → IsDue m asked len s j end held → IsBounded j end held block
+    due_bound (device_state.DownloadSync n number) asked len j end held block due = block_bound n j end held block due.1
+    due_bound (device_state.DownloadBusy n number passed) asked len j end held block due = block_bound n j end held block due.1
+    due_bound (device_state.ManifestSync n) asked len j end held block due = commit_bound n j end held block due.1
+    due_bound (device_state.Manifest n passed) asked len j end held block due = commit_bound n j end held block due.1
+    due_bound m asked len j end held block due = elim due [ ]
 
 -- The series of a board at work has at most so many pieces.
 pub work_bound : (b : Board) (cause : Cause) (d : DeviceView) (k : IsAtWork b cause d)

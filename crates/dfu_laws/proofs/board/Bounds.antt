@@ -39,7 +39,8 @@ fill_few _ n low = omega (arith, low)
 
 filled_length : (u : WriteUnit) (held : List ℕ) → length held < unit_size u → length (filled u held) ≤ 256
 filled_length u held low =
-    omega (arith, length-append held (replicate (fill_size u (length held)) 0), length-replicate {A = ℕ} (fill_size u (length held)) 0, fill_few u (length held) low)
+    let n = fill_size u (length held) in
+    omega (arith, length-append held (replicate n 0), length-replicate {A = ℕ} n 0, fill_few u (length held) low)
 
 -- The two parts of a put.
 
@@ -60,13 +61,12 @@ module _ (u : WriteUnit) (held block : List ℕ) (low : length held < unit_size 
   abbrev head : ℕ
   head = head_size u held block
 
-
   head_le : (b : Bool) → (if b then 0 else min (unit_size u) whole) ≤ whole
   head_le true = omega arith
   head_le false = omega arith
 
   sizes : (b : Bool) → (length held == 0) ≡ b → (b ≡ true → length held ≡ 0) → (b ≡ false → length held ≢ 0)
-      → AreParts (length held) (length block) (if b then 0 else min (unit_size u) whole) (whole - (if b then 0 else min (unit_size u) whole))
+      → let n : ℕ = if b then 0 else min (unit_size u) whole in AreParts (length held) (length block) n (whole - n)
   sizes true e empty some = record {
     few = omega arith;
     block = omega (arith, empty refl, length-append held block);
@@ -91,7 +91,8 @@ module _ (u : WriteUnit) (held block : List ℕ) (low : length held < unit_size 
 
   -- Its writes in pieces: so many erases, and programs of the two parts.
   put_count : (sector at : ℕ) → count (put_steps (record { unit = u; sector = sector }) at held block)
-      ≤ length (erased sector at head) + (head + 255) / 256 + (length (erased sector (at + head) (whole - head)) + (whole - head + 255) / 256)
+      ≤ length (erased sector at head) + (head + 255) / 256
+      + (length (erased sector (at + head) (whole - head)) + (whole - head + 255) / 256)
   put_count sector at =
       let h = head in
       let one : List ℕ = take h all in
@@ -100,9 +101,16 @@ module _ (u : WriteUnit) (held block : List ℕ) (low : length held < unit_size 
       let le : whole ≤ length all = omega arith in
       let size : length one ≡ h = omega (arith, length-take h all, within, le) in
       let more : length two ≡ whole - h = omega (arith, length-drop h (take whole all), length-take whole all, within, le) in
-      omega (arith, count_append (some_steps sector at one) (some_steps sector (at + h) two), count_some sector at one,
-      count_some sector (at + h) two, ap (λ (x : ℕ). length (erased sector at x)) size, ap (λ (x : ℕ). length (erased sector (at + h) x)) more,
-      size, more)
+      omega (
+        arith,
+        count_append (some_steps sector at one) (some_steps sector (at + h) two),
+        count_some sector at one,
+        count_some sector (at + h) two,
+        ap (λ (x : ℕ). length (erased sector at x)) size,
+        ap (λ (x : ℕ). length (erased sector (at + h) x)) more,
+        size,
+        more,
+      )
 
 -- The bounds.
 
@@ -111,8 +119,8 @@ close_count : (u : WriteUnit) (sector spare : ℕ) → count (close_step (record
 close_count u zero spare = omega (arith, gate_length u 0)
 close_count u (suc k) spare =
     let some : (suc k == 0) ≡ false = ne_eqb (suc k) 0 (omega arith) in
-    subst (λ (b : Bool). parts (if b then false else true) (length (if b then gate_unit (gate_size u) 0 else replicate (suc k) 255)) + 0 ≤ 1)
-    (sym some) (omega arith)
+    let closed : Bool → List ℕ = λ b. if b then gate_unit (gate_size u) 0 else replicate (suc k) 255 in
+    subst (λ (b : Bool). parts (if b then false else true) (length (closed b)) + 0 ≤ 1) (sym some) (omega arith)
 
 -- One, if it is so.
 abbrev one_if : Bool → ℕ
@@ -157,9 +165,13 @@ block_count u zero spare close end held block low none wide =
     let g : Grain = record { unit = u; sector = 0 } in
     let at = held_place g spare end held in
     let p = head_parts u held block low in
-    omega (arith, count_append (if close then close_step g spare ∷ [] else []) (put_steps g at held block), close_if u 0 spare close,
-    put_count u held block low 0 at,
-    programs_few close (length held) (length block) (head u held block low) (whole u held block low - head u held block low) p none)
+    omega (
+      arith,
+      count_append (if close then close_step g spare ∷ [] else []) (put_steps g at held block),
+      close_if u 0 spare close,
+      put_count u held block low 0 at,
+      programs_few close (length held) (length block) (head u held block low) (whole u held block low - head u held block low) p none,
+    )
 block_count u (suc k) spare close end held block low none wide =
     let s = suc k in
     let g : Grain = record { unit = u; sector = s } in
@@ -172,13 +184,23 @@ block_count u (suc k) spare close end held block low none wide =
     let few : length held ≤ 256 = omega (arith, low, unit_few u) in
     let one = length (erases s at h) in
     let two = length (erases s (at + h) rest) in
-    let spanned : spans s (one + two) ≤ length held + length block + s - 1 = omega (arith, erases_few s some (h + rest) at, p.both,
-    ap (λ (x : ℕ). spans s x) (erases_parts s h rest at)) in
-    omega (arith, count_append (if close then close_step g spare ∷ [] else []) (put_steps g at held block), close_if u s spare close,
-    put_count u held block low s at, erased_some s at h on, erased_some s (at + h) rest on,
-    sectors_few close (length held) (length block) s (one + two) (wide some) few none spanned,
-    programs_few false (length held) (length block) h rest p (λ e. absurd (true≢false (sym e))),
-    chosen (s == 0) on (1 + (length block + s - 1) / s))
+    let spanned : spans s (one + two) ≤ length held + length block + s - 1 = omega (
+      arith,
+      erases_few s some (h + rest) at,
+      p.both,
+      ap (λ (x : ℕ). spans s x) (erases_parts s h rest at),
+    ) in
+    omega (
+      arith,
+      count_append (if close then close_step g spare ∷ [] else []) (put_steps g at held block),
+      close_if u s spare close,
+      put_count u held block low s at,
+      erased_some s at h on,
+      erased_some s (at + h) rest on,
+      sectors_few close (length held) (length block) s (one + two) (wide some) few none spanned,
+      programs_few false (length held) (length block) h rest p (λ e. absurd (true≢false (sym e))),
+      chosen (s == 0) on (1 + (length block + s - 1) / s),
+    )
 
 -- A commit.
 
@@ -215,9 +237,15 @@ commit_count u sector spare gen crc end held block low wide =
     let last = filled u held in
     let head = header_unit (gate_size u) gen end crc in
     let gate = gate_unit (gate_size u) OPEN in
-    omega (arith, count_append (some_steps sector at last) (open_steps g spare gen end crc),
-    count_append (anew_steps sector (spare + gate_room g) head) (anew_steps sector spare gate),
-    count_some sector at last, count_anew sector (spare + gate_room g) head, count_anew sector spare gate,
-    unit_count sector at (length last) wide (filled_length u held low),
-    unit_count sector (spare + gate_room g) (length head) wide (header_length u gen end crc),
-    unit_count sector spare (length gate) wide (gate_length u OPEN), commit_all sector)
+    omega (
+      arith,
+      count_append (some_steps sector at last) (open_steps g spare gen end crc),
+      count_append (anew_steps sector (spare + gate_room g) head) (anew_steps sector spare gate),
+      count_some sector at last,
+      count_anew sector (spare + gate_room g) head,
+      count_anew sector spare gate,
+      unit_count sector at (length last) wide (filled_length u held low),
+      unit_count sector (spare + gate_room g) (length head) wide (header_length u gen end crc),
+      unit_count sector spare (length gate) wide (gate_length u OPEN),
+      commit_all sector,
+    )

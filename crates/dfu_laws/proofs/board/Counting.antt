@@ -42,16 +42,24 @@ pub piece_less : (ss : List Step) (n : ℕ) (p : Step) → IsPiece ss n p → su
 piece_less [] n p absent = absurd absent
 piece_less (s ∷ ss) n p (inl part) =
     let e : n + length p.write.bytes - length s.write.bytes ≡ n - length s.write.bytes = omega (arith, part.within) in
-    omega (arith, ap (λ (x : ℕ). count_from ss x) e,
-    parts_less s.erases (length s.write.bytes) n (length p.write.bytes) part.size part.some part.within)
+    omega (
+      arith,
+      ap (λ (x : ℕ). count_from ss x) e,
+      parts_less s.erases (length s.write.bytes) n (length p.write.bytes) part.size part.some part.within,
+    )
 piece_less (s ∷ ss) n p (inr (past, piece)) =
     let k = length p.write.bytes in
     let len = length s.write.bytes in
     let e : n + k - len ≡ n - len + k = omega (arith, past) in
     let here : len - n ≡ 0 = omega (arith, past) in
     let there : len - (n + k) ≡ 0 = omega (arith, past) in
-    omega (arith, ap (λ (x : ℕ). count_from ss x) e, piece_less ss (n - len) p piece, parts_none s.erases (len - n) here,
-    parts_none s.erases (len - (n + k)) there)
+    omega (
+      arith,
+      ap (λ (x : ℕ). count_from ss x) e,
+      piece_less ss (n - len) p piece,
+      parts_none s.erases (len - n) here,
+      parts_none s.erases (len - (n + k)) there,
+    )
 
 -- The rest has no more than the series.
 pub count_within : (ss : List Step) (n : ℕ) → count_from ss n ≤ count ss
@@ -99,8 +107,14 @@ erases_parts s (suc a) b at =
     let here : List Write = if at % s == 0 then erase_write s at ∷ [] else [] in
     let e : at + 1 + a ≡ at + suc a = omega arith in
     let one : suc a + b ≡ suc (a + b) = omega arith in
-    omega (arith, length-append here (erases s (at + 1) (a + b)), length-append here (erases s (at + 1) a),
-    erases_parts s a b (at + 1), ap (λ (x : ℕ). length (erases s x b)) e, ap (λ (x : ℕ). length (erases s at x)) one)
+    omega (
+      arith,
+      length-append here (erases s (at + 1) (a + b)),
+      length-append here (erases s (at + 1) a),
+      erases_parts s a b (at + 1),
+      ap (λ (x : ℕ). length (erases s x b)) e,
+      ap (λ (x : ℕ). length (erases s at x)) one,
+    )
 
 -- So many bytes c sectors have.
 abbrev pub spans : (s c : ℕ) → ℕ
@@ -151,4 +165,5 @@ pub erases_few : (s : ℕ) → 0 < s → (n at : ℕ) → spans s (length (erase
 erases_few s some zero at = omega (arith, gap_low s (at % s) (mod-lt at some))
 erases_few s some (suc n) at =
     few_step s n (erase_write s at) (erases s (at + 1) n) (at % s) (mod-lt at some)
-    (subst (λ (x : ℕ). spans s (length (erases s (at + 1) n)) + gap s x ≤ n + s - 1) (sym (mod-add-mod at s 1)) (erases_few s some n (at + 1)))
+    (subst (λ (x : ℕ). spans s (length (erases s (at + 1) n)) + gap s x ≤ n + s - 1) (sym (mod-add-mod at s 1))
+    (erases_few s some n (at + 1)))

@@ -159,7 +159,10 @@ module _ (same : StepsAreWrites) (refines : IdleRefines) (mid : Board) (d : Devi
       → Fewer w w' (asks_in rest)
   working [] front b b' w w' run un more still further some some' =
       let e : w' ≡ w = same_work w' w b.asking.work (ap (λ (x : Board). x.asking.work) (sym more) ∙ some') some in
-      record { job = ap (λ (x : PendingWrites). x.job) e; few = omega (arith, ap (λ (x : PendingWrites). count_from (series d w.job) x.done) e) }
+      record {
+        job = ap (λ (x : PendingWrites). x.job) e;
+        few = omega (arith, ap (λ (x : PendingWrites). count_from (series d w.job) x.done) e);
+      }
   working (t ∷ rest) front b b' w w' run un more still further some some' =
       let on = front ++ t ∷ [] in
       let run' = run_on mid b t.after front (t ∷ []) run (more.0, more.1, more.2, refl) in
@@ -203,9 +206,15 @@ module _ (same : StepsAreWrites) (refines : IdleRefines) (mid : Board) (d : Devi
             let k = asked_at b t.after front t run un one calls none in
             let x = working rest on t.after b' k.0 w' run' un' more.3 still.1 further.1 k.1 some' in
             let at = work_at b' (on ++ rest) w' (run_on mid t.after b' on rest run' more.3) (unanswered_on on rest un' still.1) some' in
-            omega (arith, x.few, ap asks_of calls.due, count_within (series d (k.0).job) (k.0).done,
-            piece_less (series d w'.job) w'.done at.piece at.here, ap (λ (j : SlotWrite). count (series d j)) x.job,
-            ap (λ (j : SlotWrite). count_from (series d j) w'.done) x.job)
+            omega (
+              arith,
+              x.few,
+              ap asks_of calls.due,
+              count_within (series d (k.0).job) (k.0).done,
+              piece_less (series d w'.job) w'.done at.piece at.here,
+              ap (λ (j : SlotWrite). count (series d j)) x.job,
+              ap (λ (j : SlotWrite). count_from (series d j) w'.done) x.job,
+            )
         | inr (inr reports) ↦ absurd (none_some reports.work b.asking.work none reports.work_is)
       ]
     where

@@ -1,4 +1,4 @@
--- What a restart leaves of which a host hears only that its own reset or wait is over.
+-- What a restart leaves of which a host hears no more than that its own reset is over.
 use Rattle.std.specs.Prelude.{◌≡◌, ℕ, Bool, true, false, if◌then◌else◌, List, [], ◌∷◌, Option, Some, None}
 use Rattle.std.proofs.Common.{inl, refl, sym, ap, ◌∙◌, subst}
 use Rattle.dfu_slots.specs.Seen.{shows_same, image_of}
@@ -10,7 +10,7 @@ use Rattle.dfu_device.specs.Rows.{Cause, PowerOn, Row}
 use Rattle.dfu_device.specs.History.{HistoryStep as TableRow}
 use Rattle.dfu_host.specs.declared.report.Report.{Report}
 use Rattle.dfu_host.specs.declared.report.Report.TheVariants.{Installed, Uploaded, Verified}
-use Rattle.dfu_host.specs.Phases.{Goal, ToLoad, ToFetch, ToVerify, ToCompare, Task, Phase, Find, Enter, ResetFind, LastUploaded, Last, Deed, Send, Wait, Reset, Done, Heard, Waited, WasReset}
+use Rattle.dfu_host.specs.Phases.{Goal, ToLoad, ToFetch, ToVerify, ToCompare, Task, Phase, Find, Enter, ResetFind, LastUploaded, Last, Reset, Heard, Waited, WasReset}
 use Rattle.dfu_host.specs.Table.{deed, on_waited, on_reset}
 use Rattle.dfu_host.specs.Host.{HostState}
 use Rattle.dfu_sim.specs.Session.{Machine, Loading, begins_not, ends_not, SaysReport, SaysInPlace, AGo, MachineStep, goes}
@@ -19,7 +19,7 @@ use Rattle.dfu_sim.specs.Play.{given, Took, took}
 use Rattle.dfu_sim.specs.LinkView.{Hosted}
 use Rattle.dfu_sim.specs.Agreement.{live_of, live_goal, IsLiveOffer}
 use Rattle.dfu_sim.specs.LinkAgreement.{IsSound}
-use Rattle.dfu_sim.specs.Fact.{IsDfuIdle, IsInApp, EndsAs, GoalFact, HasBlocks, HostFact}
+use Rattle.dfu_sim.specs.Fact.{IsDfuIdle, IsInApp, EndsAs, GoalFact, HostFact}
 use Rattle.dfu_sim.proofs.CommonFacts.{goal_anywhere}
 use Rattle.dfu_sim.proofs.GoalLaws.{Next}
 use Rattle.dfu_sim.proofs.Saying.{step_live, step_up}
@@ -27,7 +27,6 @@ use Rattle.dfu_sim.proofs.Taking.{TookWell, goal_taken, task_by}
 use Rattle.dfu_laws.specs.board.Board.{Board, Event, Restart, Answers, BoardStep}
 use Rattle.dfu_laws.specs.board.Happens.{IsRun}
 use Rattle.dfu_laws.specs.board.Refines.{IsOne, TellsRows, IsIdle, StandsFor, IdleRefines}
-use Rattle.dfu_laws.specs.link.Comes.{HearsOwn}
 use Rattle.dfu_laws.proofs.link.Timed.{DeviceWell}
 use Rattle.dfu_laws.proofs.link.Served.{answered, one_row}
 use Rattle.dfu_laws.proofs.link.Fixed.{row_profile}
@@ -83,10 +82,14 @@ says_up {tolerant = tolerant} {m = m} {m' = m'} {report = report} s e =
     let step : MachineStep tolerant 0 AGo m report m' = goes begins_not ends_not s in step_up step e
 
 module _ (c : Profile) (past : List (List ℕ)) where
-  -- Nothing has to be known of a device after phase Enter.
-  wait_next : (g : Goal) (s : Situation) (b : Bool) → GoalFact c g (if b then on_waited Waited Find Enter else on_reset Waited Find Enter) s
-  wait_next g s true = goal_anywhere c g s Find tt
-  wait_next g s false = goal_anywhere c g s Enter tt
+  -- Nothing has to be known of a device in phase Enter, and after it.
+  pub still_entered : (s s' : Situation) (h : HostState) → HostFact c s h → h.phase ≡ Enter → HostFact c s' h
+  still_entered s s' h f enters = record {
+    task_is = f.task_is;
+    on = f.on;
+    some = f.some;
+    fact = subst (λ (p : Phase). GoalFact c h.task.goal p s') (sym enters) (goal_anywhere c h.task.goal s' Enter tt);
+  }
 
   enter_next : (g : Goal) (s : Situation) (b : Bool)
       → GoalFact c g (if b then on_waited WasReset Find Enter else on_reset WasReset Find Enter) s
@@ -130,35 +133,22 @@ module _ (c : Profile) (past : List (List ℕ)) where
   abbrev entering : Goal → (left again : ℕ) → HostState
   entering g left again = record { task = task_for c g; phase = Enter; actions = left; restarts = again }
 
-  module _ (g : Goal) (s s' : Situation) (left again : ℕ) (offered : IsLiveOffer past (live_goal g)) (some : HasBlocks c g)
-      (device : DeviceWell past s s') where
-    abbrev h : HostState
-    h = entering g left again
-
-    entered : (d : Deed) (heard : Heard) → HearsOwn d heard → ActedWell c past (Hosted h) s s' (took h heard)
-    entered (Wait ms) heard e = subst (λ (x : Heard). ActedWell c past (Hosted h) s s' (took h x)) (sym e)
-        (taken_well s s' h Waited device
-        (goal_taken c past g s s' [] Enter left again true Waited tt offered some (goal_anywhere c g s Enter tt)
-        (wait_next g s' c.will_detach)))
-    entered Reset heard e = subst (λ (x : Heard). ActedWell c past (Hosted h) s s' (took h x)) (sym e)
-        (taken_well s s' h WasReset device
-        (goal_taken c past g s s' [] Enter left again true WasReset tt offered some (goal_anywhere c g s Enter tt)
-        (enter_next g s' c.will_detach)))
-    entered (Send q body) heard e = elim e [ ]
-    entered (Done report) heard e = elim e [ ]
-
-  -- A live host in phase Enter hears that its reset or its wait is over, whatever the device is then.
-  pub handed_over : (s s' : Situation) (h : HostState) (heard : Heard) → IsLiveOffer past (live_of (Hosted h)) → HostFact c s h
-      → h.phase ≡ Enter → HearsOwn (deed h.task h.phase) heard → DeviceWell past s s' → ActedWell c past (Hosted h) s s' (took h heard)
-  handed_over s s' h heard offered f enters own device =
-      let same : entering h.task.goal h.actions h.restarts ≡ h = λ i. record {
+  -- A live host in phase Enter hears that its reset is over, whatever the device is then.
+  pub handed_over : (s s' : Situation) (h : HostState) → IsLiveOffer past (live_of (Hosted h)) → HostFact c s h → h.phase ≡ Enter
+      → DeviceWell past s s' → ActedWell c past (Hosted h) s s' (took h WasReset)
+  handed_over s s' h offered f enters device =
+      let q = entering h.task.goal h.actions h.restarts in
+      let same : q ≡ h = λ i. record {
         task = sym (task_by c h.task f.task_is) i;
         phase = sym enters i;
         actions = h.actions;
         restarts = h.restarts;
       } in
-      subst (λ (q : HostState). ActedWell c past (Hosted q) s s' (took q heard)) same
-      (entered h.task.goal s s' h.actions h.restarts offered f.some device (deed h.task h.phase) heard own)
+      subst (λ (x : HostState). ActedWell c past (Hosted x) s s' (took x WasReset)) same
+      (taken_well s s' q WasReset device
+      (goal_taken c past h.task.goal s s' [] Enter h.actions h.restarts true WasReset tt offered f.some
+      (goal_anywhere c h.task.goal s Enter tt)
+      (enter_next h.task.goal s' c.will_detach)))
 
   -- The image stays, and no bytes are closed.
   powered_well : (s : Situation) → DeviceWell past s (powered s)

@@ -1,5 +1,5 @@
 -- What holds of a board and its host through all that may come.
-use Rattle.std.specs.Prelude.{◌≡◌, ◌⊎◌, ℕ, ◌<◌, List, Option, Some}
+use Rattle.std.specs.Prelude.{◌≡◌, ◌⊎◌, ℕ, ◌<◌, Bool, List, [], ◌∷◌, Option, Some}
 use Rattle.std.proofs.Common.{inl, inr, refl, sym, ap, ◌∙◌, subst}
 use Rattle.dfu_slots.specs.Seen.{image_of}
 use Rattle.dfu_device.specs.Stage.{Profile, InAppIdle}
@@ -19,15 +19,16 @@ use Rattle.dfu_sim.specs.LinkAgreement.{IsSound}
 use Rattle.dfu_sim.specs.Fact.{SessionFact}
 use Rattle.dfu_sim.specs.Simulation.{Simulation, OnlyOffered}
 use Rattle.dfu_sim.proofs.Objecting.{refusal_sound, refusal_fact}
-use Rattle.dfu_laws.specs.board.Board.{Board, Handle, Elapse, UsbReset, Refuse, Event, Says, BoardStep}
+use Rattle.dfu_laws.specs.board.Board.{Board, Handle, Elapse, UsbReset, Refuse, Restart, Event, Says, BoardStep}
+use Rattle.dfu_laws.specs.board.Happens.{IsRun}
 use Rattle.dfu_laws.specs.board.Refines.{IsIdle, IdleRefines}
 use Rattle.dfu_laws.specs.link.Calls.{Reaches, lost, behind}
-use Rattle.dfu_laws.specs.link.Comes.{BoardLink, IsUnderWay, left, BoardComes, passes, sends, objects, refuses, waits, resets, is_reset, restarts, hands_over, hands_back}
+use Rattle.dfu_laws.specs.link.Comes.{BoardLink, IsUnderWay, left, BoardComes, passes, sends, refuses, waits, resets, is_reset, restarts, leaves, restarts_at_reset}
 use Rattle.dfu_laws.proofs.link.Served.{IsOf, served}
 use Rattle.dfu_laws.proofs.link.Fixed.{row_profile}
 use Rattle.dfu_laws.proofs.link.Timed.{DeviceWell, timed}
 use Rattle.dfu_laws.proofs.link.Acted.{ActedWell, acted_well, told_well, no_time}
-use Rattle.dfu_laws.proofs.link.Handed.{powered_by, handed_over, handed_back}
+use Rattle.dfu_laws.proofs.link.Handed.{powered_by, still_entered, handed_over, handed_back}
 use Rattle.dfu_laws.proofs.link.Became.{Became, then_well, resets_well, reaches_well, elapses_well}
 use Rattle.dfu_laws.proofs.link.Stopped.{stops_by}
 use Rattle.dfu_laws.proofs.link.Sent.{hears_nothing, sent_well, objected_well}
@@ -103,6 +104,15 @@ module _ (refines : IdleRefines) (simulation : Simulation) (only : OnlyOffered) 
       record { device = x.device; idle = x.idle; profile_is = x.profile_is; well = x.acted.device }
   way_well session call b b' d steps says k e sound offered f way reaches = elim way [ ]
 
+  -- The board restarts with no call under way.
+  power_well : (l : BoardLink) (b' : Board) (d : DeviceView) (power : BoardStep) (begins : Bool) → IsIdle l.board d → profile d ≡ c
+      → IsSound past d.stage → IsLiveOffer past (live_of l.session) → SessionFact c (situation d) l.session
+      → IsRun l.board (power ∷ []) b' → power.event ≡ Restart begins → Became c past (situation d) b'
+  power_well l b' d power begins k e sound offered f run event =
+      stops_by refines past c l.board b' d (Elapse 0) (Passing 0) (power ∷ []) k e sound refl
+      (λ mid more says reaches. way_well l.session (Elapse 0) l.board mid d more says k e sound offered f tt reaches)
+      (behind power begins lost run event)
+
   -- What holds holds again, after all that may come.
   pub went_on : (first : List ℕ) (last : Option (List ℕ)) (l l' : BoardLink) (d : DeviceView) (steps : List BoardStep) (answer : Answered)
       → Stands c first past last l d → BoardComes l steps answer l' → WentOn c first past last answer l'
@@ -127,14 +137,14 @@ module _ (refines : IdleRefines) (simulation : Simulation) (only : OnlyOffered) 
         gives = λ bytes e. absurd (cc);
       }
   went_on first last l _ d steps _ s (sends {h = h} {q = q} {setup = setup} {body = body} {says = says} {b' = b'} {heard = heard}
-      live is asked reaches hears room) =
+      live is asked (inl reaches) hears room) =
       let f = subst (λ (x : Session). SessionFact c (situation d) x) live s.fact in
       let o = subst (λ (x : Session). IsLiveOffer past (live_of x)) live s.offered in
       let x = sent_well refines simulation only c sized past h q setup body is asked d s.profile_is s.sound o f l.board b' steps says heard s.idle reaches hears room in
       took_on c first past last l d x.device b' (took h heard) s x.idle x.profile_is
       (subst (λ (y : Session). ActedWell c past y (situation d) (situation x.device) (took h heard)) (sym live) x.acted)
-  went_on first last l _ d steps _ s (objects {h = h} {q = q} {setup = setup} {body = body} {why = why} {says = says} {b' = b'}
-      {heard = heard} live is asked refused hears room) =
+  went_on first last l _ d steps _ s (sends {h = h} {q = q} {setup = setup} {body = body} {says = says} {b' = b'}
+      {heard = heard} live is asked (inr (why, refused)) hears room) =
       let f = subst (λ (x : Session). SessionFact c (situation d) x) live s.fact in
       let o = subst (λ (x : Session). IsLiveOffer past (live_of x)) live s.offered in
       let x = objected_well refines simulation only c sized past h q setup body is asked d s.profile_is s.sound o f why l.board b' steps says
@@ -188,19 +198,35 @@ module _ (refines : IdleRefines) (simulation : Simulation) (only : OnlyOffered) 
       stops in
       took_on c first past last l d x.device b' (notify_restart l.session) s x.idle x.profile_is
       (told_well simulation only c sized past (situation d) (situation x.device) l.session s.offered s.fact x.well)
-  went_on first last l _ d _ _ s (hands_over {h = h} {power = power} {begins = begins} {b' = b'} heard live enters own run event) =
+  went_on first last l _ d _ _ s (leaves {h = h} {power = power} {begins = begins} {b' = b'} live enters run event) =
+      let f = subst (λ (x : Session). SessionFact c (situation d) x) live s.fact in
+      let x = power_well l b' d power begins s.idle s.profile_is s.sound s.offered s.fact run event in
+      let entered = still_entered c past (situation d) (situation x.device) h f enters in
+      record {
+        device = x.device;
+        stands = record {
+          idle = x.idle;
+          profile_is = x.profile_is;
+          fact = subst (λ (y : Session). SessionFact c (situation x.device) y) (sym live) entered;
+          live = s.live;
+          offered = s.offered;
+          sound = x.well.sound;
+          known = known_on first past (situation d) (situation x.device) s.known x.well;
+        };
+        done = λ e. elim e [ ];
+        gives = λ bytes e. absurd (cc);
+      }
+  went_on first last l _ d _ _ s (restarts_at_reset {h = h} {power = power} {b' = b'} live is (inl back) run event) =
       let f = subst (λ (x : Session). SessionFact c (situation d) x) live s.fact in
       let o = subst (λ (x : Session). IsLiveOffer past (live_of x)) live s.offered in
-      let x = stops_by refines past c l.board b' d (Elapse 0) (Passing 0) _ s.idle s.profile_is s.sound refl
-      (λ mid more says reaches. way_well l.session (Elapse 0) l.board mid d more says s.idle s.profile_is s.sound s.offered s.fact tt reaches)
-      (behind power begins lost run event) in
-      let w = handed_over c past (situation d) (situation x.device) h heard o f enters own x.well in
-      took_on c first past last l d x.device b' (took h heard) s x.idle x.profile_is
-      (subst (λ (y : Session). ActedWell c past y (situation d) (situation x.device) (took h heard)) (sym live) w)
-  went_on first last l _ d _ _ s (hands_back {h = h} {power = power} {b' = b'} live is run event) =
-      let f = subst (λ (x : Session). SessionFact c (situation d) x) live s.fact in
-      let o = subst (λ (x : Session). IsLiveOffer past (live_of x)) live s.offered in
-      let x = powered_by refines l.board b' d power s.idle run event in
+      let x = powered_by refines l.board b' d power s.idle run (event ∙ ap Restart back) in
       let w = handed_back c past (situation d) (situation x.device) h o f is x.same in
       took_on c first past last l d x.device b' (took h WasReset) s x.idle (x.fixed ∙ s.profile_is)
+      (subst (λ (y : Session). ActedWell c past y (situation d) (situation x.device) (took h WasReset)) (sym live) w)
+  went_on first last l _ d _ _ s (restarts_at_reset {h = h} {power = power} {begins = begins} {b' = b'} live is (inr enters) run event) =
+      let f = subst (λ (x : Session). SessionFact c (situation d) x) live s.fact in
+      let o = subst (λ (x : Session). IsLiveOffer past (live_of x)) live s.offered in
+      let x = power_well l b' d power begins s.idle s.profile_is s.sound s.offered s.fact run event in
+      let w = handed_over c past (situation d) (situation x.device) h o f enters x.well in
+      took_on c first past last l d x.device b' (took h WasReset) s x.idle x.profile_is
       (subst (λ (y : Session). ActedWell c past y (situation d) (situation x.device) (took h WasReset)) (sym live) w)

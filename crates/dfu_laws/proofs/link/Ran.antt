@@ -1,12 +1,12 @@
 -- All that comes to a board is a run of it.
 use Rattle.std.specs.Prelude.{◌≡◌, ℕ, List, [], ◌∷◌, ◌++◌}
-use Rattle.std.proofs.Common.{refl, sym, ◌∙◌, subst}
+use Rattle.std.proofs.Common.{inl, inr, refl, sym, ◌∙◌, subst}
 use Rattle.dfu_device.specs.declared.objection.Objection.{Objection}
 use Rattle.dfu_sim.specs.Play.{Answered}
 use Rattle.dfu_laws.specs.board.Board.{Board, Event, Handle, Says, BoardStep}
 use Rattle.dfu_laws.specs.board.Happens.{IsRun}
 use Rattle.dfu_laws.specs.link.Calls.{Reaches, lost, once, twice, Objects, refused_once, refused_twice, Stops, behind, within, within_second}
-use Rattle.dfu_laws.specs.link.Comes.{BoardLink, BoardComes, passes, sends, objects, refuses, waits, resets, is_reset, restarts, hands_over, hands_back}
+use Rattle.dfu_laws.specs.link.Comes.{BoardLink, BoardComes, passes, sends, refuses, waits, resets, is_reset, restarts, leaves, restarts_at_reset}
 use Rattle.dfu_laws.specs.link.Plays.{starts, offers, uploads, aborts as gives_up, goes_on, PlaysRun}
 
 run_append : (b mid b' : Board) (xs ys : List BoardStep) → IsRun b xs mid → IsRun mid ys b' → IsRun b (xs ++ ys) b'
@@ -55,9 +55,9 @@ stops_run call b b' _ (within_second {first = first} {second = second} {mid = mi
 pub comes_run : (l l' : BoardLink) (steps : List BoardStep) (answer : Answered) → BoardComes l steps answer l' →
     IsRun l.board steps l'.board
 comes_run l _ steps _ (passes serves) = serves.run
-comes_run l _ steps _ (sends {setup = setup} {body = body} {says = says} {b' = b'} live is asked reaches hears room) =
+comes_run l _ steps _ (sends {setup = setup} {body = body} {says = says} {b' = b'} live is asked (inl reaches) hears room) =
     reaches_run (Handle setup body) l.board b' steps says reaches
-comes_run l _ steps _ (objects {setup = setup} {body = body} {why = why} {says = says} {b' = b'} live is asked refused hears room) =
+comes_run l _ steps _ (sends {setup = setup} {body = body} {says = says} {b' = b'} live is asked (inr (why, refused)) hears room) =
     objects_run setup body why l.board b' steps says refused
 comes_run l _ steps _ (refuses serves) = serves.run
 comes_run l _ _ _ (waits live is) = refl
@@ -65,8 +65,8 @@ comes_run l _ steps _ (resets live is serves) = serves.run
 comes_run l _ _ _ (is_reset {call = call} {steps = steps} {more = more} {says = says} {mid = mid} {b' = b'} way reaches serves) =
     run_append l.board mid b' steps more (reaches_run call l.board mid steps says reaches) serves.run
 comes_run l _ steps _ (restarts {call = call} {b' = b'} way stops) = stops_run call l.board b' steps stops
-comes_run l _ _ _ (hands_over heard live enters own run event) = run
-comes_run l _ _ _ (hands_back live is run event) = run
+comes_run l _ _ _ (leaves live enters run event) = run
+comes_run l _ _ _ (restarts_at_reset live is way run event) = run
 
 -- Each list of plays is a run of the board.
 pub plays_run : PlaysRun

@@ -1,6 +1,6 @@
 -- The image is known at each step of all that may come.
-use Rattle.std.specs.Prelude.{◌≡◌, ◌⊎◌, ℕ, ◌<◌, Bool, false, List, [], ◌∷◌, Option}
-use Rattle.std.proofs.Common.{refl, sym, subst}
+use Rattle.std.specs.Prelude.{◌≡◌, ◌⊎◌, ℕ, ◌<◌, Bool, List, [], ◌∷◌, Option}
+use Rattle.std.proofs.Common.{inl, inr, refl, sym, subst}
 use Rattle.dfu_slots.specs.Seen.{image_of}
 use Rattle.dfu_device.specs.declared.objection.Objection.{Objection}
 use Rattle.dfu_device.specs.Stage.{Profile}
@@ -15,7 +15,7 @@ use Rattle.dfu_laws.specs.board.Board.{Board, Handle, Elapse, UsbReset, RefuseCl
 use Rattle.dfu_laws.specs.board.Happens.{IsRun}
 use Rattle.dfu_laws.specs.board.Refines.{IsIdle, IdleRefines}
 use Rattle.dfu_laws.specs.link.Calls.{Reaches, lost, Objects, refused_once, refused_twice, behind}
-use Rattle.dfu_laws.specs.link.Comes.{BoardLink, IsUnderWay, BoardComes, passes, sends, objects, refuses, waits, resets, is_reset, restarts, hands_over, hands_back}
+use Rattle.dfu_laws.specs.link.Comes.{BoardLink, IsUnderWay, BoardComes, passes, sends, refuses, waits, resets, is_reset, restarts, leaves, restarts_at_reset}
 use Rattle.dfu_laws.specs.link.Plays.{KnownIsActive}
 use Rattle.dfu_laws.proofs.link.Served.{served}
 use Rattle.dfu_laws.proofs.link.Became.{Became}
@@ -66,13 +66,13 @@ module _ (refines : IdleRefines) (simulation : Simulation) (only : OnlyOffered) 
   comes_known l _ d steps _ s at (passes {ms = ms} {a = a} {out = out} {b' = b'} serves) =
       call_known refines c first past l.board b' d (Elapse ms) (Passing ms) steps a out s.idle
       (record { sound = s.sound; known = s.known }) refl serves at
-  comes_known l _ d steps _ s at (sends {h = h} {q = q} {setup = setup} {body = body} {says = says} {b' = b'} live is asked reaches hears
-      room) =
+  comes_known l _ d steps _ s at (sends {h = h} {q = q} {setup = setup} {body = body} {says = says} {b' = b'} live is asked (inl reaches)
+      hears room) =
       let way = subst (λ (x : Session). IsUnderWay x (Handle setup body)) (sym live) (q, is, asked) in
       reaches_known refines c first past l.board b' d (Handle setup body) (Transfer setup body) steps says s.idle
       (record { sound = s.sound; known = s.known }) refl (leads_on l d (Handle setup body) s way) reaches
-  comes_known l _ d steps _ s at (objects {setup = setup} {body = body} {why = why} {says = says} {b' = b'} live is asked refused hears
-      room) =
+  comes_known l _ d steps _ s at (sends {setup = setup} {body = body} {says = says} {b' = b'} live is asked
+      (inr (why, refused)) hears room) =
       objects_known l.board b' d setup body why steps says s.idle (record { sound = s.sound; known = s.known }) at refused
   comes_known l _ d steps _ s at (refuses {why = why} {a = a} {out = out} {b' = b'} serves) =
       call_known refines c first past l.board b' d (Refuse why) (Refusing why) steps a out s.idle
@@ -94,6 +94,7 @@ module _ (refines : IdleRefines) (simulation : Simulation) (only : OnlyOffered) 
       let cause = way_cause l.session call way in
       stops_known refines c first past l.board b' d call cause.0 steps s.idle (record { sound = s.sound; known = s.known }) cause.1
       (leads_on l d call s way) stops at
-  comes_known l _ d _ _ s at (hands_over {power = power} {begins = begins} {b' = b'} heard live enters own run event) =
+  comes_known l _ d _ _ s at (leaves {power = power} {begins = begins} {b' = b'} live enters run event) =
       power_within l b' d power begins s run event at
-  comes_known l _ d _ _ s at (hands_back {power = power} {b' = b'} live is run event) = power_within l b' d power false s run event at
+  comes_known l _ d _ _ s at (restarts_at_reset {power = power} {begins = begins} {b' = b'} live is way run event) =
+      power_within l b' d power begins s run event at

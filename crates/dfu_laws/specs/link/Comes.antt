@@ -31,12 +31,6 @@ IsUnderWay session (Elapse ms) = Unit {0}
 IsUnderWay (Hosted h) (Handle setup body) = (q : Request) × (deed h.task h.phase ≡ Send q body) × IsAsked q setup
 IsUnderWay session call = ⊥
 
--- A host hears that its own wait, or its own reset of the bus, is over, and of nothing else.
-abbrev pub HearsOwn : Deed → Heard → Type 0
-HearsOwn (Wait ms) heard = heard ≡ Waited
-HearsOwn Reset heard = heard ≡ WasReset
-HearsOwn d heard = ⊥
-
 -- This board, with what becomes of the session.
 abbrev pub left : Board → Took → BoardLink
 left b t = record { board = b; session = t.session }
@@ -46,44 +40,34 @@ pub data BoardComes (l : BoardLink) : List BoardStep → Answered → BoardLink 
   -- Time passes at the board.
   passes : {ms : ℕ} {steps : List BoardStep} {a : Answer} {out : List ℕ} {b' : Board} → Serves l.board (Elapse ms) steps a out b'
       → BoardComes l steps silent (record { board = b'; session = l.session })
-  -- The host sends its request, as the bytes of a setup that asks for it, and takes what it hears. It finds no memory only if its phase
-  -- wants some.
+  -- The host sends its request, as the bytes of a setup that asks for it, and takes what it hears. If it closes a download, the board's
+  -- program may refuse the image. The host finds no memory only if its phase wants some.
   sends : {h : HostState} {q : Request} {setup body : List ℕ} {steps : List BoardStep} {says : Says} {b' : Board} {heard : Heard}
       → l.session ≡ Hosted h → deed h.task h.phase ≡ Send q body → IsAsked q setup
-      → Reaches (Handle setup body) l.board steps says b' → HearsSentBack (Send q body) says heard
-      → (heard ≡ NoRoom → IsTrue (wants_memory h.phase)) → BoardComes l steps (took h heard).answer (left b' (took h heard))
-  -- The host sends a request that closes a download, and the board's program refuses the image.
-  objects : {h : HostState} {q : Request} {setup body : List ℕ} {why : Objection} {steps : List BoardStep} {says : Says} {b' : Board}
-      {heard : Heard}
-      → l.session ≡ Hosted h → deed h.task h.phase ≡ Send q body → IsAsked q setup
-      → Objects setup body why l.board steps says b' → HearsSentBack (Send q body) says heard
-      → (heard ≡ NoRoom → IsTrue (wants_memory h.phase)) → BoardComes l steps (took h heard).answer (left b' (took h heard))
+      → Reaches (Handle setup body) l.board steps says b' ⊎ ((why : Objection) × Objects setup body why l.board steps says b')
+      → HearsSentBack (Send q body) says heard → (heard ≡ NoRoom → IsTrue (wants_memory h.phase))
+      → BoardComes l steps (took h heard).answer (left b' (took h heard))
   -- The board's program refuses the image that was closed, if one was.
   refuses : {why : Objection} {steps : List BoardStep} {a : Answer} {out : List ℕ} {b' : Board} → Serves l.board (Refuse why) steps a out b'
       → BoardComes l steps silent (record { board = b'; session = l.session })
-  -- The host's wait is over. The board makes no step in it: the time that passes there comes by itself, as in `passes`, and may be any.
+  -- The host's wait is over. The time that passes at the board comes by itself, as in `passes`, and may be any.
   waits : {h : HostState} {ms : ℕ} → l.session ≡ Hosted h → deed h.task h.phase ≡ Wait ms
       → BoardComes l [] (took h Waited).answer (left l.board (took h Waited))
   -- The host resets the bus.
   resets : {h : HostState} {steps : List BoardStep} {a : Answer} {out : List ℕ} {b' : Board} → l.session ≡ Hosted h
       → deed h.task h.phase ≡ Reset → Serves l.board UsbReset steps a out b'
       → BoardComes l steps (took h WasReset).answer (left b' (took h WasReset))
-  -- The bus is reset by another cause, with this call under way, to which the board comes to an end first. A live host hears of the reset
-  -- and of no answer.
+  -- The bus is reset by another cause, with this call under way, which ends first. A live host hears of the reset and of no answer.
   is_reset : {call : Event} {steps more : List BoardStep} {says : Says} {a : Answer} {out : List ℕ} {mid b' : Board}
       → IsUnderWay l.session call → Reaches call l.board steps says mid → Serves mid UsbReset more a out b'
       → BoardComes l (steps ++ more) (notify_restart l.session).answer (left b' (notify_restart l.session))
   -- The power goes and comes back, with this call under way. A live host hears of that and of no answer.
   restarts : {call : Event} {steps : List BoardStep} {b' : Board} → IsUnderWay l.session call → Stops call l.board steps b'
       → BoardComes l steps (notify_restart l.session).answer (left b' (notify_restart l.session))
-  -- The application hands over to its bootloader, which is another program: where the host resets the bus after a DETACH, or waits for the
-  -- device to leave, the board restarts. It begins for the host, or is in appIDLE. The host hears of its own reset or wait, and of no
-  -- restart.
-  hands_over : {h : HostState} {power : BoardStep} {begins : Bool} {b' : Board} (heard : Heard) → l.session ≡ Hosted h → h.phase ≡ Enter
-      → HearsOwn (deed h.task h.phase) heard → IsRun l.board (power ∷ []) b' → power.event ≡ Restart begins
-      → BoardComes l (power ∷ []) (took h heard).answer (left b' (took h heard))
-  -- The bootloader hands back to the application: the host resets the bus, in any phase, and by that the board restarts in appIDLE. The
-  -- host hears of its reset, and of no restart.
-  hands_back : {h : HostState} {power : BoardStep} {b' : Board} → l.session ≡ Hosted h → deed h.task h.phase ≡ Reset
-      → IsRun l.board (power ∷ []) b' → power.event ≡ Restart false
+  -- An application leaves after DETACH, for its bootloader or not: the board restarts. The host, which resets or waits next, hears nothing.
+  leaves : {h : HostState} {power : BoardStep} {begins : Bool} {b' : Board} → l.session ≡ Hosted h → h.phase ≡ Enter
+      → IsRun l.board (power ∷ []) b' → power.event ≡ Restart begins → BoardComes l (power ∷ []) silent (record l { board = b' })
+  -- The host resets the bus, and by that the board restarts: in appIDLE, or as an application leaves. The host hears of its reset alone.
+  restarts_at_reset : {h : HostState} {power : BoardStep} {begins : Bool} {b' : Board} → l.session ≡ Hosted h → deed h.task h.phase ≡ Reset
+      → (begins ≡ false) ⊎ (h.phase ≡ Enter) → IsRun l.board (power ∷ []) b' → power.event ≡ Restart begins
       → BoardComes l (power ∷ []) (took h WasReset).answer (left b' (took h WasReset))
