@@ -11,7 +11,7 @@ TOP, RUST, FOLDER = sys.argv[1:]
 sys.path.insert(0, os.path.join(TOP, "dist", "make", "eraser"))
 import package  # noqa: E402
 
-CRATES = {"dfu_core": "shared", "dfu_device_c": "device", "dfu_host_c": "host", "dfu_boot_c": "boot"}
+CRATES = {"dfu_core": "shared", "dfu_device_c": "device", "dfu_host_core": "session", "dfu_host_c": "host", "dfu_boot_c": "boot"}
 MANIFEST = f"""[package]
 name = "twice"
 version = "0.0.0"
