@@ -43,11 +43,11 @@
  * - The reset that counts is the first reset of the bus, or unplugging, after a SET_CONFIGURATION with a value other than 0. Hosts reset a
  *   device twice while they enumerate it, and a second reset would lead from dfuIDLE to appIDLE. In the first enumeration of a device that
  *   began in dfuIDLE no reset counts.
- * - busy_ms and manifest_ms are sent as bwPollTimeout, after which the host asks again. busy_ms is how long it takes to write a block:
- *   DFU_BLOCK_ERASES and DFU_BLOCK_PROGRAMS times what the part needs at most. manifest_ms is the same for an image, with
- *   DFU_COMMIT_ERASES and DFU_COMMIT_PROGRAMS. With 0 they are written before the GETSTATUS is answered. For fwupd manifest_ms should be 0
- *   if the device is tolerant. The host waits busy_ms after every block, also after one that erases nothing: if the stack sends NAK
- *   meanwhile, take the time of such a block (docs/PORTING.md, "How long a host waits").
+ * - What a block takes is sent as bwPollTimeout, after which the host asks again: busy_ms, and erase_ms for each sector that this block
+ *   erases, and program_ms for each 256 bytes that it programs. manifest_ms with erase_ms and program_ms is the same for an image. So set
+ *   erase_ms and program_ms to what the part takes, and busy_ms to 1. With busy_ms or manifest_ms of 0 all is written before the GETSTATUS
+ *   is answered, and no time is sent. For fwupd manifest_ms should be 0 if the device is tolerant. With erase_ms and program_ms of 0 the
+ *   host waits busy_ms after every block, also after one that erases nothing (docs/PORTING.md, "How long a host waits").
  * - If the stack acknowledges a data stage while it receives it, as Linux's FunctionFS does, ask before it comes: call dfu_device_work,
  *   then dfu_device_would_stall. If that says 1, call dfu_device_handle with any body of that length, and stall the setup. If it says 0,
  *   receive the data stage.

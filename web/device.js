@@ -31,7 +31,7 @@ export class Device extends Library {
   // config: the fields of struct dfu_config. The medium is made for images of up to `capacity` bytes, all FFh but for `image`.
   constructor(module, config, capacity, image) {
     super(module)
-    const whole = { unit: 1, sector: 0, ...config }
+    const whole = { unit: 1, sector: 0, erase_ms: 0, program_ms: 0, ...config }
     this.config = this.record('dfu_config', whole)
     this.kept = this.record('dfu_record')
     this.ask = this.record('dfu_ask')

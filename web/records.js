@@ -25,7 +25,7 @@ export const RECORDS = {
   dfuse_file: 'u32 targets, u32 setting, u16 device, u16 product, u16 vendor',
   dfu_config:
     'u32 version, u16 device, u16 product, u16 vendor, u16 detach_ms, u16 transfer, u8 attributes, u8 interface_number, u32 busy_ms, ' +
-    'u32 manifest_ms, u32 least, u32 unit, u32 sector',
+    'u32 manifest_ms, u32 least, u32 unit, u32 sector, u16 erase_ms, u16 program_ms',
   dfu_record:
     'u32 version, u32 mode, u32 first, u32 second, u32 put_end, u32 slot, u16 number, u16 length, u8[16] header, u32 work, ' +
     'u32 spare, u32 sum, u32 done, u32 asked, u8 generation, u8 close, u16 held_length',

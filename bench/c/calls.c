@@ -5,7 +5,7 @@
 
 #include "dfu_device_memory.h"
 
-static const struct dfu_config config = {DFU_VERSION, 0x0100, 1, 0x1209, 255, 4096, 7, 0, 5, 10, 1, 1, 0};
+static const struct dfu_config config = {DFU_VERSION, 0x0100, 1, 0x1209, 255, 4096, 7, 0, 5, 10, 1, 1, 0, 0, 0};
 static struct dfu_place place;
 static uint8_t medium[DFU_MEDIUM_SIZE(1, 0, 1 << 20)], image[1 << 20], out[4096], body[4096], block[DFU_BLOCK_SIZE(4096, 1)];
 static const struct dfu_driver driver = DFU_MEMORY_DRIVER(medium);

@@ -9,7 +9,7 @@
 
 #define MOST (1 << 24)
 
-static const struct dfu_config config = {DFU_VERSION, 0x0100, 1, 0x1209, 255, 4096, 7, 0, 5, 10, 1, 1, 0};
+static const struct dfu_config config = {DFU_VERSION, 0x0100, 1, 0x1209, 255, 4096, 7, 0, 5, 10, 1, 1, 0, 0, 0};
 static uint8_t medium[DFU_MEDIUM_SIZE(1, 0, MOST)], image[MOST], block[DFU_BLOCK_SIZE(4096, 1)], out[4096];
 static const struct dfu_driver driver = DFU_MEMORY_DRIVER(medium);
 static struct dfu_device device = {

@@ -7,7 +7,7 @@
 
 #define LARGEST 131072
 
-static struct dfu_config config = {DFU_VERSION, 0x0100, 1, 0x1209, 255, 1024, 7, 0, 0, 0, 1, 16, 0};
+static struct dfu_config config = {DFU_VERSION, 0x0100, 1, 0x1209, 255, 1024, 7, 0, 0, 0, 1, 16, 0, 0, 0};
 static uint8_t medium[DFU_MEDIUM_SIZE(16, LARGEST, LARGEST)], block[DFU_BLOCK_SIZE(1024, 16)], out[1024];
 static const struct dfu_driver driver = DFU_MEMORY_DRIVER(medium);
 static struct dfu_device device = {.config = &config, .flash = medium, .block = block, .most = sizeof block, .driver = &driver};

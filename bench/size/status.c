@@ -5,7 +5,7 @@
 
 #include "dfu_device_memory.h"
 
-static const struct dfu_config config = {DFU_VERSION, 0x0100, 1, 0x1209, 255, 64, 7, 0, 5, 10, 1, 1, 0};
+static const struct dfu_config config = {DFU_VERSION, 0x0100, 1, 0x1209, 255, 64, 7, 0, 5, 10, 1, 1, 0, 0, 0};
 static uint8_t flash[DFU_MEDIUM_SIZE(1, 0, 65536)], image[65536], block[DFU_BLOCK_SIZE(64, 1)], out[64];
 static const struct dfu_driver driver = DFU_MEMORY_DRIVER(flash);
 static struct dfu_device device = {

@@ -8,7 +8,7 @@
 
 #define MOST 4096
 
-static struct dfu_config config = {DFU_VERSION, 0x0100, 1, 0x1209, 255, 8, 7, 0, 0, 0, 1, 1, 0};
+static struct dfu_config config = {DFU_VERSION, 0x0100, 1, 0x1209, 255, 8, 7, 0, 0, 0, 1, 1, 0, 0, 0};
 static uint8_t medium[DFU_MEDIUM_SIZE(256, 8192, 65536)], block[DFU_BLOCK_SIZE(MOST, 256)], body[MOST], out[MOST];
 static uint32_t dice = 1, erases, programs;
 static long blocks, all_erases, all_programs;

@@ -13,7 +13,7 @@
 #define MOST_FLASH (2 * (2 * MOST_SECTOR + 1024))
 #define MOST_BLOCK 512
 
-static struct dfu_config config = {DFU_VERSION, 0x0100, 1, 0x1209, 20, 20, 7, 0, 0, 0, 1, 1, 0};
+static struct dfu_config config = {DFU_VERSION, 0x0100, 1, 0x1209, 20, 20, 7, 0, 0, 0, 1, 1, 0, 0, 0};
 static uint32_t dice = 1;
 
 static inline uint32_t roll(uint32_t sides) {

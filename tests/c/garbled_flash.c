@@ -146,7 +146,7 @@ int main(int count, char **words) {
         if (call % 16 > 12)
             carry_on(result);
         if (where == 6)
-            config = (struct dfu_config){DFU_VERSION, 0x0100, 1, 0x1209, 20, 20, 7, 0, 0, 0, 1, board.unit, board.sector};
+            config = (struct dfu_config){DFU_VERSION, 0x0100, 1, 0x1209, 20, 20, 7, 0, 0, 0, 1, board.unit, board.sector, 0, 0};
     }
     printf("garbled_flash: %ld calls, %ld answers, %ld asks, %ld pieces; refused:", all, answers, asks, pieces);
     for (int i = 2; i < 13; i++)

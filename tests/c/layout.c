@@ -18,7 +18,7 @@
 #define SIZE(type, bytes) static_assert(sizeof(struct type) == (bytes), "the size of " #type)
 #define AT(type, field, byte) static_assert(offsetof(struct type, field) == (byte), #type "." #field)
 
-SIZE(dfu_config, 36);
+SIZE(dfu_config, 40);
 AT(dfu_config, version, 0);
 AT(dfu_config, device, 4);
 AT(dfu_config, product, 6);
@@ -32,6 +32,8 @@ AT(dfu_config, manifest_ms, 20);
 AT(dfu_config, least, 24);
 AT(dfu_config, unit, 28);
 AT(dfu_config, sector, 32);
+AT(dfu_config, erase_ms, 36);
+AT(dfu_config, program_ms, 38);
 
 SIZE(dfu_record, 68);
 AT(dfu_record, version, 0);

@@ -9,7 +9,7 @@
 
 enum { TRANSFER = 20, IMAGE = 530, CAPACITY = 1024, GUARD = 64, MARK = 0x5a };
 static const uint32_t units[] = {1, 16, 64, 256}, sectors[] = {0, 512};
-static struct dfu_config config = {DFU_VERSION, 0x0100, 1, 0x1209, 20, TRANSFER, 7, 0, 0, 0, 1, 1, 0};
+static struct dfu_config config = {DFU_VERSION, 0x0100, 1, 0x1209, 20, TRANSFER, 7, 0, 0, 0, 1, 1, 0, 0, 0};
 static uint8_t medium[DFU_MEDIUM_SIZE(256, 512, CAPACITY)], image[IMAGE], data[TRANSFER];
 static const struct dfu_driver driver = DFU_MEMORY_DRIVER(medium);
 static struct dfu_device dfu = {.config = &config, .flash = medium, .driver = &driver};

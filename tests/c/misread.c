@@ -44,7 +44,7 @@ static int32_t is_blank(const struct dfu_config *config, const uint8_t *flash, s
 #define dfu_core_is_blank is_blank
 #include "dfu_device_memory.h"
 
-static const struct dfu_config config = {DFU_VERSION, 0x0100, 1, 0x1209, 255, 64, 7, 0, 0, 0, 1, UNIT, SECTOR};
+static const struct dfu_config config = {DFU_VERSION, 0x0100, 1, 0x1209, 255, 64, 7, 0, 0, 0, 1, UNIT, SECTOR, 0, 0};
 static uint8_t block[DFU_BLOCK_SIZE(64, UNIT)], image[IMAGE], shipped[sizeof part];
 static const struct dfu_driver driver = DFU_MEMORY_DRIVER(part);
 static struct dfu_device dfu = {

@@ -5,7 +5,7 @@
 
 #include "memory.h"
 
-static struct dfu_config config = {DFU_VERSION, 0x0100, 1, 0x1209, 255, 8, 7, 0, 5, 10, 1, 1, 0};
+static struct dfu_config config = {DFU_VERSION, 0x0100, 1, 0x1209, 255, 8, 7, 0, 5, 10, 1, 1, 0, 0, 0};
 static uint8_t medium[DFU_MEDIUM_SIZE(1, 0, 64)], pending[DFU_BLOCK_SIZE(8, 1)], image[20];
 static const struct dfu_driver driver = DFU_MEMORY_DRIVER(medium);
 static struct dfu_device device = {.config = &config, .flash = medium, .size = sizeof medium, .block = pending, .most = sizeof pending,

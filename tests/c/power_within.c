@@ -16,7 +16,7 @@
 
 #define IMAGE 150 /* bytes, in blocks of 100; in units of 16 some are held back after each */
 
-static struct dfu_config config = {DFU_VERSION, 0x0100, 1, 0x1209, 255, 100, 7, 0, 5, 10, 1, 1, 0};
+static struct dfu_config config = {DFU_VERSION, 0x0100, 1, 0x1209, 255, 100, 7, 0, 5, 10, 1, 1, 0, 0, 0};
 static uint8_t pending[DFU_BLOCK_SIZE(100, 16)], medium[DFU_MEDIUM_SIZE(1, 0, 160)], mediums[MOST][sizeof medium];
 static const struct dfu_driver driver = DFU_MEMORY_DRIVER(medium);
 static struct dfu_device device = {.config = &config, .flash = medium, .size = sizeof medium, .block = pending, .most = sizeof pending,

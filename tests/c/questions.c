@@ -8,7 +8,7 @@
 
 #define MODES 13
 
-static struct dfu_config config = {DFU_VERSION, 0x0100, 1, 0x1209, 255, 8, 7, 0, 5, 10, 4, 1, 0};
+static struct dfu_config config = {DFU_VERSION, 0x0100, 1, 0x1209, 255, 8, 7, 0, 5, 10, 4, 1, 0, 0, 0};
 static uint8_t pending[DFU_BLOCK_SIZE(8, 1)], medium[DFU_MEDIUM_SIZE(1, 0, 16)], mediums[MODES][sizeof medium], out[16];
 static const struct dfu_driver driver = DFU_MEMORY_DRIVER(medium);
 static struct dfu_device device = {.config = &config, .flash = medium, .size = sizeof medium, .block = pending, .most = sizeof pending,
@@ -139,7 +139,7 @@ static void all(void) {
 /* A part is blank if every byte of its gates and headers is FFh, whatever its data holds. */
 static void blank(uint32_t unit, uint32_t sector) {
     static uint8_t part[2 * (2 * 512 + 512)];
-    const struct dfu_config other = {DFU_VERSION, 0x0100, 1, 0x1209, 255, 8, 7, 0, 0, 0, 1, unit, sector};
+    const struct dfu_config other = {DFU_VERSION, 0x0100, 1, 0x1209, 255, 8, 7, 0, 0, 0, 1, unit, sector, 0, 0};
     const size_t front = 2 * DFU_GATE(unit, sector), size = 2 * (front + 512);
     memset(part, 0xff, sizeof part);
     expect("blank", dfu_core_is_blank(&other, part, size) == 1);

@@ -5,7 +5,7 @@
 
 #include "dfu_device_memory.h"
 
-static const struct dfu_config config = {DFU_VERSION, 0x0100, 1, 0x1209, 255, 4096, 7, 0, 0, 10, 1, 256, 0};
+static const struct dfu_config config = {DFU_VERSION, 0x0100, 1, 0x1209, 255, 4096, 7, 0, 0, 10, 1, 256, 0, 0, 0};
 static struct dfu_place place;
 static struct dfu_ask due;
 static uint8_t medium[DFU_MEDIUM_SIZE(256, 0, 256 * 400)], out[4096], block[4096], pending[DFU_BLOCK_SIZE(4096, 256)];

@@ -8,7 +8,7 @@
 
 enum { UNIT = 16, SECTOR = 256, CAPACITY = 1024, STARTS = 20 };
 
-static const struct dfu_config config = {DFU_VERSION, 0x0100, 1, 0x1209, 255, 64, 7, 0, 0, 0, 1, UNIT, SECTOR};
+static const struct dfu_config config = {DFU_VERSION, 0x0100, 1, 0x1209, 255, 64, 7, 0, 0, 0, 1, UNIT, SECTOR, 0, 0};
 static uint8_t part[DFU_MEDIUM_SIZE(UNIT, SECTOR, CAPACITY)], block[DFU_BLOCK_SIZE(64, UNIT)], out[64], made[sizeof part];
 static int wrong, left = -1;
 
@@ -116,7 +116,7 @@ static void fails(void)
 
 static void refused(void)
 {
-    const struct dfu_config flat = {DFU_VERSION, 0x0100, 1, 0x1209, 255, 64, 7, 0, 0, 0, 1, UNIT, 0};
+    const struct dfu_config flat = {DFU_VERSION, 0x0100, 1, 0x1209, 255, 64, 7, 0, 0, 0, 1, UNIT, 0, 0, 0};
     memset(part, 0x5a, sizeof part);
     memcpy(made, part, sizeof part);
     trial.tries.tries = 1;

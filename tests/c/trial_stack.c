@@ -8,7 +8,7 @@
 
 enum { UNIT = 256, SECTOR = 4096, TRIES = 3 };
 
-static const struct dfu_config config = {DFU_VERSION, 0x0100, 1, 0x1209, 255, 256, 7, 0, 0, 0, 1, UNIT, SECTOR};
+static const struct dfu_config config = {DFU_VERSION, 0x0100, 1, 0x1209, 255, 256, 7, 0, 0, 0, 1, UNIT, SECTOR, 0, 0};
 static uint8_t medium[DFU_MEDIUM_SIZE(UNIT, SECTOR, SECTOR)], out[256], block[DFU_BLOCK_SIZE(256, UNIT)], image[256];
 static const struct dfu_driver driver = DFU_MEMORY_DRIVER(medium);
 static struct dfu_device device = {

@@ -1,4 +1,4 @@
-/* How long a host waits for a download, by the choice of busy_ms: the rows of the table of docs/PORTING.md, "How long a host waits". The
+/* How long a host waits for a download, by the choice of busy_ms, and by each block's own time: the rows of the table of docs/PORTING.md, "How long a host waits". The
  * device is the library's; the part's times are modelled, and the bus takes none. After each answer that says dfuDNBUSY the host waits
  * bwPollTimeout, and its next request gets NAK until the block is written. */
 #include <stdio.h>
@@ -58,9 +58,9 @@ static int poll(struct dfu_device *d, const struct part *p)
 }
 
 /* How long a download takes, in seconds; negative if it fails. */
-static double session(const struct part *p, uint16_t block, uint32_t busy_ms)
+static double session(const struct part *p, uint16_t block, uint32_t busy_ms, uint16_t erase_ms, uint16_t program_ms)
 {
-    const struct dfu_config config = {DFU_VERSION, 0, 0, 0, 1000, block, 7, 0, busy_ms, 0, 1, p->unit, p->sector};
+    const struct dfu_config config = {DFU_VERSION, 0, 0, 0, 1000, block, 7, 0, busy_ms, 0, 1, p->unit, p->sector, erase_ms, program_ms};
     const size_t size = DFU_MEDIUM_SIZE(p->unit, p->sector, p->image);
     uint8_t memory[DFU_BLOCK_SIZE(4096, 256)];
     const struct dfu_driver driver = {flash, erase, program};
@@ -98,11 +98,12 @@ int main(void)
             const struct part *p = &parts[i];
             const uint32_t all = DFU_BLOCK_ERASES(block, p->sector) * p->erase_most + DFU_BLOCK_PROGRAMS(block) * p->program_most;
             const uint32_t few = chosen(p, block);
-            const double by_all = session(p, block, all), by_few = session(p, block, few);
-            if (by_all < 0 || by_few < 0)
+            const double by_all = session(p, block, all, 0, 0), by_few = session(p, block, few, 0, 0), most = longest;
+            const double own = session(p, block, 1, (uint16_t)p->erase_ms, (uint16_t)((p->tenths + 9) / 10));
+            if (by_all < 0 || by_few < 0 || own < 0)
                 return 1;
-            printf("| %s | %u KiB | %u,%03u | %u | %.1f s | %u | %.1f s | %.1f s |\n", p->name, (unsigned)p->image / 1024, block / 1000u,
-                   block % 1000u, (unsigned)all, by_all, (unsigned)few, by_few, longest / 1000);
+            printf("| %s | %u KiB | %u,%03u | %u | %.1f s | %u | %.1f s | %.1f s | %.1f s |\n", p->name, (unsigned)p->image / 1024,
+                   block / 1000u, block % 1000u, (unsigned)all, by_all, (unsigned)few, by_few, most / 1000, own);
         }
     return 0;
 }

@@ -9,7 +9,7 @@
 #include "dfu_trial.h"
 #include "monitor.h"
 
-static struct dfu_config config = {DFU_VERSION, 0x0100, 1, 0x1209, 255, 64, 7, 0, 5, 10, 1, 16, 4096};
+static struct dfu_config config = {DFU_VERSION, 0x0100, 1, 0x1209, 255, 64, 7, 0, 5, 10, 1, 16, 4096, 0, 0};
 static uint8_t flash[256], block[DFU_BLOCK_SIZE(64, 16)], body[64], out[72], image[512], setup[8];
 static struct dfu_driver driver = {block, erase, program};
 static struct dfu_device device;

@@ -1,5 +1,5 @@
 -- A change of state comes when it is said to be due.
-use Rattle.std.proofs.Common.{◌≡◌, ◌≢◌, ◌+◌, ◌-◌, ◌<◌, ◌≤◌, ◌==◌, ◌++◌, max, nat_le, Bool, true, false, ℕ, List, [], inl, inr, refl, sym, ap, ◌∙◌, arith, if◌then◌else◌}
+use Rattle.std.proofs.Common.{◌≡◌, ◌≢◌, ◌+◌, ◌-◌, ◌<◌, ◌≤◌, ◌==◌, ◌++◌, max, length, take, nat_le, Bool, true, false, ℕ, List, [], inl, inr, refl, sym, ap, subst, ◌∙◌, arith, if◌then◌else◌}
 use Rattle.std.proofs.lemmas.Bool.{eqb-true, eqb-false, leb-true, leb-false}
 use Rattle.dfu_device.specs.declared.answer.Answer.TheVariants as answer
 use Rattle.dfu_device.specs.declared.device_state.DeviceState.{DeviceState}
@@ -8,6 +8,8 @@ use Rattle.dfu_device.specs.Stage.{Stage, Ack, InAppIdle, InAppDetach, InDfuIdle
 use Rattle.dfu_device.specs.Table.{Plan, Writes, Commits, ack, time_plan}
 use Rattle.dfu_device.specs.DeviceView.{DeviceView, profile}
 use Rattle.dfu_device.specs.Parts.{stage_of}
+use Rattle.dfu_device.specs.Pace.{block_ms, image_ms}
+use Rattle.dfu_device.specs.Decision.{HoldsTime}
 use Rattle.dfu_device.specs.Rows.{Done}
 use Rattle.dfu_asks.specs.Times.{due_of, ChangesOnceDue}
 
@@ -115,23 +117,28 @@ module _ (ms : ℕ) (d d' : DeviceView) where
       (ap (λ (w : DeviceView). state_of w.stage) done.1 ∙ sym (ap state_of is))
 
   -- Each mode.
-  pub time_due : (m : DeviceState) (spare block : List ℕ) → d.stage ≡ stage_of m spare block
-      → Went (time_plan (profile d) (stage_of m spare block) ms) → ChangesOnceDue (due_of d.config m) ms d d'
-  time_due (device_state.AppDetach timer passed) spare block is done =
+  pub time_due : (m : DeviceState) (n : ℕ) (spare block : List ℕ) → HoldsTime m n spare block → d.stage ≡ stage_of m spare block
+      → Went (time_plan (profile d) (stage_of m spare block) ms) → ChangesOnceDue (due_of d.config m n) ms d d'
+  time_due (device_state.AppDetach timer passed) n spare block holds is done =
       detach timer passed is (ms == 0) d.config.functional.will_detach (nat_le (max 1 timer) (passed + ms)) refl refl done
-  time_due (device_state.DownloadBusy written number passed) spare block is done =
-      busy d.config.busy_ms _ block number passed is (ms == 0) (nat_le d.config.busy_ms (passed + ms)) refl refl done
-  time_due (device_state.Manifest written passed) spare block is done =
-      manifest d.config.manifest_ms _ passed is (ms == 0) (nat_le d.config.manifest_ms (passed + ms)) d.config.functional.tolerant refl refl
-      done
-  time_due device_state.AppIdle spare block is done = same 0 (stayed _ is done) (λ some past. omega (arith, some))
-  time_due device_state.DfuIdle spare block is done = same 0 (stayed _ is done) (λ some past. omega (arith, some))
-  time_due (device_state.DownloadSync written number) spare block is done = same 0 (stayed _ is done) (λ some past. omega (arith, some))
-  time_due (device_state.DownloadSyncWritten written number) spare block is done =
+  time_due (device_state.DownloadBusy written number passed) n spare block holds is done =
+      let c = d.config in
+      let limit = block_ms c.pace c.busy_ms (length (take written spare)) (length block) in
+      subst (λ (k : ℕ). ChangesOnceDue (max 1 (k - passed)) ms d d') (λ i. block_ms c.pace c.busy_ms (holds.0 i) (holds.1 i))
+      (busy limit _ block number passed is (ms == 0) (nat_le limit (passed + ms)) refl refl done)
+  time_due (device_state.Manifest written passed) n spare block holds is done =
+      let c = d.config in
+      let limit = image_ms c.pace c.manifest_ms (length (take written spare)) in
+      subst (λ (k : ℕ). ChangesOnceDue (max 1 (k - passed)) ms d d') (λ i. image_ms c.pace c.manifest_ms (holds i))
+      (manifest limit _ passed is (ms == 0) (nat_le limit (passed + ms)) c.functional.tolerant refl refl done)
+  time_due device_state.AppIdle n spare block holds is done = same 0 (stayed _ is done) (λ some past. omega (arith, some))
+  time_due device_state.DfuIdle n spare block holds is done = same 0 (stayed _ is done) (λ some past. omega (arith, some))
+  time_due (device_state.DownloadSync written number) n spare block holds is done = same 0 (stayed _ is done) (λ some past. omega (arith, some))
+  time_due (device_state.DownloadSyncWritten written number) n spare block holds is done =
       same 0 (stayed _ is done) (λ some past. omega (arith, some))
-  time_due (device_state.DownloadIdle written number) spare block is done = same 0 (stayed _ is done) (λ some past. omega (arith, some))
-  time_due (device_state.ManifestSync written) spare block is done = same 0 (stayed _ is done) (λ some past. omega (arith, some))
-  time_due device_state.ManifestSyncComplete spare block is done = same 0 (stayed _ is done) (λ some past. omega (arith, some))
-  time_due device_state.ManifestWaitReset spare block is done = same 0 (stayed _ is done) (λ some past. omega (arith, some))
-  time_due (device_state.UploadIdle place number) spare block is done = same 0 (stayed _ is done) (λ some past. omega (arith, some))
-  time_due (device_state.Error code) spare block is done = same 0 (stayed _ is done) (λ some past. omega (arith, some))
+  time_due (device_state.DownloadIdle written number) n spare block holds is done = same 0 (stayed _ is done) (λ some past. omega (arith, some))
+  time_due (device_state.ManifestSync written) n spare block holds is done = same 0 (stayed _ is done) (λ some past. omega (arith, some))
+  time_due device_state.ManifestSyncComplete n spare block holds is done = same 0 (stayed _ is done) (λ some past. omega (arith, some))
+  time_due device_state.ManifestWaitReset n spare block holds is done = same 0 (stayed _ is done) (λ some past. omega (arith, some))
+  time_due (device_state.UploadIdle place number) n spare block holds is done = same 0 (stayed _ is done) (λ some past. omega (arith, some))
+  time_due (device_state.Error code) n spare block holds is done = same 0 (stayed _ is done) (λ some past. omega (arith, some))

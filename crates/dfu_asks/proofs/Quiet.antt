@@ -16,8 +16,9 @@ use Rattle.dfu_device.specs.Parts.{stage_of, is_sound}
 use Rattle.dfu_device.specs.Rows.{Done, meant, asked_length}
 use Rattle.dfu_device.specs.Decision.{profile_in, plan_of, HasLength, Decides, DecidesTime}
 use Rattle.dfu_device.specs.Cases.{either_way}
-use Rattle.dfu_device.proofs.Carried.{holds_written}
+use Rattle.dfu_device.proofs.Carried.{holds_written, holds_time}
 use Rattle.dfu_asks.specs.Due.{due_plan, WorksOut, FailsOut, IsDueRow, IsSure, IsSureOrDue, writes_now}
+use Rattle.dfu_device.specs.Pace.{block_ms, image_ms}
 
 block_sure : (c : Profile) (before : List ℕ) (expected number : ℕ) (body : List ℕ) → IsSure (block_plan c before expected number body)
 block_sure c before expected number body =
@@ -69,11 +70,11 @@ time_due c (InAppDetach timer passed) ms =
     (either_way IsSure c.will_detach _ _ tt (either_way IsSure (nat_le (max 1 timer) (passed + ms)) _ _ tt tt)))
 time_due c (InDownloadBusy before block number passed) ms =
     either_way (λ p. IsSureOrDue p c (InDownloadBusy before block number passed) None 0) (ms == 0) _ _ (inl tt)
-    (either_way (λ p. IsSureOrDue p c (InDownloadBusy before block number passed) None 0) (nat_le c.busy (passed + ms)) _ _
+    (either_way (λ p. IsSureOrDue p c (InDownloadBusy before block number passed) None 0) (nat_le (block_ms c.pace c.busy (length before) (length block)) (passed + ms)) _ _
     (inr (refl, refl)) (inl tt))
 time_due c (InManifest taken passed) ms =
     either_way (λ p. IsSureOrDue p c (InManifest taken passed) None 0) (ms == 0) _ _ (inl tt)
-    (either_way (λ p. IsSureOrDue p c (InManifest taken passed) None 0) (nat_le c.manifest (passed + ms)) _ _ (inr (refl, refl)) (inl tt))
+    (either_way (λ p. IsSureOrDue p c (InManifest taken passed) None 0) (nat_le (image_ms c.pace c.manifest (length taken)) (passed + ms)) _ _ (inr (refl, refl)) (inl tt))
 time_due c st ms = inl tt
 
 -- Time is answered with an acknowledgement.
@@ -87,10 +88,10 @@ time_quiet c (InAppDetach timer passed) ms =
     (either_way IsQuiet (nat_le (max 1 timer) (passed + ms)) _ _ (λ len w a out w' d. d.0) (λ len w a out w' d. d.0)))
 time_quiet c (InDownloadBusy before block number passed) ms =
     either_way IsQuiet (ms == 0) _ _ (λ len w a out w' d. d.0)
-    (either_way IsQuiet (nat_le c.busy (passed + ms)) _ _ (λ len w a out w' d. ⊎_elim (λ x. x.0) (λ x. x.1) d) (λ len w a out w' d. d.0))
+    (either_way IsQuiet (nat_le (block_ms c.pace c.busy (length before) (length block)) (passed + ms)) _ _ (λ len w a out w' d. ⊎_elim (λ x. x.0) (λ x. x.1) d) (λ len w a out w' d. d.0))
 time_quiet c (InManifest taken passed) ms =
     either_way IsQuiet (ms == 0) _ _ (λ len w a out w' d. d.0)
-    (either_way IsQuiet (nat_le c.manifest (passed + ms)) _ _ (λ len w a out w' d. ⊎_elim (λ x. x.0) (λ x. x.1) d)
+    (either_way IsQuiet (nat_le (image_ms c.pace c.manifest (length taken)) (passed + ms)) _ _ (λ len w a out w' d. ⊎_elim (λ x. x.0) (λ x. x.1) d)
     (λ len w a out w' d. d.0))
 time_quiet c st ms = λ len w a out w' d. d.0
 
@@ -132,10 +133,11 @@ decided p q m block body d w same sound stage decides fits =
 
 -- So is what is decided on a time.
 pub decided_time : (p : ProfileRead) (ms : ℕ) (m : DeviceState) (block : List ℕ) (d : Decision) (w : DeviceView) → profile_in p ≡ profile w
-    → w.stage ≡ stage_of m (spare_of w.slots) block → DecidesTime p m ms d
+    → IsTrue (is_sound m (length block) w.slots) → w.stage ≡ stage_of m (spare_of w.slots) block → DecidesTime p m (length block) ms d
     → plan_of (profile w) (image_of w.slots) (spare_of w.slots) block [] d ≡ time_plan (profile w) w.stage ms
-decided_time p ms m block d w same stage decides =
+decided_time p ms m block d w same sound stage decides =
     let image = image_of w.slots in
     let spare = spare_of w.slots in
-    subst (λ (c : Profile). plan_of c image spare block [] d ≡ time_plan c (stage_of m spare block) ms) same (decides image spare block)
+    subst (λ (c : Profile). plan_of c image spare block [] d ≡ time_plan c (stage_of m spare block) ms) same
+    (decides image spare block (holds_time m block w.slots sound))
     ∙ ap (λ (st : Stage). time_plan (profile w) st ms) (sym stage)

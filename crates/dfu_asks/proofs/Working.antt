@@ -30,6 +30,7 @@ use Rattle.dfu_asks.specs.Jobs.{held_place, job_writes}
 use Rattle.dfu_asks.specs.Due.{Works, Fails}
 use Rattle.dfu_asks.specs.Asks.{IsBlockJob, IsCommitJob, IsDue, capped, is_block, done_mode, failed_mode, IsAnswered}
 use Rattle.dfu_asks.proofs.Rows.{block_written, block_broken, commit_done, commit_off}
+use Rattle.dfu_device.specs.Decision.{HoldsTime}
 
 -- A block that is due has bytes, and there is room for them after what was put.
 pub record IsNext (s : SlotsState) (n b : ℕ) : Type 0 where
@@ -257,21 +258,26 @@ module _ (c : Setting) (w : Grain) (b held : List ℕ) (end : ℕ) (j : SlotWrit
   works (device_state.DownloadSync n number) asked sound due all a out says =
       block_ends (device_state.DownloadSync n number) (device_state.DownloadIdle (capped n (length b)) number) n number
       (λ taken. InDownloadIdle taken number) _ (inr refl) (λ spare. refl) (next_in n (length b) s sound) due.1 all
-      (subst (λ (x : Option ℕ). IsAnswered c (device_state.DownloadIdle (capped n (length b)) number) x a out) due.0 says 0 [] [])
+      ((subst (λ (x : Option ℕ). IsAnswered c (device_state.DownloadIdle (capped n (length b)) number) x a out) due.0 says).1 0 [] [] tt)
   works (device_state.DownloadBusy n number passed) asked sound due all a out says =
       block_ends (device_state.DownloadBusy n number passed) (device_state.DownloadSyncWritten (capped n (length b)) number) n number
       (λ taken. InDownloadSyncWritten taken number) _ (inl refl) (λ spare. refl) (next_in n (length b) s sound) due.1 all
-      (subst (λ (x : Option ℕ). IsAnswered c (device_state.DownloadSyncWritten (capped n (length b)) number) x a out) due.0 says 0 [] [])
+      ((subst (λ (x : Option ℕ). IsAnswered c (device_state.DownloadSyncWritten (capped n (length b)) number) x a out) due.0 says).1 0 [] [] tt)
   works (device_state.ManifestSync n) asked sound due all a out says =
       commit_ends (device_state.ManifestSync n) device_state.DfuIdle n InDfuIdle _ refl refl (idle_sound at_rest)
       (commit_left n (all_in n s sound) due.1 all)
-      (subst (λ (x : Option ℕ). IsAnswered c device_state.DfuIdle x a out) due.0 says 0 [] [])
+      ((subst (λ (x : Option ℕ). IsAnswered c device_state.DfuIdle x a out) due.0 says).1 0 [] [] tt)
   works (device_state.Manifest n passed) asked sound due all a out says =
       tolerant c.functional.tolerant (commit_left n (all_in n s sound) due.1 all)
-      (subst (λ (x : Option ℕ). IsAnswered c (done_mode c (device_state.Manifest n passed) (length b)) x a out) due.0 says 0 [] [])
+      (let said = subst (λ (x : Option ℕ). IsAnswered c (done_mode c (device_state.Manifest n passed) (length b)) x a out) due.0 says in
+      said.1 0 [] [] (no_time c.functional.tolerant said.0))
     where
       next_mode : Bool → DeviceState
       next_mode t = if t then device_state.ManifestSyncComplete else device_state.ManifestWaitReset
+
+      no_time : (t : Bool) (k : ℕ) → HoldsTime (next_mode t) k [] []
+      no_time true k = tt
+      no_time false k = tt
 
       next_stage : Bool → Stage
       next_stage t = if t then InManifestSyncComplete else InManifestWaitReset
@@ -319,18 +325,18 @@ module _ (c : Setting) (w : Grain) (b held : List ℕ) (end : ℕ) (j : SlotWrit
       (Fails fault len (shows c s d b) a out (shows c at_rest (failed_mode fault d) b))
   fails fault (device_state.DownloadSync n number) asked sound due all a out says =
       block_fails fault (device_state.DownloadSync n number) n _
-      (subst (λ (x : Option ℕ). IsAnswered c (device_state.Error (write_code fault)) x a out) due.0 says 0 [] [])
+      ((subst (λ (x : Option ℕ). IsAnswered c (device_state.Error (write_code fault)) x a out) due.0 says).1 0 [] [] tt)
       (block_off fault n (next_in n (length b) s sound) due.1 all)
   fails fault (device_state.DownloadBusy n number passed) asked sound due all a out says =
       block_fails fault (device_state.DownloadBusy n number passed) n _
-      (subst (λ (x : Option ℕ). IsAnswered c (device_state.Error (write_code fault)) x a out) due.0 says 0 [] [])
+      ((subst (λ (x : Option ℕ). IsAnswered c (device_state.Error (write_code fault)) x a out) due.0 says).1 0 [] [] tt)
       (block_off fault n (next_in n (length b) s sound) due.1 all)
   fails fault (device_state.ManifestSync n) asked sound due all a out says =
       commit_fails fault (device_state.ManifestSync n) n _ refl
-      (subst (λ (x : Option ℕ). IsAnswered c (device_state.Error (commit_code fault)) x a out) due.0 says 0 [] [])
+      ((subst (λ (x : Option ℕ). IsAnswered c (device_state.Error (commit_code fault)) x a out) due.0 says).1 0 [] [] tt)
       (commit_broke fault n (all_in n s sound) due.1 all)
   fails fault (device_state.Manifest n passed) asked sound due all a out says =
       commit_fails fault (device_state.Manifest n passed) n _ refl
-      (subst (λ (x : Option ℕ). IsAnswered c (device_state.Error (commit_code fault)) x a out) due.0 says 0 [] [])
+      ((subst (λ (x : Option ℕ). IsAnswered c (device_state.Error (commit_code fault)) x a out) due.0 says).1 0 [] [] tt)
       (commit_broke fault n (all_in n s sound) due.1 all)
   fails fault d asked sound due all a out says = absurd due

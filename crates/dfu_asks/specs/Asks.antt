@@ -18,7 +18,7 @@ use Rattle.dfu_device.specs.Parts.{shows, stage_of, is_sound}
 use Rattle.dfu_device.specs.DeviceView.{DeviceView, profile_of}
 use Rattle.dfu_device.specs.declared.decision.Reply.{Reply as ReplyRead}
 use Rattle.dfu_device.specs.declared.decision.Reply.TheVariants as reply
-use Rattle.dfu_device.specs.Decision.{reply_in}
+use Rattle.dfu_device.specs.Decision.{reply_in, HoldsTime}
 use Rattle.dfu_device.specs.Table.{write_code, commit_code}
 use Rattle.dfu_asks.specs.declared.pending_writes.SlotWrite.{SlotWrite}
 use Rattle.dfu_asks.specs.declared.pending_writes.SlotWrite.TheVariants as slot_write
@@ -138,15 +138,15 @@ pub record NotesAfter (m : DeviceState) (flash : List ℕ) (a a' : LentAsking) :
   pub of_block : is_block m ≡ true → a'.noted ≡ a.noted
   pub of_commit : is_block m ≡ false → HasImage (mapped (grain_in a') flash) → IsNoted a'.noted (mapped (grain_in a') flash)
 
--- What is replied by a device that is set up like this, in this mode, if so many bytes are asked for.
-abbrev pub IsReply : Setting → DeviceState → ReplyRead → (asked : ℕ) → Answer → List ℕ → Type 0
-IsReply c m r asked a out = (room : ℕ) (spare block : List ℕ)
+-- What is replied by a device that is set up like this, in this mode with a block of n bytes, if so many bytes are asked for.
+abbrev pub IsReply : Setting → DeviceState → (n : ℕ) → ReplyRead → (asked : ℕ) → Answer → List ℕ → Type 0
+IsReply c m n r asked a out = (room : ℕ) (spare block : List ℕ) → HoldsTime m n spare block
     → Answers asked (reply_in (profile_of c room) (stage_of m spare block) r) a out
 
--- What is answered in this mode at the end of a row: the status, if a GETSTATUS asked for so many bytes of it.
+-- What is answered in this mode at the end of a row, in which no time is said: the status, if a GETSTATUS asked for so many bytes of it.
 abbrev pub IsAnswered : Setting → DeviceState → Option ℕ → Answer → List ℕ → Type 0
-IsAnswered c m None a out = IsReply c m reply.Ack 0 a out
-IsAnswered c m (Some len) a out = IsReply c m reply.Status len a out
+IsAnswered c m None a out = (n : ℕ) × IsReply c m n reply.Ack 0 a out
+IsAnswered c m (Some len) a out = (n : ℕ) × IsReply c m n reply.Status len a out
 
 -- The bytes of an answer, at most six, are at the front of a buffer.
 pub record GivesAnswer (Says : Answer → List ℕ → Type 0) (a : Answer) (count : ℕ) (out out' : List ℕ) : Type 0 where

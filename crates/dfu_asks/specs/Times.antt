@@ -3,15 +3,16 @@ use Rattle.std.specs.Prelude.{◌≡◌, ◌≢◌, ◌-◌, ◌<◌, ◌≤◌,
 use Rattle.dfu_device.specs.declared.device_state.DeviceState.{DeviceState}
 use Rattle.dfu_device.specs.declared.device_state.DeviceState.TheVariants as device_state
 use Rattle.dfu_device.specs.Stage.{state_of}
+use Rattle.dfu_device.specs.Pace.{block_ms, image_ms}
 use Rattle.dfu_device.specs.Setting.{Setting}
 use Rattle.dfu_device.specs.DeviceView.{DeviceView}
 
--- In how many milliseconds the state of this mode changes; 0 if no time changes it.
-abbrev pub due_of : Setting → DeviceState → ℕ
-due_of s (device_state.AppDetach timer passed) = if s.functional.will_detach then 1 else max 1 (timer - passed)
-due_of s (device_state.DownloadBusy written number passed) = max 1 (s.busy_ms - passed)
-due_of s (device_state.Manifest written passed) = max 1 (s.manifest_ms - passed)
-due_of s m = 0
+-- In how many milliseconds the state of this mode changes, with a block of n bytes; 0 if no time changes it.
+abbrev pub due_of : Setting → DeviceState → (n : ℕ) → ℕ
+due_of s (device_state.AppDetach timer passed) n = if s.functional.will_detach then 1 else max 1 (timer - passed)
+due_of s (device_state.DownloadBusy written number passed) n = max 1 (block_ms s.pace s.busy_ms written n - passed)
+due_of s (device_state.Manifest written passed) n = max 1 (image_ms s.pace s.manifest_ms written - passed)
+due_of s m n = 0
 
 -- So many milliseconds leave the state as it is before a change is due, and change it from then on; if none is due they change nothing.
 pub record ChangesOnceDue (due ms : ℕ) (d d' : DeviceView) : Type 0 where

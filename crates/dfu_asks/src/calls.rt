@@ -184,7 +184,7 @@ impl Asking {
         }
         let (medium, view) = self.see(block.len(), flash)?;
         let profile = self.config.profile(u64::from(view.room));
-        let decision = decide_time(&profile, self.mode, ms);
+        let decision = decide_time(&profile, self.mode, self.block_len, ms);
         let mut out = [0; 6];
         Ok(self.carry_out(decision, None, &[], block, held, &medium, &view, &mut out))
     }

@@ -67,13 +67,14 @@ impl Asking {
         out: &mut [u8],
     ) -> (Answer, usize)
         requires { 6 ≤ length out.old }
-        ensures { GivesAnswer (λ x sent. IsReply self.now.config self.now.mode reply asked x sent) result.0 result.1 out.old out.new }
+        ensures { GivesAnswer (λ x sent. IsReply self.now.config self.now.mode self.now.block_len reply asked x sent)
+            result.0 result.1 out.old out.new }
     {
         match reply {
             dfu_device::Reply::Ack => (Answer::Ack, 0),
             dfu_device::Reply::Stall => (Answer::Stall, 0),
             dfu_device::Reply::Status => {
-                let bytes = status_in(&self.config, self.mode);
+                let bytes = status_in(&self.config, self.mode, self.block_len);
                 (Answer::Bytes, put_front(&bytes, asked, out))
             }
             dfu_device::Reply::State => {

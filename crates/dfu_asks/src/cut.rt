@@ -104,7 +104,7 @@ fn sides_of<'a>(cut: &'a Cut<'_>, gate: &'a [u8; 1]) -> (&'a [u8], &'a [u8])
 }
 
 /// The bytes of a piece, if this is an open gate.
-pub(crate) fn runs_of<'a>(cut: &'a Cut<'_>, gate: &'a [u8; 1]) -> Runs<'a>
+fn runs_of<'a>(cut: &'a Cut<'_>, gate: &'a [u8; 1]) -> Runs<'a>
     requires cut { (sector : ℕ) × IsCut sector cut.now }
     requires gate { gate.now ≡ OPEN ∷ [] }
     ensures bytes { run_bytes result ≡ (step_of cut.now).write.bytes }

@@ -4,10 +4,11 @@ ghost use Rattle.dfu_device.specs.DeviceView.{DeviceView};
 ghost use Rattle.dfu_device.specs.Rows.{Elapses};
 ghost use Rattle.dfu_asks.specs.Asks.{device_in};
 ghost use Rattle.dfu_asks.specs.Lent.{lent};
+ghost use Rattle.dfu_asks.specs.Refused.{IsKeptOn};
 ghost use Rattle.dfu_asks.specs.Times.{due_of, ChangesOnceDue};
 
 use crate::Asking;
-use dfu_device::{Config, DeviceState};
+use dfu_device::{Config, DeviceState, poll_ms};
 
 // How many milliseconds are left, at least 1.
 fn left(limit: u32, passed: u32) -> u32
@@ -16,11 +17,12 @@ fn left(limit: u32, passed: u32) -> u32
     limit.saturating_sub(passed).max(1)
 }
 
-/// In how many milliseconds the state of a device of this configuration in this mode changes, at least 1; None if no time changes it.
-pub fn mode_due(config: &Config, mode: DeviceState) -> Option<u32>
-    ensures some { IfSome result (λ ms. ms ≡ due_of config.now mode) }
+/// In how many milliseconds the state of a device of this configuration in this mode changes, with a block of so many bytes, at least 1;
+/// None if no time changes it.
+pub fn mode_due(config: &Config, mode: DeviceState, block_len: usize) -> Option<u32>
+    ensures some { IfSome result (λ ms. ms ≡ due_of config.now mode block_len) }
     ensures least { IfSome result (λ ms. 0 < ms) }
-    ensures none { IfNone result (due_of config.now mode ≡ 0) }
+    ensures none { IfNone result (due_of config.now mode block_len ≡ 0) }
 {
     match mode {
         DeviceState::AppDetach { timer, passed } => {
@@ -29,8 +31,12 @@ pub fn mode_due(config: &Config, mode: DeviceState) -> Option<u32>
             }
             Some(left(timer, passed))
         }
-        DeviceState::DownloadBusy { passed, .. } => Some(left(config.busy_ms(), passed)),
-        DeviceState::Manifest { passed, .. } => Some(left(config.manifest_ms(), passed)),
+        DeviceState::DownloadBusy { passed, .. } => {
+            Some(left(poll_ms(config, mode, block_len), passed))
+        }
+        DeviceState::Manifest { passed, .. } => {
+            Some(left(poll_ms(config, mode, block_len), passed))
+        }
         _ => None,
     }
 }
@@ -43,13 +49,14 @@ impl Asking {
     /// None if no time changes the device: in every other state.
     pub fn due(&self) -> Option<u32>
         ensures some { IfSome result (λ due. (block held flash : List ℕ) (ms : ℕ) (d' : DeviceView)
-            → Elapses ms (device_in (lent self.now block held) flash) d'
+            → IsKeptOn self.now block held flash → Elapses ms (device_in (lent self.now block held) flash) d'
             → ChangesOnceDue due ms (device_in (lent self.now block held) flash) d') }
         ensures least { IfSome result (λ due. 0 < due) }
         ensures none { IfNone result ((block held flash : List ℕ) (ms : ℕ) (d' : DeviceView)
-            → Elapses ms (device_in (lent self.now block held) flash) d' → d' ≡ device_in (lent self.now block held) flash) }
-        ensures time { IfSome result (λ due. due ≡ due_of self.now.config self.now.mode) }
+            → IsKeptOn self.now block held flash → Elapses ms (device_in (lent self.now block held) flash) d'
+            → d' ≡ device_in (lent self.now block held) flash) }
+        ensures time { IfSome result (λ due. due ≡ due_of self.now.config self.now.mode self.now.block_len) }
     {
-        mode_due(&self.config, self.mode)
+        mode_due(&self.config, self.mode, self.block_len)
     }
 }

@@ -1,18 +1,100 @@
-//! What is noted of the active image, and what a call sees of its flash by it, with no image read.
-ghost use Rattle.std.specs.Prelude.{◌≡◌, ◌≤◌, ◌%◌, ◌↔◌, ℕ, List, length, IsTrue, IfSome, IfNone};
-ghost use Rattle.dfu_slots.specs.Units.{unit_size};
+//! Flash that a device reads as memory, and what is noted of its active image.
+ghost use Rattle.std.specs.Prelude.{◌≡◌, ◌≤◌, ◌%◌, ◌↔◌, ℕ, List, length, IsTrue, IfSome, IfNone, ◌^◌, ◌<◌};
+ghost use Rattle.dfu_slots.specs.Units.{unit_size, in_place};
 ghost use Rattle.dfu_slots.specs.Image.{HasImage};
 ghost use Rattle.dfu_asks.specs.Mapped.{grain_of, mapped};
 ghost use Rattle.dfu_asks.specs.Noted.{IsNoted, NotedStands, IsView};
 ghost use Rattle.dfu_asks.specs.Lent.{HasRoom};
 ghost use Rattle.dfu_asks.specs.Refused.{IsKeptOn, Fits};
 
-use crate::{Asking, Mapped, Sector};
+use crate::{Asking, Sector};
 use dfu_device::{PutSoFar, is_filled};
 use dfu_slots::laws::active_image_is_one;
 use dfu_slots::{
-    Medium, Unit, capacity_of, check, gate_of, header_of, is_open, is_sized, length_in,
+    Failed, Medium, Unit, capacity_of, check, gate_of, header_of, is_open, is_sized, length_in,
 };
+
+/// Flash that is mapped into memory: it is read there, and no write or erase through this works. Its owner writes it, in this unit,
+/// in place or in sectors that it erases before.
+#[derive(Drop)]
+pub struct Mapped<'m> {
+    pub(crate) bytes: &'m [u8],
+    pub(crate) unit: Unit,
+    pub(crate) sector: Sector,
+    ghost short: { length bytes.now < 2 ^ 32 },
+}
+
+impl<'m> Mapped<'m> {
+    /// The medium of these bytes, which is written in place, in this unit; None if they are 2^32 or more.
+    pub fn new(bytes: &'m [u8], unit: Unit) -> Option<Mapped<'m>>
+        ensures some { IfSome result (λ m. mapped (grain_of m.unit m.sector) m.bytes.now ≡ mapped (in_place unit) bytes.now) }
+        ensures none { IfNone result (2 ^ 32 ≤ length bytes.now) }
+    {
+        Mapped::with_sector(bytes, unit, Sector::none())
+    }
+
+    /// The medium of these bytes, which is written in this unit, in sectors of so many bytes that are erased before, or at 0 in place.
+    ///
+    /// None if the sector is neither 0 nor a multiple of 256 up to 131,072, or if there are 2^32 bytes or more.
+    pub fn with_sectors(bytes: &'m [u8], unit: Unit, sector: u32) -> Option<Mapped<'m>>
+        ensures some { IfSome result (λ m. mapped (grain_of m.unit m.sector) m.bytes.now
+            ≡ mapped (record { unit = unit; sector = sector }) bytes.now) }
+        ensures none { IfNone result ((sector % 256 ≡ 0) → (sector ≤ 2 ^ 17) → 2 ^ 32 ≤ length bytes.now) }
+        ensures refused { IfSome result (λ m. (sector % 256 ≡ 0) × (sector ≤ 2 ^ 17)) }
+    {
+        Mapped::with_sector(bytes, unit, Sector::new(sector)?)
+    }
+
+    /// The same, by a sector that is one.
+    pub(crate) fn with_sector(bytes: &'m [u8], unit: Unit, sector: Sector) -> Option<Mapped<'m>>
+        ensures some { IfSome result (λ m. mapped (grain_of m.unit m.sector) m.bytes.now ≡ mapped (grain_of unit sector) bytes.now) }
+        ensures parts { IfSome result (λ m. (m.unit ≡ unit) × (m.sector ≡ sector) × (m.bytes.now ≡ bytes.now)) }
+        ensures none { IfNone result (2 ^ 32 ≤ length bytes.now) }
+    {
+        if bytes.len() > 0xffff_ffff {
+            return None;
+        }
+        Some(Mapped {
+            bytes,
+            unit,
+            sector,
+        })
+    }
+}
+
+impl<'m> Medium for Mapped<'m> {
+    ghost state = { λ m. mapped (grain_of m.unit m.sector) m.bytes.now };
+
+    fn len(&self) -> u32 {
+        self.bytes.len() as u32
+    }
+
+    fn unit(&self) -> Unit {
+        self.unit
+    }
+
+    fn sector(&self) -> u32 {
+        self.sector.size()
+    }
+
+    // A library that goes into a bootloader is to be small.
+    fn has_small_tables(&self) -> bool {
+        true
+    }
+
+    fn read(&self, at: u32, out: &mut [u8]) {
+        let from = at as usize;
+        out.copy_from_slice(&self.bytes[from..from + out.len()]);
+    }
+
+    fn write(&mut self, _at: u32, _bytes: &[u8]) -> Result<(), Failed> {
+        Err(Failed)
+    }
+
+    fn erase(&mut self, _at: u32) -> Result<(), Failed> {
+        Err(Failed)
+    }
+}
 
 /// What is noted of the active image: which slot has it, and that slot's header as it was. A call that finds it there reads no image.
 #[derive(Clone, Copy, Drop)]

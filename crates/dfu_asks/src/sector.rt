@@ -1,10 +1,8 @@
-//! Flash that a device reads as memory, the sectors in which it is erased, and how far a write has come with the erases before it.
-ghost use Rattle.std.specs.Prelude.{◌≡◌, ◌+◌, ◌%◌, ◌^◌, ◌≤◌, ◌<◌, IfSome, IfNone, length};
+//! The sectors of a flash, and how far a write has come with the erases before it.
+ghost use Rattle.std.specs.Prelude.{◌≡◌, ◌+◌, ◌%◌, ◌^◌, ◌≤◌, ◌<◌, IfSome, IfNone};
 ghost use Rattle.dfu_asks.specs.Position.{LeadsToErase, LeadsTo, LeadsInto};
-ghost use Rattle.dfu_slots.specs.Units.{in_place};
-ghost use Rattle.dfu_asks.specs.Mapped.{grain_of, mapped};
 
-use dfu_slots::{Failed, MAX_SECTOR, Medium, PAGE, Unit};
+use dfu_slots::{MAX_SECTOR, PAGE};
 
 /// How many bytes of flash are erased at a time: 0 if it is written over in place, else a multiple of 256 up to 131,072.
 #[derive(Clone, Copy, Drop)]
@@ -137,87 +135,5 @@ pub(crate) fn locate(sector: Sector, at: u64, len: usize, done: usize) -> Positi
     match locate_erase(size, at, len, done) {
         Position::Behind { rest } => locate_write(len, rest),
         found => found,
-    }
-}
-
-/// Flash that is mapped into memory: it is read there, and no write or erase through this works. Its owner writes it, in this unit,
-/// in place or in sectors that it erases before.
-#[derive(Drop)]
-pub struct Mapped<'m> {
-    pub(crate) bytes: &'m [u8],
-    pub(crate) unit: Unit,
-    pub(crate) sector: Sector,
-    ghost short: { length bytes.now < 2 ^ 32 },
-}
-
-impl<'m> Mapped<'m> {
-    /// The medium of these bytes, which is written in place, in this unit; None if they are 2^32 or more.
-    pub fn new(bytes: &'m [u8], unit: Unit) -> Option<Mapped<'m>>
-        ensures some { IfSome result (λ m. mapped (grain_of m.unit m.sector) m.bytes.now ≡ mapped (in_place unit) bytes.now) }
-        ensures none { IfNone result (2 ^ 32 ≤ length bytes.now) }
-    {
-        Mapped::with_sector(bytes, unit, Sector::none())
-    }
-
-    /// The medium of these bytes, which is written in this unit, in sectors of so many bytes that are erased before, or at 0 in place.
-    ///
-    /// None if the sector is neither 0 nor a multiple of 256 up to 131,072, or if there are 2^32 bytes or more.
-    pub fn with_sectors(bytes: &'m [u8], unit: Unit, sector: u32) -> Option<Mapped<'m>>
-        ensures some { IfSome result (λ m. mapped (grain_of m.unit m.sector) m.bytes.now
-            ≡ mapped (record { unit = unit; sector = sector }) bytes.now) }
-        ensures none { IfNone result ((sector % 256 ≡ 0) → (sector ≤ 2 ^ 17) → 2 ^ 32 ≤ length bytes.now) }
-        ensures refused { IfSome result (λ m. (sector % 256 ≡ 0) × (sector ≤ 2 ^ 17)) }
-    {
-        Mapped::with_sector(bytes, unit, Sector::new(sector)?)
-    }
-
-    /// The same, by a sector that is one.
-    pub(crate) fn with_sector(bytes: &'m [u8], unit: Unit, sector: Sector) -> Option<Mapped<'m>>
-        ensures some { IfSome result (λ m. mapped (grain_of m.unit m.sector) m.bytes.now ≡ mapped (grain_of unit sector) bytes.now) }
-        ensures parts { IfSome result (λ m. (m.unit ≡ unit) × (m.sector ≡ sector) × (m.bytes.now ≡ bytes.now)) }
-        ensures none { IfNone result (2 ^ 32 ≤ length bytes.now) }
-    {
-        if bytes.len() > 0xffff_ffff {
-            return None;
-        }
-        Some(Mapped {
-            bytes,
-            unit,
-            sector,
-        })
-    }
-}
-
-impl<'m> Medium for Mapped<'m> {
-    ghost state = { λ m. mapped (grain_of m.unit m.sector) m.bytes.now };
-
-    fn len(&self) -> u32 {
-        self.bytes.len() as u32
-    }
-
-    fn unit(&self) -> Unit {
-        self.unit
-    }
-
-    fn sector(&self) -> u32 {
-        self.sector.size()
-    }
-
-    // A library that goes into a bootloader is to be small.
-    fn has_small_tables(&self) -> bool {
-        true
-    }
-
-    fn read(&self, at: u32, out: &mut [u8]) {
-        let from = at as usize;
-        out.copy_from_slice(&self.bytes[from..from + out.len()]);
-    }
-
-    fn write(&mut self, _at: u32, _bytes: &[u8]) -> Result<(), Failed> {
-        Err(Failed)
-    }
-
-    fn erase(&mut self, _at: u32) -> Result<(), Failed> {
-        Err(Failed)
     }
 }

@@ -7,6 +7,10 @@ use Rattle.dfu_slots.specs.Units.{unit_size, Grain}
 use Rattle.dfu_device.specs.Setting.{Setting, IsAllowed}
 use Rattle.dfu_core.specs.declared.config.DfuConfig.{DfuConfig}
 
+-- The unit in which the flash is written, by its size; if no unit has that size, the byte.
+unfoldable pub unit_of : DfuConfig → WriteUnit
+unit_of c = if c.unit == 16 then U16 else if c.unit == 64 then U64 else if c.unit == 256 then U256 else Byte
+
 -- The setting that these numbers are, with version 0110h.
 abbrev pub setting_of : DfuConfig → Setting
 setting_of c = record {
@@ -15,6 +19,7 @@ setting_of c = record {
   least = c.least;
   busy_ms = c.busy_ms;
   manifest_ms = c.manifest_ms;
+  pace = record { erase_ms = c.erase_ms; program_ms = c.program_ms; unit = unit_of c; sector = c.sector };
 }
 
 -- The version of the library, 0.3.0: 10,000 for each major one, 100 for each minor one, and 1 for each patch.
@@ -24,10 +29,6 @@ version = 300
 -- The most bytes of a block.
 abbrev pub transfer_of : DfuConfig → ℕ
 transfer_of c = (setting_of c).functional.transfer
-
--- The unit in which the flash is written, by its size; if no unit has that size, the byte.
-unfoldable pub unit_of : DfuConfig → WriteUnit
-unit_of c = if c.unit == 16 then U16 else if c.unit == 64 then U64 else if c.unit == 256 then U256 else Byte
 
 -- The fewest bytes of the memory of a block: the most of a block, and after them a unit's for those held back.
 abbrev pub block_memory_size : DfuConfig → ℕ

@@ -3,7 +3,7 @@ ghost use Rattle.std.specs.Prelude.{◌≡◌, IfSome, IfNone, OnSome};
 ghost use Rattle.dfu_core.specs.Config.{setting_of, unit_of, IsConfig};
 
 use dfu_asks::Sector;
-use dfu_device::Config;
+use dfu_device::{Config, Pace};
 use dfu_slots::Unit;
 use dfu_wire::{Functional, Ids};
 
@@ -33,9 +33,10 @@ pub struct DfuConfig {
     pub attributes: u8,
     /// bInterfaceNumber: a setup whose wIndex is another number is stalled.
     pub interface: u8,
-    /// How long a block takes to be written, in milliseconds, 0 to 16,777,215.
+    /// How long each block takes beside its erases and programs, in milliseconds, 0 to 16,777,215. With 0 it is written before its status is
+    /// answered, and no time is said.
     pub busy_ms: u32,
-    /// How long an image takes to be put in place, in milliseconds, 0 to 16,777,215; at least 1 without bitManifestationTolerant.
+    /// The same for each image, 0 to 16,777,215; at least 1 without bitManifestationTolerant.
     pub manifest_ms: u32,
     /// The fewest bytes of an image, 1 to 16,777,216.
     pub least: u32,
@@ -43,6 +44,10 @@ pub struct DfuConfig {
     pub unit: u32,
     /// How many bytes it is erased at a time: a multiple of 256 up to 131,072; or 0, and it is written over in place.
     pub sector: u32,
+    /// Milliseconds to erase a sector, which are said for each that a block or an image erases.
+    pub erase_ms: u16,
+    /// Milliseconds to program 256 bytes, which are said in proportion.
+    pub program_ms: u16,
 }
 
 /// What a configuration that is allowed sets up.
@@ -112,8 +117,13 @@ pub fn settings_of(config: &DfuConfig) -> Option<Settings>
         config.busy_ms,
         config.manifest_ms,
     ) {
-        Ok(config) => Some(Settings {
-            config,
+        Ok(found) => Some(Settings {
+            config: found.with_pace(Pace {
+                erase_ms: config.erase_ms,
+                program_ms: config.program_ms,
+                unit,
+                sector: config.sector,
+            }),
             unit,
             sector,
         }),

@@ -4,6 +4,7 @@ use Rattle.dfu_slots.specs.Seen.{SlotsState, spare_of, is_begun, room_of, is_sha
 use Rattle.dfu_device.specs.declared.device_state.DeviceState.{DeviceState}
 use Rattle.dfu_device.specs.declared.device_state.DeviceState.TheVariants as device_state
 use Rattle.dfu_device.specs.Stage.{Stage, InAppIdle, InAppDetach, InDfuIdle, InDownloadSync, InDownloadSyncWritten, InDownloadBusy, InDownloadIdle, InManifestSync, InManifestSyncComplete, InManifest, InManifestWaitReset, InUploadIdle, InError}
+use Rattle.dfu_device.specs.Pace.{block_ms, image_ms}
 use Rattle.dfu_device.specs.Setting.{Setting}
 use Rattle.dfu_device.specs.DeviceView.{DeviceView}
 
@@ -47,3 +48,9 @@ is_filled m block s = true
 -- The parts are a device's, the block having so many bytes.
 abbrev pub is_sound : DeviceState → ℕ → SlotsState → Bool
 is_sound m block s = is_shaped s && is_filled m block s
+
+-- How long a host is to wait in a mode with a block of n bytes.
+abbrev pub mode_ms : Setting → DeviceState → (n : ℕ) → ℕ
+mode_ms s (device_state.DownloadBusy written number passed) n = block_ms s.pace s.busy_ms written n
+mode_ms s (device_state.Manifest written passed) n = image_ms s.pace s.manifest_ms written
+mode_ms s m n = 0

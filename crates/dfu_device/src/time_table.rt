@@ -4,7 +4,7 @@
 ghost use Rattle.std.specs.Prelude.{◌≡◌, ◌+◌, ◌*◌, ◌^◌, ◌≤◌, ◌<◌, ℕ, List};
 ghost use Rattle.dfu_device.specs.Pace.{edges, erases_ms, programs_ms, writes_ms, block_ms, image_ms};
 ghost use Rattle.dfu_device.specs.Stage.{poll_of};
-ghost use Rattle.dfu_device.specs.Parts.{stage_of};
+ghost use Rattle.dfu_device.specs.Parts.{stage_of, mode_ms};
 ghost use Rattle.dfu_device.specs.DeviceView.{profile_of};
 ghost use Rattle.dfu_device.specs.Decision.{IsSilent, DecidesTime, Allows, HoldsTime};
 
@@ -88,6 +88,7 @@ fn image_ms(pace: Pace, base: u32, written: u32) -> u32
 pub fn poll_ms(config: &Config, mode: DeviceState, block_len: usize) -> u32
     ensures value { (room : ℕ) (spare block : List ℕ) → HoldsTime mode block_len spare block
         → result ≡ poll_of (profile_of config.now room) (stage_of mode spare block) }
+    ensures time { result ≡ mode_ms config.now mode block_len }
     ensures fits { result < 2 ^ 24 }
 {
     match mode {

@@ -1,5 +1,5 @@
 -- What is said of the devices of a setting in a mode is said of each device that a record is.
-use Rattle.std.proofs.Common.{◌≡◌, ◌⊎◌, inl, inr, min, Bool, true, false, ℕ, ℤ, pos, List, sym, ◌∙◌, refl, subst}
+use Rattle.std.proofs.Common.{◌≡◌, ◌⊎◌, inl, inr, min, Bool, true, false, ℕ, ℤ, pos, List, sym, ◌∙◌, refl, subst, length, arith}
 use Rattle.dfu_slots.specs.declared.layout.Unit.{Unit as WriteUnit}
 use Rattle.dfu_slots.specs.Seen.{spare_of}
 use Rattle.dfu_device.specs.declared.device_state.DeviceState.{DeviceState}
@@ -16,9 +16,12 @@ use Rattle.dfu_asks.proofs.DueTimes.{time_due}
 use Rattle.dfu_core.specs.declared.config.DfuConfig.{DfuConfig}
 use Rattle.dfu_core.specs.declared.record.DfuRecord.{DfuRecord}
 use Rattle.dfu_core.specs.Due.{LATEST, ToldDue}
-use Rattle.dfu_core.specs.Kept.{IsKept, IsSetUp, with_memory}
+use Rattle.dfu_core.specs.Kept.{IsKept, IsSetUp, with_memory, block_in}
 use Rattle.dfu_core.specs.Mode.{HasMode}
 use Rattle.dfu_core.specs.Numbers.{told_number}
+use Rattle.std.proofs.lemmas.List.{length-take}
+use Rattle.dfu_device.specs.Decision.{HoldsTime}
+use Rattle.dfu_device.proofs.Carried.{holds_time}
 
 -- A yes or a no has one of two numbers.
 pub two : (said : Bool) (n : ℤ) → n ≡ told_number said → (n ≡ pos 0) ⊎ (n ≡ pos 1)
@@ -45,15 +48,18 @@ module _ (c : DfuConfig) (r : DfuRecord) {config : Setting} {unit : WriteUnit} {
 
 -- A change of its state is due when it is said to be.
 pub told_due : (c : DfuConfig) (r : DfuRecord) {config : Setting} {unit : WriteUnit} {sector : Sector} (m : DeviceState) (result : ℤ)
-    → IsSetUp c config unit sector → ((x : DeviceState) → HasMode r x → m ≡ x) → result ≡ pos (min LATEST (due_of config m))
+    → IsSetUp c config unit sector → ((x : DeviceState) → HasMode r x → m ≡ x) → result ≡ pos (min LATEST (due_of config m r.length))
     → ToldDue c r result
 told_due c r {config = config} m result set_up the_mode says = record {
-  due = due_of config m;
+  due = due_of config m r.length;
   number_is = says;
-  told = λ block flash a kept device ms d' went.
-      let l : LentAsking = with_memory block a in
+  told = λ memory flash a kept on ms d' went.
+      let l : LentAsking = with_memory memory a in
       let d : DeviceView = device_in l flash in
-      let in_mode : IsDeviceIn config m l flash = kept_in c r m set_up the_mode block flash a kept device in
-      subst (λ (k : ℕ). ChangesOnceDue k ms d d') (λ i. due_of (in_mode.config_is i) (in_mode.mode_is i))
-      (time_due ms d d' l.mode (spare_of (store_in l flash)) l.block refl went);
+      let s = store_in l flash in
+      let in_mode : IsDeviceIn config m l flash = kept_in c r m set_up the_mode memory flash a kept on.is in
+      let whole : length l.block ≡ a.block_len = omega (arith, length-take a.block_len (block_in a memory), on.fits.block) in
+      subst (λ (k : ℕ). ChangesOnceDue k ms d d') (λ i. due_of (in_mode.config_is i) (in_mode.mode_is i) (kept.block i))
+      (time_due ms d d' l.mode a.block_len (spare_of s) l.block
+      (subst (λ (n : ℕ). HoldsTime l.mode n (spare_of s) l.block) whole (holds_time l.mode l.block s on.is.sound)) refl went);
 }

@@ -143,5 +143,6 @@ pub extern "C" fn dfu_core_due(config: &DfuConfig, device: &DfuRecord) -> i32
         Ok(found) => found,
         Err(refusal) => return refusal.number(),
     };
-    due_number(mode_due(&settings.config, mode))
+    let block_len = usize::from(device.length);
+    due_number(mode_due(&settings.config, mode, block_len))
 }

@@ -11,6 +11,7 @@ use Rattle.dfu_slots.specs.Seen.{image_of, format_series}
 use Rattle.dfu_device.specs.declared.objection.Objection.TheVariants.{File as FailsCheck}
 use Rattle.dfu_device.specs.Candidate.{candidate_in}
 use Rattle.dfu_device.specs.Stage.{InAppIdle}
+use Rattle.dfu_device.specs.Pace.{no_pace}
 use Rattle.dfu_device.specs.Setting.{Setting, IsAllowed, of_this_version}
 use Rattle.dfu_device.specs.DeviceView.{DeviceView}
 use Rattle.dfu_sim.specs.LinkView.{Nobody, LinkView, ShowsActive}
@@ -45,6 +46,7 @@ beginning given = record {
     least = 1;
     busy_ms = 5;
     manifest_ms = 10;
+    pace = no_pace;
   };
   grain = in_place Byte;
   capacity = 64;

@@ -1,5 +1,6 @@
 -- Which facts stay as the host polls and as time passes.
-use Rattle.std.proofs.Common.{◌≡◌, ℕ, suc, ◌+◌, ◌==◌, nat_le, List}
+use Rattle.std.proofs.Common.{◌≡◌, ℕ, suc, ◌+◌, ◌==◌, nat_le, List, length}
+use Rattle.dfu_device.specs.Pace.{block_ms, image_ms}
 use Rattle.dfu_device.specs.Stage.{Request, GetStatus, GetState, Ack, Profile, Stage, InAppIdle, InDfuIdle, InDownloadSync, InDownloadBusy, InDownloadIdle, InManifestSync, InManifestSyncComplete, InManifest, InManifestWaitReset}
 use Rattle.dfu_device.specs.Table.{Plan, Commits, plan, time_plan}
 use Rattle.dfu_device.specs.Outcome.{Situation, Luck, Works, FailsOld, FailsNew, outcome}
@@ -26,7 +27,7 @@ module _ (c : Profile) (i : List ℕ) where
   holds_time x ms (InDownloadBusy before block number passed) h =
       let F : Plan → Type 0 = Then (λ s. BlockIn x s.stage) in
       either_way F (ms == 0) _ _ (λ luck. h)
-      (either_way F (nat_le c.busy (passed + ms)) _ _ (elim [ Works ↦ h | FailsOld fault ↦ tt | FailsNew fault ↦ tt ]) (λ luck. h))
+      (either_way F (nat_le (block_ms c.pace c.busy (length before) (length block)) (passed + ms)) _ _ (elim [ Works ↦ h | FailsOld fault ↦ tt | FailsNew fault ↦ tt ]) (λ luck. h))
   holds_time x ms stage h = λ luck. search
 
   managing_status : (p : List ℕ) (stage : Stage) → Managing p i stage → Then (λ s. Managing p s.image s.stage) (plan c i stage GetStatus)
@@ -40,7 +41,7 @@ module _ (c : Profile) (i : List ℕ) where
   managing_time p ms (InManifest taken passed) h =
       let F : Plan → Type 0 = Then (λ s. Managing p s.image s.stage) in
       either_way F (ms == 0) _ _ (λ luck. h)
-      (either_way F (nat_le c.manifest (passed + ms)) _ _
+      (either_way F (nat_le (image_ms c.pace c.manifest (length taken)) (passed + ms)) _ _
       (either_way (λ st. F (Commits taken Ack st (λ fault. Ack))) c.tolerant InManifestSyncComplete InManifestWaitReset
       (elim [ Works ↦ h | FailsOld fault ↦ tt | FailsNew fault ↦ tt ])
       (elim [ Works ↦ h | FailsOld fault ↦ tt | FailsNew fault ↦ tt ]))

@@ -1,5 +1,6 @@
 -- Time that passes between the actions of a host.
-use Rattle.std.proofs.Common.{◌≡◌, ℕ, ◌+◌, ◌==◌, nat_le, max, List, None, refl}
+use Rattle.std.proofs.Common.{◌≡◌, ℕ, ◌+◌, ◌==◌, nat_le, max, List, None, refl, length}
+use Rattle.dfu_device.specs.Pace.{block_ms, image_ms}
 use Rattle.dfu_device.specs.Stage.{Ack, Profile, Stage, InAppDetach, InDfuIdle, InDownloadBusy, InManifestSyncComplete, InManifest, InManifestWaitReset, InUploadIdle}
 use Rattle.dfu_device.specs.Table.{Plan, Commits, time_plan}
 use Rattle.dfu_device.specs.Outcome.{Situation, Works, outcome, elapsed}
@@ -32,11 +33,11 @@ module _ (c : Profile) (offers : List (List ℕ)) where
       (either_way P (nat_le (max 1 timer) (passed + ms)) _ _ (passes, tt) (passes, tt)))
   time_steps i ms (InDownloadBusy before block number passed) live up h =
       let P : Plan → Type 0 = Steps i (InDownloadBusy before block number passed) live up in
-      either_way P (ms == 0) _ _ (passes, tt) (either_way P (nat_le c.busy (passed + ms)) _ _ (passes, tt) (passes, tt))
+      either_way P (ms == 0) _ _ (passes, tt) (either_way P (nat_le (block_ms c.pace c.busy (length before) (length block)) (passed + ms)) _ _ (passes, tt) (passes, tt))
   time_steps i ms (InManifest taken passed) live up h =
       let P : Plan → Type 0 = Steps i (InManifest taken passed) live up in
       either_way P (ms == 0) _ _ (passes, h)
-      (either_way P (nat_le c.manifest (passed + ms)) _ _
+      (either_way P (nat_le (image_ms c.pace c.manifest (length taken)) (passed + ms)) _ _
       (either_way (λ st. P (Commits taken Ack st (λ fault. Ack))) c.tolerant InManifestSyncComplete InManifestWaitReset
       (passes_installed refl h, tt)
       (passes_installed refl h, tt))

@@ -1,5 +1,6 @@
 -- An image is put in place only if it waited for that before: over the tables of a link.
 use Rattle.std.proofs.Common.{◌⊎◌, inl, inr, ℕ, ◌+◌, ◌==◌, nat_lt, nat_le, max, not, List, [], ◌∷◌, length, take, drop, Option, Some, None, refl}
+use Rattle.dfu_device.specs.Pace.{block_ms, image_ms}
 use Rattle.dfu_device.specs.declared.objection.Objection.{Objection}
 use Rattle.dfu_device.specs.Stage.{Request, Dnload, Upload, GetStatus, ClrStatus, GetState, Ack, Profile, Stage, InAppDetach, InDfuIdle, InDownloadSync, InDownloadBusy, InDownloadIdle, InManifestSync, InManifestSyncComplete, InManifest, InManifestWaitReset, InUploadIdle, InError}
 use Rattle.dfu_device.specs.Table.{Plan, Sure, Writes, Commits, has_no_bytes, error, objection_code, block_plan, further_plan, upload_plan, plan, time_plan}
@@ -103,11 +104,11 @@ time_leads c (InAppDetach timer passed) ms =
     (either_way P c.will_detach _ _ tt (either_way P (nat_le (max 1 timer) (passed + ms)) _ _ tt tt))
 time_leads c (InDownloadBusy before block number passed) ms =
     let P : Plan → Type 0 = TimeLeads (InDownloadBusy before block number passed) in
-    either_way P (ms == 0) _ _ tt (either_way P (nat_le c.busy (passed + ms)) _ _ tt tt)
+    either_way P (ms == 0) _ _ tt (either_way P (nat_le (block_ms c.pace c.busy (length before) (length block)) (passed + ms)) _ _ tt tt)
 time_leads c (InManifest taken passed) ms =
     let P : Plan → Type 0 = TimeLeads (InManifest taken passed) in
     either_way P (ms == 0) _ _ tt
-    (either_way P (nat_le c.manifest (passed + ms)) _ _
+    (either_way P (nat_le (image_ms c.pace c.manifest (length taken)) (passed + ms)) _ _
     (either_way (λ (next : Stage). P (Commits taken Ack next (λ fault. Ack))) c.tolerant InManifestSyncComplete InManifestWaitReset
     (refl, tt, λ x. x) (refl, tt, λ x. x))
     tt)

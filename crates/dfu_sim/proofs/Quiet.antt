@@ -1,6 +1,7 @@
 -- What the device does when no block is sent to it.
-use Rattle.std.proofs.Common.{◌≡◌, ℕ, ◌+◌, ◌==◌, nat_le, max, List, ◌++◌, Option, Some, None, refl, sym, ◌∙◌, subst}
+use Rattle.std.proofs.Common.{◌≡◌, ℕ, ◌+◌, ◌==◌, nat_le, max, List, ◌++◌, Option, Some, None, refl, sym, ◌∙◌, subst, length}
 use Rattle.dfu_slots.specs.declared.fault.WriteFault.{WriteFault}
+use Rattle.dfu_device.specs.Pace.{block_ms, image_ms}
 use Rattle.dfu_device.specs.Stage.{Request, Dnload, Upload, GetStatus, GetState, OtherRequest, Reply, Ack, Profile, Stage, InAppIdle, InAppDetach, InDfuIdle, InDownloadSync, InDownloadSyncWritten, InDownloadBusy, InDownloadIdle, InManifestSync, InManifestSyncComplete, InManifest, InManifestWaitReset}
 use Rattle.dfu_device.specs.Table.{Plan, Writes, Commits, plan, time_plan}
 use Rattle.dfu_device.specs.Outcome.{Situation, Luck, Works, FailsOld, FailsNew, outcome, was_reset}
@@ -106,14 +107,14 @@ module _ (c : Profile) (offers : List (List ℕ)) (i : List ℕ) where
       let s = InDownloadBusy before block number passed in
       let P : Plan → Type 0 = λ p. IsQuiet offers (At s) (outcome i p luck).after in
       either_way P (ms == 0) _ _ (record { moves = stays; sound = tt })
-      (either_way P (nat_le c.busy (passed + ms)) _ _
+      (either_way P (nat_le (block_ms c.pace c.busy (length before) (length block)) (passed + ms)) _ _
       (quiet_writing s before block _ _ number (InDownloadSyncWritten (before ++ block) number) refl refl tt luck)
       (record { moves = stays; sound = tt }))
   quiet_time ms (InManifest taken passed) h luck =
       let s = InManifest taken passed in
       let P : Plan → Type 0 = λ p. IsQuiet offers (At s) (outcome i p luck).after in
       either_way P (ms == 0) _ _ (record { moves = stays; sound = h })
-      (either_way P (nat_le c.manifest (passed + ms)) _ _
+      (either_way P (nat_le (image_ms c.pace c.manifest (length taken)) (passed + ms)) _ _
       (either_way (λ st. IsQuiet offers (At s) (outcome i (Commits taken Ack st (λ fault. Ack)) luck).after) c.tolerant
       InManifestSyncComplete
       InManifestWaitReset

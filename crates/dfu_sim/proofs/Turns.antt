@@ -1,8 +1,9 @@
 -- The phases of a clean download: each block taken and written, the close, and the image put in place.
-use Rattle.std.proofs.Common.{◌≡◌, ℕ, zero, suc, ◌+◌, ◌*◌, ◌%◌, ◌<◌, ◌≤◌, ◌==◌, nat_lt, nat_le, Bool, true, false, cond, List, [], ◌++◌, length, slice_index_or, refl, sym, ap, ◌∙◌, subst, arith}
+use Rattle.std.proofs.Common.{◌≡◌, ℕ, zero, suc, ◌+◌, ◌*◌, ◌%◌, ◌<◌, ◌≤◌, ◌-◌, ◌^◌, ◌==◌, min, nat_lt, nat_le, Bool, true, false, cond, List, [], ◌++◌, length, slice_index_or, refl, sym, ap, ◌∙◌, subst, arith}
 use Rattle.std.proofs.lemmas.Bool.Decides.{nat_tests}
 use Rattle.dfu_wire.specs.declared.codes.Code.TheVariants.{Ok as NoFault}
 use Rattle.dfu_wire.specs.declared.states.State.TheVariants.{DfuIdle, DownloadBusy, DownloadIdle, Manifest as Manifesting}
+use Rattle.dfu_device.specs.Pace.{block_ms, image_ms}
 use Rattle.dfu_device.specs.Stage.{Ack, Profile, Stage, InAppIdle, InDfuIdle, InDownloadSync, InDownloadSyncWritten, InDownloadBusy, InDownloadIdle, InManifestSync, InManifestSyncComplete, InManifest}
 use Rattle.dfu_device.specs.Table.{Plan, Sure, Writes, Commits, time_plan, block_plan, first_plan, further_plan, has_no_bytes, next_number}
 use Rattle.dfu_device.specs.Outcome.{Works, outcome}
@@ -27,6 +28,17 @@ module _ (c : Profile) (p : List ℕ) (again : ℕ) where
   pub find_idle : (i : List ℕ) → GoesWell i InDfuIdle Find 1 i InDfuIdle (Block 0)
   find_idle i = one c (ToLoad p) again (λ l k room. refl)
 
+  -- How long a host waits for a block after these bytes, and for an image.
+  abbrev wait : (before body : List ℕ) → ℕ
+  wait before body = block_ms c.pace c.busy (length before) (length body)
+
+  abbrev image_wait : List ℕ → ℕ
+  image_wait taken = image_ms c.pace c.manifest (length taken)
+
+  -- A time to which something is added is some.
+  some_time : (base erases programs : ℕ) → (base == 0) ≡ false → (min (base + erases + programs) (2 ^ 24 - 1) == 0) ≡ false
+  some_time base erases programs f = grind (arith, nat_tests)
+
   -- What a wait comes to, by the plan of its time.
   waits : (i : List ℕ) {p q : Plan} → p ≡ q → ◌≡◌ {A = Passed} (record { device = (outcome i p Works).after; heard = Waited })
       (record { device = (outcome i q Works).after; heard = Waited })
@@ -36,15 +48,18 @@ module _ (c : Profile) (p : List ℕ) (again : ℕ) where
       → GoesWell i (InDownloadSync before body number) (Poll n) (cond (c.busy == 0) 1 3) i (InDownloadIdle (before ++ body) number) next
   sync i before body number n next e on = split (c.busy == 0)
       (λ f. rw f (one_by c (ToLoad p) again (Status NoFault 0 DownloadIdle) _ (λ k. rw f) (λ l room. refl) e on))
-      (λ f. rw f (leads_on {j = i} {t = InDownloadBusy before body number 0} {b = WaitPoll n c.busy} {k = 1} {n = 2}
-      (one_by c (ToLoad p) again (Status NoFault c.busy DownloadBusy) (WaitPoll n c.busy) (λ k. rw f) (λ l room. refl) refl tt)
+      (λ f. rw f (leads_on {j = i} {t = InDownloadBusy before body number 0} {b = WaitPoll n (wait before body)} {k = 1} {n = 2}
+      (one_by c (ToLoad p) again (Status NoFault (wait before body) DownloadBusy) (WaitPoll n (wait before body))
+      (λ k. rw f) (λ l room. refl) refl tt)
       (leads_on {j = i} {t = InDownloadSyncWritten (before ++ body) number} {b = Poll n} {k = 1} {n = 1}
       (one_by c (ToLoad p) again Waited (Poll n) (λ k. waits i (busy_plan f)) (λ l room. refl) refl tt)
       (one_by c (ToLoad p) again (Status NoFault 0 DownloadIdle) _ (λ k. refl) (λ l room. refl) e on))))
     where
-      busy_plan : (c.busy == 0) ≡ false → time_plan c (InDownloadBusy before body number 0) c.busy
+      busy_plan : (c.busy == 0) ≡ false → time_plan c (InDownloadBusy before body number 0) (wait before body)
           ≡ Writes before body Ack (InDownloadSyncWritten (before ++ body) number) (λ fault. Ack)
-      busy_plan f = let g : nat_le c.busy (0 + c.busy) ≡ true = grind (arith, nat_tests) in rw (f, g)
+      busy_plan f =
+          let limit : ℕ = wait before body in
+          let g : nat_le limit (0 + limit) ≡ true = grind (arith, nat_tests) in rw (some_time c.busy _ _ f, g)
 
   -- The end of a download, by a tolerant device.
   pub manifest : (i taken : List ℕ) → c.tolerant ≡ true
@@ -52,15 +67,17 @@ module _ (c : Profile) (p : List ℕ) (again : ℕ) where
       (Last Installed)
   manifest i taken tol = split (c.manifest == 0)
       (λ f. rw f (one_by c (ToLoad p) again (Status NoFault 0 DfuIdle) _ (λ k. rw f) (λ l room. refl) (rw tol) tt))
-      (λ f. rw f (leads_on {j = i} {t = InManifest taken 0} {b = WaitManifest c.manifest} {k = 1} {n = 2}
-      (one_by c (ToLoad p) again (Status NoFault c.manifest Manifesting) _ (λ k. rw f) (λ l room. refl) (rw tol) tt)
+      (λ f. rw f (leads_on {j = i} {t = InManifest taken 0} {b = WaitManifest (image_wait taken)} {k = 1} {n = 2}
+      (one_by c (ToLoad p) again (Status NoFault (image_wait taken) Manifesting) _ (λ k. rw f) (λ l room. refl) (rw tol) tt)
       (leads_on {j = taken} {t = InManifestSyncComplete} {b = Manifest} {k = 1} {n = 1}
       (one_by c (ToLoad p) again Waited Manifest (λ k. waits i (manifest_plan f)) (λ l room. refl) refl tt)
       (one_by c (ToLoad p) again (Status NoFault 0 DfuIdle) _ (λ k. refl) (λ l room. refl) (rw tol) tt))))
     where
       manifest_plan : (c.manifest == 0) ≡ false
-          → time_plan c (InManifest taken 0) c.manifest ≡ Commits taken Ack InManifestSyncComplete (λ fault. Ack)
-      manifest_plan f = let g : nat_le c.manifest (0 + c.manifest) ≡ true = grind (arith, nat_tests) in rw (f, g, tol)
+          → time_plan c (InManifest taken 0) (image_wait taken) ≡ Commits taken Ack InManifestSyncComplete (λ fault. Ack)
+      manifest_plan f =
+          let limit : ℕ = image_wait taken in
+          let g : nat_le limit (0 + limit) ≡ true = grind (arith, nat_tests) in rw (some_time c.manifest _ _ f, g, tol)
 
   -- A block that fits.
   block_fits : (before : List ℕ) (expected : ℕ) (body : List ℕ) → length body ≤ c.transfer → length before + length body ≤ c.capacity

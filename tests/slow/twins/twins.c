@@ -40,7 +40,7 @@ static void begin(void) {
     uint32_t unit = units[roll(4)], sector = sectors[roll(4)], capacity = roll(2) ? 512 : 1024;
     config = (struct dfu_config){DFU_VERSION, 0x0100, 1, 0x1209, (uint16_t)roll(40), (uint16_t)(1 + roll(roll(2) ? 20 : MOST_BLOCK)),
                                  (uint8_t)(roll(3) ? 7 : roll(16)), (uint8_t)(roll(2) ? 0 : roll(4)), roll(2) * 3, 1 + roll(2) * 4,
-                                 1 + roll(3), 1, 0};
+                                 1 + roll(3), 1, 0, 0, 0};
     if (config.attributes & DFU_MANIFESTATION_TOLERANT && roll(2))
         config.manifest_ms = 0;
     for (size_t i = 0; i < sizeof image; i++)

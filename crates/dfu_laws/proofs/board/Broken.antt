@@ -75,14 +75,14 @@ module _ (blocks : BlocksBreak) (commits : CommitsBreak) (c : Setting) (w : Grai
       → Fails fault len (shows c s d b) a out (shows c left (failed_mode fault d) b) × IsStore left
   fails (device_state.DownloadSync n number) asked len sound due all a out says =
       let got = block_off n (next_in n (length b) s sound) due.1 all in
-      ((subst (λ (x : Option ℕ). IsAnswered c (device_state.Error (write_code fault)) x a out) due.0 says 0 [] [], got.0), got.1)
+      (((subst (λ (x : Option ℕ). IsAnswered c (device_state.Error (write_code fault)) x a out) due.0 says).1 0 [] [] tt, got.0), got.1)
   fails (device_state.DownloadBusy n number passed) asked len sound due all a out says =
       let got = block_off n (next_in n (length b) s sound) due.1 all in
-      ((subst (λ (x : Option ℕ). IsAnswered c (device_state.Error (write_code fault)) x a out) due.0 says 0 [] [], got.0), got.1)
+      (((subst (λ (x : Option ℕ). IsAnswered c (device_state.Error (write_code fault)) x a out) due.0 says).1 0 [] [] tt, got.0), got.1)
   fails (device_state.ManifestSync n) asked len sound due all a out says =
       let got = commit_off n (all_in n s sound) due.1 all in
-      ((subst (λ (x : Option ℕ). IsAnswered c (device_state.Error (commit_code fault)) x a out) due.0 says 0 [] [], got.0), got.1)
+      (((subst (λ (x : Option ℕ). IsAnswered c (device_state.Error (commit_code fault)) x a out) due.0 says).1 0 [] [] tt, got.0), got.1)
   fails (device_state.Manifest n passed) asked len sound due all a out says =
       let got = commit_off n (all_in n s sound) due.1 all in
-      ((subst (λ (x : Option ℕ). IsAnswered c (device_state.Error (commit_code fault)) x a out) due.0 says 0 [] [], got.0), got.1)
+      (((subst (λ (x : Option ℕ). IsAnswered c (device_state.Error (commit_code fault)) x a out) due.0 says).1 0 [] [] tt, got.0), got.1)
   fails d asked len sound due all a out says = absurd due

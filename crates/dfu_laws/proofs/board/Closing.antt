@@ -7,6 +7,7 @@ use Rattle.dfu_wire.specs.declared.requests.Request.TheVariants as asked
 use Rattle.dfu_wire.specs.Setup.{IsSetup}
 use Rattle.dfu_wire.specs.Request.{Asks}
 use Rattle.dfu_slots.specs.Seen.{SlotsState, store_on, image_of}
+use Rattle.dfu_device.specs.Pace.{block_ms, image_ms}
 use Rattle.dfu_device.specs.declared.answer.Answer.{Answer}
 use Rattle.dfu_device.specs.declared.objection.Objection.{Objection}
 use Rattle.dfu_device.specs.declared.answer.Answer.TheVariants as answer
@@ -99,11 +100,11 @@ time_closes c image (InAppDetach timer passed) ms =
 time_closes c image (InDownloadBusy before block number passed) ms =
     let P : Plan → Type 0 = Closes image (InDownloadBusy before block number passed) OtherRequest in
     either_way P (ms == 0) _ _ (λ t m. absurd m)
-    (either_way P (nat_le c.busy (passed + ms)) _ _ (λ t m. absurd m) (λ t m. absurd m))
+    (either_way P (nat_le (block_ms c.pace c.busy (length before) (length block)) (passed + ms)) _ _ (λ t m. absurd m) (λ t m. absurd m))
 time_closes c image (InManifest taken passed) ms =
     let P : Plan → Type 0 = Closes image (InManifest taken passed) OtherRequest in
     either_way P (ms == 0) _ _ (λ t m. inl m)
-    (either_way P (nat_le c.manifest (passed + ms)) _ _
+    (either_way P (nat_le (image_ms c.pace c.manifest (length taken)) (passed + ms)) _ _
     (either_way (λ (next : Stage). P (Commits taken Ack next (λ fault. Ack))) c.tolerant InManifestSyncComplete InManifestWaitReset
     (refl, (λ t m. m, λ g. g)) (refl, (λ t m. m, λ g. g)))
     (λ t m. inl m))

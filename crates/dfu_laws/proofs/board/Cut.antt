@@ -61,19 +61,19 @@ record IsSaid (c : Setting) (m : DeviceState) (asked : Option ℕ) : Type 0 wher
   says : IsAnswered c m asked answer out
 
 error_said : (c : Setting) (code : Code) (asked : Option ℕ) → IsSaid c (device_state.Error code) asked
-error_said c code None = record { answer = answer.Ack; out = []; says = λ room spare block. (refl, refl) }
+error_said c code None = record { answer = answer.Ack; out = []; says = (0, λ room spare block holds. (refl, refl)) }
 error_said c code (Some len) =
     let bytes : List ℕ = code_byte code ∷ 0 ∷ 0 ∷ 0 ∷ 10 ∷ 0 ∷ [] in
     record {
       answer = answer.Bytes;
       out = take len bytes;
-      says = λ room spare block. (
+      says = (0, λ room spare block holds. (
         refl,
         bytes,
         record { length = refl; code = refl; poll = refl; state = refl },
         refl,
         refl,
-      );
+      ));
     }
 
 fault_said : (c : Setting) (fault : WriteFault) (m : DeviceState) (asked : Option ℕ) → IsSaid c (failed_mode fault m) asked

@@ -1,10 +1,11 @@
 -- Which rows put an image in place: those that lead out of manifestation without a fault.
-use Rattle.std.specs.Prelude.{◌≡◌, ℕ, ◌+◌, ◌==◌, nat_le, true, List, []}
+use Rattle.std.specs.Prelude.{◌≡◌, ℕ, ◌+◌, ◌==◌, nat_le, true, List, [], length}
 use Rattle.std.proofs.Common.{inl, inr, refl, ap, ◌∙◌, subst}
 use Rattle.std.proofs.lemmas.Bool.{false≢true}
 use Rattle.dfu_wire.specs.declared.setups.Setup.{Setup}
 use Rattle.dfu_wire.specs.declared.requests.Request.{Request as Asked}
 use Rattle.dfu_slots.specs.Seen.{image_of}
+use Rattle.dfu_device.specs.Pace.{image_ms}
 use Rattle.dfu_device.specs.declared.answer.Answer.{Answer}
 use Rattle.dfu_device.specs.declared.objection.Objection.{Objection}
 use Rattle.dfu_device.specs.declared.answer.Answer.TheVariants as answer
@@ -59,7 +60,7 @@ time_installs : (c : Profile) (image : List ℕ) (st : Stage) (ms : ℕ) → Man
 time_installs c image (InManifest taken passed) ms on =
     let P : Plan → Type 0 = Installs image (InManifest taken passed) in
     either_way P (ms == 0) _ _ (λ over. absurd (false≢true over))
-    (either_way P (nat_le c.manifest (passed + ms)) _ _
+    (either_way P (nat_le (image_ms c.pace c.manifest (length taken)) (passed + ms)) _ _
     (either_way (λ (next : Stage). P (Commits taken Ack next (λ fault. Ack))) c.tolerant InManifestSyncComplete InManifestWaitReset
     refl refl) (λ over. absurd (false≢true over)))
 time_installs c image (InManifestSync taken) ms on = λ over. absurd (false≢true over)

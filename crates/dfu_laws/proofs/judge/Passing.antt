@@ -1,7 +1,8 @@
 -- Time, resets of the bus and power lead a device on as a device of the standard.
-use Rattle.std.specs.Prelude.{◌≡◌, ℕ, ◌+◌, ◌==◌, nat_le, max, not, true, List, ◌∷◌}
+use Rattle.std.specs.Prelude.{◌≡◌, ℕ, ◌+◌, ◌==◌, nat_le, max, not, true, List, ◌∷◌, length}
 use Rattle.std.specs.List.{list_any}
 use Rattle.std.proofs.Common.{refl, sym, ap, subst, ◌∙◌, inl, inr}
+use Rattle.dfu_device.specs.Pace.{block_ms, image_ms}
 use Rattle.dfu_device.specs.declared.answer.Answer.{Answer}
 use Rattle.dfu_device.specs.declared.objection.Objection.{Objection}
 use Rattle.dfu_device.specs.declared.objection.Objection.TheVariants.{Target, File}
@@ -56,7 +57,7 @@ time_kept c (InAppDetach timer passed) ms stands =
     ) (inl refl, tt)))
 time_kept c (InDownloadBusy before block number passed) ms stands =
     let P : Plan → Type 0 = TimeKept c (InDownloadBusy before block number passed) in
-    either_way P (ms == 0) _ _ (inl refl, tt) (either_way P (nat_le c.busy (passed + ms)) _ _ (
+    either_way P (ms == 0) _ _ (inl refl, tt) (either_way P (nat_le (block_ms c.pace c.busy (length before) (length block)) (passed + ms)) _ _ (
       (moves c place.DownloadBusy Always place.DownloadSync refl refl, tt),
       moves c place.DownloadBusy Always place.Error refl refl,
     ) (inl refl, tt))
@@ -65,7 +66,7 @@ time_kept c (InManifest taken passed) ms stands =
     let Q : Stage → Type 0 = λ next. (MayMove (attributes_of c) 0 place.Manifest (place_of next) × Stands c next)
     × MayMove (attributes_of c) 0 place.Manifest place.Error in
     let fault : MayMove (attributes_of c) 0 place.Manifest place.Error = moves c place.Manifest Always place.Error refl refl in
-    either_way P (ms == 0) _ _ (inl refl, tt) (either_way P (nat_le c.manifest (passed + ms)) _ _
+    either_way P (ms == 0) _ _ (inl refl, tt) (either_way P (nat_le (image_ms c.pace c.manifest (length taken)) (passed + ms)) _ _
     (which Q c.tolerant InManifestSyncComplete InManifestWaitReset
     (λ on. (
       (

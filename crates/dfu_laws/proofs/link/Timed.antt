@@ -1,6 +1,7 @@
 -- What the passing of time at a device, also with a medium that fails, leaves of its image and of what holds of a session.
-use Rattle.std.specs.Prelude.{◌≡◌, ◌⊎◌, ℕ, ◌+◌, ◌==◌, nat_le, max, List}
+use Rattle.std.specs.Prelude.{◌≡◌, ◌⊎◌, ℕ, ◌+◌, ◌==◌, nat_le, max, List, length}
 use Rattle.std.proofs.Common.{inl, inr, refl, sym, ◌∙◌, subst}
+use Rattle.dfu_device.specs.Pace.{block_ms, image_ms}
 use Rattle.dfu_device.specs.Stage.{Ack, Profile, Stage, InAppDetach, InDfuIdle, InDownloadBusy, InManifestSyncComplete, InManifest, InManifestWaitReset, InUploadIdle}
 use Rattle.dfu_device.specs.Table.{Plan, Commits, time_plan}
 use Rattle.dfu_device.specs.Outcome.{Situation, Luck, Works, FailsOld, FailsNew, outcome, elapsed}
@@ -54,13 +55,13 @@ module _ (c : Profile) (past : List (List ℕ)) (i : List ℕ) (ms : ℕ) where
   time_device (InDownloadBusy before block number passed) h =
       let P : Plan → Type 0 = Times (InDownloadBusy before block number passed) in
       either_way P (ms == 0) _ _ (λ luck. same_there _ _ tt)
-      (either_way P (nat_le c.busy (passed + ms)) _ _
+      (either_way P (nat_le (block_ms c.pace c.busy (length before) (length block)) (passed + ms)) _ _
       (elim [ Works ↦ same_there _ _ tt | FailsOld fault ↦ same_there _ _ tt | FailsNew fault ↦ same_there _ _ tt ])
       (λ luck. same_there _ _ tt))
   time_device (InManifest taken passed) h =
       let P : Plan → Type 0 = Times (InManifest taken passed) in
       either_way P (ms == 0) _ _ (λ luck. same_there _ _ h)
-      (either_way P (nat_le c.manifest (passed + ms)) _ _
+      (either_way P (nat_le (image_ms c.pace c.manifest (length taken)) (passed + ms)) _ _
       (either_way (λ st. P (Commits taken Ack st (λ fault. Ack))) c.tolerant InManifestSyncComplete InManifestWaitReset
       (elim [ Works ↦ put_there _ _ taken h tt | FailsOld fault ↦ same_there _ _ tt | FailsNew fault ↦ put_there _ _ taken h tt ])
       (elim [ Works ↦ put_there _ _ taken h tt | FailsOld fault ↦ same_there _ _ tt | FailsNew fault ↦ put_there _ _ taken h tt ]))

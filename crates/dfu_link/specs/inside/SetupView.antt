@@ -1,6 +1,7 @@
 -- What the `ScriptConfig` of the code means.
 use Rattle.std.specs.Prelude.{ℕ, List, [], ◌∷◌, Option, Some, None, Vec}
 use Rattle.std.specs.declared.alloc.Global.{Global}
+use Rattle.dfu_device.specs.Pace.{no_pace}
 use Rattle.dfu_device.specs.Setting.{Setting}
 use Rattle.dfu_link.specs.Said.{given_bytes}
 use Rattle.dfu_link.specs.ScriptRun.{Settings}
@@ -25,7 +26,14 @@ setup_grain unit sector = record { unit = unit; sector = sector.bytes }
 
 -- What the device is set up with.
 abbrev pub setting_of_device : ScriptConfig → Setting
-setting_of_device s = record { ids = s.ids; functional = s.functional; least = s.least; busy_ms = s.busy_ms; manifest_ms = s.manifest_ms }
+setting_of_device s = record {
+  ids = s.ids;
+  functional = s.functional;
+  least = s.least;
+  busy_ms = s.busy_ms;
+  manifest_ms = s.manifest_ms;
+  pace = no_pace;
+}
 
 -- What is set.
 abbrev pub settings_of : ScriptConfig → Settings

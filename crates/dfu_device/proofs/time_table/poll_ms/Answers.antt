@@ -2,8 +2,9 @@ use Rattle.std.proofs.Common.{◌≡◌, ℕ, List, refl, arith}
 use Rattle.dfu_device.specs.declared.device_state.DeviceState.{DeviceState}
 use Rattle.dfu_device.specs.declared.device_state.DeviceState.TheVariants as device_state
 use Rattle.dfu_device.specs.Stage.{Profile, poll_of}
+use Rattle.dfu_device.specs.Setting.{Setting}
 use Rattle.dfu_device.specs.DeviceView.{profile_of}
-use Rattle.dfu_device.specs.Parts.{stage_of}
+use Rattle.dfu_device.specs.Parts.{stage_of, mode_ms}
 use Rattle.dfu_device.proofs.time_table.poll_ms.Goals as goal
 
 -- In every other state a host has not to wait.
@@ -14,9 +15,16 @@ no_poll c (device_state.DownloadBusy written number passed) spare block busy man
 no_poll c (device_state.Manifest written passed) spare block busy manifest = absurd (manifest written passed refl)
 no_poll c m spare block busy manifest = refl
 
+no_time : (s : Setting) (m : DeviceState) (n : ℕ) → ((written number passed : ℕ) → m ≡ device_state.DownloadBusy written number passed → ⊥)
+    → ((written passed : ℕ) → m ≡ device_state.Manifest written passed → ⊥) → 0 ≡ mode_ms s m n
+no_time s (device_state.DownloadBusy written number passed) n busy manifest = absurd (busy written number passed refl)
+no_time s (device_state.Manifest written passed) n busy manifest = absurd (manifest written passed refl)
+no_time s m n busy manifest = refl
+
 pub returns-in_default : goal.returns-in_default
 returns-in_default c = record {
   value = λ room spare block holds.
       no_poll (profile_of c.args.config.now room) c.args.mode spare block c.in_default.not-DownloadBusy c.in_default.not-Manifest;
+  time = no_time c.args.config.now c.args.mode c.args.block_len c.in_default.not-DownloadBusy c.in_default.not-Manifest;
   fits = omega arith;
 }

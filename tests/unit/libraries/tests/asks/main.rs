@@ -9,6 +9,7 @@ mod faded;
 mod formats;
 mod renoted;
 mod rows;
+mod times;
 mod trouble;
 mod untrue;
 

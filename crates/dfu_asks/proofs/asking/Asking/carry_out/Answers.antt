@@ -10,7 +10,8 @@ use Rattle.dfu_device.specs.declared.decision.Decision.{Decision}
 use Rattle.dfu_device.specs.DeviceView.{profile}
 use Rattle.dfu_device.specs.Parts.{shows, is_filled}
 use Rattle.dfu_device.specs.Rows.{Done}
-use Rattle.dfu_device.specs.Decision.{plan_of, IsPossible}
+use Rattle.dfu_device.specs.Decision.{plan_of, IsPossible, HoldsTime}
+use Rattle.dfu_device.proofs.Carried.{holds_time, still_sound}
 use Rattle.dfu_asks.specs.Lent.{lent}
 use Rattle.dfu_asks.specs.Due.{wanted, IsSure, SendsWithin}
 use Rattle.dfu_asks.specs.Asks.{store_in, device_in, IsReply}
@@ -29,15 +30,20 @@ returns-in-Sure-clause-outcome c = λ kept possible due within.
     let m = c.in-Sure.mode in
     let g = c.give-answer.ensures in
     let len = wanted c.args.asked in
-    let says : IsReply l.config m c.in-Sure.reply len c.give-answer.result.0 g.sent =
-    subst (λ (n : ℕ). IsReply l.config m c.in-Sure.reply n c.give-answer.result.0 g.sent) c.wanted.ensures g.says in
-    mode_ended l m l.block flash kept.is
-    (subst (λ (d : Decision). IsPossible l.config.functional.transfer (length l.block) (length c.args.body.now) s d) c.in-Sure.is possible)
+    let n = c.args.self.now.block_len in
+    let says : IsReply l.config m n c.in-Sure.reply len c.give-answer.result.0 g.sent =
+    subst (λ (k : ℕ). IsReply l.config m n c.in-Sure.reply k c.give-answer.result.0 g.sent) c.wanted.ensures g.says in
+    let can : IsTrue (is_filled m (length l.block) s) =
+    subst (λ (d : Decision). IsPossible l.config.functional.transfer (length l.block) (length c.args.body.now) s d) c.in-Sure.is possible in
+    let whole : length l.block ≡ n = omega (arith, length-take n c.args.block.now, kept.fits.block) in
+    let holds : HoldsTime m n (spare_of s) l.block = subst (λ (k : ℕ). HoldsTime m k (spare_of s) l.block) whole
+    (holds_time m l.block s (still_sound l.mode m (length l.block) s kept.is.sound can)) in
+    mode_ended l m l.block flash kept.is can
     c.requires.idle c.give-answer.result.0 c.give-answer.result.1 c.args.out.now c.give-answer.new.out g.sent
     (λ x sent d'. Done (plan_of (profile w) (image_of s) (spare_of s) l.block c.args.body.now c.args.decision) len w x sent d')
     g.count_is g.out_is
     (subst (λ (d : Decision). Done (plan_of (profile w) (image_of s) (spare_of s) l.block c.args.body.now d) len w
-    c.give-answer.result.0 g.sent (shows l.config s m l.block)) (sym c.in-Sure.is) (says (room_of s) (spare_of s) l.block, refl))
+    c.give-answer.result.0 g.sent (shows l.config s m l.block)) (sym c.in-Sure.is) (says (room_of s) (spare_of s) l.block holds, refl))
 
 pub returns-in-Holds-clause-outcome : goal.returns-in-Holds-clause-outcome
 returns-in-Holds-clause-outcome c = λ kept possible due within.

@@ -1,4 +1,4 @@
-use Rattle.std.proofs.Common.{◌≡◌, ℕ, List, Option, Some, None, IfSome, IfNone, refl, sym, subst}
+use Rattle.std.proofs.Common.{◌≡◌, ℕ, List, Option, Some, None, IfSome, IfNone, refl, sym, subst, length, arith}
 use Rattle.dfu_slots.specs.Seen.{spare_of}
 use Rattle.dfu_device.specs.DeviceView.{DeviceView}
 use Rattle.dfu_device.specs.Rows.{Elapses}
@@ -8,6 +8,10 @@ use Rattle.dfu_asks.specs.Asks.{device_in, store_in}
 use Rattle.dfu_asks.specs.Times.{due_of, ChangesOnceDue}
 use Rattle.dfu_asks.proofs.DueTimes.{time_due}
 use Rattle.dfu_asks.proofs.asking.Asking.due.Goals as goal
+use Rattle.std.proofs.lemmas.List.{length-take}
+use Rattle.dfu_device.specs.Decision.{HoldsTime}
+use Rattle.dfu_device.proofs.Carried.{holds_time}
+use Rattle.dfu_asks.specs.Refused.{IsKeptOn}
 
 -- What follows of a value follows of the one that there is, or of none.
 each_some : {X : Type 0} (P Q : X → Type 0) (o : Option X) → ((x : X) → P x → Q x) → IfSome o P → IfSome o Q
@@ -19,22 +23,26 @@ each_none (Some x) follows is = tt
 each_none None follows is = follows is
 
 -- A change is due as the mode says.
-due_in : (a : Asking) (block held flash : List ℕ) (ms : ℕ) (d' : DeviceView) → Elapses ms (device_in (lent a block held) flash) d'
-    → ChangesOnceDue (due_of a.config a.mode) ms (device_in (lent a block held) flash) d'
-due_in a block held flash ms d' went =
+due_in : (a : Asking) (block held flash : List ℕ) (ms : ℕ) (d' : DeviceView) → IsKeptOn a block held flash
+    → Elapses ms (device_in (lent a block held) flash) d'
+    → ChangesOnceDue (due_of a.config a.mode a.block_len) ms (device_in (lent a block held) flash) d'
+due_in a block held flash ms d' kept went =
     let l = lent a block held in
-    time_due ms (device_in l flash) d' a.mode (spare_of (store_in l flash)) l.block refl went
+    let s = store_in l flash in
+    let whole : length l.block ≡ a.block_len = omega (arith, length-take a.block_len block, kept.fits.block) in
+    time_due ms (device_in l flash) d' a.mode a.block_len (spare_of s) l.block
+    (subst (λ (n : ℕ). HoldsTime a.mode n (spare_of s) l.block) whole (holds_time a.mode l.block s kept.is.sound)) refl went
 
 pub returns-clause-some : goal.returns-clause-some
 returns-clause-some c =
     let a = c.args.self.now in
-    each_some (λ (n : ℕ). n ≡ due_of a.config a.mode) _ c.mode_due.result
-    (λ n is block held flash ms d' went. subst (λ (k : ℕ). ChangesOnceDue k ms (device_in (lent a block held) flash) d') (sym is)
-    (due_in a block held flash ms d' went))
+    each_some (λ (n : ℕ). n ≡ due_of a.config a.mode a.block_len) _ c.mode_due.result
+    (λ n is block held flash ms d' kept went. subst (λ (k : ℕ). ChangesOnceDue k ms (device_in (lent a block held) flash) d') (sym is)
+    (due_in a block held flash ms d' kept went))
     c.mode_due.ensures.some
 
 pub returns-clause-none : goal.returns-clause-none
 returns-clause-none c =
     let a = c.args.self.now in
-    each_none c.mode_due.result (λ none block held flash ms d' went. (due_in a block held flash ms d' went).none none)
+    each_none c.mode_due.result (λ none block held flash ms d' kept went. (due_in a block held flash ms d' kept went).none none)
     c.mode_due.ensures.none

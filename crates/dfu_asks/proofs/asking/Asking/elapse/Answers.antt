@@ -1,4 +1,5 @@
 use Rattle.std.proofs.Common.{◌≡◌, ℕ, List, [], ◌∷◌, length, None, refl, sym, ◌∙◌, ap, subst, arith}
+use Rattle.std.proofs.lemmas.List.{length-take}
 use Rattle.dfu_slots.specs.Seen.{image_of, spare_of, room_of}
 use Rattle.dfu_slots.proofs.Seeing.{room_capacity}
 use Rattle.dfu_device.specs.declared.answer.Answer.{Answer}
@@ -6,7 +7,7 @@ use Rattle.dfu_device.specs.declared.answer.Answer.TheVariants as answer
 use Rattle.dfu_device.specs.Table.{Plan, time_plan}
 use Rattle.dfu_device.specs.DeviceView.{profile, profile_of}
 use Rattle.dfu_device.specs.Rows.{Done, Elapses}
-use Rattle.dfu_device.specs.Decision.{profile_in, plan_of, IsPossible}
+use Rattle.dfu_device.specs.Decision.{profile_in, plan_of, IsPossible, DecidesTime}
 use Rattle.dfu_device.proofs.Carried.{filled}
 use Rattle.dfu_asks.specs.Lent.{lent}
 use Rattle.dfu_asks.specs.Due.{IsSureOrDue}
@@ -40,7 +41,10 @@ returns-clause-outcome c = λ kept.
     ) in
     let same : profile_in c.profile-profile.result ≡ profile w = c.profile-profile.ensures.profile
     ∙ ap (λ (n : ℕ). profile_of l.config n) (sym c.profile-profile.ensures.capacity ∙ room) in
-    let row = decided_time c.profile-profile.result c.args.ms l.mode l.block d w same refl c.decide_time-decision.ensures.row in
+    let whole : c.args.self.now.block_len ≡ length l.block =
+    omega (arith, length-take c.args.self.now.block_len c.args.block.now, here.fits.block) in
+    let row = decided_time c.profile-profile.result c.args.ms l.mode l.block d w same here.is.sound refl
+    (subst (λ (n : ℕ). DecidesTime c.profile-profile.result l.mode n c.args.ms d) whole c.decide_time-decision.ensures.row) in
     let p = plan_of (profile w) (image_of s) (spare_of s) l.block [] d in
     let possible : IsPossible l.config.functional.transfer (length l.block) 0 s d =
     subst (λ (t : ℕ). IsPossible t (length l.block) 0 s d) c.profile-profile.ensures.transfer

@@ -4,7 +4,7 @@ use Rattle.dfu_slots.specs.Units.{Grain, gate_room}
 use Rattle.dfu_asks.specs.Blank.{reads_erased}
 use Rattle.dfu_asks.specs.Mapped.{grain_of}
 use Rattle.dfu_asks.proofs.Blanks.{blank_has_none}
-use Rattle.dfu_asks.proofs.sector.Mapped.is_blank.Goals as goal
+use Rattle.dfu_asks.proofs.noted.Mapped.is_blank.Goals as goal
 
 pub returns-clause-no_image : goal.returns-clause-no_image
 returns-clause-no_image c so =
