@@ -7,7 +7,7 @@
  * its first byte on and nothing else, no header and no seal. It may be in the same flash as the slots, or in another with other sectors.
  *
  *     static struct dfu_install install = {.run = run, .size = size, .area = {4096, DFU_NOWHERE}, .driver = &driver};
- *     struct dfu_place place;                        // after dfu_device_power_on, once the device is in appIDLE
+ *     struct dfu_place place;                        // at power-on, or once the device is in appIDLE. It needs no dfu_device_power_on
  *
  *     if (dfu_device_image(&dfu, &place) == 0 && dfu_install_settle(&install, flash + place.at, place.length) == 0)
  *         start what is at run

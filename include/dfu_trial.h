@@ -32,8 +32,9 @@
  * - A host that verifies starts the new image twice. A loss of power that it sees spends one start more, or two if it comes within a
  *   start. So 2 tries are enough if the power stays; add 2 for each loss: 4 for one. With 3 one loss may be too many, if it comes within a
  *   start. With too few the host may report Different, and the image before runs. Once an image has confirmed itself, none of this matters.
- * - With a run area (dfu_install.h) settle the image that dfu_trial_look gives as `active` before dfu_trial_boot, so that losses of power
- *   in the copy use up no start. If dfu_trial_boot gives another place, settle and start that.
+ * - With a run area (dfu_install.h) settle the image that dfu_trial_look gives as `active` before the start is marked, so that losses of
+ *   power in the copy use up no start. Then call dfu_trial_boot_from with what it gave, which reads no image. If that gives another place,
+ *   settle and start that.
  * - An application that has no linker symbol for its place has to learn it from the bootloader, which started it.
  *
  * What the program has to keep to:
@@ -83,6 +84,12 @@ static inline int32_t dfu_trial_start(const struct dfu_trial *t, struct dfu_ask 
     return dfu_core_trial_start(&t->tries, t->flash, t->size, ask, starting);
 }
 
+/** @brief As dfu_core_trial_start_from. */
+static inline int32_t dfu_trial_start_from(const struct dfu_trial *t, const struct dfu_standing *standing, struct dfu_ask *ask,
+                                           struct dfu_starting *starting) {
+    return dfu_core_trial_start_from(&t->tries, t->flash, t->size, standing, ask, starting);
+}
+
 /** @brief As dfu_core_trial_runs. */
 static inline int32_t dfu_trial_runs(const struct dfu_trial *t, const struct dfu_ask *ask, const struct dfu_starting *starting,
                                      struct dfu_place *place) {
@@ -110,6 +117,19 @@ static inline int32_t dfu_trial_boot(const struct dfu_trial *t, struct dfu_place
     struct dfu_ask ask;
     struct dfu_starting starting;
     const int32_t n = dfu_trial_start(t, &ask, &starting);
+    if (n == 0)
+        *place = starting.run;
+    if (n != DFU_ASKS || !t->driver)
+        return n;
+    (void)dfu_device_carry_out(t->driver, &ask);
+    return dfu_trial_runs(t, &ask, &starting, place);
+}
+
+/** @brief As dfu_trial_boot, by a standing that dfu_trial_look told before, so that the images are read once for both. */
+static inline int32_t dfu_trial_boot_from(const struct dfu_trial *t, const struct dfu_standing *standing, struct dfu_place *place) {
+    struct dfu_ask ask;
+    struct dfu_starting starting;
+    const int32_t n = dfu_trial_start_from(t, standing, &ask, &starting);
     if (n == 0)
         *place = starting.run;
     if (n != DFU_ASKS || !t->driver)

@@ -58,6 +58,14 @@ int32_t dfu_core_trial_look(const struct dfu_tries *tries, const uint8_t *flash,
 int32_t dfu_core_trial_start(const struct dfu_tries *tries, const uint8_t *flash, size_t size, struct dfu_ask *ask,
                              struct dfu_starting *starting);
 
+/** @brief As dfu_core_trial_start, by a standing that dfu_core_trial_look told of this flash: it reads gates, headers and marks, and no
+ *         image. All that it takes from the standing is that the images which `active` and `base` name are whole; the rest it reads anew.
+ *         So an old standing starts no other image than dfu_core_trial_start would, unless one that it names was damaged since. If gates,
+ *         headers and marks don't fit it, as after a download, it looks at the images itself.
+ * @return as dfu_core_trial_start */
+int32_t dfu_core_trial_start_from(const struct dfu_tries *tries, const uint8_t *flash, size_t size, const struct dfu_standing *standing,
+                                  struct dfu_ask *ask, struct dfu_starting *starting);
+
 /** @brief What is started, once that operation was carried out or failed. A mark is read back, whatever the driver answered.
  * @return 0 */
 int32_t dfu_core_trial_runs(const uint8_t *flash, size_t size, const struct dfu_ask *ask, const struct dfu_starting *starting,

@@ -122,7 +122,8 @@ static int find_image(struct dfu_place *place, struct signed_image *image) {
     int is_active_ready = is_ready(&standing.active, image);
     if (!is_active_ready && (!standing.on_trial || dfu_trial_give_up(&trial) != 0))
         return 0;
-    if (dfu_trial_boot(&trial, place) != 0)
+    /* If the trial has just ended, this looks anew. */
+    if (dfu_trial_boot_from(&trial, &standing, place) != 0)
         return 0;
     return (is_active_ready && place->at == standing.active.at) || is_ready(place, image);
 }

@@ -178,6 +178,7 @@ static void is_refused(int32_t number, uint32_t unit, uint32_t sector, uint32_t 
     runs++;
     expect("a refusal", dfu_core_trial_look(&with, part, sizeof part, &standing) == number
         && dfu_core_trial_start(&with, part, sizeof part, &ask, &starting) == number
+        && dfu_core_trial_start_from(&with, part, sizeof part, &standing, &ask, &starting) == number
         && dfu_core_trial_confirm(&with, part, sizeof part, 512, &ask) == number
         && dfu_core_trial_end(&with, part, sizeof part, &ask) == number && dfu_core_trial_upload(&with, part, sizeof part, &ask) == number);
     expect("a refusal changes nothing", memcmp(&ask, &ask_before, sizeof ask) == 0

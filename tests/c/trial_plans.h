@@ -5,6 +5,8 @@ struct view {
 static struct view now;
 static int started; /* how often the image on trial was started since it was taken */
 static int running; /* where the image begins that runs */
+static struct dfu_standing looks[8]; /* what the last looks told */
+static unsigned looked;
 
 /* An image is as long as its first byte says, and so are its other bytes. */
 static int number_of(const struct dfu_place *place) {
@@ -20,6 +22,7 @@ static struct view see(void) {
     const struct view none = {-9, -9, -9, -9};
     if (dfu_trial_look(&trial, &s) != 0 || dfu_device_image(&device, &place) != 0 || memcmp(&place, &s.active, sizeof place) != 0)
         return none;
+    looks[looked++ % 8] = s;
     const struct view on = {number_of(&s.base), number_of(&s.active), (int)s.left, 1};
     const struct view settled = {number_of(&s.active), -1, 0, (int)s.is_confirmed};
     return s.on_trial ? on : settled;
@@ -70,8 +73,20 @@ static void download(int number) {
     may("the end of a download", 2, after);
     is_offered = 0;
 }
+/* A start by a look of before, however old that is, is the one by a look of its own. */
+static void start_by_looks(void) {
+    for (unsigned i = 0; i < 8; i++) {
+        struct dfu_ask asks[2];
+        struct dfu_starting told[2];
+        memset(asks, 7, sizeof asks), memset(told, 7, sizeof told);
+        const int32_t n = dfu_trial_start(&trial, &asks[0], &told[0]), by = dfu_trial_start_from(&trial, &looks[i], &asks[1], &told[1]);
+        expect("a start by an older look", n == by && memcmp(&asks[0], &asks[1], sizeof asks[0]) == 0
+            && memcmp(&told[0], &told[1], sizeof told[0]) == 0);
+    }
+}
 static void start(void) {
     struct dfu_place place = {0, 0};
+    start_by_looks();
     const struct view was = now;
     const struct view after[2] = {was, was.on_trial == -1 ? was : was.left > 0
         ? (struct view){was.base, was.on_trial, was.left - 1, 1} : ended(was)};

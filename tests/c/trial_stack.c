@@ -46,12 +46,13 @@ static void *run(void *word)
     case 4: answer = dfu_trial_give_up(&trial); break;
     case 5: answer = transfer(0x21, DFU_DNLOAD); break;
     case 6: answer = transfer(0xa1, DFU_UPLOAD); break;
+    case 7: answer = dfu_trial_boot_from(&trial, &standing, &place); break;
     default: answer = 0; break;
     }
     return word;
 }
 
-/* What the flash has before the call. For the last one no start is left. */
+/* What the flash has before the call. For the transfer of an UPLOAD no start is left. */
 static int prepare(int call)
 {
     if (call < 3)
@@ -67,7 +68,8 @@ static int prepare(int call)
 
 int main(int count, char **words)
 {
-    static const char *const names[] = {"nothing", "look", "accept", "boot", "give up", "transfer of a DNLOAD", "transfer of an UPLOAD"};
+    static const char *const names[] = {"nothing", "look", "accept", "boot", "give up", "transfer of a DNLOAD", "transfer of an UPLOAD",
+                                        "boot by a look"};
     size_t empty = 0, most = 0, allowed = count > 1 ? (size_t)atol(words[1]) : 0;
     for (int call = 0; call < (int)(sizeof names / sizeof *names); call++) {
         if (!prepare(call))
@@ -78,7 +80,7 @@ int main(int count, char **words)
         else
             printf("%-26s %6zu bytes of stack\n", names[call], deep - empty);
         most = deep - empty > most ? deep - empty : most;
-        if (answer != 0 || (call > 3 && (dfu_trial_look(&trial, &standing) != 0 || standing.on_trial != 0)))
+        if (answer != 0 || (call > 3 && call < 7 && (dfu_trial_look(&trial, &standing) != 0 || standing.on_trial != 0)))
             return 1;
     }
     return most > allowed;

@@ -46,18 +46,33 @@ int32_t dfu_core_trial_look(const struct dfu_tries *tries, const uint8_t *flash,
     return n;
 }
 
+static int32_t starts(enum call call, struct dfu_ask *ask, struct dfu_starting *starting)
+{
+    const int32_t n = say_or_ask(call, ask);
+    if (n == 0 || n == DFU_ASKS) {
+        starting->run = given.run;
+        starting->otherwise = given.otherwise;
+    }
+    return n;
+}
+
 int32_t dfu_core_trial_start(const struct dfu_tries *tries, const uint8_t *flash, size_t size, struct dfu_ask *ask,
                              struct dfu_starting *starting)
 {
     comes(TRIAL_START);
     with_tries(tries);
     with_flash(flash, size);
-    const int32_t n = say_or_ask(TRIAL_START, ask);
-    if (n == 0 || n == DFU_ASKS) {
-        starting->run = given.run;
-        starting->otherwise = given.otherwise;
-    }
-    return n;
+    return starts(TRIAL_START, ask, starting);
+}
+
+int32_t dfu_core_trial_start_from(const struct dfu_tries *tries, const uint8_t *flash, size_t size, const struct dfu_standing *standing,
+                                  struct dfu_ask *ask, struct dfu_starting *starting)
+{
+    comes(TRIAL_START_FROM);
+    with_tries(tries);
+    with_flash(flash, size);
+    holds(standing == given.standing, "another standing is handed on");
+    return starts(TRIAL_START_FROM, ask, starting);
 }
 
 int32_t dfu_core_trial_runs(const uint8_t *flash, size_t size, const struct dfu_ask *ask, const struct dfu_starting *starting,

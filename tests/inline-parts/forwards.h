@@ -44,6 +44,7 @@ static int32_t forward(enum call call)
     switch (call) {
     case TRIAL_LOOK: return dfu_trial_look(&trial, &standing);
     case TRIAL_START: return dfu_trial_start(&trial, &ask, &starting);
+    case TRIAL_START_FROM: return dfu_trial_start_from(&trial, &standing, &ask, &starting);
     case TRIAL_RUNS: return dfu_trial_runs(&trial, &ask, &starting, &place);
     case TRIAL_CONFIRM: return dfu_trial_confirm(&trial, given.at, &ask);
     case TRIAL_END: return dfu_trial_end(&trial, &ask);

@@ -31,6 +31,7 @@ static void hand_in_trial(void)
     given.run.at = 0x12345, given.run.length = 0x2345;
     given.otherwise.at = 0x54321, given.otherwise.length = 0x4321;
     starting.run = given.run, starting.otherwise = given.otherwise;
+    given.standing = &standing;
     place.at = place.length = 77;
 }
 

@@ -23,6 +23,7 @@ static const struct {
                  [FORMAT_START] = {FORMAT_NEXT, FORMAT_TOOK},
                  [FORMAT_TOOK] = {FORMAT_NEXT, FORMAT_TOOK},
                  [TRIAL_START] = {OPERATION, NO_CALL},
+                 [TRIAL_START_FROM] = {OPERATION, NO_CALL},
                  [TRIAL_CONFIRM] = {OPERATION, NO_CALL},
                  [TRIAL_END] = {OPERATION, NO_CALL},
                  [TRIAL_UPLOAD] = {OPERATION, NO_CALL},

@@ -35,6 +35,7 @@ enum call {
     FORMAT_TOOK,
     TRIAL_LOOK,
     TRIAL_START,
+    TRIAL_START_FROM,
     TRIAL_RUNS,
     TRIAL_CONFIRM,
     TRIAL_END,
@@ -85,6 +86,7 @@ struct given {
     const struct dfu_run_area *area;
     const struct dfu_driver *driver;
     struct dfu_place run, otherwise;
+    const struct dfu_standing *standing;
 };
 extern struct given given;
 

@@ -23,6 +23,7 @@ static const struct inline_call {
                     {"dfu_device_format", formatting, format, 0},
                     {"dfu_device_power_on_or_format", starting_up, start_up, 0},
                     {"dfu_trial_boot", booting, boot, 0},
+                    {"dfu_trial_boot_from", booting_from, boot_from, 0},
                     {"dfu_trial_accept", accepting, accept, 0},
                     {"dfu_trial_give_up", giving_up, give_up, 0},
                     {"dfu_trial_transfer", downloading, transfer, STATES | SETUPS},
@@ -66,7 +67,7 @@ static const struct stage *plan_of(const struct inline_call *it)
     return it->plan;
 }
 
-/* dfu_trial_boot: the place is the one of the start that came about. */
+/* dfu_trial_boot and dfu_trial_boot_from: the place is the one of the start that came about. */
 static void is_started(int32_t n)
 {
     const uint32_t wanted = n != 0 ? 77 : operations == 0 ? given.run.at : given.otherwise.at;
@@ -86,7 +87,7 @@ static void try_plan(const struct inline_call *it)
         follow(plan_of(it), device.driver != NULL && (it->has & NO_DRIVER) == 0);
         const int32_t n = it->make();
         returned(n);
-        if (it->plan == booting)
+        if (it->plan == booting || it->plan == booting_from)
             is_started(n);
     }
 }

@@ -25,6 +25,7 @@ static const struct stage starting_up[] = {{POWER_ON, ALWAYS, AS_ANSWERED},
                                            {POWER_ON, ZERO, AS_ANSWERED},
                                            NO_MORE};
 static const struct stage booting[] = {{TRIAL_START, ALWAYS, AS_ANSWERED}, {TRIAL_RUNS, CARRIED, AS_ANSWERED}, NO_MORE};
+static const struct stage booting_from[] = {{TRIAL_START_FROM, ALWAYS, AS_ANSWERED}, {TRIAL_RUNS, CARRIED, AS_ANSWERED}, NO_MORE};
 static const struct stage accepting[] = {{TRIAL_CONFIRM, ALWAYS, AS_ANSWERED}, {TRIAL_CONFIRM, CARRIED, OR_NOT_WRITTEN}, NO_MORE};
 static const struct stage giving_up[] = {{TRIAL_END, ALWAYS, AS_ANSWERED}, {TRIAL_END, CARRIED, OR_NOT_WRITTEN}, NO_MORE};
 static const struct stage formatting_a_trial[] = {{TRIAL_LOOK, ALWAYS, AS_ANSWERED},        {FORMAT_START, UNLESS_REFUSED, AS_ANSWERED},
@@ -76,6 +77,11 @@ static int32_t start_up(void)
 static int32_t boot(void)
 {
     return dfu_trial_boot(&trial, &place);
+}
+
+static int32_t boot_from(void)
+{
+    return dfu_trial_boot_from(&trial, &standing, &place);
 }
 
 static int32_t accept(void)

@@ -31,6 +31,7 @@ static const struct {
                     [FORMAT_TOOK] = {4, {0, DFU_NOT_WRITTEN, DFU_NO_DEVICE, DFU_ASKS}},
                     [TRIAL_LOOK] = {4, {0, DFU_NO_MEDIUM, DFU_NO_CONFIG, DFU_NO_SECTORS}},
                     [TRIAL_START] = {4, {0, DFU_NO_MEDIUM, DFU_FEW_TRIES, DFU_ASKS}},
+                    [TRIAL_START_FROM] = {4, {0, DFU_NO_MEDIUM, DFU_FEW_TRIES, DFU_ASKS}},
                     [TRIAL_RUNS] = {2, {0, DFU_NO_MEDIUM}},
                     [TRIAL_CONFIRM] = {4, {0, DFU_ELSEWHERE, DFU_NO_MEDIUM, DFU_ASKS}},
                     [TRIAL_END] = {4, {0, DFU_NO_MEDIUM, DFU_MANY_TRIES, DFU_ASKS}},

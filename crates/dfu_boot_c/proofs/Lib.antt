@@ -1,1 +1,2 @@
 mod Within
+mod Whole

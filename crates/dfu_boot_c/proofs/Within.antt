@@ -1,29 +1,28 @@
 -- The slots of a trial lie within the medium.
-use Rattle.std.proofs.Common.{◌≡◌, ℕ, ◌+◌, ◌≤◌, Bool, true, false, nat_lt, Some, length, refl, sym, subst, if◌then◌else◌}
+use Rattle.std.proofs.Common.{◌≡◌, ⊎_elim, ℕ, ◌+◌, ◌≤◌, Bool, true, false, nat_lt, Some, length, refl, sym, subst, arith, if◌then◌else◌}
 use Rattle.dfu_slots.specs.Medium.{MediumState}
 use Rattle.dfu_slots.specs.Layout.{slot_size}
-use Rattle.dfu_boot.specs.trial.Marks.{AreTries}
-use Rattle.dfu_boot.specs.trial.Calls.{IsStanding, sets, trial_start}
+use Rattle.dfu_boot.specs.trial.Calls.{sets, trial_start}
+use Rattle.dfu_boot.specs.trial.Again.{Fits}
 use Rattle.dfu_boot.specs.declared.trial.operation.Operation.TheVariants.{Close}
 use Rattle.dfu_boot.specs.declared.trial.standing.Trial.{Trial}
 use Rattle.dfu_boot.specs.declared.trial.standing.Standing.{Standing}
 use Rattle.dfu_boot.specs.declared.trial.standing.Standing.TheVariants as standing
 use Rattle.dfu_boot.specs.declared.trial.starting.Starting.{Starting}
 use Rattle.dfu_boot.proofs.Places.{turned, slot_in}
-use Rattle.dfu_boot.proofs.Asked.{active_in, trial_in}
 
 -- The slots of what starts end within the medium.
 abbrev pub AreWithin : MediumState → Starting → Type 0
 AreWithin m s = (s.slot + slot_size m.bytes ≤ length m.bytes) × (s.otherwise + slot_size m.bytes ≤ length m.bytes)
 
-module _ (m : MediumState) (tries : ℕ) (are : AreTries m.grain tries) where
-  on_trial : (t : Trial) → IsStanding m tries (standing.OnTrial t) → (b : Bool) → nat_lt t.starts tries ≡ b
+module _ (m : MediumState) (tries : ℕ) where
+  on_trial : (t : Trial) → Fits m tries (standing.OnTrial t) → (b : Bool) → nat_lt t.starts tries ≡ b
       → AreWithin m (trial_start m.grain tries (standing.OnTrial t))
-  on_trial t stands b is =
+  on_trial t fits b is =
       let marks : Starting = record { operation = Some (sets m.grain t.slot (t.starts + 1)); slot = t.slot; otherwise = t.base } in
       let gives_up : Starting = record { operation = Some (Close t.slot); slot = t.base; otherwise = t.base } in
-      let mine = trial_in m tries t are stands in
-      let base = slot_in m t.base t.slot stands.0.sized (turned m.bytes t.slot t.base stands.0.places) in
+      let mine = slot_in m t.slot t.base fits.0 fits.1 in
+      let base = slot_in m t.base t.slot fits.0 (turned m.bytes t.slot t.base fits.1) in
       subst (λ (x : Bool). AreWithin m (if x then marks else gives_up)) (sym is) (either b mine base)
     where
       either : (b : Bool) → t.slot + slot_size m.bytes ≤ length m.bytes → t.base + slot_size m.bytes ≤ length m.bytes
@@ -32,6 +31,9 @@ module _ (m : MediumState) (tries : ℕ) (are : AreTries m.grain tries) where
       either true mine base = (mine, base)
       either false mine base = (base, base)
 
-  pub starts_within : (s : Standing) → IsStanding m tries s → AreWithin m (trial_start m.grain tries s)
-  starts_within (standing.Settled s) stands = (active_in m tries s are stands, active_in m tries s are stands)
-  starts_within (standing.OnTrial t) stands = on_trial t stands (nat_lt t.starts tries) refl
+  pub starts_within : (s : Standing) → Fits m tries s → AreWithin m (trial_start m.grain tries s)
+  starts_within (standing.Settled s) fits =
+      let within : s.slot + slot_size m.bytes ≤ length m.bytes =
+      ⊎_elim (λ p. omega (arith, p, fits.0.even)) (λ p. omega (arith, p, fits.0.even)) fits.1 in
+      (within, within)
+  starts_within (standing.OnTrial t) fits = on_trial t fits (nat_lt t.starts tries) refl

@@ -2,3 +2,4 @@ pub mod Tries
 pub mod Told
 pub mod Numbers
 pub mod TrialCalls
+pub mod Again

@@ -16,6 +16,9 @@ static const struct dfu_trial trial = {
     .tries = {16, PAGE, TRIES},
 };
 
+/* What the look of this start found, which its boot takes: the images are read once. */
+static struct dfu_standing standing;
+
 /* Where the image begins in the medium that was started last: it runs elsewhere, so that it can't know by itself. */
 static uint32_t started;
 
@@ -24,25 +27,24 @@ int32_t trials_transfer(struct dfu_device *device, const uint8_t setup[8]) {
 }
 
 int trials_active(int is_trial_wanted, struct dfu_place *place) {
-    struct dfu_standing standing;
     if (dfu_trial_look(&trial, &standing) != 0 || (is_trial_wanted && standing.on_trial == 0))
         return 0;
     *place = standing.active;
     return 1;
 }
 
+/* A trial without a start left has ended; an image that runs on trial has one start less. */
 static void say_trial(void) {
-    struct dfu_standing standing;
     char text[] = "trial, 0 starts left";
-    if (dfu_trial_look(&trial, &standing) != 0 || standing.on_trial == 0)
+    if (standing.on_trial == 0 || standing.left == 0)
         return;
-    text[7] = (char)('0' + standing.left % 10);
+    text[7] = (char)('0' + (standing.left - (started == standing.active.at)) % 10);
     frame_send(serial_put, FRAME_TEXT, 0, (const uint8_t *)text, sizeof text - 1);
 }
 
 int trials_boot(struct dfu_place *place) {
     const uint32_t active = place->at;
-    if (dfu_trial_boot(&trial, place) != 0)
+    if (dfu_trial_boot_from(&trial, &standing, place) != 0)
         return 0;
     started = place->at;
     say_trial();

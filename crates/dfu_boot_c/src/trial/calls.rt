@@ -2,6 +2,9 @@
 ghost use Rattle.std.specs.Prelude.{◌≡◌, ◌⊎◌, pos};
 ghost use Rattle.std.specs.List.{list_all};
 ghost use Rattle.dfu_boot.specs.trial.Marks.{is_erased};
+ghost use Rattle.dfu_boot.specs.trial.Again.{AreWhole};
+ghost use Rattle.dfu_boot_c.specs.trial.Tries.{flash_state};
+ghost use Rattle.dfu_boot_c.specs.trial.Again.{base_told};
 ghost use Rattle.dfu_boot_c.specs.trial.Told.{is_there, run_told};
 ghost use Rattle.dfu_boot_c.specs.trial.TrialCalls.{RefusesTrial, ToldStanding, ToldStart, ToldConfirm, ToldEnd, ToldUpload};
 
@@ -21,6 +24,7 @@ const ELSEWHERE: i32 = -19;
 pub extern "C" fn dfu_core_trial_look(tries: &DfuTries, flash: &[u8], told: &mut DfuStanding) -> i32
     ensures outcome { ToldStanding tries.now flash.now result told.new
         ⊎ (RefusesTrial tries.now flash.now result × (told.new ≡ told.old)) }
+    ensures whole { result ≡ pos 0 → AreWhole (flash_state tries.now flash.now) told.new.active.at (base_told told.new) }
 {
     match looked(tries, flash) {
         Ok(looked) => {

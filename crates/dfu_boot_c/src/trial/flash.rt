@@ -1,5 +1,5 @@
 //! A flash is looked at, with the unit, the sector and the number of tries that a program in C hands in; or that is refused.
-ghost use Rattle.std.specs.Prelude.{◌≡◌, ◌≤◌, ◌^◌, ℕ, List, IfSome, IfNone, IfOk, IfErr, length};
+ghost use Rattle.std.specs.Prelude.{◌≡◌, ◌≤◌, ◌^◌, ℕ, List, IfSome, IfNone, IfOk, OnOk, IfErr, length};
 ghost use Rattle.dfu_asks.specs.Mapped.{grain_of as mapped_grain, mapped};
 ghost use Rattle.dfu_boot.specs.trial.Marks.{AreTries};
 ghost use Rattle.dfu_boot_c.specs.trial.Numbers.{trial_number};
@@ -101,6 +101,22 @@ fn refused(tries: &DfuTries) -> Option<Refusal>
     }
 }
 
+/// The flash as a medium that can have so many tries, or why it is none: the first of the refusals, in their order.
+pub(crate) fn prepared<'f>(tries: &DfuTries, flash: &'f [u8]) -> Result<Mapped<'f>, Refusal>
+    ensures state { IfOk result (λ m. mapped (mapped_grain m.unit m.sector) m.bytes.now ≡ flash_state tries.now flash.now) }
+    ensures part { OnOk result (IsTriesPart tries.now) }
+    ensures tries { OnOk result (AreTries (tries_grain tries.now) tries.now.tries) }
+    ensures err { IfErr result (λ e. IsTrialRefused e tries.now flash.now) }
+{
+    if let Some(refusal) = refused(tries) {
+        return Err(refusal);
+    }
+    match medium_of(tries, flash) {
+        Some(medium) => Ok(medium),
+        None => Err(Refusal::NoMedium),
+    }
+}
+
 /// The standing of the images of the flash, or why there is none: the first of the refusals, in their order.
 pub(crate) fn looked<'f>(tries: &DfuTries, flash: &'f [u8]) -> Result<Flash<'f>, Refusal>
     ensures state { IfOk result (λ l. mapped (mapped_grain l.medium.unit l.medium.sector) l.medium.bytes.now
@@ -108,12 +124,7 @@ pub(crate) fn looked<'f>(tries: &DfuTries, flash: &'f [u8]) -> Result<Flash<'f>,
     ensures ok { IfOk result (λ l. HasStanding tries.now flash.now l.standing) }
     ensures err { IfErr result (λ e. IsTrialRefused e tries.now flash.now) }
 {
-    if let Some(refusal) = refused(tries) {
-        return Err(refusal);
-    }
-    let Some(medium) = medium_of(tries, flash) else {
-        return Err(Refusal::NoMedium);
-    };
+    let medium = prepared(tries, flash)?;
     match look(&medium, tries.tries) {
         Ok(standing) => Ok(Flash { medium, standing }),
         Err(_) => {

@@ -1,12 +1,20 @@
 use Rattle.std.proofs.Common.{sym, subst}
 use Rattle.dfu_slots.specs.Medium.{MediumState}
 use Rattle.dfu_asks.specs.Mapped.{grain_of as mapped_grain, mapped}
-use Rattle.dfu_boot.specs.trial.Marks.{AreTries}
 use Rattle.dfu_boot.specs.trial.Calls.{IsStanding}
 use Rattle.dfu_boot.specs.declared.trial.starting.Starting.{Starting}
+use Rattle.dfu_boot.proofs.Fitting.{stands_fits}
 use Rattle.dfu_boot_c.proofs.Within.{AreWithin, starts_within}
 use Rattle.dfu_boot_c.proofs.trial.calls.dfu_core_trial_start.Goals.{After-start-starts}
 use Rattle.dfu_boot_c.proofs.trial.calls.dfu_core_trial_start.Goals as goal
+
+pub start-starts-requires-clause-stands : goal.start-starts-requires-clause-stands
+start-starts-requires-clause-stands c =
+    let l = c.in-Ok.looked in
+    let t = c.args.tries.now in
+    let m : MediumState = mapped (mapped_grain l.medium.unit l.medium.sector) l.medium.bytes.now in
+    stands_fits m t.tries l.standing
+    (subst (λ (x : MediumState). IsStanding x t.tries l.standing) (sym c.in-Ok.ensures.state) c.in-Ok.ensures.ok.stands)
 
 -- The slots of what starts end within the flash.
 within : (c : After-start-starts) → let medium = c.in-Ok.looked.medium in
@@ -15,9 +23,9 @@ within c =
     let l = c.in-Ok.looked in
     let t = c.args.tries.now in
     let m : MediumState = mapped (mapped_grain l.medium.unit l.medium.sector) l.medium.bytes.now in
-    let are = subst (λ (x : MediumState). AreTries x.grain t.tries) (sym c.in-Ok.ensures.state) c.in-Ok.ensures.ok.tries in
     let stands = subst (λ (x : MediumState). IsStanding x t.tries l.standing) (sym c.in-Ok.ensures.state) c.in-Ok.ensures.ok.stands in
-    subst (λ (s : Starting). AreWithin m s) (sym c.start-starts.ensures.value) (starts_within m t.tries are l.standing stands)
+    subst (λ (s : Starting). AreWithin m s) (sym c.start-starts.ensures.value)
+    (starts_within m t.tries l.standing (stands_fits m t.tries l.standing stands))
 
 pub starting_told-requires-clause-run : goal.starting_told-requires-clause-run
 starting_told-requires-clause-run c = (within (goal.at.starting_told-requires-clause-run c).After-start-starts).0

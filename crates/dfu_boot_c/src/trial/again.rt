@@ -1,0 +1,73 @@
+//! A start by the standing that a look before told.
+ghost use Rattle.std.specs.Prelude.{◌≡◌, ◌⊎◌, IfOk, OnOk, IfErr};
+ghost use Rattle.dfu_asks.specs.Mapped.{grain_of as mapped_grain, mapped};
+ghost use Rattle.dfu_boot.specs.trial.Marks.{AreTries};
+ghost use Rattle.dfu_boot.specs.trial.Again.{Fits, AreWhole};
+ghost use Rattle.dfu_boot_c.specs.trial.Tries.{tries_grain, flash_state, IsTriesPart, HasStanding, IsTrialRefused};
+ghost use Rattle.dfu_boot_c.specs.trial.Again.{base_told};
+ghost use Rattle.dfu_boot_c.specs.trial.TrialCalls.{RefusesTrial, ToldStart};
+
+use crate::trial::flash::{DfuTries, Flash, Refusal, looked, prepared};
+use crate::trial::told::{DfuStanding, DfuStarting, starting_told, tell};
+use dfu_boot::trial::look_again;
+use dfu_core::DfuAsk;
+
+// Where the image begins that comes back, if a standing has one on trial.
+fn base_told(standing: &DfuStanding) -> Option<u32>
+    ensures { result ≡ base_told standing.now }
+{
+    if standing.on_trial == 0 {
+        None
+    } else {
+        Some(standing.base.at)
+    }
+}
+
+// The standing of the images of the flash, as a look before told it, if that is still so; else by a look.
+fn looked_again<'f>(
+    tries: &DfuTries,
+    flash: &'f [u8],
+    standing: &DfuStanding,
+) -> Result<Flash<'f>, Refusal>
+    ensures state { IfOk result (λ l. mapped (mapped_grain l.medium.unit l.medium.sector) l.medium.bytes.now
+        ≡ flash_state tries.now flash.now) }
+    ensures tries { OnOk result (AreTries (tries_grain tries.now) tries.now.tries) }
+    ensures fits { IfOk result (λ l. Fits (flash_state tries.now flash.now) tries.now.tries l.standing) }
+    ensures stands { IfOk result (λ l. AreWhole (flash_state tries.now flash.now) standing.now.active.at (base_told standing.now) →
+        HasStanding tries.now flash.now l.standing) }
+    ensures err { IfErr result (λ e. IsTrialRefused e tries.now flash.now) }
+{
+    let medium = prepared(tries, flash)?;
+    let base = base_told(standing);
+    match look_again(&medium, tries.tries, standing.active.at, base) {
+        Some(standing) => Ok(Flash { medium, standing }),
+        None => looked(tries, flash),
+    }
+}
+
+/// What starts, as `dfu_core_trial_start`, by a standing that `dfu_core_trial_look` told: it reads gates, headers and marks, and no image.
+/// All that it takes from that standing is that the images which it names are whole; what their slots say otherwise comes from the flash.
+/// If that does not fit it looks anew.
+///
+/// Refused as `dfu_core_trial_look`.
+#[unsafe(no_mangle)]
+pub extern "C" fn dfu_core_trial_start_from(
+    tries: &DfuTries,
+    flash: &[u8],
+    standing: &DfuStanding,
+    ask: &mut DfuAsk,
+    told: &mut DfuStarting,
+) -> i32
+    ensures outcome { AreWhole (flash_state tries.now flash.now) standing.now.active.at (base_told standing.now) →
+        ToldStart tries.now flash.now result ask.old ask.new told.new
+        ⊎ (RefusesTrial tries.now flash.now result × (ask.new ≡ ask.old) × (told.new ≡ told.old)) }
+{
+    match looked_again(tries, flash, standing) {
+        Ok(looked) => {
+            let starts = looked.standing.start(&looked.medium, tries.tries);
+            *told = starting_told(&looked.medium, starts);
+            tell(starts.operation, tries.sector, ask)
+        }
+        Err(refusal) => refusal.number(),
+    }
+}
