@@ -12,7 +12,7 @@ use std::cell::Cell;
 use std::io::Write;
 
 /// What is wrong with a script that stopped, beside its fault.
-#[derive(Clone, Copy, Debug, PartialEq, Eq)]
+#[derive(Clone, Copy)]
 pub enum Reason {
     /// Of BadLine: the line has a byte that isn't 20h to 7Eh. It begins with a byte order mark, ends in a carriage return, or neither.
     Unprintable { begins: bool, ends: bool },

@@ -40,7 +40,7 @@ pub enum ScriptFault {
 }
 
 /// A field of a line: what one of its words has to be.
-#[derive(Clone, Copy, Debug, PartialEq, Eq)]
+#[derive(Clone, Copy)]
 pub enum Field {
     /// Four hexadecimal digits.
     Identifier,
@@ -68,7 +68,7 @@ pub enum Field {
 
 /// Why a line is not of the language: the first of its words, from the left, that isn't what its place wants, or how many words it has to
 /// have. Words are counted from 1.
-#[derive(Clone, Copy, Debug, PartialEq, Eq)]
+#[derive(Clone, Copy)]
 pub enum LineFault {
     /// It has over 65,536 bytes.
     Long,

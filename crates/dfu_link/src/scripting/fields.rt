@@ -1,17 +1,20 @@
-//! What a word of a line means by itself if it isn't just a number: hexadecimal text, a file, 16 bits, attributes, a unit, a sector, an
-//! objection.
+//! What a word of a line means: hexadecimal text, a file, 16 bits, attributes, a unit, a sector, an objection; and the next word of a line,
+//! read so.
 
 ghost use Rattle.std.specs.Prelude.{◌≡◌, ◌↔◌, IsTrue, is_some};
 ghost use Rattle.std.specs.List.{AllPass};
 ghost use Rattle.hex.specs.Hex.{is_hex_digit};
-ghost use Rattle.dfu_link.specs.Words.{Reads, hex_word_bytes, pair_of};
+ghost use Rattle.dfu_link.specs.Words.{Reads, hex_word_bytes, pair_of, words_of};
 ghost use Rattle.dfu_link.specs.Said.{given_bytes, hex_bytes, offered_bytes};
+ghost use Rattle.dfu_link.specs.Lines.{Tells, number_field, short_at, hex_at, identifier_at};
 ghost use Rattle.dfu_link.specs.Fields.{small_of, named_bytes, attributes_of_word, unit_named, unit_of_word, sector_of, objection_of};
 
+use crate::scripting::fault::{Field, LineFault};
 use crate::scripting::line::{HexText, Offered, Sector};
-use crate::scripting::words::{number, one_of, small};
+use crate::scripting::words::{is_word, number, one_of, small, word_at};
 use dfu_device::Objection;
 use dfu_slots::{MAX_SECTOR, PAGE, Unit};
+use dfu_wire::identifier;
 
 #[tactic(auto, using(std::proofs::lemmas::Bool::Decides::nat_tests))]
 fn is_digit(byte: u8) -> bool
@@ -29,7 +32,7 @@ fn are_digits(word: &[u8]) -> bool
 fn is_hex_text(word: &[u8]) -> bool
     ensures { result ≡ is_some (hex_word_bytes word.now) }
 {
-    if word == b"-".as_slice() {
+    if is_word(word, b"-") {
         return true;
     }
     word.len() % 2 == 0 && are_digits(word)
@@ -52,7 +55,7 @@ pub(crate) fn hex_text(word: &[u8]) -> Option<HexText<'_>>
 pub(crate) fn offered<'l, 'g>(given: Option<&'g [u8]>, word: &'l [u8]) -> Option<Offered<'l, 'g>>
     ensures { Reads offered_bytes result (named_bytes (given_bytes given.entry) word.now) }
 {
-    if word == b"FILE".as_slice() {
+    if is_word(word, b"FILE") {
         match given {
             Some(bytes) => Some(Offered::Given(bytes)),
             None => None,
@@ -135,4 +138,51 @@ pub(crate) fn objection(word: &[u8]) -> Option<Objection>
         b"errTARGET" => Target,
         b"errFILE" => File,
     })
+}
+
+/// A field of a line, as this function reads its word, and what is left of the line after it.
+macro_rules! field {
+    ($line:ident, $n:expr, $of:expr, $field:ident, $read:path $(, $most:expr)?) => {{
+        let Some((word, rest)) = word_at($line) else {
+            return Err(LineFault::Count($of));
+        };
+        let Some(value) = $read(word $(, $most)?) else {
+            return Err(LineFault::Word(Field::$field, $n));
+        };
+        (value, rest)
+    }};
+}
+
+pub(crate) use field;
+
+/// Word `n` of a line of `of` words, as a number, and the line after it.
+#[tactic(auto, unfolding(crate::specs::Lines::number_field))]
+pub(crate) fn number_at(line: &[u8], n: usize, of: usize) -> Result<(u32, &[u8]), LineFault>
+    ensures { Tells (λ x. (x.0, words_of x.1.now)) result (number_field n of (words_of line.now)) }
+{
+    Ok(field!(line, n, of, Number, number))
+}
+
+/// Word `n`, as a number of at most 65,535, and the line after it.
+#[tactic(auto, unfolding(crate::specs::Lines::short_at))]
+pub(crate) fn short_at(line: &[u8], n: usize, of: usize) -> Result<(u16, &[u8]), LineFault>
+    ensures { Tells (λ x. (x.0, words_of x.1.now)) result (short_at n of (words_of line.now)) }
+{
+    Ok(field!(line, n, of, Short, short))
+}
+
+/// Word `n`, as hexadecimal text, and the line after it.
+#[tactic(auto, unfolding(crate::specs::Lines::hex_at))]
+pub(crate) fn hex_at(line: &[u8], n: usize, of: usize) -> Result<(HexText<'_>, &[u8]), LineFault>
+    ensures { Tells (λ x. (hex_bytes x.0, words_of x.1.now)) result (hex_at n of (words_of line.now)) }
+{
+    Ok(field!(line, n, of, Bytes, hex_text))
+}
+
+/// Word `n`, as four hexadecimal digits, and the line after it.
+#[tactic(auto, unfolding(crate::specs::Lines::identifier_at))]
+pub(crate) fn identifier_at(line: &[u8], n: usize, of: usize) -> Result<(u16, &[u8]), LineFault>
+    ensures { Tells (λ x. (x.0, words_of x.1.now)) result (identifier_at n of (words_of line.now)) }
+{
+    Ok(field!(line, n, of, Identifier, identifier))
 }

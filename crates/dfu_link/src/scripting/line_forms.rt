@@ -6,21 +6,21 @@ ghost use Rattle.dfu_link.specs.Said.{given_bytes, offered_bytes, said_of};
 ghost use Rattle.dfu_link.specs.Lines.{Tells, said_ids, said_device, unit_line, erase_of, said_capacity, said_image, check_of, said_limits, no_file, offered_file, offer_of, time_of, refuse_of, expect_of};
 
 use crate::scripting::fault::{Field, LineFault};
-use crate::scripting::fields::{hex_text, offered};
+use crate::scripting::fields::{field, hex_at, identifier_at, number_at, offered, short_at};
 use crate::scripting::line::{ConfigLine, EventLine, Line, Offered, Room};
-use crate::scripting::words::{ended, field, number, text_behind, word_at};
+use crate::scripting::words::{ended, is_word, text_behind, word_at};
 use crate::scripting::{fields, words};
 use dfu_sim::Purpose;
-use dfu_wire::{Functional, Ids, identifier};
+use dfu_wire::{Functional, Ids};
 
 /// `ids VVVV PPPP DDDD`.
-#[tactic(auto, unfolding(crate::specs::Lines::said_ids, crate::specs::Lines::identifier_at))]
+#[tactic(auto, unfolding(crate::specs::Lines::said_ids))]
 pub(crate) fn ids(line: &[u8]) -> Result<Line<'_, 'static>, LineFault>
     ensures { Tells said_of result (said_ids (words_of line.now)) }
 {
-    let (vendor, rest) = field!(line, 2, 4, Identifier, identifier);
-    let (product, rest) = field!(rest, 3, 4, Identifier, identifier);
-    let (device, rest) = field!(rest, 4, 4, Identifier, identifier);
+    let (vendor, rest) = identifier_at(line, 2, 4)?;
+    let (product, rest) = identifier_at(rest, 3, 4)?;
+    let (device, rest) = identifier_at(rest, 4, 4)?;
     let ids = Ids {
         device,
         product,
@@ -30,16 +30,16 @@ pub(crate) fn ids(line: &[u8]) -> Result<Line<'_, 'static>, LineFault>
 }
 
 /// `device FF DETACH TRANSFER LEAST BUSY MANIFEST`.
-#[tactic(auto, unfolding(crate::specs::Lines::said_device, crate::specs::Lines::short_at, crate::specs::Lines::number_field))]
+#[tactic(auto, unfolding(crate::specs::Lines::said_device))]
 pub(crate) fn device(line: &[u8]) -> Result<Line<'_, 'static>, LineFault>
     ensures { Tells said_of result (said_device (words_of line.now)) }
 {
     let (attributes, rest) = field!(line, 2, 7, Attributes, fields::attributes);
-    let (detach_ms, rest) = field!(rest, 3, 7, Short, fields::short);
-    let (transfer, rest) = field!(rest, 4, 7, Short, fields::short);
-    let (least, rest) = field!(rest, 5, 7, Number, number);
-    let (busy_ms, rest) = field!(rest, 6, 7, Number, number);
-    let (manifest_ms, rest) = field!(rest, 7, 7, Number, number);
+    let (detach_ms, rest) = short_at(rest, 3, 7)?;
+    let (transfer, rest) = short_at(rest, 4, 7)?;
+    let (least, rest) = number_at(rest, 5, 7)?;
+    let (busy_ms, rest) = number_at(rest, 6, 7)?;
+    let (manifest_ms, rest) = number_at(rest, 7, 7)?;
     let functional = Functional::of_attributes(attributes, detach_ms, transfer, 0x0110);
     let said = Line::Set(ConfigLine::Device {
         functional,
@@ -78,30 +78,30 @@ pub(crate) fn capacity(line: &[u8]) -> Result<Line<'_, 'static>, LineFault>
 }
 
 /// `image HEX`.
-#[tactic(auto, unfolding(crate::specs::Lines::said_image, crate::specs::Lines::hex_at))]
+#[tactic(auto, unfolding(crate::specs::Lines::said_image))]
 pub(crate) fn image(line: &[u8]) -> Result<Line<'_, 'static>, LineFault>
     ensures { Tells said_of result (said_image (words_of line.now)) }
 {
-    let (image, rest) = field!(line, 2, 2, Bytes, hex_text);
+    let (image, rest) = hex_at(line, 2, 2)?;
     ended(Line::Set(ConfigLine::Image(image)), 2, rest)
 }
 
 /// `check HEX`.
-#[tactic(auto, unfolding(crate::specs::Lines::check_of, crate::specs::Lines::hex_at))]
+#[tactic(auto, unfolding(crate::specs::Lines::check_of))]
 pub(crate) fn check(line: &[u8]) -> Result<Line<'_, 'static>, LineFault>
     ensures { Tells said_of result (check_of (words_of line.now)) }
 {
-    let (front, rest) = field!(line, 2, 2, Bytes, hex_text);
+    let (front, rest) = hex_at(line, 2, 2)?;
     ended(Line::Set(ConfigLine::Check(front)), 2, rest)
 }
 
 /// `limits A R`.
-#[tactic(auto, unfolding(crate::specs::Lines::said_limits, crate::specs::Lines::number_field, crate::specs::Lines::short_at))]
+#[tactic(auto, unfolding(crate::specs::Lines::said_limits))]
 pub(crate) fn limits(line: &[u8]) -> Result<Line<'_, 'static>, LineFault>
     ensures { Tells said_of result (said_limits (words_of line.now)) }
 {
-    let (actions, rest) = field!(line, 2, 3, Number, number);
-    let (restarts, rest) = field!(rest, 3, 3, Short, fields::short);
+    let (actions, rest) = number_at(line, 2, 3)?;
+    let (restarts, rest) = short_at(rest, 3, 3)?;
     ended(Line::Limits { actions, restarts }, 3, rest)
 }
 
@@ -109,7 +109,7 @@ pub(crate) fn limits(line: &[u8]) -> Result<Line<'_, 'static>, LineFault>
 fn no_file(word: &[u8], n: usize) -> LineFault
     ensures { result ≡ no_file word.now n }
 {
-    if word == b"FILE".as_slice() {
+    if is_word(word, b"FILE") {
         LineFault::NoFile
     } else {
         LineFault::Word(Field::Bytes, n)
@@ -126,9 +126,13 @@ fn file_at<'l, 'g>(
 ) -> Result<(Offered<'l, 'g>, &'l [u8]), LineFault>
     ensures { Tells (λ x. (offered_bytes x.0, words_of x.1.now)) result (offered_file (given_bytes given.entry) n of (words_of line.now)) }
 {
-    let (word, rest) = word_at(line).ok_or(LineFault::Count(of))?;
-    let file = offered(given, word).ok_or(no_file(word, n))?;
-    Ok((file, rest))
+    let Some((word, rest)) = word_at(line) else {
+        return Err(LineFault::Count(of));
+    };
+    match offered(given, word) {
+        Some(file) => Ok((file, rest)),
+        None => Err(no_file(word, n)),
+    }
 }
 
 /// `offer HEX`, `offer FILE`, `verify HEX` and `verify FILE`, if these bytes are given.
@@ -145,11 +149,11 @@ pub(crate) fn offer<'l, 'g>(
 }
 
 /// `time MS`.
-#[tactic(auto, unfolding(crate::specs::Lines::time_of, crate::specs::Lines::number_field))]
+#[tactic(auto, unfolding(crate::specs::Lines::time_of))]
 pub(crate) fn time(line: &[u8]) -> Result<Line<'_, 'static>, LineFault>
     ensures { Tells said_of result (time_of (words_of line.now)) }
 {
-    let (ms, rest) = field!(line, 2, 2, Number, number);
+    let (ms, rest) = number_at(line, 2, 2)?;
     ended(Line::Do(EventLine::Time(ms)), 2, rest)
 }
 
@@ -167,10 +171,14 @@ pub(crate) fn refuse(line: &[u8]) -> Result<Line<'_, 'static>, LineFault>
 pub(crate) fn expect(line: &[u8]) -> Result<Line<'_, 'static>, LineFault>
     ensures { Tells said_of result (expect_of line.now) }
 {
-    let text = text_behind(line).ok_or(LineFault::NoText)?;
-    if text.is_empty() {
-        Err(LineFault::NoText)
-    } else {
-        Ok(Line::Expect(text))
+    match text_behind(line) {
+        Some(text) => {
+            if text.is_empty() {
+                Err(LineFault::NoText)
+            } else {
+                Ok(Line::Expect(text))
+            }
+        }
+        None => Err(LineFault::NoText),
     }
 }

@@ -7,14 +7,14 @@ ghost use Rattle.dfu_link.specs.Lines.{Tells, ends, pass_of, slip_of, harmed_of,
 
 use crate::notes::{Reason, Stopped};
 use crate::scripting::fault::{Field, LineFault};
-use crate::scripting::fields::hex_text;
+use crate::scripting::fields::{field, hex_at, number_at};
 use crate::scripting::line::{EventLine, HarmKind, Line};
 use crate::scripting::line_forms::{
     capacity, check, device, erase, expect, ids, image, limits, offer, refuse, time, unit,
 };
 use crate::scripting::words;
 use crate::scripting::words::{
-    FateKeyword, Keyword, ended, field, is_comment, number, read_fate, read_keyword, word_at,
+    FateKeyword, Keyword, ended, is_comment, is_word, read_fate, read_keyword, word_at,
 };
 use dfu_sim::{Fate, Purpose};
 
@@ -39,21 +39,21 @@ fn once<'l>(fate: Fate<'l>, of: usize, rest: &[u8]) -> Result<Line<'l, 'static>,
 }
 
 /// `go slip MS`.
-#[tactic(auto, unfolding(crate::specs::Lines::slip_of, crate::specs::Lines::number_field))]
+#[tactic(auto, unfolding(crate::specs::Lines::slip_of))]
 fn slip(line: &[u8]) -> Result<Line<'_, 'static>, LineFault>
     ensures { Tells said_of result (slip_of (words_of line.now)) }
 {
-    let (ms, rest) = field!(line, 3, 3, Number, number);
+    let (ms, rest) = number_at(line, 3, 3)?;
     once(Fate::Slip(ms), 3, rest)
 }
 
 /// `go cut W HEX` and `go fail W HEX`.
-#[tactic(auto, unfolding(crate::specs::Lines::harmed_of, crate::specs::Lines::number_field, crate::specs::Lines::hex_at))]
+#[tactic(auto, unfolding(crate::specs::Lines::harmed_of))]
 fn harmed(harm: HarmKind, line: &[u8]) -> Result<Line<'_, 'static>, LineFault>
     ensures { Tells said_of result (harmed_of (harm_fate harm) (words_of line.now)) }
 {
-    let (writes, rest) = field!(line, 3, 4, Number, number);
-    let (tear, rest) = field!(rest, 4, 4, Bytes, hex_text);
+    let (writes, rest) = number_at(line, 3, 4)?;
+    let (tear, rest) = hex_at(rest, 4, 4)?;
     let events = EventLine::GoHarmed { harm, writes, tear };
     ended(Line::Do(events), 4, rest)
 }
@@ -63,8 +63,10 @@ fn harmed(harm: HarmKind, line: &[u8]) -> Result<Line<'_, 'static>, LineFault>
 fn until(line: &[u8]) -> Result<Line<'_, 'static>, LineFault>
     ensures { Tells said_of result (until_of (words_of line.now)) }
 {
-    let (word, rest) = word_at(line).ok_or(LineFault::Count(3))?;
-    if word != b"report".as_slice() {
+    let Some((word, rest)) = word_at(line) else {
+        return Err(LineFault::Count(3));
+    };
+    if !is_word(word, b"report") {
         return Err(LineFault::Word(Field::Report, 3));
     }
     ended(Line::Do(EventLine::GoOn), 3, rest)
@@ -93,9 +95,13 @@ fn by_fate(keyword: FateKeyword, rest: &[u8]) -> Result<Line<'_, 'static>, LineF
 fn go(line: &[u8]) -> Result<Line<'_, 'static>, LineFault>
     ensures { Tells said_of result (go_of (words_of line.now)) }
 {
-    let (word, rest) = word_at(line).ok_or(LineFault::NoFate)?;
-    let keyword = read_fate(word).ok_or(LineFault::Fate)?;
-    by_fate(keyword, rest)
+    let Some((word, rest)) = word_at(line) else {
+        return Err(LineFault::NoFate);
+    };
+    match read_fate(word) {
+        Some(keyword) => by_fate(keyword, rest),
+        None => Err(LineFault::Fate),
+    }
 }
 
 /// What a line says, by its first word.
@@ -144,8 +150,10 @@ fn read_line<'l, 'g>(given: Option<&'g [u8]>, line: &'l [u8]) -> Result<Line<'l,
             if is_comment(word) {
                 return Ok(Line::Blank);
             }
-            let keyword = read_keyword(word).ok_or(LineFault::Keyword)?;
-            by_keyword(given, keyword, line, rest)
+            match read_keyword(word) {
+                Some(keyword) => by_keyword(given, keyword, line, rest),
+                None => Err(LineFault::Keyword),
+            }
         }
     }
 }

@@ -12,7 +12,7 @@ use dfu_device::ConfigFault;
 const MAX_POLL: u32 = 16_777_215;
 
 /// Why no device can be set up, in the order in which it is looked for.
-#[derive(Clone, Copy, Debug, PartialEq, Eq)]
+#[derive(Clone, Copy)]
 pub enum SetupFault {
     /// The transfer size isn't 1 to 4,096 bytes.
     Transfer,

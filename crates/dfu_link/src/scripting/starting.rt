@@ -15,6 +15,7 @@ use crate::scripting::fault::ScriptFault;
 use crate::scripting::line::{HexText, Room, Sector};
 use crate::scripting::script_config::ScriptConfig;
 use crate::scripting::setup_fault::{line_of_fault, setup_fault};
+use crate::scripting::words::is_word;
 use dfu_device::{Config, ConfigFault, Device};
 use dfu_slots::{FormatFault, SimMedium, Slots, Unit};
 use std::alloc::Global;
@@ -24,7 +25,7 @@ pub(crate) fn bytes_of(alloc: Global, text: HexText<'_>) -> Result<Vec<u8>, Scri
     ensures ok { IfOk result (λ v. v.items ≡ hex_bytes text.entry) }
     ensures fault { IfErr result (λ f. f ≡ ScriptFault.NoMemory) }
 {
-    if text.text == b"-".as_slice() {
+    if is_word(text.text, b"-") {
         return Ok(Vec::new(alloc));
     }
     match hex::decode(alloc, text.text) {

@@ -2,6 +2,7 @@
 
 ghost use Rattle.std.specs.Prelude.{◌≡◌, ◌≤◌, ◌+◌, ◌*◌, Some, None, IfSome};
 ghost use Rattle.std.specs.List.{position};
+ghost use Rattle.std.specs.Str.{bytes_eq};
 ghost use Rattle.dfu_link.specs.Words.{Reads, is_space, is_no_space, words_of, first_word, text_behind, number_of};
 ghost use Rattle.dfu_link.specs.Said.{said_of};
 ghost use Rattle.dfu_link.specs.Lines.{Tells, is_comment, ends};
@@ -49,6 +50,13 @@ pub(crate) fn text_behind(line: &[u8]) -> Option<&[u8]>
     Some(text)
 }
 
+/// Whether a word is this text.
+pub(crate) fn is_word(word: &[u8], text: &[u8]) -> bool
+    ensures { result ≡ bytes_eq word.now text.now }
+{
+    word == text
+}
+
 /// Whether a line with this first word is a comment.
 pub(crate) fn is_comment(word: &[u8]) -> bool
     ensures { result ≡ is_comment word.now }
@@ -78,17 +86,6 @@ pub(crate) fn ended<'l, 'g>(
         }
     }
 }
-
-/// A field of a line, as this function reads its word, and what is left of the line after it.
-macro_rules! field {
-    ($line:ident, $n:expr, $of:expr, $field:ident, $read:path $(, $most:expr)?) => {{
-        let (word, rest) = word_at($line).ok_or(LineFault::Count($of))?;
-        let value = $read(word $(, $most)?).ok_or(LineFault::Word(Field::$field, $n))?;
-        (value, rest)
-    }};
-}
-
-pub(crate) use field;
 
 /// A number of 1 to 10 decimal digits, at most 4,294,967,295.
 pub(crate) fn number(word: &[u8]) -> Option<u32>
@@ -134,9 +131,9 @@ pub(crate) fn count(word: &[u8], most: u32) -> Option<u32>
 /// The variant whose word this is, in the order of the table, or else the last value.
 macro_rules! one_of {
     ($word:ident, $of:ident, $none:expr, { $text:literal => $variant:ident, $($texts:literal => $variants:ident,)* }) => {
-        if $word == $text.as_slice() {
+        if is_word($word, $text) {
             Some($of::$variant)
-        } $(else if $word == $texts.as_slice() {
+        } $(else if is_word($word, $texts) {
             Some($of::$variants)
         })* else {
             $none
@@ -147,7 +144,7 @@ macro_rules! one_of {
 pub(crate) use one_of;
 
 /// The first word of a line.
-#[derive(Clone, Copy, Debug, PartialEq, Eq)]
+#[derive(Clone, Copy)]
 pub(crate) enum Keyword {
     Ids,
     Device,
@@ -171,7 +168,7 @@ pub(crate) enum Keyword {
 }
 
 /// The word after `go`.
-#[derive(Clone, Copy, Debug, PartialEq, Eq)]
+#[derive(Clone, Copy)]
 pub(crate) enum FateKeyword {
     Pass,
     LostOut,

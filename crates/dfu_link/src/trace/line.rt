@@ -126,6 +126,41 @@ fn push_state_name(line: &mut Words, state: State) -> Result<(), AllocError> {
     line.push(state.name())
 }
 
+/// Adds the action: its number, the phase of the host, what it asks for, and the fate.
+fn push_asked(
+    line: &mut Words,
+    number: u64,
+    before: &Snapshot<'_>,
+    fate: Fate<'_>,
+) -> Result<(), AllocError> {
+    line.push_number("# ", number)?;
+    line.push(" ")?;
+    line.push_phase(before.phase)?;
+    line.push("; ")?;
+    line.push_action(before.action)?;
+    line.push("; ")?;
+    line.push_fate(fate)
+}
+
+/// Adds what came of it: the answer, the state of the device before and after, the writes of its medium, and the time.
+fn push_told(
+    line: &mut Words,
+    ms: u64,
+    before: &Snapshot<'_>,
+    fate: Fate<'_>,
+    world: &World<'_, SimMedium>,
+) -> Result<(), AllocError> {
+    let device = world.device();
+    line.push("; ")?;
+    push_answer(line, before.action, fate, world.answered())?;
+    push_state_name(line, before.state)?;
+    push_state_name(line, device.state())?;
+    line.push("; ")?;
+    line.push_writes(device.slots().medium().noted(), before.writes)?;
+    line.push_number("; ", ms)?;
+    line.push(" ms\n")
+}
+
 /// The line of an action, from its number to the time.
 pub fn step_line(
     alloc: Global,
@@ -135,21 +170,7 @@ pub fn step_line(
     world: &World<'_, SimMedium>,
 ) -> Result<String, AllocError> {
     let mut line = Words::new(alloc);
-    let device = world.device();
-    line.push_number("# ", count.number)?;
-    line.push(" ")?;
-    line.push_phase(before.phase)?;
-    line.push("; ")?;
-    line.push_action(before.action)?;
-    line.push("; ")?;
-    line.push_fate(fate)?;
-    line.push("; ")?;
-    push_answer(&mut line, before.action, fate, world.answered())?;
-    push_state_name(&mut line, before.state)?;
-    push_state_name(&mut line, device.state())?;
-    line.push("; ")?;
-    line.push_writes(device.slots().medium().noted(), before.writes)?;
-    line.push_number("; ", count.ms)?;
-    line.push(" ms\n")?;
+    push_asked(&mut line, count.number, before, fate)?;
+    push_told(&mut line, count.ms, before, fate, world)?;
     Ok(line.into_text())
 }

@@ -14,12 +14,81 @@ fn asked_text(request: Request) -> &'static str {
     }
 }
 
+/// What precedes a write, after another one or not, that erases or not.
+fn before_write(is_behind: bool, erases: bool) -> &'static str {
+    match (is_behind, erases) {
+        (false, false) => "",
+        (false, true) => "erased ",
+        (true, false) => ", ",
+        (true, true) => ", erased ",
+    }
+}
+
 /// How a write ended.
 fn end_text(end: WriteEnd) -> &'static str {
     match end {
         WriteEnd::Worked => "",
         WriteEnd::Failed => " failed",
         WriteEnd::Lied => " lied",
+    }
+}
+
+/// The word of a phase.
+fn phase_text(phase: Phase) -> &'static str {
+    match phase {
+        Phase::Find => "Find",
+        Phase::FindAgain => "FindAgain",
+        Phase::Detach => "Detach",
+        Phase::Enter => "Enter",
+        Phase::Clear => "Clear",
+        Phase::Quit => "Quit",
+        Phase::WaitFind(_) => "WaitFind",
+        Phase::ResetFind => "ResetFind",
+        Phase::Block(_) => "Block",
+        Phase::Ask(_) => "Ask",
+        Phase::Poll(_) => "Poll",
+        Phase::WaitPoll(_, _) => "WaitPoll",
+        Phase::Close => "Close",
+        Phase::AskLast => "AskLast",
+        Phase::Manifest => "Manifest",
+        Phase::WaitManifest(_) => "WaitManifest",
+        Phase::WaitLast(_) => "WaitLast",
+        Phase::Trouble => "Trouble",
+        Phase::Fetch(_) => "Fetch",
+        Phase::Compare(_) => "Compare",
+        Phase::Last(_) => "Last",
+        Phase::LastUploaded => "LastUploaded",
+        Phase::GiveUp => "GiveUp",
+        Phase::Over(_) => "Over",
+        Phase::OverUploaded => "OverUploaded",
+    }
+}
+
+/// The number of the block or part that a phase is at.
+fn part_of(phase: Phase) -> Option<u64> {
+    match phase {
+        Phase::Block(number) => Some(number as u64),
+        Phase::Ask(number) => Some(number as u64),
+        Phase::Poll(number) => Some(number as u64),
+        Phase::WaitPoll(number, _) => Some(number as u64),
+        Phase::Fetch(number) => Some(u64::from(number)),
+        Phase::Compare(number) => Some(u64::from(number)),
+        _ => None,
+    }
+}
+
+/// The word of a fate, as a script has it.
+fn fate_text(fate: Fate<'_>) -> &'static str {
+    match fate {
+        Fate::Pass => "pass",
+        Fate::LostOut => "lostout",
+        Fate::LostBack => "lostback",
+        Fate::Twice => "twice",
+        Fate::TwiceLostBack => "twicelostback",
+        Fate::Slip(_) => "slip",
+        Fate::Cut { .. } => "cut",
+        Fate::Fail { .. } => "fail",
+        Fate::Lie { .. } => "lie",
     }
 }
 
@@ -60,32 +129,10 @@ impl Words {
 
     /// Adds a phase, with the number of the block or part that it is at.
     pub(crate) fn push_phase(&mut self, phase: Phase) -> Result<(), AllocError> {
-        match phase {
-            Phase::Find => self.push("Find"),
-            Phase::FindAgain => self.push("FindAgain"),
-            Phase::Detach => self.push("Detach"),
-            Phase::Enter => self.push("Enter"),
-            Phase::Clear => self.push("Clear"),
-            Phase::Quit => self.push("Quit"),
-            Phase::WaitFind(_) => self.push("WaitFind"),
-            Phase::ResetFind => self.push("ResetFind"),
-            Phase::Block(number) => self.push_number("Block ", number as u64),
-            Phase::Ask(number) => self.push_number("Ask ", number as u64),
-            Phase::Poll(number) => self.push_number("Poll ", number as u64),
-            Phase::WaitPoll(number, _) => self.push_number("WaitPoll ", number as u64),
-            Phase::Close => self.push("Close"),
-            Phase::AskLast => self.push("AskLast"),
-            Phase::Manifest => self.push("Manifest"),
-            Phase::WaitManifest(_) => self.push("WaitManifest"),
-            Phase::WaitLast(_) => self.push("WaitLast"),
-            Phase::Trouble => self.push("Trouble"),
-            Phase::Fetch(number) => self.push_number("Fetch ", u64::from(number)),
-            Phase::Compare(number) => self.push_number("Compare ", u64::from(number)),
-            Phase::Last(_) => self.push("Last"),
-            Phase::LastUploaded => self.push("LastUploaded"),
-            Phase::GiveUp => self.push("GiveUp"),
-            Phase::Over(_) => self.push("Over"),
-            Phase::OverUploaded => self.push("OverUploaded"),
+        self.push(phase_text(phase))?;
+        match part_of(phase) {
+            Some(number) => self.push_number(" ", number),
+            None => Ok(()),
         }
     }
 
@@ -115,33 +162,30 @@ impl Words {
         self.push(&digits)
     }
 
-    /// Adds a word, and a harmed write after it.
-    fn push_harm(&mut self, word: &str, writes: u32, tear: &[u8]) -> Result<(), AllocError> {
-        self.push_number(word, u64::from(writes))?;
+    /// Adds a harmed write: the writes that work before it, and the tear.
+    fn push_harm(&mut self, writes: u32, tear: &[u8]) -> Result<(), AllocError> {
+        self.push_number(" ", u64::from(writes))?;
         self.push(" ")?;
         self.push_hex(tear)
     }
 
     /// Adds a fate as a script has it.
     pub(crate) fn push_fate(&mut self, fate: Fate<'_>) -> Result<(), AllocError> {
+        self.push(fate_text(fate))?;
         match fate {
-            Fate::Pass => self.push("pass"),
-            Fate::LostOut => self.push("lostout"),
-            Fate::LostBack => self.push("lostback"),
-            Fate::Twice => self.push("twice"),
-            Fate::TwiceLostBack => self.push("twicelostback"),
-            Fate::Slip(ms) => self.push_number("slip ", u64::from(ms)),
-            Fate::Cut { writes, tear } => self.push_harm("cut ", writes, tear),
-            Fate::Fail { writes, tear } => self.push_harm("fail ", writes, tear),
-            Fate::Lie { writes, tear } => self.push_harm("lie ", writes, tear),
+            Fate::Slip(ms) => self.push_number(" ", u64::from(ms)),
+            Fate::Cut { writes, tear } => self.push_harm(writes, tear),
+            Fate::Fail { writes, tear } => self.push_harm(writes, tear),
+            Fate::Lie { writes, tear } => self.push_harm(writes, tear),
+            Fate::Pass | Fate::LostOut | Fate::LostBack | Fate::Twice | Fate::TwiceLostBack => {
+                Ok(())
+            }
         }
     }
 
     /// Adds a write, after another one or not.
     fn push_write(&mut self, is_behind: bool, note: WriteNote) -> Result<(), AllocError> {
-        self.push(if is_behind { ", " } else { "" })?;
-        self.push(if note.erases { "erased " } else { "" })?;
-        self.push_number("", u64::from(note.len))?;
+        self.push_number(before_write(is_behind, note.erases), u64::from(note.len))?;
         self.push_number(" at ", u64::from(note.at))?;
         self.push(end_text(note.end))
     }
