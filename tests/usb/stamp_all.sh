@@ -29,6 +29,7 @@ for port in 1 2 3 4 6 7 8 10 11 13 15 16; do
 done
 expect 'fifteen took one, each another' test "$(grep -c begun serials.used)-$(grep begun serials.used | cut -f 2 | sort -u | wc -l)" = 15-15
 expect 'each of these ended' test "$(grep -vc begun serials.used)" -eq 15
+expect 'one that was killed has its end' grep -q '	1-14	broken$' serials.used
 expect 'one that was not opened took none' test "$(grep -c '	1-12	' serials.used)" -eq 0
 expect 'one that was killed has its entry in the report' grep -q ',14,"broken",.*"1-14",,[0-9.]*,"10[0-9]*"$' stamp-all.csv
 expect 'those that are left' grep -q '"report":"summary","words":"12 flashed, 4 not","flashed":12,"failed":4,"entries":5,' out
