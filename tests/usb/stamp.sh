@@ -3,12 +3,12 @@
 
 # An image of 64 bytes with room for 8 from byte 16 on, and one without.
 letters='abcdefghijklmnop'
-room() {
+with_room() {
     printf '%s' "$letters"
     printf '\377\377\377\377\377\377\377\377'
     printf '%s%s' "$letters" 'qrstuvwxyz.-_ABCDEFGHIJ.'
 }
-room > room
+with_room > room
 "$dfu" add room room.dfu --vid 1209 --pid 0001 > /dev/null
 cp room.dfu room.copy
 # stamped TEXT: the image on the board has this in its room, with 00 behind it, and else what the file has.

@@ -55,12 +55,12 @@ says 'dfu-flash: serials has 0 more'
 # The first process is killed, at many moments: what a board has was begun in the record, no entry went to two boards, and the others, which
 # abort by themselves, say how each ended.
 seq 2001 2999 > serials
-rm -f serials.used
+: > serials.used
 has_more() {
-    [ "$(cat serials.used 2> /dev/null | grep -c begun)" -gt "$before" ]
+    [ "$(grep -c begun serials.used)" -gt "$before" ]
 }
 for ms in 010 050 100 200 301 001 051 101; do
-    before=$(cat serials.used 2> /dev/null | grep -c begun || :)
+    before=$(grep -c begun serials.used || :)
     sixteen USB_BUSY=40
     env LD_LIBRARY_PATH="$work" USB_IMAGE="$work/old" USB_BOARDS="$work/boards" ./dfu-flash --all --quiet $at 16:8 room.dfu > /dev/null 2>&1 &
     # (the last ones are killed once a board has begun, however slow the machine is)
