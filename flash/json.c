@@ -30,6 +30,8 @@ static void print_quoted(const char *text)
 
 void json_text(const char *name, const char *text)
 {
+    if (text == NULL)
+        return;
     printf(",\"%s\":", name);
     print_quoted(text);
 }

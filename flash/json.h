@@ -8,7 +8,7 @@
 #include <stdbool.h>
 #include <stdint.h>
 
-/* A field after another one: its name, and a text, a number or a truth. */
+/* A field after another one: its name, and a text, a number or a truth. A text that is NULL isn't known: there is no field. */
 void json_text(const char *name, const char *text);
 void json_number(const char *name, uint64_t number);
 void json_truth(const char *name, bool is);

@@ -90,8 +90,7 @@ static void print_plan_record(const struct session *session)
         json_number("bytes", session->payload_length);
     if (session->dfuse.is && session->dfuse.file != NULL)
         dfuse_elements_json(session);
-    if (stamp_next() != NULL)
-        json_text("stamp", stamp_next());
+    json_text("stamp", stamp_next());
     if (session->odd == 0) {
         json_number("transfer", session->host.transfer);
         json_number("most_actions", session->actions);

@@ -86,8 +86,7 @@ static void begin(int status, const char *report)
 
 static void end(const char *path, const char *step)
 {
-    if (step != NULL)
-        json_text("next", step);
+    json_text("next", step);
     if (*say_mark == '\0')
         station_json(path);
     if (each.path != NULL && each.log->name != NULL)
@@ -176,8 +175,7 @@ static void print_short(int status, const char *name, const char *words, const c
 {
     begin(status, name);
     json_text("words", words);
-    if (status == STATUS_FILE && say_reason() != NULL)
-        json_text("reason", say_reason());
+    json_text("reason", status == STATUS_FILE ? say_reason() : NULL);
     if (is_known())
         printf(",\"vendor\":\"%04x\",\"product\":\"%04x\",\"release\":\"%04x\"", each.is->vendor, each.is->product, each.is->release);
     if (path_known() != NULL)

@@ -67,10 +67,9 @@ static void say_lost(void)
         if (stamp->state != STAMP_USED || stamp->lost_at == NULL)
             continue;
         say_text(stderr, "dfu-flash: the program was killed when the board at ", stamp->lost_at, " had its entry\n");
-        snprintf(board.path, sizeof board.path, "%s", stamp->lost_at);
-        stamp_is(stamp, true);
-        station_add(killed.status, killed.name, killed.words, board.path, NULL, 0);
-        stamp_is(NULL, false);
+        stamp_is(stamp, stamp->lost_at);
+        station_add(killed.status, killed.name, killed.words, stamp->lost_at, NULL, 0);
+        stamp_is(NULL, NULL);
     }
 }
 
@@ -136,13 +135,15 @@ size_t stamp_free(void)
     return count_of(STAMP_FREE);
 }
 
-void stamp_is(struct stamp *stamp, bool is_taken)
+void stamp_is(struct stamp *stamp, const char *taken_at)
 {
     board.mine = stamp;
-    board.is_taken = is_taken;
+    board.is_taken = taken_at != NULL;
     board.is_ended = false;
-    if (stamp != NULL && is_taken)
-        stamp->state = STAMP_USED;
+    if (stamp == NULL || taken_at == NULL)
+        return;
+    stamp->state = STAMP_USED;
+    snprintf(board.path, sizeof board.path, "%s", taken_at);
 }
 
 bool stamp_take(const char *path)

@@ -29,8 +29,8 @@ void stamp_release(struct stamp *stamp);
 size_t stamp_left(void);
 size_t stamp_free(void);
 
-/* The board of this process gets this one; NULL: none. With `is_taken` it has it already. */
-void stamp_is(struct stamp *stamp, bool is_taken);
+/* The board of this process gets this one; NULL: none. With a path, the board there has taken it already. */
+void stamp_is(struct stamp *stamp, const char *taken_at);
 
 /* From here on the board has it: the record says so. False if it can't, which is then said; nothing may be sent then. */
 bool stamp_take(const char *path);

@@ -85,7 +85,7 @@ int32_t stamp_image(struct image *image, const struct words *words)
     if (words->stamp == NULL)
         return 0;
     if (words->bay == NULL)
-        stamp_is(stamp_hold(), false);
+        stamp_is(stamp_hold(), NULL);
     if (stamp_next() == NULL)
         return REFUSED_NO_STAMP;
     stamp_bytes(bytes);

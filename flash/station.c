@@ -140,14 +140,11 @@ void station_json(const char *path)
     char time[32];
     station_time(time);
     json_text("time", time);
-    if (station_port(path) != NULL)
-        json_text("port", station_port(path));
-    if (stamp_taken() != NULL)
-        json_text("stamp", stamp_taken());
+    json_text("port", station_port(path));
+    json_text("stamp", stamp_taken());
     if (!station.has_image)
         return;
-    if (station.image != NULL)
-        json_text("image", station.image);
+    json_text("image", station.image);
     json_hex("crc32", station.crc, 8);
 }
 

@@ -112,7 +112,7 @@ static void end(struct crew *crew, struct worker *worker, int status, const char
     if (!is_same)
         count_end(crew, status);
     bay_end(worker->bay, is_same, clock_ms());
-    stamp_is(NULL, false);
+    stamp_is(NULL, NULL);
     worker_drop(worker);
 }
 

@@ -117,7 +117,7 @@ bool worker_begin(struct worker *worker, const struct words *words, struct image
     worker->process = has_pipes ? fork() : -1;
     if (worker->process == 0) {
         leave_first(out[1], err[1], first);
-        stamp_is(worker->stamp, false);
+        stamp_is(worker->stamp, NULL);
         work(words, image, bay, has_rows);
     }
     if (has_pipes) {
@@ -237,7 +237,7 @@ void worker_leave_stamp(struct worker *worker)
 {
     if (worker->stamp != NULL && !worker->has_stamp)
         stamp_release(worker->stamp);
-    stamp_is(worker->has_stamp ? worker->stamp : NULL, worker->has_stamp);
+    stamp_is(worker->has_stamp ? worker->stamp : NULL, worker->has_stamp ? worker->bay->path : NULL);
 }
 
 void worker_drop(struct worker *worker)

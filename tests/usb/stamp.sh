@@ -3,12 +3,12 @@
 
 # An image of 64 bytes with room for 8 from byte 16 on, and one without.
 letters='abcdefghijklmnop'
-room() {
+with_room() {
     printf '%s' "$letters"
     printf '\377\377\377\377\377\377\377\377'
     printf '%s%s' "$letters" 'qrstuvwxyz.-_ABCDEFGHIJ.'
 }
-room > room
+with_room > room
 "$dfu" add room room.dfu --vid 1209 --pid 0001 > /dev/null
 cp room.dfu room.copy
 # stamped TEXT: the image on the board has this in its room, with 00 behind it, and else what the file has.
@@ -110,14 +110,16 @@ printf '\t113\t\t\n' >> serials.used
 row 0 - 'verified: ' '' $at 16:8 room.dfu
 stamped 114
 # By a link it is the same list; and one that is in use is nobody else's.
-ln -s serials serials-link
-row 0 - 'verified: ' '' --stamp serials-link --stamp-at 16:8 room.dfu
-stamped 115
-env LD_LIBRARY_PATH="$work" USB_BUSY=300 USB_IMAGE="$work/old" ./dfu-flash $at 16:8 room.dfu > other 2>&1 &
-soon grep -q '	116	.*begun' serials.used
-row 3 - '' '' $at 16:8 room.dfu
-says 'dfu-flash: serials.used: another dfu-flash is at work with it'
-wait "$!" || wrong "the first of two: $(cat other)"
+if [ -z "${NO_ALL-}" ]; then
+    ln -s serials serials-link
+    row 0 - 'verified: ' '' --stamp serials-link --stamp-at 16:8 room.dfu
+    stamped 115
+    env LD_LIBRARY_PATH="$work" USB_BUSY=300 USB_IMAGE="$work/old" ./dfu-flash $at 16:8 room.dfu > other 2>&1 &
+    soon grep -q '	116	.*begun' serials.used
+    row 3 - '' '' $at 16:8 room.dfu
+    says 'dfu-flash: serials.used: another dfu-flash is at work with it'
+    wait "$!" || wrong "the first of two: $(cat other)"
+fi
 # Lists and records that can't be used: nothing is sent.
 # bad WORDS LINE..: these lines are refused with these words.
 bad() {
@@ -151,6 +153,7 @@ row 3 - '' '' $at 16:8 room.dfu
 says 'dfu-flash: serials can'
 printf 'A\nB\n' > serials
 for make in 'mkdir serials.used' 'ln -s nothing serials.used' 'mkfifo serials.used'; do
+    [ -z "${NO_ALL-}" ] || [ "$make" = 'mkdir serials.used' ] || continue
     rm -rf serials.used
     $make
     row 3 - '' '' $at 16:8 room.dfu

@@ -29,6 +29,7 @@ for port in 1 2 3 4 6 7 8 10 11 13 15 16; do
 done
 expect 'fifteen took one, each another' test "$(grep -c begun serials.used)-$(grep begun serials.used | cut -f 2 | sort -u | wc -l)" = 15-15
 expect 'each of these ended' test "$(grep -vc begun serials.used)" -eq 15
+expect 'one that was killed has its end' grep -q '	1-14	broken$' serials.used
 expect 'one that was not opened took none' test "$(grep -c '	1-12	' serials.used)" -eq 0
 expect 'one that was killed has its entry in the report' grep -q ',14,"broken",.*"1-14",,[0-9.]*,"10[0-9]*"$' stamp-all.csv
 expect 'those that are left' grep -q '"report":"summary","words":"12 flashed, 4 not","flashed":12,"failed":4,"entries":5,' out
@@ -54,10 +55,16 @@ says 'dfu-flash: serials has 0 more'
 # The first process is killed, at many moments: what a board has was begun in the record, no entry went to two boards, and the others, which
 # abort by themselves, say how each ended.
 seq 2001 2999 > serials
-rm -f serials.used
-for ms in 010 030 060 090 130 180 250 350; do
-    sixteen USB_BUSY=5
+: > serials.used
+has_more() {
+    [ "$(grep -c begun serials.used)" -gt "$before" ]
+}
+for ms in 010 050 100 200 301 001 051 101; do
+    before=$(grep -c begun serials.used || :)
+    sixteen USB_BUSY=40
     env LD_LIBRARY_PATH="$work" USB_IMAGE="$work/old" USB_BOARDS="$work/boards" ./dfu-flash --all --quiet $at 16:8 room.dfu > /dev/null 2>&1 &
+    # (the last ones are killed once a board has begun, however slow the machine is)
+    case $ms in *1) soon has_more || wrong "no board begins" ;; esac
     sleep "0.$ms"
     kill -9 "$!" || :
     wait "$!" 2> /dev/null || :
@@ -70,7 +77,7 @@ for ms in 010 030 060 090 130 180 250 350; do
     done
 done
 expect 'no entry went to two boards' test "$(grep begun serials.used | cut -f 2 | sort | uniq -d | wc -l)" -eq 0
-expect 'entries were used' test "$(grep -c begun serials.used)" -gt 16
+expect 'entries were used' test "$(grep -c begun serials.used)" -gt 4
 no_boards
 board 1-1 USB_SERIAL=F1
 all $at 16:8 room.dfu
