@@ -1,5 +1,5 @@
 -- What the action of a session in C says of the deed of its host.
-use Rattle.std.specs.Prelude.{◌≡◌, ◌≢◌, ℕ, pos, List, length, take, drop, Some}
+use Rattle.std.specs.Prelude.{◌≡◌, ◌≢◌, ℕ, pos, List, take, drop}
 use Rattle.std.proofs.Common.{inl, refl, sym, ap, ◌∙◌, subst, arith}
 use Rattle.dfu_wire.specs.declared.requests.Request.{Request}
 use Rattle.dfu_host.specs.declared.report.Report.{Report}
@@ -86,8 +86,7 @@ pub way_so : (tells : HostsTell) (s : CoreSession) (session : Session) (call : E
     → IsUnderWay session call
 way_so tells s session (Elapse ms) is way = tt
 way_so tells (InSession payload x) (Hosted h) (Handle setup body) is (a, wants, what, same, cut) =
-    let q = sends_so tells payload x h is a wants what in
-    (
+    let q = sends_so tells payload x h is a wants what in (
       q.request,
       q.deed_is ∙ ap (λ (l : List ℕ). Send q.request l) (sym cut),
       subst (λ (l : List ℕ). IsAsked q.request l) (sym same) q.asked,

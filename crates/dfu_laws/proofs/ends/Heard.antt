@@ -1,5 +1,5 @@
 -- What a session in C is told is what its host hears.
-use Rattle.std.specs.Prelude.{◌≡◌, ◌⊎◌, ℕ, pos, List, [], ◌∷◌, Some, IsTrue}
+use Rattle.std.specs.Prelude.{◌≡◌, ℕ, pos, List, [], ◌∷◌, Some, IsTrue}
 use Rattle.std.specs.Borrow.{Bor}
 use Rattle.std.proofs.Common.{inl, inr, refl, sym, ap, ◌∙◌, subst}
 use Rattle.std.proofs.lemmas.Option.{same_Some}
@@ -7,7 +7,7 @@ use Rattle.dfu_wire.specs.declared.requests.Request.{Request}
 use Rattle.dfu_device.specs.declared.answer.Answer.TheVariants as answer
 use Rattle.dfu_host.specs.declared.seen.Seen.{Seen}
 use Rattle.dfu_host.specs.declared.seen.Seen.TheVariants as seen
-use Rattle.dfu_host.specs.Phases.{Deed, Send, Heard, NoRoom, Nothing as NothingHeard, Waited, WasReset, Restarted}
+use Rattle.dfu_host.specs.Phases.{Deed, Send, Heard, NoRoom, Waited, WasReset, Restarted}
 use Rattle.dfu_host.specs.Table.{deed}
 use Rattle.dfu_host.specs.Host.{HostState, after, aborted, wants_memory}
 use Rattle.dfu_host.specs.Wire.{Hears, HearsBytes}

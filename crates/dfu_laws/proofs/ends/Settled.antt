@@ -1,11 +1,11 @@
 -- What is reported of a session in C is what its host reports.
 use Rattle.std.specs.Prelude.{◌≡◌, ◌<◌, ℕ, Bool, true, false, if◌then◌else◌, max, List, take, Option, Some, None}
-use Rattle.std.proofs.Common.{refl, sym, ap, ◌∙◌, subst, arith}
+use Rattle.std.proofs.Common.{refl, sym, ap, ◌∙◌, subst}
 use Rattle.dfu_host.specs.declared.report.Report.{Report}
 use Rattle.dfu_host.specs.declared.report.Report.TheVariants.{Uploaded}
 use Rattle.dfu_host.specs.declared.phase.Phase.{Phase as CodePhase}
 use Rattle.dfu_host.specs.declared.phase.Phase.TheVariants as phase
-use Rattle.dfu_host.specs.Phases.{Deed, Wait, Reset, Done, Task, Phase, Enter, Over, OverUploaded, Heard}
+use Rattle.dfu_host.specs.Phases.{Wait, Reset, Done, Phase, Enter, Over, OverUploaded, Heard}
 use Rattle.dfu_host.specs.Table.{deed}
 use Rattle.dfu_host.specs.Host.{HostState, after, aborted_in}
 use Rattle.dfu_host.specs.InParts.{phase_of}
