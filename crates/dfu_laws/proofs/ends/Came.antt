@@ -14,7 +14,7 @@ use Rattle.dfu_host_core.specs.declared.action.DfuAction.{DfuAction}
 use Rattle.dfu_host_core.specs.Runs.{CoreHost, IsCoreHost, HostsRefine, HostsTell}
 use Rattle.dfu_laws.specs.board.Board.{Board, Says, BoardStep}
 use Rattle.dfu_laws.specs.link.Comes.{HearsSentBack, left, BoardComes, passes, sends, objects, refuses, waits, resets, is_reset, restarts}
-use Rattle.dfu_laws.specs.ends.Sessions.{CoreSession, InSession, IsSessionOf, Wants, body_in, IsGiven, TellsOf, Settles, HearsRestart, nobody_hears, hears_it}
+use Rattle.dfu_laws.specs.ends.Sessions.{CoreSession, InSession, IsSessionOf, Wants, body_in, HostTakes, TellsOf, Settles, HearsRestart, nobody_hears, hears_it}
 use Rattle.dfu_laws.specs.ends.Comes.{EndsCome, time_passes, sends_it, objects_to_it, refuses_image, waits_it_out, resets_bus, bus_is_reset, board_restarts}
 use Rattle.dfu_laws.proofs.ends.Actions.{host_of_session, sends_so, waits_so, resets_so, way_so}
 use Rattle.dfu_laws.proofs.ends.Heard.{heard_by, hears_wait, hears_reset, hears_restart, hears_back}
@@ -56,7 +56,7 @@ module _ (refine : HostsRefine) (tells : HostsTell) where
     -- A request: whatever the board makes of it, the host sends it and hears what the session is told.
     requests : (payload bytes : List ℕ) (x x' : CoreHost) (a : DfuAction) (steps : List BoardStep) (says : Says) (b' : Board) (seen : ℕ)
         (answer : Answered) (s' : CoreSession) → s ≡ InSession payload x → Wants payload x a → a.what ≡ 0 → TellsOf says seen bytes
-        → IsGiven payload x seen bytes x' → Settles payload x' answer s'
+        → HostTakes payload x seen bytes x' → Settles payload x' answer s'
         → ((h : HostState) (q : Request) (heard : Heard) → session ≡ Hosted h → deed h.task h.phase ≡ Send q (body_in payload a)
         → IsAsked q a.setup → HearsSentBack (Send q (body_in payload a)) says heard
         → (heard ≡ NoRoom → IsTrue (wants_memory h.phase))
@@ -77,8 +77,8 @@ module _ (refine : HostsRefine) (tells : HostsTell) where
         → Went session b steps answer s' b'
     came _ _ _ _ (time_passes serves) = record { later = session; is = is; counted = c; comes = passes serves }
     came _ _ _ _ (refuses_image serves) = record { later = session; is = is; counted = c; comes = refuses serves }
-    came steps answer s' b' (sends_it {payload = payload} {bytes = bytes} {x = x} {x' = x'} {a = a} {says = says} {seen = seen} live wants what
-        reaches tell given settles) =
+    came steps answer s' b' (sends_it {payload = payload} {bytes = bytes} {x = x} {x' = x'} {a = a} {says = says} {seen = seen} live wants
+        what reaches tell given settles) =
         requests payload bytes x x' a steps says b' seen answer s' live wants what tell given settles
         (λ h q heard hosted is_sent asked hears room. sends hosted is_sent asked reaches hears room)
     came steps answer s' b' (objects_to_it {payload = payload} {bytes = bytes} {x = x} {x' = x'} {a = a} {says = says} {seen = seen} live
@@ -93,7 +93,8 @@ module _ (refine : HostsRefine) (tells : HostsTell) where
         went session b [] answer s' b (took o.host Waited)
         (took_so tells payload x' o.host Waited answer s' (sized tells payload x o.host o.is) (counted_of o.host o.live) now settles)
         (waits o.live w.1)
-    came steps answer s' b' (resets_bus {payload = payload} {bytes = bytes} {x = x} {x' = x'} {a = a} live wants what serves given settles) =
+    came steps answer s' b' (resets_bus {payload = payload} {bytes = bytes} {x = x} {x' = x'} {a = a} live wants what serves given
+        settles) =
         let o = host_of_session payload x s session live is in
         let t = heard_by refine payload x x' o.host o.is 5 bytes given in
         let now = subst (λ (y : Heard). IsCoreHost payload x' (after o.host y)) (hears_reset payload o.host bytes x' t) t.now in

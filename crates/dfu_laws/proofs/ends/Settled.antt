@@ -80,7 +80,8 @@ module _ (tells : HostsTell) (payload : List ℕ) (x : CoreHost) (h : HostState)
         counted = subst (λ (t : Took). IsCountedIn t.session) (sym e) c;
       }
   settles_so _ _ c (is_over a report wants what says) =
-      let e = over_so h h.phase (take x.kept.kept x.buffer) report ((told tells payload x h here a wants).report report what says) keeps_so c in
+      let done = (told tells payload x h here a wants).report report what says in
+      let e = over_so h h.phase (take x.kept.kept x.buffer) report done keeps_so c in
       record {
         answer_is = ap (λ (t : Took). t.answer) e;
         is = subst (λ (t : Took). IsSessionOf NoSession t.session) (sym e) tt;
