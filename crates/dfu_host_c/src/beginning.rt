@@ -17,8 +17,8 @@ use crate::file::file_in;
 use crate::holding::record_of;
 use crate::ids::DfuIds;
 use crate::refusals::Refusal;
-use dfu_host_core::DfuSession;
 use dfu_host::{HostFault, Limits, Session};
+use dfu_host_core::DfuSession;
 use dfu_suffix::File;
 use dfu_wire::{Functional, Ids};
 

@@ -8,9 +8,9 @@ ghost use Rattle.dfu_host_core.specs.Sessions.{IsRecord, IsWritten, parts_of};
 
 use crate::goals::{goal_at, goal_number};
 use crate::phases::{numbers_of, phase_at};
-use dfu_host_core::DfuSession;
 use crate::version::VERSION;
 use dfu_host::{Parts, Session};
+use dfu_host_core::DfuSession;
 
 /// The parts that a record has; None if there is no goal or no phase of its numbers.
 fn parts_of<'f>(given: &DfuSession, payload: &'f [u8]) -> Option<Parts<'f>>

@@ -18,8 +18,8 @@ ghost use Rattle.dfu_host_c.specs.Watch.{
   watched,
 };
 
-use dfu_host_core::DfuAction;
 use crate::watch::{DfuFacts, DfuWatch};
+use dfu_host_core::DfuAction;
 
 /// What `dfu_watch_before` and `dfu_watch_after` return.
 pub(crate) const GOES_ON: u32 = 0;

@@ -1,5 +1,5 @@
 -- What the action of a session in C says of the deed of its host.
-use Rattle.std.specs.Prelude.{◌≡◌, ◌≢◌, ℕ, pos, List, length, take, drop, Some}
+use Rattle.std.specs.Prelude.{◌≡◌, ◌≢◌, ℕ, pos, List, take, drop}
 use Rattle.std.proofs.Common.{inl, refl, sym, ap, ◌∙◌, subst, arith}
 use Rattle.dfu_wire.specs.declared.requests.Request.{Request}
 use Rattle.dfu_host.specs.declared.report.Report.{Report}
@@ -13,7 +13,7 @@ use Rattle.dfu_host_core.specs.Actions.{TellsAction}
 use Rattle.dfu_host_core.specs.Runs.{CoreHost, IsCoreHost, HostsTell, TellsOfHost}
 use Rattle.dfu_laws.specs.board.Board.{Event, Elapse, Handle}
 use Rattle.dfu_laws.specs.link.Comes.{IsUnderWay}
-use Rattle.dfu_laws.specs.ends.Sessions.{CoreSession, NoSession, InSession, IsSessionOf, Wants, body_in, IsAtWork}
+use Rattle.dfu_laws.specs.ends.Sessions.{CoreSession, NoSession, InSession, IsSessionOf, Wants, body_in, MayBeUnderWay}
 
 -- The live session in C is the one of this host.
 pub record HostOf (payload : List ℕ) (x : CoreHost) (session : Session) : Type 0 where
@@ -82,12 +82,11 @@ module _ (tells : HostsTell) (payload : List ℕ) (x : CoreHost) (h : HostState)
   not_done a wants on report e = let t = told a wants in on (done_of payload t.from (deed h.task h.phase) a report t.tells e)
 
 -- A call that may be under way with the session in C may be so with its host.
-pub way_so : (tells : HostsTell) (s : CoreSession) (session : Session) (call : Event) → IsSessionOf s session → IsAtWork s call
+pub way_so : (tells : HostsTell) (s : CoreSession) (session : Session) (call : Event) → IsSessionOf s session → MayBeUnderWay s call
     → IsUnderWay session call
 way_so tells s session (Elapse ms) is way = tt
 way_so tells (InSession payload x) (Hosted h) (Handle setup body) is (a, wants, what, same, cut) =
-    let q = sends_so tells payload x h is a wants what in
-    (
+    let q = sends_so tells payload x h is a wants what in (
       q.request,
       q.deed_is ∙ ap (λ (l : List ℕ). Send q.request l) (sym cut),
       subst (λ (l : List ℕ). IsAsked q.request l) (sym same) q.asked,

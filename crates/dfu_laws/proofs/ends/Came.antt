@@ -1,22 +1,22 @@
 -- What comes to a board and a session in C comes to the board and the session's host.
-use Rattle.std.specs.Prelude.{◌≡◌, ◌<◌, ℕ, List, [], ◌++◌, IsTrue}
-use Rattle.std.proofs.Common.{refl, sym, subst}
+use Rattle.std.specs.Prelude.{◌≡◌, ℕ, List, [], ◌++◌, IsTrue}
+use Rattle.std.proofs.Common.{refl, subst}
 use Rattle.dfu_wire.specs.declared.requests.Request.{Request}
-use Rattle.dfu_host.specs.Phases.{Deed, Send, Heard, NoRoom, Waited, WasReset, Restarted}
+use Rattle.dfu_host.specs.Phases.{Send, Heard, NoRoom, Waited, WasReset, Restarted}
 use Rattle.dfu_host.specs.Table.{deed}
 use Rattle.dfu_host.specs.Host.{HostState, after, wants_memory}
 use Rattle.dfu_host.specs.Wire.{IsAsked}
 use Rattle.dfu_host.specs.Counting.{IsCounted}
 use Rattle.dfu_sim.specs.LinkView.{Session, Nobody, Hosted}
-use Rattle.dfu_sim.specs.Play.{Answered, silent, Took, took, notify_restart}
+use Rattle.dfu_sim.specs.Play.{Answered, Took, took, notify_restart}
 use Rattle.dfu_sim.specs.Standing.{IsCountedIn}
 use Rattle.dfu_host_core.specs.declared.action.DfuAction.{DfuAction}
 use Rattle.dfu_host_core.specs.Runs.{CoreHost, IsCoreHost, HostsRefine, HostsTell}
 use Rattle.dfu_laws.specs.board.Board.{Board, Says, BoardStep}
-use Rattle.dfu_laws.specs.link.Comes.{BoardLink, HearsSentBack, left, BoardComes, passes, sends, objects, refuses, waits, resets, is_reset, restarts}
-use Rattle.dfu_laws.specs.ends.Sessions.{CoreSession, NoSession, InSession, IsSessionOf, Wants, body_in, IsGiven, TellsOf, Settles, HearsRestart, nobody_hears, hears_it}
+use Rattle.dfu_laws.specs.link.Comes.{HearsSentBack, left, BoardComes, passes, sends, objects, refuses, waits, resets, is_reset, restarts}
+use Rattle.dfu_laws.specs.ends.Sessions.{CoreSession, InSession, IsSessionOf, Wants, body_in, HostTakes, TellsOf, Settles, HearsRestart, nobody_hears, hears_it}
 use Rattle.dfu_laws.specs.ends.Comes.{EndsCome, time_passes, sends_it, objects_to_it, refuses_image, waits_it_out, resets_bus, bus_is_reset, board_restarts}
-use Rattle.dfu_laws.proofs.ends.Actions.{HostOf, host_of_session, sends_so, waits_so, resets_so, way_so}
+use Rattle.dfu_laws.proofs.ends.Actions.{host_of_session, sends_so, waits_so, resets_so, way_so}
 use Rattle.dfu_laws.proofs.ends.Heard.{heard_by, hears_wait, hears_reset, hears_restart, hears_back}
 use Rattle.dfu_laws.proofs.ends.Settled.{TookSo, sized, took_so}
 
@@ -56,7 +56,7 @@ module _ (refine : HostsRefine) (tells : HostsTell) where
     -- A request: whatever the board makes of it, the host sends it and hears what the session is told.
     requests : (payload bytes : List ℕ) (x x' : CoreHost) (a : DfuAction) (steps : List BoardStep) (says : Says) (b' : Board) (seen : ℕ)
         (answer : Answered) (s' : CoreSession) → s ≡ InSession payload x → Wants payload x a → a.what ≡ 0 → TellsOf says seen bytes
-        → IsGiven payload x seen bytes x' → Settles payload x' answer s'
+        → HostTakes payload x seen bytes x' → Settles payload x' answer s'
         → ((h : HostState) (q : Request) (heard : Heard) → session ≡ Hosted h → deed h.task h.phase ≡ Send q (body_in payload a)
         → IsAsked q a.setup → HearsSentBack (Send q (body_in payload a)) says heard
         → (heard ≡ NoRoom → IsTrue (wants_memory h.phase))
@@ -68,17 +68,17 @@ module _ (refine : HostsRefine) (tells : HostsTell) where
         let q = sends_so tells payload x h o.is a wants what in
         let t = heard_by refine payload x x' h o.is seen bytes given in
         went session b steps answer s' b' (took h t.heard)
-            (took_so tells payload x' h t.heard answer s' (sized tells payload x h o.is) (counted_of h o.live) t.now settles)
-            (comes h q.request t.heard o.live q.deed_is q.asked
-            (hears_back payload h bytes x' says seen q.request (body_in payload a) q.deed_is t tell) t.room)
+        (took_so tells payload x' h t.heard answer s' (sized tells payload x h o.is) (counted_of h o.live) t.now settles)
+        (comes h q.request t.heard o.live q.deed_is q.asked
+        (hears_back payload h bytes x' says seen q.request (body_in payload a) q.deed_is t tell) t.room)
 
     -- What comes next.
     pub came : (steps : List BoardStep) (answer : Answered) (s' : CoreSession) (b' : Board) → EndsCome s b steps answer s' b'
         → Went session b steps answer s' b'
     came _ _ _ _ (time_passes serves) = record { later = session; is = is; counted = c; comes = passes serves }
     came _ _ _ _ (refuses_image serves) = record { later = session; is = is; counted = c; comes = refuses serves }
-    came steps answer s' b' (sends_it {payload = payload} {bytes = bytes} {x = x} {x' = x'} {a = a} {says = says} {seen = seen} live wants what
-        reaches tell given settles) =
+    came steps answer s' b' (sends_it {payload = payload} {bytes = bytes} {x = x} {x' = x'} {a = a} {says = says} {seen = seen} live wants
+        what reaches tell given settles) =
         requests payload bytes x x' a steps says b' seen answer s' live wants what tell given settles
         (λ h q heard hosted is_sent asked hears room. sends hosted is_sent asked reaches hears room)
     came steps answer s' b' (objects_to_it {payload = payload} {bytes = bytes} {x = x} {x' = x'} {a = a} {says = says} {seen = seen} live
@@ -91,18 +91,19 @@ module _ (refine : HostsRefine) (tells : HostsTell) where
         let t = heard_by refine payload x x' o.host o.is 4 bytes given in
         let now = subst (λ (y : Heard). IsCoreHost payload x' (after o.host y)) (hears_wait payload o.host bytes x' t) t.now in
         went session b [] answer s' b (took o.host Waited)
-            (took_so tells payload x' o.host Waited answer s' (sized tells payload x o.host o.is) (counted_of o.host o.live) now settles)
-            (waits o.live w.1)
-    came steps answer s' b' (resets_bus {payload = payload} {bytes = bytes} {x = x} {x' = x'} {a = a} live wants what serves given settles) =
+        (took_so tells payload x' o.host Waited answer s' (sized tells payload x o.host o.is) (counted_of o.host o.live) now settles)
+        (waits o.live w.1)
+    came steps answer s' b' (resets_bus {payload = payload} {bytes = bytes} {x = x} {x' = x'} {a = a} live wants what serves given
+        settles) =
         let o = host_of_session payload x s session live is in
         let t = heard_by refine payload x x' o.host o.is 5 bytes given in
         let now = subst (λ (y : Heard). IsCoreHost payload x' (after o.host y)) (hears_reset payload o.host bytes x' t) t.now in
         went session b steps answer s' b' (took o.host WasReset)
-            (took_so tells payload x' o.host WasReset answer s' (sized tells payload x o.host o.is) (counted_of o.host o.live) now settles)
-            (resets o.live (resets_so tells payload x o.host o.is a wants what) serves)
+        (took_so tells payload x' o.host WasReset answer s' (sized tells payload x o.host o.is) (counted_of o.host o.live) now settles)
+        (resets o.live (resets_so tells payload x o.host o.is a wants what) serves)
     came _ answer s' b' (bus_is_reset {call = call} {steps = steps} {more = more} way reaches serves hears) =
         went session b (steps ++ more) answer s' b' (notify_restart session) (restarts_so s session answer s' is c hears)
-            (is_reset (way_so tells s session call is way) reaches serves)
+        (is_reset (way_so tells s session call is way) reaches serves)
     came steps answer s' b' (board_restarts {call = call} way stops hears) =
         went session b steps answer s' b' (notify_restart session) (restarts_so s session answer s' is c hears)
-            (restarts (way_so tells s session call is way) stops)
+        (restarts (way_so tells s session call is way) stops)

@@ -1,5 +1,5 @@
 -- What a session in C is told is what its host hears.
-use Rattle.std.specs.Prelude.{◌≡◌, ◌⊎◌, ℕ, pos, List, [], ◌∷◌, Some, IsTrue}
+use Rattle.std.specs.Prelude.{◌≡◌, ℕ, pos, List, [], ◌∷◌, Some, IsTrue}
 use Rattle.std.specs.Borrow.{Bor}
 use Rattle.std.proofs.Common.{inl, inr, refl, sym, ap, ◌∙◌, subst}
 use Rattle.std.proofs.lemmas.Option.{same_Some}
@@ -7,7 +7,7 @@ use Rattle.dfu_wire.specs.declared.requests.Request.{Request}
 use Rattle.dfu_device.specs.declared.answer.Answer.TheVariants as answer
 use Rattle.dfu_host.specs.declared.seen.Seen.{Seen}
 use Rattle.dfu_host.specs.declared.seen.Seen.TheVariants as seen
-use Rattle.dfu_host.specs.Phases.{Deed, Send, Heard, NoRoom, Nothing as NothingHeard, Waited, WasReset, Restarted}
+use Rattle.dfu_host.specs.Phases.{Deed, Send, Heard, NoRoom, Waited, WasReset, Restarted}
 use Rattle.dfu_host.specs.Table.{deed}
 use Rattle.dfu_host.specs.Host.{HostState, after, aborted, wants_memory}
 use Rattle.dfu_host.specs.Wire.{Hears, HearsBytes}
@@ -15,7 +15,7 @@ use Rattle.dfu_host_core.specs.Told.{seen_at}
 use Rattle.dfu_host_core.specs.Runs.{CoreHost, IsCoreHost, CoreTake, CoreAbort, HostCall, HostStep, HostCalled, HostMoves, HostGoes, stays, moves, HostsRefine}
 use Rattle.dfu_laws.specs.board.Board.{Says, Answers, Nothing, WritesDue}
 use Rattle.dfu_laws.specs.link.Comes.{HearsSentBack}
-use Rattle.dfu_laws.specs.ends.Sessions.{IsGiven, TellsOf}
+use Rattle.dfu_laws.specs.ends.Sessions.{HostTakes, TellsOf}
 
 -- A host in C took what was seen.
 pub record HeardBy (payload : List ℕ) (h : HostState) (number : ℕ) (bytes : List ℕ) (x' : CoreHost) : Type 0 where
@@ -57,7 +57,7 @@ module _ (refine : HostsRefine) (payload : List ℕ) (x x' : CoreHost) (h : Host
   }
   taken number bytes now is (inr (number_is, none, same)) = absurd cc
 
-  pub heard_by : (number : ℕ) (bytes : List ℕ) → IsGiven payload x number bytes x' → HeardBy payload h number bytes x'
+  pub heard_by : (number : ℕ) (bytes : List ℕ) → HostTakes payload x number bytes x' → HeardBy payload h number bytes x'
   heard_by number bytes given =
       let m = moved (CoreTake number bytes) given in taken number bytes m.now m.is m.move
 

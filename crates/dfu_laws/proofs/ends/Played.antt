@@ -1,9 +1,9 @@
 -- Sessions of a host in C and a board in C: the laws.
-use Rattle.std.specs.Prelude.{◌≡◌, ◌<◌, ℕ, pos, List, [], ◌∷◌, ◌++◌, length, Option, Some, None}
-use Rattle.std.proofs.Common.{refl, sym, ap, subst}
+use Rattle.std.specs.Prelude.{◌≡◌, ℕ, pos, List, [], ◌++◌, Option}
+use Rattle.std.proofs.Common.{refl, sym, subst}
 use Rattle.dfu_device.specs.Setting.{Setting}
 use Rattle.dfu_host.specs.Phases.{ToFetch}
-use Rattle.dfu_host.specs.Host.{HostState, started, aborted}
+use Rattle.dfu_host.specs.Host.{started, aborted}
 use Rattle.dfu_sim.specs.declared.offering.Purpose.{Purpose}
 use Rattle.dfu_sim.specs.declared.offering.Purpose.TheVariants.{Install, Verify}
 use Rattle.dfu_sim.specs.LinkView.{Session, Nobody, Hosted}
@@ -12,7 +12,7 @@ use Rattle.dfu_sim.specs.Play.{Answered}
 use Rattle.dfu_sim.specs.Standing.{IsCountedIn}
 use Rattle.dfu_core.specs.Board.{CoreBoard}
 use Rattle.dfu_host_core.specs.Beginning.{HasBegunAs}
-use Rattle.dfu_host_core.specs.Runs.{CoreHost, HostsBegin, HostsRefine, HostsTell, HasPayload}
+use Rattle.dfu_host_core.specs.Runs.{HostsBegin, HostsRefine, HostsTell, HasPayload}
 use Rattle.dfu_laws.specs.board.Board.{Board, BoardStep}
 use Rattle.dfu_laws.specs.link.Plays.{Plays, starts, offers, uploads, aborts, goes_on}
 use Rattle.dfu_laws.specs.in_c.Steps.{CoreStep, board_of_core, IsBoardOf}

@@ -1,11 +1,11 @@
 -- What is reported of a session in C is what its host reports.
 use Rattle.std.specs.Prelude.{◌≡◌, ◌<◌, ℕ, Bool, true, false, if◌then◌else◌, max, List, take, Option, Some, None}
-use Rattle.std.proofs.Common.{refl, sym, ap, ◌∙◌, subst, arith}
+use Rattle.std.proofs.Common.{refl, sym, ap, ◌∙◌, subst}
 use Rattle.dfu_host.specs.declared.report.Report.{Report}
 use Rattle.dfu_host.specs.declared.report.Report.TheVariants.{Uploaded}
 use Rattle.dfu_host.specs.declared.phase.Phase.{Phase as CodePhase}
 use Rattle.dfu_host.specs.declared.phase.Phase.TheVariants as phase
-use Rattle.dfu_host.specs.Phases.{Deed, Wait, Reset, Done, Task, Phase, Enter, Over, OverUploaded, Heard}
+use Rattle.dfu_host.specs.Phases.{Wait, Reset, Done, Phase, Enter, Over, OverUploaded, Heard}
 use Rattle.dfu_host.specs.Table.{deed}
 use Rattle.dfu_host.specs.Host.{HostState, after, aborted_in}
 use Rattle.dfu_host.specs.InParts.{phase_of}
@@ -80,7 +80,8 @@ module _ (tells : HostsTell) (payload : List ℕ) (x : CoreHost) (h : HostState)
         counted = subst (λ (t : Took). IsCountedIn t.session) (sym e) c;
       }
   settles_so _ _ c (is_over a report wants what says) =
-      let e = over_so h h.phase (take x.kept.kept x.buffer) report ((told tells payload x h here a wants).report report what says) keeps_so c in
+      let done = (told tells payload x h here a wants).report report what says in
+      let e = over_so h h.phase (take x.kept.kept x.buffer) report done keeps_so c in
       record {
         answer_is = ap (λ (t : Took). t.answer) e;
         is = subst (λ (t : Took). IsSessionOf NoSession t.session) (sym e) tt;

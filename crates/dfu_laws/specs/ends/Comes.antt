@@ -7,11 +7,11 @@ use Rattle.dfu_host_core.specs.declared.action.DfuAction.{DfuAction}
 use Rattle.dfu_host_core.specs.Runs.{CoreHost}
 use Rattle.dfu_laws.specs.board.Board.{Board, Event, Handle, Elapse, UsbReset, Refuse, Says, BoardStep}
 use Rattle.dfu_laws.specs.link.Calls.{Serves, Reaches, Objects, Stops}
-use Rattle.dfu_laws.specs.ends.Sessions.{CoreSession, InSession, Wants, body_in, IsGiven, TellsOf, Settles, HearsRestart, IsAtWork}
+use Rattle.dfu_laws.specs.ends.Sessions.{CoreSession, InSession, Wants, body_in, HostTakes, TellsOf, Settles, HearsRestart, MayBeUnderWay}
 
 -- What comes next, with the steps of the board, and what is reported then. The program does what dfu_host_next says: it sends a request
--- (0), waits (1) or resets the bus (2). By dfu_host_take it tells what came of that: what is sent back; 4, that the wait is over; or 5, that
--- the bus was reset.
+-- (0), waits (1) or resets the bus (2). By dfu_host_take it tells what came of that: what is sent back; 4, that the wait is over; or 5,
+-- that the bus was reset.
 pub data EndsCome (s : CoreSession) (b : Board) : List BoardStep → Answered → CoreSession → Board → Type 0 where
   -- Time passes at the board.
   time_passes : {ms : ℕ} {steps : List BoardStep} {a : Answer} {out : List ℕ} {b' : Board} → Serves b (Elapse ms) steps a out b'
@@ -19,27 +19,27 @@ pub data EndsCome (s : CoreSession) (b : Board) : List BoardStep → Answered �
   -- The session's request goes to the board: the setup as it is, and those bytes of the payload.
   sends_it : {payload bytes : List ℕ} {x x' : CoreHost} {a : DfuAction} {steps : List BoardStep} {says : Says} {b' : Board} {seen : ℕ}
       {said : Answered} {s' : CoreSession} → s ≡ InSession payload x → Wants payload x a → a.what ≡ 0
-      → Reaches (Handle a.setup (body_in payload a)) b steps says b' → TellsOf says seen bytes → IsGiven payload x seen bytes x'
+      → Reaches (Handle a.setup (body_in payload a)) b steps says b' → TellsOf says seen bytes → HostTakes payload x seen bytes x'
       → Settles payload x' said s' → EndsCome s b steps said s' b'
   -- It closes a download, and the board's program refuses the image.
   objects_to_it : {payload bytes : List ℕ} {x x' : CoreHost} {a : DfuAction} {why : Objection} {steps : List BoardStep} {says : Says}
       {b' : Board} {seen : ℕ} {said : Answered} {s' : CoreSession} → s ≡ InSession payload x → Wants payload x a → a.what ≡ 0
-      → Objects a.setup (body_in payload a) why b steps says b' → TellsOf says seen bytes → IsGiven payload x seen bytes x'
+      → Objects a.setup (body_in payload a) why b steps says b' → TellsOf says seen bytes → HostTakes payload x seen bytes x'
       → Settles payload x' said s' → EndsCome s b steps said s' b'
   -- The board's program refuses the image that was closed, if one was.
   refuses_image : {why : Objection} {steps : List BoardStep} {a : Answer} {out : List ℕ} {b' : Board} → Serves b (Refuse why) steps a out b'
       → EndsCome s b steps silent s b'
   -- The session's wait is over.
   waits_it_out : {payload bytes : List ℕ} {x x' : CoreHost} {a : DfuAction} {said : Answered} {s' : CoreSession} → s ≡ InSession payload x
-      → Wants payload x a → a.what ≡ 1 → IsGiven payload x 4 bytes x' → Settles payload x' said s' → EndsCome s b [] said s' b
+      → Wants payload x a → a.what ≡ 1 → HostTakes payload x 4 bytes x' → Settles payload x' said s' → EndsCome s b [] said s' b
   -- The session resets the bus.
   resets_bus : {payload bytes : List ℕ} {x x' : CoreHost} {a : DfuAction} {steps : List BoardStep} {answer : Answer} {out : List ℕ}
       {b' : Board} {said : Answered} {s' : CoreSession} → s ≡ InSession payload x → Wants payload x a → a.what ≡ 2
-      → Serves b UsbReset steps answer out b' → IsGiven payload x 5 bytes x' → Settles payload x' said s' → EndsCome s b steps said s' b'
+      → Serves b UsbReset steps answer out b' → HostTakes payload x 5 bytes x' → Settles payload x' said s' → EndsCome s b steps said s' b'
   -- The bus is reset by another cause, with this call under way, to which the board comes to an end first.
   bus_is_reset : {call : Event} {steps more : List BoardStep} {says : Says} {a : Answer} {out : List ℕ} {mid b' : Board} {said : Answered}
-      {s' : CoreSession} → IsAtWork s call → Reaches call b steps says mid → Serves mid UsbReset more a out b' → HearsRestart s said s'
+      {s' : CoreSession} → MayBeUnderWay s call → Reaches call b steps says mid → Serves mid UsbReset more a out b' → HearsRestart s said s'
       → EndsCome s b (steps ++ more) said s' b'
   -- The power of the board goes and comes back, with this call under way.
-  board_restarts : {call : Event} {steps : List BoardStep} {b' : Board} {said : Answered} {s' : CoreSession} → IsAtWork s call
+  board_restarts : {call : Event} {steps : List BoardStep} {b' : Board} {said : Answered} {s' : CoreSession} → MayBeUnderWay s call
       → Stops call b steps b' → HearsRestart s said s' → EndsCome s b steps said s' b'

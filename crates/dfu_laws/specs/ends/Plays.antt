@@ -3,7 +3,7 @@ use Rattle.std.specs.Prelude.{◌≡◌, ◌<◌, ℕ, pos, List, [], ◌∷◌,
 use Rattle.dfu_slots.specs.Image.{Active}
 use Rattle.dfu_host.specs.declared.limits.Limits.{Limits}
 use Rattle.dfu_host.specs.Phases.{ToFetch}
-use Rattle.dfu_host.specs.Host.{HostState, started}
+use Rattle.dfu_host.specs.Host.{started}
 use Rattle.dfu_sim.specs.declared.offering.Purpose.{Purpose}
 use Rattle.dfu_sim.specs.LinkView.{Session}
 use Rattle.dfu_sim.specs.Opening.{goal_of_purpose}

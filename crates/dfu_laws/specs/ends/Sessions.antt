@@ -32,8 +32,8 @@ abbrev pub body_in : (payload : List ℕ) → DfuAction → List ℕ
 body_in payload a = take a.length (drop a.from payload)
 
 -- dfu_host_take returns 0 for this number of what is seen, with these bytes.
-abbrev pub IsGiven : (payload : List ℕ) → CoreHost → (seen : ℕ) → (bytes : List ℕ) → CoreHost → Type 0
-IsGiven payload x seen bytes x' = HostCalled payload x (CoreTake seen bytes) (pos 0) x'
+abbrev pub HostTakes : (payload : List ℕ) → CoreHost → (seen : ℕ) → (bytes : List ℕ) → CoreHost → Type 0
+HostTakes payload x seen bytes x' = HostCalled payload x (CoreTake seen bytes) (pos 0) x'
 
 -- The number and bytes that tell a session of what is sent back: 0 an acknowledgement, 1 an answer with its bytes, 2 a stall; or 3, that
 -- nothing came back, whatever was sent.
@@ -57,13 +57,13 @@ pub data Settles (payload : List ℕ) (x : CoreHost) : Answered → CoreSession 
 -- A live session is told that the device was restarted, by the number 6.
 pub data HearsRestart : CoreSession → Answered → CoreSession → Type 0 where
   nobody_hears : HearsRestart NoSession silent NoSession
-  hears_it : {payload bytes : List ℕ} {x x' : CoreHost} {said : Answered} {s' : CoreSession} → IsGiven payload x 6 bytes x'
+  hears_it : {payload bytes : List ℕ} {x x' : CoreHost} {said : Answered} {s' : CoreSession} → HostTakes payload x 6 bytes x'
       → Settles payload x' said s' → HearsRestart (InSession payload x) said s'
 
 -- The calls of a board that may be under way as the bus is reset or the power goes: the program tells of time that passed, or the session's
 -- request came.
-abbrev pub IsAtWork : CoreSession → Event → Type 0
-IsAtWork s (Elapse ms) = Unit {0}
-IsAtWork (InSession payload x) (Handle setup body) = (a : DfuAction) × Wants payload x a × (a.what ≡ 0) × (setup ≡ a.setup)
+abbrev pub MayBeUnderWay : CoreSession → Event → Type 0
+MayBeUnderWay s (Elapse ms) = Unit {0}
+MayBeUnderWay (InSession payload x) (Handle setup body) = (a : DfuAction) × Wants payload x a × (a.what ≡ 0) × (setup ≡ a.setup)
     × (body ≡ body_in payload a)
-IsAtWork s call = ⊥
+MayBeUnderWay s call = ⊥
