@@ -125,13 +125,13 @@ struct dfu_config {
     uint16_t transfer;        /**< wTransferSize, bytes: 1 to 4,096 */
     uint8_t attributes;       /**< bmAttributes: enum dfu_attribute; bits 4 to 7 are ignored */
     uint8_t interface_number; /**< bInterfaceNumber: a setup whose wIndex is another number is stalled */
-    uint32_t busy_ms;         /**< ms for each block, sent as bwPollTimeout, after which the host asks again: 0 to 16,777,215. At 0 a block is
-                                   written before its status is answered, and no time is said */
+    uint32_t busy_ms;         /**< ms for each block, sent as bwPollTimeout, after which the host asks again: 0 to 16,777,215. At 0 a
+                                   block is written before its status is answered, and no time is said */
     uint32_t manifest_ms;     /**< the same to put an image in place: 0 to 16,777,215 ms, at least 1 if not tolerant */
     uint32_t least;           /**< the fewest bytes of an image, 1 to 16,777,216; with more than a slot holds, no download can succeed */
     uint32_t unit;            /**< programs are whole multiples of it: 1, 16, 64 or 256 */
     uint32_t sector;          /**< bytes erased at a time: a multiple of 256 up to 131,072; 0: the flash is written over in place */
-    uint16_t erase_ms;        /**< ms to erase a sector: added to busy_ms and manifest_ms for each erase that is due for this block or image */
+    uint16_t erase_ms;        /**< ms to erase a sector: added to busy_ms and manifest_ms for each erase due for this block or image */
     uint16_t program_ms;      /**< ms to program 256 bytes: added in proportion to the bytes that are programmed */
 };
 

@@ -1,6 +1,6 @@
-/* How long a host waits for a download, by the choice of busy_ms, and by each block's own time: the rows of the table of docs/PORTING.md, "How long a host waits". The
- * device is the library's; the part's times are modelled, and the bus takes none. After each answer that says dfuDNBUSY the host waits
- * bwPollTimeout, and its next request gets NAK until the block is written. */
+/* How long a host waits for a download, by the choice of busy_ms, and by each block's own time: the rows of the table of docs/PORTING.md,
+ * "How long a host waits". The device is the library's; the part's times are modelled, and the bus takes none. After each answer that says
+ * dfuDNBUSY the host waits bwPollTimeout, and its next request gets NAK until the block is written. */
 #include <stdio.h>
 #include <string.h>
 

@@ -27,7 +27,8 @@ module _ (c : Profile) (i : List ℕ) where
   holds_time x ms (InDownloadBusy before block number passed) h =
       let F : Plan → Type 0 = Then (λ s. BlockIn x s.stage) in
       either_way F (ms == 0) _ _ (λ luck. h)
-      (either_way F (nat_le (block_ms c.pace c.busy (length before) (length block)) (passed + ms)) _ _ (elim [ Works ↦ h | FailsOld fault ↦ tt | FailsNew fault ↦ tt ]) (λ luck. h))
+      (either_way F (nat_le (block_ms c.pace c.busy (length before) (length block)) (passed + ms)) _ _
+      (elim [ Works ↦ h | FailsOld fault ↦ tt | FailsNew fault ↦ tt ]) (λ luck. h))
   holds_time x ms stage h = λ luck. search
 
   managing_status : (p : List ℕ) (stage : Stage) → Managing p i stage → Then (λ s. Managing p s.image s.stage) (plan c i stage GetStatus)

@@ -33,7 +33,8 @@ module _ (c : Profile) (offers : List (List ℕ)) where
       (either_way P (nat_le (max 1 timer) (passed + ms)) _ _ (passes, tt) (passes, tt)))
   time_steps i ms (InDownloadBusy before block number passed) live up h =
       let P : Plan → Type 0 = Steps i (InDownloadBusy before block number passed) live up in
-      either_way P (ms == 0) _ _ (passes, tt) (either_way P (nat_le (block_ms c.pace c.busy (length before) (length block)) (passed + ms)) _ _ (passes, tt) (passes, tt))
+      either_way P (ms == 0) _ _ (passes, tt)
+      (either_way P (nat_le (block_ms c.pace c.busy (length before) (length block)) (passed + ms)) _ _ (passes, tt) (passes, tt))
   time_steps i ms (InManifest taken passed) live up h =
       let P : Plan → Type 0 = Steps i (InManifest taken passed) live up in
       either_way P (ms == 0) _ _ (passes, h)

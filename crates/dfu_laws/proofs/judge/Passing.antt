@@ -57,7 +57,8 @@ time_kept c (InAppDetach timer passed) ms stands =
     ) (inl refl, tt)))
 time_kept c (InDownloadBusy before block number passed) ms stands =
     let P : Plan → Type 0 = TimeKept c (InDownloadBusy before block number passed) in
-    either_way P (ms == 0) _ _ (inl refl, tt) (either_way P (nat_le (block_ms c.pace c.busy (length before) (length block)) (passed + ms)) _ _ (
+    either_way P (ms == 0) _ _ (inl refl, tt)
+    (either_way P (nat_le (block_ms c.pace c.busy (length before) (length block)) (passed + ms)) _ _ (
       (moves c place.DownloadBusy Always place.DownloadSync refl refl, tt),
       moves c place.DownloadBusy Always place.Error refl refl,
     ) (inl refl, tt))

@@ -83,8 +83,8 @@ impl Config {
         Config { manifest_ms: ms, ..self }
     }
 
-    /// How long the flash takes to erase a sector, in milliseconds. It is added to `busy_ms` and `manifest_ms` for each erase that is due for
-    /// the block or the image, so that each has its own time.
+    /// How long the flash takes to erase a sector, in milliseconds. It is added to `busy_ms` and `manifest_ms` for each erase that is due
+    /// for the block or the image, so that each has its own time.
     #[must_use]
     pub const fn erase_ms(self, ms: u16) -> Config {
         Config { erase_ms: ms, ..self }
