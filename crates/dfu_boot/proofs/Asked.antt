@@ -1,19 +1,18 @@
 -- What the medium takes of what the calls ask.
-use Rattle.std.proofs.Common.{◌≡◌, ℕ, ◌+◌, ◌≤◌, ◌<◌, false, length, sym, ◌∙◌, ap, subst, arith}
+use Rattle.std.proofs.Common.{◌≡◌, ℕ, ◌+◌, ◌≤◌, false, length, sym, ◌∙◌, ap, subst, arith}
 use Rattle.dfu_slots.specs.Medium.{MediumState}
 use Rattle.dfu_slots.specs.Image.{Active, gate_of}
 use Rattle.dfu_slots.specs.Layout.{slot_size}
 use Rattle.dfu_slots.proofs.Sectors.{gate_most}
 use Rattle.dfu_slots.proofs.Stands.{standing}
 use Rattle.dfu_slots.proofs.Newest.{places_are}
-use Rattle.dfu_boot.specs.trial.Marks.{mark_size, mark_at, is_set, starts, AreTries}
+use Rattle.dfu_boot.specs.trial.Marks.{mark_size, mark_at, is_set, AreTries}
 use Rattle.dfu_boot.specs.trial.Calls.{IsSettled, IsStanding, MediumTakes, MarkIsWithin, sets}
 use Rattle.dfu_boot.specs.declared.trial.standing.Settled.{Settled}
 use Rattle.dfu_boot.specs.declared.trial.standing.Trial.{Trial}
 use Rattle.dfu_boot.specs.declared.trial.standing.Standing.TheVariants.{OnTrial}
-use Rattle.dfu_boot.specs.declared.trial.operation.Operation.TheVariants.{Mark, Close}
+use Rattle.dfu_boot.specs.declared.trial.operation.Operation.TheVariants.{Close}
 use Rattle.dfu_boot.proofs.Places.{mark_in, slot_in, mark_taken, close_taken}
-use Rattle.dfu_boot.proofs.Counting.{next_unset}
 
 module _ (m : MediumState) (tries : ℕ) (t : Trial) (are : AreTries m.grain tries) (stands : IsStanding m tries (OnTrial t)) where
   -- The slot on trial ends within the medium.

@@ -6,7 +6,7 @@ use Rattle.std.proofs.lemmas.Nat.{from_le_bytes-to_le_bytes_4}
 use Rattle.dfu_slots.specs.Units.{IsWhole}
 use Rattle.dfu_slots.specs.Medium.{MediumState, KeepsOutside}
 use Rattle.dfu_slots.specs.Layout.{Slot, slot, slot_size, ArePlaces, OPEN, header_length, HasHeader}
-use Rattle.dfu_slots.specs.Image.{gate_of, slot_of, IsSized, Counts, IsNewest, Active, HasImage}
+use Rattle.dfu_slots.specs.Image.{gate_of, slot_of, IsSized, Counts, IsNewest, Active}
 use Rattle.dfu_slots.proofs.Sectors.{gate_wide}
 use Rattle.dfu_slots.proofs.Parts.{slot_outside, data_length}
 use Rattle.dfu_boot.specs.trial.Trial.{IsFilled, image_at}
@@ -46,13 +46,6 @@ active_there m p q sized places newest full =
 -- The active slot has an image.
 pub active_filled : (m : MediumState) (image : List ℕ) (a : Active m image) → IsFilled (slot_of m a.at)
 active_filled m image a = filled m a.at a.spare (length image) a.sized a.places a.newest.counts a.header_is
-
--- Two places of slots are the two or the two the other way round.
-pub same_or_turned : (l : List ℕ) (p q a b : ℕ) → ArePlaces l p q → ArePlaces l a b → ((a ≡ p) × (b ≡ q)) ⊎ ((a ≡ q) × (b ≡ p))
-same_or_turned l p q a b (inl x) (inl y) = inl (y.0 ∙ sym x.0, y.1 ∙ sym x.1)
-same_or_turned l p q a b (inl x) (inr y) = inr (y.0 ∙ sym x.1, y.1 ∙ sym x.0)
-same_or_turned l p q a b (inr x) (inl y) = inr (y.0 ∙ sym x.1, y.1 ∙ sym x.0)
-same_or_turned l p q a b (inr x) (inr y) = inl (y.0 ∙ sym x.0, y.1 ∙ sym x.1)
 
 module _ (m now : MediumState) (size : length now.bytes ≡ length m.bytes) where
   -- The medium with other bytes.

@@ -26,7 +26,8 @@ fn spare_len<M: Medium>(medium: &M, spare: u32, counted: Counted) -> Option<u32>
     requires second { counted.second ≡ counts (slot_of (M.state medium.now) (slot_size (M.state medium.now).bytes)) }
     ensures counts { IfSome result (λ len. Counts (slot_of (M.state medium.now) spare)) }
     ensures some { IfSome result (λ len. HasHeader (slot_of (M.state medium.now) spare) len) }
-    ensures none { IfNone result (Counts (slot_of (M.state medium.now) spare) → (len : ℕ) → ¬ HasHeader (slot_of (M.state medium.now) spare) len) }
+    ensures none { IfNone result (Counts (slot_of (M.state medium.now) spare) → (len : ℕ) →
+        ¬ HasHeader (slot_of (M.state medium.now) spare) len) }
 {
     let counts = if spare == 0 {
         counted.first

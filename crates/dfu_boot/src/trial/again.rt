@@ -17,13 +17,14 @@ fn places_by_data<M: Medium>(medium: &M, at: u32) -> Option<Places>
     ensures at { IfSome result (λ p. image_place (M.state medium.now).grain p.active ≡ at) }
 {
     let second = medium.len() / 2;
-    if at == data_at(medium, 0) {
+    let gates = data_at(medium, 0);
+    if at == gates {
         return Some(Places {
             active: 0,
             spare: second,
         });
     }
-    if at == data_at(medium, second) {
+    if at == second + gates {
         return Some(Places {
             active: second,
             spare: 0,
@@ -67,7 +68,7 @@ pub fn look_again<M: Medium>(medium: &M, tries: u32, at: u32, base: Option<u32>)
     if is_confirmed || !is_open(medium, places.spare) || !is_set(medium, places.spare, 0) {
         return Some(Standing::Settled(Settled { slot, is_confirmed }));
     }
-    if base? != data_at(medium, places.spare) {
+    if base? != places.spare + (at - slot) {
         return None;
     }
     Some(Standing::OnTrial(Trial {

@@ -45,13 +45,9 @@ fn looked_again<'f>(
     }
 }
 
-/// What starts, as `dfu_core_trial_start`, by a standing that `dfu_core_trial_look` told: it reads gates, headers and marks, and no image.
-/// All that it takes from that standing is that the images which it names are whole; what their slots say otherwise comes from the flash.
-/// If that does not fit it looks anew.
-///
-/// Refused as `dfu_core_trial_look`.
-#[unsafe(no_mangle)]
-pub extern "C" fn dfu_core_trial_start_from(
+// What starts, by a standing that was told before.
+#[inline(never)]
+pub(crate) fn start_from(
     tries: &DfuTries,
     flash: &[u8],
     standing: &DfuStanding,
@@ -70,4 +66,24 @@ pub extern "C" fn dfu_core_trial_start_from(
         }
         Err(refusal) => refusal.number(),
     }
+}
+
+/// What starts, as `dfu_core_trial_start`, by a standing that `dfu_core_trial_look` told: it reads gates, headers and marks, and no image.
+/// All that it takes from that standing is that the images which it names are whole; what their slots say otherwise comes from the flash.
+/// If that does not fit it looks anew.
+///
+/// Refused as `dfu_core_trial_look`.
+#[unsafe(no_mangle)]
+pub extern "C" fn dfu_core_trial_start_from(
+    tries: &DfuTries,
+    flash: &[u8],
+    standing: &DfuStanding,
+    ask: &mut DfuAsk,
+    told: &mut DfuStarting,
+) -> i32
+    ensures outcome { AreWhole (flash_state tries.now flash.now) standing.now.active.at (base_told standing.now) →
+        ToldStart tries.now flash.now result ask.old ask.new told.new
+        ⊎ (RefusesTrial tries.now flash.now result × (ask.new ≡ ask.old) × (told.new ≡ told.old)) }
+{
+    start_from(tries, flash, standing, ask, told)
 }

@@ -8,8 +8,9 @@ ghost use Rattle.dfu_boot_c.specs.trial.Again.{base_told};
 ghost use Rattle.dfu_boot_c.specs.trial.Told.{is_there, run_told};
 ghost use Rattle.dfu_boot_c.specs.trial.TrialCalls.{RefusesTrial, ToldStanding, ToldStart, ToldConfirm, ToldEnd, ToldUpload};
 
+use crate::trial::again::start_from;
 use crate::trial::flash::{DfuTries, looked};
-use crate::trial::told::{DfuStanding, DfuStarting, standing_told, starting_told, tell};
+use crate::trial::told::{DfuStanding, DfuStarting, standing_told, tell};
 use dfu_boot::trial::Confirmation;
 use dfu_core::{DfuAsk, DfuPlace, PROGRAM};
 
@@ -48,14 +49,16 @@ pub extern "C" fn dfu_core_trial_start(
     ensures outcome { ToldStart tries.now flash.now result ask.old ask.new told.new
         ⊎ (RefusesTrial tries.now flash.now result × (ask.new ≡ ask.old) × (told.new ≡ told.old)) }
 {
-    match looked(tries, flash) {
-        Ok(looked) => {
-            let starts = looked.standing.start(&looked.medium, tries.tries);
-            *told = starting_told(&looked.medium, starts);
-            tell(starts.operation, tries.sector, ask)
-        }
-        Err(refusal) => refusal.number(),
-    }
+    // No image begins at 0, so this looks anew.
+    let nowhere = DfuPlace { at: 0, length: 0 };
+    let none = DfuStanding {
+        active: nowhere,
+        base: nowhere,
+        on_trial: 0,
+        left: 0,
+        is_confirmed: 0,
+    };
+    start_from(tries, flash, &none, ask, told)
 }
 
 // Whether all bytes are FFh.

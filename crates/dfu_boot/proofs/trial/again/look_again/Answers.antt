@@ -1,4 +1,4 @@
-use Rattle.std.proofs.Common.{◌≡◌, inl, inr, ℕ, Option, Some, None, sym, ◌∙◌, subst, eq-eqb}
+use Rattle.std.proofs.Common.{◌≡◌, inl, inr, ℕ, Option, Some, None, sym, ◌∙◌, subst, arith, eq-eqb}
 use Rattle.std.proofs.lemmas.Bool.{true≢false}
 use Rattle.dfu_slots.specs.Medium.{MediumState}
 use Rattle.dfu_slots.specs.Image.{gate_of, HasImage}
@@ -51,7 +51,8 @@ returns-clause-stands g c whole =
         places = c.in_ok-places.ensures.places;
         newest = c.is_ahead.ensures c.if-not-is_ahead.false full.counts;
         mine = full;
-        other = both.1 c.in_ok-places.places.spare (sym c.data_at.ensures ∙ sym c.if-branch-data_at.false);
+        other = both.1 c.in_ok-places.places.spare
+            (omega (arith, c.in_ok-places.ensures.at, c.if-branch-places.false));
         unconfirmed = sym c.is_set-is_confirmed.ensures ∙ c.if-is_confirmed.false;
         confirmed = sym c.is_set.ensures ∙ c.if-not-is_set.false;
       },

@@ -1,34 +1,20 @@
-use Rattle.std.proofs.Common.{sym, subst}
-use Rattle.dfu_slots.specs.Medium.{MediumState}
-use Rattle.dfu_asks.specs.Mapped.{grain_of as mapped_grain, mapped}
-use Rattle.dfu_boot.specs.trial.Calls.{IsStanding}
-use Rattle.dfu_boot.specs.declared.trial.starting.Starting.{Starting}
-use Rattle.dfu_boot.proofs.Fitting.{stands_fits}
-use Rattle.dfu_boot_c.proofs.Within.{AreWithin, starts_within}
-use Rattle.dfu_boot_c.proofs.trial.calls.dfu_core_trial_start.Goals.{After-start-starts}
+use Rattle.std.proofs.Common.{◌≡◌, ◌⊎◌, ℤ, w32, sym, subst, arith}
+use Rattle.std.proofs.lemmas.Int.{to_z-of_z}
+use Rattle.dfu_slots.proofs.Sectors.{gate_wide}
+use Rattle.dfu_boot_c.specs.trial.Tries.{tries_grain}
+use Rattle.dfu_boot_c.specs.trial.TrialCalls.{RefusesTrial, ToldStart}
 use Rattle.dfu_boot_c.proofs.trial.calls.dfu_core_trial_start.Goals as goal
 
-pub start-starts-requires-clause-stands : goal.start-starts-requires-clause-stands
-start-starts-requires-clause-stands c =
-    let l = c.in-Ok.looked in
+-- No image begins at 0, behind two gates of at least 16 bytes each.
+pub returns : goal.returns
+returns c =
     let t = c.args.tries.now in
-    let m : MediumState = mapped (mapped_grain l.medium.unit l.medium.sector) l.medium.bytes.now in
-    stands_fits m t.tries l.standing
-    (subst (λ (x : MediumState). IsStanding x t.tries l.standing) (sym c.in-Ok.ensures.state) c.in-Ok.ensures.ok.stands)
-
--- The slots of what starts end within the flash.
-within : (c : After-start-starts) → let medium = c.in-Ok.looked.medium in
-    AreWithin (mapped (mapped_grain medium.unit medium.sector) medium.bytes.now) c.start-starts.result
-within c =
-    let l = c.in-Ok.looked in
-    let t = c.args.tries.now in
-    let m : MediumState = mapped (mapped_grain l.medium.unit l.medium.sector) l.medium.bytes.now in
-    let stands = subst (λ (x : MediumState). IsStanding x t.tries l.standing) (sym c.in-Ok.ensures.state) c.in-Ok.ensures.ok.stands in
-    subst (λ (s : Starting). AreWithin m s) (sym c.start-starts.ensures.value)
-    (starts_within m t.tries l.standing (stands_fits m t.tries l.standing stands))
-
-pub starting_told-requires-clause-run : goal.starting_told-requires-clause-run
-starting_told-requires-clause-run c = (within (goal.at.starting_told-requires-clause-run c).After-start-starts).0
-
-pub starting_told-requires-clause-otherwise : goal.starting_told-requires-clause-otherwise
-starting_told-requires-clause-otherwise c = (within (goal.at.starting_told-requires-clause-otherwise c).After-start-starts).1
+    let flash = c.args.flash.now in
+    let new = c.start_from.new in
+    record {
+      outcome = subst
+          (λ (n : ℤ). ToldStart t flash n c.args.ask.now new.ask new.told
+          ⊎ (RefusesTrial t flash n × (new.ask ≡ c.args.ask.now) × (new.told ≡ c.args.told.now)))
+          (sym (to_z-of_z w32 c.start_from.result (omega (arith, c.start_from.type_inv))))
+          (c.start_from.ensures.outcome (λ slot is. absurd (omega (arith, is, gate_wide (tries_grain t)))));
+    }

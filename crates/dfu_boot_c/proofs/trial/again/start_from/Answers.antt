@@ -4,8 +4,8 @@ use Rattle.dfu_asks.specs.Mapped.{grain_of as mapped_grain, mapped}
 use Rattle.dfu_boot.specs.trial.Again.{Fits}
 use Rattle.dfu_boot.specs.declared.trial.starting.Starting.{Starting}
 use Rattle.dfu_boot_c.proofs.Within.{AreWithin, starts_within}
-use Rattle.dfu_boot_c.proofs.trial.again.dfu_core_trial_start_from.Goals.{After-start-starts}
-use Rattle.dfu_boot_c.proofs.trial.again.dfu_core_trial_start_from.Goals as goal
+use Rattle.dfu_boot_c.proofs.trial.again.start_from.Goals.{After-start-starts}
+use Rattle.dfu_boot_c.proofs.trial.again.start_from.Goals as goal
 
 -- The slots of what starts end within the flash.
 within : (c : After-start-starts) → let medium = c.in-Ok.looked.medium in
