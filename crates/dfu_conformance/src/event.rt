@@ -8,7 +8,7 @@ use crate::{EventKind, Gives, Row, StandardState};
 use dfu_wire::{Request, Setup};
 
 /// What was seen of an answer.
-#[derive(Clone, Copy, Debug, PartialEq, Eq)]
+#[derive(Clone, Copy, PartialEq, Eq)]
 pub enum Response {
     /// A stall.
     Stall,
@@ -26,7 +26,7 @@ pub enum Response {
 }
 
 /// What came to a device, and what was seen of its answer. Of a reset and of power nothing is seen.
-#[derive(Clone, Copy, Debug, PartialEq, Eq)]
+#[derive(Clone, Copy, PartialEq, Eq)]
 pub struct LogEvent {
     /// What came.
     pub asked: EventKind,

@@ -11,7 +11,7 @@ use crate::{EventKind, LogEvent, Response};
 use dfu_wire::Setup;
 
 /// What a line of a log says.
-#[derive(Clone, Copy, Debug, PartialEq, Eq)]
+#[derive(Clone, Copy, PartialEq, Eq)]
 pub enum Line {
     /// Nothing: it is empty, or begins with `#`.
     Blank,
@@ -22,7 +22,7 @@ pub enum Line {
 }
 
 /// What is wrong with a line that is not a line of a log.
-#[derive(Clone, Copy, Debug, PartialEq, Eq)]
+#[derive(Clone, Copy, PartialEq, Eq)]
 pub enum LineFault {
     /// It has over 262,158 bytes: only a comment may be longer.
     Long,

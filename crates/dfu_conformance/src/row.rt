@@ -4,7 +4,7 @@ ghost use Rattle.std.specs.Prelude.{◌≡◌};
 ghost use Rattle.dfu_conformance.specs.Fits.{asked_number, place_number};
 
 /// Where a device may be: a state of the standard (USB DFU 1.1, section 6.1.2), or dfuIDLE that a reset of the bus just entered.
-#[derive(Clone, Copy, Debug, PartialEq, Eq)]
+#[derive(Clone, Copy, PartialEq, Eq)]
 pub enum StandardState {
     /// 0.
     AppIdle,
@@ -42,7 +42,7 @@ impl StandardState {
 }
 
 /// What came to a device: one of the requests of the class (USB DFU 1.1, section 3), or what happened to its bus or its power.
-#[derive(Clone, Copy, Debug, PartialEq, Eq)]
+#[derive(Clone, Copy, PartialEq, Eq)]
 pub enum EventKind {
     /// DETACH.
     Detach,
@@ -78,7 +78,7 @@ impl EventKind {
 }
 
 /// A habit of some devices that is not in the standard. A judge gives the least set of habits with which a device is kept.
-#[derive(Clone, Copy, Debug, PartialEq, Eq)]
+#[derive(Clone, Copy, PartialEq, Eq)]
 pub enum Reading {
     /// 0: after a reset or power the device is in dfuIDLE, as a bootloader with no application is.
     Bootloader,
@@ -95,7 +95,7 @@ pub enum Reading {
 }
 
 /// For which devices a row is: the bits are those of bmAttributes (USB DFU 1.1, section 4.1.3).
-#[derive(Clone, Copy, Debug, PartialEq, Eq)]
+#[derive(Clone, Copy, PartialEq, Eq)]
 pub enum When {
     /// Every device.
     Always,
@@ -114,7 +114,7 @@ pub enum When {
 }
 
 /// What a device answers by a row.
-#[derive(Clone, Copy, Debug, PartialEq, Eq)]
+#[derive(Clone, Copy, PartialEq, Eq)]
 pub enum Gives {
     /// It acknowledges, or sends no bytes.
     Ack,
@@ -136,7 +136,7 @@ pub enum Gives {
 }
 
 /// Where the standard has a row.
-#[derive(Clone, Copy, Debug, PartialEq, Eq)]
+#[derive(Clone, Copy, PartialEq, Eq)]
 pub enum Source {
     /// Appendix A, in the table of the state where the row begins; section 6.1.2 has the bytes of an answer.
     A,
@@ -147,7 +147,7 @@ pub enum Source {
 }
 
 /// A row of the table: what a device may answer at a place, and where it is then.
-#[derive(Clone, Copy, Debug, PartialEq, Eq)]
+#[derive(Clone, Copy, PartialEq, Eq)]
 pub struct Row {
     /// Where the device is.
     pub from: StandardState,
@@ -164,7 +164,7 @@ pub struct Row {
 }
 
 /// A move that a device makes by itself, between two events.
-#[derive(Clone, Copy, Debug, PartialEq, Eq)]
+#[derive(Clone, Copy, PartialEq, Eq)]
 pub struct Drift {
     /// Where the device is.
     pub from: StandardState,

@@ -7,7 +7,7 @@ use crate::event::is_asked;
 use crate::{LogEvent, Row};
 
 /// What a judge says of all that came.
-#[derive(Clone, Copy, Debug, PartialEq, Eq)]
+#[derive(Clone, Copy, PartialEq, Eq)]
 pub enum Verdict {
     /// A device that keeps the standard may have answered so.
     Kept,
@@ -21,7 +21,7 @@ pub enum Verdict {
 }
 
 /// An event after which no device of the standard is left.
-#[derive(Clone, Copy, Debug, PartialEq, Eq)]
+#[derive(Clone, Copy, PartialEq, Eq)]
 pub struct Departure {
     /// Where the device might be before it: by place, in the order of [`crate::StandardState`].
     pub before: [bool; 12],

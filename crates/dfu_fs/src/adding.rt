@@ -17,7 +17,7 @@ use std::io::{self, Read};
 use std::rt::Files;
 
 /// How FILE is taken, and what fills the gaps of its image.
-#[derive(Clone, Copy, Debug, PartialEq, Eq)]
+#[derive(Clone, Copy)]
 pub struct AddOptions {
     /// `--format`.
     pub taken: FormatChoice,

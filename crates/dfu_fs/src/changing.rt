@@ -8,7 +8,7 @@ use dfu_wire::Ids;
 use std::alloc::{AllocError, Global};
 
 /// The identifiers that change, each with what it becomes.
-#[derive(Clone, Copy, Debug, PartialEq, Eq)]
+#[derive(Clone, Copy)]
 pub struct Change {
     /// idVendor.
     pub vendor: Option<u16>,

@@ -10,7 +10,7 @@ use std::alloc::Global;
 use std::io::Write;
 
 /// How a command ended, which is the exit status of the program.
-#[derive(Clone, Copy, Debug, PartialEq, Eq)]
+#[derive(Clone, Copy, PartialEq, Eq)]
 pub enum Exit {
     /// It did what was asked: status 0.
     Done,
@@ -48,7 +48,7 @@ impl Exit {
 }
 
 /// How a command ended, and the line for standard error that says why, if there is one.
-#[derive(Debug, Drop)]
+#[derive(Drop)]
 pub struct Outcome {
     /// How it ended.
     pub exit: Exit,

@@ -9,6 +9,8 @@ KEPT = {"inline", "error", "from", "repr", "must_use", "cold", "non_exhaustive"}
 DERIVES = {"Clone", "Copy", "Debug", "Default", "PartialEq", "Eq", "PartialOrd", "Ord", "Hash", "Error"}
 # A type that may be dropped says so in Rattle; in Rust each may.
 TAKEN_DERIVE = "Drop"
+# What can be compared can be shown, as tests want it. No proof is about what is shown, so that the sources need not say it.
+SHOWN, COMPARED = "Debug", "PartialEq"
 
 
 def without_tactics(path, tokens, kept=frozenset()):
@@ -70,7 +72,9 @@ def derive(path, tokens, words):
     for name in names:
         if name != TAKEN_DERIVE and name not in DERIVES:
             raise Refusal(path, tokens[0].line, f"a derive that the eraser does not know: {name}")
-    if TAKEN_DERIVE not in names:
+    if COMPARED in names and SHOWN not in names:
+        names.insert(names.index(COMPARED), SHOWN)
+    elif TAKEN_DERIVE not in names:
         return text_of(tokens)
     left = [it for it in names if it != TAKEN_DERIVE]
     return f"#[derive({', '.join(left)})]" if left else None

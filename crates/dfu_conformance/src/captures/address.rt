@@ -1,7 +1,7 @@
 //! Where a device is.
 
 /// Where a device is: its bus, and its number there, which changes at a reset.
-#[derive(Clone, Copy, Debug, PartialEq, Eq)]
+#[derive(Clone, Copy, PartialEq, Eq)]
 pub struct Address {
     /// The bus.
     pub bus: u16,

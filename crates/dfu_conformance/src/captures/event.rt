@@ -3,7 +3,7 @@
 use crate::captures::address::Address;
 
 /// Which part of a transfer a packet is.
-#[derive(Clone, Copy, Debug, PartialEq, Eq)]
+#[derive(Clone, Copy, PartialEq, Eq)]
 pub enum PacketKind {
     /// It submits the transfer.
     Submits,
@@ -18,7 +18,7 @@ pub enum PacketKind {
 }
 
 /// How a transfer ended.
-#[derive(Clone, Copy, Debug, PartialEq, Eq)]
+#[derive(Clone, Copy, PartialEq, Eq)]
 pub enum Ending {
     /// It was done.
     Done,

@@ -1,7 +1,7 @@
 //! Why a capture gives no log.
 
 /// Why a capture gives no log.
-#[derive(Clone, Copy, Debug, PartialEq, Eq)]
+#[derive(Clone, Copy, PartialEq, Eq)]
 pub enum CaptureFault {
     /// Its packets aren't those of usbmon, link type 189 or 220, or of USBPcap, link type 249.
     NotUsbmon,

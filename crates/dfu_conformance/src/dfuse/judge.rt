@@ -9,7 +9,7 @@ use crate::{Departure, LogEvent};
 const EVERYWHERE: Places = [true; 12];
 
 /// A judge of one DfuSe device, about which nothing is known at first. It takes no memory beyond its own 12 bytes.
-#[derive(Clone, Copy, Debug, Drop, PartialEq, Eq)]
+#[derive(Clone, Copy, Drop, PartialEq, Eq)]
 pub struct DfuseJudge {
     /// By place, in the order of [`crate::StandardState`]: whether a DfuSe device may be there now, by the events since the
     /// last departure.

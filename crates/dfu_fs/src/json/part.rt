@@ -3,7 +3,7 @@
 use crate::json::name::Name;
 
 /// What a word of a line is in an object.
-#[derive(Clone, Copy, Debug, PartialEq, Eq)]
+#[derive(Clone, Copy)]
 pub(crate) enum WordKind {
     /// A decimal number: a number.
     Number,
@@ -16,7 +16,7 @@ pub(crate) enum WordKind {
 }
 
 /// A part of a line, which gives a member of the object.
-#[derive(Clone, Copy, Debug, PartialEq, Eq)]
+#[derive(Clone, Copy)]
 pub(crate) enum LinePart {
     /// The second name: the member of the first name has it as its string.
     Says(Name, Name),

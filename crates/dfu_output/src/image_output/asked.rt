@@ -6,7 +6,7 @@ ghost use Rattle.dfu_output.specs.Asked.{IsNoFormat, fill_in};
 use dfu_formats::images::{Format, hex_digit};
 
 /// How FILE is taken.
-#[derive(Clone, Copy, Debug, PartialEq, Eq)]
+#[derive(Clone, Copy)]
 pub enum FormatChoice {
     /// Without a word: as it is, with a reason if it looks like a file of a format.
     Unsaid,
