@@ -1,4 +1,4 @@
-use Rattle.std.specs.Prelude.{◌≡◌, ℕ, false, slice_index_or}
+use Rattle.std.specs.Prelude.{ℕ, false, slice_index_or}
 use Rattle.std.proofs.Common.{sym, ap, ◌∙◌}
 use Rattle.dfu_conformance.proofs.Places.{number_below}
 use Rattle.dfu_conformance.proofs.Untaken.{none_more, second_fails, third_fails}
