@@ -19,6 +19,19 @@ pub(crate) struct LineEnds<R> {
     is_ended: bool,
 }
 
+/// Copies bytes up to a carriage return, as far as they fit. It returns how many it copied.
+fn copied(bytes: &[u8], to: &mut [u8]) -> usize {
+    let most = bytes.len().min(to.len());
+    for at in 0..most {
+        if bytes[at] == b'\r' {
+            to[..at].copy_from_slice(&bytes[..at]);
+            return at;
+        }
+    }
+    to[..most].copy_from_slice(&bytes[..most]);
+    most
+}
+
 impl<R> LineEnds<R> {
     /// A reader from which nothing was read yet.
     pub(crate) fn new(reader: R) -> LineEnds<R> {
@@ -53,6 +66,30 @@ impl<R> LineEnds<R> {
             return self.after_return();
         }
         Some(byte)
+    }
+
+    /// Gives the bytes at hand up to a carriage return, as far as they fit; or what stands for that. It returns how many it gave.
+    fn give(&mut self, buf: &mut [u8]) -> usize {
+        let count = if self.is_returned {
+            0
+        } else {
+            let ahead = self.piece.get(self.from..self.to).unwrap_or(&[]);
+            copied(ahead, buf)
+        };
+        if count > 0 {
+            self.from = self.from.saturating_add(count);
+            return count;
+        }
+        let Some(slot) = buf.first_mut() else {
+            return 0;
+        };
+        match self.next() {
+            Some(byte) => {
+                *slot = byte;
+                1
+            }
+            None => 0,
+        }
     }
 
     /// The byte to give if a carriage return was read: the line feed after it, or it. Nothing is known if no byte is at hand yet.
@@ -94,13 +131,7 @@ impl<R: Read> Read for LineEnds<R> {
                 break;
             }
             self.fill()?;
-            for slot in buf.iter_mut() {
-                match self.next() {
-                    Some(byte) => *slot = byte,
-                    None => break,
-                }
-                count = count.saturating_add(1);
-            }
+            count = self.give(buf);
         }
         Ok(count.min(buf.len()))
     }

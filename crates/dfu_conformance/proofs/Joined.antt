@@ -20,6 +20,18 @@ bits_join (suc (suc p)) q s a b c = absurd (omega arith)
 bits_join p (suc (suc q)) s a b c = absurd (omega arith)
 bits_join p q (suc (suc s)) a b c = absurd (omega arith)
 
+bits_or : (p q : ℕ) → p < 2 → q < 2 → (max p q == 1) ≡ ((p == 1) || (q == 1))
+bits_or zero zero a b = refl
+bits_or zero (suc zero) a b = refl
+bits_or (suc zero) zero a b = refl
+bits_or (suc zero) (suc zero) a b = refl
+bits_or (suc (suc p)) q a b = absurd (omega arith)
+bits_or p (suc (suc q)) a b = absurd (omega arith)
+
+-- A bit of both words.
+pub word_or : (x y r : ℕ) → (bit_at (bit_or x y) r == 1) ≡ ((bit_at x r == 1) || (bit_at y r == 1))
+word_or x y r = ap (λ (n : ℕ). n == 1) (bit_at_or x y r) ∙ bits_or (bit_at x r) (bit_at y r) (bit_at-lt x r) (bit_at-lt y r)
+
 -- A bit of a word that was joined.
 word_join : (x y z r : ℕ) → (bit_at (bit_or x (bit_and y z)) r == 1) ≡ ((bit_at x r == 1) || ((bit_at y r == 1) && (bit_at z r == 1)))
 word_join x y z r =

@@ -15,3 +15,4 @@ mod Requests
 pub mod Somewhere
 mod Verdicts
 mod Words
+mod Untaken

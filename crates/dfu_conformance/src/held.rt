@@ -4,7 +4,7 @@ ghost use Rattle.std.specs.Prelude.{◌≡◌, ◌<◌, ◌≤◌, ℕ, ◌||◌
 ghost use Rattle.std.specs.Int.{bit_at};
 ghost use Rattle.std.specs.List.{list_any};
 ghost use Rattle.dfu_conformance.specs.Held.{meets, word_has_bit, reading_bit, stands};
-ghost use Rattle.dfu_conformance.specs.inside.Stepped.{leads, drifts, stepped, some_held, anywhere, better_of, least_below};
+ghost use Rattle.dfu_conformance.specs.inside.Stepped.{Covers, leads, drifts, stepped, some_held, anywhere, better_of, least_below};
 ghost use Rattle.dfu_conformance.specs.Fits.{place_number, stays};
 ghost use Rattle.dfu_conformance.specs.declared.marks.TheConstants.{MARKS};
 
@@ -79,20 +79,41 @@ fn join(to: &Devices, from: &Devices, when: When) -> Devices
     after
 }
 
+/// The sets of readings of all devices, whatever their bmAttributes.
+fn readings_of(devices: &Devices) -> u64
+    ensures { (r : ℕ) → r < 64 → (bit_at result r == 1) ≡ some_held devices.now r }
+{
+    let mut all = 0;
+    for a in 0..16 {
+        all |= devices[a];
+    }
+    all
+}
+
 /// Whether there is no device.
+#[tactic(auto, using(crate::proofs::Untaken::none_held))]
 fn is_empty(devices: &Devices) -> bool
     ensures { result ≡ true → (a r : ℕ) → a < 16 → r < 64 → word_has_bit devices.now a r ≡ false }
 {
-    for a in 0..16 {
-        if devices[a] != 0 {
-            return false;
-        }
-    }
-    true
+    readings_of(devices) == 0
 }
 
 /// For each place the devices that may be there.
 pub(crate) type Places = [Devices; 12];
+
+/// By place, whether devices may be there. A row from a place without any leads none.
+type Taken = [bool; 12];
+
+/// The places where devices are.
+fn taken(places: &Places) -> Taken
+    ensures { Covers places.now result }
+{
+    let mut at = [true; 12];
+    for n in 0..12 {
+        at[n] = !is_empty(&places[n]);
+    }
+    at
+}
 
 /// The devices for which a row is are led from one place to another.
 fn lead(before: &Places, from: StandardState, when: When, after: &mut Places, to: StandardState)
@@ -100,33 +121,52 @@ fn lead(before: &Places, from: StandardState, when: When, after: &mut Places, to
         → stands after.new n a r
         ≡ (stands after.old n a r || ((place_number to == place_number n) && (stands before.now from a r && meets when a r))) }
 {
-    if is_empty(&before[from.number()]) {
-        return;
-    }
     let to = to.number();
     after[to] = join(&after[to], &before[from.number()], when);
 }
 
+/// Adds the devices that go by this row.
+fn go(row: &Row, before: &Places, at: &Taken, event: &LogEvent, after: &mut Places)
+    requires { Covers before.now at.now }
+    ensures { (n : StandardState) (a r : ℕ) → a < 16 → r < 64
+        → stands after.new n a r ≡ (stands after.old n a r || leads before.now event.now n a r row.now) }
+{
+    if at[row.from.number()] && speaks_of(row, event) {
+        lead(before, row.from, row.when, after, row.next);
+    }
+}
+
 /// Adds the devices that go by one of these rows.
-fn pass(rows: &[Row], before: &Places, event: &LogEvent, after: &mut Places)
+fn pass(rows: &[Row], before: &Places, at: &Taken, event: &LogEvent, after: &mut Places)
+    requires { Covers before.now at.now }
     ensures { (n : StandardState) (a r : ℕ) → a < 16 → r < 64
         → stands after.new n a r ≡ (stands after.old n a r || list_any (leads before.now event.now n a r) rows.now) }
 {
     for row in rows {
-        if speaks_of(row, event) {
-            lead(before, row.from, row.when, after, row.next);
-        }
+        go(row, before, at, event, after);
     }
 }
 
 /// Adds the devices that go by a row of a reset or of power: no such row is about a request.
 #[tactic(auto, using(crate::proofs::Requests::none_lead))]
-fn pass_marks(before: &Places, event: &LogEvent, after: &mut Places)
+fn pass_marks(before: &Places, at: &Taken, event: &LogEvent, after: &mut Places)
+    requires { Covers before.now at.now }
     ensures { (n : StandardState) (a r : ℕ) → a < 16 → r < 64
         → stands after.new n a r ≡ (stands after.old n a r || list_any (leads before.now event.now n a r) MARKS) }
 {
     if event.asked.number() > 8 {
-        pass(&MARKS, before, event, after);
+        pass(&MARKS, before, at, event, after);
+    }
+}
+
+/// Adds the devices that make this move by themselves.
+fn slide(one: &Drift, before: &Places, at: &Taken, after: &mut Places)
+    requires { Covers before.now at.now }
+    ensures { (n : StandardState) (a r : ℕ) → a < 16 → r < 64
+        → stands after.new n a r ≡ (stands after.old n a r || drifts before.now n a r one.now) }
+{
+    if at[one.from.number()] {
+        lead(before, one.from, one.when, after, one.next);
     }
 }
 
@@ -136,8 +176,9 @@ fn drift(moves: &[Drift], before: &Places) -> Places
         → stands result n a r ≡ (stands before.now n a r || list_any (drifts before.now n a r) moves.now) }
 {
     let mut after = *before;
+    let at = taken(before);
     for one in moves {
-        lead(before, one.from, one.when, &mut after, one.next);
+        slide(one, before, &at, &mut after);
     }
     after
 }
@@ -157,10 +198,11 @@ fn rest(before: &Places, event: &LogEvent) -> Places
 pub(crate) fn step(before: &Places, event: &LogEvent) -> Places
     ensures { (n : StandardState) (a r : ℕ) → a < 16 → r < 64 → stands result n a r ≡ stepped before.now event.now n a r }
 {
+    let at = taken(before);
     let mut after = rest(before, event);
-    pass(&STANDARD, before, event, &mut after);
-    pass_marks(before, event, &mut after);
-    pass(&HABITS, before, event, &mut after);
+    pass(&STANDARD, before, &at, event, &mut after);
+    pass_marks(before, &at, event, &mut after);
+    pass(&HABITS, before, &at, event, &mut after);
     drift(&DRIFTS, &after)
 }
 
@@ -177,11 +219,7 @@ fn is_held(devices: &Devices, readings: u8) -> bool
     requires { readings < 64 }
     ensures { result ≡ some_held devices.now readings }
 {
-    let mut is_some = false;
-    for a in 0..16 {
-        is_some = is_some || has_bit(devices[a], readings);
-    }
-    is_some
+    has_bit(readings_of(devices), readings)
 }
 
 /// By place, whether a device with this set of readings may be there.

@@ -1,6 +1,8 @@
 -- A log goes on by a byte.
-use Rattle.std.specs.Prelude.{◌≡◌, ℕ, ◌+◌, ◌<◌, List, [], ◌∷◌, ◌++◌, length, Bool, Option, Some, None, cond}
-use Rattle.std.proofs.Common.{sym, ap, ◌∙◌, subst, arith, length-append}
+use Rattle.std.specs.Prelude.{◌≡◌, ℕ, ◌+◌, ◌<◌, ◌≤◌, ◌||◌, List, [], ◌∷◌, ◌++◌, length, Bool, true, false, Option, Some, None, cond}
+use Rattle.std.proofs.Common.{sym, ap, ◌∙◌, subst, arith, refl, append_assoc, length-append}
+use Rattle.std.specs.List.{list_any}
+use Rattle.std.proofs.lemmas.Bool.{eqb-false}
 use Rattle.std.proofs.lemmas.List.{append-nil}
 use Rattle.dfu_conformance.specs.declared.event.LogEvent.{LogEvent}
 use Rattle.dfu_conformance.specs.declared.verdict.Departure.{Departure}
@@ -14,9 +16,13 @@ use Rattle.dfu_output.specs.judge.Texts.{is_single}
 use Rattle.dfu_conformance.specs.declared.log.LineFault.{LineFault}
 use Rattle.dfu_output.specs.declared.judge.fault.LogFault.{LogFault}
 use Rattle.dfu_output.specs.declared.judge.fault.LogFault.TheVariants.{BadLine, TooLarge, NoMemory, Read, Write}
-use Rattle.dfu_output.specs.judge.Lines.{LinesState, GoesToLine, EndsLine, TakesByte, IsBadLine, CannotTake}
+use Rattle.dfu_output.specs.judge.Lines.{LinesState, GoToLine, GoesToLine, is_end, EndsLine, TakesByte, IsBadLine, CannotTake}
 use Rattle.dfu_output.specs.judge.Judging.{CannotGo}
 use Rattle.dfu_output.specs.judge.inside.Going.{JudgingState, IsAt, EventCame, JudgedText}
+
+or_none : (x y : Bool) → (x || y) ≡ false → (x ≡ false) × (y ≡ false)
+or_none false y none = (refl, none)
+or_none true y none = absurd cc
 
 counted : (events : List LogEvent) (e : LogEvent) (n : ℕ) → n ≡ length events → n + 1 ≡ length (events ++ e ∷ [])
 counted events e n is = omega (arith, is, length-append events (e ∷ []))
@@ -126,6 +132,38 @@ kept_byte interface byte s lines text c is judged g = record {
     since = is.since;
     line = g.line ∙ ap (λ (x : List ℕ). x ++ byte ∷ []) is.line;
     room = omega (arith, is.room, g.room, length-append text (byte ∷ []));
+    number = g.number ∙ is.number;
+    events = is.events;
+    single = is.single;
+  };
+  out = sym (append-nil c.out);
+}
+
+goes_all : (interface : ℕ) (bytes text : List ℕ) (c : LogCourse) → Judges interface text c → list_any is_end bytes ≡ false
+    → length c.line + length bytes ≤ 262158 → Judges interface (text ++ bytes) (record c { line = c.line ++ bytes })
+goes_all interface [] text c judged inner short =
+    subst (λ (t : List ℕ). Judges interface t (record c { line = c.line ++ [] })) (sym (append-nil text))
+    (subst (λ (l : List ℕ). Judges interface text (record c { line = l })) (sym (append-nil c.line)) judged)
+goes_all interface (byte ∷ bytes) text c judged inner short =
+    let parts = or_none (is_end byte) (list_any is_end bytes) inner in
+    let one = goes byte judged (eqb-false byte 10 parts.0) (omega (arith, short)) in
+    let rest = goes_all interface bytes (text ++ byte ∷ []) (record c { line = c.line ++ byte ∷ [] }) one parts.1
+    (omega (arith, short, length-append c.line (byte ∷ []))) in
+    subst (λ (t : List ℕ). Judges interface t (record c { line = c.line ++ byte ∷ bytes })) (append_assoc text (byte ∷ []) bytes)
+    (subst (λ (l : List ℕ). Judges interface ((text ++ byte ∷ []) ++ bytes) (record c { line = l }))
+    (append_assoc c.line (byte ∷ []) bytes) rest)
+
+-- Bytes that go to their line.
+pub kept_bytes : (interface : ℕ) (bytes : List ℕ) (s : JudgingState) (lines : LinesState) (text : List ℕ) (c : LogCourse) → IsAt s text c
+    → Judges interface text c → GoToLine s.lines lines bytes → JudgedText interface (text ++ bytes) c None (record s { lines = lines })
+kept_bytes interface bytes s lines text c is judged g = record {
+  next = record c { line = c.line ++ bytes };
+  judged = goes_all interface bytes text c judged g.inner (subst (λ (x : List ℕ). length x + length bytes ≤ 262158) is.line g.short);
+  at = record {
+    whole = is.whole;
+    since = is.since;
+    line = g.line ∙ ap (λ (x : List ℕ). x ++ bytes) is.line;
+    room = omega (arith, is.room, g.room, length-append text bytes);
     number = g.number ∙ is.number;
     events = is.events;
     single = is.single;

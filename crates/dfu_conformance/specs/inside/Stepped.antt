@@ -1,5 +1,5 @@
 -- One step of a judge, as it computes.
-use Rattle.std.specs.Prelude.{ℕ, ◌==◌, ◌&&◌, ◌||◌, nat_le, Bool, true, false, zero, suc, List, [], slice_index_or, Option, Some, None, count_ones, if◌then◌else◌}
+use Rattle.std.specs.Prelude.{◌≡◌, ◌<◌, ℕ, ◌==◌, ◌&&◌, ◌||◌, nat_le, Bool, true, false, zero, suc, List, [], slice_index_or, Option, Some, None, count_ones, if◌then◌else◌}
 use Rattle.std.specs.List.{list_any}
 use Rattle.dfu_conformance.specs.declared.row.StandardState.{StandardState}
 use Rattle.dfu_conformance.specs.declared.row.Row.{Row}
@@ -11,6 +11,11 @@ use Rattle.dfu_conformance.specs.declared.habits.TheConstants.{HABITS}
 use Rattle.dfu_conformance.specs.declared.drifts.TheConstants.{DRIFTS}
 use Rattle.dfu_conformance.specs.Fits.{place_number, fits, stays}
 use Rattle.dfu_conformance.specs.Held.{meets, word_has_bit, stands}
+
+-- Devices are held at no place but these.
+abbrev pub Covers : List (List ℕ) → List Bool → Type 0
+Covers held at = (n a r : ℕ) → n < 12 → a < 16 → r < 64 → slice_index_or at n false ≡ false
+    → word_has_bit (slice_index_or held n []) a r ≡ false
 
 -- The row leads a device of these bmAttributes and readings to this place, from where it is held.
 abbrev pub leads : List (List ℕ) → LogEvent → StandardState → (attributes readings : ℕ) → Row → Bool

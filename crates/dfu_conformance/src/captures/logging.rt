@@ -9,7 +9,7 @@ use crate::captures::exchange::{Exchange, Seen};
 use crate::captures::fault::CaptureFault;
 use crate::captures::joining::exchanges_of;
 use crate::captures::records::form_of;
-use std::alloc::{AllocError, Global};
+use std::alloc::Global;
 
 /// Whether bytes begin as a capture does: pcap of either order, or pcapng. Four bytes are enough.
 pub fn is_capture(bytes: &[u8]) -> bool
@@ -28,55 +28,13 @@ fn is_dfu(exchanges: &[Exchange<'_>], interface: u8, address: Address) -> bool {
     false
 }
 
-/// A hexadecimal digit.
+/// A hexadecimal digit of a value below 16.
 fn digit(value: u8) -> u8 {
-    match value % 16 {
-        0 => b'0',
-        1 => b'1',
-        2 => b'2',
-        3 => b'3',
-        4 => b'4',
-        5 => b'5',
-        6 => b'6',
-        7 => b'7',
-        8 => b'8',
-        9 => b'9',
-        10 => b'a',
-        11 => b'b',
-        12 => b'c',
-        13 => b'd',
-        14 => b'e',
-        _ => b'f',
-    }
-}
-
-/// Adds bytes as digits.
-fn push_hex(log: &mut Vec<u8>, bytes: &[u8]) -> Result<(), AllocError> {
-    for byte in bytes {
-        log.push(digit(*byte / 16))?;
-        log.push(digit(*byte))?;
-    }
-    Ok(())
-}
-
-/// Adds the line of a request and its answer.
-fn push_exchange(log: &mut Vec<u8>, exchange: &Exchange<'_>) -> Result<(), AllocError> {
-    push_hex(log, &exchange.setup)?;
-    log.push(b' ')?;
-    if exchange.body.is_empty() {
-        log.push(b'-')?;
+    if value < 10 {
+        b'0' + value
     } else {
-        push_hex(log, exchange.body)?;
+        b'a' + value % 16 - 10
     }
-    log.push(b' ')?;
-    match exchange.seen {
-        Seen::Stall => log.extend_from_slice(b"stall")?,
-        Seen::Nothing => log.extend_from_slice(b"nothing")?,
-        Seen::Bytes([]) => log.extend_from_slice(b"ack")?,
-        Seen::Bytes(bytes) => push_hex(log, bytes)?,
-    }
-    log.push(b'\n')?;
-    Ok(())
 }
 
 /// Whose requests are logged: those of one address, or of the only device that speaks DFU, whose address changes at a reset.
@@ -89,6 +47,18 @@ struct Followed {
 }
 
 impl Followed {
+    /// Whether an address that a device gets is one of the device.
+    fn gets(&mut self, address: Address) -> bool {
+        let is_it = match self.only {
+            Some(only) => only == address,
+            None => true,
+        };
+        if is_it {
+            self.given = Some(address);
+        }
+        is_it
+    }
+
     /// Whether a request to this address is one to the device. ManyDevices if it is to another one.
     fn takes(&mut self, address: Address) -> Result<bool, CaptureFault> {
         if let Some(only) = self.only {
@@ -104,6 +74,17 @@ impl Followed {
         self.last = Some(address);
         Ok(true)
     }
+
+    /// Whether an exchange has a line. ManyDevices if it is one of another device, CutPacket if not all of it was captured.
+    fn shows(&mut self, exchange: &Exchange<'_>) -> Result<bool, CaptureFault> {
+        if let Some(address) = exchange.given {
+            return Ok(self.gets(address));
+        }
+        match self.takes(exchange.address) {
+            Ok(true) if exchange.is_cut => Err(CaptureFault::CutPacket),
+            answer => answer,
+        }
+    }
 }
 
 /// A log with a line for each packet so far.
@@ -111,20 +92,77 @@ impl Followed {
 struct Log {
     text: Vec<u8>,
     lines: usize,
+    // Memory was refused for a part of the text.
+    is_torn: bool,
 }
 
 impl Log {
+    /// Adds bytes.
+    fn put(&mut self, bytes: &[u8]) {
+        if self.text.extend_from_slice(bytes).is_err() {
+            self.is_torn = true;
+        }
+    }
+
+    /// Adds bytes as digits.
+    fn put_hex(&mut self, bytes: &[u8]) {
+        for byte in bytes {
+            self.put(&[digit(*byte / 16), digit(*byte % 16)]);
+        }
+    }
+
+    /// Adds the bytes that the host sent.
+    fn put_body(&mut self, body: &[u8]) {
+        if body.is_empty() {
+            self.put(b"-");
+        } else {
+            self.put_hex(body);
+        }
+    }
+
+    /// Adds an answer.
+    fn put_seen(&mut self, seen: Seen<'_>) {
+        match seen {
+            Seen::Stall => self.put(b"stall"),
+            Seen::Nothing => self.put(b"nothing"),
+            Seen::Bytes([]) => self.put(b"ack"),
+            Seen::Bytes(bytes) => self.put_hex(bytes),
+        }
+    }
+
+    /// Adds the line of a request and its answer.
+    fn put_exchange(&mut self, exchange: &Exchange<'_>) {
+        self.put_hex(&exchange.setup);
+        self.put(b" ");
+        self.put_body(exchange.body);
+        self.put(b" ");
+        self.put_seen(exchange.seen);
+        self.put(b"\n");
+    }
+
     /// Adds the line of an exchange after empty lines for the packets before it.
-    fn push(&mut self, exchange: &Exchange<'_>) -> Result<(), AllocError> {
+    fn push(&mut self, exchange: &Exchange<'_>) {
         for _line in self.lines.saturating_add(1)..exchange.packet {
-            self.text.push(b'\n')?;
+            self.put(b"\n");
         }
         self.lines = exchange.packet;
         if exchange.given.is_some() {
-            self.text.extend_from_slice(b"reset\n")
+            self.put(b"reset\n");
         } else {
-            push_exchange(&mut self.text, exchange)
+            self.put_exchange(exchange);
         }
+    }
+
+    /// The text, unless memory was refused for it or no line was added.
+    fn whole(self) -> Result<Vec<u8>, CaptureFault> {
+        let Log { text, is_torn, .. } = self;
+        if is_torn {
+            return Err(CaptureFault::NoMemory);
+        }
+        if text.is_empty() {
+            return Err(CaptureFault::NoDevice);
+        }
+        Ok(text)
     }
 }
 
@@ -132,28 +170,53 @@ impl Log {
 fn log_one(
     log: &mut Log,
     exchange: &Exchange<'_>,
-    is_dfu: bool,
     followed: &mut Followed,
 ) -> Result<(), CaptureFault> {
-    if let Some(address) = exchange.given {
-        if is_dfu && (followed.only.is_none() || followed.only == Some(address)) {
-            followed.given = Some(address);
-            return match log.push(exchange) {
-                Ok(()) => Ok(()),
-                Err(_) => Err(CaptureFault::NoMemory),
-            };
+    if followed.shows(exchange)? {
+        log.push(exchange);
+    }
+    if log.is_torn {
+        return Err(CaptureFault::NoMemory);
+    }
+    Ok(())
+}
+
+/// Adds what exchanges say of the device that speaks DFU at this interface.
+fn log_all(
+    log: &mut Log,
+    exchanges: &[Exchange<'_>],
+    interface: u8,
+    followed: &mut Followed,
+) -> Result<(), CaptureFault> {
+    for exchange in exchanges {
+        let address = exchange.given.unwrap_or(exchange.address);
+        if is_dfu(exchanges, interface, address) {
+            log_one(log, exchange, followed)?;
         }
-        return Ok(());
     }
-    if !is_dfu || !followed.takes(exchange.address)? {
-        return Ok(());
-    }
-    if exchange.is_cut {
-        return Err(CaptureFault::CutPacket);
-    }
-    match log.push(exchange) {
-        Ok(()) => Ok(()),
-        Err(_) => Err(CaptureFault::NoMemory),
+    Ok(())
+}
+
+/// The log of exchanges.
+fn text_of(
+    alloc: Global,
+    exchanges: &[Exchange<'_>],
+    interface: u8,
+    only: Option<Address>,
+) -> Result<Vec<u8>, CaptureFault> {
+    let mut log = Log {
+        text: Vec::new(alloc),
+        lines: 0,
+        is_torn: false,
+    };
+    let mut followed = Followed {
+        only,
+        last: None,
+        given: None,
+    };
+    match log_all(&mut log, exchanges, interface, &mut followed) {
+        Ok(()) => log.whole(),
+        Err(fault) => Err(fault),
     }
 }
 
@@ -174,27 +237,8 @@ pub fn log_of(
     ensures none { begins_capture capture.now ≡ false → result ≡ Err CaptureFault.NotUsbmon }
     ensures some { OnOk result (begins_capture capture.now ≡ true) }
 {
-    let exchanges = exchanges_of(alloc, capture)?;
-    let mut log = Log {
-        text: Vec::new(alloc),
-        lines: 0,
-    };
-    let mut followed = Followed {
-        only,
-        last: None,
-        given: None,
-    };
-    for exchange in &exchanges {
-        let address = match exchange.given {
-            Some(address) => address,
-            None => exchange.address,
-        };
-        let is_dfu = is_dfu(&exchanges, interface, address);
-        log_one(&mut log, exchange, is_dfu, &mut followed)?;
+    match exchanges_of(alloc, capture) {
+        Ok(exchanges) => text_of(alloc, &exchanges, interface, only),
+        Err(fault) => Err(fault),
     }
-    let Log { text, .. } = log;
-    if text.is_empty() {
-        return Err(CaptureFault::NoDevice);
-    }
-    Ok(text)
 }

@@ -1,5 +1,6 @@
 -- The lines of a log, a byte at a time.
-use Rattle.std.specs.Prelude.{◌≡◌, ◌≢◌, ℕ, ◌+◌, ◌<◌, ◌==◌, Bool, true, false, List, [], ◌∷◌, ◌++◌, length, Option, Some, None}
+use Rattle.std.specs.Prelude.{◌≡◌, ◌≢◌, ℕ, ◌+◌, ◌<◌, ◌≤◌, ◌==◌, Bool, true, false, List, [], ◌∷◌, ◌++◌, length, Option, Some, None}
+use Rattle.std.specs.List.{list_any}
 use Rattle.dfu_conformance.specs.declared.log.Line.{Line}
 use Rattle.dfu_conformance.specs.declared.log.LineFault.{LineFault}
 use Rattle.dfu_conformance.specs.declared.log.LineFault.TheVariants.{Long}
@@ -19,6 +20,18 @@ pub record GoesToLine (s t : LinesState) (byte : ℕ) : Type 0 where
   pub inner : byte ≢ 10
   pub short : length s.line < 262158
   pub line : t.line ≡ s.line ++ byte ∷ []
+  pub number : t.number ≡ s.number
+
+-- A byte is a 0Ah.
+abbrev pub is_end : ℕ → Bool
+is_end byte = byte == 10
+
+-- Bytes go to their line: none is a 0Ah, and there is room for them in the log and in the line.
+pub record GoToLine (s t : LinesState) (bytes : List ℕ) : Type 0 where
+  pub room : t.room + length bytes ≡ s.room
+  pub inner : list_any is_end bytes ≡ false
+  pub short : length s.line + length bytes ≤ 262158
+  pub line : t.line ≡ s.line ++ bytes
   pub number : t.number ≡ s.number
 
 -- A byte ends its line, which says this.

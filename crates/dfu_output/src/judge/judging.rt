@@ -1,6 +1,6 @@
-//! A log that is judged, a byte at a time.
+//! A log that is judged, as its bytes come.
 
-ghost use Rattle.std.specs.Prelude.{◌≡◌, ◌+◌, ◌<◌, ◌++◌, ◌∷◌, [], IfErr, IfOk, IfSome, List, OnOk, ℕ};
+ghost use Rattle.std.specs.Prelude.{◌≡◌, ◌+◌, ◌<◌, ◌≤◌, ◌++◌, ◌∷◌, [], IfErr, IfOk, IfSome, List, None, OnOk, length, take, ℕ};
 ghost use Rattle.dfu_conformance.specs.Verdict.{IsVerdict, ArePlacesAfter};
 ghost use Rattle.dfu_output.specs.judge.Course.{LogCourse, Judges, at_first};
 ghost use Rattle.dfu_output.specs.judge.Judging.{CannotGo, readings_of};
@@ -78,6 +78,16 @@ impl Judging {
                 None
             }
         }
+    }
+
+    /// The first of these bytes come, up to a 0Ah: as many as there is room for. It returns how many came.
+    pub(crate) fn take_inner(&mut self, bytes: &[u8]) -> usize
+        ensures within { result ≤ length bytes.now }
+        ensures goes { (interface : ℕ) (text : List ℕ) (c : LogCourse) → IsAt self.old text c → Judges interface text c
+            → JudgedText interface (text ++ take result bytes.now) c None self.new }
+        ensures room { self.new.lines.room + result ≡ self.old.lines.room }
+    {
+        self.lines.take_inner(bytes)
     }
 
     /// A byte comes. If it ends a line at which the device departs, it returns the departure.

@@ -1,7 +1,8 @@
-//! The lines of a log, a byte at a time.
+//! The lines of a log, as its bytes come.
 
-ghost use Rattle.std.specs.Prelude.{◌≡◌, ◌≢◌, ◌+◌, ◌<◌, ◌≤◌, ◌++◌, ◌∷◌, [], IfErr, IfOk, IfSome, List, OnErr, OnOk, length, vec_capacity, ℕ};
-ghost use Rattle.dfu_output.specs.judge.Lines.{CannotTake, EndsLine, GoesToLine, TakesByte};
+ghost use Rattle.std.specs.Prelude.{◌≡◌, ◌≢◌, false, ◌+◌, ◌<◌, ◌≤◌, ◌++◌, ◌∷◌, [], IfErr, IfOk, IfSome, List, OnErr, OnOk, length, take, vec_capacity, ℕ};
+ghost use Rattle.std.specs.List.{list_any};
+ghost use Rattle.dfu_output.specs.judge.Lines.{CannotTake, EndsLine, GoToLine, GoesToLine, TakesByte, is_end};
 
 use crate::judge::fault::LogFault;
 use dfu_conformance::{Line, LineFault, read_line, why_unread};
@@ -53,6 +54,33 @@ fn put(line: &mut Vec<u8>, byte: u8)
     };
 }
 
+/// Puts bytes to the end of a line that has room for them.
+fn put_all(line: &mut Vec<u8>, bytes: &[u8])
+    requires room { length line.old.items + length bytes.now ≤ 262158 }
+    requires capacity { 262158 ≤ vec_capacity line.old }
+    ensures items { line.new.items ≡ line.old.items ++ bytes.now }
+    ensures capacity { vec_capacity line.old ≤ vec_capacity line.new }
+{
+    let Ok(()) = line.extend_from_slice(bytes) else {
+        unreachable!();
+    };
+}
+
+/// How many of these bytes precede the first 0Ah; at most so many.
+fn inner_length(bytes: &[u8], most: usize) -> usize
+    ensures within { result ≤ length bytes.now }
+    ensures most { result ≤ most }
+    ensures inner { list_any is_end (take result bytes.now) ≡ false }
+{
+    let end = most.min(bytes.len());
+    for at in 0..end {
+        if bytes[at] == b'\n' {
+            return at;
+        }
+    }
+    end
+}
+
 impl LogLines {
     /// A log before its first byte; `None` if an allocation was refused.
     pub fn new(alloc: Global) -> Option<LogLines>
@@ -93,6 +121,19 @@ impl LogLines {
         self.room -= 1;
         put(&mut self.line, byte);
         Ok(())
+    }
+
+    /// The first of these bytes come, up to a 0Ah: as many as there is room for. It returns how many came.
+    pub(crate) fn take_inner(&mut self, bytes: &[u8]) -> usize
+        ensures within { result ≤ length bytes.now }
+        ensures goes { GoToLine self.old self.new (take result bytes.now) }
+        ensures room { self.new.room + result ≡ self.old.room }
+    {
+        let free = ((MAX_LINE - self.line.len()) as u64).min(self.room) as usize;
+        let count = inner_length(bytes, free);
+        put_all(&mut self.line, &bytes[..count]);
+        self.room -= count as u64;
+        count
     }
 
     /// A line is ended.

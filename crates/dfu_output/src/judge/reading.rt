@@ -1,6 +1,6 @@
 //! `dfu judge`: what is written of a log.
 
-ghost use Rattle.std.specs.Prelude.{◌≡◌, ◌+◌, ◌++◌, ◌∷◌, [], IfErr, IfSome, List, OnOk, Option, length, ℕ};
+ghost use Rattle.std.specs.Prelude.{◌≡◌, ◌+◌, ◌<◌, ◌≤◌, ◌++◌, ◌∷◌, [], IfErr, IfOk, IfSome, List, OnOk, Option, length, take, ℕ};
 ghost use Rattle.std.specs.Io.KnownBytes.{Appends};
 ghost use Rattle.dfu_output.specs.judge.Judging.{CannotTell, LogStops, WritesJudgment, WritesOfLog, WritesVerdict, exit_of};
 ghost use Rattle.dfu_output.specs.judge.Texts.{departure_text};
@@ -58,6 +58,32 @@ fn step<W: Write>(
     }
 }
 
+/// The first bytes of a rest of the log come: those before a 0Ah, and it. It returns how many came.
+fn advance<W: Write>(
+    alloc: Global,
+    interface: u8,
+    judging: &mut Judging,
+    rest: &[u8],
+    writer: &mut W,
+) -> Result<usize, LogFault>
+    requires { 0 < length rest.now }
+    ensures within { IfOk result (λ n. (0 < n) × (n ≤ length rest.now)) }
+    ensures ok { (old : Option (List ℕ)) (text : List ℕ) → Going interface old (W.contents writer.old) text judging.old
+        → IfOk result (λ n. Going interface old (W.contents writer.new) (text ++ take n rest.now) judging.new) }
+    ensures err { (old : Option (List ℕ)) (text : List ℕ) → Going interface old (W.contents writer.old) text judging.old
+        → IfErr result (λ f. (tail : List ℕ) → LogStops interface old (W.contents writer.new) ((text ++ rest.now) ++ tail) f) }
+    ensures room { IfOk result (λ n. judging.new.lines.room + n ≡ judging.old.lines.room) }
+{
+    let count = judging.take_inner(rest);
+    if count == rest.len() {
+        return Ok(count);
+    }
+    match step(alloc, interface, judging, rest[count], writer) {
+        Ok(()) => Ok(count + 1),
+        Err(fault) => Err(fault),
+    }
+}
+
 /// A piece of the log comes.
 fn feed<W: Write>(
     alloc: Global,
@@ -72,9 +98,10 @@ fn feed<W: Write>(
         → IfErr result (λ f. (tail : List ℕ) → LogStops interface old (W.contents writer.new) ((text ++ piece.now) ++ tail) f) }
     ensures room { OnOk result (judging.new.lines.room + length piece.now ≡ judging.old.lines.room) }
 {
-    for byte in piece {
-        match step(alloc, interface, judging, *byte, writer) {
-            Ok(()) => {}
+    let mut at = 0usize;
+    while at < piece.len() {
+        match advance(alloc, interface, judging, &piece[at..], writer) {
+            Ok(count) => at += count,
             Err(fault) => return Err(fault),
         }
     }

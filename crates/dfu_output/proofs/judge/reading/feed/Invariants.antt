@@ -1,10 +1,14 @@
-use Rattle.std.specs.Prelude.{◌≡◌, ◌+◌, ◌++◌, ℕ, List, Option, take}
+use Rattle.std.specs.Prelude.{◌≡◌, ◌≤◌, ◌+◌, ◌-◌, ◌++◌, ℕ, List, Option, length, take}
 use Rattle.dfu_output.specs.judge.inside.Going.{Going}
 use Rattle.dfu_output.proofs.judge.reading.feed.Given as goal
 
-abbrev pub invariant-loop-byte : goal.invariant-loop-byte
-invariant-loop-byte g l = record {
+abbrev pub invariant-loop-at : goal.invariant-loop-at
+invariant-loop-at g l = record {
+  within : l.at ≤ length l.piece;
   going : (old : Option (List ℕ)) (text : List ℕ) → Going l.interface old (g.W.Write.contents l.fn.writer) text l.fn.judging
-      → Going l.interface old (g.W.Write.contents l.writer) (text ++ take l.byte-index l.piece) l.judging;
-  room : l.judging.lines.room + l.byte-index ≡ l.fn.judging.lines.room;
+      → Going l.interface old (g.W.Write.contents l.writer) (text ++ take l.at l.piece) l.judging;
+  room : l.judging.lines.room + l.at ≡ l.fn.judging.lines.room;
 }
+
+abbrev pub decreases-loop-at : goal.decreases-loop-at
+decreases-loop-at g l = length l.piece - l.at

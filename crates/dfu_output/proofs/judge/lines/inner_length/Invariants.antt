@@ -1,0 +1,7 @@
+use Rattle.std.specs.Prelude.{◌≡◌, false, take}
+use Rattle.std.specs.List.{list_any}
+use Rattle.dfu_output.specs.judge.Lines.{is_end}
+use Rattle.dfu_output.proofs.judge.lines.inner_length.Given as goal
+
+abbrev pub invariant-loop-at : goal.invariant-loop-at
+invariant-loop-at l = list_any is_end (take l.at l.bytes) ≡ false
