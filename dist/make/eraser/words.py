@@ -45,6 +45,8 @@ class Words:
                 at = self.std(at)
             elif token.text == "Drop":
                 at = self.bound(at)
+            elif token.text in ("fmt", "Formatter"):
+                at = self.writer(at)
             elif self.is_macro(at):
                 self.macro(at)
             elif token.text == "clone" and self.made[-1].text == ".":
@@ -106,6 +108,25 @@ class Words:
         else:
             self.refuse(at, f"a path of std that the eraser does not know: std::{name}")
         return last
+
+    def writer(self, at):
+        """`fn fmt<W: fmt::Write>(&self, f: &mut fmt::Formatter<W>)`: in Rust a formatter has no parameter for what it writes to."""
+        end, name = at, self.tokens[at].text
+        self.made.append(self.tokens[at])
+        before, texts = code_before(self.tokens, at), [it.text for it in self.tokens[at + 1:at + 8]]
+        if name == "fmt" and before >= 0 and self.tokens[before].text == "fn":
+            if texts[0] == "(":
+                return at
+            if texts != ["<", "W", ":", " ", "fmt", "::", "Write"] or self.tokens[at + 8].text != ">":
+                self.refuse(at, "a function fmt that the eraser does not know")
+            end = at + 8
+        elif name == "Formatter":
+            if texts[:3] != ["<", "W", ">"]:
+                self.refuse(at, "a formatter that the eraser does not know")
+            for kind, text in (("mark", "<"), ("lifetime", "'_"), ("mark", ">")):
+                self.made.append(Token(kind, text, self.tokens[at].line))
+            end = at + 3
+        return end
 
     def bound(self, at):
         """`Drop` as a bound goes, with the plus or the colon that joins it."""

@@ -8,7 +8,7 @@
 ghost use Rattle.std.specs.Prelude.{◌≡◌, ◌+◌, ◌≤◌, ◌<◌, ◌^◌, length, IfOk, MatchResult, Ok, Err};
 ghost use Rattle.dfu_formats.specs.images.Reading.{Gives, FailsToRead};
 ghost use Rattle.dfu_formats.specs.images.Elements.{AreApart, Lists};
-ghost use Rattle.dfu_formats.specs.images.IntelHex.{hex_spelled, hex_framed, hex_data_at, leaves_segment, based, hex_record_read, hex_elements_of};
+ghost use Rattle.dfu_formats.specs.images.IntelHex.{hex_spelled, hex_framed, hex_data_at, leaves_segment, based, hex_meant, hex_record_read, hex_elements_of};
 
 use crate::images::digits::{bytes_at, sum_of};
 use crate::images::element::Element;
@@ -114,29 +114,39 @@ fn based(at: usize, unit: u64, state: State, said: &Record<'_>) -> Result<State,
     }
 }
 
+/// The state behind a record.
+#[tactic(auto, using(std::proofs::lemmas::Bool::Decides::nat_tests), unfolding(crate::specs::images::IntelHex::hex_meant))]
+fn meant(alloc: Global, at: usize, state: State, said: &Record<'_>) -> Result<State, ImageFault>
+    requires { said.now.offset < 65536 }
+    ensures value { Gives result (hex_meant at state said.now) }
+    ensures counted { IfOk result (λ s. s.count ≡ state.count) }
+{
+    match said.kind {
+        0 => data_at(alloc, at, state, said),
+        1 if said.content.len() == 0 => Ok(State {
+            is_whole: true,
+            is_ended: true,
+            ..state
+        }),
+        2 => based(at, 16, state, said),
+        4 => based(at, 65_536, state, said),
+        3 | 5 if said.content.len() == 4 => Ok(state),
+        1 | 3 | 5 => Err(ImageFault::BadLength(at)),
+        _ => Err(ImageFault::BadType(at)),
+    }
+}
+
 /// The format.
 struct IntelHex;
 
 impl TextFormat for IntelHex {
     ghost step = { hex_record_read };
 
-    #[tactic(auto, using(std::proofs::lemmas::Bool::Decides::nat_tests), unfolding(crate::specs::images::IntelHex::hex_record_read, crate::specs::images::IntelHex::hex_meant))]
+    #[tactic(auto, using(std::proofs::lemmas::Bool::Decides::nat_tests), unfolding(crate::specs::images::IntelHex::hex_record_read))]
     fn step(alloc: Global, at: usize, state: State, line: &[u8]) -> Result<State, ImageFault> {
         let bytes = spelled(at, line)?;
         let said = framed(at, &bytes)?;
-        match said.kind {
-            0 => data_at(alloc, at, state, &said),
-            1 if said.content.len() == 0 => Ok(State {
-                is_whole: true,
-                is_ended: true,
-                ..state
-            }),
-            2 => based(at, 16, state, &said),
-            4 => based(at, 65_536, state, &said),
-            3 | 5 if said.content.len() == 4 => Ok(state),
-            1 | 3 | 5 => Err(ImageFault::BadLength(at)),
-            _ => Err(ImageFault::BadType(at)),
-        }
+        meant(alloc, at, state, &said)
     }
 }
 
