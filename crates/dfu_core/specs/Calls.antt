@@ -20,6 +20,7 @@ use Rattle.dfu_core.specs.declared.numbers.Refusal.TheVariants as refusal
 use Rattle.dfu_core.specs.Config.{transfer_of, block_memory_size, IsConfig}
 use Rattle.dfu_core.specs.Kept.{IsKept, block_in, held_back_in}
 use Rattle.dfu_core.specs.Formatting.{FORMAT}
+use Rattle.dfu_core.specs.Further.{AsksFurther}
 use Rattle.dfu_core.specs.Numbers.{refusal_number, reply_number, passed_number, NO_ROOM}
 
 -- Why there is no device that asks, if the memory of its block has so many bytes: a format is due; or else the
@@ -98,6 +99,7 @@ pub record Went (a : LentAsking) (flash : List ℕ) (failed : Bool) (out : List 
   pub took : (len : ℕ) (s : SlotsState) (was before : List ℕ) (asks : AsksWrites a len s was before) (p : Step)
       → IsPiece (steps_in a asks.work) asks.work.done p → Torn before p.write.at p.write.bytes flash
       → DeviceTook (device_of a s) len s was p.write failed flash out a' out' reply
+  pub further : AsksFurther a reply a'
 
 -- The buffer was too small, and nothing happened.
 pub record HasNoRoom (least : ℕ) (r : DfuRecord) (block out : List ℕ) (result : ℤ) (r' : DfuRecord) (block' out' : List ℕ) : Type 0 where

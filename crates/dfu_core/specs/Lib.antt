@@ -18,3 +18,4 @@ pub mod Due
 pub mod Idle
 pub mod Board
 pub mod Happens
+pub mod Further

@@ -15,6 +15,7 @@ use Rattle.dfu_core.specs.declared.record.DfuRecord.{DfuRecord}
 use Rattle.dfu_core.specs.Kept.{IsSetUp, IsKept, with_memory}
 use Rattle.dfu_core.specs.Numbers.{reply_number}
 use Rattle.dfu_core.specs.Calls.{Goes, Went}
+use Rattle.dfu_core.specs.Further.{AsksFurther}
 use Rattle.dfu_core.specs.Writes.{AsksOnSomeFlash, refuses_unfound, refuses_piece}
 use Rattle.dfu_device_c.proofs.Found.{not_taken}
 use Rattle.dfu_device_c.proofs.Split.{lent_is, in_memory, IsParted, is_parted, has_room, split_in, split_after, unchanged, same_front, goes}
@@ -78,6 +79,7 @@ went c reply r' is number_is kept =
           → DeviceTook (device_of l s) len s was piece.write
           (not (c.args.failed == 0)) c.args.flash.now c.args.out.now l' c.took.new.out reply)
           (split_in p) after (IfOk-at_ok _ is done.outcome);
+      further = in_memory (λ l l'. AsksFurther l reply l') (split_in p) after (IfOk-at_ok _ is done.further);
     })
 
 pub returns-in-Ok-Asks : goal.returns-in-Ok-Asks
