@@ -1,6 +1,6 @@
 -- What comes to a board and a session in C comes to the board and the session's host.
 use Rattle.std.specs.Prelude.{◌≡◌, ℕ, List, [], ◌++◌, IsTrue}
-use Rattle.std.proofs.Common.{refl, subst}
+use Rattle.std.proofs.Common.{inl, inr, refl, subst}
 use Rattle.dfu_wire.specs.declared.requests.Request.{Request}
 use Rattle.dfu_host.specs.Phases.{Send, Heard, NoRoom, Waited, WasReset, Restarted}
 use Rattle.dfu_host.specs.Table.{deed}
@@ -13,7 +13,7 @@ use Rattle.dfu_sim.specs.Standing.{IsCountedIn}
 use Rattle.dfu_host_core.specs.declared.action.DfuAction.{DfuAction}
 use Rattle.dfu_host_core.specs.Runs.{CoreHost, IsCoreHost, HostsRefine, HostsTell}
 use Rattle.dfu_laws.specs.board.Board.{Board, Says, BoardStep}
-use Rattle.dfu_laws.specs.link.Comes.{HearsSentBack, left, BoardComes, passes, sends, objects, refuses, waits, resets, is_reset, restarts}
+use Rattle.dfu_laws.specs.link.Comes.{HearsSentBack, left, BoardComes, passes, sends, refuses, waits, resets, is_reset, restarts}
 use Rattle.dfu_laws.specs.ends.Sessions.{CoreSession, InSession, IsSessionOf, Wants, body_in, HostTakes, TellsOf, Settles, HearsRestart, nobody_hears, hears_it}
 use Rattle.dfu_laws.specs.ends.Comes.{EndsCome, time_passes, sends_it, objects_to_it, refuses_image, waits_it_out, resets_bus, bus_is_reset, board_restarts}
 use Rattle.dfu_laws.proofs.ends.Actions.{host_of_session, sends_so, waits_so, resets_so, way_so}
@@ -80,11 +80,11 @@ module _ (refine : HostsRefine) (tells : HostsTell) where
     came steps answer s' b' (sends_it {payload = payload} {bytes = bytes} {x = x} {x' = x'} {a = a} {says = says} {seen = seen} live wants
         what reaches tell given settles) =
         requests payload bytes x x' a steps says b' seen answer s' live wants what tell given settles
-        (λ h q heard hosted is_sent asked hears room. sends hosted is_sent asked reaches hears room)
-    came steps answer s' b' (objects_to_it {payload = payload} {bytes = bytes} {x = x} {x' = x'} {a = a} {says = says} {seen = seen} live
-        wants what objected tell given settles) =
+        (λ h q heard hosted is_sent asked hears room. sends hosted is_sent asked (inl reaches) hears room)
+    came steps answer s' b' (objects_to_it {payload = payload} {bytes = bytes} {x = x} {x' = x'} {a = a} {why = why} {says = says} {seen = seen}
+        live wants what objected tell given settles) =
         requests payload bytes x x' a steps says b' seen answer s' live wants what tell given settles
-        (λ h q heard hosted is_sent asked hears room. objects hosted is_sent asked objected hears room)
+        (λ h q heard hosted is_sent asked hears room. sends hosted is_sent asked (inr (why, objected)) hears room)
     came _ answer s' _ (waits_it_out {payload = payload} {bytes = bytes} {x = x} {x' = x'} {a = a} live wants what given settles) =
         let o = host_of_session payload x s session live is in
         let w = waits_so tells payload x o.host o.is a wants what in
