@@ -2,8 +2,6 @@
 
 //! A device that asks for each write of its medium, which its caller carries out.
 
-mod advance;
-mod ahead;
 mod asking;
 mod blank;
 mod calls;
@@ -18,9 +16,7 @@ mod format_piece;
 mod formatting;
 mod gates;
 mod image;
-mod interface;
 mod long;
-mod mapped;
 mod next_and_took;
 mod next_piece;
 mod noted;
@@ -28,21 +24,19 @@ mod pending_writes;
 mod power;
 mod refuse;
 mod reply;
-mod runs;
 mod sector;
 mod stalls;
 mod start;
 
 pub use asking::Asking;
+pub use calls::addressed;
 pub use closes::mode_closes;
 pub use due::mode_due;
 pub use formatting::{FormatProgress, FormatStep, Formatting};
 pub use image::ImagePlace;
-pub use interface::addressed;
 pub use long::mode_after_long;
-pub use mapped::Mapped;
 pub use next_piece::MAX_PROGRAM;
-pub use noted::Noted;
+pub use noted::{Mapped, Noted};
 pub use pending_writes::{PendingWrites, SlotWrite};
 pub use reply::{FlashOp, Refusal, Reply};
 pub use sector::Sector;

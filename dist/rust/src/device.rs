@@ -20,11 +20,11 @@ mod time_table;
 
 pub use answer::Answer;
 pub use candidate::Candidate;
-pub use config::{Config, ConfigFault, Profile};
+pub use config::{Config, ConfigFault, Pace, Profile};
 pub use decision::{Decision, Reply};
 pub use device::Device;
 pub use device_state::{DeviceState, status_in};
 pub use filled::{PutSoFar, is_filled};
 pub use objection::Objection;
 pub use table::{asked_length, decide, goes_with, is_close};
-pub use time_table::decide_time;
+pub use time_table::{decide_time, poll_ms};

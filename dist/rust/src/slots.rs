@@ -3,6 +3,7 @@
 //! A store that keeps one whole firmware image active on a medium whose writes may fail or be torn,
 //! while the next image is written beside it.
 
+mod both;
 mod carry;
 mod changes;
 mod erasing;
@@ -25,6 +26,7 @@ mod steps;
 mod writes;
 
 // For a caller that reads a medium by itself, and knows which slot is active.
+pub use both::{Both, check_both};
 pub use fault::{FormatFault, OpenFault, PutFault, WriteFault};
 pub use layout::{
     MAX_SECTOR, MAX_UNIT, OPEN_GATE, PAGE, Unit, VERSION, capacity_of, gate_of, is_sized,

@@ -7,6 +7,15 @@ use crate::asks::{Asking, Mapped, Refusal, Reply};
 use crate::device::{Answer, asked_length, decide, decide_time, goes_with};
 use crate::wire::{Code, Request, Setup, State};
 
+/// The setup as a device takes it whose interface has this number (bInterfaceNumber): with wIndex 0 if that is its wIndex (USB DFU 1.1,
+/// section 3), and else with another one, of which a device stalls each request and stays as it is. A program whose interface is not
+/// number 0 makes so of each setup what it hands in, to `handle` and to the calls that ask or refuse beforehand.
+pub fn addressed(interface: u8, setup: &[u8; 8]) -> [u8; 8] {
+    let mut own = *setup;
+    own[4] = u8::from(setup[4] != interface);
+    own
+}
+
 impl Asking {
     /// The state of the standard (USB DFU 1.1, section 6.1.2, bState).
     pub fn state(&self) -> State {
@@ -107,7 +116,7 @@ impl Asking {
         }
         let (medium, view) = self.see(block.len(), flash)?;
         let profile = self.config.profile(u64::from(view.room));
-        let decision = decide_time(&profile, self.mode, ms);
+        let decision = decide_time(&profile, self.mode, self.block_len, ms);
         let mut out = [0; 6];
         Ok(self.carry_out(decision, None, &[], block, held, &medium, &view, &mut out))
     }

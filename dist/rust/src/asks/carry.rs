@@ -44,7 +44,7 @@ impl Asking {
             crate::device::Reply::Ack => (Answer::Ack, 0),
             crate::device::Reply::Stall => (Answer::Stall, 0),
             crate::device::Reply::Status => {
-                let bytes = status_in(&self.config, self.mode);
+                let bytes = status_in(&self.config, self.mode, self.block_len);
                 (Answer::Bytes, put_front(&bytes, asked, out))
             }
             crate::device::Reply::State => {

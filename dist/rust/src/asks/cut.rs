@@ -1,11 +1,10 @@
 // Of crates/dfu_asks/src/cut.rt, whose contracts are taken away.
 
-//! The piece that is found, and its bytes in place.
+//! The piece that is found, and its bytes: in runs, as they lie in memory one after the other, in place, and read back.
 
-use crate::asks::FlashOp;
-use crate::asks::next_piece::MAX_PROGRAM;
+use crate::asks::next_piece::{MAX_PROGRAM, next_piece};
 use crate::asks::pending_writes::WriteInputs;
-use crate::asks::runs::runs_of;
+use crate::asks::{Asking, FlashOp, PendingWrites};
 use crate::slots::{OPEN_GATE, Source};
 
 /// A search for the next piece of a series of writes, and the piece once it is found.
@@ -41,6 +40,100 @@ pub(crate) fn cut_at<'a>(stock: WriteInputs<'a>, done: u32) -> Cut<'a> {
     }
 }
 
+/// Bytes that lie in two slices, and bytes of one value after them.
+#[derive(Clone, Copy, Debug, PartialEq, Eq)]
+struct Runs<'a> {
+    /// The first of them.
+    front: &'a [u8],
+    /// Those after it.
+    back: &'a [u8],
+    /// How many come then.
+    rest: usize,
+    /// What each of these is.
+    pad: u8,
+}
+
+// At most so many bytes of a slice, without its first ones.
+fn run<'a>(bytes: &'a [u8], skip: usize, most: usize) -> &'a [u8] {
+    let skip = skip.min(bytes.len());
+    let len = most.min(bytes.len() - skip);
+    &bytes[skip..skip + len]
+}
+
+// So many bytes of two slices, one after the other, and of zeros after both, without the first ones.
+fn runs_in<'a>(front: &'a [u8], back: &'a [u8], skip: usize, len: usize) -> Runs<'a> {
+    let first = run(front, skip, len);
+    let left = len - first.len();
+    let second = run(back, skip.saturating_sub(front.len()), left);
+    Runs {
+        front: first,
+        back: second,
+        rest: left - second.len(),
+        pad: 0,
+    }
+}
+
+// The two slices that the source of a piece is, one after the other, if this is an open gate.
+fn sides_of<'a>(cut: &'a Cut<'_>, gate: &'a [u8; 1]) -> (&'a [u8], &'a [u8]) {
+    match cut.source {
+        Source::Joined => (cut.stock.held, cut.stock.block),
+        Source::Held => (cut.stock.held, &[]),
+        Source::Header => (&cut.front, &[]),
+        Source::Opened => (gate, &[]),
+        Source::Closed => (&[], &[]),
+    }
+}
+
+/// The bytes of a piece, if this is an open gate.
+fn runs_of<'a>(cut: &'a Cut<'_>, gate: &'a [u8; 1]) -> Runs<'a> {
+    let len = cut.piece.len;
+    if cut.piece.erases {
+        return Runs {
+            front: &[],
+            back: &[],
+            rest: len,
+            pad: 0xff,
+        };
+    }
+    let (front, back) = sides_of(cut, gate);
+    runs_in(front, back, cut.from, len)
+}
+
+// Whether two slices have the same bytes: that is less code than `==`.
+fn are_same(one: &[u8], other: &[u8]) -> bool {
+    for i in 0..one.len() {
+        if one[i] != other[i] {
+            return false;
+        }
+    }
+    true
+}
+
+// Whether each byte of a slice is this one.
+fn are_all(bytes: &[u8], byte: u8) -> bool {
+    for i in 0..bytes.len() {
+        if bytes[i] != byte {
+            return false;
+        }
+    }
+    true
+}
+
+impl Runs<'_> {
+    /// Whether these are its bytes.
+    pub(crate) fn are(self, bytes: &[u8]) -> bool {
+        let middle = self.front.len();
+        let end = middle + self.back.len();
+        if !are_same(&bytes[..middle], self.front) {
+            return false;
+        }
+        if !are_same(&bytes[middle..end], self.back) {
+            return false;
+        }
+        are_all(&bytes[end..end + self.rest], self.pad)
+    }
+}
+
 /// Puts the bytes of a piece at the front of a buffer; of an erase at most 256, each FFh.
 pub(crate) fn fill(cut: &Cut<'_>, out: &mut [u8; MAX_PROGRAM]) {
     let runs = runs_of(cut, &[OPEN_GATE]);
@@ -60,4 +153,37 @@ pub(crate) fn stands(flash: &[u8], cut: &Cut<'_>) -> bool {
     }
     let at = piece.at as usize;
     runs_of(cut, &[OPEN_GATE]).are(&flash[at..at + piece.len])
+}
+
+impl Asking {
+    /// The bytes held back, of the memory that they are in.
+    pub(crate) fn held_in<'a>(&self, held: &'a [u8]) -> &'a [u8] {
+        &held[..self.held_len.min(held.len())]
+    }
+
+    /// What the writes of a job are made of.
+    pub(crate) fn stock<'a>(&self, block: &'a [u8], held: &'a [u8]) -> WriteInputs<'a> {
+        WriteInputs {
+            unit: self.unit,
+            sector: self.sector,
+            put_end: self.put_end,
+            held: self.held_in(held),
+            block: &block[..self.block_len.min(block.len())],
+        }
+    }
+
+    /// How many bytes the next piece of this work has, and whether they are on this flash; or 0 if no piece is left.
+    pub(crate) fn look_at(
+        &self,
+        work: &PendingWrites,
+        block: &[u8],
+        held: &[u8],
+        flash: &[u8],
+    ) -> (usize, bool) {
+        let mut cut = cut_at(self.stock(block, held), work.done);
+        if !next_piece(work.job, &mut cut) {
+            return (0, false);
+        }
+        (cut.piece.len, stands(flash, &cut))
+    }
 }

@@ -3,15 +3,16 @@
 //! When time changes the state of a device.
 
 use crate::asks::Asking;
-use crate::device::{Config, DeviceState};
+use crate::device::{Config, DeviceState, poll_ms};
 
 // How many milliseconds are left, at least 1.
 fn left(limit: u32, passed: u32) -> u32 {
     limit.saturating_sub(passed).max(1)
 }
 
-/// In how many milliseconds the state of a device of this configuration in this mode changes, at least 1; None if no time changes it.
-pub fn mode_due(config: &Config, mode: DeviceState) -> Option<u32> {
+/// In how many milliseconds the state of a device of this configuration in this mode changes, with a block of so many bytes, at least 1;
+/// None if no time changes it.
+pub fn mode_due(config: &Config, mode: DeviceState, block_len: usize) -> Option<u32> {
     match mode {
         DeviceState::AppDetach { timer, passed } => {
             if config.functional().will_detach {
@@ -19,8 +20,12 @@ pub fn mode_due(config: &Config, mode: DeviceState) -> Option<u32> {
             }
             Some(left(timer, passed))
         }
-        DeviceState::DownloadBusy { passed, .. } => Some(left(config.busy_ms(), passed)),
-        DeviceState::Manifest { passed, .. } => Some(left(config.manifest_ms(), passed)),
+        DeviceState::DownloadBusy { passed, .. } => {
+            Some(left(poll_ms(config, mode, block_len), passed))
+        }
+        DeviceState::Manifest { passed, .. } => {
+            Some(left(poll_ms(config, mode, block_len), passed))
+        }
         _ => None,
     }
 }
@@ -32,6 +37,6 @@ impl Asking {
     ///
     /// None if no time changes the device: in every other state.
     pub fn due(&self) -> Option<u32> {
-        mode_due(&self.config, self.mode)
+        mode_due(&self.config, self.mode, self.block_len)
     }
 }

@@ -1,9 +1,9 @@
 // Of crates/dfu_asks/src/finish.rt, whose contracts are taken away.
 
-//! What becomes of a device at the end of a row.
+//! How a device goes on with what is left to be written of a row, and what becomes of it at the end of the row.
 
-use crate::asks::{Asking, Noted, Sector};
-use crate::device::{Answer, Config, DeviceState, Reply};
+use crate::asks::{Asking, Noted, Reply, Sector};
+use crate::device::{Answer, Config, DeviceState};
 use crate::slots::{Unit, WriteFault};
 use crate::wire::Code;
 
@@ -114,8 +114,41 @@ impl Asking {
     /// Answers the GETSTATUS that asked for so many bytes, if one did, with its bytes at the front of a buffer.
     pub(crate) fn answer(&self, asked: Option<u16>, out: &mut [u8]) -> (Answer, usize) {
         match asked {
-            None => self.give(Reply::Ack, 0, out),
-            Some(len) => self.give(Reply::Status, len, out),
+            None => self.give(crate::device::Reply::Ack, 0, out),
+            Some(len) => self.give(crate::device::Reply::Status, len, out),
         }
+    }
+
+    /// Asks for the next write of what is left to be written, or comes to the end of the row.
+    pub(crate) fn advance(
+        &mut self,
+        block: &[u8],
+        held: &mut [u8],
+        flash: &[u8],
+        out: &mut [u8],
+    ) -> Reply {
+        let Some(work) = self.work else {
+            return Reply::Answered(Answer::Ack, 0);
+        };
+        // (Without a flash it says whether a piece is left.)
+        let (len, _) = self.look_at(&work, block, held, &[]);
+        if len > 0 {
+            return Reply::Asks;
+        }
+        self.finish(block, held, flash);
+        let (answer, count) = self.answer(work.asked, out);
+        Reply::Answered(answer, count)
+    }
+
+    /// A write had this fault: the row ends with it.
+    pub(crate) fn fail(
+        &mut self,
+        fault: WriteFault,
+        asked: Option<u16>,
+        flash: &[u8],
+        out: &mut [u8],
+    ) -> (Answer, usize) {
+        self.break_off(fault, flash);
+        self.answer(asked, out)
     }
 }

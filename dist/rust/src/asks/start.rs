@@ -1,13 +1,42 @@
 // Of crates/dfu_asks/src/start.rt, whose contracts are taken away.
 
-//! What is to be written of a row that begins.
+//! What is to be written of a row that begins, and whether flash is erased where it is programmed with no erase before.
 
-use crate::asks::ahead::is_clear;
 use crate::asks::noted::View;
-use crate::asks::{Asking, Mapped, PendingWrites, Reply, SlotWrite};
+use crate::asks::sector::behind_edge;
+use crate::asks::{Asking, Mapped, PendingWrites, Reply, Sector, SlotWrite};
 use crate::device::DeviceState;
 use crate::slots::{WriteFault, data_at, is_open};
 use crate::suffix::Crc;
+
+// Where so many bytes from there on end, or the first sector begins among them.
+fn stretch_end(size: u32, at: u64, len: u64) -> u64 {
+    let behind = behind_edge(size, at);
+    if behind == 0 {
+        return at;
+    }
+    at + len.min(u64::from(size - behind))
+}
+
+// Whether these bytes of flash are FFh.
+fn are_erased(flash: &[u8], from: usize, to: usize) -> bool {
+    for i in from..to {
+        if flash[i] != 0xff {
+            return false;
+        }
+    }
+    true
+}
+
+// Whether so many bytes from there on are FFh, up to the sector that begins next; flash without sectors is written over.
+fn is_clear(flash: &[u8], sector: Sector, at: u64, len: u64) -> bool {
+    let size = sector.size();
+    if size == 0 {
+        return true;
+    }
+    let end = stretch_end(size, at, len).min(flash.len() as u64);
+    are_erased(flash, at as usize, end as usize)
+}
 
 // The register over bytes of flash, and these after them.
 fn register_of(flash: &[u8], from: usize, size: usize, held: &[u8]) -> u32 {

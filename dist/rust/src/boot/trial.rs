@@ -2,8 +2,8 @@
 
 //! A new image of a slot store runs on trial until it is confirmed; else the one before it comes back.
 
+mod again;
 mod booting;
-mod closed;
 mod confirming;
 mod ending;
 mod looking;
@@ -13,6 +13,7 @@ mod standing;
 mod starting;
 mod tries;
 
+pub use again::look_again;
 pub use booting::boot;
 pub use confirming::Confirmation;
 pub use looking::look;

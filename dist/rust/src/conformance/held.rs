@@ -59,49 +59,75 @@ fn join(to: &Devices, from: &Devices, when: When) -> Devices {
     after
 }
 
+/// The sets of readings of all devices, whatever their bmAttributes.
+fn readings_of(devices: &Devices) -> u64 {
+    let mut all = 0;
+    for a in 0..16 {
+        all |= devices[a];
+    }
+    all
+}
+
 /// Whether there is no device.
 fn is_empty(devices: &Devices) -> bool {
-    for a in 0..16 {
-        if devices[a] != 0 {
-            return false;
-        }
-    }
-    true
+    readings_of(devices) == 0
 }
 
 /// For each place the devices that may be there.
 pub(crate) type Places = [Devices; 12];
 
+/// By place, whether devices may be there. A row from a place without any leads none.
+type Taken = [bool; 12];
+
+/// The places where devices are.
+fn taken(places: &Places) -> Taken {
+    let mut at = [true; 12];
+    for n in 0..12 {
+        at[n] = !is_empty(&places[n]);
+    }
+    at
+}
+
 /// The devices for which a row is are led from one place to another.
 fn lead(before: &Places, from: StandardState, when: When, after: &mut Places, to: StandardState) {
-    if is_empty(&before[from.number()]) {
-        return;
-    }
     let to = to.number();
     after[to] = join(&after[to], &before[from.number()], when);
 }
 
+/// Adds the devices that go by this row.
+fn go(row: &Row, before: &Places, at: &Taken, event: &LogEvent, after: &mut Places) {
+    if at[row.from.number()] && speaks_of(row, event) {
+        lead(before, row.from, row.when, after, row.next);
+    }
+}
+
 /// Adds the devices that go by one of these rows.
-fn pass(rows: &[Row], before: &Places, event: &LogEvent, after: &mut Places) {
+fn pass(rows: &[Row], before: &Places, at: &Taken, event: &LogEvent, after: &mut Places) {
     for row in rows {
-        if speaks_of(row, event) {
-            lead(before, row.from, row.when, after, row.next);
-        }
+        go(row, before, at, event, after);
     }
 }
 
 /// Adds the devices that go by a row of a reset or of power: no such row is about a request.
-fn pass_marks(before: &Places, event: &LogEvent, after: &mut Places) {
+fn pass_marks(before: &Places, at: &Taken, event: &LogEvent, after: &mut Places) {
     if event.asked.number() > 8 {
-        pass(&MARKS, before, event, after);
+        pass(&MARKS, before, at, event, after);
+    }
+}
+
+/// Adds the devices that make this move by themselves.
+fn slide(one: &Drift, before: &Places, at: &Taken, after: &mut Places) {
+    if at[one.from.number()] {
+        lead(before, one.from, one.when, after, one.next);
     }
 }
 
 /// Adds the devices that make one of these moves by themselves.
 fn drift(moves: &[Drift], before: &Places) -> Places {
     let mut after = *before;
+    let at = taken(before);
     for one in moves {
-        lead(before, one.from, one.when, &mut after, one.next);
+        slide(one, before, &at, &mut after);
     }
     after
 }
@@ -117,10 +143,11 @@ fn rest(before: &Places, event: &LogEvent) -> Places {
 
 /// The devices that may be at each place after an event, if these might be there before it.
 pub(crate) fn step(before: &Places, event: &LogEvent) -> Places {
+    let at = taken(before);
     let mut after = rest(before, event);
-    pass(&STANDARD, before, event, &mut after);
-    pass_marks(before, event, &mut after);
-    pass(&HABITS, before, event, &mut after);
+    pass(&STANDARD, before, &at, event, &mut after);
+    pass_marks(before, &at, event, &mut after);
+    pass(&HABITS, before, &at, event, &mut after);
     drift(&DRIFTS, &after)
 }
 
@@ -131,11 +158,7 @@ fn has_bit(word: u64, bit: u8) -> bool {
 
 /// Whether a device with this set of readings is held, with any bmAttributes.
 fn is_held(devices: &Devices, readings: u8) -> bool {
-    let mut is_some = false;
-    for a in 0..16 {
-        is_some = is_some || has_bit(devices[a], readings);
-    }
-    is_some
+    has_bit(readings_of(devices), readings)
 }
 
 /// By place, whether a device with this set of readings may be there.

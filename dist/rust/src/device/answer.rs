@@ -67,7 +67,7 @@ impl<M: Medium> DeviceCore<M> {
         match pending_answer {
             PendingAnswer::Ack => Answer::Ack,
             PendingAnswer::Status { asked } => {
-                let bytes = status_in(&self.config, self.mode);
+                let bytes = status_in(&self.config, self.mode, self.block.as_slice().len());
                 let _ = out.try_extend_from_slice(&bytes[..usize::from(asked).min(6)]);
                 Answer::Bytes
             }

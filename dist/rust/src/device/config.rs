@@ -2,15 +2,42 @@
 
 //! What a device is set up with.
 
+use crate::slots::Unit;
 use crate::wire::{Functional, Ids};
 use thiserror::Error;
 
+/// How long the flash of a device takes, and in which steps it is written. A status then says the time of the block or of the image that it
+/// stands for: the erases and programs that are due for it, beside `busy_ms` or `manifest_ms`.
+#[derive(Clone, Copy, Debug, PartialEq, Eq)]
+pub struct Pace {
+    /// Milliseconds to erase a sector.
+    pub erase_ms: u16,
+    /// Milliseconds to program 256 bytes.
+    pub program_ms: u16,
+    /// The unit in which it is written.
+    pub unit: Unit,
+    /// How many bytes are erased at a time; 0 if it is written over in place.
+    pub sector: u32,
+}
+
+impl Pace {
+    /// Erases and programs take no time of their own.
+    pub fn none() -> Pace {
+        Pace {
+            erase_ms: 0,
+            program_ms: 0,
+            unit: Unit::Byte,
+            sector: 0,
+        }
+    }
+}
+
 /// What a device is set up with: who it is, its functional descriptor, the fewest bytes of an image
-/// (1 to 16,777,216), and how long it takes to write a block and to put an image in place (0 to
-/// 16,777,215 ms; at least 1 ms for an image if the device is not tolerant of manifestation).
+/// (1 to 16,777,216), how long it takes to write a block and to put an image in place (0 to
+/// 16,777,215 ms; at least 1 ms for an image if the device is not tolerant of manifestation), and the pace of its flash.
 ///
-/// On a medium with sectors both times are to have room for erases: a block takes at most one, and one more for each sector
-/// that begins in the transfer size and a unit; an image takes two or three.
+/// Without a pace both times are to have room for the erases of a medium with sectors: a block takes at most one, and one more for each
+/// sector that begins in the transfer size and a unit; an image takes two or three.
 #[derive(Clone, Copy, Debug, PartialEq, Eq)]
 pub struct Config {
     ids: Ids,
@@ -18,6 +45,7 @@ pub struct Config {
     least: u32,
     busy_ms: u32,
     manifest_ms: u32,
+    pace: Pace,
 }
 
 /// Why a device cannot be set up, in the order in which the faults are checked.
@@ -42,10 +70,12 @@ pub struct Profile {
     pub functional: Functional,
     /// The fewest bytes of an image.
     pub least: u32,
-    /// How long a block takes to be written, in milliseconds.
+    /// How long each block takes beside the erases and programs of the flash, in milliseconds.
     pub busy_ms: u32,
-    /// How long an image takes to be put in place, in milliseconds.
+    /// How long each image takes beside them, in milliseconds.
     pub manifest_ms: u32,
+    /// How long the flash takes for an erase and for a program.
+    pub pace: Pace,
     /// The most bytes of an image.
     pub capacity: u64,
 }
@@ -85,7 +115,13 @@ impl Config {
             least,
             busy_ms,
             manifest_ms,
+            pace: Pace::none(),
         })
+    }
+
+    /// The same, with the times of its flash.
+    pub fn with_pace(self, pace: Pace) -> Config {
+        Config { pace, ..self }
     }
 
     /// Who the device is.
@@ -118,6 +154,11 @@ impl Config {
         self.manifest_ms
     }
 
+    /// The times of its flash.
+    pub(crate) fn pace(&self) -> Pace {
+        self.pace
+    }
+
     /// What the table reads of a device that is set up like this, with room for images of so many bytes.
     pub fn profile(&self, capacity: u64) -> Profile {
         Profile {
@@ -125,6 +166,7 @@ impl Config {
             least: self.least(),
             busy_ms: self.busy_ms(),
             manifest_ms: self.manifest_ms(),
+            pace: self.pace,
             capacity,
         }
     }

@@ -123,7 +123,8 @@ impl<M: Medium> DeviceCore<M> {
 
     /// This many milliseconds pass.
     pub(crate) fn elapse(&mut self, ms: u32) {
-        let decision = decide_time(&self.profile(), self.mode, ms);
+        let block_len = self.block.as_slice().len();
+        let decision = decide_time(&self.profile(), self.mode, block_len, ms);
         let _ = self.carry_out(decision, 0, &[]);
     }
 }

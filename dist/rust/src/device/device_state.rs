@@ -3,6 +3,7 @@
 //! The mode of a device: its state with what it keeps there, and the status that it reports (USB DFU 1.1, section 6.1.2).
 
 use crate::device::objection::Objection;
+use crate::device::time_table::poll_ms;
 use crate::device::Config;
 use crate::wire::{Code, State, Status};
 
@@ -160,18 +161,9 @@ impl DeviceState {
     }
 }
 
-// How long the host is to wait in a mode, in milliseconds (bwPollTimeout).
-fn poll_ms(config: &Config, mode: DeviceState) -> u32 {
-    match mode {
-        DeviceState::DownloadBusy { .. } => config.busy_ms(),
-        DeviceState::Manifest { .. } => config.manifest_ms(),
-        _ => 0,
-    }
-}
-
-/// The six bytes of the status of a device that is set up like this, in a mode.
-pub fn status_in(config: &Config, mode: DeviceState) -> [u8; 6] {
-    let Ok(status) = Status::new(mode.code(), poll_ms(config, mode), mode.state()) else {
+/// The six bytes of the status of a device that is set up like this, in a mode, with a block of so many bytes.
+pub fn status_in(config: &Config, mode: DeviceState, block_len: usize) -> [u8; 6] {
+    let Ok(status) = Status::new(mode.code(), poll_ms(config, mode, block_len), mode.state()) else {
         unreachable!()
     };
     status.encode()

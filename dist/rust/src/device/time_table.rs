@@ -1,12 +1,72 @@
 // Of crates/dfu_device/src/time_table.rt, whose contracts are taken away.
 
 //! The rows of time that passes, as a value (USB DFU 1.1, appendix A): it makes at most one change, and the rest of the time is
-//! dropped.
+//! dropped. A block and an image take the time of the erases and programs that are due for them.
 
-use crate::device::config::Profile;
+use crate::device::config::{Config, Pace, Profile};
 use crate::device::decision::{Decision, Reply};
 use crate::device::device_state::DeviceState;
 use crate::device::plans::ack;
+
+// How many sectors begin in so many bytes from a place on.
+fn edges(sector: u32, at: u32, count: u32) -> u32 {
+    let behind = at % sector;
+    let rest = if behind == 0 { 0 } else { sector - behind };
+    if count <= rest {
+        return 0;
+    }
+    (count - rest - 1) / sector + 1
+}
+
+// The time to erase the sectors that begin in so many bytes from a place on, and so many others.
+fn erases_ms(pace: Pace, at: u32, count: u32, others: u32) -> u32 {
+    if pace.sector == 0 {
+        return 0;
+    }
+    (edges(pace.sector, at, count) + others) * u32::from(pace.erase_ms)
+}
+
+// The time to program so many bytes.
+fn programs_ms(pace: Pace, count: u32) -> u32 {
+    (count * u32::from(pace.program_ms) + 255) / 256
+}
+
+// The time to write so many bytes from a place in a slot's data on, and so many gates and headers, at most what fits in bwPollTimeout.
+fn writes_ms(pace: Pace, base: u32, at: u32, count: u32, others: u32) -> u32 {
+    let erases = erases_ms(pace, at, count, others);
+    let programs = programs_ms(pace, count + 256 * others);
+    base.saturating_add(erases + programs).min(0xff_ffff)
+}
+
+// The time of a block of so many bytes after those written.
+fn block_ms(pace: Pace, base: u32, written: u32, block_len: usize) -> u32 {
+    let unit = pace.unit.size();
+    let behind = written % unit;
+    let all = behind + block_len.min(4096) as u32;
+    let others = if written == 0 { 1 } else { 0 };
+    writes_ms(pace, base, written - behind, all - all % unit, others)
+}
+
+// The time to put an image of so many bytes in place.
+fn image_ms(pace: Pace, base: u32, written: u32) -> u32 {
+    let unit = pace.unit.size();
+    let behind = written % unit;
+    let count = if behind == 0 { 0 } else { unit };
+    writes_ms(pace, base, written - behind, count, 2)
+}
+
+/// How long the host is to wait in a mode with a block of so many bytes, in milliseconds (bwPollTimeout).
+pub fn poll_ms(config: &Config, mode: DeviceState, block_len: usize) -> u32 {
+    match mode {
+        DeviceState::DownloadBusy { written, .. } => {
+            block_ms(config.pace(), config.busy_ms(), written, block_len)
+        }
+        DeviceState::Manifest { written, .. } => {
+            image_ms(config.pace(), config.manifest_ms(), written)
+        }
+        _ => 0,
+    }
+}
 
 // appDETACH: the timer runs out, or the device detaches by itself. A timer of 0 counts as 1.
 fn in_app_detach(profile: &Profile, timer: u32, passed: u32, ms: u32) -> Decision {
@@ -25,10 +85,18 @@ fn in_app_detach(profile: &Profile, timer: u32, passed: u32, ms: u32) -> Decisio
     }
 }
 
-// dfuDNBUSY: the block is written once the busy time has passed.
-fn in_download_busy(profile: &Profile, written: u32, number: u16, passed: u32, ms: u32) -> Decision {
+// dfuDNBUSY: the block, which has so many bytes, is written once its time has passed.
+fn in_download_busy(
+    profile: &Profile,
+    written: u32,
+    number: u16,
+    passed: u32,
+    block_len: usize,
+    ms: u32,
+) -> Decision {
     let now = u64::from(passed) + u64::from(ms);
-    if ms > 0 && now >= u64::from(profile.busy_ms) {
+    let limit = block_ms(profile.pace, profile.busy_ms, written, block_len);
+    if ms > 0 && now >= u64::from(limit) {
         return Decision::Writes {
             reply: Reply::Ack,
             written,
@@ -43,11 +111,12 @@ fn in_download_busy(profile: &Profile, written: u32, number: u16, passed: u32, m
     })
 }
 
-// dfuMANIFEST: the image is put in place once the manifestation time has passed. A device that is not tolerant of manifestation
+// dfuMANIFEST: the image is put in place once its time has passed. A device that is not tolerant of manifestation
 // waits for a reset.
 fn in_manifest(profile: &Profile, written: u32, passed: u32, ms: u32) -> Decision {
     let now = u64::from(passed) + u64::from(ms);
-    if ms > 0 && now >= u64::from(profile.manifest_ms) {
+    let limit = image_ms(profile.pace, profile.manifest_ms, written);
+    if ms > 0 && now >= u64::from(limit) {
         let mode = if profile.functional.tolerant {
             DeviceState::ManifestSyncComplete
         } else {
@@ -65,15 +134,16 @@ fn in_manifest(profile: &Profile, written: u32, passed: u32, ms: u32) -> Decisio
     })
 }
 
-/// What so many milliseconds come to in a mode: their row of the table. In the other modes nothing comes of them.
-pub fn decide_time(profile: &Profile, mode: DeviceState, ms: u32) -> Decision {
+/// What so many milliseconds come to in a mode with a block of so many bytes: their row of the table. In the other modes nothing comes of
+/// them.
+pub fn decide_time(profile: &Profile, mode: DeviceState, block_len: usize, ms: u32) -> Decision {
     match mode {
         DeviceState::AppDetach { timer, passed } => in_app_detach(profile, timer, passed, ms),
         DeviceState::DownloadBusy {
             written,
             number,
             passed,
-        } => in_download_busy(profile, written, number, passed, ms),
+        } => in_download_busy(profile, written, number, passed, block_len, ms),
         DeviceState::Manifest { written, passed } => in_manifest(profile, written, passed, ms),
         mode => ack(mode),
     }

@@ -1,6 +1,7 @@
 //! What a device is set up with.
 
 use crate::device;
+use crate::slots::Unit;
 use crate::wire::{Functional, Ids};
 
 /// bcdDFUVersion of every device.
@@ -33,6 +34,8 @@ pub struct Config {
     least: u32,
     busy_ms: u32,
     manifest_ms: u32,
+    erase_ms: u16,
+    program_ms: u16,
 }
 
 impl Config {
@@ -50,6 +53,8 @@ impl Config {
             least: 1,
             busy_ms: 0,
             manifest_ms: 0,
+            erase_ms: 0,
+            program_ms: 0,
         }
     }
 
@@ -65,7 +70,7 @@ impl Config {
         Config { detach_ms: ms, ..self }
     }
 
-    /// How long a block takes to be written, 0 to 16,777,215 ms: the host waits as long after each one (bwPollTimeout). At 0 a block is
+    /// How long each block takes, 0 to 16,777,215 ms: the host waits as long after each one (bwPollTimeout). At 0 a block is
     /// written before its GETSTATUS is answered. On flash that is awaited it is at least as long as the longest block takes.
     #[must_use]
     pub const fn busy_ms(self, ms: u32) -> Config {
@@ -76,6 +81,19 @@ impl Config {
     #[must_use]
     pub const fn manifest_ms(self, ms: u32) -> Config {
         Config { manifest_ms: ms, ..self }
+    }
+
+    /// How long the flash takes to erase a sector, in milliseconds. It is added to `busy_ms` and `manifest_ms` for each erase that is due
+    /// for the block or the image, so that each has its own time.
+    #[must_use]
+    pub const fn erase_ms(self, ms: u16) -> Config {
+        Config { erase_ms: ms, ..self }
+    }
+
+    /// How long it takes to program 256 bytes, in milliseconds, which is added in proportion to the bytes that are programmed.
+    #[must_use]
+    pub const fn program_ms(self, ms: u16) -> Config {
+        Config { program_ms: ms, ..self }
     }
 
     /// The fewest bytes of an image, 1 to 16,777,216. A shorter one is refused with errNOTDONE.
@@ -126,8 +144,9 @@ impl Config {
         }
     }
 
-    /// The configuration of a device with this transfer size.
-    pub(crate) fn of_device(&self, transfer: u16) -> Result<device::Config, device::ConfigFault> {
-        device::Config::new(self.ids, self.functional(transfer), self.least, self.busy_ms, self.manifest_ms)
+    /// The configuration of a device with this transfer size, whose flash is written in this unit, in sectors of so many bytes.
+    pub(crate) fn of_device(&self, transfer: u16, unit: Unit, sector: u32) -> Result<device::Config, device::ConfigFault> {
+        let config = device::Config::new(self.ids, self.functional(transfer), self.least, self.busy_ms, self.manifest_ms)?;
+        Ok(config.with_pace(device::Pace { erase_ms: self.erase_ms, program_ms: self.program_ms, unit, sector }))
     }
 }

@@ -65,7 +65,7 @@ impl<F: ReadFlash, const TRANSFER: usize> Dfu<F, TRANSFER> {
     fn started(start: Start, flash: &F, config: &Config) -> Result<Asking, StartFault> {
         let () = Self::TRANSFER_IS_ALLOWED;
         let () = Checked::<F>::IS_ALLOWED;
-        let settings = config.of_device(TRANSFER as u16)?;
+        let settings = config.of_device(TRANSFER as u16, F::UNIT.of_slots(), F::SECTOR)?;
         start(settings, F::UNIT.of_slots(), sector_of::<F>(), flash.bytes()).ok_or(StartFault::NoImage)
     }
 

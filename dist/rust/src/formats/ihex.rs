@@ -81,6 +81,23 @@ fn based(at: usize, unit: u64, state: State, said: &Record<'_>) -> Result<State,
     }
 }
 
+/// The state behind a record.
+fn meant(alloc: Global, at: usize, state: State, said: &Record<'_>) -> Result<State, ImageFault> {
+    match said.kind {
+        0 => data_at(alloc, at, state, said),
+        1 if said.content.len() == 0 => Ok(State {
+            is_whole: true,
+            is_ended: true,
+            ..state
+        }),
+        2 => based(at, 16, state, said),
+        4 => based(at, 65_536, state, said),
+        3 | 5 if said.content.len() == 4 => Ok(state),
+        1 | 3 | 5 => Err(ImageFault::BadLength(at)),
+        _ => Err(ImageFault::BadType(at)),
+    }
+}
+
 /// The format.
 struct IntelHex;
 
@@ -88,19 +105,7 @@ impl TextFormat for IntelHex {
     fn step(alloc: Global, at: usize, state: State, line: &[u8]) -> Result<State, ImageFault> {
         let bytes = spelled(at, line)?;
         let said = framed(at, &bytes)?;
-        match said.kind {
-            0 => data_at(alloc, at, state, &said),
-            1 if said.content.len() == 0 => Ok(State {
-                is_whole: true,
-                is_ended: true,
-                ..state
-            }),
-            2 => based(at, 16, state, &said),
-            4 => based(at, 65_536, state, &said),
-            3 | 5 if said.content.len() == 4 => Ok(state),
-            1 | 3 | 5 => Err(ImageFault::BadLength(at)),
-            _ => Err(ImageFault::BadType(at)),
-        }
+        meant(alloc, at, state, &said)
     }
 }
 

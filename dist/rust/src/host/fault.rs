@@ -2,27 +2,35 @@
 
 //! Why a session does not begin.
 
+use core::fmt;
 use thiserror::Error;
 
 /// Why a session does not begin. A call returns the first that holds, in this order.
 #[derive(Clone, Copy, Debug, PartialEq, Eq, Error)]
 pub enum HostFault {
     /// The file's payload has no bytes. Only for downloads.
-    #[error("the payload is empty")]
     EmptyPayload,
     /// The file's vendor is neither FFFFh nor the device's, or its product is neither FFFFh nor
     /// the device's. The release of the device isn't compared. Only for downloads.
-    #[error("the file is for another device")]
     WrongTarget,
     /// The descriptor has bitCanDnload 0. Only for downloads.
-    #[error("the device takes no downloads")]
     CannotDownload,
     /// The descriptor has bitCanUpload 0. Only for sessions that ask for the image.
-    #[error("the device gives no uploads")]
     CannotUpload,
     /// The descriptor's transfer size is 0.
-    #[error("the device's transfer size is 0")]
     BadDescriptor,
+}
+
+impl fmt::Display for HostFault {
+    fn fmt(&self, f: &mut fmt::Formatter<'_>) -> fmt::Result {
+        f.write_str(match self {
+            HostFault::EmptyPayload => "the payload is empty",
+            HostFault::WrongTarget => "the file is for another device",
+            HostFault::CannotDownload => "the device takes no downloads",
+            HostFault::CannotUpload => "the device gives no uploads",
+            HostFault::BadDescriptor => "the device's transfer size is 0",
+        })
+    }
 }
 
 impl HostFault {

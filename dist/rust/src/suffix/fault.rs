@@ -2,6 +2,7 @@
 
 //! Why a file is refused.
 
+use core::fmt;
 use thiserror::Error;
 
 /// Why a file isn't read, checked or written. `read` and `check` answer the first of TooLarge,
@@ -10,35 +11,42 @@ use thiserror::Error;
 #[derive(Clone, Copy, Debug, PartialEq, Eq, Error)]
 pub enum SuffixFault {
     /// The file has under 16 bytes.
-    #[error("the file has under 16 bytes, too few for a suffix")]
     TooShort,
     /// The bytes 8 to 10 of the file's last 16 aren't 55h 46h 44h ('U', 'F', 'D').
-    #[error("the file has no DFU signature")]
     NoSignature,
     /// bLength is under 16 or over the file's length.
-    #[error("the suffix's length is under 16 or over the file's")]
     BadLength,
     /// bcdDFU is 011Ah: the payload is in the DfuSe format.
-    #[error("the file is a DfuSe file")]
     DfuSe,
     /// dwCRC isn't the register over the bytes before it.
-    #[error("the file's CRC differs from the one in its suffix")]
     BadCrc,
     /// The bytes that are to get a suffix have one: `read` would answer Ok or DfuSe for them.
-    #[error("the file has a suffix already")]
     AlreadySuffixed,
     /// The file has over 16,777,216 bytes, or would have with the 16 of a suffix.
-    #[error("the file with its suffix has over 16777216 bytes")]
     TooLarge,
     /// An allocation was refused, in `add`.
-    #[error("out of memory")]
     NoMemory,
     /// The reader failed.
-    #[error("the file can't be read")]
     Read,
     /// The writer failed, or took nothing of what was left.
-    #[error("the file can't be written")]
     Write,
+}
+
+impl fmt::Display for SuffixFault {
+    fn fmt(&self, f: &mut fmt::Formatter<'_>) -> fmt::Result {
+        f.write_str(match self {
+            SuffixFault::TooShort => "the file has under 16 bytes, too few for a suffix",
+            SuffixFault::NoSignature => "the file has no DFU signature",
+            SuffixFault::BadLength => "the suffix's length is under 16 or over the file's",
+            SuffixFault::DfuSe => "the file is a DfuSe file",
+            SuffixFault::BadCrc => "the file's CRC differs from the one in its suffix",
+            SuffixFault::AlreadySuffixed => "the file has a suffix already",
+            SuffixFault::TooLarge => "the file with its suffix has over 16777216 bytes",
+            SuffixFault::NoMemory => "out of memory",
+            SuffixFault::Read => "the file can't be read",
+            SuffixFault::Write => "the file can't be written",
+        })
+    }
 }
 
 impl SuffixFault {

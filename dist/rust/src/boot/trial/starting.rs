@@ -24,7 +24,7 @@ impl Standing {
     /// # What the caller must keep to
     ///
     /// - The medium has sectors, `tries` is at least 2, and a sector has room for `tries` marks and two more.
-    /// - It is what `look` found on this medium with the same `tries`, and nothing was written since.
+    /// - It is what `look` or `look_again` found on this medium with the same `tries`, and nothing was written since.
     pub fn start<M: Medium>(self, medium: &M, tries: u32) -> Starting {
         debug_assert!(medium.sector() > 0 && tries >= 2);
         match self {

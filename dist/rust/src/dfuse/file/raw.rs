@@ -5,29 +5,37 @@
 use crate::dfuse::file::element::Element;
 use crate::dfuse::file::marks::is_prefixed;
 use crate::suffix::SuffixFault;
+use core::fmt;
 use thiserror::Error;
 
 /// Why a file can't be written to an address: the first of these that holds.
 #[derive(Clone, Copy, Debug, PartialEq, Eq, Error)]
 pub enum RawFault {
     /// The file has over 16,777,216 bytes.
-    #[error("the file has over 16777216 bytes")]
     TooLarge,
     /// It has a signature, and bLength is under 16 or over the file's length.
-    #[error("the suffix's length is under 16 or over the file's")]
     BadLength,
     /// It has a signature and isn't a DfuSe file, and dwCRC isn't the register over the bytes before it.
-    #[error("the file's CRC differs from the one in its suffix")]
     BadCrc,
     /// bcdDFU is 011Ah, or the file begins with the letters DfuSe.
-    #[error("the file is a DfuSe file, which has addresses of its own")]
     HasAddresses,
     /// There are no bytes before the suffix, if there is one.
-    #[error("the file is empty")]
     Empty,
     /// The last byte would have an address past FFFFFFFFh.
-    #[error("the file ends behind the last address")]
     AddressPastTheEnd,
+}
+
+impl fmt::Display for RawFault {
+    fn fmt(&self, f: &mut fmt::Formatter<'_>) -> fmt::Result {
+        f.write_str(match self {
+            RawFault::TooLarge => "the file has over 16777216 bytes",
+            RawFault::BadLength => "the suffix's length is under 16 or over the file's",
+            RawFault::BadCrc => "the file's CRC differs from the one in its suffix",
+            RawFault::HasAddresses => "the file is a DfuSe file, which has addresses of its own",
+            RawFault::Empty => "the file is empty",
+            RawFault::AddressPastTheEnd => "the file ends behind the last address",
+        })
+    }
 }
 
 /// Why a file with this fault isn't taken, if it isn't.

@@ -2,6 +2,7 @@
 
 //! Why a string is refused.
 
+use core::fmt;
 use thiserror::Error;
 
 /// Why a string isn't a memory map. It is read from the front, and the first fault met is the answer; Overlaps is looked for
@@ -9,30 +10,37 @@ use thiserror::Error;
 #[derive(Clone, Copy, Debug, PartialEq, Eq, Error)]
 pub enum MapFault {
     /// It doesn't begin with `@`, or has no `/` after the name.
-    #[error("the string has no memory map")]
     NoMap,
     /// After `/` there isn't an address of one to eight hexadecimal digits, with or without `0x`, and another `/`.
-    #[error("the memory map has a bad address")]
     BadAddress,
     /// There isn't a count of one to five digits, from 1 on, and a `*`.
-    #[error("the memory map has a bad count of pages")]
     BadCount,
     /// There isn't a size of one to five digits, from 1 on.
-    #[error("the memory map has a bad page size")]
     BadSize,
     /// After the size, and a unit, there isn't a letter from `a` to `g`.
-    #[error("the memory map has a bad letter for what may be done with pages")]
     BadType,
     /// The pages end past address FFFFFFFFh.
-    #[error("the memory map has pages behind address FFFFFFFF")]
     PastTheEnd,
     /// There are over 32 ranges.
-    #[error("the memory map has over 32 ranges")]
     TooManyRanges,
     /// After a range there is neither the end, nor `,` nor `/`.
-    #[error("the memory map has bytes behind its last range")]
     Trailing,
     /// Two ranges share an address.
-    #[error("two ranges of the memory map overlap")]
     Overlaps,
+}
+
+impl fmt::Display for MapFault {
+    fn fmt(&self, f: &mut fmt::Formatter<'_>) -> fmt::Result {
+        f.write_str(match self {
+            MapFault::NoMap => "the string has no memory map",
+            MapFault::BadAddress => "the memory map has a bad address",
+            MapFault::BadCount => "the memory map has a bad count of pages",
+            MapFault::BadSize => "the memory map has a bad page size",
+            MapFault::BadType => "the memory map has a bad letter for what may be done with pages",
+            MapFault::PastTheEnd => "the memory map has pages behind address FFFFFFFF",
+            MapFault::TooManyRanges => "the memory map has over 32 ranges",
+            MapFault::Trailing => "the memory map has bytes behind its last range",
+            MapFault::Overlaps => "two ranges of the memory map overlap",
+        })
+    }
 }

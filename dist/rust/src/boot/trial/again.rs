@@ -1,0 +1,67 @@
+// Of crates/dfu_boot/src/trial/again.rt, whose contracts are taken away.
+
+//! A look that was handed on: the standing is found again without reading the images.
+
+use crate::boot::trial::marks::{is_set, starts};
+use crate::boot::trial::{Settled, Standing, Trial};
+use crate::slots::{Medium, Places, data_at, generation, is_open, is_sized};
+
+// Where the slots are, if the data of one begins there.
+fn places_by_data<M: Medium>(medium: &M, at: u32) -> Option<Places> {
+    let second = medium.len() / 2;
+    let gates = data_at(medium, 0);
+    if at == gates {
+        return Some(Places {
+            active: 0,
+            spare: second,
+        });
+    }
+    if at == second + gates {
+        return Some(Places {
+            active: second,
+            spare: 0,
+        });
+    }
+    None
+}
+
+// Whether the gate of the first of two slots is open, and that of the second is not, or its header is one generation behind: the first is
+// the newest then, if it counts.
+fn is_ahead<M: Medium>(medium: &M, places: Places) -> bool {
+    if !is_open(medium, places.active) {
+        return false;
+    }
+    !is_open(medium, places.spare)
+        || generation(medium, places.active) == generation(medium, places.spare).wrapping_add(1)
+}
+
+/// Finds the standing again that a look before found: the image that begins at `at` was active, and if it was on trial the one that begins
+/// at `base` was to come back. It reads gates, headers and marks, and no image: all that it takes from the look is that these images are
+/// whole. None if another slot may have the active image by now, or if an image may be on trial that the look didn't say: look anew then.
+///
+/// # What the caller must keep to
+///
+/// - The medium has sectors, `tries` is at least 2, and a sector has room for `tries` marks and two more.
+pub fn look_again<M: Medium>(medium: &M, tries: u32, at: u32, base: Option<u32>) -> Option<Standing> {
+    debug_assert!(medium.sector() > 0 && tries >= 2);
+    if !is_sized(medium) {
+        return None;
+    }
+    let places = places_by_data(medium, at)?;
+    if !is_ahead(medium, places) {
+        return None;
+    }
+    let slot = places.active;
+    let is_confirmed = is_set(medium, slot, 0);
+    if is_confirmed || !is_open(medium, places.spare) || !is_set(medium, places.spare, 0) {
+        return Some(Standing::Settled(Settled { slot, is_confirmed }));
+    }
+    if base? != places.spare + (at - slot) {
+        return None;
+    }
+    Some(Standing::OnTrial(Trial {
+        slot,
+        base: places.spare,
+        starts: starts(medium, tries, slot),
+    }))
+}

@@ -1,0 +1,57 @@
+// Of crates/dfu_slots/src/both.rt, whose contracts are taken away.
+
+//! What one look at a medium shows of both its slots.
+
+use crate::slots::layout::is_sized;
+use crate::slots::places::{Counted, count_slots, find_places, has_newest, is_none};
+use crate::slots::read::header_len;
+use crate::slots::{Medium, OpenFault, Places};
+
+/// Where the slots of a medium with an active image are, and whether the spare one has an image too.
+#[derive(Clone, Copy, Debug, PartialEq, Eq)]
+pub struct Both {
+    /// Where the active slot and the spare one begin.
+    pub places: Places,
+    /// How long the image in the spare slot is, if that counts and its header is well formed.
+    pub spare_len: Option<u32>,
+}
+
+// How long the image in the spare slot is, if that counts and its header is well formed.
+fn spare_len<M: Medium>(medium: &M, spare: u32, counted: Counted) -> Option<u32> {
+    let counts = if spare == 0 {
+        counted.first
+    } else {
+        counted.second
+    };
+    if !counts {
+        return None;
+    }
+    header_len(medium, spare)
+}
+
+/// Where the slots of a medium with an active image are, and how long the image in the spare slot is, if that has one; or else the first
+/// fault. It reads what `check` reads.
+///
+/// # Errors
+///
+/// Those of `check`: the medium has no active image.
+pub fn check_both<M: Medium>(medium: &M) -> Result<Both, OpenFault> {
+    if !is_sized(medium) {
+        return Err(OpenFault::WrongSize);
+    }
+    let counted = count_slots(medium);
+    if is_none(counted) {
+        return Err(OpenFault::NoImage);
+    }
+    let places = find_places(medium, counted);
+    if !has_newest(medium, places, counted) {
+        return Err(OpenFault::TwoImages);
+    }
+    match header_len(medium, places.active) {
+        Some(_) => Ok(Both {
+            places,
+            spare_len: spare_len(medium, places.spare, counted),
+        }),
+        None => Err(OpenFault::BadHeader),
+    }
+}
