@@ -1,5 +1,6 @@
 use Rattle.std.proofs.Common.{◌≡◌, min, ℕ, ℤ, pos, Option, Some, None, IfSome, IfNone, sym, ap, ◌∙◌, subst, inl, inr, w32, arith}
 use Rattle.std.proofs.lemmas.Int.{to_z-of_z}
+use Rattle.dfu_asks.specs.Times.{due_of}
 use Rattle.dfu_core.specs.Due.{LATEST}
 use Rattle.dfu_core.specs.Idle.{RefusesRecord}
 use Rattle.dfu_device_c.proofs.Told.{told_due}
@@ -18,7 +19,8 @@ returns c = record {
     told_due c.args.config.now c.args.device.now c.in-Ok.found.1 _ c.in-Ok.ensures.set_up c.in-Ok.ensures.only
         (to_z-of_z w32 c.due_number.result (omega (arith, c.due_number.type_inv))
         ∙ says c.mode_due.result c.due_number.result _ c.due_number.ensures.some c.due_number.ensures.none c.mode_due.ensures.some
-        c.mode_due.ensures.none),
+        c.mode_due.ensures.none
+        ∙ ap (λ (n : ℕ). pos (min LATEST (due_of c.in-Ok.found.0.config c.in-Ok.found.1 n))) c.from-block_len.ensures),
   );
 }
 
