@@ -19,7 +19,7 @@ use dfu_wire::State;
 const DETACH: [u8; 8] = [0x21, 0, 0, 0, 0, 0, 0, 0];
 
 /// What a USB stack reports.
-#[derive(Clone, Copy)]
+#[derive(Clone, Copy, PartialEq, Eq)]
 pub enum Happened {
     /// The bus was reset.
     BusReset,
