@@ -29,7 +29,8 @@ ODD = {'mark.bin': (b'\xef\xbb\xbf' + HEX, OF_FORMAT, "with your board's identif
        'page.dfu': (b'<!DOCTYPE html>\n<title>404</title>\n', 'the file is text and no image', 'in place of the file.'),
        'it.s19': (NEW, OF_NAME, 'one of HEX, S-records, UF2 and ELF.'), 'it.UF2': (NEW, OF_NAME, 'one of HEX, S-records, UF2 and ELF.')}
 # The line to type, by the file's name: one that no shell takes as it is, or that is the new file's, isn't in it.
-TYPED = {'fw-1.2.hex': 'fw-1.2.hex fw-1.2.dfu', 'noend': 'noend noend.dfu', 'two words.hex': 'IN OUT', "it's.hex": 'IN OUT', '-x.hex': 'IN OUT',
+TYPED = {'fw-1.2.hex': 'fw-1.2.hex fw-1.2.dfu', 'noend': 'noend noend.dfu',
+         'two words.hex': 'IN OUT', "it's.hex": 'IN OUT', '-x.hex': 'IN OUT',
          'x.DFU': 'IN OUT'}
 CUT = "NoSignature: the file's name ends in .dfu, and it has no DFU suffix: it was cut short or changed; get it anew. "
 

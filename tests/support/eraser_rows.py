@@ -34,7 +34,8 @@ ITEMS = [
     ("a sign of the proofs in code", "fn f() -> ℕ {}", 1, "no Rust"),
     ("a use of two kinds", "use crate::{Setup as };", 1, "use"),
     ("a formatter of a type", "fn f(f: &mut fmt::Formatter<File>) {}", 1, "formatter"),
-    ("another way to write", "impl fmt::Display for S {\n    fn fmt<W: Sink>(&self, f: &mut fmt::Formatter<W>) -> fmt::Result {}\n}", 2, "fmt"),
+    ("another way to write",
+     "impl fmt::Display for S {\n    fn fmt<W: Sink>(&self, f: &mut fmt::Formatter<W>) -> fmt::Result {}\n}", 2, "fmt"),
     ("another macro of a library", "fn f() { panic!() }", 1, "macro that the eraser does not know: panic!"),
 ]
 # Before the first line of a function.
@@ -101,8 +102,10 @@ ITEMS_BECOME = [
      "/// A.\n///\n/// # What the caller must keep to\n///\n/// - `limit` is at most 16,777,216.\npub fn f(limit: usize) {\n"
      "    debug_assert!(limit <= 16_777_216);\n    g(limit);\n}"),
     ("fn f(x: u8, of_proof: u8) -> u8 {\n    x\n}", "fn f(x: u8, _of_proof: u8) -> u8 {\n    x\n}"),
-    ("impl fmt::Display for S {\n    fn fmt<W: fmt::Write>(&self, f: &mut fmt::Formatter<W>) -> fmt::Result {\n        f.write_str(self.name())\n    }\n}",
-     "impl fmt::Display for S {\n    fn fmt(&self, f: &mut fmt::Formatter<'_>) -> fmt::Result {\n        f.write_str(self.name())\n    }\n}"),
+    ("impl fmt::Display for S {\n    fn fmt<W: fmt::Write>(&self, f: &mut fmt::Formatter<W>) -> fmt::Result {\n"
+     "        f.write_str(self.name())\n    }\n}",
+     "impl fmt::Display for S {\n    fn fmt(&self, f: &mut fmt::Formatter<'_>) -> fmt::Result {\n"
+     "        f.write_str(self.name())\n    }\n}"),
     ("use crate::{Code, Request, Setup};\n\nfn f(x: Setup, y: Request) {\n    g(x, y);\n}",
      "use crate::wire::{Request, Setup};\n\nfn f(x: Setup, y: Request) {\n    g(x, y);\n}"),
 ]

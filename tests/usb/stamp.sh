@@ -162,7 +162,8 @@ for make in 'mkdir serials.used' 'ln -s nothing serials.used' 'mkfifo serials.us
 done
 rm -rf serials.used
 # The words.
-for words in '--stamp serials room.dfu' '--stamp-at 16:8 room.dfu' '--stamp - --stamp-at 16:8 room.dfu' '--stamp= --stamp-at 16:8 room.dfu' \
+for words in '--stamp serials room.dfu' '--stamp-at 16:8 room.dfu' '--stamp - --stamp-at 16:8 room.dfu' \
+    '--stamp= --stamp-at 16:8 room.dfu' \
     "$at 16 room.dfu" "$at 16: room.dfu" "$at :8 room.dfu" "$at 16:0 room.dfu" "$at 16:257 room.dfu" "$at -1:8 room.dfu" \
     "$at 16:8x room.dfu" "$at 0x:8 room.dfu" "$at 4294967296:8 room.dfu" "$at 16:8 --retry 1 room.dfu" "$at 16:8 --upload never" \
     "$at 16:8 --detach" "$at 16:8 --list" "$at 16:8 --demo"; do

@@ -62,7 +62,8 @@ has_more() {
 for ms in 010 050 100 200 301 001 051 101; do
     before=$(grep -c begun serials.used || :)
     sixteen USB_BUSY=40
-    env LD_LIBRARY_PATH="$work" USB_IMAGE="$work/old" USB_BOARDS="$work/boards" ./dfu-flash --all --quiet $at 16:8 room.dfu > /dev/null 2>&1 &
+    env LD_LIBRARY_PATH="$work" USB_IMAGE="$work/old" USB_BOARDS="$work/boards" \
+        ./dfu-flash --all --quiet $at 16:8 room.dfu > /dev/null 2>&1 &
     # (the last ones are killed once a board has begun, however slow the machine is)
     case $ms in *1) soon has_more || wrong "no board begins" ;; esac
     sleep "0.$ms"

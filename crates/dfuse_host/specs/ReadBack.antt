@@ -67,8 +67,8 @@ abbrev pub ClosesIn : Phase → Type 0
 ClosesIn (On s) = Closes s.work s.step
 ClosesIn (Over r) = Unit {0}
 
--- Whatever is heard, a byte that counts as read back did so before, or was read back just now. So the report Verified says that each byte of
--- the image was read back since it was last written.
+-- Whatever is heard, a byte that counts as read back did so before, or was read back just now. So the report Verified says that
+-- each byte of the image was read back since it was last written.
 abbrev pub OnlyReadBack : Type 0
 OnlyReadBack =
     (s : Session) (h : Heard) (a : ℕ) → apart_from 0 s.plan.image.now ≡ true → HasByte a s.plan.image.now → ClosesIn s.phase →

@@ -15,7 +15,8 @@ pub data Reaction : Type 0 where
   Data : (bytes : List ℕ) → Reaction
   Stalls : Reaction
 
--- The order in the body of a DNLOAD of block 0: a number, and an address of four bytes, the low one first. 21h sets the pointer, 41h erases.
+-- The order in the body of a DNLOAD of block 0: a number, and an address of four bytes, the low one first. 21h sets the
+-- pointer, 41h erases.
 abbrev pub order_in : List ℕ → Order
 order_in [] = Other
 order_in (number ∷ address) =

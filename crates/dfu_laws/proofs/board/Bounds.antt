@@ -18,7 +18,6 @@ use Rattle.dfu_laws.proofs.board.Counting.{parts, count, count_append, erased, c
 unit_few : (u : WriteUnit) → unit_size u ≤ 256
 unit_few Byte = omega arith
 unit_few _ = omega arith
-
 pub unit_some : (u : WriteUnit) → 0 < unit_size u
 unit_some Byte = omega arith
 unit_some _ = omega arith

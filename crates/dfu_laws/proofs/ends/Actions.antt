@@ -13,7 +13,7 @@ use Rattle.dfu_host_core.specs.Actions.{TellsAction}
 use Rattle.dfu_host_core.specs.Runs.{CoreHost, IsCoreHost, HostsTell, TellsOfHost}
 use Rattle.dfu_laws.specs.board.Board.{Event, Elapse, Handle}
 use Rattle.dfu_laws.specs.link.Comes.{IsUnderWay}
-use Rattle.dfu_laws.specs.ends.Sessions.{CoreSession, NoSession, InSession, IsSessionOf, Wants, body_in, MayBeUnderWay}
+use Rattle.dfu_laws.specs.ends.Sessions.{CoreSession, NoSession, InSession, IsSessionOf, Wants, sent_body, MayBeUnderWay}
 
 -- The live session in C is the one of this host.
 pub record HostOf (payload : List ℕ) (x : CoreHost) (session : Session) : Type 0 where
@@ -32,7 +32,7 @@ host_of_session payload x s session e is = held session (subst (λ (y : CoreSess
 -- The action sends a request of its host.
 pub record SendsOf (payload : List ℕ) (d : Deed) (a : DfuAction) : Type 0 where
   pub request : Request
-  pub deed_is : d ≡ Send request (body_in payload a)
+  pub deed_is : d ≡ Send request (sent_body payload a)
   pub asked : IsAsked request a.setup
 
 sends_of : (payload : List ℕ) (from : ℕ) (d : Deed) (a : DfuAction) → TellsAction payload from d a → a.what ≡ 0 → SendsOf payload d a

@@ -14,7 +14,7 @@ use Rattle.dfu_host_core.specs.declared.action.DfuAction.{DfuAction}
 use Rattle.dfu_host_core.specs.Runs.{CoreHost, IsCoreHost, HostsRefine, HostsTell}
 use Rattle.dfu_laws.specs.board.Board.{Board, Says, BoardStep}
 use Rattle.dfu_laws.specs.link.Comes.{HearsSentBack, left, BoardComes, passes, sends, refuses, waits, resets, is_reset, restarts}
-use Rattle.dfu_laws.specs.ends.Sessions.{CoreSession, InSession, IsSessionOf, Wants, body_in, HostTakes, TellsOf, Settles, HearsRestart, nobody_hears, hears_it}
+use Rattle.dfu_laws.specs.ends.Sessions.{CoreSession, InSession, IsSessionOf, Wants, sent_body, HostTakes, TellsOf, Settles, HearsRestart, nobody_hears, hears_it}
 use Rattle.dfu_laws.specs.ends.Comes.{EndsCome, time_passes, sends_it, objects_to_it, refuses_image, waits_it_out, resets_bus, bus_is_reset, board_restarts}
 use Rattle.dfu_laws.proofs.ends.Actions.{host_of_session, sends_so, waits_so, resets_so, way_so}
 use Rattle.dfu_laws.proofs.ends.Heard.{heard_by, hears_wait, hears_reset, hears_restart, hears_back}
@@ -57,8 +57,8 @@ module _ (refine : HostsRefine) (tells : HostsTell) where
     requests : (payload bytes : List ℕ) (x x' : CoreHost) (a : DfuAction) (steps : List BoardStep) (says : Says) (b' : Board) (seen : ℕ)
         (answer : Answered) (s' : CoreSession) → s ≡ InSession payload x → Wants payload x a → a.what ≡ 0 → TellsOf says seen bytes
         → HostTakes payload x seen bytes x' → Settles payload x' answer s'
-        → ((h : HostState) (q : Request) (heard : Heard) → session ≡ Hosted h → deed h.task h.phase ≡ Send q (body_in payload a)
-        → IsAsked q a.setup → HearsSentBack (Send q (body_in payload a)) says heard
+        → ((h : HostState) (q : Request) (heard : Heard) → session ≡ Hosted h → deed h.task h.phase ≡ Send q (sent_body payload a)
+        → IsAsked q a.setup → HearsSentBack (Send q (sent_body payload a)) says heard
         → (heard ≡ NoRoom → IsTrue (wants_memory h.phase))
         → BoardComes (record { board = b; session = session }) steps (took h heard).answer (left b' (took h heard)))
         → Went session b steps answer s' b'
@@ -70,7 +70,7 @@ module _ (refine : HostsRefine) (tells : HostsTell) where
         went session b steps answer s' b' (took h t.heard)
         (took_so tells payload x' h t.heard answer s' (sized tells payload x h o.is) (counted_of h o.live) t.now settles)
         (comes h q.request t.heard o.live q.deed_is q.asked
-        (hears_back payload h bytes x' says seen q.request (body_in payload a) q.deed_is t tell) t.room)
+        (hears_back payload h bytes x' says seen q.request (sent_body payload a) q.deed_is t tell) t.room)
 
     -- What comes next.
     pub came : (steps : List BoardStep) (answer : Answered) (s' : CoreSession) (b' : Board) → EndsCome s b steps answer s' b'
@@ -81,8 +81,8 @@ module _ (refine : HostsRefine) (tells : HostsTell) where
         what reaches tell given settles) =
         requests payload bytes x x' a steps says b' seen answer s' live wants what tell given settles
         (λ h q heard hosted is_sent asked hears room. sends hosted is_sent asked (inl reaches) hears room)
-    came steps answer s' b' (objects_to_it {payload = payload} {bytes = bytes} {x = x} {x' = x'} {a = a} {why = why} {says = says} {seen = seen}
-        live wants what objected tell given settles) =
+    came steps answer s' b' (objects_to_it {payload = payload} {bytes = bytes} {x = x} {x' = x'} {a = a} {why = why} {says = says}
+        {seen = seen} live wants what objected tell given settles) =
         requests payload bytes x x' a steps says b' seen answer s' live wants what tell given settles
         (λ h q heard hosted is_sent asked hears room. sends hosted is_sent asked (inr (why, objected)) hears room)
     came _ answer s' _ (waits_it_out {payload = payload} {bytes = bytes} {x = x} {x' = x'} {a = a} live wants what given settles) =

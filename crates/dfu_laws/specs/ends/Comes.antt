@@ -7,7 +7,7 @@ use Rattle.dfu_host_core.specs.declared.action.DfuAction.{DfuAction}
 use Rattle.dfu_host_core.specs.Runs.{CoreHost}
 use Rattle.dfu_laws.specs.board.Board.{Board, Event, Handle, Elapse, UsbReset, Refuse, Says, BoardStep}
 use Rattle.dfu_laws.specs.link.Calls.{Serves, Reaches, Objects, Stops}
-use Rattle.dfu_laws.specs.ends.Sessions.{CoreSession, InSession, Wants, body_in, HostTakes, TellsOf, Settles, HearsRestart, MayBeUnderWay}
+use Rattle.dfu_laws.specs.ends.Sessions.{CoreSession, InSession, Wants, sent_body, HostTakes, TellsOf, Settles, HearsRestart, MayBeUnderWay}
 
 -- What comes next, with the steps of the board, and what is reported then. The program does what dfu_host_next says: it sends a request
 -- (0), waits (1) or resets the bus (2). By dfu_host_take it tells what came of that: what is sent back; 4, that the wait is over; or 5,
@@ -19,12 +19,12 @@ pub data EndsCome (s : CoreSession) (b : Board) : List BoardStep → Answered �
   -- The session's request goes to the board: the setup as it is, and those bytes of the payload.
   sends_it : {payload bytes : List ℕ} {x x' : CoreHost} {a : DfuAction} {steps : List BoardStep} {says : Says} {b' : Board} {seen : ℕ}
       {said : Answered} {s' : CoreSession} → s ≡ InSession payload x → Wants payload x a → a.what ≡ 0
-      → Reaches (Handle a.setup (body_in payload a)) b steps says b' → TellsOf says seen bytes → HostTakes payload x seen bytes x'
+      → Reaches (Handle a.setup (sent_body payload a)) b steps says b' → TellsOf says seen bytes → HostTakes payload x seen bytes x'
       → Settles payload x' said s' → EndsCome s b steps said s' b'
   -- It closes a download, and the board's program refuses the image.
   objects_to_it : {payload bytes : List ℕ} {x x' : CoreHost} {a : DfuAction} {why : Objection} {steps : List BoardStep} {says : Says}
       {b' : Board} {seen : ℕ} {said : Answered} {s' : CoreSession} → s ≡ InSession payload x → Wants payload x a → a.what ≡ 0
-      → Objects a.setup (body_in payload a) why b steps says b' → TellsOf says seen bytes → HostTakes payload x seen bytes x'
+      → Objects a.setup (sent_body payload a) why b steps says b' → TellsOf says seen bytes → HostTakes payload x seen bytes x'
       → Settles payload x' said s' → EndsCome s b steps said s' b'
   -- The board's program refuses the image that was closed, if one was.
   refuses_image : {why : Objection} {steps : List BoardStep} {a : Answer} {out : List ℕ} {b' : Board} → Serves b (Refuse why) steps a out b'

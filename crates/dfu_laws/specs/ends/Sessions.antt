@@ -28,8 +28,8 @@ abbrev pub Wants : (payload : List ℕ) → CoreHost → DfuAction → Type 0
 Wants payload x a = (slice : Bor (List ℕ)) × (slice.now ≡ payload) × IsNextAction x.kept slice a
 
 -- The bytes of the payload that an action sends.
-abbrev pub body_in : (payload : List ℕ) → DfuAction → List ℕ
-body_in payload a = take a.length (drop a.from payload)
+abbrev pub sent_body : (payload : List ℕ) → DfuAction → List ℕ
+sent_body payload a = take a.length (drop a.from payload)
 
 -- dfu_host_take returns 0 for this number of what is seen, with these bytes.
 abbrev pub HostTakes : (payload : List ℕ) → CoreHost → (seen : ℕ) → (bytes : List ℕ) → CoreHost → Type 0
@@ -65,5 +65,5 @@ pub data HearsRestart : CoreSession → Answered → CoreSession → Type 0 wher
 abbrev pub MayBeUnderWay : CoreSession → Event → Type 0
 MayBeUnderWay s (Elapse ms) = Unit {0}
 MayBeUnderWay (InSession payload x) (Handle setup body) = (a : DfuAction) × Wants payload x a × (a.what ≡ 0) × (setup ≡ a.setup)
-    × (body ≡ body_in payload a)
+    × (body ≡ sent_body payload a)
 MayBeUnderWay s call = ⊥
