@@ -55,7 +55,9 @@ _Static_assert(offsetof(struct dfu_config, manifest_ms) == 20, "another layout")
 _Static_assert(offsetof(struct dfu_config, least) == 24, "another layout");
 _Static_assert(offsetof(struct dfu_config, unit) == 28, "another layout");
 _Static_assert(offsetof(struct dfu_config, sector) == 32, "another layout");
-_Static_assert(sizeof(struct dfu_config) == 36, "another layout");
+_Static_assert(offsetof(struct dfu_config, erase_ms) == 36, "another layout");
+_Static_assert(offsetof(struct dfu_config, program_ms) == 38, "another layout");
+_Static_assert(sizeof(struct dfu_config) == 40, "another layout");
 _Static_assert(_Alignof(struct dfu_config) == 4, "another layout");
 _Static_assert(offsetof(struct dfu_record, version) == 0, "another layout");
 _Static_assert(offsetof(struct dfu_record, mode) == 4, "another layout");
@@ -114,7 +116,6 @@ static inline uint32_t load32(const unsigned char *p) { uint32_t x = 0; memcpy(&
 static inline uint32_t load32u(const unsigned char *p) { uint32_t x = 0; memcpy(&x, p, 4); return x; }
 static inline uint64_t load64(const unsigned char *p) { uint64_t x = 0; memcpy(&x, ALIGNED(p, 8), 8); return x; }
 static inline uint64_t load64a4(const unsigned char *p) { uint64_t x = 0; memcpy(&x, ALIGNED(p, 4), 8); return x; }
-static inline uint64_t load64u(const unsigned char *p) { uint64_t x = 0; memcpy(&x, p, 8); return x; }
 static inline int32_t signed32(uint32_t x) { int32_t y; memcpy(&y, &x, 4); return y; }
 static inline void store32(unsigned char *p, uint32_t x) { memcpy(ALIGNED(p, 4), &x, 4); }
 static inline void store64(unsigned char *p, uint64_t x) { memcpy(ALIGNED(p, 8), &x, 8); }
@@ -134,13 +135,13 @@ static _Alignas(4) const uint8_t static_1[64] = {
     0xe8, 0xa3, 0xd6, 0xd6, 0x8c, 0xb3, 0x61, 0xcb, 0xb0, 0xc2, 0x64, 0x9b, 0xd4, 0xd2, 0xd3, 0x86, 0x78, 0xe2, 0xa, 0xa0,
     0x1c, 0xf2, 0xbd, 0xbd
 };
-static _Alignas(8) const uint64_t switch_table_dfu_boot_c_trial_flash_looked[4] = {
+static _Alignas(8) const uint64_t switch_table_dfu_boot_c_trial_flash_prepared[4] = {
     0x10, 0x10, 0x40, 0x100
 };
 static _Alignas(4) const uint32_t switch_table_dfu_boot_c_trial_flash_medium_of[4] = {
     1, 0x10, 0x40, 0x100
 };
-static _Alignas(4) const uint32_t switch_table_dfu_slots_layout_is_whole[4] = {
+static _Alignas(4) const uint32_t switch_table_dfu_slots_layout_is_sized[4] = {
     0, 0xf, 0x3f, 0xff
 };
 static _Alignas(4) const uint32_t switch_table_dfu_slots_layout_gate_of[4] = {
@@ -152,26 +153,23 @@ static uint8_t dfu_boot_install_area_are_blank(unsigned char *a0, uint32_t a2, u
 static struct i8_i32 dfu_boot_install_compare_first_difference(unsigned char *a0, unsigned char *a2, uint32_t a4, uint32_t a5);
 static void core_slice_edits_slice_T_copy_from_slice_i8_core_clone_U8Clone(unsigned char *a0, unsigned char *a2, size_t a3);
 static void dfu_boot_c_trial_flash_looked(unsigned char *a0, unsigned char *a1, unsigned char *a2, size_t a3);
+static void dfu_boot_c_trial_flash_prepared(unsigned char *a0, unsigned char *a1, unsigned char *a2, size_t a3);
 static void dfu_boot_c_trial_flash_medium_of(unsigned char *a0, unsigned char *a1, unsigned char *a2, size_t a3);
 static uint8_t dfu_boot_c_trial_flash_unit_sized(uint32_t a0);
+static uint8_t dfu_slots_layout_is_sized(unsigned char *a0);
 static uint8_t dfu_slots_read_counts(unsigned char *a0, uint32_t a1);
+static uint8_t dfu_slots_read_is_open(unsigned char *a0, uint32_t a1);
 static uint8_t dfu_slots_read_byte_at(unsigned char *a0, uint32_t a1);
 static void dfu_slots_read_header_of(unsigned char *a0, unsigned char *a1, uint32_t a2);
 static uint32_t dfu_slots_layout_capacity_of(unsigned char *a0);
-static void dfu_suffix_crc_Crc_update_small(unsigned char *a0, unsigned char *a1, size_t a2);
 static uint8_t dfu_slots_places_is_newest(unsigned char *a0, uint32_t a1, uint32_t a2, uint8_t a3, uint8_t a4);
 static uint8_t dfu_slots_read_generation(unsigned char *a0, uint32_t a1);
-static uint8_t dfu_slots_layout_is_formed(unsigned char *a0, uint32_t a1);
+static uint8_t dfu_slots_read_header_len(unsigned char *a0, uint32_t a1);
 static uint8_t dfu_boot_trial_marks_is_set(unsigned char *a0, uint32_t a1, uint32_t a2);
-static uint8_t dfu_slots_read_counts_2(unsigned char *a0, uint32_t a1);
-static uint8_t dfu_slots_read_byte_at_2(unsigned char *a0, uint32_t a1);
-static void dfu_boot_trial_closed_ClosedMedium_read(unsigned char *a0, uint32_t a1, unsigned char *a2, size_t a3);
-static void dfu_slots_read_header_of_2(unsigned char *a0, unsigned char *a1, uint32_t a2);
-static uint32_t dfu_slots_layout_capacity_of_2(unsigned char *a0);
-static uint8_t dfu_slots_places_is_newest_2(unsigned char *a0, uint32_t a1, uint32_t a2, uint8_t a3, uint8_t a4);
-static uint8_t dfu_slots_read_generation_2(unsigned char *a0, uint32_t a1);
+static uint32_t dfu_boot_trial_marks_starts(unsigned char *a0, uint32_t a1, uint32_t a2);
 static uint32_t dfu_boot_c_trial_told_tell(unsigned char *a0, uint32_t a1, unsigned char *a2);
 static struct i32_i32 dfu_boot_c_trial_told_image_in(unsigned char *a0, uint32_t a1);
+static uint32_t dfu_boot_c_trial_again_start_from(unsigned char *a0, unsigned char *a1, size_t a2, unsigned char *a3, unsigned char *a4, unsigned char *a5);
 
 /* dfu_boot::install::area::is_run_area: crates/dfu_boot/src/install/area.rt */
 static uint8_t dfu_boot_install_area_is_run_area(size_t a0, uint32_t a1) {
@@ -266,260 +264,191 @@ static void core_slice_edits_slice_T_copy_from_slice_i8_core_clone_U8Clone(unsig
 
 /* dfu_boot_c::trial::flash::looked: crates/dfu_boot_c/src/trial/flash.rt */
 static void dfu_boot_c_trial_flash_looked(unsigned char *a0, unsigned char *a1, unsigned char *a2, size_t a3) {
+    _Alignas(8) unsigned char r8[32];
+    _Alignas(4) unsigned char r13_8[29];
+    unsigned char *r7;
+    uint32_t r41, r91, r72, r72_2, r10_84_0_0, r10_15_0, r10_17_0, r13_12_0_0, r13_12_3_0, r13_12_4_0, r13_10_0_0;
+    uint8_t r5, r11, r0_0_0_0, r51;
+    uint8_t r10_0_036, r13_4_0;
+    memset(r13_8, 0, 29);
+    dfu_boot_c_trial_flash_prepared(r8, a1, a2, a3);
+    uint8_t r1_0_0_copyload = *r8;
+    if (r1_0_0_copyload != 0) {
+        uint8_t r1_5_2_copyload = r8[2];
+        uint8_t r1_3_1_copyload = r8[1];
+        *a0 = 1;
+        a0[1] = r1_3_1_copyload;
+        a0[2] = r1_5_2_copyload;
+        memset(a0 + 8, 0, 40);
+        return;
+    }
+    r7 = r8 + 8;
+    r41 = load32(a1 + 8);
+    uint8_t r14 = dfu_slots_layout_is_sized(r7);
+    if (!r14) {
+        r10_0_036 = 1;
+        r13_12_0_0 = 0;
+        r13_12_3_0 = 0;
+        r13_12_4_0 = 0;
+        r13_4_0 = 2;
+        r13_10_0_0 = 0;
+    }
+    else {
+        size_t r3_1_0_copyload = (size_t)load64(r8 + 16);
+        r5 = dfu_slots_read_counts(r7, 0);
+        r91 = (uint32_t)r3_1_0_copyload >> 1;
+        r11 = dfu_slots_read_counts(r7, r91);
+        if (!(r5 | r11)) {
+            r10_0_036 = 1;
+            r13_12_0_0 = 0;
+            r13_12_3_0 = 0;
+            r13_12_4_0 = 0;
+            r13_4_0 = 2;
+            r13_10_0_0 = 0;
+        }
+        else {
+            uint8_t r15 = dfu_slots_places_is_newest(r7, 0, r91, r5, r11);
+            r72 = (uint32_t)(r15 ? 0 : r91);
+            r72_2 = (uint32_t)(r15 ? r91 : 0);
+            if (r72 == 0) {
+                uint8_t r24 = dfu_slots_places_is_newest(r7, 0, r72_2, r5, r11);
+                if (!r24) {
+                    r10_0_036 = 1;
+                    r13_12_0_0 = 0;
+                    r13_12_3_0 = 0;
+                    r13_12_4_0 = 0;
+                    r13_4_0 = 2;
+                    r13_10_0_0 = 0;
+                    goto join_7;
+                }
+            }
+            else {
+                uint8_t r33 = dfu_slots_places_is_newest(r7, r72, r72_2, r11, r5);
+                if (!r33) {
+                    r10_0_036 = 1;
+                    r13_12_0_0 = 0;
+                    r13_12_3_0 = 0;
+                    r13_12_4_0 = 0;
+                    r13_4_0 = 2;
+                    r13_10_0_0 = 0;
+                    goto join_7;
+                }
+            }
+            uint8_t r88 = dfu_slots_read_header_len(r7, r72);
+            if (r88 == 0) {
+                r10_0_036 = 1;
+                r13_12_0_0 = 0;
+                r13_12_3_0 = 0;
+                r13_12_4_0 = 0;
+                r13_4_0 = 2;
+                r13_10_0_0 = 0;
+            }
+            else {
+                if (!((r72_2 == 0) ? r5 : r11)) r0_0_0_0 = 0;
+                else {
+                    uint8_t r26 = dfu_slots_read_header_len(r7, r72_2);
+                    r0_0_0_0 = r26 != 0;
+                }
+                r51 = dfu_boot_trial_marks_is_set(r7, r72, 0);
+                if (!r51) {
+                    uint8_t r60 = dfu_boot_trial_marks_is_set(r7, r72_2, 0);
+                    if (r60 ? r0_0_0_0 : 0) {
+                        uint32_t r70 = dfu_boot_trial_marks_starts(r7, r41, r72);
+                        r10_84_0_0 = 1;
+                        r10_15_0 = r72_2;
+                        r10_17_0 = r70;
+                        goto arm_5;
+                    }
+                }
+                r10_84_0_0 = 0;
+                r10_15_0 = (uint32_t)r51;
+                r10_17_0 = 0;
+arm_5:
+                memcpy(r13_8 + 5, r7, 24);
+                r10_0_036 = 0;
+                r13_12_0_0 = r72;
+                r13_12_3_0 = r10_15_0;
+                r13_12_4_0 = r10_17_0;
+                r13_4_0 = 0;
+                r13_10_0_0 = r10_84_0_0;
+            }
+        }
+    }
+join_7:
+    *a0 = r10_0_036;
+    a0[1] = r13_4_0;
+    a0[2] = 0;
+    memcpy(a0 + 8, r13_8 + 5, 24);
+    store32(a0 + 32, r13_10_0_0);
+    store32(a0 + 36, r13_12_0_0);
+    store32(a0 + 40, r13_12_3_0);
+    store32(a0 + 44, r13_12_4_0);
+    return;
+}
+
+/* dfu_boot_c::trial::flash::prepared: crates/dfu_boot_c/src/trial/flash.rt */
+static void dfu_boot_c_trial_flash_prepared(unsigned char *a0, unsigned char *a1, unsigned char *a2, size_t a3) {
     _Alignas(8) unsigned char r3[32];
-    unsigned char *const r3_8 = r3;
-    unsigned char *const r3_3 = r3;
-    _Alignas(8) unsigned char r7[32];
-    _Alignas(4) unsigned char r12_8[29];
-    _Alignas(8) unsigned char r4[24];
-    _Alignas(8) unsigned char r3_4[16];
-    uint8_t r1_2_0_copyload, r9_0_045, r12_4_0, r6_4_0, r6_7_0, r6_7_039, r6_4_038;
-    uint32_t r1_38_0_copyload, r29, r56, r1_0_0_copyload, a0_a1, r5, r6613, r69, r72, r72_2, r72_4, r72_5;
-    uint32_t r1_0, r9_820_0_0, r9_15_0, r9_17_0, r12_12_0_0, r12_12_3_0, r12_12_4_0, r12_10_0_0;
-    unsigned char *r28, *r39, *r2;
-    size_t v3;
-    uint8_t r17, r5_2, r11, r31, r5_3, r11_2;
-    memset(r12_8, 0, 29);
+    _Alignas(8) unsigned char r6[32];
+    _Alignas(4) unsigned char r7_8[29];
+    uint8_t r1_2_0_copyload, r7_0_0, r7_4_0, r5_4_0, r5_7_0, r5_7_013, r5_4_012;
+    uint32_t r1_38_0_copyload, r29;
+    memset(r7_8, 0, 29);
     dfu_boot_c_trial_flash_medium_of(r3, a1, PLACE(static_0), 0);
     uint8_t r19 = *r3;
     if (r19 != 1) {
-        r6_4_0 = 0;
-        r6_7_0 = 0;
+        r5_4_0 = 0;
+        r5_7_0 = 0;
     }
     else {
         r1_2_0_copyload = r3[24];
         r1_38_0_copyload = load32(r3 + 28);
-        r28 = a1 + 8;
-        r29 = load32(r28);
+        r29 = load32(a1 + 8);
         if (r1_38_0_copyload == 0) {
-            r6_4_0 = 1;
-            r6_7_0 = 0;
+            r5_4_0 = 1;
+            r5_7_0 = 0;
         }
         else {
             if (r29 >= 2) {
-                uint64_t switch_load = load64(PLACE(switch_table_dfu_boot_c_trial_flash_looked) + 8 * (size_t)r1_2_0_copyload);
+                uint64_t switch_load = load64(PLACE(switch_table_dfu_boot_c_trial_flash_prepared) + 8 * (size_t)r1_2_0_copyload);
                 if ((switch_load * ((uint64_t)(size_t)r29 + 2)) > (uint64_t)(size_t)r1_38_0_copyload) {
-                    r6_7_039 = 2;
-                    r6_4_038 = 1;
+                    r5_7_013 = 2;
+                    r5_4_012 = 1;
                     goto arm_1;
                 }
-                dfu_boot_c_trial_flash_medium_of(r7, a1, a2, a3);
-                uint8_t r38 = *r7;
-                if (r38 != 1) {
-                    *a0 = 1;
-                    a0[1] = 2;
-                    a0[2] = 0;
-                    memset(a0 + 8, 0, 40);
-                    return;
-                }
-                r39 = r7 + 8;
-                memcpy(r4, r39, 24);
-                r56 = load32(r28);
-                r1_0_0_copyload = load32(r4 + 20);
-                if (!((r1_0_0_copyload < 0x20001U) & ((r1_0_0_copyload & 255) == 0))) {
-                    r9_0_045 = 1;
-                    r12_12_0_0 = 0;
-                    r12_12_3_0 = 0;
-                    r12_12_4_0 = 0;
-                    r12_4_0 = 2;
-                    r12_10_0_0 = 0;
+                dfu_boot_c_trial_flash_medium_of(r6, a1, a2, a3);
+                uint8_t r26 = *r6;
+                if (r26 != 1) {
+                    r7_0_0 = 1;
+                    r7_4_0 = 2;
                 }
                 else {
-                    uint8_t r0_0_0_copyload = r4[16];
-                    v3 = (size_t)r0_0_0_copyload;
-                    uint32_t switch_load_2 = load32(PLACE(switch_table_dfu_slots_layout_gate_of) + 4 * v3);
-                    a0_a1 = umax32(r1_0_0_copyload, switch_load_2);
-                    r2 = r4 + 8;
-                    size_t r3_2 = (size_t)load64(r2);
-                    r5 = (uint32_t)r3_2;
-                    uint32_t pre = a0_a1 << 2;
-                    if (!(((pre + 0x2000000U) >= r5) & (((r5 & 1) == 0) ? (pre < r5) : !(r3_2 & 1)))) {
-                        r9_0_045 = 1;
-                        r12_12_0_0 = 0;
-                        r12_12_3_0 = 0;
-                        r12_12_4_0 = 0;
-                        r12_4_0 = 2;
-                        r12_10_0_0 = 0;
-                    }
-                    else {
-                        r6613 = r5 >> 1;
-                        r69 = r6613 - (a0_a1 << 1);
-                        uint32_t switch_load_3 = load32(PLACE(switch_table_dfu_slots_layout_is_whole) + 4 * v3);
-                        if ((switch_load_3 & r69) != 0) {
-                            r9_0_045 = 1;
-                            r12_12_0_0 = 0;
-                            r12_12_3_0 = 0;
-                            r12_12_4_0 = 0;
-                            r12_4_0 = 2;
-                            r12_10_0_0 = 0;
-                        }
-                        else {
-                            r17 = r1_0_0_copyload == 0;
-                            if (!r17) {
-                                if ((r69 % r1_0_0_copyload) != 0) {
-                                    r9_0_045 = 1;
-                                    r12_12_0_0 = 0;
-                                    r12_12_3_0 = 0;
-                                    r12_12_4_0 = 0;
-                                    r12_4_0 = 2;
-                                    r12_10_0_0 = 0;
-                                    goto join_10;
-                                }
-                            }
-                            r5_2 = dfu_slots_read_counts(r39, 0);
-                            r11 = dfu_slots_read_counts(r39, r6613);
-                            if (!(r5_2 | r11)) {
-                                r9_0_045 = 1;
-                                r12_12_0_0 = 0;
-                                r12_12_3_0 = 0;
-                                r12_12_4_0 = 0;
-                                r12_4_0 = 2;
-                                r12_10_0_0 = 0;
-                            }
-                            else {
-                                uint8_t r15 = dfu_slots_places_is_newest(r39, 0, r6613, r5_2, r11);
-                                r72 = (uint32_t)(r15 ? 0 : r6613);
-                                r72_2 = (uint32_t)(r15 ? r6613 : 0);
-                                if (r72 == 0) {
-                                    uint8_t r24 = dfu_slots_places_is_newest(r39, 0, r72_2, r5_2, r11);
-                                    if (!r24) {
-                                        r9_0_045 = 1;
-                                        r12_12_0_0 = 0;
-                                        r12_12_3_0 = 0;
-                                        r12_12_4_0 = 0;
-                                        r12_4_0 = 2;
-                                        r12_10_0_0 = 0;
-                                        goto join_10;
-                                    }
-                                }
-                                else {
-                                    uint8_t r33 = dfu_slots_places_is_newest(r39, r72, r72_2, r11, r5_2);
-                                    if (!r33) {
-                                        r9_0_045 = 1;
-                                        r12_12_0_0 = 0;
-                                        r12_12_3_0 = 0;
-                                        r12_12_4_0 = 0;
-                                        r12_4_0 = 2;
-                                        r12_10_0_0 = 0;
-                                        goto join_10;
-                                    }
-                                }
-                                dfu_slots_read_header_of(r3_3, r39, r72);
-                                uint8_t r18 = r3_3[1];
-                                if (r18 != 2) {
-                                    uint8_t r29_2 = dfu_slots_layout_is_formed(r3_3, r69);
-                                    if (!r29_2) {
-                                        r9_0_045 = 1;
-                                        r12_12_0_0 = 0;
-                                        r12_12_3_0 = 0;
-                                        r12_12_4_0 = 0;
-                                        r12_4_0 = 2;
-                                        r12_10_0_0 = 0;
-                                        goto join_10;
-                                    }
-                                }
-                                r31 = dfu_boot_trial_marks_is_set(r39, r72, 0);
-                                if (!r31) {
-                                    uint8_t r41 = dfu_boot_trial_marks_is_set(r39, r72_2, 0);
-                                    if (r41) {
-                                        unsigned char *v6 = r3_4 + 8;
-                                        store64(v6, 0);
-                                        store64(r3_4, (size_t)(uintptr_t)r4);
-                                        store32(v6, r72);
-                                        if (!r17) {
-                                            if ((r69 % r1_0_0_copyload) != 0) goto dfu_boot_trial_looking_comes_back_exit_thread;
-                                        }
-                                        r5_3 = dfu_slots_read_counts_2(r3_4, 0);
-                                        size_t r3_5 = (size_t)load64(r2);
-                                        r11_2 = dfu_slots_read_counts_2(r3_4, (uint32_t)r3_5 >> 1);
-                                        if (r5_3 | r11_2) {
-                                            size_t r3_6 = (size_t)load64(r2);
-                                            uint8_t r15_2 = dfu_slots_places_is_newest_2(r3_4, 0, (uint32_t)r3_6 >> 1, r5_3, r11_2);
-                                            size_t r3_7 = (size_t)load64(r2);
-                                            uint32_t r72_3 = (uint32_t)r3_7 >> 1;
-                                            r72_4 = (uint32_t)(r15_2 ? 0 : r72_3);
-                                            r72_5 = (uint32_t)(r15_2 ? r72_3 : 0);
-                                            if (r72_4 == 0) {
-                                                uint8_t r24_2 = dfu_slots_places_is_newest_2(r3_4, 0, r72_5, r5_3, r11_2);
-                                                if (!r24_2) goto dfu_boot_trial_looking_comes_back_exit_thread;
-                                            }
-                                            else {
-                                                uint8_t r33_2 = dfu_slots_places_is_newest_2(r3_4, r72_4, r72_5, r11_2, r5_3);
-                                                if (!r33_2) goto dfu_boot_trial_looking_comes_back_exit_thread;
-                                            }
-                                            dfu_slots_read_header_of_2(r3_8, r3_4, r72_4);
-                                            uint8_t r18_2 = r3_8[1];
-                                            if (r18_2 != 2) {
-                                                uint32_t r26 = dfu_slots_layout_capacity_of_2(r3_4);
-                                                uint8_t r29_3 = dfu_slots_layout_is_formed(r3_8, r26);
-                                                if (!r29_3) goto after_5;
-                                            }
-                                            r1_0 = 0;
-                                            for (;;) {
-                                                if (r1_0 == r56) {
-                                                    r9_820_0_0 = 1;
-                                                    r9_15_0 = r72_2;
-                                                    r9_17_0 = r56;
-                                                    goto arm_8;
-                                                }
-                                                uint32_t r11_3 = r1_0 + 1;
-                                                uint8_t r13 = dfu_boot_trial_marks_is_set(r4, r72, r11_3);
-                                                if (!r13) {
-                                                    r9_820_0_0 = 1;
-                                                    r9_15_0 = r72_2;
-                                                    r9_17_0 = r1_0;
-                                                    goto arm_8;
-                                                }
-                                                r1_0 = r11_3;
-                                            }
-                                        }
-dfu_boot_trial_looking_comes_back_exit_thread:;
-                                    }
-                                }
-after_5:
-                                r9_820_0_0 = 0;
-                                r9_15_0 = (uint32_t)r31;
-                                r9_17_0 = 0;
-arm_8:
-                                memcpy(r12_8 + 5, r4, 24);
-                                r9_0_045 = 0;
-                                r12_12_0_0 = r72;
-                                r12_12_3_0 = r9_15_0;
-                                r12_12_4_0 = r9_17_0;
-                                r12_4_0 = 0;
-                                r12_10_0_0 = r9_820_0_0;
-                            }
-                        }
-                    }
+                    memcpy(r7_8 + 5, r6 + 8, 24);
+                    r7_0_0 = 0;
+                    r7_4_0 = 0;
                 }
-join_10:
-                *a0 = r9_0_045;
-                a0[1] = r12_4_0;
+                *a0 = r7_0_0;
+                a0[1] = r7_4_0;
                 a0[2] = 0;
-                memcpy(a0 + 8, r12_8 + 5, 24);
-                store32(a0 + 32, r12_10_0_0);
-                store32(a0 + 36, r12_12_0_0);
-                store32(a0 + 40, r12_12_3_0);
-                store32(a0 + 44, r12_12_4_0);
+                memcpy(a0 + 8, r7_8 + 5, 24);
                 return;
             }
-            r6_4_0 = 1;
-            r6_7_0 = 1;
+            r5_4_0 = 1;
+            r5_7_0 = 1;
         }
     }
-    r6_7_039 = r6_7_0;
-    r6_4_038 = r6_4_0;
+    r5_7_013 = r5_7_0;
+    r5_4_012 = r5_4_0;
 arm_1:
     *a0 = 1;
-    a0[1] = r6_4_038;
-    a0[2] = r6_7_039;
-    memset(a0 + 8, 0, 40);
+    a0[1] = r5_4_012;
+    a0[2] = r5_7_013;
+    memset(a0 + 8, 0, 24);
     return;
 }
 
 /* dfu_boot_c::trial::flash::medium_of: crates/dfu_boot_c/src/trial/flash.rt */
 static void dfu_boot_c_trial_flash_medium_of(unsigned char *a0, unsigned char *a1, unsigned char *a2, size_t a3) {
-    _Alignas(4) unsigned char r0_10[3];
     uint8_t r9, r0_9_0;
     uint32_t r24, r0_11_0;
     size_t r0_0_0_0, r0_5_0, r0_8_0;
@@ -531,8 +460,7 @@ static void dfu_boot_c_trial_flash_medium_of(unsigned char *a0, unsigned char *a
         return;
     }
     r24 = load32(a1 + 4);
-    if (!((r24 < 0x20001U) & ((r24 & 255) == 0))) {
-        memset(r0_10, 0, 3);
+    if ((wide(a3) > 0xffffffffU) | ((r24 > 0x20000U) | ((r24 & 255) != 0))) {
         r0_0_0_0 = 0;
         r0_5_0 = 0;
         r0_8_0 = 0;
@@ -540,28 +468,16 @@ static void dfu_boot_c_trial_flash_medium_of(unsigned char *a0, unsigned char *a
         r0_11_0 = 0;
     }
     else {
-        if (wide(a3) > 0xffffffffU) {
-            memset(r0_10, 0, 3);
-            r0_0_0_0 = 0;
-            r0_5_0 = 0;
-            r0_8_0 = 0;
-            r0_9_0 = 0;
-            r0_11_0 = 0;
-        }
-        else {
-            memset(r0_10, 0, 3);
-            r0_0_0_0 = 1;
-            r0_5_0 = (size_t)(uintptr_t)a2;
-            r0_8_0 = a3;
-            r0_9_0 = r9;
-            r0_11_0 = r24;
-        }
+        r0_0_0_0 = 1;
+        r0_5_0 = (size_t)(uintptr_t)a2;
+        r0_8_0 = a3;
+        r0_9_0 = r9;
+        r0_11_0 = r24;
     }
     store64(a0, r0_0_0_0);
     store64(a0 + 8, r0_5_0);
     store64(a0 + 16, r0_8_0);
     a0[24] = r0_9_0;
-    memcpy(a0 + 25, r0_10, 3);
     store32(a0 + 28, r0_11_0);
     return;
 }
@@ -571,18 +487,49 @@ static uint8_t dfu_boot_c_trial_flash_unit_sized(uint32_t a0) {
     return (uint8_t)((a0 < 16) ? 0 : (uint8_t)((a0 < 64) ? 1 : (uint8_t)((a0 < 256) ? 2 : 3)));
 }
 
-/* dfu_slots::read::counts::<#1e2975bbbe5176a9>: crates/dfu_slots/src/read.rt */
+/* dfu_slots::layout::is_sized::<#f31be65e8793cebb>: crates/dfu_slots/src/layout.rt */
+static uint8_t dfu_slots_layout_is_sized(unsigned char *a0) {
+    uint32_t r1_0_0_copyload, a0_a1, r5, r69;
+    size_t v0;
+    uint8_t common_ret_op;
+    r1_0_0_copyload = load32(a0 + 20);
+    if (!((r1_0_0_copyload < 0x20001U) & ((r1_0_0_copyload & 255) == 0))) common_ret_op = 0;
+    else {
+        uint8_t r0_0_0_copyload = a0[16];
+        v0 = (size_t)r0_0_0_copyload;
+        uint32_t switch_load = load32(PLACE(switch_table_dfu_slots_layout_gate_of) + 4 * v0);
+        a0_a1 = umax32(r1_0_0_copyload, switch_load);
+        size_t r3 = (size_t)load64(a0 + 8);
+        r5 = (uint32_t)r3;
+        uint32_t pre = a0_a1 << 2;
+        if (!(((pre + 0x2000000U) >= r5) & (((r5 & 1) == 0) ? (pre < r5) : !(r3 & 1)))) common_ret_op = 0;
+        else {
+            r69 = (r5 >> 1) - (a0_a1 << 1);
+            uint32_t switch_load_2 = load32(PLACE(switch_table_dfu_slots_layout_is_sized) + 4 * v0);
+            if ((switch_load_2 & r69) != 0) common_ret_op = 0;
+            else {
+                if (r1_0_0_copyload == 0) common_ret_op = 1;
+                else {
+                    common_ret_op = (r69 % r1_0_0_copyload) == 0;
+                }
+            }
+        }
+    }
+    return common_ret_op;
+}
+
+/* dfu_slots::read::counts::<#f31be65e8793cebb>: crates/dfu_slots/src/read.rt */
 static uint8_t dfu_slots_read_counts(unsigned char *a0, uint32_t a1) {
-    _Alignas(1) unsigned char r2_2[64];
+    _Alignas(1) unsigned char r2[64];
     _Alignas(1) unsigned char r3_2[16];
     _Alignas(1) unsigned char r3[16];
-    _Alignas(4) unsigned char r1[4];
     uint8_t r1_2_0_copyload, r1_3_0_copyload, r1_4_0_copyload;
-    uint32_t r1_5_0_copyload, r1_6_0_copyload, r1_7_0_copyload, r3_0;
-    unsigned char *r1_2, *r2_3;
+    uint32_t r1_5_0_copyload, r1_6_0_copyload, r1_7_0_copyload, r1_0_0, r3_0, a1_a0, r3_0_2;
+    unsigned char *r1, *r2_2;
+    size_t r28, r4_0;
     uint8_t common_ret_op, r1_0_in;
-    uint8_t r2 = dfu_slots_read_byte_at(a0, a1);
-    if (r2 != 165) r1_0_in = 0;
+    uint8_t r8 = dfu_slots_read_is_open(a0, a1);
+    if (!r8) r1_0_in = 0;
     else {
         dfu_slots_read_header_of(r3, a0, a1);
         uint8_t r4_2_0_copyload = r3[1];
@@ -598,24 +545,34 @@ static uint8_t dfu_slots_read_counts(unsigned char *a0, uint32_t a1) {
             uint32_t r10 = dfu_slots_layout_capacity_of(a0);
             if (r10 < r1_5_0_copyload) common_ret_op = 0;
             else {
-                store32(r1, 0xffffffffU);
-                memset(r2_2, 0, 64);
-                r1_2 = a0 + 16;
-                r2_3 = a0 + 20;
+                memset(r2, 0, 64);
+                r1 = a0 + 16;
+                r2_2 = a0 + 20;
+                r1_0_0 = 0xffffffffU;
                 r3_0 = 0;
                 while (r3_0 < r1_5_0_copyload) {
-                    uint32_t a1_a0 = umin32(r1_5_0_copyload - r3_0, 64);
-                    size_t r28 = (size_t)a1_a0;
-                    uint8_t r0_0_0_copyload = *r1_2;
-                    uint32_t r1_0_0_copyload = load32(r2_3);
+                    a1_a0 = umin32(r1_5_0_copyload - r3_0, 64);
+                    r28 = (size_t)a1_a0;
+                    uint8_t r0_0_0_copyload = *r1;
+                    uint32_t r1_0_0_copyload = load32(r2_2);
                     uint32_t switch_load = load32(PLACE(switch_table_dfu_slots_layout_gate_of) + 4 * (size_t)r0_0_0_copyload);
                     size_t r5_0_0_copyload = (size_t)load64(a0);
-                    core_slice_edits_slice_T_copy_from_slice_i8_core_clone_U8Clone(r2_2, (unsigned char *)(uintptr_t)r5_0_0_copyload + (size_t)((r3_0 + a1) + (umax32(r1_0_0_copyload, switch_load) << 1)), r28);
-                    dfu_suffix_crc_Crc_update_small(r1, r2_2, r28);
+                    core_slice_edits_slice_T_copy_from_slice_i8_core_clone_U8Clone(r2, (unsigned char *)(uintptr_t)r5_0_0_copyload + (size_t)((r3_0 + a1) + (umax32(r1_0_0_copyload, switch_load) << 1)), r28);
+                    r4_0 = 0;
+                    r3_0_2 = r1_0_0;
+                    while (r4_0 != r28) {
+                        uint8_t r23 = r2[r4_0];
+                        uint32_t r6 = r3_0_2 ^ (uint32_t)r23;
+                        uint32_t r20 = load32(PLACE(static_1) + (size_t)((r6 << 2) & 60));
+                        uint32_t r23_2 = (r6 >> 4) ^ r20;
+                        uint32_t r20_2 = load32(PLACE(static_1) + (size_t)((r23_2 << 2) & 60));
+                        r4_0 = r4_0 + 1;
+                        r3_0_2 = (r23_2 >> 4) ^ r20_2;
+                    }
+                    r1_0_0 = r3_0_2;
                     r3_0 = a1_a0 + r3_0;
                 }
-                uint32_t r0_0_0_copyload_2 = load32(r1);
-                common_ret_op = ((((r1_2_0_copyload == 2) ? (r1_3_0_copyload == 0) : 0) ? (r1_4_0_copyload == 0) : 0) ? (r1_6_0_copyload == r0_0_0_copyload_2) : 0) ? (r1_7_0_copyload == 0) : 0;
+                common_ret_op = ((((r1_2_0_copyload == 2) ? (r1_3_0_copyload == 0) : 0) ? (r1_4_0_copyload == 0) : 0) ? (r1_6_0_copyload == r1_0_0) : 0) ? (r1_7_0_copyload == 0) : 0;
             }
             r1_0_in = common_ret_op;
         }
@@ -623,7 +580,13 @@ static uint8_t dfu_slots_read_counts(unsigned char *a0, uint32_t a1) {
     return r1_0_in;
 }
 
-/* dfu_slots::read::byte_at::<#1e2975bbbe5176a9>: crates/dfu_slots/src/read.rt */
+/* dfu_slots::read::is_open::<#f31be65e8793cebb>: crates/dfu_slots/src/read.rt */
+static uint8_t dfu_slots_read_is_open(unsigned char *a0, uint32_t a1) {
+    uint8_t r2 = dfu_slots_read_byte_at(a0, a1);
+    return r2 == 165;
+}
+
+/* dfu_slots::read::byte_at::<#f31be65e8793cebb>: crates/dfu_slots/src/read.rt */
 static uint8_t dfu_slots_read_byte_at(unsigned char *a0, uint32_t a1) {
     _Alignas(4) unsigned char r1[1];
     *r1 = 0;
@@ -633,7 +596,7 @@ static uint8_t dfu_slots_read_byte_at(unsigned char *a0, uint32_t a1) {
     return r15;
 }
 
-/* dfu_slots::read::header_of::<#1e2975bbbe5176a9>: crates/dfu_slots/src/read.rt */
+/* dfu_slots::read::header_of::<#f31be65e8793cebb>: crates/dfu_slots/src/read.rt */
 static void dfu_slots_read_header_of(unsigned char *a0, unsigned char *a1, uint32_t a2) {
     _Alignas(1) unsigned char r1[16];
     memset(r1, 0, 16);
@@ -646,7 +609,7 @@ static void dfu_slots_read_header_of(unsigned char *a0, unsigned char *a1, uint3
     return;
 }
 
-/* dfu_slots::layout::capacity_of::<#1e2975bbbe5176a9>: crates/dfu_slots/src/layout.rt */
+/* dfu_slots::layout::capacity_of::<#f31be65e8793cebb>: crates/dfu_slots/src/layout.rt */
 static uint32_t dfu_slots_layout_capacity_of(unsigned char *a0) {
     size_t r3 = (size_t)load64(a0 + 8);
     uint8_t r0_0_0_copyload = a0[16];
@@ -655,27 +618,7 @@ static uint32_t dfu_slots_layout_capacity_of(unsigned char *a0) {
     return ((uint32_t)r3 >> 1) - (umax32(r1_0_0_copyload, switch_load) << 1);
 }
 
-/* dfu_suffix::crc::Crc::update_small: crates/dfu_suffix/src/crc.rt */
-static void dfu_suffix_crc_Crc_update_small(unsigned char *a0, unsigned char *a1, size_t a2) {
-    size_t r4_0;
-    uint32_t r3_0;
-    uint32_t r5 = load32(a0);
-    r4_0 = 0;
-    r3_0 = r5;
-    while (r4_0 != a2) {
-        uint8_t r23 = a1[r4_0];
-        uint32_t r6 = r3_0 ^ (uint32_t)r23;
-        uint32_t r20 = load32(PLACE(static_1) + (size_t)((r6 << 2) & 60));
-        uint32_t r23_2 = (r6 >> 4) ^ r20;
-        uint32_t r20_2 = load32(PLACE(static_1) + (size_t)((r23_2 << 2) & 60));
-        r4_0 = r4_0 + 1;
-        r3_0 = (r23_2 >> 4) ^ r20_2;
-    }
-    store32(a0, r3_0);
-    return;
-}
-
-/* dfu_slots::places::is_newest::<#1e2975bbbe5176a9>: crates/dfu_slots/src/places.rt */
+/* dfu_slots::places::is_newest::<#f31be65e8793cebb>: crates/dfu_slots/src/places.rt */
 static uint8_t dfu_slots_places_is_newest(unsigned char *a0, uint32_t a1, uint32_t a2, uint8_t a3, uint8_t a4) {
     uint8_t r1_0_in;
     if (!(a3 & a4)) r1_0_in = a3;
@@ -687,7 +630,7 @@ static uint8_t dfu_slots_places_is_newest(unsigned char *a0, uint32_t a1, uint32
     return r1_0_in;
 }
 
-/* dfu_slots::read::generation::<#1e2975bbbe5176a9>: crates/dfu_slots/src/read.rt */
+/* dfu_slots::read::generation::<#f31be65e8793cebb>: crates/dfu_slots/src/read.rt */
 static uint8_t dfu_slots_read_generation(unsigned char *a0, uint32_t a1) {
     uint8_t r0_0_0_copyload = a0[16];
     uint32_t r1_0_0_copyload = load32(a0 + 20);
@@ -696,35 +639,30 @@ static uint8_t dfu_slots_read_generation(unsigned char *a0, uint32_t a1) {
     return r7;
 }
 
-/* dfu_slots::layout::is_formed: crates/dfu_slots/src/layout.rt */
-static uint8_t dfu_slots_layout_is_formed(unsigned char *a0, uint32_t a1) {
-    uint8_t r1_0_in;
-    uint32_t r17 = load32u(a0 + 4);
-    if (r17 > a1) r1_0_in = 0;
+/* dfu_slots::read::header_len::<#f31be65e8793cebb>: crates/dfu_slots/src/read.rt */
+static uint8_t dfu_slots_read_header_len(unsigned char *a0, uint32_t a1) {
+    _Alignas(1) unsigned char r3[16];
+    uint8_t r1_2_0_copyload, r0_0_0_0;
+    uint32_t r1_9_0_copyload;
+    dfu_slots_read_header_of(r3, a0, a1);
+    r1_2_0_copyload = r3[1];
+    r1_9_0_copyload = load32u(r3 + 12);
+    if (r1_2_0_copyload == 2) r0_0_0_0 = 1;
     else {
-        uint8_t r13 = a0[1];
-        if (r13 != 1) r1_0_in = 0;
+        uint32_t r1_6_0_copyload = load32u(r3 + 4);
+        uint32_t r1_8_0_copyload = load32u(r3 + 8);
+        uint8_t r1_5_0_copyload = r3[3];
+        uint8_t r1_4_0_copyload = r3[2];
+        uint32_t r26 = dfu_slots_layout_capacity_of(a0);
+        if (((((r1_2_0_copyload == 1) & (r1_6_0_copyload <= r26)) ? (r1_4_0_copyload == 0) : 0) ? (r1_5_0_copyload == 0) : 0) ? (r1_8_0_copyload == 0) : 0) r0_0_0_0 = r1_9_0_copyload == 0;
         else {
-            uint8_t r25 = a0[2];
-            if (r25 != 0) r1_0_in = 0;
-            else {
-                uint8_t r37 = a0[3];
-                if (r37 != 0) r1_0_in = 0;
-                else {
-                    uint32_t r17_2 = load32u(a0 + 8);
-                    if (r17_2 != 0) r1_0_in = 0;
-                    else {
-                        uint32_t r17_3 = load32u(a0 + 12);
-                        r1_0_in = r17_3 == 0;
-                    }
-                }
-            }
+            r0_0_0_0 = 0;
         }
     }
-    return r1_0_in;
+    return r0_0_0_0;
 }
 
-/* dfu_boot::trial::marks::is_set::<#1e2975bbbe5176a9>: crates/dfu_boot/src/trial/marks.rt */
+/* dfu_boot::trial::marks::is_set::<#f31be65e8793cebb>: crates/dfu_boot/src/trial/marks.rt */
 static uint8_t dfu_boot_trial_marks_is_set(unsigned char *a0, uint32_t a1, uint32_t a2) {
     _Alignas(1) unsigned char r1[256];
     unsigned char *r4_0_0_in;
@@ -750,126 +688,24 @@ static uint8_t dfu_boot_trial_marks_is_set(unsigned char *a0, uint32_t a1, uint3
     return r7_not_not_not_not_not_not_not_not_not_not_not_not_not;
 }
 
-/* dfu_slots::read::counts::<#513f0be27ee7ff3e>: crates/dfu_slots/src/read.rt */
-static uint8_t dfu_slots_read_counts_2(unsigned char *a0, uint32_t a1) {
-    _Alignas(1) unsigned char r2_2[64];
-    _Alignas(1) unsigned char r3_2[16];
-    _Alignas(1) unsigned char r3[16];
-    _Alignas(4) unsigned char r1[4];
-    uint8_t r1_2_0_copyload, r1_3_0_copyload, r1_4_0_copyload;
-    uint32_t r1_5_0_copyload, r1_6_0_copyload, r1_7_0_copyload, r3_0;
-    uint8_t common_ret_op, r1_0_in;
-    uint8_t r2 = dfu_slots_read_byte_at_2(a0, a1);
-    if (r2 != 165) r1_0_in = 0;
-    else {
-        dfu_slots_read_header_of_2(r3, a0, a1);
-        uint8_t r4_2_0_copyload = r3[1];
-        if (r4_2_0_copyload != 2) r1_0_in = 1;
-        else {
-            dfu_slots_read_header_of_2(r3_2, a0, a1);
-            r1_2_0_copyload = r3_2[1];
-            r1_3_0_copyload = r3_2[2];
-            r1_4_0_copyload = r3_2[3];
-            r1_5_0_copyload = load32u(r3_2 + 4);
-            r1_6_0_copyload = load32u(r3_2 + 8);
-            r1_7_0_copyload = load32u(r3_2 + 12);
-            uint32_t r10 = dfu_slots_layout_capacity_of_2(a0);
-            if (r10 < r1_5_0_copyload) common_ret_op = 0;
-            else {
-                store32(r1, 0xffffffffU);
-                memset(r2_2, 0, 64);
-                r3_0 = 0;
-                while (r3_0 < r1_5_0_copyload) {
-                    uint32_t a1_a0 = umin32(r1_5_0_copyload - r3_0, 64);
-                    size_t r28 = (size_t)a1_a0;
-                    size_t r2_wide = (size_t)load64(a0);
-                    unsigned char *r2_3 = (unsigned char *)(uintptr_t)r2_wide;
-                    uint8_t r0_0_0_copyload = r2_3[16];
-                    uint32_t r1_0_0_copyload = load32u(r2_3 + 20);
-                    uint32_t switch_load = load32(PLACE(switch_table_dfu_slots_layout_gate_of) + 4 * (size_t)r0_0_0_copyload);
-                    dfu_boot_trial_closed_ClosedMedium_read(a0, (r3_0 + a1) + (umax32(r1_0_0_copyload, switch_load) << 1), r2_2, r28);
-                    dfu_suffix_crc_Crc_update_small(r1, r2_2, r28);
-                    r3_0 = a1_a0 + r3_0;
-                }
-                uint32_t r0_0_0_copyload_2 = load32(r1);
-                common_ret_op = ((((r1_2_0_copyload == 2) ? (r1_3_0_copyload == 0) : 0) ? (r1_4_0_copyload == 0) : 0) ? (r1_6_0_copyload == r0_0_0_copyload_2) : 0) ? (r1_7_0_copyload == 0) : 0;
-            }
-            r1_0_in = common_ret_op;
+/* dfu_boot::trial::marks::starts::<#f31be65e8793cebb>: crates/dfu_boot/src/trial/marks.rt */
+static uint32_t dfu_boot_trial_marks_starts(unsigned char *a0, uint32_t a1, uint32_t a2) {
+    uint32_t r1_0, r1_0_lcssa;
+    r1_0 = 0;
+    for (;;) {
+        if (r1_0 == a1) {
+            r1_0_lcssa = a1;
+            break;
         }
+        uint32_t r11 = r1_0 + 1;
+        uint8_t r13 = dfu_boot_trial_marks_is_set(a0, a2, r11);
+        if (!r13) {
+            r1_0_lcssa = r1_0;
+            break;
+        }
+        r1_0 = r11;
     }
-    return r1_0_in;
-}
-
-/* dfu_slots::read::byte_at::<#513f0be27ee7ff3e>: crates/dfu_slots/src/read.rt */
-static uint8_t dfu_slots_read_byte_at_2(unsigned char *a0, uint32_t a1) {
-    _Alignas(4) unsigned char r1[1];
-    *r1 = 0;
-    dfu_boot_trial_closed_ClosedMedium_read(a0, a1, r1, 1);
-    uint8_t r15 = *r1;
-    return r15;
-}
-
-/* dfu_boot::trial::closed::ClosedMedium::read::<#1e2975bbbe5176a9>: crates/dfu_boot/src/trial/closed.rt */
-static void dfu_boot_trial_closed_ClosedMedium_read(unsigned char *a0, uint32_t a1, unsigned char *a2, size_t a3) {
-    uint32_t r29;
-    size_t r40;
-    size_t r18_wide = (size_t)load64(a0);
-    size_t r5_0_0_copyload = (size_t)load64u((unsigned char *)(uintptr_t)r18_wide);
-    core_slice_edits_slice_T_copy_from_slice_i8_core_clone_U8Clone(a2, (unsigned char *)(uintptr_t)r5_0_0_copyload + (size_t)a1, a3);
-    r29 = load32(a0 + 8);
-    if (a1 > r29) return;
-    r40 = (size_t)(r29 - a1);
-    if (a3 <= r40) return;
-    a2[r40] = 0;
-    return;
-}
-
-/* dfu_slots::read::header_of::<#513f0be27ee7ff3e>: crates/dfu_slots/src/read.rt */
-static void dfu_slots_read_header_of_2(unsigned char *a0, unsigned char *a1, uint32_t a2) {
-    _Alignas(1) unsigned char r1[16];
-    memset(r1, 0, 16);
-    size_t r2_wide = (size_t)load64(a1);
-    unsigned char *r2 = (unsigned char *)(uintptr_t)r2_wide;
-    uint8_t r0_0_0_copyload = r2[16];
-    uint32_t r1_0_0_copyload = load32u(r2 + 20);
-    uint32_t switch_load = load32(PLACE(switch_table_dfu_slots_layout_gate_of) + 4 * (size_t)r0_0_0_copyload);
-    dfu_boot_trial_closed_ClosedMedium_read(a1, umax32(r1_0_0_copyload, switch_load) + a2, r1, 16);
-    memcpy(a0, r1, 16);
-    return;
-}
-
-/* dfu_slots::layout::capacity_of::<#513f0be27ee7ff3e>: crates/dfu_slots/src/layout.rt */
-static uint32_t dfu_slots_layout_capacity_of_2(unsigned char *a0) {
-    size_t r2_wide = (size_t)load64(a0);
-    unsigned char *r2 = (unsigned char *)(uintptr_t)r2_wide;
-    size_t r3 = (size_t)load64(r2 + 8);
-    uint8_t r0_0_0_copyload = r2[16];
-    uint32_t r1_0_0_copyload = load32(r2 + 20);
-    uint32_t switch_load = load32(PLACE(switch_table_dfu_slots_layout_gate_of) + 4 * (size_t)r0_0_0_copyload);
-    return ((uint32_t)r3 >> 1) - (umax32(r1_0_0_copyload, switch_load) << 1);
-}
-
-/* dfu_slots::places::is_newest::<#513f0be27ee7ff3e>: crates/dfu_slots/src/places.rt */
-static uint8_t dfu_slots_places_is_newest_2(unsigned char *a0, uint32_t a1, uint32_t a2, uint8_t a3, uint8_t a4) {
-    uint8_t r1_0_in;
-    if (!(a3 & a4)) r1_0_in = a3;
-    else {
-        uint8_t r13 = dfu_slots_read_generation_2(a0, a1);
-        uint8_t r14 = dfu_slots_read_generation_2(a0, a2);
-        r1_0_in = r13 == (uint8_t)(r14 + 1);
-    }
-    return r1_0_in;
-}
-
-/* dfu_slots::read::generation::<#513f0be27ee7ff3e>: crates/dfu_slots/src/read.rt */
-static uint8_t dfu_slots_read_generation_2(unsigned char *a0, uint32_t a1) {
-    size_t r2_wide = (size_t)load64(a0);
-    unsigned char *r2 = (unsigned char *)(uintptr_t)r2_wide;
-    uint8_t r0_0_0_copyload = r2[16];
-    uint32_t r1_0_0_copyload = load32u(r2 + 20);
-    uint32_t switch_load = load32(PLACE(switch_table_dfu_slots_layout_gate_of) + 4 * (size_t)r0_0_0_copyload);
-    uint8_t r7 = dfu_slots_read_byte_at_2(a0, umax32(r1_0_0_copyload, switch_load) + a1);
-    return r7;
+    return r1_0_lcssa;
 }
 
 /* dfu_boot_c::trial::told::tell: crates/dfu_boot_c/src/trial/told.rt */
@@ -901,7 +737,7 @@ static uint32_t dfu_boot_c_trial_told_tell(unsigned char *a0, uint32_t a1, unsig
     return r15_0;
 }
 
-/* dfu_boot_c::trial::told::image_in::<#1e2975bbbe5176a9>: crates/dfu_boot_c/src/trial/told.rt */
+/* dfu_boot_c::trial::told::image_in::<#f31be65e8793cebb>: crates/dfu_boot_c/src/trial/told.rt */
 static struct i32_i32 dfu_boot_c_trial_told_image_in(unsigned char *a0, uint32_t a1) {
     _Alignas(1) unsigned char r3[16];
     uint8_t r0_0_0_copyload = a0[16];
@@ -914,6 +750,203 @@ static struct i32_i32 dfu_boot_c_trial_told_image_in(unsigned char *a0, uint32_t
     struct i32_i32 r12 = r12_half;
     r12.b = r4_2_0_copyload;
     return r12;
+}
+
+/* dfu_boot_c::trial::again::start_from: crates/dfu_boot_c/src/trial/again.rt */
+static uint32_t dfu_boot_c_trial_again_start_from(unsigned char *a0, unsigned char *a1, size_t a2, unsigned char *a3, unsigned char *a4, unsigned char *a5) {
+    _Alignas(8) unsigned char r15[48];
+    _Alignas(8) unsigned char r3_3[40];
+    _Alignas(8) unsigned char r9[32];
+    _Alignas(8) unsigned char r3[24];
+    _Alignas(4) unsigned char r6_10_0[24];
+    _Alignas(4) unsigned char r13_2[16];
+    _Alignas(4) unsigned char r6_15[12];
+    unsigned char *r7, *r46;
+    uint8_t r8_not, r12, r27, r112, v5;
+    uint32_t r3_4_0, r47, r48, r914, r4_0_0_extract_trunc, r4_4_0_extract_trunc, r11_15_0, r11_17_0, r8_3_4_copyload, r8_5_4_copyload, r8_6_4_copyload, r19;
+    uint32_t r9_0_0, r9_4_0, r9_6_0, r9_8_0, r9_10_0, r9_12_0, r7_0;
+    uint8_t r11_9_0_0, r84, v3, v4, r6_7_016, r6_4_015;
+    dfu_boot_c_trial_flash_prepared(r9, a0, a1, a2);
+    uint8_t r1_0_0_copyload = *r9;
+    if (r1_0_0_copyload != 0) {
+        uint8_t r1_5_2_copyload = r9[2];
+        uint8_t r1_3_1_copyload = r9[1];
+        r6_7_016 = r1_5_2_copyload;
+        r6_4_015 = r1_3_1_copyload;
+    }
+    else {
+        r7 = r9 + 8;
+        memcpy(r3, r7, 24);
+        uint32_t r6 = load32(a3 + 16);
+        r8_not = r6 == 0;
+        if (r8_not) r3_4_0 = 0;
+        else {
+            uint32_t r13 = load32(a3 + 8);
+            r3_4_0 = r13;
+        }
+        r46 = a0 + 8;
+        r47 = load32(r46);
+        r48 = load32(a3);
+        uint8_t r59 = dfu_slots_layout_is_sized(r3);
+        if (r59) {
+            size_t r3_2 = (size_t)load64(r3 + 8);
+            r914 = (uint32_t)r3_2 >> 1;
+            uint8_t r0_0_0_copyload = r3[16];
+            uint32_t r1_0_0_copyload_2 = load32(r3 + 20);
+            uint32_t switch_load = load32(PLACE(switch_table_dfu_slots_layout_gate_of) + 4 * (size_t)r0_0_0_copyload);
+            uint32_t r5 = umax32(r1_0_0_copyload_2, switch_load) << 1;
+            r12 = r48 != r5;
+            r27 = r48 != (r5 + r914);
+            if (!(r12 & r27)) {
+                uint64_t r15_5_0 = (uint64_t)(r12 ? (size_t)(uint32_t)(r27 ? 0 : r914) : ((uint64_t)(size_t)r914 << 32));
+                r4_0_0_extract_trunc = (uint32_t)r15_5_0;
+                r4_4_0_extract_trunc = (uint32_t)(size_t)(r15_5_0 >> 32);
+                uint8_t r10 = dfu_slots_read_is_open(r7, r4_0_0_extract_trunc);
+                if (r10) {
+                    uint8_t r23 = dfu_slots_read_is_open(r7, r4_4_0_extract_trunc);
+                    if (r23) {
+                        uint8_t r32 = dfu_slots_read_generation(r7, r4_0_0_extract_trunc);
+                        uint8_t r35 = dfu_slots_read_generation(r7, r4_4_0_extract_trunc);
+                        if (r32 != (uint8_t)(r35 + 1)) goto arm_6;
+                    }
+                    r112 = dfu_boot_trial_marks_is_set(r7, r4_0_0_extract_trunc, 0);
+                    if (!r112) {
+                        uint8_t r123 = dfu_slots_read_is_open(r7, r4_4_0_extract_trunc);
+                        if (r123) {
+                            uint8_t r138 = dfu_boot_trial_marks_is_set(r7, r4_4_0_extract_trunc, 0);
+                            if (r138) {
+                                if (r8_not) goto arm_6;
+                                if (r3_4_0 != ((r48 - r4_0_0_extract_trunc) + r4_4_0_extract_trunc)) goto arm_6;
+                                uint32_t r227 = dfu_boot_trial_marks_starts(r7, r47, r4_0_0_extract_trunc);
+                                r11_9_0_0 = 1;
+                                r11_15_0 = r4_4_0_extract_trunc;
+                                r11_17_0 = r227;
+                                goto arm_5;
+                            }
+                        }
+                    }
+                    r11_9_0_0 = 0;
+                    r11_15_0 = (uint32_t)r112;
+                    r11_17_0 = 0;
+arm_5:
+                    memcpy(r15 + 8, r7, 24);
+                    store32(r15 + 36, r4_0_0_extract_trunc);
+                    store32(r15 + 40, r11_15_0);
+                    store32(r15 + 44, r11_17_0);
+                    r84 = r11_9_0_0;
+                    v3 = 0;
+                    v4 = 0;
+                    v5 = 1;
+                    goto dfu_boot_c_trial_again_looked_again_exit;
+                }
+            }
+        }
+arm_6:
+        dfu_boot_c_trial_flash_looked(r15, a0, a1, a2);
+        uint8_t pre = *r15;
+        uint8_t pre60 = r15[1];
+        uint8_t pre61 = r15[2];
+        uint8_t r84_pre = r15[32];
+        r84 = r84_pre;
+        v3 = pre61;
+        v4 = pre60;
+        v5 = pre == 0;
+dfu_boot_c_trial_again_looked_again_exit:
+        memcpy(r6_10_0, r15 + 8, 24);
+        memcpy(r6_15, r15 + 36, 12);
+        if (v5) {
+            memcpy(r3_3, r6_10_0, 24);
+            store32(r3_3 + 24, (uint32_t)r84);
+            unsigned char *r24 = r3_3 + 28;
+            memcpy(r24, r6_15, 12);
+            r8_3_4_copyload = load32(r24);
+            r8_5_4_copyload = load32(r3_3 + 32);
+            r8_6_4_copyload = load32(r3_3 + 36);
+            if (r84 == 0) {
+                r9_0_0 = 0;
+                r9_4_0 = 0;
+                r9_6_0 = 0;
+                r9_8_0 = 0;
+                r9_10_0 = r8_3_4_copyload;
+                r9_12_0 = r8_3_4_copyload;
+            }
+            else {
+                uint32_t r32_2 = load32(r46);
+                if (r8_6_4_copyload >= r32_2) {
+                    r9_0_0 = 1;
+                    r9_4_0 = 1;
+                    r9_6_0 = r8_3_4_copyload;
+                    r9_8_0 = 0;
+                    r9_10_0 = r8_5_4_copyload;
+                    r9_12_0 = r8_5_4_copyload;
+                }
+                else {
+                    uint8_t r0_0_0_copyload_2 = r3_3[16];
+                    uint32_t switch_load_2 = load32(PLACE(switch_table_dfu_slots_layout_gate_of) + 4 * (size_t)r0_0_0_copyload_2);
+                    uint32_t r1_0_0_copyload_3 = load32(r3_3 + 20);
+                    r19 = ((switch_load_2 + r8_3_4_copyload) + (switch_load_2 * (r8_6_4_copyload + 1))) + umax32(r1_0_0_copyload_3, switch_load_2);
+                    switch (r0_0_0_copyload_2) {
+                    case 0:
+                    case 1:
+                        r9_0_0 = 1;
+                        r9_4_0 = 0;
+                        r9_6_0 = r19;
+                        r9_8_0 = 16;
+                        r9_10_0 = r8_3_4_copyload;
+                        r9_12_0 = r8_5_4_copyload;
+                        break;
+                    case 2:
+                        r9_0_0 = 1;
+                        r9_4_0 = 0;
+                        r9_6_0 = r19;
+                        r9_8_0 = 64;
+                        r9_10_0 = r8_3_4_copyload;
+                        r9_12_0 = r8_5_4_copyload;
+                        break;
+                    case 3:
+                        r9_0_0 = 1;
+                        r9_4_0 = 0;
+                        r9_6_0 = r19;
+                        r9_8_0 = 256;
+                        r9_10_0 = r8_3_4_copyload;
+                        r9_12_0 = r8_5_4_copyload;
+                        break;
+                    default: never();
+                    }
+                }
+            }
+            struct i32_i32 r6_2 = dfu_boot_c_trial_told_image_in(r3_3, r9_10_0);
+            struct i32_i32 r12_2 = dfu_boot_c_trial_told_image_in(r3_3, r9_12_0);
+            store32(a5, r6_2.a);
+            store32(a5 + 4, r6_2.b);
+            store32(a5 + 8, r12_2.a);
+            store32(a5 + 12, r12_2.b);
+            store32(r13_2, r9_0_0);
+            store32(r13_2 + 4, r9_4_0);
+            store32(r13_2 + 8, r9_6_0);
+            store32(r13_2 + 12, r9_8_0);
+            uint32_t r47_2 = load32(a0 + 4);
+            uint32_t r50 = dfu_boot_c_trial_told_tell(r13_2, r47_2, a4);
+            r7_0 = r50;
+            goto join_4;
+        }
+        r6_7_016 = v3;
+        r6_4_015 = v4;
+    }
+    switch (r6_4_015) {
+    case 0:
+        r7_0 = 0xfffffffeU;
+        break;
+    case 1:
+        r7_0 = (uint32_t)0xfffffff0U - (uint32_t)r6_7_016;
+        break;
+    case 2:
+        r7_0 = 0xfffffffdU;
+        break;
+    default: never();
+    }
+join_4:
+    return r7_0;
 }
 
 /* dfu_core_trial_runs: crates/dfu_boot_c/src/trial/calls.rt */
@@ -1282,116 +1315,6 @@ int32_t dfu_core_trial_look(const struct dfu_tries *tries, const uint8_t *flash,
     return signed32(r6_0);
 }
 
-/* dfu_core_trial_start: crates/dfu_boot_c/src/trial/calls.rt */
-int32_t dfu_core_trial_start(const struct dfu_tries *tries, const uint8_t *flash, size_t size, struct dfu_ask *ask, struct dfu_starting *starting) {
-    unsigned char *a0 = (unsigned char *)(uintptr_t)tries;
-    unsigned char *a1 = (unsigned char *)(uintptr_t)flash;
-    size_t a2 = (size_t)size;
-    unsigned char *a3 = (unsigned char *)(uintptr_t)ask;
-    unsigned char *a4 = (unsigned char *)(uintptr_t)starting;
-    _Alignas(8) unsigned char r6[48];
-    _Alignas(8) unsigned char r3[40];
-    _Alignas(4) unsigned char r13[16];
-    uint32_t r8_3_4_copyload, r8_5_4_copyload, r8_6_4_copyload, r19, r9_0_0, r9_4_0, r9_6_0, r9_8_0, r9_10_0, r9_12_0, r7_0;
-    memset(r6, 0, 48);
-    dfu_boot_c_trial_flash_looked(r6, a0, (unsigned char *)((uintptr_t)a1 + (uintptr_t)(size_t)((a1 == NULL) ? 4096 : 0)), a2);
-    uint8_t r18 = *r6;
-    if (r18 != 0) {
-        uint8_t r5_0_0_copyload = r6[1];
-        switch (r5_0_0_copyload) {
-        case 0:
-            r7_0 = 0xfffffffeU;
-            break;
-        case 1: {
-            uint8_t r5_3_1_copyload = r6[2];
-            r7_0 = (uint32_t)0xfffffff0U - (uint32_t)r5_3_1_copyload;
-            break;
-        }
-        case 2:
-            r7_0 = 0xfffffffdU;
-            break;
-        default: never();
-        }
-    }
-    else {
-        memcpy(r3, r6 + 8, 24);
-        uint8_t r22 = r6[32];
-        store32(r3 + 24, (uint32_t)r22);
-        unsigned char *r24 = r3 + 28;
-        memcpy(r24, r6 + 36, 12);
-        r8_3_4_copyload = load32(r24);
-        r8_5_4_copyload = load32(r3 + 32);
-        r8_6_4_copyload = load32(r3 + 36);
-        if (r22 == 0) {
-            r9_0_0 = 0;
-            r9_4_0 = 0;
-            r9_6_0 = 0;
-            r9_8_0 = 0;
-            r9_10_0 = r8_3_4_copyload;
-            r9_12_0 = r8_3_4_copyload;
-        }
-        else {
-            uint32_t r32 = load32(a0 + 8);
-            if (r8_6_4_copyload >= r32) {
-                r9_0_0 = 1;
-                r9_4_0 = 1;
-                r9_6_0 = r8_3_4_copyload;
-                r9_8_0 = 0;
-                r9_10_0 = r8_5_4_copyload;
-                r9_12_0 = r8_5_4_copyload;
-            }
-            else {
-                uint8_t r0_0_0_copyload = r3[16];
-                uint32_t switch_load = load32(PLACE(switch_table_dfu_slots_layout_gate_of) + 4 * (size_t)r0_0_0_copyload);
-                uint32_t r1_0_0_copyload = load32(r3 + 20);
-                r19 = ((switch_load + r8_3_4_copyload) + (switch_load * (r8_6_4_copyload + 1))) + umax32(r1_0_0_copyload, switch_load);
-                switch (r0_0_0_copyload) {
-                case 0:
-                case 1:
-                    r9_0_0 = 1;
-                    r9_4_0 = 0;
-                    r9_6_0 = r19;
-                    r9_8_0 = 16;
-                    r9_10_0 = r8_3_4_copyload;
-                    r9_12_0 = r8_5_4_copyload;
-                    break;
-                case 2:
-                    r9_0_0 = 1;
-                    r9_4_0 = 0;
-                    r9_6_0 = r19;
-                    r9_8_0 = 64;
-                    r9_10_0 = r8_3_4_copyload;
-                    r9_12_0 = r8_5_4_copyload;
-                    break;
-                case 3:
-                    r9_0_0 = 1;
-                    r9_4_0 = 0;
-                    r9_6_0 = r19;
-                    r9_8_0 = 256;
-                    r9_10_0 = r8_3_4_copyload;
-                    r9_12_0 = r8_5_4_copyload;
-                    break;
-                default: never();
-                }
-            }
-        }
-        struct i32_i32 r6_2 = dfu_boot_c_trial_told_image_in(r3, r9_10_0);
-        struct i32_i32 r12 = dfu_boot_c_trial_told_image_in(r3, r9_12_0);
-        store32(a4, r6_2.a);
-        store32(a4 + 4, r6_2.b);
-        store32(a4 + 8, r12.a);
-        store32(a4 + 12, r12.b);
-        store32(r13, r9_0_0);
-        store32(r13 + 4, r9_4_0);
-        store32(r13 + 8, r9_6_0);
-        store32(r13 + 12, r9_8_0);
-        uint32_t r47 = load32(a0 + 4);
-        uint32_t r50 = dfu_boot_c_trial_told_tell(r13, r47, a3);
-        r7_0 = r50;
-    }
-    return signed32(r7_0);
-}
-
 /* dfu_core_trial_upload: crates/dfu_boot_c/src/trial/calls.rt */
 int32_t dfu_core_trial_upload(const struct dfu_tries *tries, const uint8_t *flash, size_t size, struct dfu_ask *ask) {
     unsigned char *a0 = (unsigned char *)(uintptr_t)tries;
@@ -1437,4 +1360,29 @@ int32_t dfu_core_trial_upload(const struct dfu_tries *tries, const uint8_t *flas
         }
     }
     return signed32(r6_0);
+}
+
+/* dfu_core_trial_start: crates/dfu_boot_c/src/trial/calls.rt */
+int32_t dfu_core_trial_start(const struct dfu_tries *tries, const uint8_t *flash, size_t size, struct dfu_ask *ask, struct dfu_starting *starting) {
+    unsigned char *a0 = (unsigned char *)(uintptr_t)tries;
+    unsigned char *a1 = (unsigned char *)(uintptr_t)flash;
+    size_t a2 = (size_t)size;
+    unsigned char *a3 = (unsigned char *)(uintptr_t)ask;
+    unsigned char *a4 = (unsigned char *)(uintptr_t)starting;
+    _Alignas(4) unsigned char r4[28];
+    memset(r4, 0, 28);
+    uint32_t r19 = dfu_boot_c_trial_again_start_from(a0, (unsigned char *)((uintptr_t)a1 + (uintptr_t)(size_t)((a1 == NULL) ? 4096 : 0)), a2, r4, a3, a4);
+    return signed32(r19);
+}
+
+/* dfu_core_trial_start_from: crates/dfu_boot_c/src/trial/again.rt */
+int32_t dfu_core_trial_start_from(const struct dfu_tries *tries, const uint8_t *flash, size_t size, const struct dfu_standing *standing, struct dfu_ask *ask, struct dfu_starting *starting) {
+    unsigned char *a0 = (unsigned char *)(uintptr_t)tries;
+    unsigned char *a1 = (unsigned char *)(uintptr_t)flash;
+    size_t a2 = (size_t)size;
+    unsigned char *a3 = (unsigned char *)(uintptr_t)standing;
+    unsigned char *a4 = (unsigned char *)(uintptr_t)ask;
+    unsigned char *a5 = (unsigned char *)(uintptr_t)starting;
+    uint32_t r10 = dfu_boot_c_trial_again_start_from(a0, (unsigned char *)((uintptr_t)a1 + (uintptr_t)(size_t)((a1 == NULL) ? 4096 : 0)), a2, a3, a4, a5);
+    return signed32(r10);
 }

@@ -54,7 +54,9 @@ _Static_assert(offsetof(struct dfu_config, manifest_ms) == 20, "another layout")
 _Static_assert(offsetof(struct dfu_config, least) == 24, "another layout");
 _Static_assert(offsetof(struct dfu_config, unit) == 28, "another layout");
 _Static_assert(offsetof(struct dfu_config, sector) == 32, "another layout");
-_Static_assert(sizeof(struct dfu_config) == 36, "another layout");
+_Static_assert(offsetof(struct dfu_config, erase_ms) == 36, "another layout");
+_Static_assert(offsetof(struct dfu_config, program_ms) == 38, "another layout");
+_Static_assert(sizeof(struct dfu_config) == 40, "another layout");
 _Static_assert(_Alignof(struct dfu_config) == 4, "another layout");
 _Static_assert(offsetof(struct dfu_record, version) == 0, "another layout");
 _Static_assert(offsetof(struct dfu_record, mode) == 4, "another layout");
@@ -183,6 +185,10 @@ static void dfu_slots_read_header_of(unsigned char *a0, unsigned char *a1, uint3
 static void dfu_core_mode_idle_mode(unsigned char *a0, unsigned char *a1, unsigned char *a2);
 static void dfu_core_mode_mode_in(unsigned char *a0, unsigned char *a1, unsigned char *a2);
 static void dfu_core_mode_set_mode(unsigned char *a0, unsigned char *a1);
+static uint32_t dfu_device_time_table_poll_ms(unsigned char *a0, unsigned char *a1, uint64_t a2);
+static uint32_t dfu_device_time_table_block_ms(unsigned char *a0, uint32_t a1, uint32_t a2, uint64_t a3);
+static uint32_t dfu_device_time_table_writes_ms(unsigned char *a0, uint32_t a1, uint32_t a2, uint32_t a3, uint32_t a4);
+static uint32_t dfu_device_time_table_image_ms(unsigned char *a0, uint32_t a1, uint32_t a2);
 static void dfu_core_format_formatting_of(unsigned char *a0, unsigned char *a1, unsigned char *a2);
 static uint8_t dfu_asks_formatting_Formatting_due(unsigned char *a0, size_t a2, unsigned char *a3);
 static uint8_t dfu_asks_format_piece_part_piece(unsigned char *a0, size_t a1, unsigned char *a2);
@@ -191,8 +197,8 @@ static uint8_t dfu_asks_next_piece_numbered_piece(unsigned char *a0, size_t a1, 
 static void dfu_asks_sector_locate(unsigned char *a0, uint32_t a1, uint64_t a2, size_t a3, uint64_t a4);
 static uint8_t dfu_asks_format_piece_open_piece(size_t a0, uint32_t a1, unsigned char *a2);
 static uint8_t dfu_asks_cut_stands(unsigned char *a0, size_t a1, unsigned char *a2);
-static void dfu_asks_runs_runs_of(unsigned char *a0, unsigned char *a1);
-static uint8_t dfu_asks_runs_are_same(unsigned char *a0, uint64_t a1, unsigned char *a2);
+static void dfu_asks_cut_runs_of(unsigned char *a0, unsigned char *a1);
+static uint8_t dfu_asks_cut_are_same(unsigned char *a0, uint64_t a1, unsigned char *a2);
 static void dfu_wire_bytes_two_bytes(unsigned char *a0, uint16_t a1);
 static uint8_t dfu_asks_next_and_took_is_sound(uint32_t a0, unsigned char *a1);
 static void dfu_asks_cut_fill(unsigned char *a0, unsigned char *a1);
@@ -380,10 +386,12 @@ static void dfu_core_mode_mode_of(unsigned char *a0, unsigned char *a1) {
 /* dfu_core::config::settings_of: crates/dfu_core/src/config.rt */
 static void dfu_core_config_settings_of(unsigned char *a0, unsigned char *a1) {
     _Alignas(4) unsigned char r6[10];
-    uint32_t r11, r53, r82, r84, r86, r22_4_0_10_0, r22_4_0_11_0, r22_4_0_12_0, r22_4_5_0, r22_0_0_0;
-    uint8_t r3_0_0, r2_0_0_copyload, r2_3_0_copyload, r2_4_0_copyload, r2_6_0_copyload, r22_4_0_3_0, r22_4_0_4_0, r22_4_0_5_0, r22_4_0_6_0, r22_4_3_0;
+    _Alignas(4) unsigned char r22_4_6_5[3];
+    uint32_t r11, r54, r58, r87, r89, r91, r22_4_6_6_0, r22_4_3_0, r22_4_4_0, r22_4_5_0, r22_4_9_0, r22_0_0_0;
+    uint8_t r3_0_0, r2_0_0_copyload, r2_3_0_copyload, r2_4_0_copyload, r2_6_0_copyload, r22_4_0_6_0, r22_4_0_5_0, r22_4_0_4_0, r22_4_0_3_0, r22_4_6_4_0;
     uint64_t r5_0_0, r22_4_0_0_0;
-    uint16_t r2_7_0_copyload, r2_8_0_copyload, r22_4_0_7_0, r22_4_0_8_0, r22_4_0_9_0;
+    uint16_t r2_7_0_copyload, r2_8_0_copyload, r22_4_0_7_0, r22_4_0_8_0, r22_4_0_9_0, r22_4_6_0_0, r22_4_6_3_0;
+    memset(r22_4_6_5, 0, 3);
     r11 = load32(a1 + 28);
     switch (r11) {
     case 16:
@@ -399,24 +407,24 @@ static void dfu_core_config_settings_of(unsigned char *a0, unsigned char *a1) {
         r3_0_0 = 0;
         break;
     }
-    uint32_t r25 = load32(a1);
-    if (r25 == 300) {
+    uint32_t r30 = load32(a1);
+    if (r30 == 300) {
         uint32_t switch_load = load32(PLACE(switch_table_dfu_slots_layout_fill_size) + 4 * (size_t)r3_0_0);
         if (switch_load == r11) {
-            uint32_t r49 = load32(a1 + 32);
-            struct i8_i32 r51 = dfu_asks_sector_Sector_new(r49);
-            r53 = r51.b;
-            if (!(r51.a & 1)) {
-                memset(a0, 0, 40);
+            r54 = load32(a1 + 32);
+            struct i8_i32 r56 = dfu_asks_sector_Sector_new(r54);
+            r58 = r56.b;
+            if (!(r56.a & 1)) {
+                memset(a0, 0, 52);
                 return;
             }
-            uint16_t r71 = load16(a1 + 4);
-            uint32_t r73 = load32a2(a1 + 6);
+            uint16_t r76 = load16(a1 + 4);
+            uint32_t r78 = load32a2(a1 + 6);
             dfu_core_config_functional_of(r6, a1);
-            r82 = load32(a1 + 24);
-            r84 = load32(a1 + 16);
-            r86 = load32(a1 + 20);
-            r5_0_0 = (((uint64_t)r73 << 16) & 0xffffffffffffULL) | (uint64_t)r71;
+            r87 = load32(a1 + 24);
+            r89 = load32(a1 + 16);
+            r91 = load32(a1 + 20);
+            r5_0_0 = (((uint64_t)r78 << 16) & 0xffffffffffffULL) | (uint64_t)r76;
             r2_0_0_copyload = *r6;
             r2_3_0_copyload = r6[1];
             r2_4_0_copyload = r6[2];
@@ -424,53 +432,65 @@ static void dfu_core_config_settings_of(unsigned char *a0, unsigned char *a1) {
             r2_7_0_copyload = load16(r6 + 4);
             r2_8_0_copyload = load16(r6 + 6);
             if ((uint16_t)(r2_8_0_copyload + 0xefffU) < 0xf000U) {
-                r22_4_0_0_0 = 0;
-                r22_4_0_3_0 = 0;
-                r22_4_0_4_0 = 0;
-                r22_4_0_5_0 = 0;
                 r22_4_0_6_0 = 0;
                 r22_4_0_7_0 = 0;
                 r22_4_0_8_0 = 0;
                 r22_4_0_9_0 = 0;
-                r22_4_0_10_0 = 0;
-                r22_4_0_11_0 = 0;
-                r22_4_0_12_0 = 0;
+                r22_4_0_5_0 = 0;
+                r22_4_0_4_0 = 0;
+                r22_4_0_3_0 = 0;
+                r22_4_0_0_0 = 0;
+                r22_4_6_0_0 = 0;
+                r22_4_6_3_0 = 0;
+                r22_4_6_4_0 = 0;
+                r22_4_6_6_0 = 0;
                 r22_4_3_0 = 0;
+                r22_4_4_0 = 0;
                 r22_4_5_0 = 0;
+                r22_4_9_0 = 0;
                 r22_0_0_0 = 0;
             }
             else {
-                if ((((r84 | (r82 - 1)) | r86) < 0x1000000U) ? ((r86 != 0) | (r2_4_0_copyload & 1)) : 0) {
-                    r22_4_0_0_0 = r5_0_0;
-                    r22_4_0_3_0 = r2_0_0_copyload & 1;
-                    r22_4_0_4_0 = r2_3_0_copyload & 1;
-                    r22_4_0_5_0 = r2_4_0_copyload & 1;
-                    r22_4_0_6_0 = r2_6_0_copyload & 1;
-                    r22_4_0_7_0 = r2_7_0_copyload;
-                    r22_4_0_8_0 = r2_8_0_copyload;
-                    r22_4_0_9_0 = 272;
-                    r22_4_0_10_0 = r82;
-                    r22_4_0_11_0 = r84;
-                    r22_4_0_12_0 = r86;
-                    r22_4_3_0 = r3_0_0;
-                    r22_4_5_0 = r53;
-                    r22_0_0_0 = 1;
-                }
-                else {
-                    r22_4_0_0_0 = 0;
-                    r22_4_0_3_0 = 0;
-                    r22_4_0_4_0 = 0;
-                    r22_4_0_5_0 = 0;
+                if (!((((r89 | (r87 - 1)) | r91) < 0x1000000U) ? ((r91 != 0) | (r2_4_0_copyload & 1)) : 0)) {
                     r22_4_0_6_0 = 0;
                     r22_4_0_7_0 = 0;
                     r22_4_0_8_0 = 0;
                     r22_4_0_9_0 = 0;
-                    r22_4_0_10_0 = 0;
-                    r22_4_0_11_0 = 0;
-                    r22_4_0_12_0 = 0;
+                    r22_4_0_5_0 = 0;
+                    r22_4_0_4_0 = 0;
+                    r22_4_0_3_0 = 0;
+                    r22_4_0_0_0 = 0;
+                    r22_4_6_0_0 = 0;
+                    r22_4_6_3_0 = 0;
+                    r22_4_6_4_0 = 0;
+                    r22_4_6_6_0 = 0;
                     r22_4_3_0 = 0;
+                    r22_4_4_0 = 0;
                     r22_4_5_0 = 0;
+                    r22_4_9_0 = 0;
                     r22_0_0_0 = 0;
+                }
+                else {
+                    uint16_t r98 = load16(a1 + 36);
+                    uint16_t r100 = load16(a1 + 38);
+                    memset(r22_4_6_5, 0, 3);
+                    r22_4_0_6_0 = r2_6_0_copyload & 1;
+                    r22_4_0_7_0 = r2_7_0_copyload;
+                    r22_4_0_8_0 = r2_8_0_copyload;
+                    r22_4_0_9_0 = 272;
+                    r22_4_0_5_0 = r2_4_0_copyload & 1;
+                    r22_4_0_4_0 = r2_3_0_copyload & 1;
+                    r22_4_0_3_0 = r2_0_0_copyload & 1;
+                    r22_4_0_0_0 = r5_0_0;
+                    r22_4_6_0_0 = r98;
+                    r22_4_6_3_0 = r100;
+                    r22_4_6_4_0 = r3_0_0;
+                    r22_4_6_6_0 = r54;
+                    r22_4_3_0 = r87;
+                    r22_4_4_0 = r89;
+                    r22_4_5_0 = r91;
+                    r22_4_9_0 = r58;
+                    r22_0_0_0 = 1;
                 }
             }
             store32(a0, r22_0_0_0);
@@ -482,15 +502,20 @@ static void dfu_core_config_settings_of(unsigned char *a0, unsigned char *a1) {
             store16(a0 + 14, r22_4_0_7_0);
             store16(a0 + 16, r22_4_0_8_0);
             store16(a0 + 18, r22_4_0_9_0);
-            store32(a0 + 20, r22_4_0_10_0);
-            store32(a0 + 24, r22_4_0_11_0);
-            store32(a0 + 28, r22_4_0_12_0);
-            a0[32] = r22_4_3_0;
-            store32(a0 + 36, r22_4_5_0);
+            store32(a0 + 20, r22_4_3_0);
+            store32(a0 + 24, r22_4_4_0);
+            store32(a0 + 28, r22_4_5_0);
+            store16(a0 + 32, r22_4_6_0_0);
+            store16(a0 + 34, r22_4_6_3_0);
+            a0[36] = r22_4_6_4_0;
+            memcpy(a0 + 37, r22_4_6_5, 3);
+            store32(a0 + 40, r22_4_6_6_0);
+            a0[44] = r22_4_6_4_0;
+            store32(a0 + 48, r22_4_9_0);
             return;
         }
     }
-    memset(a0, 0, 40);
+    memset(a0, 0, 52);
     return;
 }
 
@@ -552,7 +577,7 @@ static void dfu_asks_noted_Noted_find(unsigned char *a0, unsigned char *a1, uint
     return;
 }
 
-/* dfu_slots::places::check::<#c4c4734aca759fff>: crates/dfu_slots/src/places.rt */
+/* dfu_slots::places::check::<#ab3713f43cb9a70d>: crates/dfu_slots/src/places.rt */
 static void dfu_slots_places_check(unsigned char *a0, unsigned char *a1) {
     _Alignas(1) unsigned char r3_4[16];
     uint8_t r5, r11;
@@ -635,7 +660,7 @@ then_7:
     return;
 }
 
-/* dfu_slots::layout::is_sized::<#c4c4734aca759fff>: crates/dfu_slots/src/layout.rt */
+/* dfu_slots::layout::is_sized::<#ab3713f43cb9a70d>: crates/dfu_slots/src/layout.rt */
 static uint8_t dfu_slots_layout_is_sized(unsigned char *a0) {
     uint32_t r1_0_0_copyload, a0_a1, r5, r69;
     size_t v0;
@@ -666,7 +691,7 @@ static uint8_t dfu_slots_layout_is_sized(unsigned char *a0) {
     return common_ret_op;
 }
 
-/* dfu_slots::read::counts::<#c4c4734aca759fff>: crates/dfu_slots/src/read.rt */
+/* dfu_slots::read::counts::<#ab3713f43cb9a70d>: crates/dfu_slots/src/read.rt */
 static uint8_t dfu_slots_read_counts(unsigned char *a0, uint32_t a1) {
     _Alignas(1) unsigned char r2[64];
     _Alignas(1) unsigned char r3_2[16];
@@ -711,13 +736,13 @@ static uint8_t dfu_slots_read_counts(unsigned char *a0, uint32_t a1) {
     return r1_0_in;
 }
 
-/* dfu_slots::read::is_open::<#c4c4734aca759fff>: crates/dfu_slots/src/read.rt */
+/* dfu_slots::read::is_open::<#ab3713f43cb9a70d>: crates/dfu_slots/src/read.rt */
 static uint8_t dfu_slots_read_is_open(unsigned char *a0, uint32_t a1) {
     uint8_t r2 = dfu_slots_read_byte_at(a0, a1);
     return r2 == 165;
 }
 
-/* dfu_slots::read::byte_at::<#c4c4734aca759fff>: crates/dfu_slots/src/read.rt */
+/* dfu_slots::read::byte_at::<#ab3713f43cb9a70d>: crates/dfu_slots/src/read.rt */
 static uint8_t dfu_slots_read_byte_at(unsigned char *a0, uint32_t a1) {
     _Alignas(4) unsigned char r1[1];
     *r1 = 0;
@@ -743,7 +768,7 @@ static void core_slice_edits_slice_T_copy_from_slice_i8_core_clone_U8Clone(unsig
     }
 }
 
-/* dfu_slots::layout::capacity_of::<#c4c4734aca759fff>: crates/dfu_slots/src/layout.rt */
+/* dfu_slots::layout::capacity_of::<#ab3713f43cb9a70d>: crates/dfu_slots/src/layout.rt */
 static uint32_t dfu_slots_layout_capacity_of(unsigned char *a0) {
     size_t r3 = (size_t)load64(a0 + 8);
     uint8_t r0_0_0_copyload = a0[16];
@@ -752,7 +777,7 @@ static uint32_t dfu_slots_layout_capacity_of(unsigned char *a0) {
     return ((uint32_t)r3 >> 1) - (umax32(r1_0_0_copyload, switch_load) << 1);
 }
 
-/* dfu_slots::read::read_data::<#c4c4734aca759fff>: crates/dfu_slots/src/read.rt */
+/* dfu_slots::read::read_data::<#ab3713f43cb9a70d>: crates/dfu_slots/src/read.rt */
 static void dfu_slots_read_read_data(unsigned char *a0, uint32_t a1, uint32_t a2, unsigned char *a3, size_t a4) {
     uint8_t r0_0_0_copyload = a0[16];
     uint32_t r1_0_0_copyload = load32(a0 + 20);
@@ -782,7 +807,7 @@ static void dfu_suffix_crc_Crc_update_small(unsigned char *a0, unsigned char *a1
     return;
 }
 
-/* dfu_slots::places::is_newest::<#c4c4734aca759fff>: crates/dfu_slots/src/places.rt */
+/* dfu_slots::places::is_newest::<#ab3713f43cb9a70d>: crates/dfu_slots/src/places.rt */
 static uint8_t dfu_slots_places_is_newest(unsigned char *a0, uint32_t a1, uint32_t a2, uint8_t a3, uint8_t a4) {
     uint8_t r1_0_in;
     if (!(a3 & a4)) r1_0_in = a3;
@@ -794,7 +819,7 @@ static uint8_t dfu_slots_places_is_newest(unsigned char *a0, uint32_t a1, uint32
     return r1_0_in;
 }
 
-/* dfu_slots::read::generation::<#c4c4734aca759fff>: crates/dfu_slots/src/read.rt */
+/* dfu_slots::read::generation::<#ab3713f43cb9a70d>: crates/dfu_slots/src/read.rt */
 static uint8_t dfu_slots_read_generation(unsigned char *a0, uint32_t a1) {
     uint8_t r0_0_0_copyload = a0[16];
     uint32_t r1_0_0_copyload = load32(a0 + 20);
@@ -803,7 +828,7 @@ static uint8_t dfu_slots_read_generation(unsigned char *a0, uint32_t a1) {
     return r7;
 }
 
-/* dfu_slots::read::header_of::<#c4c4734aca759fff>: crates/dfu_slots/src/read.rt */
+/* dfu_slots::read::header_of::<#ab3713f43cb9a70d>: crates/dfu_slots/src/read.rt */
 static void dfu_slots_read_header_of(unsigned char *a0, unsigned char *a1, uint32_t a2) {
     _Alignas(1) unsigned char r1[16];
     memset(r1, 0, 16);
@@ -818,7 +843,7 @@ static void dfu_slots_read_header_of(unsigned char *a0, unsigned char *a1, uint3
 
 /* dfu_core::mode::idle_mode: crates/dfu_core/src/mode.rt */
 static void dfu_core_mode_idle_mode(unsigned char *a0, unsigned char *a1, unsigned char *a2) {
-    _Alignas(4) unsigned char r7[56];
+    _Alignas(4) unsigned char r7[68];
     unsigned char *r52, *r54;
     dfu_core_mode_mode_in(r7, a1, a2);
     uint8_t r1_0_0_copyload = *r7;
@@ -827,7 +852,7 @@ static void dfu_core_mode_idle_mode(unsigned char *a0, unsigned char *a1, unsign
         uint8_t r1_3_1_copyload = r7[1];
         *a0 = 1;
         *r52 = r1_3_1_copyload;
-        memset(a0 + 4, 0, 52);
+        memset(a0 + 4, 0, 64);
         return;
     }
     uint32_t r31 = load32(a2 + 44);
@@ -835,40 +860,40 @@ static void dfu_core_mode_idle_mode(unsigned char *a0, unsigned char *a1, unsign
     if (r31 != 0) {
         *a0 = 1;
         *r52 = 2;
-        memset(r54, 0, 52);
+        memset(r54, 0, 64);
         return;
     }
-    uint32_t r8_6_10_2_copyload = load32(r7 + 52);
-    uint32_t r8_6_9_2_copyload = load32(r7 + 48);
-    uint32_t r8_6_8_2_copyload = load32(r7 + 44);
-    uint8_t r8_6_6_2_copyload = r7[41];
-    uint8_t r8_6_5_2_copyload = r7[40];
+    uint32_t r8_6_10_2_copyload = load32(r7 + 64);
+    uint32_t r8_6_9_2_copyload = load32(r7 + 60);
+    uint32_t r8_6_8_2_copyload = load32(r7 + 56);
+    uint8_t r8_6_6_2_copyload = r7[53];
+    uint8_t r8_6_5_2_copyload = r7[52];
     *a0 = 0;
     *r52 = 0;
-    memcpy(r54, r7 + 4, 36);
-    a0[40] = r8_6_5_2_copyload;
-    a0[41] = r8_6_6_2_copyload;
-    store16(a0 + 42, 0);
-    store32(a0 + 44, r8_6_8_2_copyload);
-    store32(a0 + 48, r8_6_9_2_copyload);
-    store32(a0 + 52, r8_6_10_2_copyload);
+    memcpy(r54, r7 + 4, 48);
+    a0[52] = r8_6_5_2_copyload;
+    a0[53] = r8_6_6_2_copyload;
+    store16(a0 + 54, 0);
+    store32(a0 + 56, r8_6_8_2_copyload);
+    store32(a0 + 60, r8_6_9_2_copyload);
+    store32(a0 + 64, r8_6_10_2_copyload);
     return;
 }
 
 /* dfu_core::mode::mode_in: crates/dfu_core/src/mode.rt */
 static void dfu_core_mode_mode_in(unsigned char *a0, unsigned char *a1, unsigned char *a2) {
-    _Alignas(4) unsigned char r3[40];
-    _Alignas(2) unsigned char r6_6_0[38];
+    _Alignas(4) unsigned char r3[52];
+    _Alignas(2) unsigned char r6_6_0[50];
     _Alignas(4) unsigned char r5[20];
     uint8_t r6_6_3_0, r6_6_4_0, r6_0_0, r6_4_0;
     uint32_t r6_6_6_0, r6_6_7_0, r6_6_8_0;
-    memset(r6_6_0, 0, 38);
+    memset(r6_6_0, 0, 50);
     dfu_core_config_settings_of(r3, a1);
     uint8_t r9 = *r3;
     if (r9 != 1) {
         *a0 = 1;
         a0[1] = 0;
-        memset(a0 + 4, 0, 52);
+        memset(a0 + 4, 0, 64);
         return;
     }
     dfu_core_mode_mode_of(r5, a2);
@@ -888,7 +913,7 @@ static void dfu_core_mode_mode_in(unsigned char *a0, unsigned char *a1, unsigned
         uint32_t v4 = load32(r5 + 8);
         uint32_t v5 = load32(r5 + 12);
         uint32_t v6 = load32(r5 + 16);
-        memcpy(r6_6_0 + 2, r3 + 4, 36);
+        memcpy(r6_6_0 + 2, r3 + 4, 48);
         r6_6_3_0 = v2;
         r6_6_4_0 = v3;
         r6_6_6_0 = v4;
@@ -899,13 +924,13 @@ static void dfu_core_mode_mode_in(unsigned char *a0, unsigned char *a1, unsigned
     }
     *a0 = r6_0_0;
     a0[1] = r6_4_0;
-    memcpy(a0 + 4, r6_6_0 + 2, 36);
-    a0[40] = r6_6_3_0;
-    a0[41] = r6_6_4_0;
-    store16(a0 + 42, 0);
-    store32(a0 + 44, r6_6_6_0);
-    store32(a0 + 48, r6_6_7_0);
-    store32(a0 + 52, r6_6_8_0);
+    memcpy(a0 + 4, r6_6_0 + 2, 48);
+    a0[52] = r6_6_3_0;
+    a0[53] = r6_6_4_0;
+    store16(a0 + 54, 0);
+    store32(a0 + 56, r6_6_6_0);
+    store32(a0 + 60, r6_6_7_0);
+    store32(a0 + 64, r6_6_8_0);
     return;
 }
 
@@ -1010,6 +1035,88 @@ static void dfu_core_mode_set_mode(unsigned char *a0, unsigned char *a1) {
     return;
 }
 
+/* dfu_device::time_table::poll_ms: crates/dfu_device/src/time_table.rt */
+static uint32_t dfu_device_time_table_poll_ms(unsigned char *a0, unsigned char *a1, uint64_t a2) {
+    _Alignas(4) unsigned char r13[12];
+    _Alignas(4) unsigned char r15[12];
+    uint32_t r1_41_4_copyload, r12_0;
+    uint8_t r1_0_0_copyload = *a1;
+    r1_41_4_copyload = load32(a1 + 4);
+    switch (r1_0_0_copyload) {
+    case 5: {
+        memcpy(r13, a0 + 28, 12);
+        uint32_t r2 = load32(a0 + 20);
+        uint32_t r23 = dfu_device_time_table_block_ms(r13, r2, r1_41_4_copyload, a2);
+        r12_0 = r23;
+        break;
+    }
+    case 9: {
+        memcpy(r15, a0 + 28, 12);
+        uint32_t r2_2 = load32(a0 + 24);
+        uint32_t r29 = dfu_device_time_table_image_ms(r15, r2_2, r1_41_4_copyload);
+        r12_0 = r29;
+        break;
+    }
+    case 0:
+    case 1:
+    case 2:
+    case 3:
+    case 4:
+    case 6:
+    case 7:
+    case 8:
+    case 10:
+    case 11:
+    case 12:
+        r12_0 = 0;
+        break;
+    default: never();
+    }
+    return r12_0;
+}
+
+/* dfu_device::time_table::block_ms: crates/dfu_device/src/time_table.rt */
+static uint32_t dfu_device_time_table_block_ms(unsigned char *a0, uint32_t a1, uint32_t a2, uint64_t a3) {
+    _Alignas(4) unsigned char r1[12];
+    memcpy(r1, a0, 12);
+    uint8_t r6_0_0_copyload = r1[4];
+    uint32_t switch_load = load32(PLACE(switch_table_dfu_slots_layout_fill_size) + 4 * (size_t)r6_0_0_copyload);
+    uint32_t r18 = (switch_load - 1) & a2;
+    uint32_t r42 = dfu_device_time_table_writes_ms(r1, a1, a2 - r18, (r18 + (uint32_t)(size_t)umin64(a3, 4096)) & (((uint32_t)0 - switch_load) | 0xffff0000U), (uint32_t)(a2 == 0));
+    return r42;
+}
+
+/* dfu_device::time_table::writes_ms: crates/dfu_device/src/time_table.rt */
+static uint32_t dfu_device_time_table_writes_ms(unsigned char *a0, uint32_t a1, uint32_t a2, uint32_t a3, uint32_t a4) {
+    uint16_t r1_0_0_copyload, r1_3_0_copyload;
+    uint32_t r1_44_0_copyload, r4_0, common_ret_op_2, common_ret_op;
+    r1_0_0_copyload = load16(a0);
+    r1_3_0_copyload = load16(a0 + 2);
+    r1_44_0_copyload = load32(a0 + 8);
+    if (r1_44_0_copyload == 0) common_ret_op = 0;
+    else {
+        uint32_t r9 = a2 % r1_44_0_copyload;
+        r4_0 = (uint32_t)((r9 == 0) ? 0 : (r1_44_0_copyload - r9));
+        if (a3 > r4_0) common_ret_op_2 = ((a3 + (r4_0 ^ 0xffffffffU)) / r1_44_0_copyload) + 1;
+        else {
+            common_ret_op_2 = 0;
+        }
+        common_ret_op = (common_ret_op_2 + a4) * (uint32_t)r1_0_0_copyload;
+    }
+    return umin32(uadd_sat32(common_ret_op + (((((a4 << 8) + a3) * (uint32_t)r1_3_0_copyload) + 255) >> 8), a1), 0xffffffU);
+}
+
+/* dfu_device::time_table::image_ms: crates/dfu_device/src/time_table.rt */
+static uint32_t dfu_device_time_table_image_ms(unsigned char *a0, uint32_t a1, uint32_t a2) {
+    _Alignas(4) unsigned char r1[12];
+    memcpy(r1, a0, 12);
+    uint8_t r5_0_0_copyload = r1[4];
+    uint32_t switch_load = load32(PLACE(switch_table_dfu_slots_layout_fill_size) + 4 * (size_t)r5_0_0_copyload);
+    uint32_t r14 = (switch_load - 1) & a2;
+    uint32_t r26 = dfu_device_time_table_writes_ms(r1, a1, a2 - r14, (uint32_t)((r14 == 0) ? 0 : switch_load), 2);
+    return r26;
+}
+
 /* dfu_core::format::formatting_of: crates/dfu_core/src/format.rt */
 static void dfu_core_format_formatting_of(unsigned char *a0, unsigned char *a1, unsigned char *a2) {
     uint8_t r26;
@@ -1037,8 +1144,8 @@ static void dfu_core_format_formatting_of(unsigned char *a0, unsigned char *a1, 
         memset(a0, 0, 28);
         return;
     }
-    uint8_t r10_0_0_copyload = a1[28];
-    uint32_t r11_0_0_copyload = load32(a1 + 32);
+    uint8_t r10_0_0_copyload = a1[40];
+    uint32_t r11_0_0_copyload = load32(a1 + 44);
     uint32_t r53 = load32(a2 + 52);
     uint32_t r55 = load32(a2 + 56);
     store32(a0, 1);
@@ -1423,19 +1530,19 @@ static uint8_t dfu_asks_cut_stands(unsigned char *a0, size_t a1, unsigned char *
     uint64_t r3_4_0_copyload = load64(a2 + 88);
     if ((uint64_t)a1 < (r3_4_0_copyload + r3_2_0_copyload)) common_ret_op = 0;
     else {
-        dfu_asks_runs_runs_of(r10, a2);
+        dfu_asks_cut_runs_of(r10, a2);
         r44 = a0 + (size_t)r3_2_0_copyload;
         size_t r1_0_0_copyload = (size_t)load64(r10);
         r1_3_0_copyload = load64(r10 + 8);
         r1_6_0_copyload = load64(r10 + 24);
         r1_8_0_copyload = load64(r10 + 32);
         r1_9_0_copyload = r10[40];
-        uint8_t r40 = dfu_asks_runs_are_same(r44, r1_3_0_copyload, (unsigned char *)(uintptr_t)r1_0_0_copyload);
+        uint8_t r40 = dfu_asks_cut_are_same(r44, r1_3_0_copyload, (unsigned char *)(uintptr_t)r1_0_0_copyload);
         if (!r40) common_ret_op = 0;
         else {
             size_t r1_5_0_copyload = (size_t)load64(r10 + 16);
             r53 = r44 + (size_t)r1_3_0_copyload;
-            uint8_t r68 = dfu_asks_runs_are_same(r53, r1_6_0_copyload, (unsigned char *)(uintptr_t)r1_5_0_copyload);
+            uint8_t r68 = dfu_asks_cut_are_same(r53, r1_6_0_copyload, (unsigned char *)(uintptr_t)r1_5_0_copyload);
             if (!r68) common_ret_op = 0;
             else {
                 r86 = r53 + (size_t)r1_6_0_copyload;
@@ -1459,8 +1566,8 @@ static uint8_t dfu_asks_cut_stands(unsigned char *a0, size_t a1, unsigned char *
     return common_ret_op;
 }
 
-/* dfu_asks::runs::runs_of: crates/dfu_asks/src/runs.rt */
-static void dfu_asks_runs_runs_of(unsigned char *a0, unsigned char *a1) {
+/* dfu_asks::cut::runs_of: crates/dfu_asks/src/cut.rt */
+static void dfu_asks_cut_runs_of(unsigned char *a0, unsigned char *a1) {
     uint64_t r15, r1_15_0, r1_7_0, r1_0_0;
     unsigned char *r1_10_0;
     r15 = load64(a1 + 88);
@@ -1531,8 +1638,8 @@ static void dfu_asks_runs_runs_of(unsigned char *a0, unsigned char *a1) {
     return;
 }
 
-/* dfu_asks::runs::are_same: crates/dfu_asks/src/runs.rt */
-static uint8_t dfu_asks_runs_are_same(unsigned char *a0, uint64_t a1, unsigned char *a2) {
+/* dfu_asks::cut::are_same: crates/dfu_asks/src/cut.rt */
+static uint8_t dfu_asks_cut_are_same(unsigned char *a0, uint64_t a1, unsigned char *a2) {
     uint64_t r5_0, r5_0_lcssa;
     r5_0 = 0;
     for (;;) {
@@ -1587,7 +1694,7 @@ static void dfu_asks_cut_fill(unsigned char *a0, unsigned char *a1) {
     size_t a1_a0;
     unsigned char *r61;
     uint8_t r70;
-    dfu_asks_runs_runs_of(r0, a0);
+    dfu_asks_cut_runs_of(r0, a0);
     uint64_t r21 = load64(r0 + 8);
     uint64_t r24 = load64(r0 + 24);
     r27 = r24 + r21;
@@ -1612,11 +1719,11 @@ static void dfu_asks_cut_fill(unsigned char *a0, unsigned char *a1) {
 
 /* dfu_core::keeping::found: crates/dfu_core/src/keeping.rt */
 static void dfu_core_keeping_found(unsigned char *a0, unsigned char *a1, size_t a2, unsigned char *a3) {
-    _Alignas(4) unsigned char r6[40];
+    _Alignas(4) unsigned char r6[52];
     _Alignas(4) unsigned char r15[20];
-    _Alignas(4) unsigned char r22_4_17[16];
+    _Alignas(4) unsigned char r22_4_16[16];
     _Alignas(4) unsigned char r21_13[3];
-    uint32_t r24, r0_5108_0_copyload, v3, r1_9_12_copyload, r1_11_16_copyload, r6_2, r15_2, r8_5_0_0, r8_142_0, r74, r21_6_0_0, r21_9_0;
+    uint32_t r24, r0_5104_0_copyload, v3, r1_9_12_copyload, r1_11_16_copyload, r6_2, r15_2, r8_5_0_0, r8_142_0, r74, r21_6_0_0, r21_9_0;
     uint32_t r21_11_0, r21_14_0, r21_17_0;
     unsigned char *r36, *r19;
     uint8_t r0_3_0_copyload, r1_3_4_copyload, r1_5_5_copyload, r18, r8_11_0, r1_5_0_0, r21_12_0;
@@ -1625,7 +1732,7 @@ static void dfu_core_keeping_found(unsigned char *a0, unsigned char *a1, size_t 
     if (r24 == 3) {
         *a3 = 1;
         a3[1] = 2;
-        memset(a3 + 8, 0, 128);
+        memset(a3 + 8, 0, 136);
         return;
     }
     dfu_core_config_settings_of(r6, a0);
@@ -1633,25 +1740,25 @@ static void dfu_core_keeping_found(unsigned char *a0, unsigned char *a1, size_t 
     if (r35 != 1) {
         *a3 = 1;
         a3[1] = 0;
-        memset(a3 + 8, 0, 128);
+        memset(a3 + 8, 0, 136);
         return;
     }
     r36 = r6 + 4;
-    r0_3_0_copyload = r6[32];
-    r0_5108_0_copyload = load32(r6 + 36);
+    r0_3_0_copyload = r6[44];
+    r0_5104_0_copyload = load32(r6 + 48);
     r43 = load16(a0 + 12);
     uint64_t switch_load = load64(PLACE(switch_table_dfu_core_format_took) + 8 * (size_t)r0_3_0_copyload);
     if ((uint64_t)a2 < (switch_load + (uint64_t)(size_t)r43)) {
         *a3 = 1;
         a3[1] = 1;
-        memset(a3 + 8, 0, 128);
+        memset(a3 + 8, 0, 136);
         return;
     }
     r65 = load16(a1 + 26);
     if (r43 < r65) {
         *a3 = 1;
         a3[1] = 4;
-        memset(a3 + 8, 0, 128);
+        memset(a3 + 8, 0, 136);
         return;
     }
     r31 = load16(a1 + 66);
@@ -1722,36 +1829,35 @@ static void dfu_core_keeping_found(unsigned char *a0, unsigned char *a1, size_t 
                     r21_17_0 = r100;
                 }
                 uint32_t r111 = load32(a1 + 16);
-                memcpy(r22_4_17, r19, 16);
+                memcpy(r22_4_16, r19, 16);
                 *a3 = 0;
                 a3[1] = 0;
-                memcpy(a3 + 8, r36, 28);
-                a3[36] = r0_3_0_copyload;
-                memset(a3 + 37, 0, 3);
-                store32(a3 + 40, r0_5108_0_copyload);
-                a3[44] = r1_3_4_copyload;
-                a3[45] = r1_5_5_copyload;
-                store16(a3 + 46, 0);
-                store32(a3 + 48, v3);
-                store32(a3 + 52, r1_9_12_copyload);
-                store32(a3 + 56, r1_11_16_copyload);
-                store32(a3 + 60, 0);
-                store64(a3 + 64, (size_t)r65);
-                store64(a3 + 72, (size_t)r31);
-                store32(a3 + 80, r111);
-                a3[84] = r18;
-                memcpy(a3 + 85, r22_4_17, 16);
-                memset(a3 + 101, 0, 3);
-                store32(a3 + 104, r21_6_0_0);
-                store32(a3 + 108, r21_9_0);
-                store32(a3 + 112, r21_11_0);
-                a3[116] = r21_12_0;
-                memcpy(a3 + 117, r21_13, 3);
-                store32(a3 + 120, r21_14_0);
-                store16(a3 + 124, r21_15_0);
-                store16(a3 + 126, r21_16_0);
-                store32(a3 + 128, r21_17_0);
-                store32(a3 + 132, 0);
+                memcpy(a3 + 8, r36, 40);
+                a3[48] = r0_3_0_copyload;
+                memset(a3 + 49, 0, 3);
+                store32(a3 + 52, r0_5104_0_copyload);
+                a3[56] = r1_3_4_copyload;
+                a3[57] = r1_5_5_copyload;
+                store16(a3 + 58, 0);
+                store32(a3 + 60, v3);
+                store32(a3 + 64, r1_9_12_copyload);
+                store32(a3 + 68, r1_11_16_copyload);
+                store64(a3 + 72, (size_t)r65);
+                store64(a3 + 80, (size_t)r31);
+                store32(a3 + 88, r111);
+                a3[92] = r18;
+                memcpy(a3 + 93, r22_4_16, 16);
+                memset(a3 + 109, 0, 3);
+                store32(a3 + 112, r21_6_0_0);
+                store32(a3 + 116, r21_9_0);
+                store32(a3 + 120, r21_11_0);
+                a3[124] = r21_12_0;
+                memcpy(a3 + 125, r21_13, 3);
+                store32(a3 + 128, r21_14_0);
+                store16(a3 + 132, r21_15_0);
+                store16(a3 + 134, r21_16_0);
+                store32(a3 + 136, r21_17_0);
+                store32(a3 + 140, 0);
                 return;
             }
         }
@@ -1759,7 +1865,7 @@ static void dfu_core_keeping_found(unsigned char *a0, unsigned char *a1, size_t 
 arm_15:
     *a3 = 1;
     a3[1] = 4;
-    memset(a3 + 8, 0, 128);
+    memset(a3 + 8, 0, 136);
     return;
 }
 
@@ -1821,7 +1927,7 @@ dfu_asks_next_piece_block_piece_exit:
     return r15_0_in;
 }
 
-/* dfu_asks::asking::Asking::look_at: crates/dfu_asks/src/advance.rt */
+/* dfu_asks::asking::Asking::look_at: crates/dfu_asks/src/cut.rt */
 static struct i64_i8 dfu_asks_asking_Asking_look_at(unsigned char *a0, unsigned char *a1, unsigned char *a2, size_t a3, unsigned char *a4, uint64_t a5, unsigned char *a6, size_t a7) {
     _Alignas(8) unsigned char r7[112];
     _Alignas(4) unsigned char r12[16];
@@ -1829,11 +1935,11 @@ static struct i64_i8 dfu_asks_asking_Asking_look_at(unsigned char *a0, unsigned 
     uint64_t r0_0_0;
     unsigned char *v0 = r12 + 8;
     store32(v0, 0);
-    uint8_t r5_0_0_copyload = a0[28];
-    uint32_t r6_0_0_copyload = load32(a0 + 32);
-    uint32_t r17 = load32(a0 + 72);
-    uint64_t r8 = load64(a0 + 64);
-    uint64_t r26 = load64(a0 + 56);
+    uint8_t r5_0_0_copyload = a0[40];
+    uint32_t r6_0_0_copyload = load32(a0 + 44);
+    uint32_t r17 = load32(a0 + 80);
+    uint64_t r8 = load64(a0 + 72);
+    uint64_t r26 = load64(a0 + 64);
     uint32_t r24 = load32(a1 + 20);
     *r7 = r5_0_0_copyload;
     memset(r7 + 1, 0, 3);
@@ -1874,30 +1980,30 @@ static struct i64_i8 dfu_asks_asking_Asking_look_at(unsigned char *a0, unsigned 
     return r59;
 }
 
-/* dfu_asks::asking::Asking::fail: crates/dfu_asks/src/advance.rt */
+/* dfu_asks::asking::Asking::fail: crates/dfu_asks/src/finish.rt */
 static struct i8_i64 dfu_asks_asking_Asking_fail(unsigned char *a0, uint8_t a1, uint8_t a2, uint16_t a3, unsigned char *a4, uint64_t a5, unsigned char *a6) {
     _Alignas(4) unsigned char r4[16];
     store32(r4, 0);
-    unsigned char *r10 = a0 + 36;
+    unsigned char *r10 = a0 + 48;
     uint8_t v0 = *r10;
     *r4 = v0;
-    unsigned char *r12 = a0 + 37;
+    unsigned char *r12 = a0 + 49;
     uint8_t v1 = *r12;
     r4[1] = v1;
-    unsigned char *r14 = a0 + 40;
+    unsigned char *r14 = a0 + 52;
     uint32_t v2 = load32(r14);
     store32(r4 + 4, v2);
-    unsigned char *r16 = a0 + 44;
+    unsigned char *r16 = a0 + 56;
     uint32_t v3 = load32(r16);
     store32(r4 + 8, v3);
-    unsigned char *r18 = a0 + 48;
+    unsigned char *r18 = a0 + 60;
     uint32_t v4 = load32(r18);
     store32(r4 + 12, v4);
-    uint8_t r5_0_0_copyload = a0[28];
-    uint32_t r6_0_0_copyload = load32(a0 + 32);
-    dfu_asks_finish_note(a0 + 76, r4, a4, a5, r5_0_0_copyload, r6_0_0_copyload);
-    store64(a0 + 64, 0);
-    store32(a0 + 72, 0);
+    uint8_t r5_0_0_copyload = a0[40];
+    uint32_t r6_0_0_copyload = load32(a0 + 44);
+    dfu_asks_finish_note(a0 + 84, r4, a4, a5, r5_0_0_copyload, r6_0_0_copyload);
+    store64(a0 + 72, 0);
+    store32(a0 + 80, 0);
     uint8_t v5 = *r10;
     uint8_t switch_load = *(PLACE(switch_table_dfu_asks_asking_Asking_fail) + (size_t)v5);
     *r10 = 12;
@@ -1905,7 +2011,7 @@ static struct i8_i64 dfu_asks_asking_Asking_fail(unsigned char *a0, uint8_t a1, 
     store32(r14, 0);
     store32(r16, 0);
     store32(r18, 0);
-    memset(a0 + 96, 0, 28);
+    memset(a0 + 104, 0, 28);
     struct i8_i64 r30 = dfu_asks_asking_Asking_answer(a0, a2, a3, a6);
     return r30;
 }
@@ -1951,88 +2057,67 @@ static struct i8_i64 dfu_asks_asking_Asking_answer(unsigned char *a0, uint8_t a1
 
 /* dfu_asks::asking::Asking::give: crates/dfu_asks/src/carry.rt */
 static struct i8_i64 dfu_asks_asking_Asking_give(unsigned char *a0, uint8_t a1, uint16_t a2, unsigned char *a3) {
+    _Alignas(4) unsigned char r1[16];
     _Alignas(8) unsigned char r5[8];
-    _Alignas(4) unsigned char r1[6];
+    _Alignas(4) unsigned char r1_2[6];
     _Alignas(1) unsigned char r4[6];
     _Alignas(4) unsigned char r5_2[1];
-    uint8_t v0, r11_0_0, r6_0_0;
-    unsigned char *r10_0_in;
-    uint32_t r10_0;
-    size_t r6_61_0;
+    size_t r6_62_0;
+    uint8_t r6_0_0;
     switch (a1) {
     case 0:
-        r6_61_0 = 0;
+        r6_62_0 = 0;
         r6_0_0 = a1;
         break;
     case 3:
-        r6_61_0 = 0;
+        r6_62_0 = 0;
         r6_0_0 = 2;
         break;
     case 1: {
-        v0 = a0[36];
-        uint8_t v1 = a0[37];
-        switch (v0) {
-        case 12:
-            r10_0 = 0;
-            r11_0_0 = v1;
-            goto dfu_device_device_state_status_in_exit;
-        case 5:
-            r10_0_in = a0 + 20;
-            break;
-        case 9:
-            r10_0_in = a0 + 24;
-            break;
-        case 0:
-        case 1:
-        case 2:
-        case 3:
-        case 4:
-        case 6:
-        case 7:
-        case 8:
-        case 10:
-        case 11:
-            r10_0 = 0;
-            r11_0_0 = 0;
-            goto dfu_device_device_state_status_in_exit;
-        default: never();
-        }
-        uint32_t r10_0_2 = load32(r10_0_in);
-        if (r10_0_2 > 0xffffffU) trap();
-        r10_0 = r10_0_2;
-        r11_0_0 = 0;
-dfu_device_device_state_status_in_exit:;
+        uint8_t v0 = a0[48];
+        uint8_t v1 = a0[49];
+        uint32_t v2 = load32(a0 + 52);
+        uint32_t v3 = load32(a0 + 56);
+        uint32_t v4 = load32(a0 + 60);
+        uint64_t r40 = load64(a0 + 64);
+        store32(r1, 0);
+        *r1 = v0;
+        r1[1] = v1;
+        store32(r1 + 4, v2);
+        store32(r1 + 8, v3);
+        store32(r1 + 12, v4);
+        uint32_t r17 = dfu_device_time_table_poll_ms(a0, r1, r40);
         uint8_t switch_load = *(PLACE(switch_table_dfu_device_device_state_DeviceState_state) + (size_t)v0);
-        unsigned char *v3 = r1 + 1;
-        memset(v3, 0, 5);
-        *r1 = r11_0_0;
-        store64(r5, (size_t)r10_0);
-        core_slice_edits_slice_T_copy_from_slice_i8_core_clone_U8Clone(v3, r5, 3);
-        r1[4] = switch_load;
-        memcpy(r4, r1, 6);
+        unsigned char *v7 = r1_2 + 1;
+        memset(v7, 0, 5);
+        *r1_2 = (uint8_t)((v0 == 12) ? v1 : 0);
+        store64(r5, (size_t)r17);
+        core_slice_edits_slice_T_copy_from_slice_i8_core_clone_U8Clone(v7, r5, 3);
+        r1_2[4] = switch_load;
+        memcpy(r4, r1_2, 6);
         size_t a1_a0 = (size_t)umin16(a2, 6);
         core_slice_edits_slice_T_copy_from_slice_i8_core_clone_U8Clone(a3, r4, a1_a0);
-        r6_61_0 = a1_a0;
+        r6_62_0 = a1_a0;
         r6_0_0 = 1;
         break;
     }
     case 2: {
-        uint8_t v5 = a0[36];
-        uint8_t switch_load_2 = *(PLACE(switch_table_dfu_device_device_state_DeviceState_state) + (size_t)v5);
+        uint8_t v9 = a0[48];
+        uint8_t switch_load_2 = *(PLACE(switch_table_dfu_device_device_state_DeviceState_state) + (size_t)v9);
         *r5_2 = switch_load_2;
         size_t a1_a0_2 = (size_t)(a2 != 0);
         core_slice_edits_slice_T_copy_from_slice_i8_core_clone_U8Clone(a3, r5_2, a1_a0_2);
-        r6_61_0 = a1_a0_2;
+        r6_62_0 = a1_a0_2;
         r6_0_0 = 1;
         break;
     }
     default: never();
     }
-    struct i8_i64 r85_half = (struct i8_i64){ 0, 0 };
-    r85_half.a = r6_0_0;
-    struct i8_i64 r85 = r85_half;
-    r85.b = r6_61_0;
-    return r85;
+    struct i8_i64 r88_half = (struct i8_i64){ 0, 0 };
+    r88_half.a = r6_0_0;
+    struct i8_i64 r88 = r88_half;
+    r88.b = r6_62_0;
+    return r88;
 }
 
 /* dfu_asks::asking::Asking::advance */
@@ -2044,7 +2129,7 @@ static void dfu_asks_asking_Asking_advance(unsigned char *a0, unsigned char *a1,
     uint64_t a1_a0_2, r52, r57, r10_0, r0_0_0;
     uint8_t v8, r17_0_0, r17_7_0;
     uint32_t r0_4_0, v9, v10, r81, r17_103_0, r17_15_0_0, r17_15_6_0_0, r17_20_0;
-    r32 = a1 + 96;
+    r32 = a1 + 104;
     uint8_t r33 = *r32;
     if (r33 != 1) {
         *a0 = 1;
@@ -2052,7 +2137,7 @@ static void dfu_asks_asking_Asking_advance(unsigned char *a0, unsigned char *a1,
         store64(a0 + 8, 0);
         return;
     }
-    memcpy(r9, a1 + 100, 24);
+    memcpy(r9, a1 + 108, 24);
     struct i64_i8 r61 = dfu_asks_asking_Asking_look_at(a1, r9, a2, a3, a4, a5, PLACE(static_2), 0);
     if (r61.a != 0) {
         *a0 = 0;
@@ -2061,32 +2146,32 @@ static void dfu_asks_asking_Asking_advance(unsigned char *a0, unsigned char *a1,
         return;
     }
     store32(r10, 0);
-    r24 = a1 + 36;
+    r24 = a1 + 48;
     uint8_t v1 = *r24;
     *r10 = v1;
-    r26 = a1 + 37;
+    r26 = a1 + 49;
     uint8_t v2 = *r26;
     r10[1] = v2;
-    r28 = a1 + 40;
+    r28 = a1 + 52;
     uint32_t v3 = load32(r28);
     store32(r10 + 4, v3);
-    r30 = a1 + 44;
+    r30 = a1 + 56;
     uint32_t v4 = load32(r30);
     store32(r10 + 8, v4);
-    r32_2 = a1 + 48;
+    r32_2 = a1 + 60;
     uint32_t v5 = load32(r32_2);
     store32(r10 + 12, v5);
-    r33_2 = a1 + 28;
+    r33_2 = a1 + 40;
     uint8_t r11_0_0_copyload = *r33_2;
-    uint32_t r12_0_0_copyload = load32(a1 + 32);
-    dfu_asks_finish_note(a1 + 76, r10, a6, a7, r11_0_0_copyload, r12_0_0_copyload);
+    uint32_t r12_0_0_copyload = load32(a1 + 44);
+    dfu_asks_finish_note(a1 + 84, r10, a6, a7, r11_0_0_copyload, r12_0_0_copyload);
     uint8_t v6 = *r24;
     switch (v6) {
     case 3:
     case 5: {
-        uint64_t r40 = load64(a1 + 56);
+        uint64_t r40 = load64(a1 + 64);
         a1_a0 = (size_t)umin64(a3, r40);
-        uint64_t r47 = load64(a1 + 64);
+        uint64_t r47 = load64(a1 + 72);
         a1_a0_2 = umin64(a5, r47);
         uint8_t r13_0_0_copyload = *r33_2;
         uint64_t switch_load = load64(PLACE(switch_table_dfu_asks_asking_Asking_advance) + 8 * (size_t)r13_0_0_copyload);
@@ -2100,7 +2185,7 @@ static void dfu_asks_asking_Asking_advance(unsigned char *a0, unsigned char *a1,
             a4[(size_t)r10_0] = r27_0;
             r10_0 = r10_0 + 1;
         }
-        uint32_t r73 = load32(a1 + 72);
+        uint32_t r73 = load32(a1 + 80);
         uint8_t pre = *r24;
         v8 = pre;
         r0_4_0 = uadd_sat32((uint32_t)a1_a0, r73);
@@ -2124,9 +2209,9 @@ static void dfu_asks_asking_Asking_advance(unsigned char *a0, unsigned char *a1,
         break;
     default: never();
     }
-    store64(a1 + 64, r0_0_0);
-    store32(a1 + 72, r0_4_0);
-    uint64_t r65 = load64(a1 + 56);
+    store64(a1 + 72, r0_0_0);
+    store32(a1 + 80, r0_4_0);
+    uint64_t r65 = load64(a1 + 64);
     v9 = load32(r28);
     v10 = load32(r30);
     r81 = (uint32_t)(size_t)umin64(a3, r65);
@@ -2209,27 +2294,27 @@ static void dfu_core_keeping_keep(unsigned char *a0, unsigned char *a1) {
     uint16_t r3_96_4_copyload;
     unsigned char *r27;
     store32(r1, 0);
-    uint8_t v0 = a0[36];
+    uint8_t v0 = a0[48];
     *r1 = v0;
-    uint8_t v1 = a0[37];
+    uint8_t v1 = a0[49];
     r1[1] = v1;
-    uint32_t v2 = load32(a0 + 40);
+    uint32_t v2 = load32(a0 + 52);
     store32(r1 + 4, v2);
-    uint32_t v3 = load32(a0 + 44);
+    uint32_t v3 = load32(a0 + 56);
     store32(r1 + 8, v3);
-    uint32_t v4 = load32(a0 + 48);
+    uint32_t v4 = load32(a0 + 60);
     store32(r1 + 12, v4);
     dfu_core_mode_set_mode(a1, r1);
-    uint8_t r20 = a0[96];
-    r3_54_4_copyload = load32(a0 + 104);
-    r3_6_4_copyload = a0[108];
-    r3_75_4_copyload = load32(a0 + 112);
-    r3_8_4_copyload = a0[116];
-    r3_96_4_copyload = load16(a0 + 118);
-    r3_10_4_copyload = load32(a0 + 120);
+    uint8_t r20 = a0[104];
+    r3_54_4_copyload = load32(a0 + 112);
+    r3_6_4_copyload = a0[116];
+    r3_75_4_copyload = load32(a0 + 120);
+    r3_8_4_copyload = a0[124];
+    r3_96_4_copyload = load16(a0 + 126);
+    r3_10_4_copyload = load32(a0 + 128);
     if (r20 == 0) store32(a1 + 44, 0);
     else {
-        uint8_t r3_3_4_copyload = a0[100];
+        uint8_t r3_3_4_copyload = a0[108];
         if (r3_3_4_copyload != 0) {
             store32(a1 + 44, 2);
             store32(a1 + 48, r3_54_4_copyload);
@@ -2248,15 +2333,15 @@ static void dfu_core_keeping_keep(unsigned char *a0, unsigned char *a1) {
         store32(a1 + 56, r3_10_4_copyload);
         store32(a1 + 60, (uint32_t)((r3_8_4_copyload == 0) ? 0 : ((uint32_t)r3_96_4_copyload + 1)));
     }
-    size_t r26 = (size_t)load64(a0 + 56);
+    size_t r26 = (size_t)load64(a0 + 64);
     store16(a1 + 26, (uint16_t)r26);
-    size_t r32 = (size_t)load64(a0 + 64);
+    size_t r32 = (size_t)load64(a0 + 72);
     store16(a1 + 66, (uint16_t)r32);
-    uint32_t r38 = load32(a0 + 72);
+    uint32_t r38 = load32(a0 + 80);
     store32(a1 + 16, r38);
-    uint8_t r42 = a0[76];
+    uint8_t r42 = a0[84];
     store32(a1 + 20, (uint32_t)r42);
-    memmove(a1 + 28, a0 + 77, 16);
+    memmove(a1 + 28, a0 + 85, 16);
     return;
 }
 
@@ -2434,13 +2519,13 @@ static void dfu_asks_asking_Asking_see(unsigned char *a0, unsigned char *a1, siz
         memset(a0 + 8, 0, 40);
         return;
     }
-    uint32_t r7_0_0_copyload = load32(a1 + 32);
-    uint8_t r6_0_0_copyload = a1[28];
+    uint32_t r7_0_0_copyload = load32(a1 + 44);
+    uint8_t r6_0_0_copyload = a1[40];
     store64(r3, (size_t)(uintptr_t)a3);
     store64(r3 + 8, a4);
     r3[16] = r6_0_0_copyload;
     store32(r3 + 20, r7_0_0_copyload);
-    dfu_asks_noted_look(r9, r3, a1 + 76);
+    dfu_asks_noted_look(r9, r3, a1 + 84);
     uint8_t r38 = *r9;
     if (r38 != 1) {
         *a0 = 1;
@@ -2469,20 +2554,20 @@ static uint8_t dfu_asks_asking_Asking_is_fit(unsigned char *a0, size_t a1, unsig
     unsigned char *r16, *r43;
     uint32_t r44, r46, r74, v2;
     uint8_t r71, common_ret_op;
-    r16 = a0 + 56;
+    r16 = a0 + 64;
     uint64_t r17 = load64(r16);
     if ((uint64_t)a1 < r17) common_ret_op = 0;
     else {
         uint16_t r5_2_0_copyload = load16(a0 + 12);
         if (umin_size(a1, 4096) < (size_t)r5_2_0_copyload) common_ret_op = 0;
         else {
-            r43 = a0 + 72;
+            r43 = a0 + 80;
             r44 = load32(r43);
             r46 = load32(a3 + 8);
             if (r44 > r46) common_ret_op = 0;
             else {
-                uint64_t r42 = load64(a0 + 64);
-                uint8_t r10_0_0_copyload = a0[28];
+                uint64_t r42 = load64(a0 + 72);
+                uint8_t r10_0_0_copyload = a0[40];
                 uint32_t switch_load = load32(PLACE(switch_table_dfu_asks_asking_Asking_is_fit) + 4 * (size_t)r10_0_0_copyload);
                 if (r42 != (uint64_t)(size_t)(switch_load & r44)) common_ret_op = 0;
                 else {
@@ -2490,8 +2575,8 @@ static uint8_t dfu_asks_asking_Asking_is_fit(unsigned char *a0, size_t a1, unsig
                     uint8_t r67 = dfu_slots_read_is_open(a2, r65);
                     r71 = !r67;
                     r74 = load32(r43);
-                    uint8_t v1 = a0[36];
-                    v2 = load32(a0 + 40);
+                    uint8_t v1 = a0[48];
+                    v2 = load32(a0 + 52);
                     switch (v1) {
                     case 3:
                     case 5: {
@@ -2549,12 +2634,12 @@ static void dfu_asks_asking_Asking_carry_out(unsigned char *a0, unsigned char *a
     switch (r1_0_0_copyload) {
     case 0: {
         uint8_t r1_3_1_copyload = a2[1];
-        a1[36] = (uint8_t)r1_517_4_copyload;
-        a1[37] = (uint8_t)(r1_517_4_copyload >> 8);
-        store16(a1 + 40, r1_11_8_copyload);
-        store16(a1 + 42, r1_15_8_copyload);
-        store32(a1 + 44, r1_16_12_copyload);
-        store32(a1 + 48, r1_19_16_copyload);
+        a1[48] = (uint8_t)r1_517_4_copyload;
+        a1[49] = (uint8_t)(r1_517_4_copyload >> 8);
+        store16(a1 + 52, r1_11_8_copyload);
+        store16(a1 + 54, r1_15_8_copyload);
+        store32(a1 + 56, r1_16_12_copyload);
+        store32(a1 + 60, r1_19_16_copyload);
         struct i8_i64 r99 = dfu_asks_asking_Asking_give(a1, r1_3_1_copyload, (uint16_t)((a3 & 1) ? a4 : 0), a13);
         r35_0_0 = 1;
         r35_7_0 = r99.a;
@@ -2564,13 +2649,13 @@ static void dfu_asks_asking_Asking_carry_out(unsigned char *a0, unsigned char *a
     case 1: {
         size_t a1_a0 = umin_size(umin_size(a8, a6), 4096);
         core_slice_edits_slice_T_copy_from_slice_i8_core_clone_U8Clone(a7, a5, a1_a0);
-        store64(a1 + 56, a1_a0);
-        a1[36] = (uint8_t)r1_517_4_copyload;
-        a1[37] = (uint8_t)(r1_517_4_copyload >> 8);
-        store16(a1 + 40, r1_11_8_copyload);
-        store16(a1 + 42, r1_15_8_copyload);
-        store32(a1 + 44, r1_16_12_copyload);
-        store32(a1 + 48, r1_19_16_copyload);
+        store64(a1 + 64, a1_a0);
+        a1[48] = (uint8_t)r1_517_4_copyload;
+        a1[49] = (uint8_t)(r1_517_4_copyload >> 8);
+        store16(a1 + 52, r1_11_8_copyload);
+        store16(a1 + 54, r1_15_8_copyload);
+        store32(a1 + 56, r1_16_12_copyload);
+        store32(a1 + 60, r1_19_16_copyload);
         r35_0_0 = 1;
         r35_7_0 = 0;
         r35_1343_0 = 0;
@@ -2586,12 +2671,12 @@ static void dfu_asks_asking_Asking_carry_out(unsigned char *a0, unsigned char *a
             dfu_slots_read_read_data(a11, r34, r1_517_4_copyload, a13, a1_a0_3);
         }
         uint8_t r174 = a1_a0_3 < r1;
-        a1[36] = (uint8_t)(r174 ? 2 : 11);
-        a1[37] = 0;
-        store32(a1 + 40, (uint32_t)(r174 ? 0 : (r1_517_4_copyload + (uint32_t)r1_11_8_copyload)));
-        store16(a1 + 44, (uint16_t)(r174 ? 0 : r1_15_8_copyload));
-        store16(a1 + 46, 0);
-        store32(a1 + 48, 0);
+        a1[48] = (uint8_t)(r174 ? 2 : 11);
+        a1[49] = 0;
+        store32(a1 + 52, (uint32_t)(r174 ? 0 : (r1_517_4_copyload + (uint32_t)r1_11_8_copyload)));
+        store16(a1 + 56, (uint16_t)(r174 ? 0 : r1_15_8_copyload));
+        store16(a1 + 58, 0);
+        store32(a1 + 60, 0);
         r35_0_0 = 1;
         r35_7_0 = 1;
         r35_1343_0 = a1_a0_3;
@@ -2599,15 +2684,15 @@ static void dfu_asks_asking_Asking_carry_out(unsigned char *a0, unsigned char *a
     }
     case 3:
     case 4: {
-        uint8_t r10 = a1[36];
+        uint8_t r10 = a1[48];
         switch (r10) {
         case 3: {
-            uint32_t r13 = load32(a1 + 40);
+            uint32_t r13 = load32(a1 + 52);
             dfu_asks_asking_Asking_block_job(r5, a1, r13, a11, a12);
             break;
         }
         case 5: {
-            uint32_t r17 = load32(a1 + 40);
+            uint32_t r17 = load32(a1 + 52);
             dfu_asks_asking_Asking_block_job(r5, a1, r17, a11, a12);
             break;
         }
@@ -2626,9 +2711,9 @@ static void dfu_asks_asking_Asking_carry_out(unsigned char *a0, unsigned char *a
             uint8_t r0_0_0_copyload = a11[16];
             uint32_t r1_0_0_copyload_2 = load32(a11 + 20);
             uint32_t switch_load = load32(PLACE(switch_table_dfu_core_would_stall) + 4 * (size_t)r0_0_0_copyload);
-            uint32_t r22 = load32(a1 + 72);
-            uint64_t r26 = load64(a1 + 64);
-            uint8_t r37 = a1[77];
+            uint32_t r22 = load32(a1 + 80);
+            uint64_t r26 = load64(a1 + 72);
+            uint8_t r37 = a1[85];
             size_t r13_0_0_copyload = (size_t)load64(a11);
             store32(r5_2, 0xffffffffU);
             dfu_suffix_crc_Crc_update_small(r5_2, (unsigned char *)(uintptr_t)r13_0_0_copyload + (size_t)((umax32(r1_0_0_copyload_2, switch_load) << 1) + r16), (uint64_t)(size_t)r22 - r26);
@@ -2652,19 +2737,19 @@ static void dfu_asks_asking_Asking_carry_out(unsigned char *a0, unsigned char *a
         r16_7_0_copyload = load32(r5 + 24);
         if (r16_7_0_copyload != 0) {
             size_t r11_0_0_copyload = (size_t)load64(a11);
-            r12_0_0_copyload = load32(a1 + 32);
+            r12_0_0_copyload = load32(a1 + 44);
             r49 = (unsigned char *)(uintptr_t)r11_0_0_copyload;
             if (r12_0_0_copyload != 0) {
                 uint32_t r23 = load32(a12 + 4);
                 uint8_t r0_0_0_copyload_2 = a11[16];
                 uint32_t r1_0_0_copyload_3 = load32(a11 + 20);
                 uint32_t switch_load_2 = load32(PLACE(switch_table_dfu_core_would_stall) + 4 * (size_t)r0_0_0_copyload_2);
-                uint32_t r27 = load32(a1 + 72);
-                uint64_t r29 = load64(a1 + 64);
+                uint32_t r27 = load32(a1 + 80);
+                uint64_t r29 = load64(a1 + 72);
                 uint32_t r37_2 = ((r27 + r23) + (umax32(r1_0_0_copyload_3, switch_load_2) << 1)) - (uint32_t)r29;
                 size_t r1_3 = (size_t)r37_2;
                 r11_3_0_copyload = load64(a11 + 8);
-                uint64_t r41 = load64(a1 + 56);
+                uint64_t r41 = load64(a1 + 64);
                 uint32_t r22_2 = ((((r37_2 >> 15) % r12_0_0_copyload) << 15) | (r37_2 & 32767)) % r12_0_0_copyload;
                 a1_a0_4 = umin64(r11_3_0_copyload, (uint64_t)(size_t)((r22_2 == 0) ? 0 : (size_t)umin64((size_t)(r12_0_0_copyload - r22_2), r41 + r29)) + (uint64_t)r1_3);
                 r3_0 = r1_3;
@@ -2682,17 +2767,17 @@ static void dfu_asks_asking_Asking_carry_out(unsigned char *a0, unsigned char *a
             }
         }
 join_3:
-        store64(a1 + 64, r16_6_0_copyload);
-        store32(a1 + 72, r16_7_0_copyload);
-        store32(a1 + 96, 1);
-        store32(a1 + 100, (uint32_t)r16_0_0_copyload);
-        store32(a1 + 104, r16_312_0_copyload);
-        a1[108] = r16_4_0_copyload;
-        memset(a1 + 109, 0, 3);
-        store32(a1 + 112, r16_513_0_copyload);
-        store16(a1 + 116, a3);
-        store16(a1 + 118, a4);
-        store32(a1 + 120, 0);
+        store64(a1 + 72, r16_6_0_copyload);
+        store32(a1 + 80, r16_7_0_copyload);
+        store32(a1 + 104, 1);
+        store32(a1 + 108, (uint32_t)r16_0_0_copyload);
+        store32(a1 + 112, r16_312_0_copyload);
+        a1[116] = r16_4_0_copyload;
+        memset(a1 + 117, 0, 3);
+        store32(a1 + 120, r16_513_0_copyload);
+        store16(a1 + 124, a3);
+        store16(a1 + 126, a4);
+        store32(a1 + 128, 0);
         size_t r33_0_0_copyload = (size_t)load64(a11);
         uint64_t r33_3_0_copyload = load64(a11 + 8);
         dfu_asks_asking_Asking_advance(r0, a1, a7, a8, a9, a10, (unsigned char *)(uintptr_t)r33_0_0_copyload, r33_3_0_copyload, a13);
@@ -2730,8 +2815,8 @@ static void dfu_asks_asking_Asking_block_job(unsigned char *a0, unsigned char *a
         r45_sink = 0;
     }
     else {
-        uint64_t r43 = load64(a1 + 64);
-        uint32_t r45 = load32(a1 + 72);
+        uint64_t r43 = load64(a1 + 72);
+        uint32_t r45 = load32(a1 + 80);
         memset(a0 + 9, 0, 3);
         sink = 0;
         r43_sink = r43;
@@ -3390,7 +3475,7 @@ static void dfu_device_plans_block(unsigned char *a0, unsigned char *a1, uint32_
         memset(a0 + 8, 0, 16);
         return;
     }
-    uint64_t r54 = load64(a1 + 24);
+    uint64_t r54 = load64(a1 + 40);
     if (r54 < ((uint64_t)(size_t)a5 + (uint64_t)(size_t)a2)) {
         *a0 = 0;
         a0[1] = 3;
@@ -3439,15 +3524,15 @@ static void dfu_device_plans_upload(unsigned char *a0, unsigned char *a1, uint32
 
 /* dfu_device_c::power::start: crates/dfu_device_c/src/power.rt */
 static uint32_t dfu_device_c_power_start(unsigned char *a0, unsigned char *a1, unsigned char *a2, size_t a3, uint32_t a4) {
-    _Alignas(4) unsigned char r7[40];
+    _Alignas(4) unsigned char r7[52];
     _Alignas(4) unsigned char r8[18];
     uint32_t common_ret_op;
     dfu_core_config_settings_of(r7, a0);
     uint8_t r14 = *r7;
     if (r14 != 1) common_ret_op = 0xfffffffeU;
     else {
-        uint8_t r3_2_0_copyload = r7[32];
-        uint32_t r3_31_0_copyload = load32(r7 + 36);
+        uint8_t r3_2_0_copyload = r7[44];
+        uint32_t r3_31_0_copyload = load32(r7 + 48);
         dfu_asks_noted_Noted_find(r8, a2, a3, r3_2_0_copyload, r3_31_0_copyload);
         uint8_t r24 = *r8;
         if (r24 != 1) common_ret_op = 0xfffffffdU;
@@ -3505,17 +3590,17 @@ int32_t dfu_core_image(const struct dfu_config *config, const uint8_t *flash, si
     unsigned char *a1 = (unsigned char *)(uintptr_t)flash;
     size_t a2 = (size_t)size;
     unsigned char *a3 = (unsigned char *)(uintptr_t)place;
-    _Alignas(4) unsigned char r5[40];
+    _Alignas(4) unsigned char r5[52];
     _Alignas(4) unsigned char r10[18];
     uint8_t r3_2_0_copyload;
     uint32_t r3_31_0_copyload, common_ret_op;
-    store64a4(r5 + 32, 0);
+    store64a4(r5 + 44, 0);
     dfu_core_config_settings_of(r5, a0);
     uint8_t r12 = *r5;
     if (r12 != 1) common_ret_op = 0xfffffffeU;
     else {
-        r3_2_0_copyload = r5[32];
-        r3_31_0_copyload = load32(r5 + 36);
+        r3_2_0_copyload = r5[44];
+        r3_31_0_copyload = load32(r5 + 48);
         dfu_asks_noted_Noted_find(r10, a1, a2, r3_2_0_copyload, r3_31_0_copyload);
         uint8_t r1_0_0_copyload = *r10;
         if (r1_0_0_copyload != 1) common_ret_op = 0xfffffffdU;
@@ -3553,13 +3638,13 @@ int32_t dfu_core_too_long(const struct dfu_config *config, struct dfu_record *re
     unsigned char *a0 = (unsigned char *)(uintptr_t)config;
     unsigned char *a1 = (unsigned char *)(uintptr_t)record;
     unsigned char *a2 = (unsigned char *)(uintptr_t)setup;
-    _Alignas(4) unsigned char r8[56];
+    _Alignas(4) unsigned char r8[68];
     _Alignas(4) unsigned char r6[16];
     uint8_t r3_3_0_copyload, r3_4_0_copyload, r13_4_0, r13_7_0;
     uint64_t r2_0_0_copyload;
     uint32_t r13_107_0, r13_13_0, r13_16_0, common_ret_op;
     store32(r6, 0);
-    memset(r8, 0, 56);
+    memset(r8, 0, 68);
     dfu_core_mode_idle_mode(r8, a0, a1);
     uint8_t r18 = *r8;
     if (r18 != 0) {
@@ -3569,15 +3654,15 @@ int32_t dfu_core_too_long(const struct dfu_config *config, struct dfu_record *re
     }
     else {
         uint16_t r3_0_3_0_copyload = load16(r8 + 16);
-        r3_3_0_copyload = r8[40];
-        r3_4_0_copyload = r8[41];
+        r3_3_0_copyload = r8[52];
+        r3_4_0_copyload = r8[53];
         r2_0_0_copyload = load64u(a2);
         if (!((((size_t)r2_0_0_copyload & 255) == 33) ? (r3_0_3_0_copyload < (uint16_t)(size_t)(r2_0_0_copyload >> 48)) : 0)) common_ret_op = 0xfffffff7U;
         else {
             uint8_t r34 = a0[15];
-            uint32_t r3_8_0_copyload = load32(r8 + 52);
-            uint32_t r3_7_0_copyload = load32(r8 + 48);
-            uint32_t r3_6_0_copyload = load32(r8 + 44);
+            uint32_t r3_8_0_copyload = load32(r8 + 64);
+            uint32_t r3_7_0_copyload = load32(r8 + 60);
+            uint32_t r3_6_0_copyload = load32(r8 + 56);
             if (!(((r2_0_0_copyload & 0xff0000000000ULL) == 0) & (r34 == (uint8_t)(size_t)(r2_0_0_copyload >> 32)))) {
                 r13_4_0 = r3_3_0_copyload;
                 r13_7_0 = r3_4_0_copyload;
@@ -3648,38 +3733,51 @@ int32_t dfu_core_version(void) {
 int32_t dfu_core_due(const struct dfu_config *config, const struct dfu_record *record) {
     unsigned char *a0 = (unsigned char *)(uintptr_t)config;
     unsigned char *a1 = (unsigned char *)(uintptr_t)record;
-    _Alignas(4) unsigned char r6[56];
-    uint32_t r3_6_0_copyload, r3_7_0_copyload, r0_4_0, common_ret_op;
-    memset(r6, 0, 56);
-    dfu_core_mode_mode_in(r6, a0, a1);
-    uint8_t r10 = *r6;
-    if (r10 != 0) {
-        uint8_t r4_0_0_copyload = r6[1];
+    _Alignas(4) unsigned char r7[68];
+    _Alignas(4) unsigned char r1_2[16];
+    unsigned char *r13;
+    uint32_t r3_6_0_copyload, r3_7_0_copyload, r3_8_0_copyload, r0_4_0, common_ret_op;
+    uint8_t r1_3_0_copyload;
+    size_t r1;
+    memset(r7, 0, 68);
+    dfu_core_mode_mode_in(r7, a0, a1);
+    uint8_t r12 = *r7;
+    if (r12 != 0) {
+        uint8_t r4_0_0_copyload = r7[1];
         uint32_t switch_load = load32(PLACE(switch_table_dfu_core_numbers_Refusal_number) + 4 * (size_t)r4_0_0_copyload);
         common_ret_op = switch_load;
     }
     else {
-        uint8_t r3_3_0_copyload = r6[40];
-        r3_6_0_copyload = load32(r6 + 44);
-        r3_7_0_copyload = load32(r6 + 48);
+        r13 = r7 + 4;
+        uint8_t r3_3_0_copyload = r7[52];
+        uint8_t r3_4_0_copyload = r7[53];
+        r3_6_0_copyload = load32(r7 + 56);
+        r3_7_0_copyload = load32(r7 + 60);
+        r3_8_0_copyload = load32(r7 + 64);
+        r1_3_0_copyload = r7[13];
+        uint16_t r28 = load16(a1 + 26);
+        r1 = (size_t)r28;
+        store32(r1_2, 0);
+        *r1_2 = r3_3_0_copyload;
+        r1_2[1] = r3_4_0_copyload;
+        store32(r1_2 + 4, r3_6_0_copyload);
+        store32(r1_2 + 8, r3_7_0_copyload);
+        store32(r1_2 + 12, r3_8_0_copyload);
         switch (r3_3_0_copyload) {
-        case 1: {
-            uint8_t r3_0_3_0_copyload = r6[13];
-            if (r3_0_3_0_copyload & 1) r0_4_0 = 1;
+        case 1:
+            if (r1_3_0_copyload & 1) r0_4_0 = 1;
             else {
                 r0_4_0 = umax32(usub_sat32(r3_6_0_copyload, r3_7_0_copyload), 1);
             }
             break;
-        }
         case 5: {
-            uint32_t r3_8_0_copyload = load32(r6 + 52);
-            uint32_t r3_0_5_0_copyload = load32(r6 + 24);
-            r0_4_0 = umax32(usub_sat32(r3_0_5_0_copyload, r3_8_0_copyload), 1);
+            uint32_t r41 = dfu_device_time_table_poll_ms(r13, r1_2, r1);
+            r0_4_0 = umax32(usub_sat32(r41, r3_8_0_copyload), 1);
             break;
         }
         case 9: {
-            uint32_t r3_0_6_0_copyload = load32(r6 + 28);
-            r0_4_0 = umax32(usub_sat32(r3_0_6_0_copyload, r3_7_0_copyload), 1);
+            uint32_t r49 = dfu_device_time_table_poll_ms(r13, r1_2, r1);
+            r0_4_0 = umax32(usub_sat32(r49, r3_7_0_copyload), 1);
             break;
         }
         case 0:
@@ -3710,7 +3808,7 @@ int32_t dfu_core_format_start(const struct dfu_config *config, struct dfu_record
     size_t a3 = (size_t)size;
     unsigned char *a4 = (unsigned char *)(uintptr_t)image;
     size_t a5 = (size_t)length;
-    _Alignas(4) unsigned char r8[40];
+    _Alignas(4) unsigned char r8[52];
     _Alignas(8) unsigned char r7[24];
     unsigned char *const r3 = r7;
     unsigned char *r4, *r13;
@@ -3718,15 +3816,15 @@ int32_t dfu_core_format_start(const struct dfu_config *config, struct dfu_record
     uint8_t r5_2_0_copyload;
     r4 = a2;
     r13 = a4;
-    store64a4(r8 + 32, 0);
+    store64a4(r8 + 44, 0);
     dfu_core_config_settings_of(r8, a0);
     uint8_t r18 = *r8;
     if (r18 != 1) common_ret_op = 0xfffffffeU;
     else {
         if (wide(a3) > 0xffffffffU) common_ret_op = 0xfffffffdU;
         else {
-            r5_31_0_copyload = load32(r8 + 36);
-            r5_2_0_copyload = r8[32];
+            r5_31_0_copyload = load32(r8 + 48);
+            r5_2_0_copyload = r8[44];
             store64(r7, (size_t)(uintptr_t)r4);
             store64(r7 + 8, a3);
             r7[16] = r5_2_0_copyload;
@@ -3764,16 +3862,16 @@ int32_t dfu_core_format_took(const struct dfu_config *config, struct dfu_record 
     uint32_t a6 = failed;
     _Alignas(8) unsigned char r3[112];
     _Alignas(8) unsigned char r5[112];
-    _Alignas(4) unsigned char r7[40];
+    _Alignas(4) unsigned char r7[52];
     _Alignas(4) unsigned char r8[28];
     _Alignas(4) unsigned char r6[24];
     unsigned char *r4, *r13, *r30;
-    size_t wide_9016;
+    size_t wide_9637;
     uint8_t r3_0_0_copyload, r7_0_0_0, r6_2;
     uint32_t r4_0_0_copyload, r31, r100, r7_8_0, r26, r3_3_4_copyload, common_ret_op;
     r4 = a2;
     r13 = a4;
-    store64a4(r7 + 32, 0);
+    store64a4(r7 + 44, 0);
     dfu_core_config_settings_of(r7, a0);
     uint8_t r18 = *r7;
     if (r18 != 1) common_ret_op = 0xfffffffeU;
@@ -3784,7 +3882,7 @@ int32_t dfu_core_format_took(const struct dfu_config *config, struct dfu_record 
         else {
             unsigned char *r24 = r8 + 4;
             memcpy(r6, r24, 24);
-            wide_9016 = (size_t)(uintptr_t)r13;
+            wide_9637 = (size_t)(uintptr_t)r13;
             r3_0_0_copyload = *r6;
             r4_0_0_copyload = load32(r6 + 4);
             r30 = r6 + 20;
@@ -3796,7 +3894,7 @@ int32_t dfu_core_format_took(const struct dfu_config *config, struct dfu_record 
             store32(r5 + 12, 0);
             store64(r5 + 16, (uint64_t)(uintptr_t)static_2);
             store64(r5 + 24, 0);
-            store64(r5 + 32, wide_9016);
+            store64(r5 + 32, wide_9637);
             store64(r5 + 40, a5);
             store64(r5 + 48, (size_t)r31);
             memset(r5 + 56, 0, 40);
@@ -3818,7 +3916,7 @@ int32_t dfu_core_format_took(const struct dfu_config *config, struct dfu_record 
                         store32(r3 + 12, 0);
                         store64(r3 + 16, (uint64_t)(uintptr_t)static_2);
                         store64(r3 + 24, 0);
-                        store64(r3 + 32, wide_9016);
+                        store64(r3 + 32, wide_9637);
                         store64(r3 + 40, a5);
                         store64(r3 + 48, (size_t)r100);
                         memset(r3 + 56, 0, 40);
@@ -3891,7 +3989,7 @@ dfu_device_c_format_dfu_core_format_took_exit:
 int32_t dfu_core_functional(const struct dfu_config *config, uint8_t out[9]) {
     unsigned char *a0 = (unsigned char *)(uintptr_t)config;
     unsigned char *a1 = (unsigned char *)(uintptr_t)out;
-    _Alignas(4) unsigned char r1[40];
+    _Alignas(4) unsigned char r1[52];
     unsigned char *const r15 = r1;
     _Alignas(4) unsigned char r4[10];
     _Alignas(4) unsigned char r21[2];
@@ -3939,13 +4037,13 @@ int32_t dfu_core_format_next(const struct dfu_config *config, const struct dfu_r
     size_t a5 = (size_t)length;
     unsigned char *a6 = (unsigned char *)(uintptr_t)ask;
     _Alignas(8) unsigned char r5[112];
-    _Alignas(4) unsigned char r8[40];
+    _Alignas(4) unsigned char r8[52];
     _Alignas(4) unsigned char r9[28];
     unsigned char *r13, *r22, *r42;
     uint32_t r6_41_0_copyload, common_ret_op;
     uint64_t r6_6_0_copyload, r6_8_0_copyload;
     r13 = a4;
-    store64a4(r8 + 32, 0);
+    store64a4(r8 + 44, 0);
     dfu_core_config_settings_of(r8, a0);
     uint8_t r15 = *r8;
     if (r15 != 1) common_ret_op = 0xfffffffeU;
@@ -4004,7 +4102,7 @@ int32_t dfu_core_next(const struct dfu_config *config, const struct dfu_record *
     unsigned char *a4 = (unsigned char *)(uintptr_t)flash;
     size_t a5 = (size_t)size;
     unsigned char *a6 = (unsigned char *)(uintptr_t)ask;
-    _Alignas(8) unsigned char r5[136];
+    _Alignas(8) unsigned char r5[144];
     _Alignas(8) unsigned char r10[112];
     _Alignas(8) unsigned char r7[24];
     _Alignas(4) unsigned char r18[16];
@@ -4017,7 +4115,7 @@ int32_t dfu_core_next(const struct dfu_config *config, const struct dfu_record *
     size_t a1_2;
     r4 = a2;
     r13 = a4;
-    memset(r5, 0, 136);
+    memset(r5, 0, 144);
     dfu_core_keeping_found(a0, a1, a3, r5);
     uint8_t r32 = *r5;
     if (r32 != 0) {
@@ -4032,19 +4130,19 @@ int32_t dfu_core_next(const struct dfu_config *config, const struct dfu_record *
             r62 = a6 + 12;
             v2 = r18 + 8;
             store32(v2, 0);
-            uint8_t r29 = r5[104];
+            uint8_t r29 = r5[112];
             if (r29 == 1) {
                 size_t r1 = (size_t)r54;
-                uint32_t r13_3_9_0_copyload = load32(r5 + 128);
-                uint32_t r13_3_7_0_copyload = load32(r5 + 120);
-                uint8_t r13_3_5_0_copyload = r5[116];
-                uint32_t r13_3_4_0_copyload = load32(r5 + 112);
-                uint8_t r13_3_0_0_copyload = r5[108];
-                r5_0_0_copyload = r5[36];
-                r6_0_0_copyload = load32(r5 + 40);
-                uint32_t r17 = load32(r5 + 80);
-                uint64_t r8 = load64(r5 + 72);
-                uint64_t r26 = load64(r5 + 64);
+                uint32_t r13_3_9_0_copyload = load32(r5 + 136);
+                uint32_t r13_3_7_0_copyload = load32(r5 + 128);
+                uint8_t r13_3_5_0_copyload = r5[124];
+                uint32_t r13_3_4_0_copyload = load32(r5 + 120);
+                uint8_t r13_3_0_0_copyload = r5[116];
+                r5_0_0_copyload = r5[48];
+                r6_0_0_copyload = load32(r5 + 52);
+                uint32_t r17 = load32(r5 + 88);
+                uint64_t r8 = load64(r5 + 80);
+                uint64_t r26 = load64(r5 + 72);
                 *r10 = r5_0_0_copyload;
                 memset(r10 + 1, 0, 3);
                 store32(r10 + 4, r6_0_0_copyload);
@@ -4119,7 +4217,7 @@ int32_t dfu_core_took(const struct dfu_config *config, struct dfu_record *record
     uint32_t a6 = failed;
     unsigned char *a7 = (unsigned char *)(uintptr_t)out;
     size_t a8 = (size_t)room;
-    _Alignas(8) unsigned char r7[136];
+    _Alignas(8) unsigned char r7[144];
     _Alignas(8) unsigned char r40[16];
     unsigned char *r4, *r13, *r22, *r58, *r19, *r62, *r65, *r9_9_0_r65_sroa_idx, *r9_13_0_r65_sroa_idx;
     size_t r1, r27_2015_0_ph27;
@@ -4132,7 +4230,7 @@ int32_t dfu_core_took(const struct dfu_config *config, struct dfu_record *record
     r4 = a2;
     r13 = a4;
     r22 = a7;
-    memset(r7, 0, 136);
+    memset(r7, 0, 144);
     if (a8 < 6) common_ret_op = 0xfffffffbU;
     else {
         dfu_core_keeping_found(a0, a1, a3, r7);
@@ -4150,15 +4248,15 @@ int32_t dfu_core_took(const struct dfu_config *config, struct dfu_record *record
             r21 = (uint64_t)a3 - (uint64_t)r1;
             r92_not = a6 == 0;
             memset(r40, 0, 16);
-            r62 = r7 + 104;
+            r62 = r7 + 112;
             uint8_t r63 = *r62;
             if (r63 == 1) {
-                r65 = r7 + 108;
+                r65 = r7 + 116;
                 r9_0_0_copyload = *r65;
-                r9_9_0_r65_sroa_idx = r7 + 124;
+                r9_9_0_r65_sroa_idx = r7 + 132;
                 r9_9_0_copyload = *r9_9_0_r65_sroa_idx;
-                r9_113_0_copyload = load16(r7 + 126);
-                r9_13_0_r65_sroa_idx = r7 + 128;
+                r9_113_0_copyload = load16(r7 + 134);
+                r9_13_0_r65_sroa_idx = r7 + 136;
                 r9_13_0_copyload = load32(r9_13_0_r65_sroa_idx);
                 r91 = dfu_asks_asking_Asking_look_at(r58, r65, r4, r1, r19, r21, r13, a5);
                 r92 = r91.a;
@@ -4171,7 +4269,7 @@ int32_t dfu_core_took(const struct dfu_config *config, struct dfu_record *record
                     else {
                         store32(r62, 1);
                         store32(r65, (uint32_t)r9_0_0_copyload);
-                        memset(r7 + 117, 0, 3);
+                        memset(r7 + 125, 0, 3);
                         store16(r9_9_0_r65_sroa_idx, r9_9_0_copyload);
                         store32(r9_13_0_r65_sroa_idx, r9_13_0_copyload + (uint32_t)r92);
                         dfu_asks_asking_Asking_advance(r40, r58, r4, r1, r19, r21, r13, a5, r22);
@@ -4213,11 +4311,11 @@ int32_t dfu_core_refuse(const struct dfu_config *config, struct dfu_record *reco
     unsigned char *a0 = (unsigned char *)(uintptr_t)config;
     unsigned char *a1 = (unsigned char *)(uintptr_t)record;
     uint32_t a2 = status;
-    _Alignas(4) unsigned char r6[56];
+    _Alignas(4) unsigned char r6[68];
     _Alignas(4) unsigned char r11[16];
     uint8_t r2_3_0_copyload, r2_4_0_copyload, r1_5_0, r12_0_0, r12_4_0;
     uint32_t r2_6_0_copyload, r2_7_0_copyload, r2_8_0_copyload, r12_76_0, r12_10_0, r12_13_0, common_ret_op;
-    memset(r6, 0, 56);
+    memset(r6, 0, 68);
     store32(r11, 0);
     dfu_core_mode_idle_mode(r6, a0, a1);
     uint8_t r13 = *r6;
@@ -4227,11 +4325,11 @@ int32_t dfu_core_refuse(const struct dfu_config *config, struct dfu_record *reco
         common_ret_op = switch_load;
     }
     else {
-        r2_3_0_copyload = r6[40];
-        r2_4_0_copyload = r6[41];
-        r2_6_0_copyload = load32(r6 + 44);
-        r2_7_0_copyload = load32(r6 + 48);
-        r2_8_0_copyload = load32(r6 + 52);
+        r2_3_0_copyload = r6[52];
+        r2_4_0_copyload = r6[53];
+        r2_6_0_copyload = load32(r6 + 56);
+        r2_7_0_copyload = load32(r6 + 60);
+        r2_8_0_copyload = load32(r6 + 64);
         switch (a2) {
         case 1:
             r1_5_0 = 1;
@@ -4289,7 +4387,7 @@ int32_t dfu_core_refuse_close(const struct dfu_config *config, struct dfu_record
     unsigned char *a1 = (unsigned char *)(uintptr_t)record;
     unsigned char *a2 = (unsigned char *)(uintptr_t)setup;
     uint32_t a3 = status;
-    _Alignas(4) unsigned char r8[56];
+    _Alignas(4) unsigned char r8[68];
     _Alignas(4) unsigned char r2[16];
     _Alignas(4) unsigned char r19[16];
     _Alignas(8) unsigned char r6[8];
@@ -4297,7 +4395,7 @@ int32_t dfu_core_refuse_close(const struct dfu_config *config, struct dfu_record
     uint8_t r1_5_0;
     uint32_t common_ret_op;
     store32(r2, 0);
-    memset(r8, 0, 56);
+    memset(r8, 0, 68);
     store32(r19, 12);
     dfu_core_mode_idle_mode(r8, a0, a1);
     uint8_t r21 = *r8;
@@ -4308,11 +4406,11 @@ int32_t dfu_core_refuse_close(const struct dfu_config *config, struct dfu_record
     }
     else {
         r22 = r8 + 4;
-        uint8_t r3_3_0_copyload = r8[40];
-        uint8_t r3_4_0_copyload = r8[41];
-        uint32_t r3_6_0_copyload = load32(r8 + 44);
-        uint32_t r3_7_0_copyload = load32(r8 + 48);
-        uint32_t r3_8_0_copyload = load32(r8 + 52);
+        uint8_t r3_3_0_copyload = r8[52];
+        uint8_t r3_4_0_copyload = r8[53];
+        uint32_t r3_6_0_copyload = load32(r8 + 56);
+        uint32_t r3_7_0_copyload = load32(r8 + 60);
+        uint32_t r3_8_0_copyload = load32(r8 + 64);
         *r2 = r3_3_0_copyload;
         r2[1] = r3_4_0_copyload;
         store32(r2 + 4, r3_6_0_copyload);
@@ -4354,7 +4452,7 @@ int32_t dfu_core_candidate(const struct dfu_config *config, const struct dfu_rec
     unsigned char *a2 = (unsigned char *)(uintptr_t)flash;
     size_t a3 = (size_t)size;
     unsigned char *a4 = (unsigned char *)(uintptr_t)place;
-    _Alignas(8) unsigned char r3[136];
+    _Alignas(8) unsigned char r3[144];
     _Alignas(8) unsigned char r3_2[24];
     _Alignas(4) unsigned char r13[20];
     unsigned char *r4;
@@ -4362,7 +4460,7 @@ int32_t dfu_core_candidate(const struct dfu_config *config, const struct dfu_rec
     uint8_t r10_0_0_copyload;
     size_t r2_0_0;
     r4 = a2;
-    memset(r3, 0, 136);
+    memset(r3, 0, 144);
     dfu_core_keeping_found(a0, a1, 4352, r3);
     uint8_t r22 = *r3;
     if (r22 != 0) {
@@ -4372,23 +4470,23 @@ int32_t dfu_core_candidate(const struct dfu_config *config, const struct dfu_rec
     }
     else {
         memset(r13, 0, 20);
-        uint8_t r2 = r3[104];
+        uint8_t r2 = r3[112];
         if (r2 == 1) r2_0_0 = 2;
         else {
             if (wide(a3) <= 0xffffffffU) {
-                r11_0_0_copyload = load32(r3 + 40);
-                r10_0_0_copyload = r3[36];
+                r11_0_0_copyload = load32(r3 + 52);
+                r10_0_0_copyload = r3[48];
                 store64(r3_2, (size_t)(uintptr_t)r4);
                 store64(r3_2 + 8, a3);
                 r3_2[16] = r10_0_0_copyload;
                 memset(r3_2 + 17, 0, 3);
                 store32(r3_2 + 20, r11_0_0_copyload);
-                dfu_asks_noted_look(r13, r3_2, r3 + 84);
+                dfu_asks_noted_look(r13, r3_2, r3 + 92);
                 uint8_t r65 = *r13;
                 if (r65 == 1) {
                     r4_2_0_copyload = load32(r13 + 8);
-                    uint8_t v3 = r3[44];
-                    v4 = load32(r3 + 48);
+                    uint8_t v3 = r3[56];
+                    v4 = load32(r3 + 60);
                     switch (v3) {
                     case 6:
                     case 7:
@@ -4396,7 +4494,7 @@ int32_t dfu_core_candidate(const struct dfu_config *config, const struct dfu_rec
                         uint32_t r4_3_0_copyload = load32(r13 + 12);
                         if (r4_3_0_copyload < v4) {
                             r2_0_0 = 4;
-                            goto dfu_device_c_numbers_refused_exit;
+                            goto dfu_device_c_tells_refused_exit;
                         }
                         size_t v5 = (size_t)r10_0_0_copyload;
                         uint32_t switch_load = load32(PLACE(switch_table_dfu_core_would_stall) + 4 * v5);
@@ -4424,7 +4522,7 @@ int32_t dfu_core_candidate(const struct dfu_config *config, const struct dfu_rec
             }
             r2_0_0 = 3;
         }
-dfu_device_c_numbers_refused_exit:;
+dfu_device_c_tells_refused_exit:;
         uint32_t switch_load_3 = load32(PLACE(switch_table_dfu_core_numbers_Refusal_number) + 4 * r2_0_0);
         common_ret_op = switch_load_3;
     }
@@ -4441,19 +4539,20 @@ int32_t dfu_core_elapse(const struct dfu_config *config, struct dfu_record *reco
     unsigned char *a4 = (unsigned char *)(uintptr_t)flash;
     size_t a5 = (size_t)size;
     uint32_t a6 = ms;
-    _Alignas(8) unsigned char r5[136];
+    _Alignas(8) unsigned char r5[144];
     _Alignas(8) unsigned char r19_2[48];
+    _Alignas(8) unsigned char r23[48];
     _Alignas(4) unsigned char r12[24];
     _Alignas(8) unsigned char r29[16];
     _Alignas(1) unsigned char r13_2[6];
-    unsigned char *r4, *r13, *r44, *r19, *r5_2, *v3;
+    unsigned char *r4, *r13, *r44, *r19, *r5_2, *v3, *r0_6_0_a0_sroa_idx;
     size_t r1, r2_0_0;
-    uint64_t r21, r21_2, r15, r18;
-    uint8_t r0_0_4_0_copyload, r0_0_5_0_copyload, v4, r18_0_0;
-    uint32_t v5, v6, v7, r18_1547_0, r18_22_0, r18_29_0, r18_36_0, common_ret_op;
+    uint64_t r21, r21_2, r16, r19_3;
+    uint32_t r2_3, r2_4, v5, v6, v7, r18_1148_0, r18_16_0, r18_21_0, r18_26_0, common_ret_op;
+    uint8_t r11_2_0_copyload, r11_3_0_copyload, v4, r18_0_0;
     r4 = a2;
     r13 = a4;
-    memset(r5, 0, 136);
+    memset(r5, 0, 144);
     dfu_core_keeping_found(a0, a1, a3, r5);
     uint8_t r42 = *r5;
     if (r42 != 0) {
@@ -4470,7 +4569,7 @@ int32_t dfu_core_elapse(const struct dfu_config *config, struct dfu_record *reco
         store32(r12, 0);
         memset(r19_2, 0, 48);
         memset(r29, 0, 16);
-        uint8_t r2 = r5[104];
+        uint8_t r2 = r5[112];
         if (r2 == 1) r2_0_0 = 2;
         else {
             dfu_asks_asking_Asking_see(r19_2, r44, r1, r13, a5);
@@ -4478,83 +4577,97 @@ int32_t dfu_core_elapse(const struct dfu_config *config, struct dfu_record *reco
             if (r1_0_0_copyload == 0) {
                 r5_2 = r19_2 + 8;
                 v3 = r19_2 + 32;
-                r0_0_4_0_copyload = r5[16];
-                r0_0_5_0_copyload = r5[17];
-                v4 = r5[44];
-                v5 = load32(r5 + 48);
-                v6 = load32(r5 + 52);
-                v7 = load32(r5 + 56);
+                uint32_t r8_3_0_copyload = load32(r19_2 + 40);
+                memcpy(r23, r5 + 14, 10);
+                uint32_t r2_2 = load32(r5 + 24);
+                r2_3 = load32(r5 + 28);
+                r2_4 = load32(r5 + 32);
+                r0_6_0_a0_sroa_idx = r23 + 24;
+                memcpy(r0_6_0_a0_sroa_idx, r5 + 36, 12);
+                store16(r23 + 10, 0);
+                store32(r23 + 12, r2_2);
+                store32(r23 + 16, r2_3);
+                store32(r23 + 20, r2_4);
+                store32(r23 + 36, 0);
+                store64(r23 + 40, (size_t)r8_3_0_copyload);
+                r11_2_0_copyload = r23[2];
+                r11_3_0_copyload = r23[3];
+                v4 = r5[56];
+                v5 = load32(r5 + 60);
+                v6 = load32(r5 + 64);
+                v7 = load32(r5 + 68);
                 switch (v4) {
                 case 1:
                     r21_2 = (uint64_t)(size_t)v6 + (uint64_t)(size_t)a6;
                     if (a6 == 0) {
                         r18_0_0 = 0;
-                        r18_1547_0 = 1;
-                        r18_22_0 = v5;
-                        r18_29_0 = v6;
-                        r18_36_0 = 0;
+                        r18_1148_0 = 1;
+                        r18_16_0 = v5;
+                        r18_21_0 = v6;
+                        r18_26_0 = 0;
                     }
                     else {
-                        if (r0_0_5_0_copyload & 1) {
+                        if (r11_3_0_copyload & 1) {
                             r18_0_0 = 0;
-                            r18_1547_0 = 2;
-                            r18_22_0 = 0;
-                            r18_29_0 = 0;
-                            r18_36_0 = 0;
+                            r18_1148_0 = 2;
+                            r18_16_0 = 0;
+                            r18_21_0 = 0;
+                            r18_26_0 = 0;
                         }
                         else {
                             if (r21_2 < (uint64_t)(size_t)umax32(v5, 1)) {
                                 r18_0_0 = 0;
-                                r18_1547_0 = 1;
-                                r18_22_0 = v5;
-                                r18_29_0 = (uint32_t)r21_2;
-                                r18_36_0 = 0;
+                                r18_1148_0 = 1;
+                                r18_16_0 = v5;
+                                r18_21_0 = (uint32_t)r21_2;
+                                r18_26_0 = 0;
                             }
                             else {
                                 r18_0_0 = 0;
-                                r18_1547_0 = 0;
-                                r18_22_0 = 0;
-                                r18_29_0 = 0;
-                                r18_36_0 = 0;
+                                r18_1148_0 = 0;
+                                r18_16_0 = 0;
+                                r18_21_0 = 0;
+                                r18_26_0 = 0;
                             }
                         }
                     }
                     break;
                 case 5: {
-                    uint32_t r2_2 = load32(r5 + 28);
-                    r15 = (uint64_t)(size_t)v7 + (uint64_t)(size_t)a6;
-                    if ((a6 == 0) ? 1 : (r15 < (uint64_t)(size_t)r2_2)) {
+                    uint64_t r95 = load64(r5 + 72);
+                    r16 = (uint64_t)(size_t)v7 + (uint64_t)(size_t)a6;
+                    uint32_t r21_3 = dfu_device_time_table_block_ms(r0_6_0_a0_sroa_idx, r2_3, v5, r95);
+                    if ((a6 == 0) ? 1 : (r16 < (uint64_t)(size_t)r21_3)) {
                         r18_0_0 = 0;
-                        r18_1547_0 = 5;
-                        r18_22_0 = v5;
-                        r18_29_0 = v6 & 0xffffU;
-                        r18_36_0 = (uint32_t)r15;
+                        r18_1148_0 = 5;
+                        r18_16_0 = v5;
+                        r18_21_0 = v6 & 0xffffU;
+                        r18_26_0 = (uint32_t)r16;
                     }
                     else {
                         r18_0_0 = 3;
-                        r18_1547_0 = v5;
-                        r18_22_0 = (v6 & 0xffffU) | 0x10000U;
-                        r18_29_0 = 0;
-                        r18_36_0 = 0;
+                        r18_1148_0 = v5;
+                        r18_16_0 = (v6 & 0xffffU) | 0x10000U;
+                        r18_21_0 = 0;
+                        r18_26_0 = 0;
                     }
                     break;
                 }
                 case 9: {
-                    uint32_t r2_3 = load32(r5 + 32);
-                    r18 = (uint64_t)(size_t)v6 + (uint64_t)(size_t)a6;
-                    if ((a6 == 0) ? 1 : (r18 < (uint64_t)(size_t)r2_3)) {
+                    r19_3 = (uint64_t)(size_t)v6 + (uint64_t)(size_t)a6;
+                    uint32_t r24 = dfu_device_time_table_image_ms(r0_6_0_a0_sroa_idx, r2_4, v5);
+                    if ((a6 == 0) ? 1 : (r19_3 < (uint64_t)(size_t)r24)) {
                         r18_0_0 = 0;
-                        r18_1547_0 = 9;
-                        r18_22_0 = v5;
-                        r18_29_0 = (uint32_t)r18;
-                        r18_36_0 = 0;
+                        r18_1148_0 = 9;
+                        r18_16_0 = v5;
+                        r18_21_0 = (uint32_t)r19_3;
+                        r18_26_0 = 0;
                     }
                     else {
                         r18_0_0 = 4;
-                        r18_1547_0 = v5;
-                        r18_22_0 = (uint32_t)((r0_0_4_0_copyload & 1) ? 8 : 10);
-                        r18_29_0 = 0;
-                        r18_36_0 = 0;
+                        r18_1148_0 = v5;
+                        r18_16_0 = (uint32_t)((r11_2_0_copyload & 1) ? 8 : 10);
+                        r18_21_0 = 0;
+                        r18_26_0 = 0;
                     }
                     break;
                 }
@@ -4568,21 +4681,21 @@ int32_t dfu_core_elapse(const struct dfu_config *config, struct dfu_record *reco
                 case 10:
                 case 11:
                 case 12: {
-                    uint8_t v8 = r5[45];
+                    uint8_t v8 = r5[57];
                     r18_0_0 = 0;
-                    r18_1547_0 = ((uint32_t)v8 << 8) | (uint32_t)v4;
-                    r18_22_0 = v5;
-                    r18_29_0 = v6;
-                    r18_36_0 = v7;
+                    r18_1148_0 = ((uint32_t)v8 << 8) | (uint32_t)v4;
+                    r18_16_0 = v5;
+                    r18_21_0 = v6;
+                    r18_26_0 = v7;
                     break;
                 }
                 default: never();
                 }
                 *r12 = r18_0_0;
-                store32(r12 + 4, r18_1547_0);
-                store32(r12 + 8, r18_22_0);
-                store32(r12 + 12, r18_29_0);
-                store32(r12 + 16, r18_36_0);
+                store32(r12 + 4, r18_1148_0);
+                store32(r12 + 8, r18_16_0);
+                store32(r12 + 12, r18_21_0);
+                store32(r12 + 16, r18_26_0);
                 store32(r12 + 20, 0);
                 memset(r13_2, 0, 6);
                 dfu_asks_asking_Asking_carry_out(r29, r44, r12, 0, 0, PLACE(static_2), 0, r4, r1, r19, r21, r5_2, v3, r13_2, 6);
@@ -4609,14 +4722,14 @@ int32_t dfu_core_usb_reset(const struct dfu_config *config, struct dfu_record *r
     size_t a3 = (size_t)most;
     unsigned char *a4 = (unsigned char *)(uintptr_t)flash;
     size_t a5 = (size_t)size;
-    _Alignas(8) unsigned char r5[136];
+    _Alignas(8) unsigned char r5[144];
     _Alignas(8) unsigned char r14[48];
     unsigned char *r13, *r38;
     uint16_t r53;
     size_t r2_0_0;
     uint32_t common_ret_op;
     r13 = a4;
-    memset(r5, 0, 136);
+    memset(r5, 0, 144);
     dfu_core_keeping_found(a0, a1, a3, r5);
     uint8_t r36 = *r5;
     if (r36 != 0) {
@@ -4628,19 +4741,19 @@ int32_t dfu_core_usb_reset(const struct dfu_config *config, struct dfu_record *r
         r38 = r5 + 8;
         r53 = load16(a0 + 12);
         memset(r14, 0, 48);
-        uint8_t r2 = r5[104];
+        uint8_t r2 = r5[112];
         if (r2 == 1) r2_0_0 = 2;
         else {
             dfu_asks_asking_Asking_see(r14, r38, (size_t)r53, r13, a5);
             uint8_t r1_0_0_copyload = *r14;
             if (r1_0_0_copyload == 0) {
-                unsigned char *r42 = r5 + 44;
+                unsigned char *r42 = r5 + 56;
                 uint8_t v4 = *r42;
                 *r42 = (uint8_t)((v4 == 1) ? 2 : 0);
-                r5[45] = 0;
-                store32(r5 + 48, 0);
-                store32(r5 + 52, 0);
-                store32(r5 + 56, 0);
+                r5[57] = 0;
+                store32(r5 + 60, 0);
+                store32(r5 + 64, 0);
+                store32(r5 + 68, 0);
                 dfu_core_keeping_keep(r38, a1);
                 common_ret_op = 0;
                 goto dfu_device_c_calls_dfu_core_usb_reset_exit;
@@ -4668,16 +4781,16 @@ int32_t dfu_core_handle(const struct dfu_config *config, struct dfu_record *reco
     size_t a8 = (size_t)length;
     unsigned char *a9 = (unsigned char *)(uintptr_t)out;
     size_t a10 = (size_t)room;
-    _Alignas(8) unsigned char r9[136];
+    _Alignas(8) unsigned char r9[144];
+    _Alignas(8) unsigned char r23[48];
     _Alignas(8) unsigned char r27[48];
-    _Alignas(8) unsigned char r11[32];
     _Alignas(4) unsigned char r12[24];
     _Alignas(8) unsigned char r17[16];
     _Alignas(4) unsigned char r28[16];
     _Alignas(8) unsigned char r9_2[8];
     _Alignas(4) unsigned char r10[6];
     _Alignas(4) unsigned char r15[6];
-    unsigned char *r4, *r13, *r22, *r31, *r68, *r19, *r1_2, *r5, *v7;
+    unsigned char *r4, *r13, *r22, *r31, *r68, *r19, *r5, *v7;
     uint16_t r4_2, v11, r9_0;
     uint64_t r2_0_0_copyload, r21;
     uint8_t r15_not_not;
@@ -4688,7 +4801,7 @@ int32_t dfu_core_handle(const struct dfu_config *config, struct dfu_record *reco
     r13 = a4;
     r22 = a7;
     r31 = a9;
-    memset(r9, 0, 136);
+    memset(r9, 0, 144);
     r4_2 = load16(a0 + 12);
     if (a10 < (size_t)umax16(r4_2, 6)) common_ret_op = 0xfffffffbU;
     else {
@@ -4708,10 +4821,9 @@ int32_t dfu_core_handle(const struct dfu_config *config, struct dfu_record *reco
             r19 = r4 + r1;
             r21 = (uint64_t)a3 - (uint64_t)r1;
             memset(r27, 0, 48);
-            uint8_t r2 = r9[104];
+            uint8_t r2 = r9[112];
             if (r2 == 1) r2_0_0 = 2;
             else {
-                r1_2 = r9 + 14;
                 uint16_t r21_2_0_copyload = load16(r9 + 20);
                 if (a10 < (size_t)umax16(r21_2_0_copyload, 6)) r2_0_0 = 4;
                 else {
@@ -4734,26 +4846,28 @@ int32_t dfu_core_handle(const struct dfu_config *config, struct dfu_record *reco
                             uint16_t v12 = load16(r15 + 4);
                             store16(r10 + 4, v12);
                             if (a8 == (size_t)((((size_t)r2_0_0_copyload & 255) == 33) ? (size_t)(r2_0_0_copyload >> 48) : 0)) {
+                                memcpy(r23, r9 + 14, 10);
                                 uint32_t r2_2 = load32(r9 + 24);
                                 uint32_t r2_3 = load32(r9 + 28);
                                 uint32_t r2_4 = load32(r9 + 32);
-                                memcpy(r11, r1_2, 10);
-                                store16(r11 + 10, 0);
-                                store32(r11 + 12, r2_2);
-                                store32(r11 + 16, r2_3);
-                                store32(r11 + 20, r2_4);
-                                store64(r11 + 24, (size_t)r12_3_0_copyload);
-                                uint8_t v14 = r9[44];
+                                memcpy(r23 + 24, r9 + 36, 12);
+                                store16(r23 + 10, 0);
+                                store32(r23 + 12, r2_2);
+                                store32(r23 + 16, r2_3);
+                                store32(r23 + 20, r2_4);
+                                store32(r23 + 36, 0);
+                                store64(r23 + 40, (size_t)r12_3_0_copyload);
+                                uint8_t v14 = r9[56];
                                 *r28 = v14;
-                                uint8_t v15 = r9[45];
+                                uint8_t v15 = r9[57];
                                 r28[1] = v15;
-                                uint32_t v16 = load32(r9 + 48);
+                                uint32_t v16 = load32(r9 + 60);
                                 store32(r28 + 4, v16);
-                                uint32_t v17 = load32(r9 + 52);
+                                uint32_t v17 = load32(r9 + 64);
                                 store32(r28 + 8, v17);
-                                uint32_t v18 = load32(r9 + 56);
+                                uint32_t v18 = load32(r9 + 68);
                                 store32(r28 + 12, v18);
-                                dfu_device_table_decide(r12, r11, r28, r10);
+                                dfu_device_table_decide(r12, r23, r28, r10);
                                 switch (r38) {
                                 case 3:
                                 case 5:
@@ -4832,12 +4946,12 @@ int32_t dfu_core_closes(const struct dfu_config *config, const struct dfu_record
     unsigned char *a0 = (unsigned char *)(uintptr_t)config;
     unsigned char *a1 = (unsigned char *)(uintptr_t)record;
     unsigned char *a2 = (unsigned char *)(uintptr_t)setup;
-    _Alignas(4) unsigned char r7[56];
+    _Alignas(4) unsigned char r7[68];
     _Alignas(4) unsigned char r2[16];
     _Alignas(8) unsigned char r5[8];
     uint32_t common_ret_op;
     store32(r2, 0);
-    memset(r7, 0, 56);
+    memset(r7, 0, 68);
     dfu_core_mode_idle_mode(r7, a0, a1);
     uint8_t r14 = *r7;
     if (r14 != 0) {
@@ -4846,11 +4960,11 @@ int32_t dfu_core_closes(const struct dfu_config *config, const struct dfu_record
         common_ret_op = switch_load;
     }
     else {
-        uint8_t r3_3_0_copyload = r7[40];
-        uint8_t r3_4_0_copyload = r7[41];
-        uint32_t r3_6_0_copyload = load32(r7 + 44);
-        uint32_t r3_7_0_copyload = load32(r7 + 48);
-        uint32_t r3_8_0_copyload = load32(r7 + 52);
+        uint8_t r3_3_0_copyload = r7[52];
+        uint8_t r3_4_0_copyload = r7[53];
+        uint32_t r3_6_0_copyload = load32(r7 + 56);
+        uint32_t r3_7_0_copyload = load32(r7 + 60);
+        uint32_t r3_8_0_copyload = load32(r7 + 64);
         *r2 = r3_3_0_copyload;
         r2[1] = r3_4_0_copyload;
         store32(r2 + 4, r3_6_0_copyload);
@@ -4870,20 +4984,20 @@ int32_t dfu_core_is_blank(const struct dfu_config *config, const uint8_t *flash,
     unsigned char *a0 = (unsigned char *)(uintptr_t)config;
     unsigned char *a1 = (unsigned char *)(uintptr_t)flash;
     size_t a2 = (size_t)size;
-    _Alignas(4) unsigned char r7[40];
+    _Alignas(4) unsigned char r7[52];
     _Alignas(8) unsigned char r5[24];
     unsigned char *r4;
     uint8_t r3_2_0_copyload;
     uint32_t r17, common_ret_op;
     uint64_t r26;
     r4 = a1;
-    store64a4(r7 + 32, 0);
+    store64a4(r7 + 44, 0);
     dfu_core_config_settings_of(r7, a0);
     uint8_t r14 = *r7;
     if (r14 != 1) common_ret_op = 0xfffffffeU;
     else {
-        r3_2_0_copyload = r7[32];
-        uint32_t r3_31_0_copyload = load32(r7 + 36);
+        r3_2_0_copyload = r7[44];
+        uint32_t r3_31_0_copyload = load32(r7 + 48);
         struct i8_i32 r15 = dfu_asks_sector_Sector_new(r3_31_0_copyload);
         r17 = r15.b;
         if (!((wide(a2) < 0x100000000ULL) & (r15.a & 1))) common_ret_op = 0xfffffffdU;
@@ -4916,15 +5030,15 @@ int32_t dfu_core_would_stall(const struct dfu_config *config, const struct dfu_r
     unsigned char *a1 = (unsigned char *)(uintptr_t)record;
     size_t a2 = (size_t)size;
     unsigned char *a3 = (unsigned char *)(uintptr_t)setup;
-    _Alignas(4) unsigned char r7[56];
-    _Alignas(8) unsigned char r12[32];
+    _Alignas(4) unsigned char r7[68];
+    _Alignas(8) unsigned char r12[48];
     _Alignas(4) unsigned char r17[24];
     _Alignas(4) unsigned char r1[16];
     _Alignas(8) unsigned char r18[8];
     _Alignas(4) unsigned char r10[6];
     _Alignas(4) unsigned char r16_2[6];
     uint32_t common_ret_op;
-    memset(r7, 0, 56);
+    memset(r7, 0, 68);
     dfu_core_mode_idle_mode(r7, a0, a1);
     uint8_t r16 = *r7;
     if (r16 != 0) {
@@ -4936,22 +5050,24 @@ int32_t dfu_core_would_stall(const struct dfu_config *config, const struct dfu_r
         uint32_t r3_0_3_0_copyload = load32(r7 + 20);
         uint32_t r3_0_4_0_copyload = load32(r7 + 24);
         uint32_t r3_0_5_0_copyload = load32(r7 + 28);
-        uint8_t r3_0_6_0_copyload = r7[32];
-        uint32_t r3_0_8_0_copyload = load32(r7 + 36);
-        uint8_t r3_3_0_copyload = r7[40];
-        uint8_t r3_4_0_copyload = r7[41];
-        uint32_t r3_6_0_copyload = load32(r7 + 44);
-        uint32_t r3_7_0_copyload = load32(r7 + 48);
-        uint32_t r3_8_0_copyload = load32(r7 + 52);
+        uint8_t r3_0_7_0_copyload = r7[44];
+        uint32_t r3_0_9_0_copyload = load32(r7 + 48);
+        uint8_t r3_3_0_copyload = r7[52];
+        uint8_t r3_4_0_copyload = r7[53];
+        uint32_t r3_6_0_copyload = load32(r7 + 56);
+        uint32_t r3_7_0_copyload = load32(r7 + 60);
+        uint32_t r3_8_0_copyload = load32(r7 + 64);
         uint8_t r32 = a0[15];
         uint64_t r2_0_0_copyload = load64u(a3);
-        uint32_t switch_load = load32(PLACE(switch_table_dfu_core_would_stall) + 4 * (size_t)r3_0_6_0_copyload);
+        uint32_t switch_load = load32(PLACE(switch_table_dfu_core_would_stall) + 4 * (size_t)r3_0_7_0_copyload);
         memcpy(r12, r7 + 10, 10);
         store16(r12 + 10, 0);
         store32(r12 + 12, r3_0_3_0_copyload);
         store32(r12 + 16, r3_0_4_0_copyload);
         store32(r12 + 20, r3_0_5_0_copyload);
-        store64(r12 + 24, (size_t)usub_sat64(a2 >> 1, (uint64_t)(size_t)umax32(r3_0_8_0_copyload, switch_load) << 1));
+        memcpy(r12 + 24, r7 + 32, 12);
+        store32(r12 + 36, 0);
+        store64(r12 + 40, (size_t)usub_sat64(a2 >> 1, (uint64_t)(size_t)umax32(r3_0_9_0_copyload, switch_load) << 1));
         store64(r18, (uint64_t)((r32 == (uint8_t)(size_t)(r2_0_0_copyload >> 32)) ? 0 : 0x100000000ULL) | (r2_0_0_copyload & 0xffffff00ffffffffULL));
         dfu_wire_setups_Setup_request(r16_2, r18);
         store32(r1, 0);

@@ -6,7 +6,8 @@ ghost use Rattle.dfuse_host.specs.Wire.{DfuseIsAsked, DfuseSpells};
 ghost use Rattle.dfu_wire.specs.declared.requests.Request.{Request};
 ghost use Rattle.dfu_host_c.specs.dfuse.Actions.{BodyHasNoRoom, DfuseIsOther, DfuseTells};
 ghost use Rattle.dfu_host_c.specs.dfuse.Calls.{DfuseIsNext, NoRoomFor, NoSession};
-ghost use Rattle.dfu_host_c.specs.Refusals.{no_room, no_session};
+ghost use Rattle.dfu_host_c.specs.Refusals.{no_room};
+ghost use Rattle.dfu_host_core.specs.Numbers.{no_session};
 
 use crate::dfuse::holding::{map_of, session_of};
 use crate::dfuse::reports::report_numbers;

@@ -1,7 +1,7 @@
 //! The calls that begin and step a session.
 
 ghost use Rattle.std.specs.Prelude.{◌≡◌, ◌⊎◌, None, pos};
-ghost use Rattle.dfu_host_c.specs.Refusals.{no_seen, no_session};
+ghost use Rattle.dfu_host_core.specs.Numbers.{no_seen, no_session};
 ghost use Rattle.dfu_host_c.specs.dfuse.Calls.{DfuseBegins, DfuseIsRefused, DfuseTook, NoSession};
 ghost use Rattle.dfu_host_c.specs.dfuse.Maps.{IsNoMap};
 ghost use Rattle.dfu_host_c.specs.dfuse.Told.{dfuse_seen_at};
