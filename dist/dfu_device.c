@@ -31,10 +31,8 @@ void *memset(void *to, int byte, size_t count);
 
 /* What no call comes to, as it is proved: `trap` where the program says so, `never` where its types do. */
 #if defined(__GNUC__)
-#define trap() __builtin_trap()
 #define never() __builtin_unreachable()
 #else
-#define trap() for (;;) { }
 #define never() for (;;) { }
 #endif
 

@@ -17,8 +17,8 @@
 
 /* The flash after the bootloader is the device's medium: two slots, each with a page for its gate, one for its header, and the rest for
  * the image. After it comes the run area, to which images are linked, and the last two pages are the application's own. */
-#define CAPACITY ((TRIES ? 76 : 78) * PAGE)
-#define MEDIUM (TRIES ? 0x5400u : 0x4000u)
+#define CAPACITY ((TRIES ? 76 : 77) * PAGE)
+#define MEDIUM (TRIES ? 0x5400u : 0x4c00u)
 #define MEDIUM_SIZE DFU_MEDIUM_SIZE(UNIT, PAGE, CAPACITY)
 #define RUN (MEDIUM + MEDIUM_SIZE)
 

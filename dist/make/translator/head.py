@@ -77,6 +77,12 @@ def helper(name):
     return "static inline " + re.sub(rf"\b(?:{'|'.join(words)})\b", lambda it: words[it[0]], HELPERS[kind])
 
 
+def of_c(bodies):
+    """The words for what no call comes to, and the rest that C has to provide; a word that no function uses is left out."""
+    unused = [f"#define {it}() " for it in ("trap", "never") if f"{it}()" not in bodies]
+    return "".join(it for it in OF_C.splitlines(True) if not it.startswith(tuple(unused)))
+
+
 def head(header, bodies):
     """All that comes before the functions, for what their text uses."""
     names = " and ".join(header.names)
@@ -84,7 +90,7 @@ def head(header, bodies):
     pairs = sorted(set(re.findall(r"struct ((?:i[0-9]+|ptr)_(?:i[0-9]+|ptr))\b", bodies)))
     used = sorted(set(re.findall(rf"\b((?:{'|'.join(HELPERS)})(?:[0-9]+(?:u|a[0-9]+|)|_size|(?<=\bwide)))\(", bodies)))
     return "\n".join([
-        WHAT_IT_IS.format(names=names, what=WHAT.get(names, ""), includes=includes) + OF_C,
+        WHAT_IT_IS.format(names=names, what=WHAT.get(names, ""), includes=includes) + of_c(bodies),
         *(f'_Static_assert({it}, "another layout");' for it in header.layouts), "",
         *(f"struct {it} {{ {' '.join(of_struct(it))} }};" for it in pairs), "",
         *(helper(it) for it in used), ""])

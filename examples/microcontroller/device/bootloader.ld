@@ -1,6 +1,6 @@
 /* The bootloader's flash, and its memory. The stack lies below all else, so that one that overflows leaves the memory and is a fault. */
 MEMORY {
-    flash (rx) : ORIGIN = 0, LENGTH = DEFINED(flash_size) ? flash_size : 16K
+    flash (rx) : ORIGIN = 0, LENGTH = DEFINED(flash_size) ? flash_size : 19K
     memory (rw) : ORIGIN = 0x20000000, LENGTH = 4K
 }
 ENTRY(on_reset)

@@ -18,6 +18,7 @@ use Rattle.dfu_laws.proofs.board.Counting.{parts, count, count_append, erased, c
 unit_few : (u : WriteUnit) → unit_size u ≤ 256
 unit_few Byte = omega arith
 unit_few _ = omega arith
+
 pub unit_some : (u : WriteUnit) → 0 < unit_size u
 unit_some Byte = omega arith
 unit_some _ = omega arith
@@ -110,8 +111,6 @@ module _ (u : WriteUnit) (held block : List ℕ) (low : length held < unit_size 
         size,
         more,
       )
-
--- The bounds.
 
 -- The close of a gate is one piece: an erase or a program.
 close_count : (u : WriteUnit) (sector spare : ℕ) → count (close_step (record { unit = u; sector = sector }) spare ∷ []) ≤ 1

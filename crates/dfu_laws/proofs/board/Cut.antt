@@ -67,13 +67,16 @@ error_said c code (Some len) =
     record {
       answer = answer.Bytes;
       out = take len bytes;
-      says = (0, λ room spare block holds. (
-        refl,
-        bytes,
-        record { length = refl; code = refl; poll = refl; state = refl },
-        refl,
-        refl,
-      ));
+      says = (
+        0,
+        λ room spare block holds. (
+          refl,
+          bytes,
+          record { length = refl; code = refl; poll = refl; state = refl },
+          refl,
+          refl,
+        ),
+      );
     }
 
 fault_said : (c : Setting) (fault : WriteFault) (m : DeviceState) (asked : Option ℕ) → IsSaid c (failed_mode fault m) asked
