@@ -58,7 +58,15 @@ impl Board {
         let sector = Sector::new(part.sector).ok_or("no such sectors")?;
         let device = Asking::begin(config, part.unit, sector, &flash).ok_or("no image")?;
         let block = vec![0; usize::from(transfer)];
-        Ok(Board { device, flash, block, held: [0; 256], erases: 0, programmed: 0, told: Vec::new() })
+        Ok(Board {
+            device,
+            flash,
+            block,
+            held: [0; 256],
+            erases: 0,
+            programmed: 0,
+            told: Vec::new(),
+        })
     }
 
     /// Carries out what is asked for.
@@ -66,7 +74,9 @@ impl Board {
         let mut reply = first;
         while reply == Reply::Asks {
             let mut bytes = [0; 256];
-            let asked = self.device.next(&self.block, &self.held, &self.flash, &mut bytes);
+            let asked = self
+                .device
+                .next(&self.block, &self.held, &self.flash, &mut bytes);
             let FlashOp { erases, at, len } = asked.expect("an operation is due");
             let place = &mut self.flash[at as usize..at as usize + len];
             if erases {
@@ -76,14 +86,27 @@ impl Board {
                 place.copy_from_slice(&bytes[..len]);
                 self.programmed += len as u64;
             }
-            reply = self.device.took(&self.block, &mut self.held, &self.flash, false, out).expect("it is taken");
+            reply = self
+                .device
+                .took(&self.block, &mut self.held, &self.flash, false, out)
+                .expect("it is taken");
         }
     }
 
     /// A request, with what it asks for; then the time passes that its status says, and no millisecond less changes the state.
     fn request(&mut self, setup: &[u8; 8], body: &[u8]) {
         let mut out = vec![0; self.block.len().max(6)];
-        let reply = self.device.handle(&mut self.block, &mut self.held, &self.flash, setup, body, &mut out).expect("it is served");
+        let reply = self
+            .device
+            .handle(
+                &mut self.block,
+                &mut self.held,
+                &self.flash,
+                setup,
+                body,
+                &mut out,
+            )
+            .expect("it is served");
         self.work(reply, &mut out);
         if !matches!(out[4], 4 | 7) || setup != &GET_STATUS {
             return;
@@ -92,9 +115,15 @@ impl Board {
         self.told.push(told);
         assert_eq!(self.device.due(), Some(told.max(1)));
         let busy = self.device.state();
-        let early = self.device.elapse(&mut self.block, &mut self.held, &self.flash, told - 1).expect("it is served");
+        let early = self
+            .device
+            .elapse(&mut self.block, &mut self.held, &self.flash, told - 1)
+            .expect("it is served");
         assert!(early != Reply::Asks && self.device.state() == busy);
-        let reply = self.device.elapse(&mut self.block, &mut self.held, &self.flash, 1).expect("it is served");
+        let reply = self
+            .device
+            .elapse(&mut self.block, &mut self.held, &self.flash, 1)
+            .expect("it is served");
         self.work(reply, &mut [0; 6]);
         // (A block that makes no unit whole asks for nothing.)
         assert!(self.device.state() != busy);
@@ -123,18 +152,33 @@ impl Board {
 fn what_is_told_is_what_the_part_takes() -> Outcome {
     for part in &PARTS {
         for transfer in [64, 1024, 1500, 4096] {
-            let pace = Pace { erase_ms: part.erase_ms, program_ms: part.program_ms.ceil() as u16, unit: part.unit, sector: part.sector };
+            let pace = Pace {
+                erase_ms: part.erase_ms,
+                program_ms: part.program_ms.ceil() as u16,
+                unit: part.unit,
+                sector: part.sector,
+            };
             let mut board = Board::of(part, transfer, (1, 1), pace)?;
             board.download(part.image);
             let told: u32 = board.told.iter().sum();
-            let takes = f64::from(board.erases) * f64::from(part.erase_ms) + board.programmed as f64 / 256.0 * part.program_ms;
-            println!("image {} by {transfer}: told {} ms, takes {takes:.0} ms", part.image, told);
+            let takes = f64::from(board.erases) * f64::from(part.erase_ms)
+                + board.programmed as f64 / 256.0 * part.program_ms;
+            println!(
+                "image {} by {transfer}: told {} ms, takes {takes:.0} ms",
+                part.image, told
+            );
             assert!(f64::from(told) >= takes, "too little: {told} for {takes}");
             let blocks = part.image.div_ceil(u32::from(transfer));
             // A millisecond for each block comes from busy_ms, and one from rounding.
-            assert!(f64::from(told) <= 1.5 * takes + f64::from(2 * blocks), "too much: {told} for {takes}");
+            assert!(
+                f64::from(told) <= 1.5 * takes + f64::from(2 * blocks),
+                "too much: {told} for {takes}"
+            );
             if transfer >= 1024 {
-                assert!(f64::from(told) <= 1.5 * takes, "too much: {told} for {takes}");
+                assert!(
+                    f64::from(told) <= 1.5 * takes,
+                    "too much: {told} for {takes}"
+                );
             }
         }
     }
@@ -144,7 +188,12 @@ fn what_is_told_is_what_the_part_takes() -> Outcome {
 #[test]
 fn each_block_has_its_own_time() -> Outcome {
     let part = &PARTS[3];
-    let pace = Pace { erase_ms: 1000, program_ms: 1, unit: part.unit, sector: part.sector };
+    let pace = Pace {
+        erase_ms: 1000,
+        program_ms: 1,
+        unit: part.unit,
+        sector: part.sector,
+    };
     let mut board = Board::of(part, 1024, (5, 7), pace)?;
     board.download(4 * 1024 + 8);
     // The gate and the first sector; four programs of 256 bytes a block; 8 bytes that are held back; and they, the header and the gate.
