@@ -44,7 +44,7 @@ fn a_device_gets_power_anew(rt: HostRuntime) -> Result<(), Fail> {
     };
     let config = Config::new(IDS, FUNCTIONAL, 1, 5, 10)?;
     let device = restarted(Device::start(config, slots));
-    assert_eq!(rt; device.state(), State::AppIdle);
+    assert!(rt; matches!(device.state(), State::AppIdle));
     assert_eq!(rt; device.slots().active_len(), 1);
     Ok(())
 }
