@@ -220,7 +220,7 @@ endif
 check check-all: everything
 	@BUILD=$(BUILD) tests/run $@
 compare: everything
-	@BUILD=$(BUILD) tests/compare
+	@BUILD=$(BUILD) tests/lib/interop/compare
 
 # The script reads these from its environment, so that a path may have any sign.
 places = PREFIX BINDIR LIBDIR INCLUDEDIR DATADIR MANDIR DOCDIR PKGCONFIGDIR CMAKEDIR UDEVDIR DESTDIR BUILD

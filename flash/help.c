@@ -1,5 +1,5 @@
 /* SPDX-License-Identifier: MIT OR Apache-2.0 */
-/* The texts of --help and --version. The man page and the completions say the same of each option; tests/flash compares them. */
+/* The texts of --help and --version. The man page and the completions say the same of each option; tests/apps/flash compares them. */
 #include "words.h"
 
 #include <stdio.h>

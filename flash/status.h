@@ -1,5 +1,5 @@
 /* SPDX-License-Identifier: MIT OR Apache-2.0 */
-/* The exit statuses. share/man/dfu-flash.1 has the same list; tests/flash compares them. */
+/* The exit statuses. share/man/dfu-flash.1 has the same list; tests/apps/flash compares them. */
 #ifndef DFU_FLASH_STATUS_H
 #define DFU_FLASH_STATUS_H
 

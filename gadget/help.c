@@ -1,5 +1,5 @@
 /* SPDX-License-Identifier: MIT OR Apache-2.0 */
-/* The texts of --help and --version. The man page says the same of each option; tests/gadget compares them. */
+/* The texts of --help and --version. The man page says the same of each option; tests/apps/gadget compares them. */
 #include "words.h"
 
 #include <stdio.h>

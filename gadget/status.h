@@ -1,5 +1,5 @@
 /* SPDX-License-Identifier: MIT OR Apache-2.0 */
-/* The exit statuses. share/man/dfu-gadget.1 has the same list; tests/gadget compares them. */
+/* The exit statuses. share/man/dfu-gadget.1 has the same list; tests/apps/gadget compares them. */
 #ifndef DFU_GADGET_STATUS_H
 #define DFU_GADGET_STATUS_H
 

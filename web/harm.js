@@ -1,7 +1,7 @@
 // SPDX-License-Identifier: MIT OR Apache-2.0
 // A write of the medium that is harmed: it cuts the power, fails or lies, as docs/PROFILE.md has it ("The slot medium"). The library asks
 // for a write in operations of at most 256 bytes, so the call is made twice: to see which operations make up each write, and once all is
-// as before, with that write harmed. tests/web holds what comes of it against `dfu run`.
+// as before, with that write harmed. tests/apps/web holds what comes of it against `dfu run`.
 
 const MOST_OPERATION = 256
 

@@ -1,8 +1,8 @@
 # What bench/rust/run and bench/rust/panics share: cargo over Debian's packages, and the sessions in Rust. `top` is the folder of the
 # repository, and counting.sh has been read.
 # shellcheck shell=sh disable=SC2154
-# shellcheck source=tests/twice/cargo.sh
-. "$top/tests/twice/cargo.sh"
+# shellcheck source=tests/lib/twice/cargo.sh
+. "$top/tests/lib/twice/cargo.sh"
 mkdir -p "$work/bench/rust"
 cp -R "$top/bench/rust/package" "$work/bench/rust/package"
 rm -rf "$work/bench/rust/package/target" "$work/bench/rust/package/Cargo.lock"

@@ -1,11 +1,11 @@
-# What tests/c-aarch64, c-cortex-m, c-rv32 and slow/microcontrollers share: they count checks, and build programs without a C library and
+# What the parts of tests/c/processors and slow/microcontrollers share: they count checks, and build programs without a C library and
 # run them in QEMU without an OS. `top` is the folder of the repository.
 # shellcheck shell=sh disable=SC2034,SC2154
-# shellcheck source=tests/support/counting.sh
-. "$top/tests/support/counting.sh"
-# shellcheck source=tests/support/archives.sh
-. "$top/tests/support/archives.sh"
-bare=$top/tests/bare
+# shellcheck source=tests/lib/support/counting.sh
+. "$top/tests/lib/support/counting.sh"
+# shellcheck source=tests/lib/support/archives.sh
+. "$top/tests/lib/support/archives.sh"
+bare=$top/tests/lib/bare
 
 # target NAME: what builds for it, and the machine of QEMU that runs it; `device` and `host` are its archives, which make builds if it has
 # not yet. What each program has is compiled into a folder of its own, `here`.
@@ -128,16 +128,16 @@ as_here() {
 # What each target runs in a minute: rows, losses of power between calls, sessions, garbled calls, the examples; and its sizes.
 run_short() {
     for name in rows operations time power; do
-        program "$name" "$top/tests/c/$name.c" "$device"
+        program "$name" "$top/tests/lib/c/$name.c" "$device"
         is "$target: $name" run "$name"
     done
-    program runtime "$top/tests/c/runtime.c" "$device"
+    program runtime "$top/tests/lib/c/runtime.c" "$device"
     is "$target: runtime" run runtime 5000
-    program sessions "$top/tests/c/sessions.c" "$host" "$device"
+    program sessions "$top/tests/lib/c/sessions.c" "$host" "$device"
     is "$target: sessions" run sessions
-    program garbled "$top/tests/c/garbled.c" "$device"
-    program garbled_sessions "$top/tests/c/garbled_sessions.c" "$host"
-    program dfuse "$top/tests/c/dfuse.c" "$host"
+    program garbled "$top/tests/lib/c/garbled.c" "$device"
+    program garbled_sessions "$top/tests/lib/c/garbled_sessions.c" "$host"
+    program dfuse "$top/tests/lib/c/dfuse.c" "$host"
     for name in garbled garbled_sessions dfuse; do
         is "$target: $name" run "$name" 5000
     done
@@ -148,7 +148,7 @@ run_short() {
     program flasher "$top/examples/c/flasher.c" "$host" "$device"
     is "$target: flasher" prints "$top/examples/c/flasher.out" flasher "$(ones)"
     for name in twins garbled_flash; do
-        program "$name" "$top/tests/c/$name.c" "$device"
+        program "$name" "$top/tests/lib/c/$name.c" "$device"
         is "$target: $name" run "$name" 5000
     done
     digests 5000 10000 1
@@ -178,10 +178,10 @@ sizes() {
     for library in "$device" "$host" "$boot"; do
         is "$target: what ${library##*/} needs" needs_only "$library" "$4"
     done
-    program stack "$top/tests/c/stack.c" "$device"
+    program stack "$top/tests/lib/c/stack.c" "$device"
     is "$target: stack of the device" deepest stack 1500
-    program host_stack "$top/tests/c/host_stack.c" "$host"
+    program host_stack "$top/tests/lib/c/host_stack.c" "$host"
     is "$target: stack of the host" deepest host_stack 900
-    program trial_stack "$top/tests/c/trial_stack.c" "$boot" "$device"
+    program trial_stack "$top/tests/lib/c/trial_stack.c" "$boot" "$device"
     is "$target: stack of trials" deepest trial_stack 1200
 }

@@ -1,4 +1,4 @@
-/* Makes of the proved device on the stand-in's bus (tests/usb) one that takes signed images alone: it is linked with
+/* Makes of the proved device on the stand-in's bus (tests/lib/usb) one that takes signed images alone: it is linked with
  * --wrap=dfu_core_handle, and hands each close to signed_serve of examples/signed. SIGNED_KEY_FILE names a public key in DER. With
  * SIGNED_LATE each image is refused after the close, as by a check that takes longer than a transfer may. */
 #include <sodium.h>

@@ -1,4 +1,4 @@
-# Rows of tests/completions: what is offered for dfu-gadget.
+# Rows of tests/apps/completions: what is offered for dfu-gadget.
 # shellcheck shell=sh
 
 expect 'dfu-gadget ' confirm end format image run start

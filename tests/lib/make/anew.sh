@@ -1,4 +1,4 @@
-# What make builds anew, and that builds side by side do no harm; tests/building reads this file.
+# What make builds anew, and that builds side by side do no harm; tests/build/make reads this file.
 # shellcheck shell=sh disable=SC2154
 objects=$(($(find flash gadget -name '*.c' ! -path '*/unix/*' ! -path '*/windows/*' | wc -l) + 5))
 

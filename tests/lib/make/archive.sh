@@ -1,4 +1,4 @@
-# The archive of the sources; tests/building reads this file.
+# The archive of the sources; tests/build/make reads this file.
 # shellcheck shell=sh disable=SC2154
 if tar --version 2> /dev/null | grep -q GNU; then
     cp "$top/README.md" .

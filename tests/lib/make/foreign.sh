@@ -1,4 +1,4 @@
-# What is in a place already: it stays if it is none of these files, and then nothing else is made; tests/install reads this file.
+# What is in a place already: it stays if it is none of these files, and then nothing else is made; tests/build/install reads this file.
 # shellcheck shell=sh disable=SC2086,SC2154
 
 mkdir -p full/bin/dfu

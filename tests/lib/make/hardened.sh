@@ -1,4 +1,4 @@
-# How the programs are hardened, and that flags of others win; tests/building reads this file.
+# How the programs are hardened, and that flags of others win; tests/build/make reads this file.
 # shellcheck shell=sh disable=SC2154
 
 # has PROGRAM WHAT: it is in the program.

@@ -1,4 +1,4 @@
-# What make leaves out, and other processors; tests/building reads this file.
+# What make leaves out, and other processors; tests/build/make reads this file.
 # shellcheck shell=sh disable=SC2154
 says 0
 of_flash=$(ls build)

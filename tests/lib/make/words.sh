@@ -1,5 +1,5 @@
 # The words of make: each folder's name and what a stranger types builds what it means, or says what to type; the lines that make prints;
-# and ./test without a kit. tests/building reads this file.
+# and ./test without a kit. tests/build/make reads this file.
 # shellcheck shell=sh disable=SC2154
 
 # ends STATUS WORD..: make with these words, in few lines, ends with this status; what it printed is in `said`.
@@ -86,9 +86,9 @@ done
 
 # make compare runs two programs beside each other, and stops where one of them is missing.
 ends 0 compare -n
-said 'tests/compare$'
+said 'tests/lib/interop/compare$'
 code=0
-DFU_UTIL=no-such-program BUILD="$build" "$top/tests/compare" > "$work/said" 2>&1 || code=$?
+DFU_UTIL=no-such-program BUILD="$build" "$top/tests/lib/interop/compare" > "$work/said" 2>&1 || code=$?
 equal 'make compare without dfu-util' \
     "1 make compare needs no-such-program, which isn't there (Debian: apt install dfu-util)" "$code $(cat "$work/said")"
 

@@ -1,7 +1,7 @@
 @static.0 = private unnamed_addr constant [16 x i8] c"abcdefghijklmnop", align 4
 
 ; Each function below loads a number of each length at a place that it is given or makes, `align 1` as far as LLVM knows. Which of these
-; loads are aligned in C, tests/translator says.
+; loads are aligned in C, tests/dist/translator says.
 
 ; Its calls hand over places that are multiples of 8, of 4, and 8 with 4 more.
 define internal fastcc i64 @"aligned::four"(ptr noundef %a0) unnamed_addr #0 {

@@ -1,6 +1,6 @@
 #!/usr/bin/env python3
 """refusals.py TRANSLATOR FOLDER: each line that the translator does not know, planted one at a time in the modules in FOLDER (small.ll,
-small.wide.ll and flow.ll, as tests/translator makes them), is refused at one line that is shown, with status 1, and nothing is written.
+small.wide.ll and flow.ll, as tests/dist/translator makes them), is refused at one line that is shown, with status 1, and nothing is written.
 What is otherwise is printed; the last line is how many are right and how many are wrong."""
 import os
 import re

@@ -1,6 +1,6 @@
 #!/usr/bin/env python3
 """The tests of the page: run.py PAGE [FLASH]. PAGE is the folder that `make page` made; FLASH is one with dfu-flash and the stand-in for
-libusb of tests/usb, where sessions are to be compared with it."""
+libusb of tests/lib/usb, where sessions are to be compared with it."""
 import sys
 import tempfile
 import time

@@ -1,4 +1,4 @@
-"""The play view's scripts: examples/ against the texts beside them, tests/rows against what was worked out by hand, and scripts made at
+"""The play view's scripts: examples/ against the texts beside them, tests/lib/rows against what was worked out by hand, and scripts made at
 random against what `dfu run` prints."""
 import os
 import pathlib
@@ -9,7 +9,7 @@ import zlib
 
 from counting import check, check_that
 
-TOP = pathlib.Path(__file__).resolve().parent.parent.parent
+TOP = pathlib.Path(__file__).resolve().parents[3]
 PROGRAM = pathlib.Path(os.environ.get('BUILD') or TOP / 'build').absolute() / 'dfu'
 FILES = {'W': 'ffffffffffffffffffff00015546441071c8510c', 'Z': 'ffffffff00000000000000015546441037bd063c',
          'E': 'ffffffffffff000155464410e1f17b88', 'N': '313233343536373839000101000912000155464410621c70fe'}
@@ -27,13 +27,13 @@ def script_in(row):
 
 def rows():
     found = []
-    for file in sorted(TOP.glob('tests/rows/*.rows')):
+    for file in sorted(TOP.glob('tests/lib/rows/*.rows')):
         for row in file.read_text().splitlines():
             if ' => ' not in row:
                 continue
             found.append((row, *script_in(row)))
     for name, wanted in (('good.lines', 'image 00'), ('bad.lines', 'refused BadLine 1')):
-        for line in (TOP / 'tests/rows' / name).read_text().splitlines():
+        for line in (TOP / 'tests/lib/rows' / name).read_text().splitlines():
             found.append((line, line.replace('\\t', '\t').replace('\\r', '\r') + '\n', wanted + '\n'))
     for first in ' #':
         found.append(('a long line', first * 65536 + '\n' + first * 65537 + '\n', 'refused BadLine 2\n'))

@@ -8,7 +8,7 @@ import tempfile
 from counting import check, check_that
 from files import NEW, OLD, suffixed, text
 
-# A set-up: its settings here, and its variables for the stand-in of tests/usb.
+# A set-up: its settings here, and its variables for the stand-in of tests/lib/usb.
 SETUPS = [
     ('download and compare', {}, {}),
     ('download', {'wantsVerified': False}, {}),
@@ -58,7 +58,7 @@ def is_true(found):
 
 
 class Flash:
-    """dfu-flash over the stand-in of tests/usb, which `folder` has."""
+    """dfu-flash over the stand-in of tests/lib/usb, which `folder` has."""
     def __init__(self, folder):
         self.folder = folder
         self.work = tempfile.TemporaryDirectory()

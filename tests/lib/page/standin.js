@@ -1,5 +1,5 @@
 // The proved device, or with `maps` a model of one of DfuSe, behind what a page sees of WebUSB: a stand-in for navigator.usb. The fates of
-// transfers are chosen by number, as in tests/usb:
+// transfers are chosen by number, as in tests/lib/usb:
 //   lost-out   it never comes there            lost-back  it is handled, and nothing is heard
 //   late       it comes there behind the next one, unless the device was closed before
 //   twice      it is handled twice             short      of the answer come so many bytes

@@ -1,4 +1,4 @@
-// A device that speaks DfuSe, by the rules of tests/usb (device_dfuse.c and dfuse_pages.c): by what is known of ST's bootloaders, and no
+// A device that speaks DfuSe, by the rules of tests/lib/usb (device_dfuse.c and dfuse_pages.c): by what is known of ST's bootloaders, and no
 // one's code.
 //
 // DNLOAD of block 0 brings a command: 21h and an address set the pointer, 41h and an address erase the page that has it. That of block 2 or

@@ -1,4 +1,4 @@
-/* The types of libopencm3 that docs/PORTING.md's listing needs, written from memory: tests/porting compiles it before them. */
+/* The types of libopencm3 that docs/PORTING.md's listing needs, written from memory: tests/c/porting compiles it before them. */
 #include <stdint.h>
 
 typedef struct usbd usbd_device;

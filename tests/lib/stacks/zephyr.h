@@ -1,4 +1,4 @@
-/* The types of Zephyr that docs/PORTING.md's listing needs, written from memory: tests/porting compiles it before them. */
+/* The types of Zephyr that docs/PORTING.md's listing needs, written from memory: tests/c/porting compiles it before them. */
 #include <errno.h>
 #include <stddef.h>
 #include <stdint.h>

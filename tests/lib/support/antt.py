@@ -1,8 +1,8 @@
-"""The definitions of specs/, and which of them a text cites: for tests/reading."""
+"""The definitions of specs/, and which of them a text cites: for tests/docs/reading."""
 import os
 import re
 
-ROOT = os.path.normpath(os.path.join(os.path.dirname(os.path.abspath(__file__)), "../.."))
+ROOT = os.path.normpath(os.path.join(os.path.dirname(os.path.abspath(__file__)), "../../.."))
 NAME = r"[A-Za-z_][\w'-]*"
 WORD = re.compile(rf"(?<![\w'.-])({NAME})(?:\.({NAME}))?")
 HEAD = re.compile(rf"(?:(?:abbrev|unfoldable)\s+)?(?:pub\s+)?(?:(?:record|data)\s+)?({NAME})(?=[\s:({{])")

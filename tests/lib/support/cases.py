@@ -1,4 +1,4 @@
-"""Runs of `dfu` with inputs and words that were changed: for tests/slow/fuzz-dfu."""
+"""Runs of `dfu` with inputs and words that were changed: for tests/fuzz/dfu."""
 from mutants import captures, crc_mended, image_of, mutant, read, suffixed, summed
 
 ODD = ("", "-", "--", "ffff", "0x1209", "12 9", "\udcff", "\u00e9", "g" * 5000, "--json", "--json=1", "--explain", "--vid", "--vid=1209",

@@ -1,4 +1,4 @@
-"""What tests/eraser plants in sources, and what is to become of it."""
+"""What tests/dist/eraser plants in sources, and what is to become of it."""
 
 # Behind the last line: what it is, the lines, which of them is named, and a word of the reason.
 ITEMS = [

@@ -1,4 +1,4 @@
-# What tests/sums and tests/dist share: what in dist/ is generated, and faults planted in a copy of it.
+# What tests/dist/sums and tests/dist/compared share: what in dist/ is generated, and faults planted in a copy of it.
 # shellcheck shell=sh disable=SC2154
 
 # generated FOLDER: the names of its files that nobody wrote by hand, and that no cargo made in rust/, one on a line.

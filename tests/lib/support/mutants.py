@@ -1,4 +1,4 @@
-"""Inputs of `dfu` as they should be, and what becomes of them: for tests/slow/fuzz-dfu."""
+"""Inputs of `dfu` as they should be, and what becomes of them: for tests/fuzz/dfu."""
 import glob
 import os
 import re
@@ -7,7 +7,7 @@ import zlib
 
 from usbpcap import windows
 
-TOP = os.path.normpath(os.path.join(os.path.dirname(os.path.abspath(__file__)), "../.."))
+TOP = os.path.normpath(os.path.join(os.path.dirname(os.path.abspath(__file__)), "../../.."))
 NUMBERS = (b"0", b"1", b"00", b"-1", b"255", b"256", b"65535", b"65536", b"4294967295", b"4294967296", b"99999999999999999999",
            b"ffff", b"")
 ODD_BYTES = (0, 1, 9, 10, 13, 32, 35, 45, 48, 58, 0x53, 0x7F, 0x80, 0xFF)

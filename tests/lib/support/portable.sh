@@ -1,5 +1,5 @@
-# What tests/generated-c and tests/slow/portable-c share: the C of dist/, or of the folder C, compiled with any compiler, under the
-# programs of tests/c and examples/c. `top` is the folder of the repository, and counting.sh has been read.
+# What tests/c/generated and tests/slow/portable-c share: the C of dist/, or of the folder C, compiled with any compiler, under the
+# programs of tests/lib/c and examples/c. `top` is the folder of the repository, and counting.sh has been read.
 # shellcheck shell=sh disable=SC2154
 c=${C:-$top/dist}
 
@@ -42,7 +42,7 @@ prints() {
     head -n 3 "$work/printed" "$work/complained"
     return 1
 }
-# suite WHAT FOLDER CALLS WORD..: the programs of tests/c and examples/c, compiled with these words over the objects in FOLDER. CALLS is how
+# suite WHAT FOLDER CALLS WORD..: the programs of tests/lib/c and examples/c, compiled with these words over the objects in FOLDER. CALLS is how
 # many calls of chance each of them makes at most. The program that takes minutes, cuts, is left out if `is_short` is 1.
 suite() {
     label=$1
@@ -51,11 +51,11 @@ suite() {
     shift 3
     for name in rows operations questions lent time power sessions format cuts; do
         [ "$name" != cuts ] || [ "${is_short-0}" -eq 0 ] || continue
-        is "$label: $name is built" program "$name" "$objects" "$top/tests/c/$name.c" "$@"
+        is "$label: $name is built" program "$name" "$objects" "$top/tests/lib/c/$name.c" "$@"
         is "$label: $name" runs "$name"
     done
     for name in garbled garbled_flash garbled_sessions twins runtime counts edges; do
-        is "$label: $name is built" program "$name" "$objects" "$top/tests/c/$name.c" "$@"
+        is "$label: $name is built" program "$name" "$objects" "$top/tests/lib/c/$name.c" "$@"
     done
     is "$label: garbled" runs garbled "$times"
     is "$label: garbled flash" runs garbled_flash "$times"
@@ -88,9 +88,9 @@ digests() {
     done
     shift
     for name in digest digest_host digest_sessions; do
-        is "$label: $name is built" program "$name" "$objects" "$top/tests/bare/$name.c" "$@"
+        is "$label: $name is built" program "$name" "$objects" "$top/tests/lib/bare/$name.c" "$@"
     done
-    is "$label: garbled_flash is built" program garbled_flash "$objects" "$top/tests/c/garbled_flash.c" "$@"
+    is "$label: garbled_flash is built" program garbled_flash "$objects" "$top/tests/lib/c/garbled_flash.c" "$@"
     for seed in $seeds; do
         is "$label: digest of seed $seed" prints "$reference/digest.$seed" digest "$calls" "$seed" 1
         is "$label: sessions of seed $seed" prints "$reference/digest_sessions.$seed" digest_sessions 5000 "$seed"

@@ -3,6 +3,7 @@
 passed=0
 failed=0
 trouble=
+left_out=
 
 # count COMMAND..: runs one, and counts in what its last line says.
 count() {
@@ -21,6 +22,21 @@ count() {
     passed=$((passed + ${right:-0}))
     failed=$((failed + wrong))
     echo "   $(($(date +%s) - began)) s"
+}
+# needs SCRIPT: the commands that its line `# Needs: ..` names.
+needs() {
+    sed -n 's/^# Needs: //p' "$1"
+}
+# try SCRIPT: runs it and counts, or says what it is left out for.
+try() {
+    for command in $(needs "$1"); do
+        if ! command -v "$command" > /dev/null; then
+            left_out="$left_out
+$1 is left out: there is no $command"
+            return
+        fi
+    done
+    count "$1"
 }
 # verdict: the last line, and the status: 0 if something was checked and nothing failed.
 verdict() {

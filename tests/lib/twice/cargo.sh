@@ -1,8 +1,8 @@
 # What tests/slow/rust-32 and bench/rust share: cargo offline over Debian's packages, with a rustc for other targets. `top` is the
 # folder of the repository, and counting.sh has been read.
 #
-# RUST_PACKAGES is the registry that `tests/twice/packages` makes, or /usr/share/cargo/registry; RUST_TARGETS the folder that
-# `tests/twice/toolchains` makes. Without the latter it takes the system's rustc, with the targets that this one has.
+# RUST_PACKAGES is the registry that `tests/lib/twice/packages` makes, or /usr/share/cargo/registry; RUST_TARGETS the folder that
+# `tests/lib/twice/toolchains` makes. Without the latter it takes the system's rustc, with the targets that this one has.
 # shellcheck shell=sh disable=SC2034,SC2154
 packages=${RUST_PACKAGES:-/usr/share/cargo/registry}
 rustc=rustc
@@ -26,13 +26,13 @@ export CARGO_HOME="$work/cargo" CARGO_TARGET_DIR="$work/target" CARGO_TERM_COLOR
 missing() {
     for name in arrayvec-0.7 byteorder-1 hex-0.4 thiserror-2; do
         [ -n "$(find "$packages" -maxdepth 1 -name "$name*" 2> /dev/null)" ] || {
-            echo "no $name in $packages: tests/twice/packages fetches it"
+            echo "no $name in $packages: tests/lib/twice/packages fetches it"
             return
         }
     done
     for target in "$@"; do
         [ -d "$("$rustc" --print sysroot)/lib/rustlib/$target/lib" ] || {
-            echo "$rustc has no $target: tests/twice/toolchains fetches it"
+            echo "$rustc has no $target: tests/lib/twice/toolchains fetches it"
             return
         }
     done

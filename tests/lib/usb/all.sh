@@ -1,7 +1,7 @@
-# Rows of tests/flash: --all, over several boards on one bus (USB_BOARDS), each in a process of its own.
+# Rows of tests/apps/flash: --all, over several boards on one bus (USB_BOARDS), each in a process of its own.
 
-# shellcheck source=tests/usb/all_boards.sh
-. "$top/tests/usb/all_boards.sh"
+# shellcheck source=tests/lib/usb/all_boards.sh
+. "$top/tests/lib/usb/all_boards.sh"
 
 # Sixteen boards, with faults of their own, and one that the file is not for.
 sixteen() {

@@ -1,4 +1,4 @@
-# Rows of tests/flash: --all with --address, over several boards that speak DfuSe. It has read all_boards.sh.
+# Rows of tests/apps/flash: --all with --address, over several boards that speak DfuSe. It has read all_boards.sh.
 # shellcheck shell=sh disable=SC2154
 
 # What the boards have, 16 pages of 1,024 bytes, and what they have then to have: the image from the second page on, with the rest of its

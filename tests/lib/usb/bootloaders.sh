@@ -1,4 +1,4 @@
-# Rows of tests/flash: bootloaders that don't keep the device table of this repository. A small one (USB_DEVICE=small) starts its
+# Rows of tests/apps/flash: bootloaders that don't keep the device table of this repository. A small one (USB_DEVICE=small) starts its
 # application by itself; applications may stall GETSTATUS, have other identifiers or another descriptor than the bootloader, no DFU
 # or no USB.
 

@@ -1,4 +1,4 @@
-# The rows of tests/compare: dfu-util and dfu-flash over the same simulated board. They stand in a folder with the stand-in for libusb,
+# The rows of tests/lib/interop/compare: dfu-util and dfu-flash over the same simulated board. They stand in a folder with the stand-in for libusb,
 # dfu-flash, dfuse_pack and a clock on which waits pass at once. $util is dfu-util.
 # shellcheck shell=sh disable=SC2086,SC2154
 

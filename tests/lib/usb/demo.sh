@@ -1,4 +1,4 @@
-# Rows of tests/flash: --demo. It touches no USB, and nothing that it prints can be taken for a real board's.
+# Rows of tests/apps/flash: --demo. It touches no USB, and nothing that it prints can be taken for a real board's.
 # shellcheck shell=sh disable=SC2154
 
 # demo WORDS..: its status is in $code, its texts in out and err; with a stand-in that answers nothing, which writes a log at any call.

@@ -1,4 +1,4 @@
-# Rows of tests/flash: which device and which alternate setting is taken, what is said of one that can't be opened or that
+# Rows of tests/apps/flash: which device and which alternate setting is taken, what is said of one that can't be opened or that
 # another program has, and how a session ends where the device answers no more.
 
 # Whether nothing was sent in the last run, and no setting was set.

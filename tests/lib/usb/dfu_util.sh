@@ -1,4 +1,4 @@
-# Rows of tests/flash: lines for dfu-util 0.11 that people paste. Each works here, or is answered with its new form.
+# Rows of tests/apps/flash: lines for dfu-util 0.11 that people paste. Each works here, or is answered with its new form.
 # shellcheck shell=sh disable=SC2034,SC2154
 
 # Long options, with their value behind = or as the next word.

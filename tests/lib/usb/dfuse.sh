@@ -1,6 +1,6 @@
-# What tests/dfuse and tests/slow/dfuse share: dfu-flash over the stand-in's device of DfuSe, and what its memory has to be behind a
+# What tests/apps/dfuse and tests/slow/dfuse share: dfu-flash over the stand-in's device of DfuSe, and what its memory has to be behind a
 # session. They are in a folder of their own, $work, with dfu-flash, the stand-in and the old memory `old`, 16 pages of 1,024 bytes from
-# 08000000h on. They have read tests/support/counting.sh.
+# 08000000h on. They have read tests/lib/support/counting.sh.
 # shellcheck shell=sh disable=SC2154
 pages='@Internal Flash  /0x08000000/16*001Kg'
 

@@ -1,5 +1,5 @@
 # The table of docs/interop on DfuSe: dfu-flash and dfu-util 0.11 beside each other, over the stand-in's device, whose clock passes at
-# once. tests/dfuse has read tests/usb/dfuse.sh, and has dfuse_pack beside dfu-flash; with WRITE in the environment the table is written.
+# once. tests/apps/dfuse has read tests/lib/usb/dfuse.sh, and has dfuse_pack beside dfu-flash; with WRITE in the environment the table is written.
 # shellcheck shell=sh disable=SC2034,SC2154,SC2086
 maps=$pages
 fate=
@@ -75,7 +75,7 @@ sessions() {
 random 1048576 > large
 random 1048576 > larger
 mkdir made kept
-gcc -O2 -shared -fPIC "$top/tests/c/passing_clock.c" -o clock.so
+gcc -O2 -shared -fPIC "$top/tests/lib/c/passing_clock.c" -o clock.so
 export LD_PRELOAD="$work/clock.so"
 sessions > made/dfuse-sessions.tsv
 unset LD_PRELOAD

@@ -1,4 +1,4 @@
-# Rows of tests/flash: what people try: dfu-util's short options, raw images, standard input, and words that choose no device.
+# Rows of tests/apps/flash: what people try: dfu-util's short options, raw images, standard input, and words that choose no device.
 
 # dfu-util's options that mean the same.
 row 0 new 'verified: ' '' -D new.dfu

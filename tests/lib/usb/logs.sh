@@ -1,4 +1,4 @@
-# Rows of tests/flash: the log of --verbose=FILE. For readers it has the lines of --verbose; and `dfu judge` keeps what the proved device
+# Rows of tests/apps/flash: the log of --verbose=FILE. For readers it has the lines of --verbose; and `dfu judge` keeps what the proved device
 # answered, whatever was lost, and U-Boot's rules by their habit.
 
 # judged WANTED: the last line that `dfu judge` prints of the log begins so.
@@ -84,5 +84,5 @@ expect 'a record says it' grep -q ',"log_whole":false}$' out
 rm -f session.log
 row 0 new '{"status":0,' '' --json --verbose=session.log new.dfu
 expect 'of a whole one it says nothing' test "$(grep -c log_whole out)" -eq 0
-[ -n "${NO_ALL-}" ] || . "$top/tests/usb/logs_all.sh"
+[ -n "${NO_ALL-}" ] || . "$top/tests/lib/usb/logs_all.sh"
 

@@ -1,7 +1,7 @@
-# Rows of tests/flash: --log where there is no room for the logs. It has read rows.sh.
+# Rows of tests/apps/flash: --log where there is no room for the logs. It has read rows.sh.
 # shellcheck shell=sh disable=SC2034,SC2154
-# shellcheck source=tests/usb/all_boards.sh
-. "$top/tests/usb/all_boards.sh"
+# shellcheck source=tests/lib/usb/all_boards.sh
+. "$top/tests/lib/usb/all_boards.sh"
 
 no_boards
 board 1-1

@@ -1,4 +1,4 @@
-# Rows of tests/flash: files without a suffix that are no image. Nothing of them is sent, whatever the words say about the device, unless
+# Rows of tests/apps/flash: files without a suffix that are no image. Nothing of them is sent, whatever the words say about the device, unless
 # --raw says that these bytes are wanted as they are.
 # shellcheck shell=sh disable=SC2154
 

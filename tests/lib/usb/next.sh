@@ -1,4 +1,4 @@
-# Rows of tests/flash: the line `next:` behind each end that isn't what was meant, the same in a record, and that the manual's steps are
+# Rows of tests/apps/flash: the line `next:` behind each end that isn't what was meant, the same in a record, and that the manual's steps are
 # those of flash/next.c.
 # shellcheck shell=sh disable=SC2016,SC2034,SC2154
 

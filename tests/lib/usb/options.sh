@@ -1,4 +1,4 @@
-# Rows of tests/flash: --detach, --transfer-size, records in JSON of --list and --dry-run, and texts of devices and names of files
+# Rows of tests/apps/flash: --detach, --transfer-size, records in JSON of --list and --dry-run, and texts of devices and names of files
 # that aren't ASCII.
 
 # --detach: to DFU mode, and no further; a device that is there already is sent nothing.

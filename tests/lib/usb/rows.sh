@@ -1,11 +1,11 @@
-# What tests/flash runs dfu-flash over the stand-in with: both are put into a folder of their own, $work, and run there. `top` is
+# What tests/apps/flash runs dfu-flash over the stand-in with: both are put into a folder of their own, $work, and run there. `top` is
 # the folder of the repository.
 
 # shellcheck disable=SC2154
-# shellcheck source=tests/support/counting.sh
-. "$top/tests/support/counting.sh"
-# shellcheck source=tests/support/flash.sh
-. "$top/tests/support/flash.sh"
+# shellcheck source=tests/lib/support/counting.sh
+. "$top/tests/lib/support/counting.sh"
+# shellcheck source=tests/lib/support/flash.sh
+. "$top/tests/lib/support/flash.sh"
 chmod 755 "$work"
 # LEFT_OUT: a file with what rows begin with, or have in them, that the system can't do; they are named, and not counted. NO_ALL: it has no
 # --all.
@@ -20,7 +20,7 @@ if [ -n "${LEFT_OUT-}" ]; then
     }
 fi
 cp "$build/dfu-flash" "$work"
-"$top/tests/usb/build" "$work"
+"$top/tests/lib/usb/build" "$work"
 cd "$work" || exit
 printf 'the old image' > old
 printf 'a new image of 26 bytes .\1' > new

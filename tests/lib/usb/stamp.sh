@@ -1,4 +1,4 @@
-# Rows of tests/flash: --stamp, a serial number or a key for each board.
+# Rows of tests/apps/flash: --stamp, a serial number or a key for each board.
 # shellcheck shell=sh disable=SC2034,SC2154,SC2086
 
 # An image of 64 bytes with room for 8 from byte 16 on, and one without.
@@ -178,4 +178,4 @@ says 'dfu-flash: A is written at 0x8000410'
 expect 'a record' grep -q '	A	1-1	verified$' serials.used
 row 1 - 'OutsideTheImage: ' USB_DEVICE=dfuse --stamp serials --stamp-at 0x10:8 --address 0x08000400 --device 1209:0001 room
 says 'the image is 0x8000400 to 0x800043f'
-[ -n "${NO_ALL-}" ] || . "$top/tests/usb/stamp_all.sh"
+[ -n "${NO_ALL-}" ] || . "$top/tests/lib/usb/stamp_all.sh"

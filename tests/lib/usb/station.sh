@@ -1,4 +1,4 @@
-# Rows of tests/flash: what a station needs: records with time, file and check sum, --report, --ports, --retry and --count.
+# Rows of tests/apps/flash: what a station needs: records with time, file and check sum, --report, --ports, --retry and --count.
 # shellcheck shell=sh disable=SC2034,SC2154
 
 # Records have when, which file, and its CRC-32, as gzip has it behind a file.
@@ -86,4 +86,4 @@ row 1 old 'WrongTarget: ' USB_START=app --retry 3 --device 1209:0001 other.dfu
 expect 'what is refused is not tried again' test "$(grep -c 'tried again' err)" -eq 0
 
 # Several boards, with a report in which no two lines mix, and an end after so many.
-[ -n "${NO_ALL-}" ] || . "$top/tests/usb/station_all.sh"
+[ -n "${NO_ALL-}" ] || . "$top/tests/lib/usb/station_all.sh"

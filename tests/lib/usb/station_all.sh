@@ -1,7 +1,7 @@
-# Rows of tests/flash: a station with several boards. It has read station.sh.
+# Rows of tests/apps/flash: a station with several boards. It has read station.sh.
 # shellcheck shell=sh disable=SC2034,SC2154
-# shellcheck source=tests/usb/all_boards.sh
-. "$top/tests/usb/all_boards.sh"
+# shellcheck source=tests/lib/usb/all_boards.sh
+. "$top/tests/lib/usb/all_boards.sh"
 no_boards
 for port in 1 2 3 4 5 6 7 8; do
     board "1-$port" "USB_SERIAL=F$port"

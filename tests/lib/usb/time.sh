@@ -1,4 +1,4 @@
-# Rows of tests/flash: how a wait ends at a signal, --timeout, --wait, and the trace of --verbose.
+# Rows of tests/apps/flash: how a wait ends at a signal, --timeout, --wait, and the trace of --verbose.
 
 # stopped SIGNAL SECONDS SETTINGS WORDS..: as `flash`, with the signal after so many seconds; again, up to three times, if the program had
 # neither sent nor said anything by then. How long it took is in $took.

@@ -1,4 +1,4 @@
-# Rows of tests/flash: uploads, and which files are made: never over one that is there but by force, no part of one, and nothing
+# Rows of tests/apps/flash: uploads, and which files are made: never over one that is there but by force, no part of one, and nothing
 # that isn't the user's to write.
 
 row 0 old 'uploaded: ' '' --upload up

@@ -1,5 +1,5 @@
 # shellcheck disable=SC2089,SC2090
-# Rows of tests/flash: a device whose interface tells a version and a trial, as `1.1.0, on trial, 2 starts left`.
+# Rows of tests/apps/flash: a device whose interface tells a version and a trial, as `1.1.0, on trial, 2 starts left`.
 
 trial='1.1.0, on trial, 2 starts left'
 export USB_IDS=1209:0001:0110

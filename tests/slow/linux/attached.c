@@ -1,4 +1,4 @@
-/* The device of the stand-in (tests/usb) as Linux has one on its bus: attached to vhci_hcd, the kernel's host controller for devices
+/* The device of the stand-in (tests/lib/usb) as Linux has one on its bus: attached to vhci_hcd, the kernel's host controller for devices
  * that stand behind a socket, with the protocol USB/IP. So the kernel's USB and the real libusb stand between it and a program.
  *
  * The kernel tells such a device of no reset. What comes behind one tells it: 64 bytes of the device descriptor are asked for, and
@@ -9,7 +9,7 @@
  * transfer that is lost is not answered, until the program's time for it is over.
  *
  * usage: attached [PORT]    (as root, until SIGTERM; at this port of the controller, 0 to 7, or 0. The settings are those of the stand-in,
- * in tests/usb/settings.h) */
+ * in tests/lib/usb/settings.h) */
 #define _GNU_SOURCE
 #include "abi.h"
 #include "bus.h"

@@ -2,7 +2,7 @@
  * of an STM32F4's flash, as `run` takes it out of MicroPython's sources into mboot_flash.inc and mboot_usb.inc, with nothing changed. Below
  * are what that code calls: a flash of 1 MiB, whose bytes are at its own addresses, 08000000h and on, and a stack of USB.
  *
- * Of the settings of a DfuSe device (tests/usb/settings.h) these count: USB_IMAGE, with as much of the flash as is saved, USB_CELLS,
+ * Of the settings of a DfuSe device (tests/lib/usb/settings.h) these count: USB_IMAGE, with as much of the flash as is saved, USB_CELLS,
  * USB_FAILS (an erase or a write of the flash), USB_LIES, and those of the bus. A cut tears what the transfer of before has changed: every
  * other byte of it. */
 #define _GNU_SOURCE

@@ -10,7 +10,7 @@ import tempfile
 import time
 import urllib.request
 
-sys.path.insert(0, str(pathlib.Path(__file__).resolve().parent.parent.parent / 'page'))
+sys.path.insert(0, str(pathlib.Path(__file__).resolve().parents[2] / 'lib/page'))
 import dfuse_rows
 from browser import ARGUMENTS, Browser, serve
 from files import NEW, OLD, dfuse, suffixed

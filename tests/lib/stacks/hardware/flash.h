@@ -1,4 +1,4 @@
-/* What the listing of docs/PORTING.md for the RP2040 takes of the Pico SDK, for tests/porting. The SDK's own headers have it in
+/* What the listing of docs/PORTING.md for the RP2040 takes of the Pico SDK, for tests/c/porting. The SDK's own headers have it in
  * hardware/flash.h, hardware/sync.h and pico/platform. */
 #ifndef HARDWARE_FLASH_H
 #define HARDWARE_FLASH_H

@@ -1,6 +1,6 @@
 /* Asks the device of the stand-in at times of its own, by the calls of the bus: what does its clock say to who asks early, late or often?
  *
- * usage: asker busy|detach MS EACH    (the settings are those of the stand-in, in tests/usb/settings.c)
+ * usage: asker busy|detach MS EACH    (the settings are those of the stand-in, in tests/lib/usb/settings.c)
  *
  * busy: a block, and a GETSTATUS, by which the device begins to write it. For MS milliseconds from its answer on the time is passed on to
  * the device each EACH microseconds; then comes a GETSTATUS. detach: a DETACH, and for MS milliseconds from its answer on a GETSTATE each

@@ -1,8 +1,8 @@
-# Rows of tests/flash: the clock of the stand-in, whose milliseconds are those that pass. Who asks when a wait is over is never too early,
+# Rows of tests/apps/flash: the clock of the stand-in, whose milliseconds are those that pass. Who asks when a wait is over is never too early,
 # however often the time was passed on to the device, and who asks before that is.
 # shellcheck shell=sh disable=SC2154
 
-gcc -std=gnu11 -O2 -Wall -Wextra -Werror -I "$top/include" -o asker "$top/tests/usb/clock/asker.c" "$top"/tests/usb/*.c \
+gcc -std=gnu11 -O2 -Wall -Wextra -Werror -I "$top/include" -o asker "$top/tests/lib/usb/clock/asker.c" "$top"/tests/lib/usb/*.c \
     "$top/dist/dfu_device.c"
 
 # asked STATE MOST SETTINGS WORDS..: the state that the last answer of asker has. It counts if at most MOST microseconds passed by

@@ -1,4 +1,4 @@
-# Rows of tests/flash: numbers that the library never answers. A number that no table of dfu-flash has ends the session as `broken`, or is
+# Rows of tests/apps/flash: numbers that the library never answers. A number that no table of dfu-flash has ends the session as `broken`, or is
 # refused, and is an index into nothing; the sanitizers of gcc see one that is.
 # shellcheck shell=sh disable=SC2154
 
@@ -12,7 +12,7 @@ mkdir planted
 cp dfu-flash planted/as-built
 # shellcheck disable=SC2046,SC2086
 gcc -std=c11 -O1 -g -Wall -Wextra -fsanitize=address,undefined -fno-sanitize-recover=all $wraps -I "$top/include" -I "$top/flash" $headers \
-    $(cat sources) "$top/tests/usb/planted/planted.c" "$build/libdfu_host.a" "$build/libdfu_device.a" -o planted/dfu-flash "$work/libusb-1.0.so.0"
+    $(cat sources) "$top/tests/lib/usb/planted/planted.c" "$build/libdfu_host.a" "$build/libdfu_device.a" -o planted/dfu-flash "$work/libusb-1.0.so.0"
 cp planted/dfu-flash dfu-flash
 ASAN_OPTIONS=detect_leaks=0
 export ASAN_OPTIONS

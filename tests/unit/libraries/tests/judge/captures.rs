@@ -1,5 +1,5 @@
 //! Captures of usbmon, as lines of a log: what went over Linux's own USB between a host and a stand-in for a device. The same lines are
-//! in `examples/captures`, and `tests/judge` compares them; `verdicts` has the verdicts.
+//! in `examples/captures`, and `tests/dfu/judge` compares them; `verdicts` has the verdicts.
 
 /// Dfu-flash, from the application.
 #[rustfmt::skip]

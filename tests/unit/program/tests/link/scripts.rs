@@ -1,4 +1,4 @@
-//! Scripts with readers and writers of many kinds. `tests/scripts` runs the program, to show what scripts print.
+//! Scripts with readers and writers of many kinds. `tests/dfu/scripts` runs the program, to show what scripts print.
 
 mod portions;
 mod rows;

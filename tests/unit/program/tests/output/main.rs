@@ -1,4 +1,4 @@
-//! The lines that are printed of known files. `tests/show` runs the program on known bytes.
+//! The lines that are printed of known files. `tests/lib/examples/show` runs the program on known bytes.
 
 mod reasons;
 mod streams;

@@ -1,4 +1,4 @@
-//! Scripts with a line for each action, worked out by hand; `tests/scripts` runs the program on more.
+//! Scripts with a line for each action, worked out by hand; `tests/dfu/scripts` runs the program on more.
 
 use super::rows::{text_of, told};
 use dfu::link::{ScriptFault, script, script_traced};
