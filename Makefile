@@ -89,7 +89,7 @@ libraries: $(libraries)
 	$(call have,3 libraries)
 lib libs library: libraries
 page:
-	web/build $(BUILD)/page
+	apps/web/build $(BUILD)/page
 dfu-rust:
 	@dist/make/rust-built $(BUILD)/dfu-rust
 web: page
@@ -109,17 +109,16 @@ endif
 
 # A word that is a folder here, and nothing that make builds: it says what to type.
 refuses = +@echo 'make: $(1)' >&2; exit 1
+of_apps = apps/ has dfu-flash, dfu-gadget and the page: make dfu-flash, make dfu-gadget, make page
 of_crates = crates/ is proved and tried by ./test, with a Rattle kit: see CONTRIBUTING.md
 of_dist = dist/ is made by dist/generate, with a Rattle kit: see dist/README.md (make archive packs the sources)
-of_bench = bench/ has measurements, each with a command of its own: see bench/README.md
 of_debian = the packages are made by dpkg-buildpackage -b -us -uc
 of_docs = docs/ is read as it is: begin at docs/README.md, or with man share/man/dfu-flash.1
 of_doc = $(of_docs)
 of_examples = examples/ has scripts and sources: build/dfu run examples/lost-answer.script plays one; see examples/README.md
 of_include = include/ is read as it is, by gcc -I include: see include/README.md
-of_ports = ports/ is compiled in your own project: see ports/tinyusb/README.md
 of_share = share/ is put into its places by make install
-others = crates dist bench debian docs doc examples include ports share
+others = apps crates dist debian docs doc examples include share
 .PHONY: $(others)
 $(others):
 	$(call refuses,$(of_$@))
@@ -182,10 +181,11 @@ define archive
 endef
 
 of_dfu = $(objects)/dist/dfu.o $(objects)/dist/os.o
-# What differs by system is in folders of flash/: Windows has one, and Linux and the others of POSIX have one for each beside their own.
+# What differs by system is in folders of apps/flash: Windows has one, and Linux and the others of POSIX have one for each beside their
+# own. apps/common has what both programs share.
 folders = $(if $(is_windows),windows,posix $(if $(is_linux),linux,unix))
-of_flash = $(patsubst %.c,$(objects)/%.o,$(wildcard flash/*.c $(folders:%=flash/%/*.c)))
-of_gadget = $(patsubst %.c,$(objects)/%.o,$(wildcard gadget/*.c) flash/text.c flash/posix/fresh.c)
+of_flash = $(patsubst apps/%.c,$(objects)/%.o,$(wildcard apps/flash/*.c apps/common/*.c $(folders:%=apps/*/%/*.c)))
+of_gadget = $(patsubst apps/%.c,$(objects)/%.o,$(wildcard apps/gadget/*.c apps/common/*.c apps/common/posix/*.c))
 of_libraries = $(patsubst $(BUILD)/lib%.a,$(objects)/dist/%.o,$(libraries))
 
 $(BUILD)/dfu: $(of_dfu) $(anew)
@@ -202,9 +202,11 @@ $(objects)/dist/os.o: dist/os.c $(anew)
 	$(call compile,$(hosted))
 $(of_libraries): $(objects)/dist/%.o: dist/%.c $(anew)
 	$(call compile,$(portable))
-$(objects)/flash/%.o: flash/%.c $(anew)
+$(objects)/flash/%.o: apps/flash/%.c $(anew)
 	$(call compile,$(hosted) $(usb_headers))
-$(objects)/gadget/%.o: gadget/%.c $(anew)
+$(objects)/gadget/%.o: apps/gadget/%.c $(anew)
+	$(call compile,$(hosted))
+$(objects)/common/%.o: apps/common/%.c $(anew)
 	$(call compile,$(hosted))
 -include $(wildcard $(objects)/*/*.d $(objects)/*/*/*.d)
 

@@ -1,7 +1,7 @@
 /* SPDX-License-Identifier: MIT OR Apache-2.0 */
 /* What is known better than the tables of next.c, and the line to type, which has the words of the command line. */
 #include "advice.h"
-#include "text.h"
+#include "../common/text.h"
 
 #include <stdio.h>
 #include <string.h>

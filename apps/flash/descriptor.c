@@ -3,7 +3,7 @@
    These are requests of USB itself, and are made before a session and when a device has come back. */
 #include "find.h"
 #include "standard.h"
-#include "text.h"
+#include "../common/text.h"
 #include "transport.h"
 
 #include <string.h>

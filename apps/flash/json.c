@@ -2,7 +2,7 @@
 /* Records in JSON. */
 #include "json.h"
 #include "session.h"
-#include "text.h"
+#include "../common/text.h"
 
 #include <inttypes.h>
 #include <stdio.h>

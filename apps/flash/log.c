@@ -3,10 +3,10 @@
 #include "log.h"
 #include "answer.h"
 #include "device.h"
-#include "fresh.h"
+#include "../common/fresh.h"
 #include "say.h"
 #include "standard.h"
-#include "text.h"
+#include "../common/text.h"
 
 #include <errno.h>
 #include <string.h>

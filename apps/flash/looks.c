@@ -4,7 +4,7 @@
 #include "looks.h"
 #include "image.h"
 #include "say.h"
-#include "text.h"
+#include "../common/text.h"
 
 #include <ctype.h>
 #include <inttypes.h>

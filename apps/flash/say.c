@@ -5,7 +5,7 @@
 #include "platform.h"
 #include "standard.h"
 #include "status.h"
-#include "text.h"
+#include "../common/text.h"
 
 #include <string.h>
 

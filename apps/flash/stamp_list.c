@@ -4,7 +4,7 @@
 #include "stamp_list.h"
 #include "files.h"
 #include "say.h"
-#include "text.h"
+#include "../common/text.h"
 
 #include <ctype.h>
 #include <stdio.h>

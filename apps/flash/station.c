@@ -7,7 +7,7 @@
 #include "ports_file.h"
 #include "say.h"
 #include "stamp.h"
-#include "text.h"
+#include "../common/text.h"
 
 #include <inttypes.h>
 #include <stdio.h>

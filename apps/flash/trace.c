@@ -5,7 +5,7 @@
 #include "trace.h"
 #include "answer.h"
 #include "standard.h"
-#include "text.h"
+#include "../common/text.h"
 
 #include <inttypes.h>
 #include <stdio.h>

@@ -6,7 +6,7 @@
 #include "machine.h"
 #include "paths.h"
 #include "say.h"
-#include "../flash/text.h"
+#include "../common/text.h"
 
 #include <dirent.h>
 #include <errno.h>

@@ -1,8 +1,8 @@
 /* SPDX-License-Identifier: MIT OR Apache-2.0 */
 /* The lines on standard error. A request has seven words with one space between, as an action of dfu-flash has. */
 #include "say.h"
-#include "../flash/fresh.h"
-#include "../flash/text.h"
+#include "../common/fresh.h"
+#include "../common/text.h"
 
 #include <errno.h>
 #include <inttypes.h>

@@ -9,7 +9,7 @@
 #include "../stamp.h"
 #include "../status.h"
 #include "../stop.h"
-#include "../text.h"
+#include "../../common/text.h"
 #include "own.h"
 #include "wake.h"
 

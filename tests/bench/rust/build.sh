@@ -1,10 +1,10 @@
-# What bench/rust/run and bench/rust/panics share: cargo over Debian's packages, and the sessions in Rust. `top` is the folder of the
-# repository, and counting.sh has been read.
+# What tests/bench/rust/run and tests/bench/rust/panics share: cargo over Debian's packages, and the sessions in Rust. `top` is the folder
+# of the repository, and counting.sh has been read.
 # shellcheck shell=sh disable=SC2154
 # shellcheck source=tests/lib/twice/cargo.sh
 . "$top/tests/lib/twice/cargo.sh"
 mkdir -p "$work/bench/rust"
-cp -R "$top/bench/rust/package" "$work/bench/rust/package"
+cp -R "$top/tests/bench/rust/package" "$work/bench/rust/package"
 rm -rf "$work/bench/rust/package/target" "$work/bench/rust/package/Cargo.lock"
 
 # session_of PART TARGET ARCHIVE: the session of a device or of a host, for what rustc calls a target.

@@ -1,6 +1,6 @@
 /* SPDX-License-Identifier: MIT OR Apache-2.0 */
-/* Runs a session of bench/rust, in Rust or in C, with the word `session`; with `stack` it prints how deep it went, and with another word it
- * makes all ready alone. With -DNONE=0 there is no session, and with -DNONE=1 but the calls of the peer that a host's makes. */
+/* Runs a session of tests/bench/rust, in Rust or in C, with the word `session`; with `stack` it prints how deep it went, and with another
+ * word it makes all ready alone. With -DNONE=0 there is no session, and with -DNONE=1 but the calls of the peer that a host's makes. */
 #include "painted.h"
 #include "session.h"
 

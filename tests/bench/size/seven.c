@@ -1,7 +1,7 @@
 /* SPDX-License-Identifier: MIT OR Apache-2.0 */
-/* The seven calls that a bootloader makes of the device. bench/size/device links it, and with -DNONE without the calls: what it is larger
- * by is what a bootloader pays. With -DCHECK it makes those of a check of images too, and with -DTRIALS those of images on trial. Nothing
- * runs it. */
+/* The seven calls that a bootloader makes of the device. tests/bench/size/device links it, and with -DNONE without the calls: what it is
+ * larger by is what a bootloader pays. With -DCHECK it makes those of a check of images too, and with -DTRIALS those of images on trial.
+ * Nothing runs it. */
 #include "dfu_device.h"
 #include "dfu_trial.h"
 

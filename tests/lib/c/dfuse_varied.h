@@ -1,5 +1,5 @@
-/* Settings of the stand-in's DfuSe device (tests/lib/usb/settings.c) as they come by chance, for the tests: maps, names and descriptors of any
- * bytes, sizes, times, habits, and faults of the link and of the device. The first FIXED of them are the same in each run. */
+/* Settings of the stand-in's DfuSe device (tests/lib/usb/settings.c) as they come by chance, for the tests: maps, names and descriptors of
+ * any bytes, sizes, times, habits, and faults of the link and of the device. The first FIXED of them are the same in each run. */
 #ifndef DFUSE_VARIED_H
 #define DFUSE_VARIED_H
 

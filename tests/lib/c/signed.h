@@ -1,5 +1,5 @@
-/* Images for tests/lib/c/signed*.c, signed as imgtool does it, by a key that is made here. What is in them is written piece by piece, so that
- * each can be wrong, and the whole be signed all the same. */
+/* Images for tests/lib/c/signed*.c, signed as imgtool does it, by a key that is made here. What is in them is written piece by piece, so
+ * that each can be wrong, and the whole be signed all the same. */
 #ifndef SIGNED_H
 #define SIGNED_H
 #include <sodium.h>

@@ -16,11 +16,11 @@ fresh
 mkdir boot
 echo before > boot/next.img
 export DFU_GADGET="$work/gadget" BOOT="$work/boot"
-ends 1 'another length' "$top/gadget/on-installed" medium 32 12
-ends 1 'a check that fails' env CHECK=false "$top/gadget/on-installed" medium 32 13
-ends 1 'no medium' "$top/gadget/on-installed" nowhere 32 13
+ends 1 'another length' "$top/apps/gadget/on-installed" medium 32 12
+ends 1 'a check that fails' env CHECK=false "$top/apps/gadget/on-installed" medium 32 13
+ends 1 'no medium' "$top/apps/gadget/on-installed" nowhere 32 13
 equal 'what stood there' before "$(cat boot/next.img)"
-ends 0 'it is placed' env START='echo starts' "$top/gadget/on-installed" medium 32 13
+ends 0 'it is placed' env START='echo starts' "$top/apps/gadget/on-installed" medium 32 13
 is 'it is placed' cmp -s boot/next.img old
 is 'it is started' grep -qx starts out
 equal 'nothing is left beside' next.img "$(ls -A boot)"

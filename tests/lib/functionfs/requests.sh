@@ -194,11 +194,11 @@ END
 # data stage. The rows above see each of them.
 wrong_program() {
     rm -rf source
-    cp -R "$top/gadget" source
+    cp -R "$top/apps/gadget" source
     sed -i "$2" "source/$1"
-    is "a wrong $1: it differs" test -n "$(diff "$top/gadget/$1" "source/$1")"
-    sed -i 's,"../flash/text.h","text.h",' source/*.c
-    cp "$top/flash/text.h" source/
+    is "a wrong $1: it differs" test -n "$(diff "$top/apps/gadget/$1" "source/$1")"
+    rm -rf common
+    cp -R "$top/apps/common" common
     compile wrong source/*.c
     program=./wrong
     fresh

@@ -191,7 +191,7 @@ play "$timed --tries 2" < rows
 holds 'on-start: the image that does not work is in place' broken
 for turn in 3 3 0 0; do
     code=0
-    TRIES=2 "$top/gadget/on-start" medium > out 2>&1 || code=$?
+    TRIES=2 "$top/apps/gadget/on-start" medium > out 2>&1 || code=$?
     equal 'on-start: the status' "$turn" "$code"
 done
 equal 'on-start: what ran' 'new 24576 new 24576 works 8192 works 8192 ' "$(tr '\n' ' ' < ran)"
@@ -202,11 +202,11 @@ printf '%s\nsetup a103000000000600\nwait 20\nsetup a103000000000600\nsetup 21010
 play "$timed --tries 2" < rows
 : > ran
 for turn in 1 2 3 4; do
-    is 'on-start: it confirms itself' env TRIES=2 "$top/gadget/on-start" medium
+    is 'on-start: it confirms itself' env TRIES=2 "$top/apps/gadget/on-start" medium
 done
 equal 'on-start: what ran after that' 'works 24576 works 24576 works 24576 works 24576 ' "$(tr '\n' ' ' < ran)"
 code=0
-"$top/gadget/on-start" nowhere > out 2>&1 || code=$?
+"$top/apps/gadget/on-start" nowhere > out 2>&1 || code=$?
 equal 'on-start: no medium' 1 "$code"
 unset DFU_GADGET DFU_RAN FOLDER
 

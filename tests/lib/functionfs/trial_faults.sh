@@ -83,11 +83,11 @@ holds 'a trial that can not be ended, and once more' third
 
 # A wrong program: one that ends no trial loses the confirmed image.
 rm -rf source
-cp -R "$top/gadget" source
+cp -R "$top/apps/gadget" source
 sed -i 's/if (machine->tries != 0 && !make_room/if (machine->tries == 1 \&\& !make_room/' source/machine.c
-is 'a wrong machine.c: it differs' test -n "$(diff "$top/gadget/machine.c" source/machine.c)"
-sed -i 's,"../flash/text.h","text.h",; s,"../flash/fresh.h","fresh.h",' source/*.c
-cp "$top/flash/text.h" "$top/flash/fresh.h" source/
+is 'a wrong machine.c: it differs' test -n "$(diff "$top/apps/gadget/machine.c" source/machine.c)"
+rm -rf common
+cp -R "$top/apps/common" common
 compile wrong source/*.c
 on_trial
 printf '%s\n' "$anew" > rows

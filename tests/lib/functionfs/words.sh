@@ -94,24 +94,24 @@ folder root
 export GADGET_ROOT="$work/board"
 mkdir -p board/sys/kernel/config/usb_gadget board/dev
 made=board/sys/kernel/config/usb_gadget
-is 'set-up' "$top/gadget/set-up" 0x1209 0x0001 0x0100 F1
+is 'set-up' "$top/apps/gadget/set-up" 0x1209 0x0001 0x0100 F1
 equal 'set-up: the vendor' 0x1209 "$(cat $made/upgrade/idVendor)"
 equal 'set-up: the function' "$GADGET_ROOT/sys/kernel/config/usb_gadget/upgrade/functions/ffs.dfu-upgrade" \
     "$(readlink $made/upgrade/configs/c.1/ffs.dfu-upgrade)"
-is 'set-up: no second time' test "$("$top/gadget/set-up" 0x1209 0x0001 0x0100 F1 2> err || echo "$?")" = 1
+is 'set-up: no second time' test "$("$top/apps/gadget/set-up" 0x1209 0x0001 0x0100 F1 2> err || echo "$?")" = 1
 rm -rf board
 mkdir -p "$made/board/configs/c.1" "$made/board/functions/acm.usb0" board/dev
 ln -s "$work/$made/board/functions/acm.usb0" "$made/board/configs/c.1/"
-is "set-up: the board's own gadget" "$top/gadget/set-up" --application board 0x1209 0x0001 0x0100 F1
+is "set-up: the board's own gadget" "$top/apps/gadget/set-up" --application board 0x1209 0x0001 0x0100 F1
 is 'set-up: its function stays' test -h "$made/board/configs/c.1/acm.usb0"
 is 'set-up: ours stands beside it' test -h "$made/board/configs/c.1/ffs.dfu-board"
 is 'set-up: nothing else of it' test ! -e "$made/board/idVendor"
 for words in '' '0x1209 1 2' '--remove x' '--application' '--application upgrade 1 2 3 4' '--application a/b 1 2 3 4' '--what'; do
     # shellcheck disable=SC2086
-    equal "set-up $words" 2 "$("$top/gadget/set-up" $words > /dev/null 2>&1 || echo "$?")"
+    equal "set-up $words" 2 "$("$top/apps/gadget/set-up" $words > /dev/null 2>&1 || echo "$?")"
 done
 echo "$udc" > "$made/board/UDC"
-equal 'set-up: a gadget on the bus' 1 "$("$top/gadget/set-up" --remove --application board 2> err || echo "$?")"
+equal 'set-up: a gadget on the bus' 1 "$("$top/apps/gadget/set-up" --remove --application board 2> err || echo "$?")"
 : > "$made/board/UDC"
 unset GADGET_ROOT
 
@@ -132,10 +132,10 @@ while IFS='	' read -r option text; do
     low=$(printf '%s' "$text" | sed 's/^./\L&/')
     is "zsh: $option: $text" grep -q -F -e "[$low]" "$top/share/completions/_dfu-gadget"
 done < texts
-sed -n 's|^ *STATUS_[A-Z]* = \([0-9]\),* */\* \(.*\) \*/|\1 \2|p' "$top/gadget/status.h" > statuses
+sed -n 's|^ *STATUS_[A-Z]* = \([0-9]\),* */\* \(.*\) \*/|\1 \2|p' "$top/apps/gadget/status.h" > statuses
 equal 'the statuses' 8 "$(wc -l < statuses)"
 while read -r status; do
     case $manual in *"$status"*) right ;; *) wrong "the manual lacks: $status" ;; esac
 done < statuses
 is 'the version of the manual' grep -q "^.TH .*\"$(./gadget -V | sed 's/dfu-gadget/dfu/')\"" "$top/share/man/dfu-gadget.1"
-is 'the version of the program dfu' grep -q "\"dfu-gadget $(./gadget -V | sed 's/.* //')" "$top/gadget/help.c"
+is 'the version of the program dfu' grep -q "\"dfu-gadget $(./gadget -V | sed 's/.* //')" "$top/apps/gadget/help.c"

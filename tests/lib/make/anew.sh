@@ -1,6 +1,6 @@
 # What make builds anew, and that builds side by side do no harm; tests/build/make reads this file.
 # shellcheck shell=sh disable=SC2154
-objects=$(($(find flash gadget -name '*.c' ! -path '*/unix/*' ! -path '*/windows/*' | wc -l) + 5))
+objects=$(($(find apps -name '*.c' ! -path '*/unix/*' ! -path '*/windows/*' | wc -l) + 5))
 
 says 0 -j4
 unsaid 'warning'
@@ -13,7 +13,7 @@ done
 touch include/dfu_device.h
 says 0
 is 'a header that changed' [ "$(grep -c -e ' -c -o ' "$work/said")" -ge 2 ]
-reading=$(grep -l '#include <dfu_device' flash/*.c | wc -l)
+reading=$(grep -l '#include <dfu_device' apps/flash/*.c | wc -l)
 is 'what reads another one stays' [ "$(grep -c -e ' -c -o .*/objects/flash/' "$work/said")" -eq "$reading" ]
 touch dist/os.c
 says 0
@@ -21,9 +21,9 @@ compiled 'os.c changed' 1
 touch dist/*/dfu.s
 says 0
 compiled 'the assembly changed' 1
-echo 'int main(void) { return 77; }' > flash/unwanted.c
+echo 'int main(void) { return 77; }' > apps/flash/unwanted.c
 says 2
-rm flash/unwanted.c
+rm apps/flash/unwanted.c
 says 0
 says 0 CFLAGS=-g
 if [ -x build/dfu-flash ] && [ -x build/dfu-gadget ]; then compiled 'other flags' "$objects"; fi
@@ -54,7 +54,7 @@ echo mine > "$work/mine/dfu"
 says 0 clean BUILD="$work/mine"
 is 'make clean takes away what make built alone' grep -q mine "$work/mine/dfu"
 says 0 clean BUILD=.
-is 'make clean in the sources' test -f flash/words.c
+is 'make clean in the sources' test -f apps/flash/words.c
 echo mine > build/mine
 says 0 clean
 equal 'make clean' mine "$(ls build)"

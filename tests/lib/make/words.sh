@@ -100,13 +100,12 @@ refused() {
 }
 refused crates './test, with a Rattle kit'
 refused dist 'dist/generate, with a Rattle kit: see dist/README.md'
-refused bench 'bench/README.md'
+refused apps 'make dfu-flash'
 refused debian 'dpkg-buildpackage -b -us -uc'
 refused docs 'docs/README.md'
 refused doc 'docs/README.md'
 refused examples 'build/dfu run examples/lost-answer.script'
 refused include 'include/README.md'
-refused ports 'ports/tinyusb/README.md'
 refused share 'make install'
 ends 2 dist -n
 for folder in "$top"/*/; do
@@ -119,7 +118,7 @@ ends 0 help
 for word in check libraries install page clean; do said "^  make $word"; done
 unsaid '^#'
 
-# ./test, without the kit that KIT names.
+# ./test, without the kit that crates/KIT names.
 # stops WANTED PATH: it prints that, and stops within a second.
 stops() {
     code=0 began=$(date +%s%N)
@@ -135,5 +134,5 @@ stops 'this needs a Rattle kit (rt on PATH), see CONTRIBUTING.md; `make check` n
 mkdir "$work/kit"
 printf '#!/bin/sh\necho rattle-kit-0 logic 0000000000000000\n' > "$work/kit/rt"
 chmod +x "$work/kit/rt"
-stops "the kit is 'rattle-kit-0 logic 0000000000000000', and KIT says $(cat "$top/KIT"): see CONTRIBUTING.md; \`make check\` needs no kit" \
+stops "the kit is 'rattle-kit-0 logic 0000000000000000', and crates/KIT says $(cat "$top/crates/KIT"): see CONTRIBUTING.md; \`make check\` needs no kit" \
     "$work/kit:${without%:}"

@@ -1,5 +1,5 @@
-/* Calls each export of sizes.ll with numbers around 2 to the 16, 31, 32 and 63, and compares with the same sums in 64 bits. It ends in 1 and
- * names what is otherwise. */
+/* Calls each export of sizes.ll with numbers around 2 to the 16, 31, 32 and 63, and compares with the same sums in 64 bits. It ends in 1
+ * and names what is otherwise. */
 #include <stdio.h>
 
 #include "dfu_sizes.h"

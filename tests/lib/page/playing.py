@@ -106,7 +106,7 @@ def folded(browser):
     browser.size(1100, 1400)
 
 
-PAGES = {'page': 'web/README.md', 'project': 'README.md'}
+PAGES = {'page': 'apps/web/README.md', 'project': 'README.md'}
 
 
 def links(browser):

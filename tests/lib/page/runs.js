@@ -1,5 +1,5 @@
-// What tests/lib/page/run.py asks for: sessions of the page's modules over the stand-in, in its own time, and scripts. All comes and goes as
-// JSON: files and images as text of Latin 1, one character a byte.
+// What tests/lib/page/run.py asks for: sessions of the page's modules over the stand-in, in its own time, and scripts. All comes and goes
+// as JSON: files and images as text of Latin 1, one character a byte.
 import { Board } from '/board.js'
 import { functionalIn } from '/descriptors.js'
 import { DfuseHost } from '/dfuse_host.js'

@@ -1,5 +1,5 @@
-// A device that speaks DfuSe, by the rules of tests/lib/usb (device_dfuse.c and dfuse_pages.c): by what is known of ST's bootloaders, and no
-// one's code.
+// A device that speaks DfuSe, by the rules of tests/lib/usb (device_dfuse.c and dfuse_pages.c): by what is known of ST's bootloaders, and
+// no one's code.
 //
 // DNLOAD of block 0 brings a command: 21h and an address set the pointer, 41h and an address erase the page that has it. That of block 2 or
 // more brings bytes for the pointer. GETSTATUS starts what was brought and answers dfuDNBUSY; once its time is over the next one tells what

@@ -40,12 +40,12 @@ def said(words_of, device):
 
 def words():
     """Each report and refusal of flash/: its name, status and words."""
-    status = {name: int(number) for name, number in re.findall(r'(STATUS_\w+) = (\d+)', (TOP / 'flash/status.h').read_text())}
-    verdict = (TOP / 'flash/verdict.c').read_text()
+    status = {name: int(number) for name, number in re.findall(r'(STATUS_\w+) = (\d+)', (TOP / 'apps/flash/status.h').read_text())}
+    verdict = (TOP / 'apps/flash/verdict.c').read_text()
     reports = {name.lower().replace('_', '-'): (status[number], said(*rest))
                for name, number, *rest in re.findall(r'\[DFU_(\w+)\] = ' + MEANING, verdict)}
     ends = {name: (status[number], said(*rest)) for name, number, *rest in re.findall(r'\{"([\w-]+)",\s*' + MEANING, verdict)}
-    refusals = dict(re.findall(r'\{DFU_\w+, "(\w+)", ' + TEXT, (TOP / 'flash/refusals.c').read_text()))
+    refusals = dict(re.findall(r'\{DFU_\w+, "(\w+)", ' + TEXT, (TOP / 'apps/flash/refusals.c').read_text()))
     return reports, ends, refusals
 
 
@@ -53,10 +53,10 @@ def numbers():
     """Each number and name that host.js and names.js write again, as they have it, and as the header or flash/standard has it."""
     headers = ''.join((TOP / it).read_text() for it in ('include/dfu_host.h', 'include/dfu_watch.h', 'include/dfuse_host.h',
                                                          'include/dfuse_watch.h', 'include/dfuse_file.h', 'include/dfu_image.h',
-                                                         'flash/standard.h'))
+                                                         'apps/flash/standard.h'))
     theirs = {name: int(number, 0) for name, number in re.findall(r'(?:^   |^enum \{|,) (\w+) = (-?(?:0x[0-9a-f]+|\d+))\b', headers, re.M)}
-    lists = re.findall(r'const char \*const (\w+)\[\] = \{(.*?)\};', (TOP / 'flash/standard.c').read_text(), re.S)
-    pages = ''.join((TOP / 'web' / it).read_text() for it in ('host.js', 'watch.js', 'dfuse_host.js', 'dfuse_watch.js', 'names.js'))
+    lists = re.findall(r'const char \*const (\w+)\[\] = \{(.*?)\};', (TOP / 'apps/flash/standard.c').read_text(), re.S)
+    pages = ''.join((TOP / 'apps/web' / it).read_text() for it in ('host.js', 'watch.js', 'dfuse_host.js', 'dfuse_watch.js', 'names.js'))
     fronts = {name: 'DFU_' for name in ('WHAT', 'REPORT', 'REFUSAL', 'COURSE', 'COURSES')}
     fronts.update({'SEEN': 'DFU_SEEN_', 'LOOKS': 'DFU_LOOKS_', 'NAMED': 'DFU_NAMED_', 'ATTRIBUTE': ''})
     fronts.update({name: 'DFUSE_' for name in ('WORK', 'OUTCOME', 'LEAVING', 'ACCESS', 'FILE')})
@@ -74,10 +74,10 @@ def numbers():
 
 def of_dfuse(browser):
     """Each report and refusal of dfu-flash that is of DfuSe, by its number, or by its name where that is its own."""
-    status = {name: int(number) for name, number in re.findall(r'(STATUS_\w+) = (\d+)', (TOP / 'flash/status.h').read_text())}
+    status = {name: int(number) for name, number in re.findall(r'(STATUS_\w+) = (\d+)', (TOP / 'apps/flash/status.h').read_text())}
     headers = (TOP / 'include/dfuse_host.h').read_text() + (TOP / 'include/dfuse_file.h').read_text()
     number_of = {name: int(number) for name, number in re.findall(r'^    (DFUSE_\w+) = (-?\d+)', headers, re.M)}
-    verdict = (TOP / 'flash/dfuse_verdict.c').read_text()
+    verdict = (TOP / 'apps/flash/dfuse_verdict.c').read_text()
     leavings = dict(re.findall(r'\[(DFUSE_\w+)\] = ' + TEXT, verdict))
     reports = re.findall(r'\{(DFUSE_\w+), "([\w-]+)",\s*' + MEANING, verdict)
     check_that('the reports of DfuSe are found', len(reports) == 9 and len(leavings) == 3, (reports, leavings))
@@ -86,7 +86,7 @@ def of_dfuse(browser):
             if name not in ('uploaded', 'no-memory'):
                 shown = browser.run('return runs.dfuseWordsOf(...arguments)', number_of[number], number_of[leaving])
                 check(f'the words of {name}, {leaving}', shown, [name, status[status_of], said(*rest) + behind])
-    refusals = re.findall(r'\{(DFUSE|REFUSED)(_\w+), "(\w+)", ' + TEXT, (TOP / 'flash/refusals.c').read_text())
+    refusals = re.findall(r'\{(DFUSE|REFUSED)(_\w+), "(\w+)", ' + TEXT, (TOP / 'apps/flash/refusals.c').read_text())
     check_that('the refusals of DfuSe are found', len(refusals) == 46, refusals)
     for kind, number, name, words_of in refusals:
         # (the page has no --all and no --stamp, and says in a text of its own where a system makes no reset)
@@ -109,7 +109,7 @@ def run(browser, page):
         # (the page has no time limit, and says in a text of its own where a system makes no reset)
         if name not in ('uploaded', 'timed-out', 'not-reset'):
             check(f'the words of {name}', tuple(browser.run('return runs.wordsOf(arguments[0])', name)), wanted)
-    others = dict(re.findall(r'\{IMAGE_(\w+), "NoSignature", ' + TEXT, (TOP / 'flash/refusals.c').read_text()))
+    others = dict(re.findall(r'\{IMAGE_(\w+), "NoSignature", ' + TEXT, (TOP / 'apps/flash/refusals.c').read_text()))
     check('the words for files that are no image', browser.run('return runs.WORDS'), others)
     # (dfu-flash reads DfuSe files, and so has no words for a refusal of them)
     refusals['DfuSe'] = 'the file is a DfuSe file, which is another format'

@@ -1,4 +1,4 @@
-/* The types of ST's USB_DEVICE library that docs/PORTING.md's listing needs, written from memory: tests/c/porting compiles it before them. */
+/* The types of ST's USB_DEVICE library that docs/PORTING.md's listing needs, written from memory: tests/c/porting compiles it first. */
 #include <stdint.h>
 
 typedef enum { USBD_OK, USBD_BUSY, USBD_EMEM, USBD_FAIL } USBD_StatusTypeDef;

@@ -42,8 +42,8 @@ prints() {
     head -n 3 "$work/printed" "$work/complained"
     return 1
 }
-# suite WHAT FOLDER CALLS WORD..: the programs of tests/lib/c and examples/c, compiled with these words over the objects in FOLDER. CALLS is how
-# many calls of chance each of them makes at most. The program that takes minutes, cuts, is left out if `is_short` is 1.
+# suite WHAT FOLDER CALLS WORD..: the programs of tests/lib/c and examples/c, compiled with these words over the objects in FOLDER. CALLS is
+# how many calls of chance each of them makes at most. The program that takes minutes, cuts, is left out if `is_short` is 1.
 suite() {
     label=$1
     objects=$2

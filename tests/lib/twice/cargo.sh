@@ -1,4 +1,4 @@
-# What tests/slow/rust-32 and bench/rust share: cargo offline over Debian's packages, with a rustc for other targets. `top` is the
+# What tests/slow/rust-32 and tests/bench/rust share: cargo offline over Debian's packages, with a rustc for other targets. `top` is the
 # folder of the repository, and counting.sh has been read.
 #
 # RUST_PACKAGES is the registry that `tests/lib/twice/packages` makes, or /usr/share/cargo/registry; RUST_TARGETS the folder that

@@ -1,5 +1,5 @@
-# The rows of tests/lib/interop/compare: dfu-util and dfu-flash over the same simulated board. They stand in a folder with the stand-in for libusb,
-# dfu-flash, dfuse_pack and a clock on which waits pass at once. $util is dfu-util.
+# The rows of tests/lib/interop/compare: dfu-util and dfu-flash over the same simulated board. They stand in a folder with the stand-in for
+# libusb, dfu-flash, dfuse_pack and a clock on which waits pass at once. $util is dfu-util.
 # shellcheck shell=sh disable=SC2086,SC2154
 
 # What is on the board, and the files.

@@ -103,6 +103,6 @@ if dfu-util --version 2> /dev/null | grep -q '^dfu-util 0\.11$'; then
     dfu-util --help 2>&1 | sed -n 's/^  -\([a-zA-Z]\) --\([a-z-]*\).*/\2/p' > longs
     expect 'long options' test "$(wc -l < longs)" -eq 20
     while read -r long; do
-        expect "--$long" grep -q "\"$long\"" "$top/flash/options.c" "$top/flash/dfu_util.c"
+        expect "--$long" grep -q "\"$long\"" "$top/apps/flash/options.c" "$top/apps/flash/dfu_util.c"
     done < longs
 fi

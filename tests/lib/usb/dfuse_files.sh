@@ -1,5 +1,5 @@
-# The rows of tests/apps/dfuse that flash DfuSe files: what is written, and what is refused before anything is sent; and dfu-util over the same
-# device. tests/apps/dfuse has read tests/lib/usb/dfuse.sh, has the old memory in `old`, and dfuse_pack beside dfu-flash.
+# The rows of tests/apps/dfuse that flash DfuSe files: what is written, and what is refused before anything is sent; and dfu-util over the
+# same device. tests/apps/dfuse has read tests/lib/usb/dfuse.sh, has the old memory in `old`, and dfuse_pack beside dfu-flash.
 # shellcheck shell=sh disable=SC2034,SC2154
 maps=$pages
 fate=

@@ -1,6 +1,6 @@
-# Rows of tests/apps/dfuse: what `dfu judge --dfuse` says of sessions with the stand-in's device of DfuSe. It keeps what that device answers,
-# to dfu-flash and to dfu-util, whatever is lost; of a log in which one answer is another one it names the line. tests/apps/dfuse has read
-# tests/lib/usb/dfuse.sh.
+# Rows of tests/apps/dfuse: what `dfu judge --dfuse` says of sessions with the stand-in's device of DfuSe. It keeps what that device
+# answers, to dfu-flash and to dfu-util, whatever is lost; of a log in which one answer is another one it names the line. tests/apps/dfuse
+# has read tests/lib/usb/dfuse.sh.
 # shellcheck shell=sh disable=SC2034,SC2154,SC2086
 maps=$pages
 

@@ -1,5 +1,5 @@
-# The rows of tests/apps/dfuse that were worked out by hand: memory maps as --list prints them (33 ranges don't fit a string descriptor, and are
-# a row of tests/lib/c/dfuse.c), a DfuSe file and each of its refusals, a session's
+# The rows of tests/apps/dfuse that were worked out by hand: memory maps as --list prints them (33 ranges don't fit a string descriptor, and
+# are a row of tests/lib/c/dfuse.c), a DfuSe file and each of its refusals, a session's
 # requests, and how many transfers 1 MiB takes. tests/apps/dfuse has read tests/lib/usb/dfuse.sh, and has dfuse_pack beside dfu-flash.
 # shellcheck shell=sh disable=SC2034,SC2154
 f4='@Internal Flash  /0x08000000/04*016Kg,01*064Kg,07*128Kg'

@@ -1,5 +1,6 @@
 # The table of docs/interop on DfuSe: dfu-flash and dfu-util 0.11 beside each other, over the stand-in's device, whose clock passes at
-# once. tests/apps/dfuse has read tests/lib/usb/dfuse.sh, and has dfuse_pack beside dfu-flash; with WRITE in the environment the table is written.
+# once. tests/apps/dfuse has read tests/lib/usb/dfuse.sh, and has dfuse_pack beside dfu-flash; with WRITE in the environment the table is
+# written.
 # shellcheck shell=sh disable=SC2034,SC2154,SC2086
 maps=$pages
 fate=

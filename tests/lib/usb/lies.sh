@@ -1,5 +1,5 @@
-# Rows of tests/apps/flash: descriptors that lie. Nothing is read beyond their bytes; where no functional descriptor is found whole, nothing is
-# sent; and whatever a descriptor says of the device, a status of 0 comes only where the image is in place.
+# Rows of tests/apps/flash: descriptors that lie. Nothing is read beyond their bytes; where no functional descriptor is found whole, nothing
+# is sent; and whatever a descriptor says of the device, a status of 0 comes only where the image is in place.
 
 # Bytes behind the interface descriptor that are no functional descriptor, as a whole: lengths of 0 and 1, too long, cut off, and of none.
 good=092107e80308001001

@@ -1,5 +1,5 @@
-# Rows of tests/apps/flash: the log of --verbose=FILE. For readers it has the lines of --verbose; and `dfu judge` keeps what the proved device
-# answered, whatever was lost, and U-Boot's rules by their habit.
+# Rows of tests/apps/flash: the log of --verbose=FILE. For readers it has the lines of --verbose; and `dfu judge` keeps what the proved
+# device answered, whatever was lost, and U-Boot's rules by their habit.
 
 # judged WANTED: the last line that `dfu judge` prints of the log begins so.
 judged() {

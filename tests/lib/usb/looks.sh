@@ -1,5 +1,5 @@
-# Rows of tests/apps/flash: files without a suffix that are no image. Nothing of them is sent, whatever the words say about the device, unless
-# --raw says that these bytes are wanted as they are.
+# Rows of tests/apps/flash: files without a suffix that are no image. Nothing of them is sent, whatever the words say about the device,
+# unless --raw says that these bytes are wanted as they are.
 # shellcheck shell=sh disable=SC2154
 
 has_no_suffix="NoSignature: the file has no DFU suffix; \`dfu add\` gives it one"

@@ -1,5 +1,5 @@
-# Rows of tests/apps/flash: the line `next:` behind each end that isn't what was meant, the same in a record, and that the manual's steps are
-# those of flash/next.c.
+# Rows of tests/apps/flash: the line `next:` behind each end that isn't what was meant, the same in a record, and that the manual's steps
+# are those of flash/next.c.
 # shellcheck shell=sh disable=SC2016,SC2034,SC2154
 
 # next TEXT: the last line of standard error is this step.
@@ -188,15 +188,15 @@ row 3 - '' '' detach
 next 'did you mean --detach?'
 
 # A step that sends to a section says of which page, and each section is there; help begins with examples, and names the page.
-grep -h 'see [A-Z][A-Z]' "$top/flash/next.c" "$top/flash/advise.c" > sections
+grep -h 'see [A-Z][A-Z]' "$top/apps/flash/next.c" "$top/apps/flash/advise.c" > sections
 expect 'sections are named with their page' test "$(grep -vc 'in man dfu-flash' sections)" -eq 0
 row 0 - '' '' --help
 expect 'two examples' test "$(sed -n 3,4p out | grep -c 'dfu-flash [^O]')" -eq 2
 expect 'the manual' grep -q 'man dfu-flash$' out
 
 # The tables, as `NAME STEP`: those of flash/next.c, and those of the manual's NEXT STEPS and REFUSALS.
-sed -n 's/^#define \([A-Z_]*\) "\(.*\)"$/\1\t\2/p' "$top/flash/next.c" > texts
-sed -n 's/^    {\([A-Z0-9_]*\), "\([A-Za-z]*\)", ".*"},$/\1\t\2/p' "$top/flash/refusals.c" > names
+sed -n 's/^#define \([A-Z_]*\) "\(.*\)"$/\1\t\2/p' "$top/apps/flash/next.c" > texts
+sed -n 's/^    {\([A-Z0-9_]*\), "\([A-Za-z]*\)", ".*"},$/\1\t\2/p' "$top/apps/flash/refusals.c" > names
 awk -F '\t' -v OFS=' ' '
     FILENAME == "texts" { text[$1] = $2; next }
     FILENAME == "names" { name[$1] = $2; next }
@@ -205,7 +205,7 @@ awk -F '\t' -v OFS=' ' '
         number = $0; sub(/^    \{/, "", number); sub(/,.*/, "", number)
         step = $0; sub(/^[^,]*, /, "", step); sub(/\},$/, "", step)
         print name[number], step ~ /^"/ ? substr(step, 2, length(step) - 2) : text[step]
-    }' texts names "$top/flash/next.c" | LC_ALL=C sort -u > steps
+    }' texts names "$top/apps/flash/next.c" | LC_ALL=C sort -u > steps
 sed 's/\\-/-/g; s/\\(aq/'\''/g' "$top/share/man/dfu-flash.1" | awk '
     /^\.(SH|TP)/ { if (step) print row, text; step = 0 }
     /^\.SH/ { section = $0 }

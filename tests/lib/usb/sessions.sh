@@ -1,5 +1,5 @@
-# Sessions of a program over the stand-in, for tests/lib/interop/dfu-util and tests/lib/interop/dfu-flash: the clean one, one for each fate of
-# each transfer, and those that come after one that was broken off. What `program` is called with, the scripts say; they
+# Sessions of a program over the stand-in, for tests/lib/interop/dfu-util and tests/lib/interop/dfu-flash: the clean one, one for each fate
+# of each transfer, and those that come after one that was broken off. What `program` is called with, the scripts say; they
 # set `uploads` (the word before the file of an upload) and `kind` (download or upload). All stands in $work.
 
 beside=0

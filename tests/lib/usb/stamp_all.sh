@@ -1,4 +1,5 @@
-# Rows of tests/apps/flash: --stamp with several boards: an entry goes to one of them, whatever fails. It has read stamp.sh and all_boards.sh.
+# Rows of tests/apps/flash: --stamp with several boards: an entry goes to one of them, whatever fails. It has read stamp.sh and
+# all_boards.sh.
 # shellcheck shell=sh disable=SC2034,SC2154,SC2086
 
 # entry_of PATH: what the board at this path has in the room of its image.

@@ -1,5 +1,5 @@
-# The tables of tests/lib/interop/dfu-util and tests/lib/interop/dfu-flash: made of the results of runs, and compared with the files of docs/interop.
-# A result is a line with tabs between: scene, fate, transfer, outcome, last line, transfers, state, what stands or was made.
+# The tables of tests/lib/interop/dfu-util and tests/lib/interop/dfu-flash: made of the results of runs, and compared with the files of
+# docs/interop. A result is a line with tabs between: scene, fate, transfer, outcome, last line, transfers, state, what stands or was made.
 # A scene's first letter is its place. The scripts say what an outcome is, and what its column is called.
 
 # What stands on the device: old, new (the payload) or other. With `front` set, behind either may stand more.

@@ -22,25 +22,25 @@ while IFS='	' read -r option text; do
     has zsh "$(cat "$top/share/completions/_dfu-flash")" "[$(low "$text")]"
     has fish "$(sed "s/\\\\'/'/g" "$top/share/completions/dfu-flash.fish")" "-l ${option#--} -d '$text'"
 done < lines
-expect 'options' test "$(wc -l < lines)" -eq "$(grep -o '_argument' "$top/flash/options.c" | wc -l)"
-sed -n 's/.*STATUS_[A-Z_]* = \([0-9]*\),* *\/\* \(.*\) \*\//\1 \2/p' "$top/flash/status.h" > lines
+expect 'options' test "$(wc -l < lines)" -eq "$(grep -o '_argument' "$top/apps/flash/options.c" | wc -l)"
+sed -n 's/.*STATUS_[A-Z_]* = \([0-9]*\),* *\/\* \(.*\) \*\//\1 \2/p' "$top/apps/flash/status.h" > lines
 expect 'statuses' test "$(wc -l < lines)" -eq 17
 while read -r line; do
     has 'the man page' "$man" "$line"
 done < lines
 # The codes of the standard, each with what it means.
-sed -n '/meanings\[\]/,/^}/s/^    "\(.*\)",$/\1/p' "$top/flash/codes.c" | sed 1d > meanings
-grep -o '"err[A-Z_]*"' "$top/flash/standard.c" | tr -d '"' | paste -d ' ' - meanings > lines
+sed -n '/meanings\[\]/,/^}/s/^    "\(.*\)",$/\1/p' "$top/apps/flash/codes.c" | sed 1d > meanings
+grep -o '"err[A-Z_]*"' "$top/apps/flash/standard.c" | tr -d '"' | paste -d ' ' - meanings > lines
 expect 'codes' test "$(wc -l < lines)" -eq 15
 while read -r line; do
     has 'the man page' "$man" "$line"
 done < lines
 # The texts of the reports, of the program's own, and of the refusals.
-tr '\n' ' ' < "$top/flash/verdict.c" > rows
-tr '\n' ' ' < "$top/flash/dfuse_verdict.c" >> rows
+tr '\n' ' ' < "$top/apps/flash/verdict.c" > rows
+tr '\n' ' ' < "$top/apps/flash/dfuse_verdict.c" >> rows
 grep -o '{STATUS_[A-Z_]*, *"[^"]*", [^}]*}' rows |
     sed -n 's/^[^"]*"\(.*\)", NULL}$/\1/p; s/^[^"]*"\(.*\)", "\(.*\)"}$/\1; \2 may have the old image, the new one or neither/p' > lines
-sed -n 's/^    {[A-Z0-9_-]*, "\([A-Za-z]*\)", "\(.*\)"},/\1 \2/p' "$top/flash/refusals.c" >> lines
+sed -n 's/^    {[A-Z0-9_-]*, "\([A-Za-z]*\)", "\(.*\)"},/\1 \2/p' "$top/apps/flash/refusals.c" >> lines
 expect 'texts' test "$(wc -l < lines)" -eq 99
 while read -r line; do
     has 'the man page' "$man" "$line"

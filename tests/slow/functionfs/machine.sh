@@ -104,7 +104,7 @@ make() {
     put "$(found busybox)" /bin/busybox
     printf 'root:x:0:0::/:/bin/sh\nnobody:x:65534:65534::/:/bin/sh\n' > "$root/etc/passwd"
     cp "$here/init" "$root/init"
-    cp "$here/"*.sh "$top/gadget/set-up" "$top/gadget/try" "$top/gadget/on-start" "$root/work/"
+    cp "$here/"*.sh "$top/apps/gadget/set-up" "$top/apps/gadget/try" "$top/apps/gadget/on-start" "$root/work/"
     cp "$work/one" "$work/two" "$work/three" "$work/four" "$root/work/"
     chmod 755 "$root/init"
     (cd "$root" && find . | cpio -o -H newc 2> /dev/null | gzip -1 > "$root.cpio")

@@ -1,5 +1,5 @@
-/* A board with TinyUSB and ports/tinyusb at Linux's raw-gadget: board FLASH [format IMAGE | image]. FLASH is a file. Settings come from the
- * environment: those of board.h and raw_gadget.c, ERASE_MS, LOG (a file), DFU_MODE, to begin in dfuIDLE, and APPLICATION: the program
+/* A board with TinyUSB and examples/tinyusb at Linux's raw-gadget: board FLASH [format IMAGE | image]. FLASH is a file. Settings come from
+ * the environment: those of board.h and raw_gadget.c, ERASE_MS, LOG (a file), DFU_MODE, to begin in dfuIDLE, and APPLICATION: the program
  * `application` is the application. Else this one is, as far as DFU shows. */
 #define _GNU_SOURCE
 #include "board.h"

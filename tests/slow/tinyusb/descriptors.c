@@ -1,4 +1,4 @@
-/* The configuration of the device, and its descriptors, by those of ports/tinyusb. */
+/* The configuration of the device, and its descriptors, by those of examples/tinyusb. */
 #include "board.h"
 #include "dfu_tinyusb_descriptors.h"
 #include <stdlib.h>

@@ -1,4 +1,4 @@
-/* Another class driver beside that of ports/tinyusb, as in a program that has these two callbacks already. */
+/* Another class driver beside that of examples/tinyusb, as in a program that has these two callbacks already. */
 #include "dfu_tinyusb.h"
 
 void tud_event_hook_cb(uint8_t rhport, uint32_t event, bool in_isr)

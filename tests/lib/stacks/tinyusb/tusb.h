@@ -1,4 +1,4 @@
-/* The calls of TinyUSB that the loops in the headers of ports/tinyusb make, written from memory, for tests/c/porting. */
+/* The calls of TinyUSB that the loops in the headers of examples/tinyusb make, written from memory, for tests/c/porting. */
 #ifndef TUSB_H
 #define TUSB_H
 #include <stdbool.h>

@@ -1,5 +1,5 @@
-# Rows of tests/apps/flash: the clock of the stand-in, whose milliseconds are those that pass. Who asks when a wait is over is never too early,
-# however often the time was passed on to the device, and who asks before that is.
+# Rows of tests/apps/flash: the clock of the stand-in, whose milliseconds are those that pass. Who asks when a wait is over is never too
+# early, however often the time was passed on to the device, and who asks before that is.
 # shellcheck shell=sh disable=SC2154
 
 gcc -std=gnu11 -O2 -Wall -Wextra -Werror -I "$top/include" -o asker "$top/tests/lib/usb/clock/asker.c" "$top"/tests/lib/usb/*.c \

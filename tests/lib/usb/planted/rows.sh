@@ -1,9 +1,10 @@
-# Rows of tests/apps/flash: numbers that the library never answers. A number that no table of dfu-flash has ends the session as `broken`, or is
-# refused, and is an index into nothing; the sanitizers of gcc see one that is.
+# Rows of tests/apps/flash: numbers that the library never answers. A number that no table of dfu-flash has ends the session as `broken`, or
+# is refused, and is an index into nothing; the sanitizers of gcc see one that is.
 # shellcheck shell=sh disable=SC2154
 
 headers=${USB_HEADERS-$(pkg-config --cflags libusb-1.0 2> /dev/null || echo -I/usr/include/libusb-1.0)}
-find "$top/flash" "$top/flash/posix" "$top/flash/linux" -maxdepth 1 -name '*.c' > sources
+find "$top/apps/flash" "$top/apps/flash/posix" "$top/apps/flash/linux" "$top/apps/common" "$top/apps/common/posix" \
+    -maxdepth 1 -name '*.c' > sources
 wraps=
 for call in dfu_watch_before dfu_watch_after dfuse_watch_after dfu_host_next dfuse_next dfu_image_look device_choose; do
     wraps="$wraps -Wl,--wrap=$call"
@@ -11,8 +12,9 @@ done
 mkdir planted
 cp dfu-flash planted/as-built
 # shellcheck disable=SC2046,SC2086
-gcc -std=c11 -O1 -g -Wall -Wextra -fsanitize=address,undefined -fno-sanitize-recover=all $wraps -I "$top/include" -I "$top/flash" $headers \
-    $(cat sources) "$top/tests/lib/usb/planted/planted.c" "$build/libdfu_host.a" "$build/libdfu_device.a" -o planted/dfu-flash "$work/libusb-1.0.so.0"
+gcc -std=c11 -O1 -g -Wall -Wextra -fsanitize=address,undefined -fno-sanitize-recover=all $wraps -I "$top/include" -I "$top/apps/flash" \
+    $headers $(cat sources) "$top/tests/lib/usb/planted/planted.c" "$build/libdfu_host.a" "$build/libdfu_device.a" \
+    -o planted/dfu-flash "$work/libusb-1.0.so.0"
 cp planted/dfu-flash dfu-flash
 ASAN_OPTIONS=detect_leaks=0
 export ASAN_OPTIONS

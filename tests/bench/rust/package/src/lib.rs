@@ -1,4 +1,4 @@
-//! The sessions that bench/rust/run measures, beside those in C: device.c and host.c do the same.
+//! The sessions that tests/bench/rust/run measures, beside those in C: device.c and host.c do the same.
 #![no_std]
 
 #[cfg(feature = "device")]

@@ -1,7 +1,7 @@
 /* SPDX-License-Identifier: MIT OR Apache-2.0 */
 /* CREATE_NEW takes no name that is there; by FILE_FLAG_OPEN_REPARSE_POINT that of a link to nothing neither. The C library writes
    no line by itself: log.c has it write. */
-#include "../fresh.h"
+#include "../../common/fresh.h"
 #include "utf16.h"
 
 #include <errno.h>
