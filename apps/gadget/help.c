@@ -42,6 +42,8 @@ void words_help(void)
         "  --attributes <LIST>     Of download,upload,tolerant,detach; else the first three\n"
         "  --busy <MS>             What a block takes, reported to the host, else 5\n"
         "  --manifest <MS>         What an image takes, else 0, or 20 if not tolerant\n"
+        "  --erase <MS>            What a sector with --tries takes besides, else 0\n"
+        "  --program <MS>          What 256 bytes of a block take besides, else 0\n"
         "  --least <BYTES>         Take no image of fewer bytes, else 1\n"
         "  --dry-run               Say what is there and what is missing, and do nothing\n"
         "  --verbose               Print a line for each request; --verbose=<FILE> logs them\n"

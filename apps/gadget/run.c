@@ -22,7 +22,9 @@ static bool take_numbers(struct dfu_config *config, const struct words *words)
                                   .manifest_ms = words->manifest_ms,
                                   .least = words->least,
                                   .unit = MACHINE_UNIT,
-                                  .sector = words->tries == 0 ? 0 : MEDIUM_TRIAL_SECTOR};
+                                  .sector = words->tries == 0 ? 0 : MEDIUM_TRIAL_SECTOR,
+                                  .erase_ms = words->erase_ms,
+                                  .program_ms = words->program_ms};
     return controller_number(words->upgrade, "idVendor", &config->vendor)
            && controller_number(words->upgrade, "idProduct", &config->product)
            && controller_number(words->upgrade, "bcdDevice", &config->device);

@@ -11,7 +11,7 @@
 
 /* clang-format off */
 enum { MOST = 256, FORCE, CONTROLLER, CONFIG, APPLICATION, UPGRADE, CHECK, TRIES, ON_INSTALLED, DFU_MODE, DETACH_TIMEOUT, TRANSFER_SIZE,
-       ATTRIBUTES, BUSY, MANIFEST, LEAST, DRY_RUN, VERBOSE, ROOT, HELP, VERSION };
+       ATTRIBUTES, BUSY, MANIFEST, ERASE, PROGRAM, LEAST, DRY_RUN, VERBOSE, ROOT, HELP, VERSION };
 
 static const struct option options[] = {
     {"most", required_argument, NULL, MOST},
@@ -29,6 +29,8 @@ static const struct option options[] = {
     {"attributes", required_argument, NULL, ATTRIBUTES},
     {"busy", required_argument, NULL, BUSY},
     {"manifest", required_argument, NULL, MANIFEST},
+    {"erase", required_argument, NULL, ERASE},
+    {"program", required_argument, NULL, PROGRAM},
     {"least", required_argument, NULL, LEAST},
     {"dry-run", no_argument, NULL, DRY_RUN},
     {"verbose", optional_argument, NULL, VERBOSE},
@@ -87,6 +89,11 @@ static bool take_short(const char *text, uint32_t least, uint32_t most, const ch
     return true;
 }
 
+static bool take_short_ms(const char *text, uint16_t *number)
+{
+    return take_short(text, 0, 65535, "it is no number of milliseconds, from 0 to 65535", number);
+}
+
 /* The names of the bits of bmAttributes, with commas between. */
 static bool take_attributes(const char *text, uint8_t *attributes)
 {
@@ -126,11 +133,13 @@ static bool take(struct words *words, int code, const char *value)
                || refuse(value, "it is no number of starts, from 2 to 254: a download that is verified starts a new image twice");
     case ON_INSTALLED: return take_text(value, &words->command);
     case DFU_MODE: return words->dfu_mode = true;
-    case DETACH_TIMEOUT: return take_short(value, 0, 65535, "it is no number of milliseconds, from 0 to 65535", &words->detach_ms);
+    case DETACH_TIMEOUT: return take_short_ms(value, &words->detach_ms);
     case TRANSFER_SIZE: return take_short(value, 1, 4096, "it is no number of bytes, from 1 to 4096", &words->transfer);
     case ATTRIBUTES: return take_attributes(value, &words->attributes);
     case BUSY: return take_ms(value, &words->busy_ms);
     case MANIFEST: return take_ms(value, &words->manifest_ms);
+    case ERASE: return take_short_ms(value, &words->erase_ms);
+    case PROGRAM: return take_short_ms(value, &words->program_ms);
     case LEAST: return take_size(value, &words->least);
     case DRY_RUN: return words->dry_run = true;
     case VERBOSE: words->verbose = true; return value == NULL || take_text(value, &words->log);

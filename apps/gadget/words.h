@@ -26,7 +26,7 @@ struct words {
     bool dfu_mode, dry_run, verbose;
     const char *log; /* the file of --verbose=FILE, or NULL */
     uint8_t attributes;
-    uint16_t detach_ms, transfer;
+    uint16_t detach_ms, transfer, erase_ms, program_ms;
     uint32_t busy_ms, manifest_ms, least;
 };
 

@@ -9,7 +9,8 @@ _dfu_gadget() {
     while [ "$at" -lt "$COMP_CWORD" ]; do
         case ${COMP_WORDS[at]} in
         --most | --controller | --config | --application | --upgrade | --check | --tries | --on-installed | --detach-timeout | \
-            --transfer-size | --attributes | --busy | --manifest | --least | --root)
+            --transfer-size | --attributes | --busy | --manifest | --erase | --program | --least | \
+            --root)
             value=${COMP_WORDS[at]}
             at=$((at + 1))
             [ "${COMP_WORDS[at]}" != = ] || [ "$at" -eq "$COMP_CWORD" ] || at=$((at + 1))
@@ -35,7 +36,7 @@ _dfu_gadget() {
     image) options='-h --help' ;;
     run)
         options='--controller --config --application --upgrade --check --tries --on-installed --dfu-mode --detach-timeout --transfer-size
-            --attributes --busy --manifest --least --dry-run --verbose --root -h --help'
+            --attributes --busy --manifest --erase --program --least --dry-run --verbose --root -h --help'
         ;;
     start | confirm | end) options='--tries -h --help' ;;
     esac

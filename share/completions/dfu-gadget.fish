@@ -8,7 +8,7 @@ function __dfu_gadget_at
         if test $is_value -eq 1
             set is_value 0
         else if contains -- $word --most --controller --config --application --upgrade --check --tries --on-installed \
-                --detach-timeout --transfer-size --attributes --busy --manifest --least --root
+                --detach-timeout --transfer-size --attributes --busy --manifest --erase --program --least --root
             set is_value 1
         else if not string match -q -- '-?*' $word
             set -a words $word
@@ -46,6 +46,8 @@ complete -c dfu-gadget -x -n $with_run -l transfer-size -d 'Take blocks of up to
 complete -c dfu-gadget -x -n $with_run -l attributes -a 'download upload tolerant detach' -d 'Of download,upload,tolerant,detach; else the first three'
 complete -c dfu-gadget -x -n $with_run -l busy -d 'What a block takes, reported to the host, else 5'
 complete -c dfu-gadget -x -n $with_run -l manifest -d 'What an image takes, else 0, or 20 if not tolerant'
+complete -c dfu-gadget -x -n $with_run -l erase -d 'What a sector with --tries takes besides, else 0'
+complete -c dfu-gadget -x -n $with_run -l program -d 'What 256 bytes of a block take besides, else 0'
 complete -c dfu-gadget -x -n $with_run -l least -d 'Take no image of fewer bytes, else 1'
 complete -c dfu-gadget -n $with_run -l dry-run -d 'Say what is there and what is missing, and do nothing'
 complete -c dfu-gadget -n $with_run -l verbose -d 'Print a line for each request; --verbose=<FILE> logs them'

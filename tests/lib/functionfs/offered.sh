@@ -22,7 +22,7 @@ expect 'dfu-gadget image --' --help
 expect 'dfu-gadget run o' other.dfu
 expect 'dfu-gadget run medium '
 expect 'dfu-gadget run medium --' --application --attributes --busy --check --config --controller --detach-timeout --dfu-mode \
-    --dry-run --help --least --manifest --on-installed --root --transfer-size --tries --upgrade --verbose
+    --dry-run --erase --help --least --manifest --on-installed --program --root --transfer-size --tries --upgrade --verbose
 expect 'dfu-gadget run --d' --detach-timeout --dfu-mode --dry-run
 # shellcheck disable=SC2046
 expect 'dfu-gadget run medium --controller ' $(ls /sys/class/udc 2> /dev/null)

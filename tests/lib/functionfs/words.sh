@@ -8,7 +8,9 @@ for words in '' 'format' 'format medium' 'format medium old' 'format medium --mo
     'run medium --controller x --busy 16777216' 'run medium --controller x --busy -1' 'run medium --controller x --busy 1K' \
     'run medium --controller x --attributes most' 'run medium --controller x --attributes download,' \
     'run medium --controller x --attributes download --manifest 0' 'run medium --controller x --detach-timeout 65536' \
-    'walk medium' '--what' 'run medium --controller x --least 0'; do
+    'run medium --controller x --erase 65536' 'run medium --controller x --erase -1' 'run medium --controller x --erase 5ms' \
+    'run medium --controller x --program 65536' 'run medium --controller x --program' 'run medium --controller x --program= ' \
+    'image medium --erase' 'walk medium' '--what' 'run medium --controller x --least 0'; do
     # shellcheck disable=SC2086
     refused 2 '' $words
     is "$words: it says why" test -s err
@@ -118,13 +120,13 @@ unset GADGET_ROOT
 # The manual: each option with its text, each status, and the version.
 manual=$(sed 's/^\.[A-Za-z]* *//; s/\\-/-/g; s/\\f[A-Z]//g; s/"//g' "$top/share/man/dfu-gadget.1" | tr '\n' ' ' | tr -s ' ')
 sed -n 's/^  \(-[hV], \)*--\([a-z-]*\).*/\2/p' help > options
-is 'the options of the help' test "$(wc -l < options)" -eq 21
+is 'the options of the help' test "$(wc -l < options)" -eq 23
 while read -r option; do
     case $manual in *"--$option"*) right ;; *) wrong "the manual lacks --$option" ;; esac
 done < options
 # The completions, with the same texts; in zsh they begin with a small letter.
 sed ':a; N; $!ba; s/>\n  */> /g' help | sed -n 's/^  *\(-[hV], \)*--\([a-z-]*\)\( <[^>]*>\)*  *\([A-Z].*\)/\2	\4/p' > texts
-equal 'the texts of the help' 21 "$(wc -l < texts)"
+equal 'the texts of the help' 23 "$(wc -l < texts)"
 while IFS='	' read -r option text; do
     is "bash: $option" grep -q -e "--$option\>" "$top/share/completions/dfu-gadget.bash"
     is "fish: $option" grep -q -F -e "-l $option" "$top/share/completions/dfu-gadget.fish"
