@@ -1,3 +1,4 @@
 pub mod Calls
 pub mod Comes
 pub mod Plays
+pub mod Marks

@@ -1,6 +1,7 @@
 -- Sessions of a host in C and a board in C: the laws.
 use Rattle.std.specs.Prelude.{◌≡◌, ℕ, pos, List, [], ◌++◌, Option}
 use Rattle.std.proofs.Common.{refl, sym, subst}
+use Rattle.std.proofs.lemmas.List.{append-nil}
 use Rattle.dfu_device.specs.Setting.{Setting}
 use Rattle.dfu_host.specs.Phases.{ToFetch}
 use Rattle.dfu_host.specs.Host.{started, aborted}
@@ -16,13 +17,15 @@ use Rattle.dfu_host_core.specs.Runs.{HostsBegin, HostsRefine, HostsTell, HasPayl
 use Rattle.dfu_laws.specs.board.Board.{Board, BoardStep}
 use Rattle.dfu_laws.specs.link.Plays.{Plays, starts, offers, uploads, aborts, goes_on}
 use Rattle.dfu_laws.specs.in_c.Steps.{CoreStep, board_of_core, IsBoardOf}
+use Rattle.dfu_laws.specs.in_c.Marks.{no_mark}
 use Rattle.dfu_laws.specs.in_c.Plays.{CorePlays, CoreComes, CorePlaysInstall, CorePlaysGive, CorePlaysKnow, CorePlaysKnowWithin}
 use Rattle.dfu_laws.specs.ends.Sessions.{CoreSession, NoSession, InSession, IsSessionOf}
-use Rattle.dfu_laws.specs.ends.Comes.{EndsCome}
+use Rattle.dfu_laws.specs.ends.Comes.{EndsCome, mark_is_set}
 use Rattle.dfu_laws.specs.ends.Plays.{EndsPlay, no_one_yet, offers_one, fetches_one, gives_it_up, and_then, CoreEnds, CoreEndsPlay, CoreEndsCome, EndsAreSessions, EndsInstall, EndsGive, EndsKnow, EndsKnowWithin, EndsGoOn}
 use Rattle.dfu_laws.proofs.in_c.Each.{powers_on}
 use Rattle.dfu_laws.proofs.in_c.Played.{one_board}
-use Rattle.dfu_laws.proofs.in_c.GoesOn.{run_append, are_append}
+use Rattle.dfu_laws.proofs.in_c.Marked.{marked_too, core_marked_append, core_marked_more}
+use Rattle.dfu_laws.proofs.in_c.GoesOn.{are_append}
 use Rattle.dfu_laws.proofs.ends.Actions.{host_of_session}
 use Rattle.dfu_laws.proofs.ends.Heard.{abort_by}
 use Rattle.dfu_laws.proofs.ends.Settled.{aborted_counted}
@@ -174,7 +177,7 @@ ends_go_on = record {
       let start = powers_on b (pos 0) on.begins on.powers in
       let is : IsBoardOf b (board_of_core b on.powers.after) = record { kept = start.0.kept; is = refl } in
       record {
-        run = refl;
+        run = no_mark;
         first = board_of_core b on.powers.after;
         is_first = is;
         calls = [];
@@ -192,7 +195,7 @@ ends_go_on = record {
       (subst (λ (s : Setting). HasBegunAs r (started s.functional ToFetch limits)) (sym p.is_now.kept.set_up.config_is) begun));
   aborts = λ b steps past last on payload x x' p called. with_session p (gives_it_up p.plays called);
   goes_on = λ b steps more past last l l' answer p c. record {
-    run = run_append b l.board l'.board steps more p.run c.run;
+    run = core_marked_append b l.board l'.board steps more p.run c.run;
     first = p.first;
     is_first = p.is_first;
     calls = p.calls ++ c.calls;
@@ -202,4 +205,17 @@ ends_go_on = record {
     plays = and_then p.plays (subst (λ (x : Board). EndsCome l.session x c.calls answer l'.session c.after)
         (one_board l.board c.before p.now c.is_before p.is_now) c.comes);
   };
+  marks = λ b b' on steps past last s p mark.
+      let x = marked_too on b' p.now p.is_now mark in
+      record {
+        run = core_marked_more b on b' steps p.run mark;
+        first = p.first;
+        is_first = p.is_first;
+        calls = p.calls;
+        are = p.are;
+        now = x.board;
+        is_now = x.is;
+        plays = subst (λ (ts : List BoardStep). EndsPlay p.first ts past last s x.board) (append-nil p.calls)
+            (and_then p.plays (mark_is_set x.mark));
+      };
 }

@@ -17,6 +17,7 @@ use Rattle.dfu_host_core.specs.Beginning.{HasBegunAs}
 use Rattle.dfu_host_core.specs.Runs.{CoreHost, CoreAbort, HostCalled}
 use Rattle.dfu_laws.specs.board.Board.{Board, BoardStep}
 use Rattle.dfu_laws.specs.in_c.Steps.{CoreStep, IsCoreRun, IsBoardOf, AreStepsOf}
+use Rattle.dfu_laws.specs.in_c.Marks.{IsCoreMarked, IsCoreMarkedRun}
 use Rattle.dfu_laws.specs.in_c.Plays.{CorePlays, IsCoreInPlace, CoreKnownIsActive}
 use Rattle.dfu_laws.specs.ends.Sessions.{CoreSession, NoSession, InSession, IsSessionOf}
 use Rattle.dfu_laws.specs.ends.Comes.{EndsCome}
@@ -54,10 +55,10 @@ pub record CoreEnds : Type 0 where
   pub board : CoreBoard
   pub session : CoreSession
 
--- Such sessions, with a board in C: its steps are a run, and one by one those of such a board.
+-- Such sessions, with a board in C: its steps are runs, between marks of a trial, and one by one those of such a board.
 pub record CoreEndsPlay (b : CoreBoard) (steps : List CoreStep) (past : List (List ℕ)) (last : Option (List ℕ)) (l : CoreEnds)
     : Type 0 where
-  pub run : IsCoreRun b steps l.board
+  pub run : IsCoreMarkedRun b steps l.board
   pub first : Board
   pub is_first : IsBoardOf b first
   pub calls : List BoardStep
@@ -68,7 +69,7 @@ pub record CoreEndsPlay (b : CoreBoard) (steps : List CoreStep) (past : List (Li
 
 -- What comes next, in the same way.
 pub record CoreEndsCome (l : CoreEnds) (steps : List CoreStep) (answer : Answered) (l' : CoreEnds) : Type 0 where
-  pub run : IsCoreRun l.board steps l'.board
+  pub run : IsCoreMarkedRun l.board steps l'.board
   pub before : Board
   pub is_before : IsBoardOf l.board before
   pub calls : List BoardStep
@@ -114,7 +115,7 @@ EndsKnowWithin = (b mid : CoreBoard) (steps front rest : List CoreStep) (past : 
     → CoreEndsCome l (front ++ rest) answer l' → IsCoreRun l.board front mid → CoreKnownIsActive image past mid
 
 -- Sessions of both go on: they begin on a board that just got power; a payload is offered or an upload begins, if no session is live; the
--- live one is given up; or the next thing comes.
+-- live one is given up; or the next thing comes; or a mark of a trial is set.
 pub record EndsGoOn : Type 0 where
   pub starts : (b : CoreBoard) → IsCoreOn b → CoreEndsPlay b [] [] None (record { board = b; session = NoSession })
   pub offers : (b : CoreBoard) (steps : List CoreStep) (past : List (List ℕ)) (last : Option (List ℕ)) (on : CoreBoard) (purpose : Purpose)
@@ -133,3 +134,6 @@ pub record EndsGoOn : Type 0 where
       → CoreEndsPlay b steps past last (record { board = on; session = InSession payload x' })
   pub goes_on : (b : CoreBoard) (steps more : List CoreStep) (past : List (List ℕ)) (last : Option (List ℕ)) (l l' : CoreEnds)
       (answer : Answered) → CoreEndsPlay b steps past last l → CoreEndsCome l more answer l' → CoreEndsPlay b (steps ++ more) past last l'
+  pub marks : (b b' on : CoreBoard) (steps : List CoreStep) (past : List (List ℕ)) (last : Option (List ℕ)) (s : CoreSession)
+      → CoreEndsPlay b steps past last (record { board = on; session = s }) → IsCoreMarked on b'
+      → CoreEndsPlay b steps past last (record { board = b'; session = s })

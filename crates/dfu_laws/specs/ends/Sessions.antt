@@ -4,6 +4,8 @@ use Rattle.std.specs.Borrow.{Bor}
 use Rattle.dfu_device.specs.declared.answer.Answer.TheVariants as answer
 use Rattle.dfu_host.specs.declared.report.Report.{Report}
 use Rattle.dfu_host.specs.declared.report.Report.TheVariants.{Uploaded}
+use Rattle.dfu_host.specs.Phases.{Enter}
+use Rattle.dfu_host.specs.Host.{HostState}
 use Rattle.dfu_sim.specs.LinkView.{Session, Nobody, Hosted}
 use Rattle.dfu_sim.specs.Play.{Answered, silent}
 use Rattle.dfu_host_core.specs.declared.action.DfuAction.{DfuAction}
@@ -26,6 +28,10 @@ IsSessionOf s session = ⊥
 -- dfu_host_next returns 0 with this action, wherever the payload is in memory.
 abbrev pub Wants : (payload : List ℕ) → CoreHost → DfuAction → Type 0
 Wants payload x a = (slice : Bor (List ℕ)) × (slice.now ≡ payload) × IsNextAction x.kept slice a
+
+-- The session is in phase Enter: it resets the bus or waits, after a DETACH.
+abbrev pub IsEntering : (payload : List ℕ) → CoreHost → Type 0
+IsEntering payload x = (h : HostState) → IsCoreHost payload x h → h.phase ≡ Enter
 
 -- The bytes of the payload that an action sends.
 abbrev pub sent_body : (payload : List ℕ) → DfuAction → List ℕ

@@ -13,6 +13,7 @@ use Rattle.dfu_sim.specs.Session.{IsOneOf, SaysInPlace}
 use Rattle.dfu_laws.specs.board.Board.{Board, medium_on, state_on, BoardStep}
 use Rattle.dfu_laws.specs.board.Happens.{IsPoweredOn, IsRun}
 use Rattle.dfu_laws.specs.link.Comes.{BoardLink, BoardComes}
+use Rattle.dfu_laws.specs.link.Marks.{IsRunBetweenMarks}
 
 -- A session with this goal begins, by the descriptor of the board's device.
 abbrev pub opened_on : Board → Goal → Limits → BoardLink
@@ -75,7 +76,7 @@ PlaysKnowWithin = (b mid : Board) (steps front rest : List BoardStep) (past : Li
     (answer : Answered) (image : List ℕ) → IsPoweredOn b → 0 < b.asking.config.functional.transfer → Active (medium_on b) image
     → Plays b steps past last l → BoardComes l (front ++ rest) answer l' → IsRun l.board front mid → KnownIsActive image past mid
 
--- All that comes to the board is a run of it, so what holds of runs holds.
+-- All that comes to the board are runs of it, between marks of a trial; without marks one run. So what holds of runs holds.
 abbrev pub PlaysRun : Type 0
 PlaysRun = (b : Board) (steps : List BoardStep) (past : List (List ℕ)) (last : Option (List ℕ)) (l : BoardLink)
-    → Plays b steps past last l → IsRun b steps l.board
+    → Plays b steps past last l → IsRunBetweenMarks b steps l.board
