@@ -2,3 +2,4 @@ pub mod Calls
 pub mod Comes
 pub mod Plays
 pub mod Marks
+pub mod Trials

@@ -1,21 +1,26 @@
 -- Sessions with a board in C go on as those of a board.
 use Rattle.std.specs.Prelude.{◌≡◌, ℕ, List, [], ◌∷◌, ◌++◌, Option, pos}
-use Rattle.std.proofs.Common.{refl, ap, ◌∙◌, subst}
+use Rattle.std.proofs.Common.{refl, sym, ap, ◌∙◌, subst}
 use Rattle.std.proofs.lemmas.List.{append-nil}
+use Rattle.dfu_wire.specs.declared.states.State.{State}
+use Rattle.dfu_slots.specs.Medium.{MediumState}
+use Rattle.dfu_slots.specs.Image.{Active}
 use Rattle.dfu_device.specs.Setting.{Setting}
 use Rattle.dfu_host.specs.Phases.{ToFetch}
 use Rattle.dfu_host.specs.Host.{started}
 use Rattle.dfu_sim.specs.Opening.{goal_of_purpose}
 use Rattle.dfu_sim.specs.LinkView.{Session, Nobody, Hosted}
-use Rattle.dfu_laws.specs.board.Board.{BoardStep}
-use Rattle.dfu_laws.specs.link.Comes.{BoardLink, marks}
-use Rattle.dfu_laws.specs.link.Plays.{Plays, starts as begins, offers as offers_on, uploads as uploads_on, aborts as gives_up, goes_on as comes_next}
+use Rattle.dfu_laws.specs.board.Board.{state_on, BoardStep}
+use Rattle.dfu_laws.specs.link.Comes.{marks}
+use Rattle.dfu_laws.specs.link.Trials.{MayEnd}
+use Rattle.dfu_laws.specs.link.Plays.{Plays, starts as begins, offers as offers_on, uploads as uploads_on, aborts as gives_up, goes_on as comes_next, ends as trial_ends}
 use Rattle.dfu_core.specs.Board.{CoreBoard}
 use Rattle.dfu_laws.specs.in_c.Steps.{CoreStep, board_of_core, IsBoardOf, AreStepsOf}
 use Rattle.dfu_laws.specs.in_c.Marks.{no_mark}
 use Rattle.dfu_laws.specs.in_c.Plays.{CoreLink, CorePlays, CorePlaysGoOn}
 use Rattle.dfu_laws.proofs.in_c.Each.{powers_on}
-use Rattle.dfu_laws.proofs.in_c.Marked.{marked_too, core_marked_append, core_marked_more}
+use Rattle.dfu_laws.proofs.in_c.Runs.{same_flash, core_state}
+use Rattle.dfu_laws.proofs.in_c.Marked.{marked_too, ended_too, core_marked_append, core_marked_more, core_marked_end}
 use Rattle.dfu_laws.proofs.in_c.Played.{comes_on}
 
 pub are_append : (xs ys : List CoreStep) (ts us : List BoardStep) → AreStepsOf xs ts → AreStepsOf ys us → AreStepsOf (xs ++ ys) (ts ++ us)
@@ -86,5 +91,21 @@ core_goes_on = record {
         is_link = record { board = x.is; session = p.is_link.session };
         plays = subst (λ (ts : List BoardStep). Plays p.first ts past last (record { board = x.board; session = p.link.session }))
             (append-nil p.calls) (comes_next p.plays (marks x.mark));
+      };
+  ends = λ b b' steps past last l state begins image p is may end active.
+      let x = ended_too l.board b' begins p.link.board p.is_link.board end in
+      let here : state_on p.link.board ≡ state = core_state l.board p.link.board state p.is_link.board is in
+      record {
+        run = core_marked_end b l.board b' begins steps p.run end;
+        first = p.first;
+        is_first = p.is_first;
+        calls = p.calls;
+        are = p.are;
+        link = record { board = x.board; session = p.link.session };
+        is_link = record { board = x.is; session = p.is_link.session };
+        plays = trial_ends image p.plays
+            (subst (λ (s : Session). MayEnd s (state_on p.link.board) begins) (sym p.is_link.session)
+            (subst (λ (s : State). MayEnd l.session s begins) (sym here) may))
+            x.end (subst (λ (m : MediumState). Active m image) (sym (same_flash b' x.board x.is)) active);
       };
 }

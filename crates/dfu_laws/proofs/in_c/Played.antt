@@ -45,7 +45,7 @@ on_too b x on is =
     record { on = subst IsPoweredOn same start.1.0; sized = omega (arith, config, on.powers.config.allowed.transfer.some) }
 
 -- What is active on the board is active on the flash in C.
-active_too : (b : CoreBoard) (x : Board) (image : List ℕ) → IsBoardOf b x → Active (medium_on x) image → Active (medium_of_core b) image
+pub active_too : (b : CoreBoard) (x : Board) (image : List ℕ) → IsBoardOf b x → Active (medium_on x) image → Active (medium_of_core b) image
 active_too b x image is active = subst (λ (m : MediumState). Active m image) (same_flash b x is) active
 
 -- What comes next comes to the board of the sessions before.

@@ -1,5 +1,5 @@
 -- All that comes to a board are runs of it, between marks of a trial.
-use Rattle.std.specs.Prelude.{◌≡◌, ◌⊎◌, ℕ, Option, List, [], ◌∷◌, ◌++◌}
+use Rattle.std.specs.Prelude.{◌≡◌, ◌⊎◌, ℕ, Bool, Option, List, [], ◌∷◌, ◌++◌}
 use Rattle.std.proofs.Common.{inl, inr, refl, sym, ◌∙◌, subst}
 use Rattle.dfu_device.specs.declared.objection.Objection.{Objection}
 use Rattle.dfu_sim.specs.Play.{Answered}
@@ -7,9 +7,9 @@ use Rattle.dfu_asks.specs.Lent.{IsSetUpAs}
 use Rattle.dfu_laws.specs.board.Board.{Board, Event, Handle, Says, BoardStep}
 use Rattle.dfu_laws.specs.board.Happens.{Happens, IsRun}
 use Rattle.dfu_laws.specs.link.Calls.{Reaches, lost, once, twice, Objects, refused_once, refused_twice, Stops, behind, within, within_second}
-use Rattle.dfu_laws.specs.link.Marks.{IsMarked, AreMarked, none_is, one_more, IsMarkedRun, AreJoined}
+use Rattle.dfu_laws.specs.link.Marks.{IsMarked, TrialEnds, AreMarked, none_is, one_more, one_end, IsMarkedRun, AreJoined}
 use Rattle.dfu_laws.specs.link.Comes.{BoardLink, BoardComes, passes, sends, refuses, waits, resets, is_reset, restarts, leaves, restarts_at_reset, marks}
-use Rattle.dfu_laws.specs.link.Plays.{Plays, starts, offers, uploads, aborts as gives_up, goes_on, PlaysRun}
+use Rattle.dfu_laws.specs.link.Plays.{Plays, starts, offers, uploads, aborts as gives_up, goes_on, ends, PlaysRun}
 
 run_append : (b mid b' : Board) (xs ys : List BoardStep) → IsRun b xs mid → IsRun mid ys b' → IsRun b (xs ++ ys) b'
 run_append b mid b' [] ys run more = subst (λ (x : Board). IsRun x ys b') run more
@@ -102,6 +102,12 @@ by_marked b b' steps (inr (none, mark)) = subst (λ (l : List BoardStep). IsMark
 more_are : (b mid b' : Board) → AreMarked b mid → AreMarked mid b' → AreMarked b b'
 more_are b mid _ marked none_is = marked
 more_are b mid _ marked (one_more {mid = late} {b' = b'} more mark) = one_more (more_are b mid late marked more) mark
+more_are b mid _ marked (one_end {mid = late} {b' = b'} {begins = begins} more end) = one_end (more_are b mid late marked more) end
+
+marked_end : (b mid b' : Board) (begins : Bool) (steps : List BoardStep) → IsMarkedRun b steps mid → TrialEnds mid begins b'
+    → IsMarkedRun b steps b'
+marked_end b mid b' begins [] marked end = one_end marked end
+marked_end b mid b' begins (s ∷ rest) run end = (run.0, run.1, run.2, marked_end s.after mid b' begins rest run.3 end)
 
 marked_append : (b mid b' : Board) (xs ys : List BoardStep) → IsMarkedRun b xs mid → IsMarkedRun mid ys b' → IsMarkedRun b (xs ++ ys) b'
 marked_append b mid b' [] [] marked more = more_are b mid b' marked more
@@ -127,6 +133,8 @@ plays_marked b steps past last _ (gives_up {l = l} p live) = plays_marked b step
 plays_marked b _ past last _ (goes_on {steps = steps} {more = more} {l = l} {l' = l'} {answer = answer} p comes) =
     marked_append b l.board l'.board steps more (plays_marked b steps past last l p)
     (by_marked l.board l'.board more (comes_run l l' more answer comes))
+plays_marked b steps _ last _ (ends {past = past} {l = l} {b' = b'} {begins = begins} image p may end active) =
+    marked_end b l.board b' begins steps (plays_marked b steps past last l p) end
 
 -- Each list of plays is runs of the board.
 pub plays_run : PlaysRun
