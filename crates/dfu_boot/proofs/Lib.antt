@@ -22,5 +22,6 @@ mod Slots
 mod Starts
 pub mod Tidy
 mod Unique
+pub mod Unread
 mod Uploading
 pub mod WholeStarts

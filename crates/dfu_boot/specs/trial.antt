@@ -4,3 +4,4 @@ pub mod Calls
 pub mod Laws
 pub mod Lists
 pub mod Again
+pub mod Unread

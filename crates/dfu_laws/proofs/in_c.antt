@@ -6,6 +6,7 @@ pub mod CallTurns
 pub mod Each
 pub mod Fits
 pub mod Runs
+pub mod Marked
 pub mod Played
 pub mod GoesOn
 pub mod FormatCalls

@@ -5,6 +5,8 @@ pub mod Acted
 pub mod Became
 pub mod Sent
 pub mod Handed
+pub mod Marked
+pub mod Ended
 pub mod Played
 pub mod Ran
 pub mod Sessions

@@ -1,4 +1,5 @@
 pub mod Steps
+pub mod Marks
 pub mod Fits
 pub mod Runs
 pub mod Plays

@@ -1,3 +1,5 @@
 pub mod Calls
 pub mod Comes
 pub mod Plays
+pub mod Marks
+pub mod Trials

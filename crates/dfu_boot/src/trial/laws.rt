@@ -6,6 +6,7 @@ ghost use Rattle.dfu_boot.specs.trial.Marks.{AreTries};
 ghost use Rattle.dfu_boot.specs.trial.Calls.{IsStanding, sets, trial_start, runs_in, upload_of};
 ghost use Rattle.dfu_boot.specs.trial.Laws.{Carried, CarriedIf, GoesOn, IsConfirmed, IsBack, Starts, Uploads, RunsNext, RunsOrIsNext};
 ghost use Rattle.dfu_boot.specs.trial.Trial.{image_at};
+ghost use Rattle.dfu_boot.specs.trial.Unread.{MarksAreUnread, UnreadKeepsImages};
 ghost use Rattle.dfu_boot.specs.trial.Lists.{TrialStep, CameAll, Trust, Alone, AreTrusted, AllTrusted};
 ghost use Rattle.dfu_boot.specs.declared.trial.standing.Settled.{Settled};
 ghost use Rattle.dfu_boot.specs.declared.trial.standing.Trial.{Trial};
@@ -57,4 +58,11 @@ pub fn what_was_confirmed_runs_or_the_newest_on_trial()
     ensures list { (m : MediumState) (tries : ℕ) (trust : Trust) (steps : List TrialStep) → AreTries m.grain tries →
         AreTrusted m tries trust → CameAll tries m steps → AllTrusted tries trust m steps }
     ensures image { (m : MediumState) (tries : ℕ) (trust : Trust) → AreTrusted m tries trust → HasImage m }
+{}
+
+/// A mark of a start or a confirmation, of either slot, whether or not an image is on trial, and whatever becomes of it: the store reads
+/// none of its bytes. So an image is active afterwards exactly if it was before, and so it is after any marks.
+pub fn marks_change_no_image()
+    ensures unread { MarksAreUnread }
+    ensures image { UnreadKeepsImages }
 {}

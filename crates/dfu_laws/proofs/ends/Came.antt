@@ -1,6 +1,6 @@
 -- What comes to a board and a session in C comes to the board and the session's host.
-use Rattle.std.specs.Prelude.{◌≡◌, ℕ, List, [], ◌++◌, IsTrue}
-use Rattle.std.proofs.Common.{inl, inr, refl, subst}
+use Rattle.std.specs.Prelude.{◌≡◌, ℕ, List, [], ◌∷◌, ◌++◌, IsTrue}
+use Rattle.std.proofs.Common.{inl, inr, refl, subst, ⊎_elim}
 use Rattle.dfu_wire.specs.declared.requests.Request.{Request}
 use Rattle.dfu_host.specs.Phases.{Send, Heard, NoRoom, Waited, WasReset, Restarted}
 use Rattle.dfu_host.specs.Table.{deed}
@@ -13,9 +13,9 @@ use Rattle.dfu_sim.specs.Standing.{IsCountedIn}
 use Rattle.dfu_host_core.specs.declared.action.DfuAction.{DfuAction}
 use Rattle.dfu_host_core.specs.Runs.{CoreHost, IsCoreHost, HostsRefine, HostsTell}
 use Rattle.dfu_laws.specs.board.Board.{Board, Says, BoardStep}
-use Rattle.dfu_laws.specs.link.Comes.{HearsSentBack, left, BoardComes, passes, sends, refuses, waits, resets, is_reset, restarts}
-use Rattle.dfu_laws.specs.ends.Sessions.{CoreSession, InSession, IsSessionOf, Wants, sent_body, HostTakes, TellsOf, Settles, HearsRestart, nobody_hears, hears_it}
-use Rattle.dfu_laws.specs.ends.Comes.{EndsCome, time_passes, sends_it, objects_to_it, refuses_image, waits_it_out, resets_bus, bus_is_reset, board_restarts}
+use Rattle.dfu_laws.specs.link.Comes.{HearsSentBack, left, BoardComes, passes, sends, refuses, waits, resets, is_reset, restarts, leaves, restarts_at_reset, marks}
+use Rattle.dfu_laws.specs.ends.Sessions.{CoreSession, InSession, IsSessionOf, Wants, IsEntering, sent_body, HostTakes, TellsOf, Settles, HearsRestart, nobody_hears, hears_it}
+use Rattle.dfu_laws.specs.ends.Comes.{EndsCome, time_passes, sends_it, objects_to_it, refuses_image, waits_it_out, resets_bus, bus_is_reset, board_restarts, leaves_app, board_makes_way, mark_is_set}
 use Rattle.dfu_laws.proofs.ends.Actions.{host_of_session, sends_so, waits_so, resets_so, way_so}
 use Rattle.dfu_laws.proofs.ends.Heard.{heard_by, hears_wait, hears_reset, hears_restart, hears_back}
 use Rattle.dfu_laws.proofs.ends.Settled.{TookSo, sized, took_so}
@@ -107,3 +107,16 @@ module _ (refine : HostsRefine) (tells : HostsTell) where
     came steps answer s' b' (board_restarts {call = call} way stops hears) =
         went session b steps answer s' b' (notify_restart session) (restarts_so s session answer s' is c hears)
         (restarts (way_so tells s session call is way) stops)
+    came _ _ _ _ (leaves_app {payload = payload} {x = x} live enters run event) =
+        let o = host_of_session payload x s session live is in
+        record { later = session; is = is; counted = c; comes = leaves o.live (enters o.host o.is) run event }
+    came _ answer s' b' (board_makes_way {payload = payload} {bytes = bytes} {x = x} {x' = x'} {a = a} {power = power} {begins = begins} live
+        wants what way run event given settles) =
+        let o = host_of_session payload x s session live is in
+        let t = heard_by refine payload x x' o.host o.is 5 bytes given in
+        let now = subst (λ (y : Heard). IsCoreHost payload x' (after o.host y)) (hears_reset payload o.host bytes x' t) t.now in
+        went session b (power ∷ []) answer s' b' (took o.host WasReset)
+        (took_so tells payload x' o.host WasReset answer s' (sized tells payload x o.host o.is) (counted_of o.host o.live) now settles)
+        (restarts_at_reset o.live (resets_so tells payload x o.host o.is a wants what)
+        (⊎_elim (λ back. inl back) (λ enters. inr (enters o.host o.is)) way) run event)
+    came _ _ _ _ (mark_is_set mark) = record { later = session; is = is; counted = c; comes = marks mark }

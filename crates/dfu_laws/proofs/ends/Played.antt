@@ -1,6 +1,10 @@
 -- Sessions of a host in C and a board in C: the laws.
-use Rattle.std.specs.Prelude.{◌≡◌, ℕ, pos, List, [], ◌++◌, Option}
+use Rattle.std.specs.Prelude.{◌≡◌, ℕ, pos, Bool, List, [], ◌++◌, Option}
 use Rattle.std.proofs.Common.{refl, sym, subst}
+use Rattle.std.proofs.lemmas.List.{append-nil}
+use Rattle.dfu_wire.specs.declared.states.State.{State}
+use Rattle.dfu_slots.specs.Medium.{MediumState}
+use Rattle.dfu_slots.specs.Image.{Active}
 use Rattle.dfu_device.specs.Setting.{Setting}
 use Rattle.dfu_host.specs.Phases.{ToFetch}
 use Rattle.dfu_host.specs.Host.{started, aborted}
@@ -13,16 +17,20 @@ use Rattle.dfu_sim.specs.Standing.{IsCountedIn}
 use Rattle.dfu_core.specs.Board.{CoreBoard}
 use Rattle.dfu_host_core.specs.Beginning.{HasBegunAs}
 use Rattle.dfu_host_core.specs.Runs.{HostsBegin, HostsRefine, HostsTell, HasPayload}
-use Rattle.dfu_laws.specs.board.Board.{Board, BoardStep}
-use Rattle.dfu_laws.specs.link.Plays.{Plays, starts, offers, uploads, aborts, goes_on}
+use Rattle.dfu_laws.specs.board.Board.{Board, state_on, BoardStep}
+use Rattle.dfu_laws.specs.link.Trials.{MayEnd}
+use Rattle.dfu_laws.specs.link.Plays.{Plays, starts, offers, uploads, aborts, goes_on, ends}
 use Rattle.dfu_laws.specs.in_c.Steps.{CoreStep, board_of_core, IsBoardOf}
+use Rattle.dfu_laws.specs.in_c.Marks.{no_mark}
 use Rattle.dfu_laws.specs.in_c.Plays.{CorePlays, CoreComes, CorePlaysInstall, CorePlaysGive, CorePlaysKnow, CorePlaysKnowWithin}
-use Rattle.dfu_laws.specs.ends.Sessions.{CoreSession, NoSession, InSession, IsSessionOf}
-use Rattle.dfu_laws.specs.ends.Comes.{EndsCome}
-use Rattle.dfu_laws.specs.ends.Plays.{EndsPlay, no_one_yet, offers_one, fetches_one, gives_it_up, and_then, CoreEnds, CoreEndsPlay, CoreEndsCome, EndsAreSessions, EndsInstall, EndsGive, EndsKnow, EndsKnowWithin, EndsGoOn}
+use Rattle.dfu_laws.specs.ends.Sessions.{CoreSession, NoSession, InSession, IsSessionOf, MayEndIn}
+use Rattle.dfu_laws.specs.ends.Comes.{EndsCome, mark_is_set}
+use Rattle.dfu_laws.specs.ends.Plays.{EndsPlay, no_one_yet, offers_one, fetches_one, gives_it_up, and_then, trial_is_over, CoreEnds, CoreEndsPlay, CoreEndsCome, EndsAreSessions, EndsInstall, EndsGive, EndsKnow, EndsKnowWithin, EndsGoOn}
 use Rattle.dfu_laws.proofs.in_c.Each.{powers_on}
+use Rattle.dfu_laws.proofs.in_c.Runs.{same_flash, core_state}
 use Rattle.dfu_laws.proofs.in_c.Played.{one_board}
-use Rattle.dfu_laws.proofs.in_c.GoesOn.{run_append, are_append}
+use Rattle.dfu_laws.proofs.in_c.Marked.{marked_too, ended_too, core_marked_append, core_marked_more, core_marked_end}
+use Rattle.dfu_laws.proofs.in_c.GoesOn.{are_append}
 use Rattle.dfu_laws.proofs.ends.Actions.{host_of_session}
 use Rattle.dfu_laws.proofs.ends.Heard.{abort_by}
 use Rattle.dfu_laws.proofs.ends.Settled.{aborted_counted}
@@ -43,6 +51,13 @@ no_session (Hosted h) is = absurd is
 has_payload : (purpose : Purpose) (payload : List ℕ) → HasPayload (goal_of_purpose purpose payload) payload
 has_payload Install payload = refl
 has_payload Verify payload = refl
+
+may_end : (s : CoreSession) (session : Session) (state : State) (begins : Bool) → IsSessionOf s session → MayEndIn s state begins
+    → MayEnd session state begins
+may_end NoSession Nobody state begins is may = tt
+may_end (InSession payload x) (Hosted h) state begins is may = may h is
+may_end NoSession (Hosted h) state begins is may = absurd is
+may_end (InSession payload x) Nobody state begins is may = absurd is
 
 module _ (begin : HostsBegin) (refine : HostsRefine) (tells : HostsTell) where
   plays_so : (b : Board) (steps : List BoardStep) (past : List (List ℕ)) (last : Option (List ℕ)) (s : CoreSession) (now : Board)
@@ -79,6 +94,14 @@ module _ (begin : HostsBegin) (refine : HostsRefine) (tells : HostsTell) where
       let o = plays_so b steps past last s now p in
       let w = came refine tells now s o.session o.is o.counted more answer s' b' comes in
       record { session = w.later; is = w.is; counted = w.counted; plays = goes_on o.plays w.comes }
+  plays_so b steps _ last s _ (trial_is_over {past = past} {now = now} {b' = b'} {begins = begins} image p may end active) =
+      let o = plays_so b steps past last s now p in
+      record {
+        session = o.session;
+        is = o.is;
+        counted = o.counted;
+        plays = ends image o.plays (may_end s o.session (state_on now) begins o.is may) end active;
+      }
 
   -- The same in C.
   core_plays : (b : CoreBoard) (steps : List CoreStep) (past : List (List ℕ)) (last : Option (List ℕ)) (l : CoreEnds)
@@ -174,7 +197,7 @@ ends_go_on = record {
       let start = powers_on b (pos 0) on.begins on.powers in
       let is : IsBoardOf b (board_of_core b on.powers.after) = record { kept = start.0.kept; is = refl } in
       record {
-        run = refl;
+        run = no_mark;
         first = board_of_core b on.powers.after;
         is_first = is;
         calls = [];
@@ -192,7 +215,7 @@ ends_go_on = record {
       (subst (λ (s : Setting). HasBegunAs r (started s.functional ToFetch limits)) (sym p.is_now.kept.set_up.config_is) begun));
   aborts = λ b steps past last on payload x x' p called. with_session p (gives_it_up p.plays called);
   goes_on = λ b steps more past last l l' answer p c. record {
-    run = run_append b l.board l'.board steps more p.run c.run;
+    run = core_marked_append b l.board l'.board steps more p.run c.run;
     first = p.first;
     is_first = p.is_first;
     calls = p.calls ++ c.calls;
@@ -202,4 +225,31 @@ ends_go_on = record {
     plays = and_then p.plays (subst (λ (x : Board). EndsCome l.session x c.calls answer l'.session c.after)
         (one_board l.board c.before p.now c.is_before p.is_now) c.comes);
   };
+  marks = λ b b' on steps past last s p mark.
+      let x = marked_too on b' p.now p.is_now mark in
+      record {
+        run = core_marked_more b on b' steps p.run mark;
+        first = p.first;
+        is_first = p.is_first;
+        calls = p.calls;
+        are = p.are;
+        now = x.board;
+        is_now = x.is;
+        plays = subst (λ (ts : List BoardStep). EndsPlay p.first ts past last s x.board) (append-nil p.calls)
+            (and_then p.plays (mark_is_set x.mark));
+      };
+  ends = λ b b' on steps past last s state begins image p is may end active.
+      let x = ended_too on b' begins p.now p.is_now end in
+      record {
+        run = core_marked_end b on b' begins steps p.run end;
+        first = p.first;
+        is_first = p.is_first;
+        calls = p.calls;
+        are = p.are;
+        now = x.board;
+        is_now = x.is;
+        plays = trial_is_over image p.plays
+            (subst (λ (y : State). MayEndIn s y begins) (sym (core_state on p.now state p.is_now is)) may)
+            x.end (subst (λ (m : MediumState). Active m image) (sym (same_flash b' x.board x.is)) active);
+      };
 }

@@ -1,22 +1,27 @@
 -- Sessions with a board in C go on as those of a board.
 use Rattle.std.specs.Prelude.{◌≡◌, ℕ, List, [], ◌∷◌, ◌++◌, Option, pos}
-use Rattle.std.proofs.Common.{refl, ap, ◌∙◌, subst}
+use Rattle.std.proofs.Common.{refl, sym, ap, ◌∙◌, subst}
+use Rattle.std.proofs.lemmas.List.{append-nil}
+use Rattle.dfu_wire.specs.declared.states.State.{State}
+use Rattle.dfu_slots.specs.Medium.{MediumState}
+use Rattle.dfu_slots.specs.Image.{Active}
 use Rattle.dfu_device.specs.Setting.{Setting}
 use Rattle.dfu_host.specs.Phases.{ToFetch}
 use Rattle.dfu_host.specs.Host.{started}
 use Rattle.dfu_sim.specs.Opening.{goal_of_purpose}
 use Rattle.dfu_sim.specs.LinkView.{Session, Nobody, Hosted}
-use Rattle.dfu_laws.specs.board.Board.{BoardStep}
-use Rattle.dfu_laws.specs.link.Plays.{Plays, starts as begins, offers as offers_on, uploads as uploads_on, aborts as gives_up, goes_on as comes_next}
+use Rattle.dfu_laws.specs.board.Board.{state_on, BoardStep}
+use Rattle.dfu_laws.specs.link.Comes.{marks}
+use Rattle.dfu_laws.specs.link.Trials.{MayEnd}
+use Rattle.dfu_laws.specs.link.Plays.{Plays, starts as begins, offers as offers_on, uploads as uploads_on, aborts as gives_up, goes_on as comes_next, ends as trial_ends}
 use Rattle.dfu_core.specs.Board.{CoreBoard}
-use Rattle.dfu_laws.specs.in_c.Steps.{CoreStep, IsCoreRun, board_of_core, IsBoardOf, AreStepsOf}
+use Rattle.dfu_laws.specs.in_c.Steps.{CoreStep, board_of_core, IsBoardOf, AreStepsOf}
+use Rattle.dfu_laws.specs.in_c.Marks.{no_mark}
 use Rattle.dfu_laws.specs.in_c.Plays.{CoreLink, CorePlays, CorePlaysGoOn}
 use Rattle.dfu_laws.proofs.in_c.Each.{powers_on}
+use Rattle.dfu_laws.proofs.in_c.Runs.{same_flash, core_state}
+use Rattle.dfu_laws.proofs.in_c.Marked.{marked_too, ended_too, core_marked_append, core_marked_more, core_marked_end}
 use Rattle.dfu_laws.proofs.in_c.Played.{comes_on}
-
-pub run_append : (b mid b' : CoreBoard) (xs ys : List CoreStep) → IsCoreRun b xs mid → IsCoreRun mid ys b' → IsCoreRun b (xs ++ ys) b'
-run_append b mid b' [] ys run more = subst (λ (x : CoreBoard). IsCoreRun x ys b') run more
-run_append b mid b' (x ∷ xs) ys run more = (run.0, run.1, run_append x.after mid b' xs ys run.2 more)
 
 pub are_append : (xs ys : List CoreStep) (ts us : List BoardStep) → AreStepsOf xs ts → AreStepsOf ys us → AreStepsOf (xs ++ ys) (ts ++ us)
 are_append [] ys [] us are more = more
@@ -48,7 +53,7 @@ core_goes_on = record {
       let x = board_of_core b on.powers.after in
       let is : IsBoardOf b x = record { kept = start.0.kept; is = refl } in
       record {
-        run = refl;
+        run = no_mark;
         first = x;
         is_first = is;
         calls = [];
@@ -65,7 +70,7 @@ core_goes_on = record {
       (uploads_on limits p.plays (p.is_link.session ∙ none));
   aborts = λ b steps past last l h p live. with_session p refl (gives_up p.plays (p.is_link.session ∙ live));
   goes_on = λ b steps more past last l l' answer p c. record {
-    run = run_append b l.board l'.board steps more p.run c.run;
+    run = core_marked_append b l.board l'.board steps more p.run c.run;
     first = p.first;
     is_first = p.is_first;
     calls = p.calls ++ c.calls;
@@ -74,4 +79,33 @@ core_goes_on = record {
     is_link = c.is_after;
     plays = comes_next p.plays (comes_on b steps more past last l l' answer p c);
   };
+  marks = λ b b' steps past last l p mark.
+      let x = marked_too l.board b' p.link.board p.is_link.board mark in
+      record {
+        run = core_marked_more b l.board b' steps p.run mark;
+        first = p.first;
+        is_first = p.is_first;
+        calls = p.calls;
+        are = p.are;
+        link = record { board = x.board; session = p.link.session };
+        is_link = record { board = x.is; session = p.is_link.session };
+        plays = subst (λ (ts : List BoardStep). Plays p.first ts past last (record { board = x.board; session = p.link.session }))
+            (append-nil p.calls) (comes_next p.plays (marks x.mark));
+      };
+  ends = λ b b' steps past last l state begins image p is may end active.
+      let x = ended_too l.board b' begins p.link.board p.is_link.board end in
+      let here : state_on p.link.board ≡ state = core_state l.board p.link.board state p.is_link.board is in
+      record {
+        run = core_marked_end b l.board b' begins steps p.run end;
+        first = p.first;
+        is_first = p.is_first;
+        calls = p.calls;
+        are = p.are;
+        link = record { board = x.board; session = p.link.session };
+        is_link = record { board = x.is; session = p.is_link.session };
+        plays = trial_ends image p.plays
+            (subst (λ (s : Session). MayEnd s (state_on p.link.board) begins) (sym p.is_link.session)
+            (subst (λ (s : State). MayEnd l.session s begins) (sym here) may))
+            x.end (subst (λ (m : MediumState). Active m image) (sym (same_flash b' x.board x.is)) active);
+      };
 }

@@ -10,7 +10,7 @@ use Rattle.dfu_laws.specs.board.Board.{Board, BoardStep, medium_on}
 use Rattle.dfu_laws.specs.board.Happens.{IsPoweredOn, IsRun}
 use Rattle.dfu_laws.specs.link.Comes.{BoardLink, BoardComes}
 use Rattle.dfu_laws.specs.link.Plays.{PlaysInstall, PlaysGive, PlaysKnow, PlaysKnowWithin}
-use Rattle.dfu_laws.proofs.link.Ran.{run_parts, comes_run}
+use Rattle.dfu_laws.proofs.link.Ran.{comes_run, front_run}
 use Rattle.dfu_core.specs.Board.{CoreBoard, medium_of_core}
 use Rattle.dfu_laws.specs.in_c.Steps.{CoreStep, IsCoreRun, board_of_core, IsBoardOf, AreStepsOf}
 use Rattle.dfu_core.specs.Happens.{IsCoreOn}
@@ -45,7 +45,7 @@ on_too b x on is =
     record { on = subst IsPoweredOn same start.1.0; sized = omega (arith, config, on.powers.config.allowed.transfer.some) }
 
 -- What is active on the board is active on the flash in C.
-active_too : (b : CoreBoard) (x : Board) (image : List ℕ) → IsBoardOf b x → Active (medium_on x) image → Active (medium_of_core b) image
+pub active_too : (b : CoreBoard) (x : Board) (image : List ℕ) → IsBoardOf b x → Active (medium_on x) image → Active (medium_of_core b) image
 active_too b x image is active = subst (λ (m : MediumState). Active m image) (same_flash b x is) active
 
 -- What comes next comes to the board of the sessions before.
@@ -121,9 +121,9 @@ core_know_within knows b mid steps front rest past last l l' answer image on act
     let f = first_of front rest c.calls c.are in
     let comes = subst (λ (ts : List BoardStep). BoardComes p.link ts answer c.after) f.are
     (comes_on b steps (front ++ rest) past last l l' answer p c) in
-    let parts = run_parts p.link.board f.first f.later c.after.board
+    let part = front_run p.link.board c.after.board f.first f.later
     (comes_run p.link c.after (f.first ++ f.later) answer comes) in
-    let x = knows p.first parts.mid p.calls f.first f.later past last p.link c.after answer image start.on start.sized first p.plays comes
-    parts.first in
-    let at = board_at front f.first l.board mid p.link.board parts.mid p.is_link.board f.steps run parts.first in
-    record { now = x.now; active = active_too mid parts.mid x.now at x.active; known = x.known }
+    let x = knows p.first part.mid p.calls f.first f.later past last p.link c.after answer image start.on start.sized first p.plays comes
+    part.run in
+    let at = board_at front f.first l.board mid p.link.board part.mid p.is_link.board f.steps run part.run in
+    record { now = x.now; active = active_too mid part.mid x.now at x.active; known = x.known }

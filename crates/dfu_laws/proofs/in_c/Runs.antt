@@ -45,6 +45,10 @@ pub same_flash : (b : CoreBoard) (x : Board) → IsBoardOf b x → medium_on x �
 same_flash b x is = λ i. mapped (record { unit = is.kept.set_up.unit_is i; sector = is.kept.set_up.sector_is i }) (is.is i).flash
 
 -- So is its state.
+pub core_state : (b : CoreBoard) (x : Board) (state : State) → IsBoardOf b x → IsIn b state → state_on x ≡ state
+core_state b x state at is =
+    ap (λ (m : DeviceState). state_of (stage_of m [] [])) (one_mode b.kept x.asking.mode is.mode at.kept.mode is.has_mode) ∙ is.state_is
+
 same_state : (b : CoreBoard) (a : Asking) (state : State) → IsSound b a → IsIn b state → state_on (board_of_core b a) ≡ state
 same_state b a state sound is =
     ap (λ (m : DeviceState). state_of (stage_of m [] [])) (one_mode b.kept a.mode is.mode sound.kept.mode is.has_mode) ∙ is.state_is

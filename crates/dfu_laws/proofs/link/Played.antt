@@ -23,12 +23,13 @@ use Rattle.dfu_laws.specs.board.Board.{Board, Handle, Elapse, UsbReset, Refuse, 
 use Rattle.dfu_laws.specs.board.Happens.{IsRun}
 use Rattle.dfu_laws.specs.board.Refines.{IsIdle, IdleRefines}
 use Rattle.dfu_laws.specs.link.Calls.{Reaches, lost, behind}
-use Rattle.dfu_laws.specs.link.Comes.{BoardLink, IsUnderWay, left, BoardComes, passes, sends, refuses, waits, resets, is_reset, restarts, leaves, restarts_at_reset}
+use Rattle.dfu_laws.specs.link.Comes.{BoardLink, IsUnderWay, left, BoardComes, passes, sends, refuses, waits, resets, is_reset, restarts, leaves, restarts_at_reset, marks}
 use Rattle.dfu_laws.proofs.link.Served.{IsOf, served}
 use Rattle.dfu_laws.proofs.link.Fixed.{row_profile}
 use Rattle.dfu_laws.proofs.link.Timed.{DeviceWell, timed}
 use Rattle.dfu_laws.proofs.link.Acted.{ActedWell, acted_well, told_well, no_time}
 use Rattle.dfu_laws.proofs.link.Handed.{powered_by, still_entered, handed_over, handed_back}
+use Rattle.dfu_laws.proofs.link.Marked.{marked_on}
 use Rattle.dfu_laws.proofs.link.Became.{Became, then_well, resets_well, reaches_well, elapses_well}
 use Rattle.dfu_laws.proofs.link.Stopped.{stops_by}
 use Rattle.dfu_laws.proofs.link.Sent.{hears_nothing, sent_well, objected_well}
@@ -230,3 +231,19 @@ module _ (refines : IdleRefines) (simulation : Simulation) (only : OnlyOffered) 
       let w = handed_over c past (situation d) (situation x.device) h o f enters x.well in
       took_on c first past last l d x.device b' (took h WasReset) s x.idle x.profile_is
       (subst (λ (y : Session). ActedWell c past y (situation d) (situation x.device) (took h WasReset)) (sym live) w)
+  went_on first last l _ d _ _ s (marks {b' = b'} mark) =
+      let x = marked_on l.board b' d s.idle mark in
+      record {
+        device = x.device;
+        stands = record {
+          idle = x.idle;
+          profile_is = x.fixed ∙ s.profile_is;
+          fact = subst (λ (z : Situation). SessionFact c z l.session) (sym x.same) s.fact;
+          live = s.live;
+          offered = s.offered;
+          sound = subst (λ (z : Situation). IsSound past z.stage) (sym x.same) s.sound;
+          known = subst (λ (z : Situation). (z.image ≡ first) ⊎ IsOneOf z.image past) (sym x.same) s.known;
+        };
+        done = λ e. elim e [ ];
+        gives = λ bytes e. absurd (cc);
+      }

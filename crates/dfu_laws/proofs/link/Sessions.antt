@@ -27,8 +27,11 @@ use Rattle.dfu_laws.specs.board.Board.{Board, lent_on, medium_on, device_on, sta
 use Rattle.dfu_laws.specs.board.Happens.{IsPoweredOn}
 use Rattle.dfu_laws.specs.board.Refines.{IsIdle, IdleRefines}
 use Rattle.dfu_laws.specs.link.Comes.{BoardLink}
-use Rattle.dfu_laws.specs.link.Plays.{opened_on, Plays, starts, offers, uploads, aborts as gives_up, goes_on, PlaysInstall, PlaysGive, PlaysKnow, PlaysKnowWithin}
+use Rattle.dfu_laws.specs.link.Marks.{TrialEnds}
+use Rattle.dfu_laws.specs.link.Trials.{MayEnd}
+use Rattle.dfu_laws.specs.link.Plays.{opened_on, Plays, starts, offers, uploads, aborts as gives_up, goes_on, ends, PlaysInstall, PlaysGive, PlaysKnow, PlaysKnowWithin}
 use Rattle.dfu_laws.proofs.link.Acted.{machine, agrees}
+use Rattle.dfu_laws.proofs.link.Ended.{ends_profile, more_offered, ending_fact}
 use Rattle.dfu_laws.proofs.link.Played.{Stands, went_on}
 use Rattle.dfu_laws.proofs.link.Stopped.{start_sound}
 use Rattle.dfu_laws.proofs.link.Within.{rest_known}
@@ -56,7 +59,22 @@ abort_lives : {tolerant : Bool} {t : ℕ} {m m' : Machine} {report : Option Repo
     m'.live ≡ m.live
 abort_lives aborts = refl
 
-module _ (refines : IdleRefines) (simulation : Simulation) (only : OnlyOffered) (c : Profile) (sized : 0 < c.transfer) where
+-- A board is in the state of the device that it is.
+state_idle : (refines : IdleRefines) (b : Board) (d : DeviceView) → IsIdle b d → state_on b ≡ state_of d.stage
+state_idle refines b d k =
+    let r = refines b b d [] k refl in
+    let same : r.device ≡ d = subst (λ (rows : List TableRow). IsHistory d rows r.device) r.tells.0 r.history in
+    r.state ∙ ap (λ (x : DeviceView). state_of x.stage) same
+
+-- The clauses `shown` and `only` of the law `active_image_is_one`.
+abbrev pub ImageIsShown : Type 0
+ImageIsShown = (s : SlotsState) → HasImage s.medium → Active s.medium (image_of s)
+
+abbrev pub OneImage : Type 0
+OneImage = (s : SlotsState) (image : List ℕ) → Active s.medium image → image ≡ image_of s
+
+module _ (refines : IdleRefines) (simulation : Simulation) (only : OnlyOffered) (c : Profile) (sized : 0 < c.transfer) (one : OneImage)
+    where
   opened_fact : (s : Situation) (p : Profile) → p ≡ c → (goal : Goal) (limits : Limits)
       → SessionFact c s (opened c goal limits.actions limits.restarts)
       → SessionFact c s (opened p goal limits.actions limits.restarts)
@@ -119,6 +137,26 @@ module _ (refines : IdleRefines) (simulation : Simulation) (only : OnlyOffered) 
     };
   }
 
+  -- A trial ends on a board on which this holds.
+  trial_ended : (first : List ℕ) (past : List (List ℕ)) (last : Option (List ℕ)) (l : BoardLink) (b' : Board) (image : List ℕ)
+      (begins : Bool) → StandsSo first past last l → MayEnd l.session (state_on l.board) begins → TrialEnds l.board begins b'
+      → Active (medium_on b') image → StandsSo first (image ∷ past) last (record { board = b'; session = l.session })
+  trial_ended first past last l b' image begins x may end active =
+      let on = end.starts.0 in
+      record {
+        device = device_on b';
+        stands = record {
+          idle = record { work = on.work; is = on.is; device = refl };
+          profile_is = ends_profile l.board b' begins end ∙ ap profile x.stands.idle.device ∙ x.stands.profile_is;
+          fact = ending_fact c l.session l.board b' begins x.device (state_idle refines l.board x.device x.stands.idle) may end.starts
+              x.stands.fact;
+          live = x.stands.live;
+          offered = more_offered image past (live_of l.session) x.stands.offered;
+          sound = subst (λ (d : DeviceView). IsSound (image ∷ past) d.stage) (sym on.device) (start_sound (image ∷ past) on.begins);
+          known = inr (inl (sym (one (store_in (lent_on b') b'.flash) image active)));
+        };
+      }
+
   stands : (first : List ℕ) (b : Board) (steps : List BoardStep) (past : List (List ℕ)) (last : Option (List ℕ)) (l : BoardLink) →
       IsPoweredOn b
       → profile (device_on b) ≡ c → image_of (device_on b).slots ≡ first → Plays b steps past last l → StandsSo first past last l
@@ -167,22 +205,10 @@ module _ (refines : IdleRefines) (simulation : Simulation) (only : OnlyOffered) 
       let x = stands first b steps past last l on e i p in
       let y = went_on refines simulation only c sized past first last l l' x.device more answer x.stands comes in
       record { device = y.device; stands = y.stands }
+  stands first b steps _ last _ on e i (ends {past = past} {l = l} {b' = b'} {begins = begins} image p may end active) =
+      trial_ended first past last l b' image begins (stands first b steps past last l on e i p) may end active
 
--- A board is in the state of the device that it is.
-state_idle : (refines : IdleRefines) (b : Board) (d : DeviceView) → IsIdle b d → state_on b ≡ state_of d.stage
-state_idle refines b d k =
-    let r = refines b b d [] k refl in
-    let same : r.device ≡ d = subst (λ (rows : List TableRow). IsHistory d rows r.device) r.tells.0 r.history in
-    r.state ∙ ap (λ (x : DeviceView). state_of x.stage) same
-
--- The clauses `shown` and `only` of the law `active_image_is_one`.
-abbrev pub ImageIsShown : Type 0
-ImageIsShown = (s : SlotsState) → HasImage s.medium → Active s.medium (image_of s)
-
-abbrev pub OneImage : Type 0
-OneImage = (s : SlotsState) (image : List ℕ) → Active s.medium image → image ≡ image_of s
-
-module _ (refines : IdleRefines) (simulation : Simulation) (only : OnlyOffered) (shown : ImageIsShown) where
+module _ (refines : IdleRefines) (simulation : Simulation) (only : OnlyOffered) (shown : ImageIsShown) (one : OneImage) where
   active_idle : (b : Board) (d : DeviceView) → IsIdle b d → Active (medium_on b) (image_of d.slots)
   active_idle b d k = subst (λ (z : DeviceView). Active (medium_on b) (image_of z.slots)) k.device
       (shown (store_in (lent_on b) b.flash) k.is.store.has_image)
@@ -192,7 +218,7 @@ module _ (refines : IdleRefines) (simulation : Simulation) (only : OnlyOffered) 
   plays_install b steps more past last l l' answer on sized plays comes e =
       let c : Profile = profile (device_on b) in
       let first : List ℕ = image_of (device_on b).slots in
-      let x = stands refines simulation only c sized first b steps past last l on refl refl plays in
+      let x = stands refines simulation only c sized one first b steps past last l on refl refl plays in
       let y = went_on refines simulation only c sized past first last l l' x.device more answer x.stands comes in
       let done = y.done e in
       record {
@@ -207,22 +233,22 @@ module _ (refines : IdleRefines) (simulation : Simulation) (only : OnlyOffered) 
   plays_give b steps more past last l l' answer bytes on sized plays comes e =
       let c : Profile = profile (device_on b) in
       let first : List ℕ = image_of (device_on b).slots in
-      let x = stands refines simulation only c sized first b steps past last l on refl refl plays in
+      let x = stands refines simulation only c sized one first b steps past last l on refl refl plays in
       let y = went_on refines simulation only c sized past first last l l' x.device more answer x.stands comes in
       subst (λ (i : List ℕ). Active (medium_on l'.board) i) (sym (y.gives bytes e)) (active_idle l'.board y.device y.stands.idle)
 
   -- The active image is known.
-  pub plays_know : OneImage → PlaysKnow
-  plays_know one b steps past last l image on sized active plays =
-      let x = stands refines simulation only (profile (device_on b)) sized image b steps past last l on refl
+  pub plays_know : PlaysKnow
+  plays_know b steps past last l image on sized active plays =
+      let x = stands refines simulation only (profile (device_on b)) sized one image b steps past last l on refl
       (sym (one (store_in (lent_on b) b.flash) image active)) plays in
       record { now = image_of x.device.slots; active = active_idle l.board x.device x.stands.idle; known = x.stands.known }
 
   -- It is known at each step of what comes next.
-  pub plays_know_within : OneImage → PlaysKnowWithin
-  plays_know_within one b mid steps front rest past last l l' answer image on sized active plays comes run =
+  pub plays_know_within : PlaysKnowWithin
+  plays_know_within b mid steps front rest past last l l' answer image on sized active plays comes run =
       let c : Profile = profile (device_on b) in
-      let x = stands refines simulation only c sized image b steps past last l on refl
+      let x = stands refines simulation only c sized one image b steps past last l on refl
       (sym (one (store_in (lent_on b) b.flash) image active)) plays in
       let y = went_on refines simulation only c sized past image last l l' x.device (front ++ rest) answer x.stands comes in
       let at = rest_known refines c image past l'.board y.device y.stands.idle (record { sound = y.stands.sound; known = y.stands.known }) in

@@ -15,7 +15,7 @@ use Rattle.dfu_laws.specs.board.Board.{Board, Handle, Elapse, UsbReset, RefuseCl
 use Rattle.dfu_laws.specs.board.Happens.{IsRun}
 use Rattle.dfu_laws.specs.board.Refines.{IsIdle, IdleRefines}
 use Rattle.dfu_laws.specs.link.Calls.{Reaches, lost, Objects, refused_once, refused_twice, behind}
-use Rattle.dfu_laws.specs.link.Comes.{BoardLink, IsUnderWay, BoardComes, passes, sends, refuses, waits, resets, is_reset, restarts, leaves, restarts_at_reset}
+use Rattle.dfu_laws.specs.link.Comes.{BoardLink, IsUnderWay, BoardComes, passes, sends, refuses, waits, resets, is_reset, restarts, leaves, restarts_at_reset, marks}
 use Rattle.dfu_laws.specs.link.Plays.{KnownIsActive}
 use Rattle.dfu_laws.proofs.link.Served.{served}
 use Rattle.dfu_laws.proofs.link.Became.{Became}
@@ -98,3 +98,6 @@ module _ (refines : IdleRefines) (simulation : Simulation) (only : OnlyOffered) 
       power_within l b' d power begins s run event at
   comes_known l _ d _ _ s at (restarts_at_reset {power = power} {begins = begins} {b' = b'} live is way run event) =
       power_within l b' d power begins s run event at
+  comes_known l _ d _ _ s at (marks mark) =
+      none_known refines c first past l.board
+      (rest_known refines c first past l.board d s.idle (record { sound = s.sound; known = s.known }))

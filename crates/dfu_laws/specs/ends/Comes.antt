@@ -1,13 +1,15 @@
 -- What may come to a board and to a session in C over a link, by the calls of the session's record.
-use Rattle.std.specs.Prelude.{◌≡◌, ℕ, List, [], ◌++◌}
+use Rattle.std.specs.Prelude.{◌≡◌, ◌⊎◌, ℕ, Bool, false, List, [], ◌∷◌, ◌++◌}
 use Rattle.dfu_device.specs.declared.answer.Answer.{Answer}
 use Rattle.dfu_device.specs.declared.objection.Objection.{Objection}
 use Rattle.dfu_sim.specs.Play.{Answered, silent}
 use Rattle.dfu_host_core.specs.declared.action.DfuAction.{DfuAction}
 use Rattle.dfu_host_core.specs.Runs.{CoreHost}
-use Rattle.dfu_laws.specs.board.Board.{Board, Event, Handle, Elapse, UsbReset, Refuse, Says, BoardStep}
+use Rattle.dfu_laws.specs.board.Board.{Board, Event, Handle, Elapse, UsbReset, Refuse, Restart, Says, BoardStep}
+use Rattle.dfu_laws.specs.board.Happens.{IsRun}
 use Rattle.dfu_laws.specs.link.Calls.{Serves, Reaches, Objects, Stops}
-use Rattle.dfu_laws.specs.ends.Sessions.{CoreSession, InSession, Wants, sent_body, HostTakes, TellsOf, Settles, HearsRestart, MayBeUnderWay}
+use Rattle.dfu_laws.specs.link.Marks.{IsMarked}
+use Rattle.dfu_laws.specs.ends.Sessions.{CoreSession, InSession, Wants, IsEntering, sent_body, HostTakes, TellsOf, Settles, HearsRestart, MayBeUnderWay}
 
 -- What comes next, with the steps of the board, and what is reported then. The program does what dfu_host_next says: it sends a request
 -- (0), waits (1) or resets the bus (2). By dfu_host_take it tells what came of that: what is sent back; 4, that the wait is over; or 5,
@@ -43,3 +45,15 @@ pub data EndsCome (s : CoreSession) (b : Board) : List BoardStep → Answered �
   -- The power of the board goes and comes back, with this call under way.
   board_restarts : {call : Event} {steps : List BoardStep} {b' : Board} {said : Answered} {s' : CoreSession} → MayBeUnderWay s call
       → Stops call b steps b' → HearsRestart s said s' → EndsCome s b steps said s' b'
+  -- An application leaves after DETACH, for its bootloader or not: the board restarts. The session, which resets or waits next, learns
+  -- nothing of it.
+  leaves_app : {payload : List ℕ} {x : CoreHost} {power : BoardStep} {begins : Bool} {b' : Board} → s ≡ InSession payload x
+      → IsEntering payload x → IsRun b (power ∷ []) b' → power.event ≡ Restart begins → EndsCome s b (power ∷ []) silent s b'
+  -- The session resets the bus, and by that the board restarts: in appIDLE, or as an application leaves. The session learns of its reset
+  -- alone.
+  board_makes_way : {payload bytes : List ℕ} {x x' : CoreHost} {a : DfuAction} {power : BoardStep} {begins : Bool} {b' : Board}
+      {said : Answered} {s' : CoreSession} → s ≡ InSession payload x → Wants payload x a → a.what ≡ 2
+      → (begins ≡ false) ⊎ IsEntering payload x → IsRun b (power ∷ []) b' → power.event ≡ Restart begins → HostTakes payload x 5 bytes x'
+      → Settles payload x' said s' → EndsCome s b (power ∷ []) said s' b'
+  -- A mark of a trial is set, or torn, or fails. The session learns nothing of it.
+  mark_is_set : {b' : Board} → IsMarked b b' → EndsCome s b [] silent s b'

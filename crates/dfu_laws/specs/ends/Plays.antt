@@ -1,5 +1,6 @@
 -- Sessions between a host in C and a board in C, and what a report of dfu_host_next says of the board.
-use Rattle.std.specs.Prelude.{◌≡◌, ◌<◌, ℕ, pos, List, [], ◌∷◌, ◌++◌, length, Option, Some, None}
+use Rattle.std.specs.Prelude.{◌≡◌, ◌<◌, ℕ, pos, Bool, List, [], ◌∷◌, ◌++◌, length, Option, Some, None}
+use Rattle.dfu_wire.specs.declared.states.State.{State}
 use Rattle.dfu_slots.specs.Image.{Active}
 use Rattle.dfu_host.specs.declared.limits.Limits.{Limits}
 use Rattle.dfu_host.specs.Phases.{ToFetch}
@@ -10,23 +11,25 @@ use Rattle.dfu_sim.specs.Opening.{goal_of_purpose}
 use Rattle.dfu_sim.specs.Play.{Answered}
 use Rattle.dfu_sim.specs.Session.{SaysInPlace}
 use Rattle.dfu_core.specs.Config.{setting_of}
-use Rattle.dfu_core.specs.Board.{CoreBoard, medium_of_core}
+use Rattle.dfu_core.specs.Board.{CoreBoard, medium_of_core, IsIn}
 use Rattle.dfu_core.specs.Happens.{IsCoreOn}
 use Rattle.dfu_host_core.specs.declared.session.DfuSession.{DfuSession}
 use Rattle.dfu_host_core.specs.Beginning.{HasBegunAs}
 use Rattle.dfu_host_core.specs.Runs.{CoreHost, CoreAbort, HostCalled}
-use Rattle.dfu_laws.specs.board.Board.{Board, BoardStep}
+use Rattle.dfu_laws.specs.board.Board.{Board, medium_on, state_on, BoardStep}
+use Rattle.dfu_laws.specs.link.Marks.{TrialEnds}
 use Rattle.dfu_laws.specs.in_c.Steps.{CoreStep, IsCoreRun, IsBoardOf, AreStepsOf}
+use Rattle.dfu_laws.specs.in_c.Marks.{IsCoreMarked, CoreTrialEnds, IsCoreMarkedRun}
 use Rattle.dfu_laws.specs.in_c.Plays.{CorePlays, IsCoreInPlace, CoreKnownIsActive}
-use Rattle.dfu_laws.specs.ends.Sessions.{CoreSession, NoSession, InSession, IsSessionOf}
+use Rattle.dfu_laws.specs.ends.Sessions.{CoreSession, NoSession, InSession, IsSessionOf, MayEndIn}
 use Rattle.dfu_laws.specs.ends.Comes.{EndsCome}
 
 -- A session in C that a call has begun, with any buffer.
 abbrev pub begun_session : (payload : List ℕ) → DfuSession → (buffer : List ℕ) → CoreSession
 begun_session payload r buffer = InSession payload (record { kept = r; buffer = buffer })
 
--- Sessions in C with a board, one after the other, and all that comes to it meanwhile: the steps of the board so far, the payloads offered
--- so far, and the one with which the last session began, or none.
+-- Sessions in C with a board, one after the other, and all that comes to it meanwhile: the steps of the board so far; the payloads offered
+-- so far, and the images that came back as a trial ended; and the payload with which the last session began, or none.
 pub data EndsPlay (b : Board) : List BoardStep → List (List ℕ) → Option (List ℕ) → CoreSession → Board → Type 0 where
   -- No session has begun.
   no_one_yet : EndsPlay b [] [] None NoSession b
@@ -48,16 +51,21 @@ pub data EndsPlay (b : Board) : List BoardStep → List (List ℕ) → Option (L
   and_then : {steps more : List BoardStep} {past : List (List ℕ)} {last : Option (List ℕ)} {s s' : CoreSession} {now b' : Board}
       {answer : Answered} → EndsPlay b steps past last s now → EndsCome s now more answer s' b'
       → EndsPlay b (steps ++ more) past last s' b'
+  -- A trial ends, and this image is active then. The session learns nothing of it.
+  trial_is_over : {steps : List BoardStep} {past : List (List ℕ)} {last : Option (List ℕ)} {s : CoreSession} {now b' : Board}
+      {begins : Bool} (image : List ℕ) → EndsPlay b steps past last s now → MayEndIn s (state_on now) begins → TrialEnds now begins b'
+      → Active (medium_on b') image → EndsPlay b steps (image ∷ past) last s b'
 
 -- A board in C, and the session in C that is live.
 pub record CoreEnds : Type 0 where
   pub board : CoreBoard
   pub session : CoreSession
 
--- Such sessions, with a board in C: its steps are a run, and one by one those of such a board.
+-- Such sessions, with a board in C: its steps are runs, between marks and ends of trials, and one by one those of
+-- such a board.
 pub record CoreEndsPlay (b : CoreBoard) (steps : List CoreStep) (past : List (List ℕ)) (last : Option (List ℕ)) (l : CoreEnds)
     : Type 0 where
-  pub run : IsCoreRun b steps l.board
+  pub run : IsCoreMarkedRun b steps l.board
   pub first : Board
   pub is_first : IsBoardOf b first
   pub calls : List BoardStep
@@ -68,7 +76,7 @@ pub record CoreEndsPlay (b : CoreBoard) (steps : List CoreStep) (past : List (Li
 
 -- What comes next, in the same way.
 pub record CoreEndsCome (l : CoreEnds) (steps : List CoreStep) (answer : Answered) (l' : CoreEnds) : Type 0 where
-  pub run : IsCoreRun l.board steps l'.board
+  pub run : IsCoreMarkedRun l.board steps l'.board
   pub before : Board
   pub is_before : IsBoardOf l.board before
   pub calls : List BoardStep
@@ -102,7 +110,7 @@ EndsGive = (b : CoreBoard) (steps more : List CoreStep) (past : List (List ℕ))
     (answer : Answered) (bytes : List ℕ) → IsCoreOn b → CoreEndsPlay b steps past last l → CoreEndsCome l more answer l'
     → answer.gave ≡ Some bytes → Active (medium_of_core l'.board) bytes
 
--- The active image is the one that it was at first, or the whole of a payload offered so far.
+-- The active image is the one that it was at first, or the whole of a payload offered so far, or one that came back as a trial ended.
 abbrev pub EndsKnow : Type 0
 EndsKnow = (b : CoreBoard) (steps : List CoreStep) (past : List (List ℕ)) (last : Option (List ℕ)) (l : CoreEnds) (image : List ℕ)
     → IsCoreOn b → Active (medium_of_core b) image → CoreEndsPlay b steps past last l → CoreKnownIsActive image past l.board
@@ -114,7 +122,7 @@ EndsKnowWithin = (b mid : CoreBoard) (steps front rest : List CoreStep) (past : 
     → CoreEndsCome l (front ++ rest) answer l' → IsCoreRun l.board front mid → CoreKnownIsActive image past mid
 
 -- Sessions of both go on: they begin on a board that just got power; a payload is offered or an upload begins, if no session is live; the
--- live one is given up; or the next thing comes.
+-- live one is given up; or the next thing comes; or a mark of a trial is set; or a trial ends.
 pub record EndsGoOn : Type 0 where
   pub starts : (b : CoreBoard) → IsCoreOn b → CoreEndsPlay b [] [] None (record { board = b; session = NoSession })
   pub offers : (b : CoreBoard) (steps : List CoreStep) (past : List (List ℕ)) (last : Option (List ℕ)) (on : CoreBoard) (purpose : Purpose)
@@ -133,3 +141,10 @@ pub record EndsGoOn : Type 0 where
       → CoreEndsPlay b steps past last (record { board = on; session = InSession payload x' })
   pub goes_on : (b : CoreBoard) (steps more : List CoreStep) (past : List (List ℕ)) (last : Option (List ℕ)) (l l' : CoreEnds)
       (answer : Answered) → CoreEndsPlay b steps past last l → CoreEndsCome l more answer l' → CoreEndsPlay b (steps ++ more) past last l'
+  pub marks : (b b' on : CoreBoard) (steps : List CoreStep) (past : List (List ℕ)) (last : Option (List ℕ)) (s : CoreSession)
+      → CoreEndsPlay b steps past last (record { board = on; session = s }) → IsCoreMarked on b'
+      → CoreEndsPlay b steps past last (record { board = b'; session = s })
+  pub ends : (b b' on : CoreBoard) (steps : List CoreStep) (past : List (List ℕ)) (last : Option (List ℕ)) (s : CoreSession) (state : State)
+      (begins : Bool) (image : List ℕ) → CoreEndsPlay b steps past last (record { board = on; session = s }) → IsIn on state
+      → MayEndIn s state begins → CoreTrialEnds on begins b' → Active (medium_of_core b') image
+      → CoreEndsPlay b steps (image ∷ past) last (record { board = b'; session = s })

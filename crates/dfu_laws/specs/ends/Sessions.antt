@@ -1,15 +1,19 @@
 -- A session as a program in C runs it: what the calls of its record say and make of it.
-use Rattle.std.specs.Prelude.{◌≡◌, ◌≢◌, ◌⊎◌, ℕ, pos, List, take, drop, Option, Some, None}
+use Rattle.std.specs.Prelude.{◌≡◌, ◌≢◌, ◌⊎◌, ℕ, pos, Bool, List, take, drop, Option, Some, None}
 use Rattle.std.specs.Borrow.{Bor}
+use Rattle.dfu_wire.specs.declared.states.State.{State}
 use Rattle.dfu_device.specs.declared.answer.Answer.TheVariants as answer
 use Rattle.dfu_host.specs.declared.report.Report.{Report}
 use Rattle.dfu_host.specs.declared.report.Report.TheVariants.{Uploaded}
+use Rattle.dfu_host.specs.Phases.{Enter}
+use Rattle.dfu_host.specs.Host.{HostState}
 use Rattle.dfu_sim.specs.LinkView.{Session, Nobody, Hosted}
 use Rattle.dfu_sim.specs.Play.{Answered, silent}
 use Rattle.dfu_host_core.specs.declared.action.DfuAction.{DfuAction}
 use Rattle.dfu_host_core.specs.ReportNumbers.{report_at}
 use Rattle.dfu_host_core.specs.Calls.{IsNextAction}
 use Rattle.dfu_host_core.specs.Runs.{CoreHost, IsCoreHost, CoreTake, HostCalled}
+use Rattle.dfu_laws.specs.link.Trials.{MayEnd}
 use Rattle.dfu_laws.specs.board.Board.{Event, Elapse, Handle, Says, Answers}
 
 -- The session in C that is live: none, or a record with its buffer, over a payload of these bytes.
@@ -26,6 +30,10 @@ IsSessionOf s session = ⊥
 -- dfu_host_next returns 0 with this action, wherever the payload is in memory.
 abbrev pub Wants : (payload : List ℕ) → CoreHost → DfuAction → Type 0
 Wants payload x a = (slice : Bor (List ℕ)) × (slice.now ≡ payload) × IsNextAction x.kept slice a
+
+-- The session is in phase Enter: it resets the bus or waits, after a DETACH.
+abbrev pub IsEntering : (payload : List ℕ) → CoreHost → Type 0
+IsEntering payload x = (h : HostState) → IsCoreHost payload x h → h.phase ≡ Enter
 
 -- The bytes of the payload that an action sends.
 abbrev pub sent_body : (payload : List ℕ) → DfuAction → List ℕ
@@ -67,3 +75,8 @@ MayBeUnderWay s (Elapse ms) = Unit {0}
 MayBeUnderWay (InSession payload x) (Handle setup body) = (a : DfuAction) × Wants payload x a × (a.what ≡ 0) × (setup ≡ a.setup)
     × (body ≡ sent_body payload a)
 MayBeUnderWay s call = ⊥
+
+-- A trial may end as with the host that the session is.
+abbrev pub MayEndIn : CoreSession → State → (begins : Bool) → Type 0
+MayEndIn NoSession state begins = Unit {0}
+MayEndIn (InSession payload x) state begins = (h : HostState) → IsCoreHost payload x h → MayEnd (Hosted h) state begins

@@ -1,5 +1,6 @@
 -- Sessions over a link to a board in C, and what a host's report says of it.
-use Rattle.std.specs.Prelude.{◌≡◌, ◌⊎◌, ◌<◌, ℕ, List, [], ◌∷◌, ◌++◌, length, Option, Some, None}
+use Rattle.std.specs.Prelude.{◌≡◌, ◌⊎◌, ◌<◌, ℕ, Bool, List, [], ◌∷◌, ◌++◌, length, Option, Some, None}
+use Rattle.dfu_wire.specs.declared.states.State.{State}
 use Rattle.dfu_wire.specs.declared.states.State.TheVariants.{AppIdle}
 use Rattle.dfu_slots.specs.Image.{Active}
 use Rattle.dfu_host.specs.declared.limits.Limits.{Limits}
@@ -12,10 +13,12 @@ use Rattle.dfu_sim.specs.Play.{Answered}
 use Rattle.dfu_sim.specs.Session.{IsOneOf, SaysInPlace}
 use Rattle.dfu_laws.specs.board.Board.{Board, BoardStep}
 use Rattle.dfu_laws.specs.link.Comes.{BoardLink, BoardComes}
+use Rattle.dfu_laws.specs.link.Trials.{MayEnd}
 use Rattle.dfu_laws.specs.link.Plays.{Plays}
 use Rattle.dfu_core.specs.Config.{setting_of}
 use Rattle.dfu_core.specs.Board.{CoreBoard, medium_of_core, IsIn}
 use Rattle.dfu_laws.specs.in_c.Steps.{CoreStep, IsCoreRun, IsBoardOf, AreStepsOf}
+use Rattle.dfu_laws.specs.in_c.Marks.{IsCoreMarked, CoreTrialEnds, IsCoreMarkedRun, IsCoreRunBetweenMarks}
 use Rattle.dfu_core.specs.Happens.{IsCoreOn}
 
 -- A board in C, and the session that is live.
@@ -29,10 +32,10 @@ pub record IsLinkOf (l : CoreLink) (x : BoardLink) : Type 0 where
   pub session : x.session ≡ l.session
 
 -- Sessions with a board in C, one after the other, and all that comes to it meanwhile, with the payloads offered so far, and the one with
--- which the last session began, or none. The steps in C are a run, and one by one those of such sessions with a board: each call is one
--- of that board's, and its number and the bytes of its buffer say what the board says, which the host hears.
+-- which the last session began, or none. The steps in C are runs, between marks and ends of trials, and one by one those of such sessions
+-- with a board: each call is one of that board's, and its number and the bytes of its buffer say what the board says, which the host hears.
 pub record CorePlays (b : CoreBoard) (steps : List CoreStep) (past : List (List ℕ)) (last : Option (List ℕ)) (l : CoreLink) : Type 0 where
-  pub run : IsCoreRun b steps l.board
+  pub run : IsCoreMarkedRun b steps l.board
   pub first : Board
   pub is_first : IsBoardOf b first
   pub calls : List BoardStep
@@ -43,7 +46,7 @@ pub record CorePlays (b : CoreBoard) (steps : List CoreStep) (past : List (List 
 
 -- What comes next, with the steps in C, and what is reported then: in the same way it is what comes next to a board.
 pub record CoreComes (l : CoreLink) (steps : List CoreStep) (answer : Answered) (l' : CoreLink) : Type 0 where
-  pub run : IsCoreRun l.board steps l'.board
+  pub run : IsCoreMarkedRun l.board steps l'.board
   pub before : BoardLink
   pub is_before : IsLinkOf l before
   pub calls : List BoardStep
@@ -77,7 +80,7 @@ pub record CoreKnownIsActive (image : List ℕ) (past : List (List ℕ)) (b : Co
   pub active : Active (medium_of_core b) now
   pub known : (now ≡ image) ⊎ IsOneOf now past
 
--- The active image is the one that it was at first, or the whole of a payload offered so far.
+-- The active image is the one that it was at first, or the whole of a payload offered so far, or one that came back as a trial ended.
 abbrev pub CorePlaysKnow : Type 0
 CorePlaysKnow = (b : CoreBoard) (steps : List CoreStep) (past : List (List ℕ)) (last : Option (List ℕ)) (l : CoreLink) (image : List ℕ)
     → IsCoreOn b → Active (medium_of_core b) image → CorePlays b steps past last l → CoreKnownIsActive image past l.board
@@ -88,17 +91,17 @@ CorePlaysKnowWithin = (b mid : CoreBoard) (steps front rest : List CoreStep) (pa
     (l l' : CoreLink) (answer : Answered) (image : List ℕ) → IsCoreOn b → Active (medium_of_core b) image → CorePlays b steps past last l
     → CoreComes l (front ++ rest) answer l' → IsCoreRun l.board front mid → CoreKnownIsActive image past mid
 
--- All that comes to the board in C is a run of it, so what holds of runs holds.
+-- All that comes to the board in C are runs of it, between marks and ends of trials; without these one run. So what holds of runs holds.
 abbrev pub CorePlaysRun : Type 0
 CorePlaysRun = (b : CoreBoard) (steps : List CoreStep) (past : List (List ℕ)) (last : Option (List ℕ)) (l : CoreLink)
-    → CorePlays b steps past last l → IsCoreRun b steps l.board
+    → CorePlays b steps past last l → IsCoreRunBetweenMarks b steps l.board
 
 -- A session with this goal begins, by the functional descriptor of the configuration.
 abbrev pub core_opened : CoreBoard → Goal → Limits → CoreLink
 core_opened b goal limits = record { board = b; session = Hosted (started (setting_of b.config).functional goal limits) }
 
 -- So sessions go on as with a board. They begin on one that just got power. A payload is offered or an upload begins, if no session is
--- live; or the live one is given up; or the next thing comes.
+-- live; or the live one is given up; or the next thing comes; or a mark of a trial is set; or a trial ends.
 pub record CorePlaysGoOn : Type 0 where
   pub starts : (b : CoreBoard) → IsCoreOn b → CorePlays b [] [] None (record { board = b; session = Nobody })
   pub offers : (b : CoreBoard) (steps : List CoreStep) (past : List (List ℕ)) (last : Option (List ℕ)) (l : CoreLink) (purpose : Purpose)
@@ -112,3 +115,9 @@ pub record CorePlaysGoOn : Type 0 where
       → CorePlays b steps past last (record { board = l.board; session = Hosted (aborted h) })
   pub goes_on : (b : CoreBoard) (steps more : List CoreStep) (past : List (List ℕ)) (last : Option (List ℕ)) (l l' : CoreLink)
       (answer : Answered) → CorePlays b steps past last l → CoreComes l more answer l' → CorePlays b (steps ++ more) past last l'
+  pub marks : (b b' : CoreBoard) (steps : List CoreStep) (past : List (List ℕ)) (last : Option (List ℕ)) (l : CoreLink)
+      → CorePlays b steps past last l → IsCoreMarked l.board b' → CorePlays b steps past last (record l { board = b' })
+  pub ends : (b b' : CoreBoard) (steps : List CoreStep) (past : List (List ℕ)) (last : Option (List ℕ)) (l : CoreLink) (state : State)
+      (begins : Bool) (image : List ℕ) → CorePlays b steps past last l → IsIn l.board state → MayEnd l.session state begins
+      → CoreTrialEnds l.board begins b' → Active (medium_of_core b') image
+      → CorePlays b steps (image ∷ past) last (record l { board = b' })

@@ -1,5 +1,5 @@
 -- Sessions over a link to a board, and what a host's report says of the board.
-use Rattle.std.specs.Prelude.{◌≡◌, ◌⊎◌, ℕ, ◌<◌, List, [], ◌∷◌, ◌++◌, length, Option, Some, None}
+use Rattle.std.specs.Prelude.{◌≡◌, ◌⊎◌, ℕ, ◌<◌, Bool, List, [], ◌∷◌, ◌++◌, length, Option, Some, None}
 use Rattle.dfu_wire.specs.declared.states.State.TheVariants.{AppIdle}
 use Rattle.dfu_slots.specs.Image.{Active}
 use Rattle.dfu_host.specs.declared.limits.Limits.{Limits}
@@ -13,13 +13,15 @@ use Rattle.dfu_sim.specs.Session.{IsOneOf, SaysInPlace}
 use Rattle.dfu_laws.specs.board.Board.{Board, medium_on, state_on, BoardStep}
 use Rattle.dfu_laws.specs.board.Happens.{IsPoweredOn, IsRun}
 use Rattle.dfu_laws.specs.link.Comes.{BoardLink, BoardComes}
+use Rattle.dfu_laws.specs.link.Marks.{TrialEnds, IsRunBetweenMarks}
+use Rattle.dfu_laws.specs.link.Trials.{MayEnd}
 
 -- A session with this goal begins, by the descriptor of the board's device.
 abbrev pub opened_on : Board → Goal → Limits → BoardLink
 opened_on b goal limits = record { board = b; session = Hosted (started b.asking.config.functional goal limits) }
 
--- Sessions with a board, one after the other, and all that comes to it meanwhile: the steps of the board so far, the payloads offered so
--- far, and the one with which the last session began, or none.
+-- Sessions with a board, one after the other, and all that comes to it meanwhile: the steps of the board so far; the payloads offered so
+-- far, and the images that came back as a trial ended; and the payload with which the last session began, or none.
 pub data Plays (b : Board) : List BoardStep → List (List ℕ) → Option (List ℕ) → BoardLink → Type 0 where
   -- No session has begun.
   starts : Plays b [] [] None (record { board = b; session = Nobody })
@@ -37,6 +39,10 @@ pub data Plays (b : Board) : List BoardStep → List (List ℕ) → Option (List
   -- The next thing comes.
   goes_on : {steps more : List BoardStep} {past : List (List ℕ)} {last : Option (List ℕ)} {l l' : BoardLink} {answer : Answered}
       → Plays b steps past last l → BoardComes l more answer l' → Plays b (steps ++ more) past last l'
+  -- A trial ends, and this image is active then: the one that comes back, or that on trial as before. The host hears nothing.
+  ends : {steps : List BoardStep} {past : List (List ℕ)} {last : Option (List ℕ)} {l : BoardLink} {b' : Board} {begins : Bool}
+      (image : List ℕ) → Plays b steps past last l → MayEnd l.session (state_on l.board) begins → TrialEnds l.board begins b'
+      → Active (medium_on b') image → Plays b steps (image ∷ past) last (record { board = b'; session = l.session })
 
 -- The last session began with a payload. That is the active image of the board's flash, and the board is in appIDLE.
 pub record IsInPlace (last : Option (List ℕ)) (b : Board) : Type 0 where
@@ -63,7 +69,7 @@ pub record KnownIsActive (image : List ℕ) (past : List (List ℕ)) (b : Board)
   pub active : Active (medium_on b) now
   pub known : (now ≡ image) ⊎ IsOneOf now past
 
--- The active image is the one that it was at first, or the whole of a payload offered so far.
+-- The active image is the one that it was at first, or the whole of a payload offered so far, or one that came back as a trial ended.
 abbrev pub PlaysKnow : Type 0
 PlaysKnow = (b : Board) (steps : List BoardStep) (past : List (List ℕ)) (last : Option (List ℕ)) (l : BoardLink) (image : List ℕ)
     → IsPoweredOn b → 0 < b.asking.config.functional.transfer → Active (medium_on b) image → Plays b steps past last l
@@ -75,7 +81,7 @@ PlaysKnowWithin = (b mid : Board) (steps front rest : List BoardStep) (past : Li
     (answer : Answered) (image : List ℕ) → IsPoweredOn b → 0 < b.asking.config.functional.transfer → Active (medium_on b) image
     → Plays b steps past last l → BoardComes l (front ++ rest) answer l' → IsRun l.board front mid → KnownIsActive image past mid
 
--- All that comes to the board is a run of it, so what holds of runs holds.
+-- All that comes to the board are runs of it, between marks and ends of trials; without these one run. So what holds of runs holds.
 abbrev pub PlaysRun : Type 0
 PlaysRun = (b : Board) (steps : List BoardStep) (past : List (List ℕ)) (last : Option (List ℕ)) (l : BoardLink)
-    → Plays b steps past last l → IsRun b steps l.board
+    → Plays b steps past last l → IsRunBetweenMarks b steps l.board

@@ -5,6 +5,7 @@ use Rattle.dfu_laws.proofs.laws.boards_install.Goals as goal
 pub returns-clause-in_place : goal.returns-clause-in_place
 returns-clause-in_place c =
     plays_install c.boards_are_devices.ensures.idle c.simulation.ensures c.only_offered.ensures c.active_image_is_one.ensures.shown
+    c.active_image_is_one.ensures.only
 
 pub returns-clause-known : goal.returns-clause-known
 returns-clause-known c =
@@ -19,6 +20,7 @@ returns-clause-known_within c =
 pub returns-clause-gives : goal.returns-clause-gives
 returns-clause-gives c =
     plays_give c.boards_are_devices.ensures.idle c.simulation.ensures c.only_offered.ensures c.active_image_is_one.ensures.shown
+    c.active_image_is_one.ensures.only
 
 pub returns-clause-run : goal.returns-clause-run
 returns-clause-run c = plays_run

@@ -1,0 +1,109 @@
+-- What the end of a trial leaves of a board and of what holds of the live session.
+use Rattle.std.specs.Prelude.{◌≡◌, ◌⊎◌, ℕ, ◌-◌, ◌*◌, ◌/◌, Bool, true, List, ◌∷◌, length}
+use Rattle.std.proofs.Common.{inl, inr, refl, sym, ap, ◌∙◌, subst}
+use Rattle.dfu_wire.specs.declared.states.State.TheVariants.{DfuIdle}
+use Rattle.dfu_slots.specs.Units.{gate_room}
+use Rattle.dfu_slots.specs.Seen.{SlotsState, room_of}
+use Rattle.dfu_device.specs.Stage.{Profile, Stage, InDfuIdle, state_of}
+use Rattle.dfu_device.specs.Outcome.{Situation}
+use Rattle.dfu_device.specs.DeviceView.{DeviceView, profile, profile_of, situation}
+use Rattle.dfu_asks.specs.Asks.{store_in}
+use Rattle.dfu_host.specs.Blocks.{first}
+use Rattle.dfu_host.specs.Phases.{Goal, ToLoad, ToFetch, ToVerify, ToCompare, Task, Phase, Enter, Block, Close, Fetch, Compare}
+use Rattle.dfu_host.specs.Table.{deed}
+use Rattle.dfu_sim.specs.Session.{Live, NoOne, Loading, Fetching, IsOneOf}
+use Rattle.dfu_sim.specs.LinkView.{Session, Nobody, Hosted}
+use Rattle.dfu_sim.specs.Agreement.{IsLiveOffer}
+use Rattle.dfu_sim.specs.Fact.{AtBlock, AllTaken, Fetches, Fact, FetchFact, CompareFact, GoalFact, SessionFact}
+use Rattle.dfu_sim.proofs.CommonFacts.{goal_anywhere}
+use Rattle.dfu_laws.specs.board.Board.{Board, lent_on, device_on, state_on}
+use Rattle.dfu_laws.specs.board.Happens.{start_stage, BoardStarts}
+use Rattle.dfu_laws.specs.link.Marks.{TrialEnds}
+use Rattle.dfu_laws.specs.link.Trials.{IsTransfer, MayEnd}
+
+-- The board.
+
+-- Media of the same size and grain have the same room for an image.
+same_room : (s s' : SlotsState) → length s'.medium.bytes ≡ length s.medium.bytes → s'.medium.grain ≡ s.medium.grain
+    → room_of s' ≡ room_of s
+unfolding room_of
+same_room s s' size grain = λ i. size i / 2 - 2 * gate_room (grain i)
+
+-- The device goes by the same profile.
+pub ends_profile : (b b' : Board) (begins : Bool) → TrialEnds b begins b' → profile (device_on b') ≡ profile (device_on b)
+ends_profile b b' begins end = λ i. profile_of (end.same.config i)
+    (same_room (store_in (lent_on b) b.flash) (store_in (lent_on b') b'.flash) end.torn.0.size end.torn.1 i)
+
+-- A board that begins for a host is in dfuIDLE.
+pub begins_idle : (b' : Board) (begins : Bool) → BoardStarts begins b' → begins ≡ true → (device_on b').stage ≡ InDfuIdle
+begins_idle b' begins (on, is) e = ap (λ (d : DeviceView). d.stage) on.device ∙ ap start_stage (is ∙ e)
+
+-- Only one stage is dfuIDLE.
+pub idle_stage : (stage : Stage) → state_of stage ≡ DfuIdle → stage ≡ InDfuIdle
+idle_stage InDfuIdle e = refl
+idle_stage stage e = absurd (cc)
+
+-- The host.
+
+pub more_offered : (image : List ℕ) (past : List (List ℕ)) (live : Live) → IsLiveOffer past live → IsLiveOffer (image ∷ past) live
+more_offered image past NoOne o = tt
+more_offered image past (Loading payload) o = inr o
+more_offered image past Fetching o = tt
+
+module _ (c : Profile) (s s' : Situation) (before : s.stage ≡ InDfuIdle) (after : s'.stage ≡ InDfuIdle) where
+  stage_is : s.stage ≡ s'.stage
+  stage_is = before ∙ sym after
+
+  -- In dfuIDLE nothing was fetched yet, of whichever image.
+  fetches_idle : (k : ℕ) (kept : List ℕ) → Fetches k kept s.image s.stage → Fetches k kept s'.image s'.stage
+  fetches_idle k kept f =
+      let none : Fetches k kept s'.image InDfuIdle = subst (λ (x : Stage). Fetches k kept s.image x) before f in
+      subst (λ (x : Stage). Fetches k kept s'.image x) (sym after) none
+
+  load_transfer : (p : List ℕ) (task : Task) (phase : Phase) → IsTransfer (deed task phase) → Fact c p phase s → Fact c p phase s'
+  load_transfer p task (Block n) t f = (f.0, subst (λ (x : Stage). AtBlock p c.transfer n x) stage_is f.1)
+  load_transfer p task Close t f = subst (λ (x : Stage). AllTaken p x) stage_is f
+  load_transfer p task (Fetch k kept) t f = f
+  load_transfer p task (Compare k) t f = f
+  load_transfer p task Enter t f = f
+  load_transfer p task phase t f = absurd t
+
+  fetch_transfer : (task : Task) (phase : Phase) → IsTransfer (deed task phase) → FetchFact phase s → FetchFact phase s'
+  fetch_transfer task (Fetch k kept) t f = (f.0, fetches_idle k kept f.1)
+  fetch_transfer task (Block n) t f = f
+  fetch_transfer task Close t f = f
+  fetch_transfer task (Compare k) t f = f
+  fetch_transfer task Enter t f = f
+  fetch_transfer task phase t f = absurd t
+
+  compare_transfer : (p : List ℕ) (task : Task) (phase : Phase) → IsTransfer (deed task phase) → CompareFact c p phase s
+      → CompareFact c p phase s'
+  compare_transfer p task (Compare k) t f = (f.0, fetches_idle k (first p c.transfer k) f.1)
+  compare_transfer p task (Block n) t f = f
+  compare_transfer p task Close t f = f
+  compare_transfer p task (Fetch k kept) t f = f
+  compare_transfer p task Enter t f = f
+  compare_transfer p task phase t f = absurd t
+
+  -- Before a transfer begins in dfuIDLE, what holds of a session holds of any image.
+  transfer_fact : (g : Goal) (task : Task) (phase : Phase) → IsTransfer (deed task phase) → GoalFact c g phase s → GoalFact c g phase s'
+  transfer_fact (ToLoad p) task phase t f = load_transfer p task phase t f
+  transfer_fact ToFetch task phase t f = fetch_transfer task phase t f
+  transfer_fact (ToVerify p) task phase t f = load_transfer p task phase t f
+  transfer_fact (ToCompare p) task phase t f = compare_transfer p task phase t f
+
+-- What holds of the live session holds after the end of a trial.
+pub ending_fact : (c : Profile) (session : Session) (b b' : Board) (begins : Bool) (d : DeviceView) → state_on b ≡ state_of d.stage
+    → MayEnd session (state_on b) begins → BoardStarts begins b' → SessionFact c (situation d) session
+    → SessionFact c (situation (device_on b')) session
+ending_fact c Nobody b b' begins d state may starts f = tt
+ending_fact c (Hosted h) b b' begins d state may starts f = record {
+  task_is = f.task_is;
+  on = f.on;
+  some = f.some;
+  fact = elim may [
+    | inl common ↦ goal_anywhere c h.task.goal (situation (device_on b')) h.phase common
+    | inr transfer ↦ transfer_fact c (situation d) (situation (device_on b')) (idle_stage d.stage (sym state ∙ transfer.1))
+        (begins_idle b' begins starts transfer.2) h.task.goal h.task h.phase transfer.0 f.fact
+  ];
+}

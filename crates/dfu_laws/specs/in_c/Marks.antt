@@ -1,0 +1,54 @@
+-- What a trial changes on the flash of a board in C, and steps with such changes between them.
+use Rattle.std.specs.Prelude.{◌≡◌, ℕ, pos, Bool, List, [], ◌∷◌}
+use Rattle.dfu_boot.specs.trial.Unread.{IsUnread}
+use Rattle.dfu_boot.specs.trial.Calls.{IsStanding}
+use Rattle.dfu_boot.specs.trial.Laws.{Carried}
+use Rattle.dfu_boot.specs.declared.trial.operation.Operation.TheVariants.{Close}
+use Rattle.dfu_boot.specs.declared.trial.standing.Trial.{Trial}
+use Rattle.dfu_boot.specs.declared.trial.standing.Standing.TheVariants.{OnTrial}
+use Rattle.dfu_core.specs.Power.{Powers}
+use Rattle.dfu_core.specs.Board.{CoreBoard, medium_of_core}
+use Rattle.dfu_core.specs.Happens.{start_mode, CoreHappens}
+use Rattle.dfu_laws.specs.in_c.Steps.{CoreStep, IsCoreRun}
+
+-- While no operation of the device is due, bytes of the flash changed that the slot store does not read: as by the operation that
+-- dfu_core_trial_start or dfu_core_trial_confirm asks for, whatever became of it, if it sets a mark. All else is as it was.
+pub record IsCoreMarked (b b' : CoreBoard) : Type 0 where
+  pub idle : b.kept.work ≡ 0
+  pub unread : IsUnread (medium_of_core b) (medium_of_core b')
+  pub config : b'.config ≡ b.config
+  pub kept : b'.kept ≡ b.kept
+  pub block : b'.block ≡ b.block
+
+-- While no operation of the device is due, the trial ends: the sector of the gate of the image on trial may have any bytes then, since the
+-- erase that was asked for works, is torn, lies or fails. Then dfu_core_power_on returns 0, or dfu_core_begin if it begins for a host.
+pub record CoreTrialEnds (b : CoreBoard) (begins : Bool) (b' : CoreBoard) : Type 0 where
+  pub idle : b.kept.work ≡ 0
+  pub tries : ℕ
+  pub trial : Trial
+  pub stands : IsStanding (medium_of_core b) tries (OnTrial trial)
+  pub torn : Carried (medium_of_core b) (Close trial.slot) (medium_of_core b')
+  pub config : b'.config ≡ b.config
+  pub powers : Powers b'.config (start_mode begins) b'.flash (pos 0) b'.kept
+
+-- Marks were set on a board in C, or a trial ended, one after the other, or nothing came.
+pub data AreCoreMarked (b : CoreBoard) : CoreBoard → Type 0 where
+  no_mark : AreCoreMarked b b
+  one_mark : {mid b' : CoreBoard} → AreCoreMarked b mid → IsCoreMarked mid b' → AreCoreMarked b b'
+  one_trial : {mid b' : CoreBoard} {begins : Bool} → AreCoreMarked b mid → CoreTrialEnds mid begins b' → AreCoreMarked b b'
+
+-- These steps come to a board in C, and before, between and after them marks may be set and trials may end.
+abbrev pub IsCoreMarkedRun : CoreBoard → List CoreStep → CoreBoard → Type 0
+IsCoreMarkedRun b [] b' = AreCoreMarked b b'
+IsCoreMarkedRun b (s ∷ rest) b' = AreCoreMarked b s.before × CoreHappens s.before s.event s.number s.out s.after
+    × IsCoreMarkedRun s.after rest b'
+
+-- Each step begins where the one before ended, so nothing came between them.
+abbrev pub AreCoreJoined : CoreBoard → List CoreStep → CoreBoard → Type 0
+AreCoreJoined b [] b' = b' ≡ b
+AreCoreJoined b (s ∷ rest) b' = (s.before ≡ b) × AreCoreJoined s.after rest b'
+
+-- So these steps are runs, between marks and ends of trials; and if they are joined, one run.
+pub record IsCoreRunBetweenMarks (b : CoreBoard) (steps : List CoreStep) (b' : CoreBoard) : Type 0 where
+  pub marked : IsCoreMarkedRun b steps b'
+  pub joined : AreCoreJoined b steps b' → IsCoreRun b steps b'
