@@ -226,7 +226,7 @@ compare: everything
 
 # The script reads these from its environment, so that a path may have any sign.
 places = PREFIX BINDIR LIBDIR INCLUDEDIR DATADIR MANDIR DOCDIR PKGCONFIGDIR CMAKEDIR UDEVDIR DESTDIR BUILD
-version = $(shell sed -n 's/^$(hash)define DFU_VERSION_TEXT "\(.*\)"/\1/p' include/dfu_core.h)
+version = $(shell sed -n 's/^$(hash)define DFU_VERSION_TEXT "\(.*\)"/\1/p' include/dfu_device.h)
 install: everything
 export $(places)
 install uninstall:

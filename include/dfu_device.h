@@ -1,116 +1,198 @@
 /* SPDX-License-Identifier: MIT OR Apache-2.0 */
 /**
  * @file dfu_device.h
- * @brief A device of USB device firmware upgrade (USB DFU 1.1), as a bootloader runs it.
+ * @brief Runs the device of USB device firmware upgrade (USB DFU 1.1) in a bootloader; the code is dfu_device.c.
  *
- * The flash is mapped into memory for reading, and written by a driver of two functions. It has two slots, each for one image. A download
- * goes to the spare slot, and becomes active in one step at its end. So whenever power is lost, the old image or the whole new one is
- * active.
- *
- *     static uint8_t block[DFU_BLOCK_SIZE(1024, 16)], data[1024];   // wTransferSize 1,024, unit 16. They must not overlap
+ *     static uint8_t block[DFU_BLOCK_SIZE(1024, 16)], data[1024];   // transfer 1,024 and unit 16, of the configuration
  *     static struct dfu_device dfu = {.config = &config, .flash = flash, .size = size, .block = block, .most = sizeof block,
- *                                     .driver = &driver};
- *
- *     power:                dfu_device_power_on_or_format(&dfu, image, length): a part that was never written gets its first image.
- *                           DFU_NO_MEDIUM: a damaged board, which stays as it is (see below)
- *     then, to upgrade:     dfu_device_begin(&dfu) begins in dfuIDLE, as for a button or a flag
- *     a request of this class (bmRequestType 21h or A1h; other requests are the program's own):
- *                           if the host sends, receive the whole data stage into data
- *                           n = dfu_device_serve(&dfu, setup, data, data, sizeof data)
- *                           n >= 0: answer with n bytes of data, or acknowledge if the host sent. Else stall endpoint 0
- *     its answer is out:    dfu_device_work(&dfu)
- *     the bus is reset:     dfu_device_reset(&dfu), for the reset that counts: see below
- *     time, in appDETACH alone:  dfu_device_elapse(&dfu, milliseconds). If that leads to dfuIDLE (bitWillDetach), leave the bus and
- *                           come back, and report no reset for it
- *     then:                 dfu_device_state(&dfu): in appIDLE start the image at dfu_device_image; in appDETACH it is still running;
- *                           in any other state the upgrade is. An image that is a program of its own answers by dfu_runtime.h
- *
- * A program that can't wait for its flash has no driver. It calls dfu_device_handle and dfu_device_answered in place of serve and work:
- *
- *     while (n == DFU_ASKS && dfu_device_next(&dfu, &ask) == 0) {
- *         do what ask says; failed = not 0 if the flash could not;
- *         n = dfu_device_took(&dfu, failed, out, sizeof out);
+ *                                     .driver = &driver};           // driver: your two functions, which erase and program
+ *     void bootloader(void) {
+ *         struct dfu_place place;
+ *         int32_t n = dfu_device_power_on_or_format(&dfu, image, length);                  // the first image of a new board
+ *         if (n == 0 && upgrade_is_wanted()) n = dfu_device_begin(&dfu);                   // a button or a flag: dfuIDLE
+ *         while (n == 0 && dfu_device_state(&dfu) != DFU_STATE_APP_IDLE) switch (next_event()) {
+ *         case REQUEST:          n = dfu_device_serve(&dfu, setup, data, data, sizeof data); // setup[0] is 21h or A1h
+ *                                n >= 0 ? answer(data, n) : stall(); n = 0; break;
+ *         case ANSWER_IS_OUT:    dfu_device_work(&dfu); break;                             // writes the flash
+ *         case BUS_RESET:        dfu_device_reset(&dfu); break;                            // the reset that counts, below
+ *         }
+ *         if (dfu_device_image(&dfu, &place) == 0 && place.length != 0) start(flash + place.at);
  *     }
  *
- * Then n is the answer of the call that asked. Meanwhile the host gets NAK, and every other call is refused with DFU_ASKED.
- *
- * Rules of the loop:
- * - THE WORK, dfu_device_work, writes the block or puts the image in place. Call it right after each answer is out. It does all at once,
- *   and reads no clock; a host that asks meanwhile gets NAK. dfu_device_serve and dfu_device_reset do it first too, since a host may be
- *   early, and a stack may not say that an answer is out. If it was left out, dfu_device_handle takes the next request as an error, and a
- *   reset ends the upgrade; either drops what was taken.
- * - Report passing milliseconds only in appDETACH. The times of dfuDNBUSY and dfuMANIFEST pass within the work.
- * - The reset that counts is the first reset of the bus, or unplugging, after a SET_CONFIGURATION with a value other than 0. Hosts reset a
- *   device twice while they enumerate it, and a second reset would lead from dfuIDLE to appIDLE. In the first enumeration of a device that
- *   began in dfuIDLE no reset counts.
- * - What a block takes is sent as bwPollTimeout, after which the host asks again: busy_ms, and erase_ms for each sector that this block
- *   erases, and program_ms for each 256 bytes that it programs. manifest_ms with erase_ms and program_ms is the same for an image. So set
- *   erase_ms and program_ms to what the part takes, and busy_ms to 1. With busy_ms or manifest_ms of 0 all is written before the GETSTATUS
- *   is answered, and no time is sent. For fwupd manifest_ms should be 0 if the device is tolerant. With erase_ms and program_ms of 0 the
- *   host waits busy_ms after every block, also after one that erases nothing (docs/PORTING.md, "How long a host waits").
- * - If the stack acknowledges a data stage while it receives it, as Linux's FunctionFS does, ask before it comes: call dfu_device_work,
- *   then dfu_device_would_stall. If that says 1, call dfu_device_handle with any body of that length, and stall the setup. If it says 0,
- *   receive the data stage.
- *
- * What the program has to keep to, always:
- * - Only driver may be NULL; every other pointer points to as many bytes as its length or its type says, even if the length is 0. Nothing
- *   may begin at address 0, and no two may overlap, except that body and out may be the same memory: if the host sends, out isn't
- *   written, and else body isn't read.
- * - One call at a time for a device, and DFU_STACK bytes of stack. Two devices share nothing, so a call for one may interrupt a call for
- *   the other. An interrupt that may come within a call must not make one for the same device.
- * So that a device goes on from where it was:
- * - The configuration stays the same, and record, block and flash are as the last call left them. After each loss of power a record begins
- *   with power_on or begin.
- * - An operation changes no byte outside its range, not even one that a loss of power breaks off; inside it may leave any bytes.
- * - Flash reads the same each time until the next operation, also where one was broken off. Invalidate caches after each one.
- *   docs/PORTING.md says what is known of flash with ECC whose torn words don't read so.
- * - Nothing but the operations that are asked for changes the flash.
- *
- * What to do on a refusal. Stall the request, or after a refused dfu_device_work the next one, and:
- * - DFU_NO_CONFIG, DFU_NO_BLOCK, DFU_NO_ROOM, DFU_WRONG_SIZE, DFU_TOO_LARGE: a mistake of the program, which has to be mended.
- * - DFU_NO_MEDIUM of power_on, begin or image: there is no image, or a byte was misread, or another sector or size wrote the slots. Look
- *   again. A format gives up both slots, so make one only on a part that was never written (dfu_device_is_blank, twice), or because
- *   somebody asks for it, by a jumper or a command. dfu_device_power_on_or_format does so. FRAM and other memory that comes with any bytes
- *   is never known to be new: there the factory puts the first image in place.
- * - DFU_NO_MEDIUM or DFU_NO_DEVICE elsewhere: flash, block or record changed. Call dfu_device_power_on or
- *   dfu_device_begin again; the host begins again.
- * - DFU_ASKED: operations are due. Carry them out (dfu_device_settle with DFU_ASKS), then make the call again.
- * - DFU_NOT_WRITTEN: format again; if that goes on, the part or its driver is broken.
- * - DFU_NOT_LONG, DFU_NO_CLOSE: call dfu_device_handle with this request.
- * - DFU_NO_STATUS: a mistake of the program. DFU_NO_CANDIDATE: there is nothing to check.
- *
- * A check of images, for a program that takes only its maker's. After the work, and before dfu_device_handle or serve, ask
- * dfu_device_closes of each setup. If it says 1, check the bytes that dfu_device_candidate names; the last of them may be in the block's
- * memory. If they fail, call dfu_device_refuse_close, else hand the setup in. If either call is refused, stall the setup: it must not be
- * handed in unchecked. A program that never asks takes every image. Such a check is no secure boot, since who can write the flash can
- * write an image: check it again before it is started.
- *
- * Images are read by power_on, begin, image and format_start, at the start and the end of the work that puts one in place, and by the
- * first operation of a download. No other call checks a whole image; an UPLOAD reads the bytes that it sends, unchecked. So if an image's
- * bytes fade while the device runs, and its header doesn't, the next power-on finds it.
- *
- * What is proved: each call dfu_core_* returns, and touches only its memory. If the program keeps to the above, it answers as dfu_core.h
- * says, and over lists of these calls, with losses of power and writes that fail or are torn, an image stays active. It is proved of the
- * source in Rattle, from which dfu_device.c was translated; nothing proves compiler and translator. The inline calls dfu_device_* are
- * only tested, and the driver is yours.
- *
- * Memory: sizeof(struct dfu_device), 96 bytes with pointers of 32 bits, and the two buffers: in all, with a unit of 16, 240 bytes for
- * blocks of 64, 2,160 for 1,024, and 8,304 for 4,096.
+ * The flash is mapped for reading. It has two slots, each for one image: a download goes to the spare slot, and becomes active in one step
+ * at its end, so that whenever power is lost the old image or the whole new one is active. The calls below stand in the order in which a
+ * program meets them. RULES, at the end of this file, says what the program must keep to, and what to do on each refusal.
  */
 #ifndef DFU_DEVICE_H
 #define DFU_DEVICE_H
 
-#include "dfu_core.h"
+#include <stddef.h>
+#include <stdint.h>
+
+#if defined(__BYTE_ORDER__) && defined(__ORDER_LITTLE_ENDIAN__) && __BYTE_ORDER__ != __ORDER_LITTLE_ENDIAN__
+#error "dfu_device is for processors that store the low byte of a number first"
+#endif
+#if UINTPTR_MAX > 0xffffffffffffffffu
+#error "dfu_device is for pointers of at most 64 bits"
+#endif
+
+/* The version: 10,000 for each major one, 100 for each minor one, and 1 for each patch. */
+#ifndef DFU_VERSION
+#define DFU_VERSION 300
+#define DFU_VERSION_TEXT "0.3.0"
+#endif
+
+/* A cast that C++ takes too. */
+#ifdef __cplusplus
+#define DFU_TO(type, value) static_cast<type>(value)
+extern "C" {
+#else
+#define DFU_TO(type, value) ((type)(value))
+#endif
+
+/** @brief Requests, bRequest (USB DFU 1.1, section 3). */
+enum dfu_request {
+    DFU_DETACH = 0,
+    DFU_DNLOAD = 1,
+    DFU_UPLOAD = 2,
+    DFU_GETSTATUS = 3,
+    DFU_CLRSTATUS = 4,
+    DFU_GETSTATE = 5,
+    DFU_ABORT = 6
+};
+
+/** @brief States, bState (section 6.1.2). */
+enum dfu_state {
+    DFU_STATE_APP_IDLE = 0,
+    DFU_STATE_APP_DETACH = 1,
+    DFU_STATE_IDLE = 2,
+    DFU_STATE_DNLOAD_SYNC = 3,
+    DFU_STATE_DNBUSY = 4,
+    DFU_STATE_DNLOAD_IDLE = 5,
+    DFU_STATE_MANIFEST_SYNC = 6,
+    DFU_STATE_MANIFEST = 7,
+    DFU_STATE_MANIFEST_WAIT_RESET = 8,
+    DFU_STATE_UPLOAD_IDLE = 9,
+    DFU_STATE_ERROR = 10
+};
+
+/** @brief Status codes, bStatus (section 6.1.2). */
+enum dfu_status {
+    DFU_STATUS_OK = 0,
+    DFU_STATUS_ERR_TARGET = 1,
+    DFU_STATUS_ERR_FILE = 2,
+    DFU_STATUS_ERR_WRITE = 3,
+    DFU_STATUS_ERR_ERASE = 4,
+    DFU_STATUS_ERR_CHECK_ERASED = 5,
+    DFU_STATUS_ERR_PROG = 6,
+    DFU_STATUS_ERR_VERIFY = 7,
+    DFU_STATUS_ERR_ADDRESS = 8,
+    DFU_STATUS_ERR_NOTDONE = 9,
+    DFU_STATUS_ERR_FIRMWARE = 10,
+    DFU_STATUS_ERR_VENDOR = 11,
+    DFU_STATUS_ERR_USBR = 12,
+    DFU_STATUS_ERR_POR = 13,
+    DFU_STATUS_ERR_UNKNOWN = 14,
+    DFU_STATUS_ERR_STALLED_PKT = 15
+};
+
+/** @brief Bits of bmAttributes of the functional descriptor (section 4.1.3). */
+enum dfu_attribute {
+    DFU_CAN_DNLOAD = 1,
+    DFU_CAN_UPLOAD = 2,
+    DFU_MANIFESTATION_TOLERANT = 4,
+    DFU_WILL_DETACH = 8
+};
+
+/** @brief Negative results. DFU_STALL and DFU_ASKS are answers; all others are refusals, which change nothing. */
+enum dfu_result {
+    DFU_STALL = -1,       /**< stall the request; the device may be in another state now */
+    DFU_NO_CONFIG = -2,   /**< the configuration has another version, or a number that is out of its range */
+    DFU_NO_MEDIUM = -3,   /**< the flash has no active image, or another than the record says, or 2^32 bytes or more */
+    DFU_NO_DEVICE = -4,   /**< the record does not belong to this flash and block, or another version wrote it */
+    DFU_NO_ROOM = -5,     /**< out has less room than an answer may need: 6 bytes, or the transfer size if that is more */
+    DFU_WRONG_SIZE = -6,  /**< the flash can't be divided into two slots: take DFU_MEDIUM_SIZE bytes */
+    DFU_TOO_LARGE = -7,   /**< the image is longer than a slot's data */
+    DFU_NOT_WRITTEN = -8, /**< an operation of a format failed, or other bytes were read back */
+    DFU_NOT_LONG = -9,    /**< the data stage of this setup is no longer than a block may be */
+    DFU_NO_BLOCK = -10,   /**< the block's memory has fewer bytes than the transfer size and the unit together */
+    DFU_ASKS = -11,       /**< operations of the flash are due: call next, carry it out, call took, until that answers otherwise */
+    DFU_ASKED = -12,      /**< operations are due, and have to be carried out first */
+    DFU_NO_CLOSE = -13,   /**< this setup doesn't close a download */
+    DFU_NO_STATUS = -14,  /**< the status is neither DFU_STATUS_ERR_TARGET nor DFU_STATUS_ERR_FILE */
+    DFU_NO_CANDIDATE = -20 /**< no image was taken that may be refused */
+};
+
+/** @brief Kinds of operations of the flash. */
+enum dfu_operation {
+    DFU_ERASE = 1,  /**< erase the sector at `at`, of `length` bytes, to FFh; `bytes` isn't used */
+    DFU_PROGRAM = 2 /**< program the first `length` bytes of `bytes` at `at`; if there are sectors, FFh is there now */
+};
+
+/** @brief Settings of a device. The program fills them in, the same for every call. */
+struct dfu_config {
+    uint32_t version;         /**< DFU_VERSION: an archive of another version refuses it */
+    uint16_t device;          /**< bcdDevice: this and the next two are for the program's descriptors; no call looks at them */
+    uint16_t product;         /**< idProduct */
+    uint16_t vendor;          /**< idVendor */
+    uint16_t detach_ms;       /**< wDetachTimeOut, milliseconds */
+    uint16_t transfer;        /**< wTransferSize, bytes: 1 to 4,096 */
+    uint8_t attributes;       /**< bmAttributes: enum dfu_attribute; bits 4 to 7 are ignored */
+    uint8_t interface_number; /**< bInterfaceNumber: a setup whose wIndex is another number is stalled */
+    uint32_t busy_ms;         /**< ms for each block, sent as bwPollTimeout, after which the host asks again: 0 to 16,777,215. At 0 a
+                                   block is written before its status is answered, and no time is said */
+    uint32_t manifest_ms;     /**< the same to put an image in place: 0 to 16,777,215 ms, at least 1 if not tolerant */
+    uint32_t least;           /**< the fewest bytes of an image, 1 to 16,777,216; with more than a slot holds, no download can succeed */
+    uint32_t unit;            /**< programs are whole multiples of it: 1, 16, 64 or 256 */
+    uint32_t sector;          /**< bytes erased at a time: a multiple of 256 up to 131,072; 0: the flash is written over in place */
+    uint16_t erase_ms;        /**< ms to erase a sector: added to busy_ms and manifest_ms for each erase due for this block or image */
+    uint16_t program_ms;      /**< ms to program 256 bytes: added in proportion to the bytes that are programmed */
+};
+
+/** @brief Memory of a device between two calls, private to the library. C must know the size of what a program holds by value, so the
+ *         fields stand here; but they carry no promise, and dfu_core.h alone says what each is. A program writes none, and reads
+ *         held_length alone, for the bytes of a candidate. */
+struct dfu_record {
+    uint32_t version;
+    uint32_t mode;
+    uint32_t first;
+    uint32_t second;
+    uint32_t put_end;
+    uint32_t slot;
+    uint16_t number;
+    uint16_t length;
+    uint8_t header[16];
+    uint32_t work;
+    uint32_t spare;
+    uint32_t sum;
+    uint32_t done;
+    uint32_t asked;
+    uint8_t generation;
+    uint8_t close;
+    uint16_t held_length;
+};
+
+/** @brief Operation of the flash that is due. */
+struct dfu_ask {
+    uint32_t kind;      /**< DFU_ERASE or DFU_PROGRAM */
+    uint32_t at;        /**< where: flash[at] is its first byte */
+    uint32_t length;    /**< DFU_ERASE: the size of a sector; DFU_PROGRAM: 1 to 256, whole units, also across pages of the part */
+    uint8_t bytes[256]; /**< DFU_PROGRAM: the bytes to program */
+};
+
+/** @brief Place of an image: its first byte is flash[at]. */
+struct dfu_place {
+    uint32_t at;     /**< offset in the flash, bytes */
+    uint32_t length; /**< bytes; 0: there is no application */
+};
+
+#include "dfu_core.h" /* the proved calls below the inline ones; private */
 
 #if defined(__clang__) && defined(__has_warning)
 #pragma clang diagnostic push
 #if __has_warning("-Wunsafe-buffer-usage")
 #pragma clang diagnostic ignored "-Wunsafe-buffer-usage"
 #endif
-#endif
-
-#ifdef __cplusplus
-extern "C" {
 #endif
 
 /** @brief Bytes of stack below a call: the most that was measured without optimisation, rounded up. With optimisation 1,500 were enough. */
@@ -144,12 +226,14 @@ extern "C" {
 /** @brief The most programs that do: the last unit, the header, the gate. */
 #define DFU_COMMIT_PROGRAMS 3
 
-/** @brief What writes the flash. Each function returns 0 if it is done, else any number. A program is whole units, at a multiple of the
+/** @brief Driver of the flash. Each function returns 0 if it is done, else any number. A program is whole units, at a multiple of the
  *  unit, and if there are sectors FFh is there before. It may cross pages of the part: if the part wraps around there, split it. */
 struct dfu_driver {
     void *own;                                                                            /**< handed to both functions */
-    int (*erase)(void *own, uint32_t at, uint32_t length);                                /**< the sector at flash[at], to FFh */
-    int (*program)(void *own, uint32_t at, const uint8_t *bytes, uint32_t length);        /**< 1 to 256 bytes at flash[at]; they begin at a multiple of 4 */
+    /** erases the sector at flash[at] to FFh */
+    int (*erase)(void *own, uint32_t at, uint32_t length);
+    /** programs 1 to 256 bytes at flash[at]; they begin at a multiple of 4 in memory */
+    int (*program)(void *own, uint32_t at, const uint8_t *bytes, uint32_t length);
 };
 
 /** @brief A device. The program fills in all but the last two fields. */
@@ -160,21 +244,258 @@ struct dfu_device {
     uint8_t *block;                  /**< memory in which a block waits to be written, with the rest of those before it */
     size_t most;                     /**< its bytes, at least DFU_BLOCK_SIZE */
     const struct dfu_driver *driver; /**< NULL if the program carries out the operations itself */
-    struct dfu_record record;        /**< private, except held_length, for the bytes of a candidate */
+    struct dfu_record record;        /**< private */
     uint32_t unused;                 /**< fills the struct up to a multiple of 8 bytes */
 };
 
-/** @brief The device gets power: after each loss of power, before any other call. @return as dfu_core_power_on */
+/* THE CALLS, in the order in which a program meets them. A negative number is enum dfu_result: the first refusal that holds of those that a
+ * call names, in their order. But while a format is due, each call that can return DFU_NO_BLOCK, and dfu_device_candidate, returns
+ * DFU_ASKED before DFU_NO_CONFIG. A refusal changes nothing, and no call writes the flash but through the driver.
+ *
+ * 1. Power. */
+
+/** @brief Starts the device after each loss of power, and formats a part that was never written with this image of 0 bytes or more. It
+ *         calls dfu_device_power_on twice before it takes a part for new, and then dfu_device_is_blank twice, so that a byte that is
+ *         misread once gives up no image. (Where flash is read through a cache, make these calls by hand, and invalidate it between two.)
+ * @return 0: appIDLE; DFU_NO_CONFIG; DFU_NO_MEDIUM: there is no image and the part is not blank, and nothing was written; what
+ *         dfu_device_format returns */
+static inline int32_t dfu_device_power_on_or_format(struct dfu_device *d, const uint8_t *image, size_t length);
+
+/** @brief Starts the device after each loss of power: afterwards the record is that of a device in appIDLE, whatever it held before.
+ * @return 0; DFU_NO_CONFIG, DFU_NO_MEDIUM */
+static inline int32_t dfu_device_power_on(struct dfu_device *d);
+
+/** @brief Starts the device in dfuIDLE, for an upgrade: as dfu_device_power_on, a DETACH and a reset of the bus.
+ * @return 0; DFU_NO_CONFIG, DFU_NO_MEDIUM */
+static inline int32_t dfu_device_begin(struct dfu_device *d);
+
+/** @brief Writes the functional descriptor (section 4.1.3), for the configuration descriptor.
+ * @return 9, and out has its 9 bytes; DFU_NO_CONFIG */
+static inline int32_t dfu_device_functional(const struct dfu_config *config, uint8_t out[9]);
+
+/* 2. Requests, answers, resets and time, with a driver. */
+
+/** @brief Answers a request of this class: does the work, handles the setup, and carries out what is due.
+ * @param setup  the 8 bytes of the SETUP stage, with bmRequestType 21h or A1h
+ * @param body   wLength bytes of the data stage if the host sends and they are at most config.transfer; else it is not read
+ * @param out    room for the answer, `room` bytes: at least 6, and at least config.transfer. It may be body
+ * @return 0 to 4,096: so many bytes of out are the answer, and 0 acknowledges too; DFU_STALL: stall endpoint 0. The refusals of
+ *         dfu_device_work and dfu_device_handle: stall too */
+static inline int32_t dfu_device_serve(struct dfu_device *d, const uint8_t setup[8], const uint8_t *body, uint8_t *out, size_t room);
+
+/** @brief Does the work, right after each answer is out: writes the block that waits, or puts the image in place. It does all at once, and
+ *         the time of dfuDNBUSY or dfuMANIFEST passes in it.
+ * @return 0; DFU_ASKS without a driver; the refusals of dfu_device_elapse, dfu_device_next and dfu_device_took */
+static inline int32_t dfu_device_work(struct dfu_device *d);
+
+/** @brief Takes a reset of the bus, the one that counts (RULES): does the work; then appDETACH leads to dfuIDLE, every other state to
+ *         appIDLE.
+ * @return 0; as dfu_device_work; the refusals of dfu_device_elapse */
+static inline int32_t dfu_device_reset(struct dfu_device *d);
+
+/** @brief Lets `ms` milliseconds pass. They count in appDETACH, dfuDNBUSY and dfuMANIFEST; with a driver report those in appDETACH alone. A
+ *         call changes the state at most once, and drops the rest of its time.
+ * @return 0; DFU_ASKS; DFU_NO_CONFIG, DFU_NO_BLOCK, DFU_NO_DEVICE, DFU_ASKED, DFU_NO_MEDIUM, DFU_NO_DEVICE, as dfu_device_handle */
+static inline int32_t dfu_device_elapse(struct dfu_device *d, uint32_t ms);
+
+/** @brief Tells the state.
+ * @return enum dfu_state, 0 to 10; DFU_NO_DEVICE if the version, the mode, or the number in mode 12 is out of its range */
+static inline int32_t dfu_device_state(const struct dfu_device *d);
+
+/** @brief Tells the status code, which is DFU_STATUS_OK in every state but dfuERROR.
+ * @return enum dfu_status, 0 to 15; DFU_NO_DEVICE as dfu_device_state */
+static inline int32_t dfu_device_code(const struct dfu_device *d);
+
+/** @brief Finds the active image, until the next one is put in place.
+ * @return 0, and place has it; DFU_NO_CONFIG, DFU_NO_MEDIUM */
+static inline int32_t dfu_device_image(const struct dfu_device *d, struct dfu_place *place);
+
+/** @brief Counts the milliseconds until dfu_device_elapse changes the state.
+ * @return 1 or more, and 2,147,483,647 means that many or more; 0 if no time changes it; DFU_NO_CONFIG; DFU_NO_DEVICE as
+ *         dfu_device_state */
+static inline int32_t dfu_device_due(const struct dfu_device *d);
+
+/* 3. A stack that acknowledges the data stage while it receives it. */
+
+/** @brief Tells before the data stage if dfu_device_handle will stall this setup, whatever body of wLength bytes comes with it.
+ * @return 1 or 0; DFU_NO_CONFIG, DFU_NO_DEVICE, DFU_ASKED */
+static inline int32_t dfu_device_would_stall(const struct dfu_device *d, const uint8_t setup[8]);
+
+/** @brief Handles a setup whose data stage is longer than config.transfer, without its bytes. dfu_device_handle calls it then.
+ * @return DFU_STALL; DFU_NO_CONFIG, DFU_NO_DEVICE, DFU_ASKED, DFU_NOT_LONG */
+static inline int32_t dfu_device_too_long(struct dfu_device *d, const uint8_t setup[8]);
+
+/* 4. A check of images, for a program that takes only its maker's (RULES). */
+
+/** @brief Tells if this setup closes a download: a DNLOAD with wLength 0 to this interface in dfuDNLOAD-IDLE, once at least config.least
+ *         bytes were taken. With 1 dfu_device_handle would acknowledge it, and from then on the image waits to be put in place; so a
+ *         program that checks images does it now. With 1 dfu_device_refuse_close refuses the image, and with 0 it returns DFU_NO_CLOSE.
+ * @return 1 or 0; DFU_NO_CONFIG, DFU_NO_DEVICE, DFU_ASKED */
+static inline int32_t dfu_device_closes(const struct dfu_device *d, const uint8_t setup[8]);
+
+/** @brief Finds the image that was taken and may still be refused: in dfuDNLOAD-IDLE, in dfuMANIFEST-SYNC before it is in place, and in
+ *         dfuMANIFEST. Its bytes are those at the place, followed by record.held_length bytes more, 0 to unit - 1, at
+ *         block + config.transfer.
+ * @return 0, and place has it; DFU_NO_CONFIG, DFU_NO_DEVICE, DFU_ASKED, DFU_NO_MEDIUM, DFU_NO_DEVICE, as dfu_device_handle;
+ *         DFU_NO_CANDIDATE */
+static inline int32_t dfu_device_candidate(const struct dfu_device *d, struct dfu_place *place);
+
+/** @brief Refuses the image whose download this setup closes, in place of dfu_device_handle, which would take it. The device enters
+ *         dfuERROR with the status, and nothing is written.
+ * @param status DFU_STATUS_ERR_TARGET if the image is not for this device, DFU_STATUS_ERR_FILE if it fails a test, such as a signature's
+ * @return DFU_STALL; DFU_NO_CONFIG, DFU_NO_DEVICE, DFU_ASKED, DFU_NO_STATUS, DFU_NO_CLOSE */
+static inline int32_t dfu_device_refuse_close(struct dfu_device *d, const uint8_t setup[8], uint32_t status);
+
+/** @brief Refuses an image after its close, when its check takes longer than a transfer may. From dfuMANIFEST-SYNC, if the image isn't in
+ *         place yet, and from dfuMANIFEST the device enters dfuERROR with the status, and nothing is put in place. Any other state stays.
+ * @param status as for dfu_device_refuse_close
+ * @return 0; DFU_NO_CONFIG, DFU_NO_DEVICE, DFU_ASKED, DFU_NO_STATUS */
+static inline int32_t dfu_device_refuse(struct dfu_device *d, uint32_t status);
+
+/* 5. Flash that the program writes by itself, without a driver: handle and answered in place of serve and work, and then
+ *
+ *     while (n == DFU_ASKS && dfu_device_next(&dfu, &ask) == 0) {
+ *         do what ask says; failed = not 0 if the flash could not;
+ *         n = dfu_device_took(&dfu, failed, out, sizeof out);
+ *     }
+ *
+ * Then n is the answer of the call that asked. Meanwhile the host gets NAK, and every other call is refused with DFU_ASKED. */
+
+/** @brief Answers a setup with its body, as dfu_device_serve does, without the work before it and without the operations after it.
+ * @return 0 to 4,096: so many bytes of out are the answer, and 0 acknowledges too; DFU_STALL: the state may be another now; DFU_ASKS;
+ *         DFU_NO_ROOM, DFU_NO_CONFIG, DFU_NO_BLOCK, DFU_NO_DEVICE (the record is no device's, whatever the flash holds), DFU_ASKED,
+ *         DFU_NO_MEDIUM (the record's header is not in an open slot of the flash), DFU_NO_DEVICE (the record belongs to another flash) */
+static inline int32_t dfu_device_handle(struct dfu_device *d, const uint8_t setup[8], const uint8_t *body, uint8_t *out, size_t room);
+
+/** @brief Notes that an answer is out: the time of dfuDNBUSY or dfuMANIFEST passes at once.
+ * @return 0; DFU_ASKS; the refusals of dfu_device_elapse */
+static inline int32_t dfu_device_answered(struct dfu_device *d);
+
+/** @brief Takes a reset of the bus as dfu_device_reset does, without the work, which has to be done before it.
+ * @return 0; the refusals of dfu_device_elapse */
+static inline int32_t dfu_device_usb_reset(struct dfu_device *d);
+
+/** @brief Hands out the operation that is due, again if it is asked again. Even with a damaged record its range is in the slot that is
+ *         spare now, as long as the flash has an active image. If the record is as the last call left it, the range is whole units, or a
+ *         whole sector.
+ * @return 0, and ask has it; DFU_NO_CONFIG, DFU_NO_BLOCK, DFU_NO_DEVICE (none is due, or the flash is not as it was left) */
+static inline int32_t dfu_device_next(const struct dfu_device *d, struct dfu_ask *ask);
+
+/** @brief Takes what came of that operation: 0, or not 0 if it failed. The call reads it back. In the block's memory only the bytes after
+ *         config.transfer may change.
+ * @param out    room for the answer of the call that asked, at least 6 bytes
+ * @return DFU_ASKS if the next one is due; the answer of the call that asked, its bytes in out; DFU_NO_ROOM (out has less than 6 bytes),
+ *         DFU_NO_CONFIG, DFU_NO_BLOCK, DFU_NO_DEVICE */
+static inline int32_t dfu_device_took(struct dfu_device *d, uint32_t failed, uint8_t *out, size_t room);
+
+/** @brief Has the driver carry out what is due while n is DFU_ASKS and there is a driver.
+ * @return the answer of the call that gave n; the refusals of dfu_device_next and dfu_device_took */
+static inline int32_t dfu_device_settle(struct dfu_device *d, int32_t n, uint8_t *out, size_t room);
+
+/** @brief Has the driver carry out one operation.
+ * @return 0 if it is done, else 1 */
+static inline uint32_t dfu_device_carry_out(const struct dfu_driver *driver, const struct dfu_ask *ask);
+
+/* 6. The first image. */
+
+/** @brief Looks if the part was never written: every byte that the gates and the headers of both slots take up is FFh. These are DFU_GATE
+ *         bytes for each, so the first 2 * DFU_GATE of each half of the flash; the data of the slots is not looked at.
+ * @return 1, and then there is no active image; 0; DFU_NO_CONFIG, DFU_NO_MEDIUM (2^32 bytes or more), DFU_WRONG_SIZE */
+static inline int32_t dfu_device_is_blank(const struct dfu_device *d);
+
+/** @brief Puts an image of 0 bytes or more into the first slot by the driver, whatever is on the flash: both images are given up. A loss of
+ *         power within it may leave no image. Afterwards call dfu_device_power_on.
+ * @return 0; DFU_ASKS without a driver; the refusals of the next three */
+static inline int32_t dfu_device_format(struct dfu_device *d, const uint8_t *image, size_t length);
+
+/** @brief Begins a format without a driver. Until it ends other calls are refused with DFU_ASKED. Pass the same image to all three calls,
+ *         because the record keeps no pointer.
+ * @return DFU_ASKS; DFU_NO_CONFIG, DFU_NO_MEDIUM (2^32 bytes or more), DFU_WRONG_SIZE, DFU_TOO_LARGE */
+static inline int32_t dfu_device_format_start(struct dfu_device *d, const uint8_t *image, size_t length);
+
+/** @brief Hands out the operation of the format that is due. Its range is within the flash, no matter what the record holds.
+ * @return 0, and ask has it; DFU_NO_CONFIG, DFU_NO_DEVICE (none is due) */
+static inline int32_t dfu_device_format_next(const struct dfu_device *d, const uint8_t *image, size_t length, struct dfu_ask *ask);
+
+/** @brief Takes what came of that operation: 0, or not 0 if it failed. The call reads it back.
+ * @return DFU_ASKS if the next one is due; 0 once the image is active; DFU_NOT_WRITTEN, and then none is due any more; DFU_NO_CONFIG,
+ *         DFU_NO_DEVICE */
+static inline int32_t dfu_device_format_took(struct dfu_device *d, const uint8_t *image, size_t length, uint32_t failed);
+
+/* RULES, for a program that uses the calls above.
+ *
+ * The loop:
+ * - THE WORK, dfu_device_work, comes right after each answer is out. It reads no clock; a host that asks meanwhile gets NAK.
+ *   dfu_device_serve and dfu_device_reset do it first too, since a host may be early, and a stack may not say that an answer is out. If it
+ *   was left out, dfu_device_handle takes the next request as an error, and a reset ends the upgrade; either drops what was taken.
+ * - Other requests than those with bmRequestType 21h or A1h are the program's own.
+ * - The reset that counts is the first reset of the bus, or unplugging, after a SET_CONFIGURATION with a value other than 0. Hosts reset a
+ *   device twice while they enumerate it, and a second reset would lead from dfuIDLE to appIDLE. In the first enumeration of a device that
+ *   began in dfuIDLE no reset counts.
+ * - An application that stays on the bus answers by dfu_runtime.h. If a program is both, it lets milliseconds pass in appDETACH
+ *   (dfu_device_elapse). If that leads to dfuIDLE (bitWillDetach), leave the bus and come back, and report no reset for it.
+ * - The time that a block takes is sent as bwPollTimeout, after which the host asks again: busy_ms, and erase_ms for each sector that this
+ *   block erases, and program_ms for each 256 bytes that it programs. manifest_ms with erase_ms and program_ms is the same for an image. So
+ *   set erase_ms and program_ms to what the part takes, and busy_ms to 1. With busy_ms or manifest_ms of 0 all is written before the
+ *   GETSTATUS is answered, and no time is sent. For fwupd manifest_ms should be 0 if the device is tolerant. With erase_ms and program_ms
+ *   of 0 the host waits busy_ms after every block, also after one that erases nothing (docs/PORTING.md, "How long a host waits").
+ * - If the stack acknowledges a data stage while it receives it, as Linux's FunctionFS does, ask before it comes: call dfu_device_work,
+ *   then dfu_device_would_stall. If that says 1, call dfu_device_handle with any body of that length, and stall the setup. If it says 0,
+ *   receive the data stage.
+ *
+ * A program must always keep to this:
+ * - Only driver may be NULL; every other pointer points to as many bytes as its length or its type says, even if the length is 0. Nothing
+ *   may begin at address 0, and no two may overlap, except that body and out may be the same memory: if the host sends, out isn't
+ *   written, and else body isn't read.
+ * - One call at a time for a device, and DFU_STACK bytes of stack. Two devices share nothing, so a call for one may interrupt a call for
+ *   the other. An interrupt that may come within a call must not make one for the same device.
+ * So that a device goes on from where it was:
+ * - The configuration stays the same, and record, block and flash are as the last call left them. After each loss of power a record begins
+ *   with power_on or begin.
+ * - An operation changes no byte outside its range, not even one that a loss of power breaks off; inside it may leave any bytes.
+ * - Flash reads the same each time until the next operation, also where one was broken off. Invalidate caches after each one.
+ *   docs/PORTING.md says what is known of flash with ECC whose torn words don't read so.
+ * - Nothing but the operations that are asked for changes the flash.
+ *
+ * On a refusal stall the request, or after a refused dfu_device_work the next one, and:
+ * - DFU_NO_CONFIG, DFU_NO_BLOCK, DFU_NO_ROOM, DFU_WRONG_SIZE, DFU_TOO_LARGE, DFU_NO_STATUS: mend the program.
+ * - DFU_NO_MEDIUM of power_on, begin or image: there is no image, or a byte was misread, or another sector or size wrote the slots. Look
+ *   again. A format gives up both slots, so make one only on a part that was never written (dfu_device_is_blank, twice), or because
+ *   somebody asks for it, by a jumper or a command. dfu_device_power_on_or_format does so. FRAM and other memory that comes with any bytes
+ *   is never known to be new: there the factory puts the first image in place.
+ * - DFU_NO_MEDIUM or DFU_NO_DEVICE elsewhere: flash, block or record changed. Call dfu_device_power_on or dfu_device_begin again; the host
+ *   begins again.
+ * - DFU_ASKED: operations are due. Carry them out (dfu_device_settle with DFU_ASKS), then make the call again.
+ * - DFU_NOT_WRITTEN: format again; if that goes on, the part or its driver is broken.
+ * - DFU_NOT_LONG, DFU_NO_CLOSE: call dfu_device_handle with this request. DFU_NO_CANDIDATE: there is nothing to check.
+ *
+ * A check of images comes after the work, and before dfu_device_handle or serve: ask dfu_device_closes of each setup. If it says 1, check
+ * the bytes that dfu_device_candidate names. If they fail, call dfu_device_refuse_close, else hand the setup in. If either call is refused,
+ * stall the setup: it must not be handed in unchecked. A program that never asks takes every image. Such a check is no secure boot, since
+ * who can write the flash can write an image: check it again before it is started.
+ *
+ * Images are read by power_on, begin, image and format_start, at the start and the end of the work that puts one in place, and by the
+ * first operation of a download. No other call checks a whole image; an UPLOAD reads the bytes that it sends, unchecked. So if an image's
+ * bytes fade while the device runs, and its header doesn't, the next power-on finds it.
+ *
+ * Proved is that each call dfu_core_* returns, and touches only its memory. If the program keeps to the above, it answers as Fustrelan's
+ * device table says, and over lists of these calls, with losses of power and writes that fail or are torn, an image stays active. It is
+ * proved of the source in Rattle, from which dfu_device.c was translated; nothing proves compiler and translator. The inline calls
+ * dfu_device_* are only tested, and the driver is yours.
+ *
+ * Memory: sizeof(struct dfu_device), 96 bytes with pointers of 32 bits, and the two buffers: in all, with a unit of 16, 240 bytes for
+ * blocks of 64, 2,160 for 1,024, and 8,304 for 4,096. */
+
+/* The bodies of the calls: dfu_core.h has what they stand on. */
+
 static inline int32_t dfu_device_power_on(struct dfu_device *d) {
     return dfu_core_power_on(d->config, &d->record, d->flash, d->size);
 }
 
-/** @brief The device gets power and begins in dfuIDLE. @return as dfu_core_begin */
 static inline int32_t dfu_device_begin(struct dfu_device *d) {
     return dfu_core_begin(d->config, &d->record, d->flash, d->size);
 }
 
-/** @brief As dfu_core_handle. @param body wLength bytes if the host sends and they are at most transfer; else it is not read */
 static inline int32_t dfu_device_handle(struct dfu_device *d, const uint8_t setup[8], const uint8_t *body, uint8_t *out, size_t room) {
     const uint32_t length = setup[0] == 0x21 ? DFU_TO(uint32_t, setup[6]) | DFU_TO(uint32_t, setup[7]) << 8 : 0;
     if (length > d->config->transfer)
@@ -182,109 +503,88 @@ static inline int32_t dfu_device_handle(struct dfu_device *d, const uint8_t setu
     return dfu_core_handle(d->config, &d->record, d->block, d->most, d->flash, d->size, setup, body, length, out, room);
 }
 
-/** @brief As dfu_core_elapse. */
 static inline int32_t dfu_device_elapse(struct dfu_device *d, uint32_t ms) {
     return dfu_core_elapse(d->config, &d->record, d->block, d->most, d->flash, d->size, ms);
 }
 
-/** @brief As dfu_core_usb_reset. The work has to be done before it. */
 static inline int32_t dfu_device_usb_reset(struct dfu_device *d) {
     return dfu_core_usb_reset(d->config, &d->record, d->block, d->most, d->flash, d->size);
 }
 
-/** @brief As dfu_core_next. */
 static inline int32_t dfu_device_next(const struct dfu_device *d, struct dfu_ask *ask) {
     return dfu_core_next(d->config, &d->record, d->block, d->most, d->flash, d->size, ask);
 }
 
-/** @brief As dfu_core_took. */
 static inline int32_t dfu_device_took(struct dfu_device *d, uint32_t failed, uint8_t *out, size_t room) {
     return dfu_core_took(d->config, &d->record, d->block, d->most, d->flash, d->size, failed, out, room);
 }
 
-/** @brief As dfu_core_would_stall. */
 static inline int32_t dfu_device_would_stall(const struct dfu_device *d, const uint8_t setup[8]) {
     return dfu_core_would_stall(d->config, &d->record, d->size, setup);
 }
 
-/** @brief As dfu_core_closes. */
 static inline int32_t dfu_device_closes(const struct dfu_device *d, const uint8_t setup[8]) {
     return dfu_core_closes(d->config, &d->record, setup);
 }
 
-/** @brief As dfu_core_too_long. */
 static inline int32_t dfu_device_too_long(struct dfu_device *d, const uint8_t setup[8]) {
     return dfu_core_too_long(d->config, &d->record, setup);
 }
 
-/** @brief As dfu_core_refuse_close. */
 static inline int32_t dfu_device_refuse_close(struct dfu_device *d, const uint8_t setup[8], uint32_t status) {
     return dfu_core_refuse_close(d->config, &d->record, setup, status);
 }
 
-/** @brief As dfu_core_refuse. */
 static inline int32_t dfu_device_refuse(struct dfu_device *d, uint32_t status) {
     return dfu_core_refuse(d->config, &d->record, status);
 }
 
-/** @brief As dfu_core_candidate. */
 static inline int32_t dfu_device_candidate(const struct dfu_device *d, struct dfu_place *place) {
     return dfu_core_candidate(d->config, &d->record, d->flash, d->size, place);
 }
 
-/** @brief As dfu_core_due. */
 static inline int32_t dfu_device_due(const struct dfu_device *d) {
     return dfu_core_due(d->config, &d->record);
 }
 
-/** @brief As dfu_core_state. */
 static inline int32_t dfu_device_state(const struct dfu_device *d) {
     return dfu_core_state(&d->record);
 }
 
-/** @brief As dfu_core_code. */
 static inline int32_t dfu_device_code(const struct dfu_device *d) {
     return dfu_core_code(&d->record);
 }
 
-/** @brief As dfu_core_image. */
 static inline int32_t dfu_device_image(const struct dfu_device *d, struct dfu_place *place) {
     return dfu_core_image(d->config, d->flash, d->size, place);
 }
 
-/** @brief As dfu_core_is_blank. */
 static inline int32_t dfu_device_is_blank(const struct dfu_device *d) {
     return dfu_core_is_blank(d->config, d->flash, d->size);
 }
 
-/** @brief As dfu_core_functional. */
 static inline int32_t dfu_device_functional(const struct dfu_config *config, uint8_t out[9]) {
     return dfu_core_functional(config, out);
 }
 
-/** @brief As dfu_core_format_start. */
 static inline int32_t dfu_device_format_start(struct dfu_device *d, const uint8_t *image, size_t length) {
     return dfu_core_format_start(d->config, &d->record, d->flash, d->size, image, length);
 }
 
-/** @brief As dfu_core_format_next. */
 static inline int32_t dfu_device_format_next(const struct dfu_device *d, const uint8_t *image, size_t length, struct dfu_ask *ask) {
     return dfu_core_format_next(d->config, &d->record, d->flash, d->size, image, length, ask);
 }
 
-/** @brief As dfu_core_format_took. */
 static inline int32_t dfu_device_format_took(struct dfu_device *d, const uint8_t *image, size_t length, uint32_t failed) {
     return dfu_core_format_took(d->config, &d->record, d->flash, d->size, image, length, failed);
 }
 
-/** @brief Has the driver carry out an operation. @return 0 if it is done */
 static inline uint32_t dfu_device_carry_out(const struct dfu_driver *driver, const struct dfu_ask *ask) {
     const int failed = ask->kind == DFU_ERASE ? driver->erase(driver->own, ask->at, ask->length)
                                               : driver->program(driver->own, ask->at, ask->bytes, ask->length);
     return failed != 0;
 }
 
-/** @brief An answer is out: the time of dfuDNBUSY or dfuMANIFEST passes at once. @return 0; DFU_ASKS; as dfu_core_elapse */
 static inline int32_t dfu_device_answered(struct dfu_device *d) {
     const int32_t state = dfu_device_state(d), due = dfu_device_due(d);
     if (state != DFU_STATE_DNBUSY && state != DFU_STATE_MANIFEST)
@@ -292,8 +592,6 @@ static inline int32_t dfu_device_answered(struct dfu_device *d) {
     return due < 0 ? due : dfu_device_elapse(d, DFU_TO(uint32_t, due));
 }
 
-/** @brief While n is DFU_ASKS, and there is a driver, has it carry out what is due. @return the answer of the call that gave n; as
- *         dfu_core_next and dfu_core_took */
 static inline int32_t dfu_device_settle(struct dfu_device *d, int32_t n, uint8_t *out, size_t room) {
     while (n == DFU_ASKS && d->driver) {
         struct dfu_ask ask;
@@ -304,26 +602,21 @@ static inline int32_t dfu_device_settle(struct dfu_device *d, int32_t n, uint8_t
     return n;
 }
 
-/** @brief The work: dfu_device_answered, then what is due is carried out. @return 0; as dfu_core_elapse and dfu_device_settle */
 static inline int32_t dfu_device_work(struct dfu_device *d) {
     uint8_t none[6];
     return dfu_device_settle(d, dfu_device_answered(d), none, sizeof none);
 }
 
-/** @brief The work, then dfu_device_handle, then what is due is carried out. @return as dfu_core_handle; as dfu_device_work */
 static inline int32_t dfu_device_serve(struct dfu_device *d, const uint8_t setup[8], const uint8_t *body, uint8_t *out, size_t room) {
     const int32_t worked = dfu_device_work(d);
     return worked < 0 ? worked : dfu_device_settle(d, dfu_device_handle(d, setup, body, out, room), out, room);
 }
 
-/** @brief The work, then dfu_device_usb_reset. @return 0; as dfu_core_usb_reset; as dfu_device_work */
 static inline int32_t dfu_device_reset(struct dfu_device *d) {
     const int32_t worked = dfu_device_work(d);
     return worked < 0 ? worked : dfu_device_usb_reset(d);
 }
 
-/** @brief By the driver, puts an image of 0 bytes or more into the first slot, whatever is on the flash: both images are given up. A loss
- *         of power within it may leave no image. Afterwards call dfu_device_power_on. @return 0; as the calls of a format */
 static inline int32_t dfu_device_format(struct dfu_device *d, const uint8_t *image, size_t length) {
     int32_t n = dfu_device_format_start(d, image, length);
     while (n == DFU_ASKS && d->driver) {
@@ -335,10 +628,6 @@ static inline int32_t dfu_device_format(struct dfu_device *d, const uint8_t *ima
     return n;
 }
 
-/** @brief After each loss of power: dfu_device_power_on, and if it says DFU_NO_MEDIUM a second time and dfu_device_is_blank says 1 twice,
- *         dfu_device_format with this image of 0 bytes or more, and dfu_device_power_on. So a byte that is misread once gives up no image.
- *         (Where the flash is read through a cache make these calls by hand, and invalidate the cache between two looks.)
- * @return 0; DFU_NO_MEDIUM: there is no image, and the part is not blank: nothing was written; DFU_NO_CONFIG; as dfu_device_format */
 static inline int32_t dfu_device_power_on_or_format(struct dfu_device *d, const uint8_t *image, size_t length) {
     struct dfu_device *volatile again = d; /* so that a compiler can't take a first look for a second one */
     int32_t n = dfu_device_power_on(d);

@@ -1,68 +1,24 @@
 /* SPDX-License-Identifier: MIT OR Apache-2.0 */
-/* The host of USB device firmware upgrade (USB DFU 1.1) for a program in C: which request, wait or reset comes next.
+/**
+ * @file dfu_host.h
+ * @brief Tells a flashing tool which request, wait or reset of USB DFU 1.1 comes next. It sends nothing itself. The code is dfu_host.c.
  *
- * The library sends nothing, allocates nothing and keeps no state. The program keeps the record of the session, does what
- * dfu_host_next says, and reports to dfu_host_take what came of it. The code is dfu_host.c, in C11, for little-endian
- * processors of 32 or 64 bits. It needs at most memcpy, memmove and memset of a C library.
- *
- * Return values: 0 or more is an answer; a negative number is a refusal. A refusal changes nothing.
- *
- * The loop of a flashing tool:
- *
- *     struct dfu_session s; struct dfu_action a; struct dfu_file f; uint8_t answer[65535];
- *     if (dfu_host_version() != DFU_VERSION) the library belongs to another header
- *     if (dfu_host_file(file, length, &f) != 0) refused
- *     if (dfu_host_download(&s, file, length, descriptor, size, &device, 100000, 3) != 0) refused
- *     for (;;) {
- *         uint32_t seen; size_t count = 0;
- *         if (dfu_host_next(&s, file, f.payload, &a) != 0) a mistake of the program
- *         if (a.what == DFU_DONE) a.value is the report
- *         if (a.what == DFU_WAIT) { sleep for a.value ms; seen = DFU_SEEN_WAIT; }
- *         else if (a.what == DFU_RESET) { reset the bus; seen = DFU_SEEN_RESET; }
- *         else { a control transfer with a.setup, and a.length bytes from file + a.from; seen = what came of it; }
- *         if (dfu_host_take(&s, file, f.payload, buffer, room, seen, answer, count) != 0) a mistake of the program
+ *     struct dfu_session s; struct dfu_action a; struct dfu_file f; uint8_t answer[65535], none[1]; uint32_t seen; size_t count;
+ *     if (dfu_host_file(file, length, &f) != 0) return refused;
+ *     if (dfu_host_verified(&s, file, length, descriptor, size, &ids, 100000, 3) != 0) return refused;
+ *     while (dfu_host_next(&s, file, f.payload, &a) == 0 && a.what != DFU_DONE) {
+ *         count = 0;
+ *         if (a.what == DFU_WAIT) { sleep_ms(a.value); seen = DFU_SEEN_WAIT; }
+ *         else if (a.what == DFU_RESET) { reset_bus(); seen = DFU_SEEN_RESET; }
+ *         else seen = control_transfer(a.setup, file + a.from, a.length, answer, &count);    // DFU_SEEN_..: the table in RULES
+ *         if (dfu_host_take(&s, file, f.payload, none, 0, seen, answer, count) != 0) return mistake_of_the_program;
  *     }
+ *     return a.value;                                                                        // the report: DFU_VERIFIED ..
  *
- * What came of a transfer, by its outcome:
- *     acknowledged, if a.setup[0] is 21h (the host sends)      DFU_SEEN_ACK
- *     answered, if a.setup[0] is A1h (the device answers)      DFU_SEEN_BYTES, with the bytes, however many
- *     stalled                                                  DFU_SEEN_STALL
- *     not finished for any other reason, such as a timeout     DFU_SEEN_NOTHING
- *     the device left unasked, or somebody else reset it       DFU_SEEN_RESTART, first thing once it is back
- *     the device left by itself after the close                DFU_SEEN_LEFT in place of that, first thing too
- * - A device that leaves because of DFU_RESET, or because of a DETACH that it acknowledged, does what it was asked to: that
- *   is no restart. After DFU_RESET the answer is DFU_SEEN_RESET then too. The next action is for the device once it is open
- *   again.
- * - Each DFU_SEEN_RESTART spends one of the session's restarts, and the host asks for the device's state again.
- * - DFU_SEEN_LEFT is for a device that starts its new image by itself. Report it once, and only if all three hold: the
- *   device acknowledged the DNLOAD of no bytes that closes the download; it answered a later GETSTATUS with
- *   dfuMANIFEST-SYNC or dfuMANIFEST; then it left, or came back reset, though nobody reset it or asked it to leave.
- * - DFU_SEEN_LEFT takes the place of the last reset and spends no restart. A session of dfu_host_download is over with
- *   DFU_UNCONFIRMED, one of dfu_host_verified begins to compare. It may be reported before the device is back. In any other
- *   phase it is as DFU_SEEN_RESTART.
- *
- * What the program has to keep to, always:
- * - No pointer is NULL, even with length 0. Each points to as many bytes as its length says.
- * - Nothing that is handed in overlaps anything else that is handed in.
- * - answer has room for as many bytes as a.setup[6] and a.setup[7] ask for (the low byte first).
- * - Only one thread at a time makes calls for a session.
- * And so that a session goes on from where it was:
- * - The record is as the last call left it, from the beginning to the end of a session.
- * - The payload is the same for the whole session: the first dfu_file.payload bytes of the file that it began with. For an
- *   upload it is any pointer with length 0.
- * - The buffer is the same for the whole upload, and the program changes nothing in it.
- * - The library has one version from the beginning to the end: a record of another version is refused.
- *
- * What is proved, if the program keeps to that:
- * - A session begins as its file, its descriptor and its limits say.
- * - Each dfu_host_take is a row of Fustrelan's host table. Each action is the one of its phase, with its body cut from the
- *   payload.
- * - An upload ends as DFU_NO_MEMORY exactly if dfu_host_take says so. Of the buffer only bytes change in which
- *   a part is stored.
- * By reading, and by tests, of a whole session: it is over after at most as many calls of dfu_host_take as it had actions,
- * and DFU_INSTALLED, DFU_VERIFIED and DFU_UPLOADED come only as the laws of the host in Rattle (dfu_host) say.
- * Proved of any other record, payload or buffer too: a call answers or refuses, it returns, and it touches only the memory
- * that its pointers and lengths name. */
+ * The library allocates nothing and keeps no state: the program keeps the record of the session. 0 or more is an answer, a negative number
+ * a refusal, the first that holds in the order in which a call names them; a refusal changes nothing. The calls below stand in the order
+ * in which a program meets them. RULES, at the end of this file, says what it must keep to.
+ */
 #ifndef DFU_HOST_H
 #define DFU_HOST_H
 
@@ -102,14 +58,14 @@ struct dfu_ids {
     uint16_t device, product, vendor;
 };
 
-/* What a file says. */
+/* Numbers of a file. */
 struct dfu_file {
     DFU_ALIGNED_8 uint64_t payload;        /* how many bytes the payload has, which comes first in the file */
     uint32_t suffix, crc;                  /* bLength, 16 to 255; dwCRC */
     uint16_t device, product, vendor, dfu; /* bcdDevice, idProduct, idVendor (FFFFh: of any), bcdDFU */
 };
 
-/* The record: a session between two calls. A program reads kept, and writes no field. The calls that begin a session write
+/* Record of a session between two calls, private. A program reads kept, and writes no field. The calls that begin a session write
  * the version, and a record of another version is refused. A field that a phase doesn't use is 0. */
 struct dfu_session {
     uint32_t version, goal;                 /* DFU_VERSION of the archive; goal 1 to 4 */
@@ -120,7 +76,7 @@ struct dfu_session {
     uint8_t tolerant, will_detach;          /* bitManifestationTolerant and bitWillDetach: 0 or 1 */
 };
 
-/* What is to be done. A field that an action doesn't use is 0. */
+/* Action that is to be done. A field that an action doesn't use is 0. */
 struct dfu_action {
     uint32_t what;                 /* DFU_SEND, DFU_WAIT, DFU_RESET or DFU_DONE */
     uint32_t value;                /* DFU_WAIT: how many milliseconds; DFU_DONE: the report */
@@ -139,7 +95,7 @@ enum {
     DFU_DONE = 3   /* the session is over */
 };
 
-/* What was seen of an action. */
+/* Outcomes of an action. */
 enum {
     DFU_SEEN_ACK = 0,     /* DFU_SEND: the device acknowledged what the host sent */
     DFU_SEEN_BYTES = 1,   /* DFU_SEND: the device answered */
@@ -207,8 +163,8 @@ int32_t dfu_host_download(struct dfu_session *session, const uint8_t *file, size
                           const uint8_t *descriptor, size_t size, const struct dfu_ids *device,
                           uint32_t actions, uint16_t restarts);
 
-/* The same, and after the last reset the image is uploaded and compared. A device without bitCanUpload is refused with
- * DFU_CANNOT_UPLOAD, looked for before DFU_BAD_DESCRIPTOR. */
+/* Begins a session as dfu_host_download does, and after the last reset the image is uploaded and compared. A device without
+ * bitCanUpload is refused with DFU_CANNOT_UPLOAD, looked for before DFU_BAD_DESCRIPTOR. */
 int32_t dfu_host_verified(struct dfu_session *session, const uint8_t *file, size_t length,
                           const uint8_t *descriptor, size_t size, const struct dfu_ids *device,
                           uint32_t actions, uint16_t restarts);
@@ -218,7 +174,7 @@ int32_t dfu_host_verified(struct dfu_session *session, const uint8_t *file, size
 int32_t dfu_host_upload(struct dfu_session *session, const uint8_t *descriptor, size_t size,
                         uint32_t actions, uint16_t restarts);
 
-/* What the session wants done next: 0; or DFU_NO_SESSION. It writes nothing but the action. */
+/* Tells what the session wants done next: 0; or DFU_NO_SESSION. It writes nothing but the action. */
 int32_t dfu_host_next(const struct dfu_session *session, const uint8_t *payload, size_t length,
                       struct dfu_action *action);
 
@@ -238,8 +194,53 @@ int32_t dfu_host_abort(struct dfu_session *session, const uint8_t *payload, size
  * such report, or out has no room for it. */
 int32_t dfu_host_name(uint32_t report, uint8_t *out, size_t room);
 
-/* The version of the archive: DFU_VERSION, if header and archive belong together. */
+/* Tells the version of the archive: DFU_VERSION, if header and archive belong together. */
 int32_t dfu_host_version(void);
+
+/* RULES, for a program that runs sessions.
+ *
+ * Outcomes of a transfer:
+ *     acknowledged, if a.setup[0] is 21h (the host sends)      DFU_SEEN_ACK
+ *     answered, if a.setup[0] is A1h (the device answers)      DFU_SEEN_BYTES, with the bytes, however many
+ *     stalled                                                  DFU_SEEN_STALL
+ *     not finished for any other reason, such as a timeout     DFU_SEEN_NOTHING
+ *     the device left unasked, or somebody else reset it       DFU_SEEN_RESTART, first thing once it is back
+ *     the device left by itself after the close                DFU_SEEN_LEFT in place of that, first thing too
+ * - A device that leaves because of DFU_RESET, or because of a DETACH that it acknowledged, does what it was asked to: that
+ *   is no restart. After DFU_RESET the answer is DFU_SEEN_RESET then too. The next action is for the device once it is open
+ *   again.
+ * - Each DFU_SEEN_RESTART spends one of the session's restarts, and the host asks for the device's state again.
+ * - DFU_SEEN_LEFT is for a device that starts its new image by itself. Report it once, and only if all three hold: the
+ *   device acknowledged the DNLOAD of no bytes that closes the download; it answered a later GETSTATUS with
+ *   dfuMANIFEST-SYNC or dfuMANIFEST; then it left, or came back reset, though nobody reset it or asked it to leave.
+ * - DFU_SEEN_LEFT takes the place of the last reset and spends no restart. A session of dfu_host_download is over with
+ *   DFU_UNCONFIRMED, one of dfu_host_verified begins to compare. It may be reported before the device is back. In any other
+ *   phase it is as DFU_SEEN_RESTART.
+ *
+ * A program must always keep to this:
+ * - No pointer is NULL, even with length 0. Each points to as many bytes as its length says.
+ * - Nothing that is handed in overlaps anything else that is handed in.
+ * - answer has room for as many bytes as a.setup[6] and a.setup[7] ask for (the low byte first).
+ * - Only one thread at a time makes calls for a session.
+ * And so that a session goes on from where it was:
+ * - The record is as the last call left it, from the beginning to the end of a session.
+ * - The payload is the same for the whole session: the first dfu_file.payload bytes of the file that it began with. For an
+ *   upload it is any pointer with length 0.
+ * - The buffer is the same for the whole upload, and the program changes nothing in it.
+ * - The library has one version from the beginning to the end: a record of another version is refused.
+ *
+ * The code is C11, for little-endian processors of 32 or 64 bits, and needs at most memcpy, memmove and memset of a C library.
+ *
+ * Proved, if the program keeps to that:
+ * - A session begins as its file, its descriptor and its limits say.
+ * - Each dfu_host_take is a row of Fustrelan's host table. Each action is the one of its phase, with its body cut from the
+ *   payload.
+ * - An upload ends as DFU_NO_MEMORY exactly if dfu_host_take says so. Of the buffer only bytes change in which
+ *   a part is stored.
+ * By reading, and by tests, of a whole session: it is over after at most as many calls of dfu_host_take as it had actions,
+ * and DFU_INSTALLED, DFU_VERIFIED and DFU_UPLOADED come only as the laws of the host in Rattle (dfu_host) say.
+ * Proved of any other record, payload or buffer too: a call answers or refuses, it returns, and it touches only the memory
+ * that its pointers and lengths name. */
 
 #ifdef __cplusplus
 }

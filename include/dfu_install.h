@@ -1,10 +1,7 @@
 /* SPDX-License-Identifier: MIT OR Apache-2.0 */
 /**
  * @file dfu_install.h
- * @brief A run area, apart from the slots of dfu_device.h: flash of its own, at the one address for which images are linked.
- *
- * Before each start the run area is compared with the image that is to be started, and what differs is copied. It holds the image from
- * its first byte on and nothing else, no header and no seal. It may be in the same flash as the slots, or in another with other sectors.
+ * @brief Copies the image that is to start into a run area, the one address for which images are linked. The code is dfu_boot.c.
  *
  *     static struct dfu_install install = {.run = run, .size = size, .area = {4096, DFU_NOWHERE}, .driver = &driver};
  *     struct dfu_place place;                        // at power-on, or once the device is in appIDLE. It needs no dfu_device_power_on
@@ -14,34 +11,38 @@
  *     else
  *         stay in the bootloader: the host may install another image
  *
- * - The operations go to install.driver, whose offsets are those of the run area. If there is a watchdog, the
- *   driver feeds it: between two operations the image is compared at most once.
- * - Power may be lost at any moment: the next call goes on. The slots are only read.
- * - A program that can't wait for its flash calls dfu_install_next and dfu_install_took in place of settle, and carries out what is due
- *   between them.
- * - Mark an image on trial as tried only once settle has answered 0, or losses of power in the copy use up its starts. If the mark fails,
- *   settle and start the image before it.
- *
- * What the program has to keep to:
- * - What dfu_device.h asks of the flash, for the run area too.
- * - area.last is DFU_NOWHERE after each loss of power, and else as the last call left it. Whatever it is, 0 comes only if the run area
- *   holds the whole image; but on flash with ECC a wrong `last` may have a piece programmed twice.
- * - The application writes no sector of its image. What it keeps in the sectors after it stays. Bytes after the image in its last
- *   sector are not compared, and are lost when that sector is erased.
- * - Images have at most `size` bytes: a larger one is refused at each start with DFU_TOO_LARGE. No image can be too large if the run area
- *   has at least as many bytes as a slot's data.
- *
- * What is proved: each call dfu_core_install_* answers as dfu_install_core.h says. And of the source in Rattle, over any list of operations
- * with faults in their range and losses of power: a start comes only if the run area holds the whole image. Lists of the calls in C and
- * the inline calls dfu_install_* are only tested.
- *
- * Memory: sizeof(struct dfu_install), 20 bytes with pointers of 32 bits, and within a call 268 bytes for a struct dfu_ask.
+ * The run area is flash of its own, apart from the slots of dfu_device.h: in the same flash, or in another with other sectors. Before each
+ * start it is compared with the image that is to be started, and what differs is copied. It holds the image from its first byte on and
+ * nothing else, no header and no seal. RULES, at the end of this file, says what a program must keep to.
  */
 #ifndef DFU_INSTALL_H
 #define DFU_INSTALL_H
 
 #include "dfu_device.h"
-#include "dfu_install_core.h"
+
+#ifdef __cplusplus
+extern "C" {
+#endif
+
+/** @brief First value of dfu_run_area.last: no operation is known to have worked since the power came. */
+#define DFU_NOWHERE 0xffffffffu
+
+/** @brief A refusal, with those of enum dfu_result. */
+enum dfu_install_result {
+    DFU_NO_IMAGE = -15 /**< the image has no bytes */
+};
+
+/** @brief Memory of a run area between two calls. */
+struct dfu_run_area {
+    uint32_t sector; /**< bytes of a sector: a multiple of 256 up to 131,072 */
+    uint32_t last;   /**< private: where the last operation went, if it worked; DFU_NOWHERE after each loss of power */
+};
+
+#ifdef __cplusplus
+}
+#endif
+
+#include "dfu_install_core.h" /* the proved calls below the inline ones; private */
 
 #if defined(__clang__) && defined(__has_warning)
 #pragma clang diagnostic push
@@ -66,20 +67,60 @@ struct dfu_install {
     const struct dfu_driver *driver; /**< what writes it; NULL if the program carries out the operations itself */
 };
 
-/** @brief As dfu_core_install_next. */
+/** @brief Has the driver carry out all that is due, at most DFU_INSTALL_OPERATIONS.
+ * @return 0: the run area holds the whole image; DFU_NOT_WRITTEN: after so many it still doesn't: the part is worn, or the driver broken;
+ *         DFU_ASKS: an operation is due, and there is no driver; the refusals of dfu_install_next */
+static inline int32_t dfu_install_settle(struct dfu_install *i, const uint8_t *image, size_t length);
+
+/** @brief Hands out the operation that is due next, so that the run area comes to hold the image.
+ * @param image  the image that is to be started, `length` bytes
+ * @param ask    an erase of a whole sector, or a program of 256 bytes: `at` is an offset in the run area
+ * @return 0: the run area holds the whole image, which may be started; DFU_ASKS: ask has the operation that is due;
+ *         DFU_WRONG_SIZE (such a sector or size isn't allowed), DFU_NO_IMAGE, DFU_TOO_LARGE (the image has more than size bytes), and
+ *         ask is as it was */
+static inline int32_t dfu_install_next(const struct dfu_install *i, const uint8_t *image, size_t length, struct dfu_ask *ask);
+
+/** @brief The program carried that operation out, or it failed if `failed` is not 0. The call reads it back.
+ * @return 0 */
+static inline int32_t dfu_install_took(struct dfu_install *i, const uint8_t *image, size_t length, const struct dfu_ask *ask,
+                                       uint32_t failed);
+
+/* RULES, for a program with a run area.
+ *
+ * - The operations go to install.driver, whose offsets are those of the run area. If there is a watchdog, the
+ *   driver feeds it: between two operations the image is compared at most once.
+ * - Power may be lost at any moment: the next call goes on. The slots are only read.
+ * - A program that can't wait for its flash calls dfu_install_next and dfu_install_took in place of settle, and carries out what is due
+ *   between them.
+ * - Mark an image on trial as tried only once settle has answered 0, or losses of power in the copy use up its starts. If the mark fails,
+ *   settle and start the image before it.
+ *
+ * A program must keep to this:
+ * - What dfu_device.h asks of the flash, for the run area too.
+ * - area.last is DFU_NOWHERE after each loss of power, and else as the last call left it. Whatever it is, 0 comes only if the run area
+ *   holds the whole image; but on flash with ECC a wrong `last` may have a piece programmed twice.
+ * - The application writes no sector of its image. What it keeps in the sectors after it stays. Bytes after the image in its last
+ *   sector are not compared, and are lost when that sector is erased.
+ * - Images have at most `size` bytes: a larger one is refused at each start with DFU_TOO_LARGE. No image can be too large if the run area
+ *   has at least as many bytes as a slot's data.
+ *
+ * Proved is that each call dfu_core_install_* answers as said above. And of the source in Rattle, over any list of operations
+ * with faults in their range and losses of power: a start comes only if the run area holds the whole image. Lists of the calls in C and
+ * the inline calls dfu_install_* are only tested.
+ *
+ * Memory: sizeof(struct dfu_install), 20 bytes with pointers of 32 bits, and within a call 268 bytes for a struct dfu_ask. */
+
+/* The bodies of the calls: dfu_install_core.h has what they stand on. */
+
 static inline int32_t dfu_install_next(const struct dfu_install *i, const uint8_t *image, size_t length, struct dfu_ask *ask) {
     return dfu_core_install_next(&i->area, image, length, i->run, i->size, ask);
 }
 
-/** @brief As dfu_core_install_took. */
 static inline int32_t dfu_install_took(struct dfu_install *i, const uint8_t *image, size_t length, const struct dfu_ask *ask,
                                        uint32_t failed) {
     return dfu_core_install_took(&i->area, image, length, i->run, i->size, ask, failed);
 }
 
-/** @brief Has the driver carry out all that is due, at most DFU_INSTALL_OPERATIONS.
- * @return 0: the run area holds the whole image; DFU_NOT_WRITTEN: after so many it still doesn't: the part is worn, or the driver broken;
- *         DFU_ASKS: an operation is due, and there is no driver; the refusals of dfu_core_install_next */
 static inline int32_t dfu_install_settle(struct dfu_install *i, const uint8_t *image, size_t length) {
     struct dfu_ask ask;
     uint32_t count = 0;

@@ -36,7 +36,7 @@ class Header:
         included = {os.path.join(os.path.dirname(it), name): None for it, text in own.items()
                     for name in re.findall(r'^#include "(\w+\.h)"', text, re.M)}
         paths = [*(it for it in included if it not in own), *own]
-        texts = [self.read(it) for it in paths]
+        texts = [self.read(it) if it in own else self.before_bodies(self.read(it)) for it in paths]
         self.text = "".join(texts)
         self.files = [prototypes(it) for it in texts]
         self.says_no_null = [SAYS in open(it, encoding="utf-8").read() for it in paths]
@@ -55,6 +55,11 @@ class Header:
     def forbids_null(self, name):
         """Whether the header that declares an export says that no pointer may be NULL."""
         return any(says for file, says in zip(self.files, self.says_no_null) if name in file)
+
+    @staticmethod
+    def before_bodies(text):
+        """The types of an included header. Inline calls, with the structs that they alone take, follow its line for a private header."""
+        return re.split(r'^#include "\w+_core\.h"', text, flags=re.M)[0]
 
     def read(self, file):
         """Its text without comments."""

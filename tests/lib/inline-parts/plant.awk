@@ -33,5 +33,7 @@ part == 2 { body = body $0 "\n" }
 part == 1 {
     print
     head = head $0
-    part = /\{$/ ? 2 : 1
+    part = /\{$/ ? 2 : /;$/ ? 0 : 1
+    if (part == 0)
+        head = ""
 }

@@ -13,7 +13,7 @@ MOST_BYTES = 255000
 def records():
     """The fields of each struct, as records.js writes them."""
     found = {}
-    for header in ('dfu_host.h', 'dfu_watch.h', 'dfuse_host.h', 'dfuse_watch.h', 'dfuse_file.h', 'dfu_core.h', 'dfu_image.h'):
+    for header in ('dfu_host.h', 'dfu_watch.h', 'dfuse_host.h', 'dfuse_watch.h', 'dfuse_file.h', 'dfu_device.h', 'dfu_image.h'):
         text = re.sub(r'/\*.*?\*/', '', (TOP / 'include' / header).read_text(), flags=re.S)
         # (what stands there for processors of 32 bits alone; a pointer and a size have 64)
         text = re.sub(r'^#if UINTPTR_MAX <= .*?^#endif', '', text, flags=re.S | re.M)

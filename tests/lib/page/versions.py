@@ -16,7 +16,7 @@ def number(version):
 
 
 def run(browser, page):
-    version = int(re.search(r'^#define DFU_VERSION (\d+)$', (TOP / 'include/dfu_core.h').read_text(), re.M)[1])
+    version = int(re.search(r'^#define DFU_VERSION (\d+)$', (TOP / 'include/dfu_device.h').read_text(), re.M)[1])
     for name in ('dfu_host_c', 'dfu_device_c'):
         with tempfile.TemporaryDirectory() as folder:
             other = pathlib.Path(folder) / 'page'
