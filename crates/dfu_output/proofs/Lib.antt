@@ -4,3 +4,4 @@ mod LogLists
 mod LogPieces
 mod LogSaying
 mod LogSteps
+mod PieceTexts

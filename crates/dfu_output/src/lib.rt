@@ -29,6 +29,7 @@ mod exit;
 mod image_output;
 mod judge;
 mod numbers;
+mod pieces;
 mod reasons;
 mod show_lines;
 mod showing;
