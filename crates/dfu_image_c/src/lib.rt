@@ -3,3 +3,4 @@
 
 mod refusals;
 mod taking;
+mod version;

@@ -4,4 +4,3 @@ mod LogLists
 mod LogPieces
 mod LogSaying
 mod LogSteps
-mod PieceTexts

@@ -6,7 +6,6 @@ pub mod Configuration
 pub mod Exits
 pub mod ImageLines
 pub mod Output
-pub mod Pieces
 pub mod ReasonLines
 pub mod ShowLines
 pub mod ShowText

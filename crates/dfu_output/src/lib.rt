@@ -29,7 +29,6 @@ mod exit;
 mod image_output;
 mod judge;
 mod numbers;
-mod pieces;
 mod reasons;
 mod show_lines;
 mod showing;
