@@ -143,7 +143,8 @@ export class ChosenFile {
   fields() {
     if (!this.isGood()) return [['Image', `${this.bytes.length} bytes`]]
     if (this.isDfuse) return this.dfuseFields()
-    if (this.isRaw()) return [['Image', `${this.bytes.length} bytes, all of them: it has no suffix`], ['For the device', 'any']]
+    const whole = this.isTaken() ? '' : ', all of them: it has no suffix'
+    if (this.isRaw()) return [['Image', `${this.bytes.length} bytes${whole}`], ['For the device', 'any']]
     const { payload, crc } = this.said
     return [['Image', `${payload} bytes`], ['For the device', `${target(this.said)}${this.isAdded ? ', as you say' : ''}`],
       ['Check sum', `${digits(crc, 8)}${this.isAdded ? ', added by this page' : ', and it is right'}`]]

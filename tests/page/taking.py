@@ -5,7 +5,8 @@ import subprocess
 import tempfile
 
 from counting import check, check_that
-from files import suffixed
+from dfuse import LONG, NEW_RAW, START, device
+from files import NEW, suffixed
 from flashing import give_file, image, is_ready, report
 from layout import fits, tab_order
 from raw import PROGRAM, is_asked, is_shut, say_ids, saved
@@ -131,14 +132,40 @@ def gaps(browser, address, work):
     check('the box of the next file', browser.run('return document.getElementById("fill").checked'), False)
     large = b':0100000041BE\n:020000040800F2\n:0100000042BD\n' + END
     give_file(browser, work, large, 'large.hex')
-    browser.wait('document.getElementById("file-refused").textContent.includes("04000000") || true')
     browser.wait('document.getElementById("file-refused").textContent.startsWith("Gap 00000001 08000000")')
     browser.click('#fill')
     browser.wait('document.getElementById("file-refused").textContent.startsWith("TooLarge: from the lowest")')
     check('too large with its filling', shown(browser, '#fields'), '')
 
 
+def ihex(data, address):
+    """Records of 16 bytes, for addresses of one upper half."""
+    rows = [(4, 0, (address >> 16).to_bytes(2, 'big'))]
+    rows += [(0, (address + at) & 0xffff, data[at:at + 16]) for at in range(0, len(data), 16)]
+    records = [bytes([len(part)]) + at.to_bytes(2, 'big') + bytes([kind]) + part for kind, at, part in rows]
+    return b''.join(b':' + (it + bytes([-sum(it) & 255])).hex().upper().encode() + b'\n' for it in records) + END
+
+
+def with_dfuse(browser, address, work):
+    """A device of DfuSe gets the image at the file's own address; the next raw image has none."""
+    open_page(browser, address, device())
+    give_file(browser, work, ihex(LONG, START + 0x400), 'firmware.hex')
+    is_asked(browser)
+    browser.click('#connect')
+    is_ready(browser)
+    check('DfuSe: the address', browser.run('return document.getElementById("address").value'), '0x08000400')
+    fields = shown(browser, '#fields')
+    check_that('DfuSe: what was read', '08000400 to 080006bb' in fields and '700 bytes' in fields and 'suffix' not in fields, fields)
+    check('DfuSe: no suffix is asked for', shown(browser, '#raw') + shown(browser, '#file-refused'), '')
+    browser.click('#begin')
+    check('DfuSe: it is flashed', (report(browser), image(browser)), ('Verified', NEW_RAW))
+    give_file(browser, work, NEW, 'raw.bin')
+    browser.wait('document.getElementById("fields").textContent.includes("26 bytes")')
+    check('DfuSe: the address of the next one', browser.run('return document.getElementById("address").value'), '')
+
+
 def run(browser, address, work):
+    with_dfuse(browser, address, work)
     good(browser, address, work)
     bad(browser, address, work)
     gaps(browser, address, work)

@@ -7,7 +7,7 @@ from counting import check, check_that
 from scripts import TOP
 
 TYPES = {'uint8_t': 'u8', 'uint16_t': 'u16', 'uint32_t': 'u32', 'uint64_t': 'u64'}
-MOST_BYTES = 255000
+MOST_BYTES = 275000
 
 
 def records():

@@ -5,7 +5,6 @@ use Rattle.dfu_formats.specs.declared.images.format.Format.TheVariants.{IntelHex
 use Rattle.dfu_formats.specs.declared.images.making.Image.{Image}
 use Rattle.dfu_formats.specs.declared.images.making.ImageFileFault.{ImageFileFault}
 use Rattle.dfu_formats.specs.images.Making.{MakesImage, elements_in}
-use Rattle.dfu_image_c.specs.declared.refusals.ImageRefusal.{ImageRefusal}
 use Rattle.dfu_image_c.specs.declared.taking.DfuTaken.{DfuTaken}
 use Rattle.dfu_image_c.specs.Refusals.{no_format, no_room, refusal_of}
 

@@ -1,6 +1,6 @@
 //! The image of a file of a format, at the front of the caller's room.
 
-ghost use Rattle.std.specs.Prelude.{◌≡◌, ◌≤◌, ◌<◌, ◌++◌, drop, length, pos};
+ghost use Rattle.std.specs.Prelude.{◌≡◌};
 ghost use Rattle.dfu_image_c.specs.Taking.{Leaves, Takes, filling_of, format_of};
 
 use crate::refusals::{NO_FORMAT, NO_ROOM, refusal_of};
