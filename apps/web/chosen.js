@@ -1,15 +1,16 @@
 // SPDX-License-Identifier: MIT OR Apache-2.0
-// The file that is to be flashed: chosen or dropped, read by the proved host, and shown. A raw image gets its suffix here; with a device of
-// DfuSe it needs none.
+// The file that is to be flashed: chosen or dropped, read by the proved host, and shown. The image in a file that a build made is taken out
+// of it. A raw image gets its suffix here; with a device of DfuSe it needs none.
 import { DfuseHost, FILE } from './dfuse_host.js'
 import { elementText } from './dfuse_map.js'
 import { by, download, plain, say, showFields } from './elements.js'
 import { lacksSuffix, mayBeRaw, readFile } from './files.js'
-import { REFUSAL } from './host.js'
-import { isCut, otherThanRaw } from './looks.js'
+import { LOOKS, NAMED, REFUSAL } from './host.js'
+import { badByte, isCut, otherThanRaw } from './looks.js'
 import { digits } from './names.js'
 import { RawImage } from './raw.js'
 import { refusalOf } from './refusals.js'
+import { FILL, FILL_NONE, FORMATS, isFormat, takeImage, takingRefusal, TAKE } from './taking.js'
 
 const MOST_FILE = 16777216
 const MOST_SHOWN = 8 // elements
@@ -20,13 +21,15 @@ const target = ({ vendor, product, device }) => `${orAny(vendor)}:${orAny(produc
 
 export class ChosenFile {
   // onChange is called when there is another file; ids gives the identifiers of the connected device, or null if there is none.
-  constructor(module, onChange, ids) {
-    Object.assign(this, { module, onChange, bytes: null, said: null, look: null, isDfuse: false, isAdded: false, name: '' })
+  constructor({ host, image }, onChange, ids) {
+    Object.assign(this, { module: host, reader: image, own: null, taken: null, address: '' })
+    Object.assign(this, { onChange, bytes: null, said: null, look: null, isDfuse: false, isAdded: false, name: '' })
     Object.assign(this, { choices: 0, isLocked: false, isForDfuse: false, setting: null })
     this.raw = new RawImage(bytes => this.take(bytes, this.name, true), ids)
     // The same file may be chosen again, as one that was built anew.
     by('file').onclick = event => { event.target.value = '' }
     by('file').onchange = event => event.target.files[0] && this.read(event.target.files[0])
+    by('fill').onchange = () => { this.convert(by('fill').checked ? FILL : FILL_NONE); this.render(); this.onChange() }
     by('save').onclick = () => download(`${this.name.replace(/\.[^.]*$/, '')}.dfu`, this.bytes, 'application/octet-stream')
     this.listenToDrops(by('drop'))
   }
@@ -81,23 +84,67 @@ export class ChosenFile {
   // isAdded: it had no suffix, and the page added one.
   take(bytes, name, isAdded = false) {
     Object.assign(this, { bytes, name, isAdded, ...readFile(this.module, bytes, name) })
+    if (!isAdded) this.begin(bytes)
     this.render()
     if (isAdded && this.isGood()) by('save').focus()
     this.onChange()
   }
 
+  // A file that a person chose: of one that a build made the image is taken.
+  begin(bytes) {
+    by('fill').checked = false
+    Object.assign(this, { own: { bytes, look: this.look }, taken: null })
+    if (isFormat(this.look) && lacksSuffix(this, bytes)) this.convert(FILL_NONE)
+    this.sayAddress()
+  }
+
+  convert(fill) {
+    const { bytes, look } = this.own
+    this.taken = takeImage(this.reader, bytes, look.looks, fill)
+    if (this.isTaken()) Object.assign(this, { bytes: this.taken.bytes, look: { ...look, looks: LOOKS.RAW, named: NAMED.NONE } })
+    else Object.assign(this, { bytes, look })
+    this.sayAddress()
+  }
+
+  // Whether the image was taken out of the file.
+  isTaken() {
+    return this.taken !== null && this.taken.refusal === undefined
+  }
+
+  // A device of DfuSe is told the image's own address, unless a person types another one.
+  sayAddress() {
+    const address = this.isTaken() ? `0x${digits(this.taken.address, 8)}` : ''
+    if (address !== '' || by('address').value === this.address) by('address').value = address
+    this.address = address
+  }
+
   render() {
     by('fields').hidden = true
+    by('fill-row').hidden = this.taken === null || !(this.taken.refusal === TAKE.GAP || this.taken.fill === FILL)
     by('save-row').hidden = !this.isAdded || !this.isGood()
     say('file-refused', '')
     this.raw.hide()
-    if (this.isGood()) showFields('fields', [['Name', plain(this.name)], ...this.fields()])
-    else this.refuse()
+    const fields = () => [['Name', plain(this.name)], ...this.takenFields(), ...this.fields()]
+    if (this.isGood() || this.isTaken()) showFields('fields', fields())
+    if (this.isGood()) return
+    if (this.isTaken()) this.raw.ask(this.bytes, false, true)
+    else if (this.taken === null) this.refuse()
+    else this.refuseFormat()
+  }
+
+  // What was read of a file that a build made.
+  takenFields() {
+    if (!this.isTaken()) return []
+    const { format, fill, address, bytes } = this.taken
+    return [['Format', `${FORMATS[format]}${fill === FILL ? ', its gaps filled with the byte ff' : ''}`],
+      ['Addresses', `${digits(address, 8)} to ${digits(address + bytes.length - 1, 8)}`]]
   }
 
   fields() {
+    if (!this.isGood()) return [['Image', `${this.bytes.length} bytes`]]
     if (this.isDfuse) return this.dfuseFields()
-    if (this.isRaw()) return [['Image', `${this.bytes.length} bytes, all of them: it has no suffix`], ['For the device', 'any']]
+    const whole = this.isTaken() ? '' : ', all of them: it has no suffix'
+    if (this.isRaw()) return [['Image', `${this.bytes.length} bytes${whole}`], ['For the device', 'any']]
     const { payload, crc } = this.said
     return [['Image', `${payload} bytes`], ['For the device', `${target(this.said)}${this.isAdded ? ', as you say' : ''}`],
       ['Check sum', `${digits(crc, 8)}${this.isAdded ? ', added by this page' : ', and it is right'}`]]
@@ -120,8 +167,16 @@ export class ChosenFile {
     const isSuffixed = !lacksSuffix(this, this.bytes)
     const isOther = !isSuffixed && !mayBeRaw(this, this.bytes)
     const { name, words, advice } = refusalOf(isOther ? REFUSAL.FILE_NO_SIGNATURE : this.said.refusal)
-    const said = isOther ? otherThanRaw(this.look, this.bytes, this.name) : { words, advice }
+    const said = isOther ? otherThanRaw(this.look) : { words, advice }
     say('file-refused', `${name}: ${said.words}. ${said.advice}`)
     if (!isSuffixed && !isCut(this.look)) this.raw.ask(this.bytes, isOther)
+  }
+
+  // A file that a build made, and that has no image, or a gap in it. A person may send its own bytes.
+  refuseFormat() {
+    const { name, words, advice } = takingRefusal(this.taken)
+    const seen = `It looks like ${FORMATS[this.taken.format]}.`
+    say('file-refused', [`${name}: ${words}.`, seen, badByte(this.look, this.bytes), advice].filter(text => text !== '').join(' '))
+    this.raw.ask(this.bytes, true)
   }
 }

@@ -29,7 +29,7 @@ export class FlashView {
   constructor(modules, own) {
     Object.assign(this, { modules, own, usb: own, board: null, clock: null, isGoing: false, simulated: 0, opening: Promise.resolve() })
     this.outcome = new Outcome()
-    this.file = new ChosenFile(modules.host, () => this.lookAnew(), () => (this.board?.isOpen() ? this.board.is : null))
+    this.file = new ChosenFile(modules, () => this.lookAnew(), () => (this.board?.isOpen() ? this.board.is : null))
     this.memories = new Memories(modules.host, place => this.open(this.memories.device, place).catch(error => this.sayNoAccess(error)))
     this.words = new DfuseWords(() => this.look())
     this.listen()

@@ -57,8 +57,8 @@ export class Library {
 
   // The version that the library says of itself, or null.
   version() {
-    const { dfu_core_version: ofDevice, dfu_host_version: ofHost } = this.calls
-    return (ofDevice ?? ofHost ?? (() => null))()
+    const { dfu_core_version: ofDevice, dfu_host_version: ofHost, dfu_image_version: ofImage } = this.calls
+    return (ofDevice ?? ofHost ?? ofImage ?? (() => null))()
   }
 }
 

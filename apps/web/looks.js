@@ -5,28 +5,16 @@ import { LOOKS, NAMED } from './host.js'
 import { digits } from './names.js'
 
 export const WORDS = {
-  FORMAT: 'the file is HEX, S-records, UF2 or ELF; `dfu add --format auto` makes a DFU file of the image in it',
-  DAMAGED: 'the file is HEX or S-records with a mistake in a line; build it anew',
   ARCHIVE: 'the file is a zip or gzip archive; unpack it first',
   TEXT: 'the file is text and no image; give the file that the build made',
   NAMED: "the file isn't of the format that its name says: it was cut short or changed; build it anew",
   CUT: "the file's name ends in .dfu, and it has no DFU suffix: it was cut short or changed; get it anew",
 }
 
-// The line to type, with the file's own name if that is a word of each shell as it is, and isn't that of the file that is made.
-const typed = (format, name) => {
-  const files = /^\w[\w.+-]*$/.test(name) && !/\.dfu$/i.test(name) ? `${name} ${name.replace(/\.[^.]*$/, '')}.dfu` : 'IN OUT'
-  return `\`dfu add --format ${format} ${files} --vid 1209 --pid 0001\` makes a DFU file of its image, with your board's identifiers.`
-}
-
 const OTHERS = {
-  [LOOKS.IHEX]: ['FORMAT', 'Intel HEX', name => typed('ihex', name)],
-  [LOOKS.SREC]: ['FORMAT', 'Motorola S-records', name => typed('srec', name)],
-  [LOOKS.ELF]: ['FORMAT', 'an ELF file', name => typed('elf', name)],
-  [LOOKS.UF2]: ['FORMAT', 'UF2', name => `It is for a bootloader that shows itself as a disk. ${typed('uf2', name)}`],
-  [LOOKS.ZIP]: ['ARCHIVE', 'a zip archive', () => 'Unpack it first.'],
-  [LOOKS.GZIP]: ['ARCHIVE', 'a gzip archive', () => 'Unpack it first.'],
-  [LOOKS.TEXT]: ['TEXT', 'text', () => 'A page of a server may have come in place of the file.'],
+  [LOOKS.ZIP]: ['ARCHIVE', 'a zip archive', 'Unpack it first.'],
+  [LOOKS.GZIP]: ['ARCHIVE', 'a gzip archive', 'Unpack it first.'],
+  [LOOKS.TEXT]: ['TEXT', 'text', 'A page of a server may have come in place of the file.'],
 }
 const MARK = [0xef, 0xbb, 0xbf]
 const LINE_FEED = 10
@@ -42,13 +30,14 @@ function byteAt(bytes, line, column) {
 // Whether a DFU file was cut, or changed at its end: it has the name of one.
 export const isCut = ({ looks, named }) => looks === LOOKS.NAMED && named === NAMED.DFU
 
-// { words, advice } of a file that isn't raw.
-export function otherThanRaw(look, bytes, file) {
-  const { looks, line, column } = look
+// { words, advice } of a file that is neither raw nor of a format.
+export function otherThanRaw(look) {
   if (isCut(look)) return { words: WORDS.CUT, advice: 'Download the file again.' }
-  if (OTHERS[looks] === undefined) return { words: WORDS.NAMED, advice: 'Its name says one of HEX, S-records, UF2 and ELF.' }
-  const [words, name, advice] = OTHERS[looks]
-  const seen = `It looks like ${name}`
-  if (line === 0) return { words: WORDS[words], advice: `${seen}. ${advice(file)}` }
-  return { words: WORDS.DAMAGED, advice: `${seen}, but line ${line}, column ${column} is ${byteAt(bytes, line, column)}.` }
+  if (OTHERS[look.looks] === undefined) return { words: WORDS.NAMED, advice: 'Its name says one of HEX, S-records, UF2 and ELF.' }
+  const [words, name, advice] = OTHERS[look.looks]
+  return { words: WORDS[words], advice: `It looks like ${name}. ${advice}` }
 }
+
+// What is seen of the first byte that no record has there; nothing without one.
+export const badByte = ({ line, column }, bytes) =>
+  (line === 0 ? '' : `The first wrong character is at line ${line}, column ${column}: ${byteAt(bytes, line, column)}.`)

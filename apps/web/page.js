@@ -1,5 +1,5 @@
 // SPDX-License-Identifier: MIT OR Apache-2.0
-// The page: what this browser lacks, the two libraries, and the views.
+// The page: what this browser lacks, the three libraries, and the views.
 import { by, say } from './elements.js'
 import { FlashView } from './flash.js'
 import { load, runsWasm64 } from './library.js'
@@ -22,9 +22,9 @@ function showView() {
 async function begin() {
   if (!runsWasm64()) return say('lacks', NO_WASM)
   by('flash').classList.toggle('no-usb', navigator.usb === undefined)
-  const [host, device] = await Promise.all([load('dfu_host_c'), load('dfu_device_c')])
+  const [host, device, image] = await Promise.all([load('dfu_host_c'), load('dfu_device_c'), load('dfu_image_c')])
   const examples = await (await fetch(new URL('examples.json', import.meta.url))).json()
-  new FlashView({ host, device }, navigator.usb)
+  new FlashView({ host, device, image }, navigator.usb)
   new PlayView({ host, device }, examples)
   window.addEventListener('hashchange', showView)
   showView()

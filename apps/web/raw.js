@@ -18,9 +18,11 @@ export class RawImage {
     for (const field of FIELDS) by(`raw-${field}`).onkeydown = event => { if (event.key === 'Enter') this.add() }
   }
 
-  // Asks which device these bytes are for. isOther: they look like something else than a raw image.
-  ask(bytes, isOther) {
+  // Asks which device these bytes are for. isOther: they look like something else than a raw image. isTaken: the page took them out of a
+  // file.
+  ask(bytes, isOther, isTaken = false) {
     Object.assign(this, { bytes, isOther })
+    say('raw-legend', isTaken ? 'Which device is the image for?' : 'Is it a raw image? Then say which device it is for.')
     say('raw-wrong', '')
     by('raw-anyway').checked = false
     by('raw-anyway-row').hidden = !isOther

@@ -4,7 +4,7 @@
 #include "dfu_host.h"
 #include "dfuse_watch.h"
 #include "dfuse_file.h"
-#include "dfu_image.h"
+#include "dfu_image_take.h"
 #include "dfu_install.h"
 #include "dfu_trial.h"
 #include "dfu_runtime.h"
@@ -202,6 +202,12 @@ AT(dfu_look, looks, 0);
 AT(dfu_look, named, 4);
 AT(dfu_look, line, 8);
 AT(dfu_look, column, 16);
+
+SIZE(dfu_taken, 32);
+AT(dfu_taken, length, 0);
+AT(dfu_taken, from, 8);
+AT(dfu_taken, to, 16);
+AT(dfu_taken, address, 24);
 
 SIZE(dfuse_file, 16);
 AT(dfuse_file, targets, 0);

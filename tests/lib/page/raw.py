@@ -1,5 +1,5 @@
 """The file that is chosen. Of a raw image the page asks which device it is for, and adds the suffix; files of other formats are none,
-unless a person says that their bytes are to be sent as they are."""
+unless a person says that their bytes are to be sent as they are. (taking.py has those that builds produce.)"""
 import json
 import os
 import pathlib
@@ -15,23 +15,11 @@ from views import ENTER, SPACE, is_labelled, is_readable, open_page, shown, tab_
 
 PROGRAM = pathlib.Path(os.environ.get('BUILD') or TOP / 'build').absolute() / 'dfu'
 HEX = b':100000000C9434000C943E000C943E000C943E0082\n:00000001FF\n'
-OTHERS = {'Intel HEX': HEX, 'Motorola S-records': b'S00600004844521B\nS1130000285F245F\n',
-          'an ELF file': b'\x7fELF\x01\x01\x01' + bytes(45), 'UF2': b'UF2\n\x57\x51\x5d\x9e' + bytes(504),
-          'a zip archive': b'PK\x03\x04' + bytes(26), 'a gzip archive': b'\x1f\x8b\x08' + bytes(20), 'text': b'Sensible text\n'}
+OTHERS = {'a zip archive': b'PK\x03\x04' + bytes(26), 'a gzip archive': b'\x1f\x8b\x08' + bytes(20), 'text': b'Sensible text\n'}
 # By their names: the bytes, how the refusal begins, and what it ends in.
-DAMAGED, OF_NAME = 'the file is HEX or S-records with a mistake', "the file isn't of the format that its name says"
-OF_FORMAT = 'the file is HEX, S-records, UF2 or ELF; `dfu add --format auto`'
-ODD = {'mark.bin': (b'\xef\xbb\xbf' + HEX, OF_FORMAT, "with your board's identifiers."),
-       'line.hex': (b'\r\n' + HEX, OF_FORMAT, "with your board's identifiers."),
-       'letter.hex': (b':1O0000000C9434000C943E000C943E000C943E0082\n', DAMAGED, "line 1, column 3 is 'O'."),
-       'byte.mot': (b'S1130000285F245F\r\nS9\x01\n', DAMAGED, 'line 2, column 3 is the byte 01.'),
-       'marked.hex': (b'\xef\xbb\xbf' + HEX[:-2] + b'~\n', DAMAGED, "line 2, column 11 is '~'."),
-       'page.dfu': (b'<!DOCTYPE html>\n<title>404</title>\n', 'the file is text and no image', 'in place of the file.'),
+OF_NAME = "the file isn't of the format that its name says"
+ODD = {'page.dfu': (b'<!DOCTYPE html>\n<title>404</title>\n', 'the file is text and no image', 'in place of the file.'),
        'it.s19': (NEW, OF_NAME, 'one of HEX, S-records, UF2 and ELF.'), 'it.UF2': (NEW, OF_NAME, 'one of HEX, S-records, UF2 and ELF.')}
-# The line to type, by the file's name: one that no shell takes as it is, or that is the new file's, isn't in it.
-TYPED = {'fw-1.2.hex': 'fw-1.2.hex fw-1.2.dfu', 'noend': 'noend noend.dfu',
-         'two words.hex': 'IN OUT', "it's.hex": 'IN OUT', '-x.hex': 'IN OUT',
-         'x.DFU': 'IN OUT'}
 CUT = "NoSignature: the file's name ends in .dfu, and it has no DFU suffix: it was cut short or changed; get it anew. "
 
 
@@ -125,7 +113,7 @@ def anyway(browser, address, work):
     fits(browser, 'text as it is')
     tab_order(browser, 'text as it is')
     browser.click('#raw-anyway')
-    give_file(browser, work, OTHERS['Intel HEX'], 'it.hex')
+    give_file(browser, work, HEX[:-3], 'it.hex')
     browser.wait('document.getElementById("file-refused").textContent.includes("Intel HEX")')
     is_shut(browser, 'the next file')
     give_file(browser, work, OTHERS['text'], 'text')
@@ -151,11 +139,6 @@ def others(browser, address, work):
                      f' && document.getElementById("file-refused").textContent.endsWith({json.dumps(end)})')
         check_that(f'{name}: what to do', shown(browser, '#file-refused').endswith(end), shown(browser, '#file-refused'))
         is_shut(browser, name)
-    for name, files in TYPED.items():
-        give_file(browser, work, HEX, name)
-        words = f'It looks like Intel HEX. `dfu add --format ihex {files} --vid 1209 --pid 0001` makes'
-        browser.wait(f'document.getElementById("file-refused").textContent.includes({json.dumps(words)})')
-        check_that(f'{name}: what to type', words in shown(browser, '#file-refused'), shown(browser, '#file-refused'))
     for name, payload in (('one byte', b'\1'), ('what only begins so', b':1\1'), ('the text of a suffix', b'UFD' + bytes(30)),
                           ('cut', suffixed(NEW)[:-5])):
         give_file(browser, work, payload, name)

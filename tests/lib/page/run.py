@@ -16,6 +16,7 @@ import playing
 import raw
 import scripts
 import sessions
+import taking
 import texts
 import trying
 import versions
@@ -47,6 +48,7 @@ def main(page, flash):
             check('the console', browser.console(), [])
             timed('the view that flashes', flashing.run, browser, address, work)
             timed('raw images', raw.run, browser, address, work)
+            timed('files that builds produce', taking.run, browser, address, work)
             timed('the view with DfuSe', dfuse_view.run, browser, address, work)
             timed('the view to play with', playing.run, browser, address)
             timed('a simulated board, and no server', trying.run, browser, address, work, page)

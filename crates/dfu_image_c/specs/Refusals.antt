@@ -1,0 +1,77 @@
+-- What C gets if there is no image of a file: a number, and the places that the fault names.
+use Rattle.std.specs.Prelude.{ℕ, ℤ, negsuc}
+use Rattle.dfu_formats.specs.declared.images.fault.ImageFault.{ImageFault}
+use Rattle.dfu_formats.specs.declared.images.fault.ImageFault.TheVariants as file
+use Rattle.dfu_formats.specs.declared.images.laying.LayFault.TheVariants as lay
+use Rattle.dfu_formats.specs.declared.images.making.ImageFileFault.{ImageFileFault}
+use Rattle.dfu_formats.specs.declared.images.making.ImageFileFault.TheVariants.{Unread, NoData, Unlaid}
+use Rattle.dfu_image_c.specs.declared.refusals.ImageRefusal.{ImageRefusal}
+
+-- The number of the fault of a file, -103 to -125.
+abbrev pub image_fault_number : ImageFault → ℤ
+image_fault_number file.NoMemory = negsuc 102
+image_fault_number (file.NoMark at) = negsuc 103
+image_fault_number (file.BadDigit at) = negsuc 104
+image_fault_number (file.BadLength at) = negsuc 105
+image_fault_number (file.BadChecksum at) = negsuc 106
+image_fault_number (file.BadType at) = negsuc 107
+image_fault_number (file.BadCount at) = negsuc 108
+image_fault_number (file.PastSegment at) = negsuc 109
+image_fault_number (file.Trailing at) = negsuc 110
+image_fault_number file.NoEnd = negsuc 111
+image_fault_number file.BadSize = negsuc 112
+image_fault_number (file.BadMagic at) = negsuc 113
+image_fault_number (file.BadBlock at) = negsuc 114
+image_fault_number (file.BadNumber at) = negsuc 115
+image_fault_number (file.FileContainer at) = negsuc 116
+image_fault_number (file.OtherFamily at) = negsuc 117
+image_fault_number file.NotElf = negsuc 118
+image_fault_number file.CutHeader = negsuc 119
+image_fault_number (file.CutSegment at) = negsuc 120
+image_fault_number (file.PastTheEnd at) = negsuc 121
+image_fault_number (file.TooLarge at) = negsuc 122
+image_fault_number (file.TooManyElements at) = negsuc 123
+image_fault_number (file.Overlaps address) = negsuc 124
+
+-- The line, block, segment or address that the fault of a file names, or 0.
+abbrev pub image_fault_place : ImageFault → ℕ
+image_fault_place file.NoMemory = 0
+image_fault_place (file.NoMark at) = at
+image_fault_place (file.BadDigit at) = at
+image_fault_place (file.BadLength at) = at
+image_fault_place (file.BadChecksum at) = at
+image_fault_place (file.BadType at) = at
+image_fault_place (file.BadCount at) = at
+image_fault_place (file.PastSegment at) = at
+image_fault_place (file.Trailing at) = at
+image_fault_place file.NoEnd = 0
+image_fault_place file.BadSize = 0
+image_fault_place (file.BadMagic at) = at
+image_fault_place (file.BadBlock at) = at
+image_fault_place (file.BadNumber at) = at
+image_fault_place (file.FileContainer at) = at
+image_fault_place (file.OtherFamily at) = at
+image_fault_place file.NotElf = 0
+image_fault_place file.CutHeader = 0
+image_fault_place (file.CutSegment at) = at
+image_fault_place (file.PastTheEnd at) = at
+image_fault_place (file.TooLarge at) = at
+image_fault_place (file.TooManyElements at) = at
+image_fault_place (file.Overlaps address) = address
+
+-- A refusal with the number of the fault, and with its places. A file without bytes is -126, a gap -127, and an image that is too large
+-- with what fills it -128.
+abbrev pub refusal_of : ImageFileFault → ImageRefusal
+refusal_of (Unread fault) = record { number = image_fault_number fault; from = image_fault_place fault; to = 0 }
+refusal_of NoData = record { number = negsuc 125; from = 0; to = 0 }
+refusal_of (Unlaid lay.NoMemory) = record { number = negsuc 102; from = 0; to = 0 }
+refusal_of (Unlaid (lay.Gap from to)) = record { number = negsuc 126; from = from; to = to }
+refusal_of (Unlaid lay.TooLarge) = record { number = negsuc 127; from = 0; to = 0 }
+
+-- A number of no format is refused with -101.
+abbrev pub no_format : ℤ
+no_format = negsuc 100
+
+-- A room that is shorter than the image is refused with -102.
+abbrev pub no_room : ℤ
+no_room = negsuc 101

@@ -1,0 +1,95 @@
+//! What C gets if there is no image of a file: a number, and the places that the fault names.
+
+ghost use Rattle.std.specs.Prelude.{◌≡◌};
+ghost use Rattle.dfu_image_c.specs.Refusals.{image_fault_number, image_fault_place, refusal_of};
+
+use dfu_formats::images::{ImageFault, ImageFileFault, LayFault};
+
+/// There is no format of this number.
+pub(crate) const NO_FORMAT: i32 = -101;
+
+/// The room is shorter than the image.
+pub(crate) const NO_ROOM: i32 = -102;
+
+/// A refusal: its number, and the places that it names, or 0.
+#[derive(Clone, Copy)]
+pub(crate) struct ImageRefusal {
+    /// The number, -103 to -129.
+    pub(crate) number: i32,
+    /// A line from 1, a block or segment from 0, or an address.
+    pub(crate) from: u64,
+    /// The address of the first byte behind a gap.
+    pub(crate) to: u64,
+}
+
+/// The number of the fault of a file.
+fn image_fault_number(fault: ImageFault) -> i32
+    ensures { result ≡ image_fault_number fault }
+{
+    match fault {
+        ImageFault::NoMemory => -103,
+        ImageFault::NoMark(_) => -104,
+        ImageFault::BadDigit(_) => -105,
+        ImageFault::BadLength(_) => -106,
+        ImageFault::BadChecksum(_) => -107,
+        ImageFault::BadType(_) => -108,
+        ImageFault::BadCount(_) => -109,
+        ImageFault::PastSegment(_) => -110,
+        ImageFault::Trailing(_) => -111,
+        ImageFault::NoEnd => -112,
+        ImageFault::BadSize => -113,
+        ImageFault::BadMagic(_) => -114,
+        ImageFault::BadBlock(_) => -115,
+        ImageFault::BadNumber(_) => -116,
+        ImageFault::FileContainer(_) => -117,
+        ImageFault::OtherFamily(_) => -118,
+        ImageFault::NotElf => -119,
+        ImageFault::CutHeader => -120,
+        ImageFault::CutSegment(_) => -121,
+        ImageFault::PastTheEnd(_) => -122,
+        ImageFault::TooLarge(_) => -123,
+        ImageFault::TooManyElements(_) => -124,
+        ImageFault::Overlaps(_) => -125,
+    }
+}
+
+/// The line, block, segment or address that the fault of a file names, or 0.
+fn image_fault_place(fault: ImageFault) -> u64
+    ensures { result ≡ image_fault_place fault }
+{
+    match fault {
+        ImageFault::NoMark(at)
+        | ImageFault::BadDigit(at)
+        | ImageFault::BadLength(at)
+        | ImageFault::BadChecksum(at)
+        | ImageFault::BadType(at)
+        | ImageFault::BadCount(at)
+        | ImageFault::PastSegment(at)
+        | ImageFault::Trailing(at)
+        | ImageFault::BadMagic(at)
+        | ImageFault::BadBlock(at)
+        | ImageFault::BadNumber(at)
+        | ImageFault::FileContainer(at)
+        | ImageFault::OtherFamily(at)
+        | ImageFault::CutSegment(at)
+        | ImageFault::PastTheEnd(at)
+        | ImageFault::TooLarge(at)
+        | ImageFault::TooManyElements(at) => at as u64,
+        ImageFault::Overlaps(address) => u64::from(address),
+        _ => 0,
+    }
+}
+
+/// The refusal of a file that makes no image.
+pub(crate) fn refusal_of(fault: ImageFileFault) -> ImageRefusal
+    ensures { result ≡ refusal_of fault }
+{
+    let (number, from, to) = match fault {
+        ImageFileFault::Unread(fault) => (image_fault_number(fault), image_fault_place(fault), 0),
+        ImageFileFault::NoData => (-126, 0, 0),
+        ImageFileFault::Unlaid(LayFault::NoMemory) => (-103, 0, 0),
+        ImageFileFault::Unlaid(LayFault::Gap(from, to)) => (-127, from, u64::from(to)),
+        ImageFileFault::Unlaid(LayFault::TooLarge) => (-128, 0, 0),
+    };
+    ImageRefusal { number, from, to }
+}

@@ -1,0 +1,98 @@
+//! The image of a file of a format, at the front of the caller's room.
+
+ghost use Rattle.std.specs.Prelude.{◌≡◌};
+ghost use Rattle.dfu_image_c.specs.Taking.{Leaves, Takes, filling_of, format_of};
+
+use crate::refusals::{NO_FORMAT, NO_ROOM, refusal_of};
+use dfu_formats::images::{Format, Image, ImageFileFault, image_of};
+use std::alloc::Global;
+
+/// `struct dfu_taken`: what a call says of an image, or of the file that has none. The header says what each number means.
+#[repr(C)]
+#[derive(Drop)]
+pub struct DfuTaken {
+    /// How many bytes the image has.
+    pub length: u64,
+    /// The line, block, segment or address that a refusal names, or the first address of a gap.
+    pub from: u64,
+    /// The address of the first byte behind a gap.
+    pub to: u64,
+    /// The address of the image's first byte.
+    pub address: u32,
+}
+
+/// The format of a number, 1 to 4.
+#[tactic(auto, using(std::proofs::lemmas::Bool::Decides::nat_tests))]
+fn format_of(number: u32) -> Option<Format>
+    ensures { result ≡ format_of number }
+{
+    match number {
+        1 => Some(Format::IntelHex),
+        2 => Some(Format::SRecord),
+        3 => Some(Format::Uf2),
+        4 => Some(Format::Elf),
+        _ => None,
+    }
+}
+
+/// The byte that fills gaps; none for a number over 255.
+#[tactic(auto, using(std::proofs::lemmas::Bool::Decides::nat_tests))]
+fn filling_of(number: u32) -> Option<u8>
+    ensures { result ≡ filling_of number }
+{
+    if number < 256 {
+        Some(number as u8)
+    } else {
+        None
+    }
+}
+
+/// Puts what was read of a file into the room, and says it.
+fn leave(read: Result<Image, ImageFileFault>, room: &mut [u8], taken: &mut DfuTaken) -> i32
+    ensures { Leaves read room.old room.new taken.new result }
+{
+    match read {
+        Ok(image) => {
+            let count = image.bytes.len();
+            *taken = DfuTaken {
+                length: count as u64,
+                from: 0,
+                to: 0,
+                address: image.address,
+            };
+            if count > room.len() {
+                return NO_ROOM;
+            }
+            room[..count].copy_from_slice(&image.bytes);
+            0
+        }
+        Err(fault) => {
+            let refusal = refusal_of(fault);
+            *taken = DfuTaken {
+                length: 0,
+                from: refusal.from,
+                to: refusal.to,
+                address: 0,
+            };
+            refusal.number
+        }
+    }
+}
+
+/// Lays the image of a file of a format at the front of the room, gaps filled by a byte, if one is given.
+#[unsafe(no_mangle)]
+pub extern "C" fn dfu_image_take(
+    alloc: Global,
+    file: &[u8],
+    format: u32,
+    fill: u32,
+    room: &mut [u8],
+    taken: &mut DfuTaken,
+) -> i32
+    ensures { Takes (format_of format) (filling_of fill) file.now room.old room.new taken.old taken.new result }
+{
+    let Some(format) = format_of(format) else {
+        return NO_FORMAT;
+    };
+    leave(image_of(alloc, format, filling_of(fill), file), room, taken)
+}
