@@ -17,7 +17,7 @@ from words import Words
 
 MODULES = {
     "dfu_wire": "wire", "dfu_suffix": "suffix", "dfu_slots": "slots", "dfu_device": "device", "dfu_host": "host", "dfu_asks": "asks",
-    "dfu_boot": "boot",
+    "dfu_boot": "boot", "dfu_home": "home",
     "dfu_formats::memory": "dfuse::memory", "dfuse_host": "dfuse::session", "dfu_formats::dfuse": "dfuse::file",
     "dfu_formats::images": "formats", "dfu_conformance": "conformance", "dfu_conformance::dfuse": "dfuse_conformance",
 }

@@ -1,0 +1,23 @@
+-- What is asked for.
+use Rattle.std.proofs.Common.{◌≡◌, inr, Bool, false, not, IsTrue, arith}
+use Rattle.std.proofs.lemmas.Grind.{common_steps}
+use Rattle.dfu_slots.specs.Medium.{MediumState}
+use Rattle.dfu_home.specs.declared.due.Due.{Due}
+use Rattle.dfu_home.specs.declared.due.Due.TheVariants.{Refuse, Home, Erase, Program}
+use Rattle.dfu_home.specs.declared.due.Progress.{Progress}
+use Rattle.dfu_home.specs.Places.{IsAway}
+use Rattle.dfu_home.specs.Next.{IsCopying, MayAsk, IsCopyDue, Does}
+
+-- The image is in the second slot if it was not found in the first.
+pub found_away : (m : MediumState) (home : Bool) → home ≡ false → (IsTrue (not home) → IsAway m) → IsAway m
+found_away m home is away = away (there home is)
+  where
+    there : (b : Bool) → b ≡ false → IsTrue (not b)
+    there b e = grind (arith, common_steps)
+
+-- What is due of a copy is due.
+pub copy_does : (m : MediumState) (p : Progress) (due : Due) → MayAsk m p → IsCopying m → IsCopyDue m p.last due → Does m p due
+copy_does m p (Refuse refusal) may c due = absurd due
+copy_does m p Home may c due = absurd due
+copy_does m p (Erase at) may c due = (may, inr (c, due))
+copy_does m p (Program at len) may c due = (may, c, due)

@@ -1,0 +1,6 @@
+mod Headers
+mod Away
+mod Units
+mod Asked
+mod Staying
+mod Allowing

@@ -1,0 +1,89 @@
+-- What a copy programs, and what is due of it.
+use Rattle.std.proofs.Common.{◌≡◌, inl, inr, ℕ, ◌+◌, ◌-◌, ◌*◌, ◌≤◌, ◌<◌, ◌==◌, true, false, List, [], ◌∷◌, ◌++◌, length, take, drop, replicate, Option, if◌then◌else◌, refl, sym, ◌∙◌, ap, subst, arith, eq-eqb}
+use Rattle.std.proofs.lemmas.List.{drop-replicate, take-replicate, take_all}
+use Rattle.std.proofs.lemmas.Bool.{cond-true, cond-false, ne_eqb}
+use Rattle.std.proofs.Math.Seq.{take-append-add}
+use Rattle.dfu_suffix.specs.Register.{register}
+use Rattle.dfu_slots.specs.Units.{gate_size}
+use Rattle.dfu_slots.specs.Medium.{MediumState}
+use Rattle.dfu_slots.specs.Layout.{OPEN, generation, next_generation, header_length, gate_unit, header_unit}
+use Rattle.dfu_slots.specs.Image.{gate_of}
+use Rattle.dfu_slots.proofs.Sectors.{gate_wide}
+use Rattle.dfu_boot.specs.install.Area.{program_piece}
+use Rattle.dfu_boot.specs.install.Next.{Does as Fills}
+use Rattle.dfu_boot.specs.declared.install.due.Due.{Due as FillDue}
+use Rattle.dfu_home.specs.declared.due.Due.{Due}
+use Rattle.dfu_home.specs.declared.due.Due.TheVariants.{Refuse, Home, Erase, Program}
+use Rattle.dfu_home.specs.Places.{first_of, second_of, away_image, HasCopyHeader, copy_header, HasBytes, last_in_data}
+use Rattle.dfu_home.specs.Next.{CopiesBytes, IsHeadDue, IsCopyDue, IsUnitDue, GivesUnit, GivesBytes, program_bytes}
+
+-- A buffer of zeros, to whose front bytes were copied.
+pub filled_up : (bytes copied : List ℕ) → copied ≡ bytes
+    → copied ++ drop (length bytes) (replicate 256 0) ≡ bytes ++ replicate (256 - length bytes) 0
+filled_up bytes copied is = λ i. is i ++ drop-replicate (length bytes) 256 0 i
+
+-- The front of such a buffer.
+pub unit_front : (front after : List ℕ) (len : ℕ) → after ≡ front ++ replicate (256 - length front) 0 → length front ≤ len → len ≤ 256
+    → take len after ≡ front ++ replicate (len - length front) 0
+unit_front front after len is low high =
+    let zeros : List ℕ = replicate (256 - length front) 0 in
+    let e : len ≡ length front + (len - length front) = omega (arith, low) in
+    ap (λ (l : List ℕ). take len l) is ∙ ap (λ (k : ℕ). take k (front ++ zeros)) e ∙ take-append-add front zeros (len - length front)
+    ∙ ap (λ (l : List ℕ). front ++ l) (take-replicate (len - length front) (256 - length front) 0 (omega (arith, low, high)))
+
+module _ (m : MediumState) where
+  abbrev g : ℕ
+  g = gate_of m
+
+  abbrev size : ℕ
+  size = gate_size m.grain.unit
+
+  abbrev at_header : List ℕ
+  at_header = header_unit size (next_generation (generation (second_of m))) (header_length (second_of m)) (register (away_image m))
+
+  -- The bytes of a piece are those at its place.
+  data_bytes_is : (d : ℕ) → program_piece (away_image m) d ≡ program_bytes m (2 * g + d)
+  data_bytes_is d =
+      let at = 2 * g + d in
+      let wide = gate_wide m.grain in
+      let e : at - 2 * g ≡ d = omega arith in
+      sym (cond-false (at == 0) (gate_unit size OPEN) (if at == g then at_header else program_piece (away_image m) (at - 2 * g))
+      (ne_eqb at 0 (λ none. omega (arith, none, wide)))
+      ∙ cond-false (at == g) at_header (program_piece (away_image m) (at - 2 * g)) (ne_eqb at g (λ is. omega (arith, is, wide)))
+      ∙ ap (λ (k : ℕ). program_piece (away_image m) k) e)
+
+  -- What a run area would be due is due of the data.
+  pub copies : (image run : List ℕ) (sector : ℕ) (last shown : Option ℕ) (due : FillDue) → image ≡ away_image m
+      → run ≡ (first_of m).data_bytes → sector ≡ m.grain.sector → shown ≡ last_in_data (2 * g) last → Fills image run sector shown due
+      → CopiesBytes m last due
+  copies image run sector last shown due is data_is sector_is shown_is does =
+      subst (λ (l : List ℕ). Fills l (first_of m).data_bytes m.grain.sector (last_in_data (2 * g) last) due) is
+      (subst (λ (l : List ℕ). Fills image l m.grain.sector (last_in_data (2 * g) last) due) data_is
+      (subst (λ (n : ℕ). Fills image run n (last_in_data (2 * g) last) due) sector_is
+      (subst (λ (o : Option ℕ). Fills image run sector o due) shown_is does)))
+
+  -- The bytes that are programmed are those of the image.
+  pub piece_gives : (image after : List ℕ) (d : ℕ) → image ≡ away_image m → after ≡ program_piece image d → length after ≡ 256
+      → take 256 after ≡ program_bytes m (2 * g + d)
+  piece_gives image after d is made long =
+      ap (λ (k : ℕ). take k after) (sym long) ∙ whole after ∙ made ∙ ap (λ (l : List ℕ). program_piece l d) is ∙ data_bytes_is d
+    where
+      whole : (l : List ℕ) → take (length l) l ≡ l
+      whole l = take_all (length l) l (omega arith)
+
+  -- Once the bytes are there, what is due then is due of the copy.
+  pub head_due : (last : Option ℕ) (due : Due) → HasBytes m → IsHeadDue m last due → IsCopyDue m last due
+  head_due last (Refuse refusal) bytes head = head
+  head_due last Home bytes head = head
+  head_due last (Erase at) bytes (inl head) = inr (inl ((bytes, head.0), head.1, head.2))
+  head_due last (Erase at) bytes (inr head) = inr (inr ((bytes, head.0), head.1, head.2))
+  head_due last (Program at len) bytes (inl head) = inr (inl ((bytes, head.0), head.1, head.2, head.3))
+  head_due last (Program at len) bytes (inr head) = inr (inr ((bytes, head.0), head.1, head.2, head.3))
+
+  -- An image of no bytes is there.
+  pub no_bytes : length (away_image m) ≡ 0 → HasBytes m
+  no_bytes none = empty (away_image m) none
+    where
+      empty : (l : List ℕ) → length l ≡ 0 → take (length l) (first_of m).data_bytes ≡ l
+      empty [] none = refl
+      empty (x ∷ xs) none = absurd (omega (arith, none))

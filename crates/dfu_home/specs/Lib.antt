@@ -1,0 +1,4 @@
+pub mod Places
+pub mod Next
+pub mod Laws
+pub mod Took

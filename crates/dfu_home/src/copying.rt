@@ -1,0 +1,149 @@
+//! The copy of the image in the second slot: its bytes, its header, and then the gate is opened.
+ghost use Rattle.std.specs.Prelude.{◌≡◌, ◌↔◌, ◌≤◌, ◌<◌, ◌+◌, ◌-◌, ◌*◌, ◌^◌, ◌++◌, ℕ, length, take, drop, replicate, slice_index, slice_range, IsTrue};
+ghost use Rattle.std.specs.Int.{w32, from_le_bytes};
+ghost use Rattle.dfu_suffix.specs.Register.{register};
+ghost use Rattle.dfu_slots.specs.Units.{gate_size};
+ghost use Rattle.dfu_slots.specs.Layout.{next_generation, header};
+ghost use Rattle.dfu_home.specs.Places.{first_of, away_image, last_in_data};
+ghost use Rattle.dfu_home.specs.Next.{IsCopying, IsCopyDue, IsHeadDue, IsUnitDue, GivesUnit, GivesBytes};
+
+use crate::Due;
+use crate::bytes::{are_blank, are_same, fill_up};
+use dfu_boot::install;
+use dfu_slots::{Medium, OPEN_GATE, VERSION, gate_of, header_of, length_in, make_header};
+use dfu_suffix::Crc;
+
+// Where the last operation went in the data of the first slot, if it went there.
+fn last_in_data(gates: u32, last: Option<u32>) -> Option<u32>
+    ensures { result ≡ last_in_data gates last }
+{
+    match last {
+        None => None,
+        Some(at) => { if at < gates { None } else { Some(at - gates) } }
+    }
+}
+
+// The header of the copy of an image that has this one: one generation on.
+fn copy_header(found: &[u8; 16], image: &[u8]) -> [u8; 16]
+    ensures { result ≡ header 2 (next_generation (slice_index found.now 0)) (from_le_bytes w32 (take 4 (drop 4 found.now))) (register image.now) }
+{
+    let mut crc = Crc::new();
+    crc.update_small(image);
+    make_header(
+        VERSION,
+        found[0].wrapping_add(1),
+        length_in(found),
+        crc.value(),
+    )
+}
+
+// The data of the first slot.
+fn first_data<'f, M: Medium>(medium: &M, flash: &'f [u8]) -> &'f [u8]
+    requires mapped { flash.now ≡ (M.state medium.now).bytes }
+    requires copying { IsCopying (M.state medium.now) }
+    ensures { result.now ≡ (first_of (M.state medium.now)).data_bytes }
+{
+    let half = medium.len() / 2;
+    let gates = 2 * gate_of(medium);
+    &flash[gates as usize..half as usize]
+}
+
+// The image in the second slot.
+fn away_image<'f, M: Medium>(medium: &M, flash: &'f [u8]) -> &'f [u8]
+    requires mapped { flash.now ≡ (M.state medium.now).bytes }
+    requires copying { IsCopying (M.state medium.now) }
+    ensures { result.now ≡ away_image (M.state medium.now) }
+{
+    let half = medium.len() / 2;
+    let from = half + 2 * gate_of(medium);
+    let data = &flash[from as usize..(half + half) as usize];
+    &data[..length_in(&header_of(medium, half)) as usize]
+}
+
+// How many bytes a gate unit has, and a header unit as many.
+fn gate_size<M: Medium>(medium: &M) -> u32
+    ensures value { result ≡ gate_size (M.state medium.now).grain.unit }
+    ensures least { 16 ≤ result }
+    ensures most { result ≤ 256 }
+{
+    16.max(medium.unit().size())
+}
+
+// What is due of a gate unit that begins there, which is to have these bytes, and zeros after them: it is programmed if the last operation
+// erased it, and else erased.
+fn unit_due<M: Medium>(
+    medium: &M,
+    flash: &[u8],
+    at: u32,
+    last: Option<u32>,
+    front: &[u8],
+    out: &mut [u8; 256],
+) -> Due
+    requires mapped { flash.now ≡ (M.state medium.now).bytes }
+    requires within { at + 256 ≤ length flash.now }
+    requires bound { length flash.now < 2 ^ 32 }
+    requires few { length front.now ≤ 16 }
+    ensures due { IsUnitDue (M.state medium.now) last at result }
+    ensures bytes { GivesUnit front.now result out.old out.new }
+{
+    let len = gate_size(medium);
+    if last != Some(at) {
+        return Due::Erase { at };
+    }
+    if !are_blank(flash, at, at + len) {
+        return Due::Erase { at };
+    }
+    fill_up(front, out);
+    Due::Program { at, len }
+}
+
+// What is due once the bytes are there: the header, or behind it the gate.
+fn head<M: Medium>(
+    medium: &M,
+    flash: &[u8],
+    image: &[u8],
+    last: Option<u32>,
+    out: &mut [u8; 256],
+) -> Due
+    requires mapped { flash.now ≡ (M.state medium.now).bytes }
+    requires copying { IsCopying (M.state medium.now) }
+    requires image { image.now ≡ away_image (M.state medium.now) }
+    ensures due { IsHeadDue (M.state medium.now) last result }
+    ensures bytes { GivesBytes (M.state medium.now) result out.old out.new }
+{
+    let header = copy_header(&header_of(medium, medium.len() / 2), image);
+    if are_same(&header_of(medium, 0), &header) {
+        return unit_due(medium, flash, 0, last, &[OPEN_GATE], out);
+    }
+    unit_due(medium, flash, gate_of(medium), last, &header, out)
+}
+
+/// What is due of a copy.
+pub(crate) fn copy<M: Medium>(
+    medium: &M,
+    flash: &[u8],
+    last: Option<u32>,
+    out: &mut [u8; 256],
+) -> Due
+    requires mapped { flash.now ≡ (M.state medium.now).bytes }
+    requires copying { IsCopying (M.state medium.now) }
+    ensures due { IsCopyDue (M.state medium.now) last result }
+    ensures bytes { GivesBytes (M.state medium.now) result out.old out.new }
+{
+    let gates = 2 * gate_of(medium);
+    let run = first_data(medium, flash);
+    let image = away_image(medium, flash);
+    match install::next(image, run, medium.sector(), last_in_data(gates, last)) {
+        install::Due::Erase(at) => Due::Erase { at: gates + at },
+        install::Due::Program(at) => {
+            install::piece(image, at, out);
+            Due::Program {
+                at: gates + at,
+                len: 256,
+            }
+        }
+        install::Due::Start => head(medium, flash, image, last, out),
+        install::Due::Refuse(install::Refusal::NoImage) => head(medium, flash, image, last, out),
+        install::Due::Refuse(_) => unreachable!(),
+    }
+}

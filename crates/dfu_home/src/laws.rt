@@ -1,0 +1,18 @@
+//! Laws of two areas. Each is the contract of a function with an empty body, which is proved and not to be called.
+ghost use Rattle.dfu_home.specs.Laws.{ImageStays, WritesTheFirstSlot, SecondIsSpare};
+
+/// Whatever becomes of an operation that is due, also if it fails, lies or is cut off with any bytes in its range, the same image is the
+/// active one. So it is after any list of them, and of losses of power.
+pub fn image_stays()
+    ensures { ImageStays }
+{}
+
+/// Each operation lies in the first slot: an erase is of a whole sector, and a program of bytes that are FFh.
+pub fn writes_the_first_slot()
+    ensures { WritesTheFirstSlot }
+{}
+
+/// As long as the active image is in the first slot, the second one is spare.
+pub fn second_is_spare()
+    ensures { SecondIsSpare }
+{}
