@@ -1,5 +1,5 @@
--- The texts of an argument that may be there more often than once.
-use Rattle.std.proofs.Common.{◌≡◌, refl, List, Option, None, Some}
+-- The texts of arguments.
+use Rattle.std.proofs.Common.{◌≡◌, ◌∙◌, refl, ap, sym, List, Option, None, Some, Result, Ok, Err, IfOk}
 use Rattle.std.specs.List.{find}
 use Rattle.std.specs.Prelude.{slice_get}
 use Rattle.std.specs.Option.{option_and_then, option_map}
@@ -13,3 +13,9 @@ none_first id rows none = go (find (λ r. bytes_eq r.id id) rows) none
     go : (o : Option Row) → option_map (λ (r : Row). r.values) o ≡ None → option_and_then (λ (r : Row). slice_get r.values 0) o ≡ None
     go None none = refl
     go (Some r) none = cc
+
+-- A text that was copied from a value is that value.
+pub ok_text : {T E : Type 0} (text : T → Text) (copy : Result T E) (value : Text) (first : Option Text)
+    → IfOk copy (λ t. text t ≡ value) → first ≡ Some value → IfOk copy (λ t. first ≡ Some (text t))
+ok_text text (Ok t) value first same is = is ∙ ap Some (sym same)
+ok_text text (Err e) value first same is = tt

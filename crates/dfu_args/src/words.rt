@@ -1,6 +1,6 @@
 //! From the words of a command line to a subcommand.
 
-ghost use Rattle.std.specs.Prelude.{◌≡◌, IfErr, IfOk, IfSome, Some, codes, is_some, map, true};
+ghost use Rattle.std.specs.Prelude.{◌≡◌, ◌||◌, IfOk, IfSome, Some, codes, is_some, map, true};
 ghost use Rattle.std.specs.Option.{option_map};
 ghost use Rattle.std.specs.String.{string_bytes};
 ghost use Rattle.clap.specs.Words.{all_of, first_of, found_of, has_subcommand, rows_of, subcommand_of, subcommand_rows_of};
@@ -11,31 +11,26 @@ ghost use Rattle.dfu_args.specs.Refusals.{EndsBy, word_faults};
 use crate::command_line::matches_of;
 use crate::subcommand::{ArgsFault, ParsedArgs, Subcommand};
 use clap::ArgMatches;
-use std::alloc::Global;
+use std::alloc::{AllocError, Global};
 
 /// The text of an argument.
 // Many calls have it: once in the program is enough.
 #[inline(never)]
-fn text_of(alloc: Global, found: &ArgMatches<'_>, id: &str) -> Result<String, ArgsFault>
+fn text_of(alloc: Global, found: &ArgMatches<'_>, id: &str) -> Result<String, AllocError>
     requires there { is_some (first_of id.now (rows_of (found_of found.now))) ≡ true }
-    ensures memory { IfErr result (λ f. f ≡ ArgsFault.NoMemory) }
-    ensures text { IfOk result (λ t. first_of id.now (rows_of (found_of found.now)) ≡ Some (string_bytes t)) }
+    ensures { IfOk result (λ t. first_of id.now (rows_of (found_of found.now)) ≡ Some (string_bytes t)) }
 {
     let Some(text) = found.get_str(id) else {
         unreachable!()
     };
-    match String::from_str(alloc, text) {
-        Ok(text) => Ok(text),
-        Err(_) => Err(ArgsFault::NoMemory),
-    }
+    String::from_str(alloc, text)
 }
 
 /// The texts of an argument, of which there is one at least.
 #[inline(never)]
-fn texts_of(alloc: Global, found: &ArgMatches<'_>, id: &str) -> Result<Vec<String>, ArgsFault>
+fn texts_of(alloc: Global, found: &ArgMatches<'_>, id: &str) -> Result<Vec<String>, AllocError>
     requires there { is_some (first_of id.now (rows_of (found_of found.now))) ≡ true }
-    ensures memory { IfErr result (λ f. f ≡ ArgsFault.NoMemory) }
-    ensures texts { IfOk result (λ t. all_of id.now (rows_of (found_of found.now)) ≡ Some (map string_bytes t.items)) }
+    ensures { IfOk result (λ t. all_of id.now (rows_of (found_of found.now)) ≡ Some (map string_bytes t.items)) }
 {
     let Some(values) = found.get_strs(id) else {
         unreachable!()
@@ -43,26 +38,25 @@ fn texts_of(alloc: Global, found: &ArgMatches<'_>, id: &str) -> Result<Vec<Strin
     let mut texts: Vec<String> = Vec::new(alloc);
     for value in values {
         let Ok(text) = String::from_str(alloc, value) else {
-            return Err(ArgsFault::NoMemory);
+            return Err(AllocError);
         };
         if texts.push(text).is_err() {
-            return Err(ArgsFault::NoMemory);
+            return Err(AllocError);
         }
     }
     Ok(texts)
 }
 
 /// The text of an option, if it was given.
-fn text_if(alloc: Global, found: &ArgMatches<'_>, id: &str) -> Result<Option<String>, ArgsFault>
-    ensures memory { IfErr result (λ f. f ≡ ArgsFault.NoMemory) }
-    ensures text { IfOk result (λ t. first_of id.now (rows_of (found_of found.now)) ≡ option_map string_bytes t) }
+fn text_if(alloc: Global, found: &ArgMatches<'_>, id: &str) -> Result<Option<String>, AllocError>
+    ensures { IfOk result (λ t. first_of id.now (rows_of (found_of found.now)) ≡ option_map string_bytes t) }
 {
     let Some(text) = found.get_str(id) else {
         return Ok(None);
     };
     match String::from_str(alloc, text) {
         Ok(text) => Ok(Some(text)),
-        Err(_) => Err(ArgsFault::NoMemory),
+        Err(_) => Err(AllocError),
     }
 }
 
@@ -76,10 +70,9 @@ fn is_on(found: &ArgMatches<'_>, id: &str) -> bool
     }
 }
 
-fn parse_check(alloc: Global, found: &ArgMatches<'_>) -> Result<Subcommand, ArgsFault>
+fn parse_check(alloc: Global, found: &ArgMatches<'_>) -> Result<Subcommand, AllocError>
     requires texts { HasTexts (arguments_of (codes "check")) (rows_of (found_of found.now)) }
-    ensures subcommand { IfOk result (λ j. States (Some (codes "check", rows_of (found_of found.now))) j) }
-    ensures memory { IfErr result (λ f. f ≡ ArgsFault.NoMemory) }
+    ensures { IfOk result (λ j. States (Some (codes "check", rows_of (found_of found.now))) j) }
 {
     Ok(Subcommand::Check {
         files: texts_of(alloc, found, "file")?,
@@ -87,10 +80,9 @@ fn parse_check(alloc: Global, found: &ArgMatches<'_>) -> Result<Subcommand, Args
     })
 }
 
-fn parse_add(alloc: Global, found: &ArgMatches<'_>) -> Result<Subcommand, ArgsFault>
+fn parse_add(alloc: Global, found: &ArgMatches<'_>) -> Result<Subcommand, AllocError>
     requires texts { HasTexts (arguments_of (codes "add")) (rows_of (found_of found.now)) }
-    ensures subcommand { IfOk result (λ j. States (Some (codes "add", rows_of (found_of found.now))) j) }
-    ensures memory { IfErr result (λ f. f ≡ ArgsFault.NoMemory) }
+    ensures { IfOk result (λ j. States (Some (codes "add", rows_of (found_of found.now))) j) }
 {
     Ok(Subcommand::Add {
         file: text_of(alloc, found, "file")?,
@@ -103,20 +95,18 @@ fn parse_add(alloc: Global, found: &ArgMatches<'_>) -> Result<Subcommand, ArgsFa
     })
 }
 
-fn parse_extract(alloc: Global, found: &ArgMatches<'_>) -> Result<Subcommand, ArgsFault>
+fn parse_extract(alloc: Global, found: &ArgMatches<'_>) -> Result<Subcommand, AllocError>
     requires texts { HasTexts (arguments_of (codes "extract")) (rows_of (found_of found.now)) }
-    ensures subcommand { IfOk result (λ j. States (Some (codes "extract", rows_of (found_of found.now))) j) }
-    ensures memory { IfErr result (λ f. f ≡ ArgsFault.NoMemory) }
+    ensures { IfOk result (λ j. States (Some (codes "extract", rows_of (found_of found.now))) j) }
 {
     let file = text_of(alloc, found, "file")?;
     let out = text_of(alloc, found, "to")?;
     Ok(Subcommand::Extract { file, to: out })
 }
 
-fn parse_set(alloc: Global, found: &ArgMatches<'_>) -> Result<Subcommand, ArgsFault>
+fn parse_set(alloc: Global, found: &ArgMatches<'_>) -> Result<Subcommand, AllocError>
     requires texts { HasTexts (arguments_of (codes "set")) (rows_of (found_of found.now)) }
-    ensures subcommand { IfOk result (λ j. States (Some (codes "set", rows_of (found_of found.now))) j) }
-    ensures memory { IfErr result (λ f. f ≡ ArgsFault.NoMemory) }
+    ensures { IfOk result (λ j. States (Some (codes "set", rows_of (found_of found.now))) j) }
 {
     Ok(Subcommand::Change {
         file: text_of(alloc, found, "file")?,
@@ -126,10 +116,9 @@ fn parse_set(alloc: Global, found: &ArgMatches<'_>) -> Result<Subcommand, ArgsFa
     })
 }
 
-fn parse_show(alloc: Global, found: &ArgMatches<'_>) -> Result<Subcommand, ArgsFault>
+fn parse_show(alloc: Global, found: &ArgMatches<'_>) -> Result<Subcommand, AllocError>
     requires texts { HasTexts (arguments_of (codes "show")) (rows_of (found_of found.now)) }
-    ensures subcommand { IfOk result (λ j. States (Some (codes "show", rows_of (found_of found.now))) j) }
-    ensures memory { IfErr result (λ f. f ≡ ArgsFault.NoMemory) }
+    ensures { IfOk result (λ j. States (Some (codes "show", rows_of (found_of found.now))) j) }
 {
     Ok(Subcommand::Show {
         kind: text_of(alloc, found, "kind")?,
@@ -138,10 +127,9 @@ fn parse_show(alloc: Global, found: &ArgMatches<'_>) -> Result<Subcommand, ArgsF
     })
 }
 
-fn parse_run(alloc: Global, found: &ArgMatches<'_>) -> Result<Subcommand, ArgsFault>
+fn parse_run(alloc: Global, found: &ArgMatches<'_>) -> Result<Subcommand, AllocError>
     requires texts { HasTexts (arguments_of (codes "run")) (rows_of (found_of found.now)) }
-    ensures subcommand { IfOk result (λ j. States (Some (codes "run", rows_of (found_of found.now))) j) }
-    ensures memory { IfErr result (λ f. f ≡ ArgsFault.NoMemory) }
+    ensures { IfOk result (λ j. States (Some (codes "run", rows_of (found_of found.now))) j) }
 {
     Ok(Subcommand::Run {
         script: text_of(alloc, found, "script")?,
@@ -150,10 +138,9 @@ fn parse_run(alloc: Global, found: &ArgMatches<'_>) -> Result<Subcommand, ArgsFa
     })
 }
 
-fn parse_judge(alloc: Global, found: &ArgMatches<'_>) -> Result<Subcommand, ArgsFault>
+fn parse_judge(alloc: Global, found: &ArgMatches<'_>) -> Result<Subcommand, AllocError>
     requires texts { HasTexts (arguments_of (codes "judge")) (rows_of (found_of found.now)) }
-    ensures subcommand { IfOk result (λ j. States (Some (codes "judge", rows_of (found_of found.now))) j) }
-    ensures memory { IfErr result (λ f. f ≡ ArgsFault.NoMemory) }
+    ensures { IfOk result (λ j. States (Some (codes "judge", rows_of (found_of found.now))) j) }
 {
     Ok(Subcommand::Judge {
         files: texts_of(alloc, found, "file")?,
@@ -164,11 +151,10 @@ fn parse_judge(alloc: Global, found: &ArgMatches<'_>) -> Result<Subcommand, Args
     })
 }
 
-fn chosen(alloc: Global, matches: &ArgMatches<'_>) -> Result<Subcommand, ArgsFault>
+fn chosen(alloc: Global, matches: &ArgMatches<'_>) -> Result<Subcommand, AllocError>
     requires named { has_subcommand matches.now ≡ true }
     requires complete { IfSome (subcommand_rows_of matches.now) (λ p. IsComplete p.0 p.1) }
-    ensures subcommand { IfOk result (λ j. States (subcommand_rows_of matches.now) j) }
-    ensures memory { IfErr result (λ f. f ≡ ArgsFault.NoMemory) }
+    ensures { IfOk result (λ j. States (subcommand_rows_of matches.now) j) }
 {
     let Some((name, found)) = matches.subcommand() else {
         unreachable!()
@@ -195,6 +181,20 @@ fn is_on_below(matches: &ArgMatches<'_>, id: &str) -> bool
     }
 }
 
+/// What these matches ask for.
+fn asked(alloc: Global, matches: &ArgMatches<'_>) -> Result<ParsedArgs, AllocError>
+    requires named { has_subcommand matches.now ≡ true }
+    requires complete { IfSome (subcommand_rows_of matches.now) (λ p. IsComplete p.0 p.1) }
+    ensures subcommand { IfOk result (λ a. States (subcommand_rows_of matches.now) a.subcommand) }
+    ensures explain { IfOk result (λ a. a.explain ≡ (is_on (first_of (codes "explain") (rows_of (found_of matches.now)))
+        || is_on (first_of (codes "explain") (rows_in (subcommand_rows_of matches.now))))) }
+{
+    Ok(ParsedArgs {
+        subcommand: chosen(alloc, matches)?,
+        explain: is_on(matches, "explain") || is_on_below(matches, "explain"),
+    })
+}
+
 /// What the words ask for; the first word is the program's name.
 ///
 /// # Errors
@@ -210,12 +210,10 @@ pub fn parse_args(alloc: Global, words: &[String]) -> Result<ParsedArgs, ArgsFau
     ensures faults { EndsBy (word_faults (map string_bytes words.now)) result }
 {
     let matches = matches_of(alloc, words)?;
-    let explain = is_on(&matches, "explain") || is_on_below(&matches, "explain");
-    let subcommand = chosen(alloc, &matches)?;
-    Ok(ParsedArgs {
-        subcommand,
-        explain,
-    })
+    match asked(alloc, &matches) {
+        Ok(parsed) => Ok(parsed),
+        Err(_) => Err(ArgsFault::NoMemory),
+    }
 }
 
 /// The subcommand that the words ask for; the first word is the program's name.

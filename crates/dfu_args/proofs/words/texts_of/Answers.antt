@@ -11,7 +11,7 @@ unreachable-requires c =
     true≢false (sym c.requires.there ∙ ap is_some (none_first c.args.id.now (rows_of f)
     (sym (raw_values-rows f c.args.id.now) ∙ sym (c.in_default.ensures))))
 
-pub returns-clause-texts : goal.returns-clause-texts
-returns-clause-texts c = sym (raw_values-rows (found_of c.args.found.now) c.args.id.now)
+pub returns : goal.returns
+returns c = sym (raw_values-rows (found_of c.args.found.now) c.args.id.now)
     ∙ (sym c.in-Some.ensures ∙ ap Some (sym (c.loop-value.invariant
     ∙ ap (λ l. map (λ v. v.now) l) (take_all c.loop-value.value-index c.in-Some.values.now (omega (arith, c.loop-value-test.false))))))
