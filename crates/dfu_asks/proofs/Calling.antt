@@ -5,7 +5,7 @@ use Rattle.dfu_slots.specs.declared.layout.Unit.{Unit as WriteUnit}
 use Rattle.dfu_slots.specs.declared.fault.WriteFault.{WriteFault}
 use Rattle.dfu_slots.specs.declared.fault.WriteFault.TheVariants.{NotVerified}
 use Rattle.dfu_slots.specs.Medium.{MediumState, Write, Torn, FailedWrite}
-use Rattle.dfu_slots.specs.Seen.{SlotsState, store_of, spare_of, is_shaped}
+use Rattle.dfu_slots.specs.Seen.{SlotsState, store_of, is_shaped}
 use Rattle.dfu_slots.specs.Store.{IsStore}
 use Rattle.dfu_slots.proofs.Written.{was_written}
 use Rattle.dfu_slots.proofs.Seeing.{shaped}
@@ -23,15 +23,15 @@ use Rattle.dfu_asks.specs.Lent.{LentAsking}
 use Rattle.dfu_asks.specs.declared.reply.Reply.{Reply}
 use Rattle.dfu_asks.specs.declared.reply.Reply.TheVariants as reply
 use Rattle.dfu_asks.specs.declared.sector.Sector.{Sector}
-use Rattle.dfu_asks.specs.Mapped.{mapped}
+use Rattle.dfu_asks.specs.Mapped.{mapped, Unseen}
 use Rattle.dfu_asks.specs.Steps.{Step, step_writes}
 use Rattle.dfu_asks.specs.Carried.{total, carried, IsPiece}
 use Rattle.dfu_asks.specs.Cuts.{IsNextPiece}
-use Rattle.dfu_asks.specs.Due.{IsDueRow, IsDueStage, IsSure, IsSureOrDue, Fails}
+use Rattle.dfu_asks.specs.Due.{due_plan, DueRow, IsDueStage, IsSure, IsSureOrDue, Works, Fails}
 use Rattle.dfu_asks.specs.declared.noted.Noted.{Noted}
 use Rattle.dfu_asks.specs.Noted.{IsNoted}
-use Rattle.dfu_asks.specs.Asks.{grain_in, store_in, device_in, device_of, IsDevice, IsDue, IsJobOf, IsWorking, writes_in, steps_in, IsBrokenOff, NotesAfter, IsAnswered, GivesAnswer, IsRest}
-use Rattle.dfu_asks.specs.Calls.{HasEnded, AsksWrites, DueComes, comes_asks, comes_ended, DeviceCalled, called_ended, called_asks}
+use Rattle.dfu_asks.specs.Asks.{grain_in, store_in, device_in, unseen_in, device_with, device_of, IsDevice, IsDue, IsJobOf, IsWorking, writes_in, steps_in, IsBrokenOff, NotesAfter, IsAnswered, GivesAnswer, IsRest}
+use Rattle.dfu_asks.specs.Calls.{HasEnded, AsksWrites, DueComes, comes_asks, comes_ended, MakesRow, AreSureOrDue, DeviceCalled, called_ended, called_asks}
 use Rattle.dfu_asks.specs.Refused.{IsTaken}
 use Rattle.dfu_asks.proofs.Steps.{job_writes_are}
 use Rattle.dfu_asks.proofs.Bits.{IsBitOf, bit_of}
@@ -39,7 +39,8 @@ use Rattle.dfu_asks.proofs.Pieces.{piece_one, piece_end, piece_some}
 use Rattle.dfu_asks.proofs.Carrying.{step_carried, broken_carried}
 use Rattle.dfu_asks.proofs.Inside.{working_within}
 use Rattle.dfu_asks.proofs.Ended.{broken_ended}
-use Rattle.dfu_asks.proofs.Quiet.{due_row}
+use Rattle.dfu_asks.proofs.Quiet.{due_row, done_works}
+use Rattle.dfu_asks.proofs.Unseen.{of_mapped}
 
 -- Nothing is due if no work is kept.
 pub no_work : (w : Option PendingWrites) → is_some w ≡ false → w ≡ None
@@ -94,39 +95,69 @@ begins a m b s flash xs ys j asked len mode_is block medium store sound noted du
   noted = noted;
 }
 
--- What comes of it is what the call answers, if the row that is due is the call's.
-pub called_from : (a : LentAsking) (flash out : List ℕ) (Row : Answer → List ℕ → DeviceView → Type 0) (now : LentAsking) (out' : List ℕ)
-    (r : Reply)
-    (d : DeviceView) (len : ℕ) → d ≡ device_in a flash → DueComes d len d.slots flash flash out now out' r → IsDueRow len (device_in a flash) Row
-    → DeviceCalled a flash out Row now out' r
-called_from a flash out Row now out' r d len is comes due =
-    from r (subst (λ (x : DeviceView). DueComes x len x.slots flash flash out now out' r) is comes)
-  where
-    from : (r : Reply) → DueComes (device_in a flash) len (store_in a flash) flash flash out now out' r →
-        DeviceCalled a flash out Row now out' r
-    from _ (comes_asks asks same out_is) = called_asks len asks same due out_is
-    from _ (comes_ended x count e) = called_ended x count (record {
+-- A row of each device, of which this is not seen, follows from another one.
+abbrev pub RowFollows : LentAsking → List ℕ → (Row Row' : DeviceView → Answer → List ℕ → DeviceView → Type 0) → Type 0
+RowFollows a flash Row Row' = (u : Unseen) (x : Answer) (sent : List ℕ) (d : DeviceView) → Row (device_with u a flash) x sent d
+    → Row' (device_with u a flash) x sent d
+
+-- A call that is answered by a row is answered by each row that follows from it.
+pub called_by : (a : LentAsking) (flash out : List ℕ) (Row Row' : DeviceView → Answer → List ℕ → DeviceView → Type 0) (now : LentAsking)
+    (out' : List ℕ) (r : Reply) → RowFollows a flash Row Row' → DeviceCalled a flash out Row now out' r
+    → DeviceCalled a flash out Row' now out' r
+called_by a flash out Row Row' now out' _ follows (called_ended x count e) = called_ended x count (record {
+  gave = record {
+    sent = e.gave.sent;
+    count_is = e.gave.count_is;
+    out_is = e.gave.out_is;
+    row = λ u. follows u x e.gave.sent (device_with u now flash) (e.gave.row u);
+  };
+  work = e.work;
+  is = e.is;
+})
+called_by a flash out Row Row' now out' _ follows (called_asks len asks same due out_is) = called_asks len asks same (λ u. record {
+  works = λ x sent d w. follows u x sent d ((due u).works x sent d w);
+  fails = λ fault x sent d w. follows u x sent d ((due u).fails fault x sent d w);
+}) out_is
+
+-- The row that is due begins: its writes are asked for, or it came to its end with no write.
+pub due_begins : (a : LentAsking) (flash out : List ℕ) (len : ℕ) (now : LentAsking) (out' : List ℕ) (r : Reply)
+    → DueComes (device_in a flash) len (store_in a flash) flash flash out now out' r
+    → ((x : Answer) (count : ℕ) → r ≡ reply.Answered x count → HasEnded flash x count out out' now (MakesRow a flash (Works len) now))
+    → DeviceCalled a flash out (DueRow len) now out' r
+due_begins a flash out len now out' _ (comes_asks asks same out_is) ended =
+    called_asks len asks same (λ u. let d = device_with u a flash in due_row (due_plan (profile d) d.stage) len d refl) out_is
+due_begins a flash out len now out' _ (comes_ended x count came) ended =
+    let e = ended x count refl in
+    called_ended x count (record {
       gave = record {
         sent = e.gave.sent;
         count_is = e.gave.count_is;
         out_is = e.gave.out_is;
-        row = due.works x e.gave.sent (device_in now flash) e.gave.row;
+        row = λ u.
+            let d = device_with u a flash in
+            done_works (due_plan (profile d) d.stage) len d x e.gave.sent (device_with u now flash) (e.gave.row u);
       };
       work = e.work;
       is = e.is;
     })
 
+due_only : (p : Plan) (d : DeviceView) (asked : Option ℕ) (len : ℕ) → ¬ IsSure p → IsSureOrDue p (profile d) d.stage asked len
+    → (p ≡ due_plan (profile d) d.stage) × IsDueStage d.stage asked len
+due_only p d asked len other (inl sure) = absurd (other sure)
+due_only p d asked len other (inr due) = due
+
 -- A call that begins the row that is due is answered by the plan that is that row.
-pub due_called : (a : LentAsking) (flash out : List ℕ) (p : Plan) (asked : Option ℕ) (len : ℕ) (now : LentAsking) (out' : List ℕ)
-    (r : Reply)
-    → ¬ IsSure p → IsSureOrDue p (profile (device_in a flash)) (stage_of a.mode (spare_of (store_in a flash)) a.block) asked len
-    → (IsDueStage (stage_of a.mode (spare_of (store_in a flash)) a.block) asked len
-    → DueComes (device_in a flash) len (store_in a flash) flash flash out now out' r)
-    → DeviceCalled a flash out (λ x sent d'. Done p len (device_in a flash) x sent d') now out' r
-due_called a flash out p asked len now out' r other (inl sure) comes = absurd (other sure)
-due_called a flash out p asked len now out' r other (inr (is, stage)) comes =
-    called_from a flash out (λ x sent d'. Done p len (device_in a flash) x sent d') now out' r (device_in a flash) len refl (comes stage)
-    (due_row p len (device_in a flash) is)
+pub due_called : (a : LentAsking) (flash out : List ℕ) (p : DeviceView → Plan) (asked : Option ℕ) (len : ℕ) (now : LentAsking)
+    (out' : List ℕ) (r : Reply) → ((d : DeviceView) → ¬ IsSure (p d)) → AreSureOrDue p a flash asked len
+    → (IsDueStage (device_in a flash).stage asked len → DeviceCalled a flash out (DueRow len) now out' r)
+    → DeviceCalled a flash out (λ d x sent d'. Done (p d) len d x sent d') now out' r
+due_called a flash out p asked len now out' r other due called =
+    let one = device_in a flash in
+    called_by a flash out (DueRow len) (λ d x sent d'. Done (p d) len d x sent d') now out' r
+    (λ u x sent d'.
+    let d = device_with u a flash in
+    subst (λ (q : Plan). Done q len d x sent d') (sym (due_only (p d) d asked len (other d) (due u)).0))
+    (called (due_only (p one) one asked len (other one) (due of_mapped)).1)
 
 -- An answer by a setting that is the same.
 pub gives_in : (c d : Setting) (m : DeviceState) (asked : Option ℕ) (x : Answer) (count : ℕ) (out out' : List ℕ) → d ≡ c
@@ -134,25 +165,6 @@ pub gives_in : (c d : Setting) (m : DeviceState) (asked : Option ℕ) (x : Answe
     GivesAnswer (λ y sent. IsAnswered c m asked y sent) x count out out'
 gives_in c d m asked x count out out' same gives =
     subst (λ (k : Setting). GivesAnswer (λ y sent. IsAnswered k m asked y sent) x count out out') same gives
-
--- A call that is answered by a row is answered by each row that follows from it.
-pub called_by : (a : LentAsking) (flash out : List ℕ) (Row Row' : Answer → List ℕ → DeviceView → Type 0) (now : LentAsking) (out' : List ℕ)
-    (r : Reply) → ((x : Answer) (sent : List ℕ) (d : DeviceView) → Row x sent d → Row' x sent d) → DeviceCalled a flash out Row now out' r
-    → DeviceCalled a flash out Row' now out' r
-called_by a flash out Row Row' now out' _ follows (called_ended x count e) = called_ended x count (record {
-  gave = record {
-    sent = e.gave.sent;
-    count_is = e.gave.count_is;
-    out_is = e.gave.out_is;
-    row = follows x e.gave.sent (device_in now flash) e.gave.row;
-  };
-  work = e.work;
-  is = e.is;
-})
-called_by a flash out Row Row' now out' _ follows (called_asks len asks same due out_is) = called_asks len asks same (record {
-  works = λ x sent d w. follows x sent d (due.works x sent d w);
-  fails = λ fault x sent d w. follows x sent d (due.fails fault x sent d w);
-}) out_is
 
 -- A call that writes nothing.
 
@@ -179,15 +191,21 @@ module _ (a now : LentAsking) (flash : List ℕ) (rest : IsRest a now) (is : IsD
           (subst (λ (n : Noted). IsNoted n (mapped (grain_in a) flash)) (sym rest.noted) is.noted)
 
   -- The device that is kept.
-  pub kept_device : device_in now flash ≡ shows a.config (store_in a flash) now.mode now.block
-  kept_device = λ i. shows (rest.config i) (store_kept i) now.mode now.block
+  kept_device : (u : Unseen) → device_with u now flash ≡ shows a.config (unseen_in u (store_in a flash)) now.mode now.block
+  kept_device u = λ i. shows (rest.config i) (unseen_in u (store_kept i)) now.mode now.block
 
   -- The call has come to its end.
-  pub kept_ended : a.work ≡ None → (x : Answer) (count : ℕ) (out out' sent : List ℕ) (Row : Answer → List ℕ → DeviceView → Type 0)
-      → count ≡ length sent → out' ≡ sent ++ drop count out → Row x sent (shows a.config (store_in a flash) now.mode now.block)
-      → HasEnded flash x count out out' now Row
+  pub kept_ended : a.work ≡ None → (x : Answer) (count : ℕ) (out out' sent : List ℕ)
+      (Row : DeviceView → Answer → List ℕ → DeviceView → Type 0) → count ≡ length sent → out' ≡ sent ++ drop count out
+      → ((u : Unseen) → Row (device_with u a flash) x sent (shows a.config (unseen_in u (store_in a flash)) now.mode now.block))
+      → HasEnded flash x count out out' now (MakesRow a flash Row now)
   kept_ended none x count out out' sent Row count_is out_is row = record {
-    gave = record { sent = sent; count_is = count_is; out_is = out_is; row = subst (λ (y : DeviceView). Row x sent y) (sym kept_device) row };
+    gave = record {
+      sent = sent;
+      count_is = count_is;
+      out_is = out_is;
+      row = λ u. subst (λ (y : DeviceView). Row (device_with u a flash) x sent y) (sym (kept_device u)) (row u);
+    };
     work = rest.work ∙ none;
     is = kept_is;
   }
@@ -195,8 +213,8 @@ module _ (a now : LentAsking) (flash : List ℕ) (rest : IsRest a now) (is : IsD
 -- A call that only changes the mode and the block has come to its end with this answer.
 pub mode_ended : (a : LentAsking) (m : DeviceState) (block flash : List ℕ) → IsDevice a flash
     → IsTrue (is_filled m (length block) (store_in a flash)) → a.work ≡ None → (x : Answer) (count : ℕ) (out out' sent : List ℕ)
-    (Row : Answer → List ℕ → DeviceView → Type 0) → count ≡ length sent → out' ≡ sent ++ drop count out
-    → Row x sent (shows a.config (store_in a flash) m block)
+    (Row : DeviceView → Answer → List ℕ → DeviceView → Type 0) → count ≡ length sent → out' ≡ sent ++ drop count out
+    → ((u : Unseen) → Row (device_with u a flash) x sent (shows a.config (unseen_in u (store_in a flash)) m block))
     → DeviceCalled a flash out Row (record a { mode = m; block = block }) out' (reply.Answered x count)
 mode_ended a m block flash is filled none x count out out' sent Row count_is out_is row =
     called_ended x count
@@ -257,7 +275,7 @@ module _ (a : LentAsking) (len : ℕ) (s : SlotsState) (was before : List ℕ) (
   pub piece_failed : (fault : WriteFault) (now : LentAsking) (asked : Option ℕ) (x : Answer) (count : ℕ) (out out' : List ℕ)
       → asks.work.asked ≡ asked → IsBrokenOff fault a now → NotesAfter a.mode flash a now
       → GivesAnswer (λ y sent. IsAnswered a.config now.mode asked y sent) x count out out'
-      → HasEnded flash x count out out' now (λ y sent w'. Fails fault len (device_of a s) y sent w')
+      → HasEnded flash x count out out' now (λ y sent. Fails fault len (device_of a s) y sent (device_in now flash))
   piece_failed fault now asked x count out out' same off notes gives =
       broken_ended a now asks.work len s was flash asks.working notes x count out out' fault
       (broken_carried (grain_in a) fault (writes_in a asks.work) was flash asks.work.done p.write

@@ -1,11 +1,13 @@
 mod Steps
 mod Bits
 mod Noting
+pub mod Unseen
 pub mod Room
 mod Carrying
 mod Came
 mod Rows
 pub mod Pieces
+mod Empty
 mod Locating
 mod JobPieces
 mod OpPieces

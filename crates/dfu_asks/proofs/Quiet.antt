@@ -96,7 +96,7 @@ time_quiet c (InManifest taken passed) ms =
 time_quiet c st ms = λ len w a out w' d. d.0
 
 -- What works out or fails is done.
-done_works : (p : Plan) (len : ℕ) (w : DeviceView) (a : Answer) (out : List ℕ) (w' : DeviceView) → WorksOut p len w a out w'
+pub done_works : (p : Plan) (len : ℕ) (w : DeviceView) (a : Answer) (out : List ℕ) (w' : DeviceView) → WorksOut p len w a out w'
     → Done p len w a out w'
 done_works (Sure reply stage) len w a out w' none = absurd none
 done_works (Writes before block reply stage bad) len w a out w' done = inl done

@@ -24,7 +24,6 @@ use Rattle.dfu_device.specs.Table.{write_code, commit_code}
 use Rattle.dfu_device.proofs.Commits.{written_sound}
 use Rattle.dfu_asks.specs.declared.pending_writes.SlotWrite.{SlotWrite}
 use Rattle.dfu_asks.specs.declared.pending_writes.SlotWrite.TheVariants as slot_write
-use Rattle.dfu_asks.specs.Mapped.{mapped}
 use Rattle.dfu_asks.specs.Series.{block_series, block_store, BlockWritten, BlockBroken, CommitDone, CommitBroken}
 use Rattle.dfu_asks.specs.Jobs.{held_place, job_writes}
 use Rattle.dfu_asks.specs.Due.{Works, Fails}
@@ -140,75 +139,61 @@ idle_sound s store = both (is_shaped s) (shaped store)
     both : (p : Bool) → p ≡ true → IsTrue (p && true)
     both p e = grind (arith, common_steps)
 
-module _ (c : Setting) (w : Grain) (b held : List ℕ) (end : ℕ) (j : SlotWrite) (len : ℕ) (s : SlotsState) (m flash : List ℕ)
-    (medium : s.medium ≡ mapped w m) (store : IsStore s) where
-  unit_is : s.medium.grain ≡ w
-  unit_is = ap (λ (x : MediumState). x.grain) medium
-
+module _ (c : Setting) (w : Grain) (b held : List ℕ) (end : ℕ) (j : SlotWrite) (len : ℕ) (s : SlotsState) (now : MediumState)
+    (unit_is : s.medium.grain ≡ w) (store : IsStore s) where
   shape : is_shaped s ≡ true
   shape = shaped store
 
   small : (n : ℕ) → n ≤ room_of s → n ≤ 2 ^ 24
   small n le = omega (arith, le, room_capacity s, store.has_image.active.sized.bound)
 
-  -- The store on the flash then, with nothing put.
+  -- The store on the medium then, with nothing put.
   abbrev at_rest : SlotsState
-  at_rest = store_on (mapped w flash)
-
-  risen : Rose s.medium.failures at_rest.medium.failures
-  risen = omega (arith, ap (λ (x : MediumState). x.failures) medium)
+  at_rest = store_on now
 
   abbrev left : SlotsState
-  left = store_of (mapped w flash) (put_rest w.unit held b) (capped end (length b))
+  left = store_of now (put_rest w.unit held b) (capped end (length b))
 
   -- All writes of a block.
   block_left : (n : ℕ) → IsNext s n (length b) → IsBlockJob n s j end held
-      → AllWrites (mapped w m) (job_writes j w end held b) (mapped w flash)
+      → AllWrites s.medium (job_writes j w end held b) now
       → (capped end (length b) ≡ n + length b) × BlockWritten s n b left
   block_left n next job all =
       let cap : capped end (length b) ≡ n + length b = omega (arith, job.end_is, small (n + length b) next.room) in
-      let is : block_store s n b (mapped w flash) ≡ left =
-      (λ i. store_of (mapped w flash) (put_rest (unit_is i).unit (sym job.held_is i) b) (sym cap i)) in (
+      let is : block_store s n b now ≡ left =
+      (λ i. store_of now (put_rest (unit_is i).unit (sym job.held_is i) b) (sym cap i)) in (
         cap,
         subst (λ (x : SlotsState). BlockWritten s n b x) is
-            (block_written s store shape n b next.before next.room (mapped w flash)
-            (subst (λ (x : MediumState). AllWrites x (block_series s n b) (mapped w flash)) (sym medium)
-            (subst (λ (ws : List Write). AllWrites (mapped w m) ws (mapped w flash))
-            (series_of_block s n j w end held b unit_is job) all))),
+            (block_written s store shape n b next.before next.room now
+            (subst (λ (ws : List Write). AllWrites s.medium ws now) (series_of_block s n j w end held b unit_is job) all)),
       )
 
   -- A broken write of a block.
   block_off : (fault : WriteFault) (n : ℕ) → IsNext s n (length b) → IsBlockJob n s j end held
-      → BrokenWrites fault (mapped w m) (job_writes j w end held b) (mapped w flash) → BlockBroken fault s n b at_rest
+      → BrokenWrites fault s.medium (job_writes j w end held b) now → BlockBroken fault s n b at_rest
   block_off fault n next job all =
-      block_broken s store shape n b next.before next.room (mapped w flash) fault
-      (subst (λ (x : MediumState). BrokenWrites fault x (block_series s n b) (mapped w flash)) (sym medium)
-      (subst (λ (ws : List Write). BrokenWrites fault (mapped w m) ws (mapped w flash))
-      (series_of_block s n j w end held b unit_is job) all))
+      block_broken s store shape n b next.before next.room now fault
+      (subst (λ (ws : List Write). BrokenWrites fault s.medium ws now) (series_of_block s n j w end held b unit_is job) all)
 
   -- All writes of a commit.
   commit_left : (n : ℕ) → IsAll s n → IsCommitJob n s j end held
-      → AllWrites (mapped w m) (job_writes j w end held b) (mapped w flash) → CommitDone s n at_rest
+      → AllWrites s.medium (job_writes j w end held b) now → CommitDone s n at_rest
   commit_left n whole job all =
-      commit_done s store shape n whole.put whole.room (mapped w flash)
-      (subst (λ (x : MediumState). AllWrites x (writes_of s (Commit n)) (mapped w flash)) (sym medium)
-      (subst (λ (ws : List Write). AllWrites (mapped w m) ws (mapped w flash))
-      (series_of_commit s n j w end held b unit_is whole.put job) all))
+      commit_done s store shape n whole.put whole.room now
+      (subst (λ (ws : List Write). AllWrites s.medium ws now) (series_of_commit s n j w end held b unit_is whole.put job) all)
 
   -- A broken write of a commit.
   commit_broke : (fault : WriteFault) (n : ℕ) → IsAll s n → IsCommitJob n s j end held
-      → BrokenWrites fault (mapped w m) (job_writes j w end held b) (mapped w flash) → CommitBroken fault s n at_rest
+      → BrokenWrites fault s.medium (job_writes j w end held b) now → CommitBroken fault s n at_rest
   commit_broke fault n whole job all =
-      commit_off s store shape n whole.put whole.room (mapped w flash) fault
-      (subst (λ (x : MediumState). BrokenWrites fault x (writes_of s (Commit n)) (mapped w flash)) (sym medium)
-      (subst (λ (ws : List Write). BrokenWrites fault (mapped w m) ws (mapped w flash))
-      (series_of_commit s n j w end held b unit_is whole.put job) all))
+      commit_off s store shape n whole.put whole.room now fault
+      (subst (λ (ws : List Write). BrokenWrites fault s.medium ws now) (series_of_commit s n j w end held b unit_is whole.put job) all)
 
   -- A block, once all of it is written, leaves the device in a mode that follows it.
   block_ends : (d to : DeviceState) (n number : ℕ) (stage : List ℕ → Stage) (Says : Type 0)
       → (to ≡ device_state.DownloadSyncWritten (capped n (length b)) number) ⊎ (to ≡ device_state.DownloadIdle (capped n (length b)) number)
       → ((spare : List ℕ) → stage_of to spare b ≡ stage (take (capped n (length b)) spare)) → IsNext s n (length b)
-      → IsBlockJob n s j end held → AllWrites (mapped w m) (job_writes j w end held b) (mapped w flash) → Says
+      → IsBlockJob n s j end held → AllWrites s.medium (job_writes j w end held b) now → Says
       → Ends c left to b (Stays d s left)
       (Says × WroteBlock (take n (spare_of s)) b c s (stage (take n (spare_of s) ++ b)) (shows c left to b))
   block_ends d to n number stage Says either stage_is next job all says =
@@ -249,12 +234,12 @@ module _ (c : Setting) (w : Grain) (b held : List ℕ) (end : ℕ) (j : SlotWrit
 
   -- All is written: the row that is due, and the device after it.
   pub works : (d : DeviceState) (asked : Option ℕ) → IsTrue (is_sound d (length b) s) → IsDue d asked len s j end held
-      → AllWrites (mapped w m) (job_writes j w end held b) (mapped w flash) → (a : Answer) (out : List ℕ)
+      → AllWrites s.medium (job_writes j w end held b) now → (a : Answer) (out : List ℕ)
       → IsAnswered c (done_mode c d (length b)) asked a out
-      → Ends c (store_of (mapped w flash) (held_after w d held b) (end_after d end b)) (done_mode c d (length b)) b
-      (Stays d s (store_of (mapped w flash) (held_after w d held b) (end_after d end b)))
+      → Ends c (store_of now (held_after w d held b) (end_after d end b)) (done_mode c d (length b)) b
+      (Stays d s (store_of now (held_after w d held b) (end_after d end b)))
       (Works len (shows c s d b) a out
-      (shows c (store_of (mapped w flash) (held_after w d held b) (end_after d end b)) (done_mode c d (length b)) b))
+      (shows c (store_of now (held_after w d held b) (end_after d end b)) (done_mode c d (length b)) b))
   works (device_state.DownloadSync n number) asked sound due all a out says =
       block_ends (device_state.DownloadSync n number) (device_state.DownloadIdle (capped n (length b)) number) n number
       (λ taken. InDownloadIdle taken number) _ (inr refl) (λ spare. refl) (next_in n (length b) s sound) due.1 all
@@ -295,48 +280,50 @@ module _ (c : Setting) (w : Grain) (b held : List ℕ) (end : ℕ) (j : SlotWrit
   works d asked sound due all a out says = absurd due
 
   -- After a write of a block that had a fault the device is in dfuERROR.
-  block_fails : (fault : WriteFault) (d : DeviceState) (n : ℕ) (Says : Type 0) → Says → BlockBroken fault s n b at_rest
+  block_fails : (fault : WriteFault) (d : DeviceState) (n : ℕ) (Says : Type 0) → Rose s.medium.failures now.failures → Says
+      → BlockBroken fault s n b at_rest
       → Ends c at_rest (device_state.Error (write_code fault)) b (Stays d s at_rest)
       (Says × FailedBlock fault (take n (spare_of s)) b c s (shows c at_rest (device_state.Error (write_code fault)) b))
-  block_fails fault d n Says says got = record {
-    comes = (says, record { config_is = refl; room = got.room; stage_is = refl; calls = got.calls; image = got.image; failed = risen });
+  block_fails fault d n Says rose says got = record {
+    comes = (says, record { config_is = refl; room = got.room; stage_is = refl; calls = got.calls; image = got.image; failed = rose });
     store = got.store;
     sound = idle_sound at_rest got.store;
     stays = λ e. got.place;
   }
 
   -- So after a write of a commit.
-  commit_fails : (fault : WriteFault) (d : DeviceState) (n : ℕ) (Says : Type 0) → is_block d ≡ false → Says
+  commit_fails : (fault : WriteFault) (d : DeviceState) (n : ℕ) (Says : Type 0) → Rose s.medium.failures now.failures → is_block d ≡ false → Says
       → CommitBroken fault s n at_rest
       → Ends c at_rest (device_state.Error (commit_code fault)) b (Stays d s at_rest)
       (Says × FailedCommit fault (take n (spare_of s)) c s (shows c at_rest (device_state.Error (commit_code fault)) b))
-  commit_fails fault d n Says commits says got = record {
-    comes = (says, record { config_is = refl; room = got.room; stage_is = refl; calls = got.calls; image = got.image; failed = risen });
+  commit_fails fault d n Says rose commits says got = record {
+    comes = (says, record { config_is = refl; room = got.room; stage_is = refl; calls = got.calls; image = got.image; failed = rose });
     store = got.store;
     sound = idle_sound at_rest got.store;
     stays = λ e. absurd (false≢true (sym commits ∙ e));
   }
 
   -- A write had a fault: the row with that fault, and the device after it.
-  pub fails : (fault : WriteFault) (d : DeviceState) (asked : Option ℕ) → IsTrue (is_sound d (length b) s) → IsDue d asked len s j end held
-      → BrokenWrites fault (mapped w m) (job_writes j w end held b) (mapped w flash) → (a : Answer) (out : List ℕ)
+  pub fails : (fault : WriteFault) (d : DeviceState) (asked : Option ℕ) → Rose s.medium.failures now.failures
+      → IsTrue (is_sound d (length b) s) → IsDue d asked len s j end held
+      → BrokenWrites fault s.medium (job_writes j w end held b) now → (a : Answer) (out : List ℕ)
       → IsAnswered c (failed_mode fault d) asked a out
       → Ends c at_rest (failed_mode fault d) b (Stays d s at_rest)
       (Fails fault len (shows c s d b) a out (shows c at_rest (failed_mode fault d) b))
-  fails fault (device_state.DownloadSync n number) asked sound due all a out says =
-      block_fails fault (device_state.DownloadSync n number) n _
+  fails fault (device_state.DownloadSync n number) asked rose sound due all a out says =
+      block_fails fault (device_state.DownloadSync n number) n _ rose
       ((subst (λ (x : Option ℕ). IsAnswered c (device_state.Error (write_code fault)) x a out) due.0 says).1 0 [] [] tt)
       (block_off fault n (next_in n (length b) s sound) due.1 all)
-  fails fault (device_state.DownloadBusy n number passed) asked sound due all a out says =
-      block_fails fault (device_state.DownloadBusy n number passed) n _
+  fails fault (device_state.DownloadBusy n number passed) asked rose sound due all a out says =
+      block_fails fault (device_state.DownloadBusy n number passed) n _ rose
       ((subst (λ (x : Option ℕ). IsAnswered c (device_state.Error (write_code fault)) x a out) due.0 says).1 0 [] [] tt)
       (block_off fault n (next_in n (length b) s sound) due.1 all)
-  fails fault (device_state.ManifestSync n) asked sound due all a out says =
-      commit_fails fault (device_state.ManifestSync n) n _ refl
+  fails fault (device_state.ManifestSync n) asked rose sound due all a out says =
+      commit_fails fault (device_state.ManifestSync n) n _ rose refl
       ((subst (λ (x : Option ℕ). IsAnswered c (device_state.Error (commit_code fault)) x a out) due.0 says).1 0 [] [] tt)
       (commit_broke fault n (all_in n s sound) due.1 all)
-  fails fault (device_state.Manifest n passed) asked sound due all a out says =
-      commit_fails fault (device_state.Manifest n passed) n _ refl
+  fails fault (device_state.Manifest n passed) asked rose sound due all a out says =
+      commit_fails fault (device_state.Manifest n passed) n _ rose refl
       ((subst (λ (x : Option ℕ). IsAnswered c (device_state.Error (commit_code fault)) x a out) due.0 says).1 0 [] [] tt)
       (commit_broke fault n (all_in n s sound) due.1 all)
-  fails fault d asked sound due all a out says = absurd due
+  fails fault d asked rose sound due all a out says = absurd due

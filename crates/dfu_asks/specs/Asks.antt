@@ -24,7 +24,7 @@ use Rattle.dfu_asks.specs.declared.pending_writes.SlotWrite.{SlotWrite}
 use Rattle.dfu_asks.specs.declared.pending_writes.SlotWrite.TheVariants as slot_write
 use Rattle.dfu_asks.specs.declared.pending_writes.PendingWrites.{PendingWrites}
 use Rattle.dfu_asks.specs.Lent.{LentAsking}
-use Rattle.dfu_asks.specs.Mapped.{grain_of, mapped}
+use Rattle.dfu_asks.specs.Mapped.{grain_of, mapped, Unseen, mapped_with}
 use Rattle.dfu_asks.specs.Noted.{IsNoted}
 use Rattle.dfu_asks.specs.Series.{held_before}
 use Rattle.dfu_asks.specs.Steps.{Step}
@@ -41,6 +41,14 @@ store_in a flash = store_of (mapped (grain_in a) flash) a.held a.put_end
 -- The device on these bytes of flash.
 abbrev pub device_in : LentAsking → List ℕ → DeviceView
 device_in a flash = shows a.config (store_in a flash) a.mode a.block
+
+-- A slot store on a medium with the same bytes, of which this is not seen.
+abbrev pub unseen_in : Unseen → SlotsState → SlotsState
+unseen_in u s = store_of (mapped_with u s.medium.grain s.medium.bytes) s.held s.put_end
+
+-- The device on these bytes of flash, of which this is not seen.
+abbrev pub device_with : Unseen → LentAsking → List ℕ → DeviceView
+device_with u a flash = shows a.config (unseen_in u (store_in a flash)) a.mode a.block
 
 -- It is a device's, and its active image is noted.
 pub record IsDevice (a : LentAsking) (flash : List ℕ) : Type 0 where

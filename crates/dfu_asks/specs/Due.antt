@@ -5,9 +5,11 @@ use Rattle.dfu_device.specs.declared.answer.Answer.{Answer}
 use Rattle.dfu_device.specs.Stage.{Request, GetStatus, Ack, Stall, Profile, Stage, InDownloadSync, InDownloadSyncWritten, InDownloadBusy, InDownloadIdle, InManifestSync, InManifestSyncComplete, InManifest, InManifestWaitReset, InDfuIdle}
 use Rattle.dfu_device.specs.Table.{Plan, Sure, Writes, Commits, write_and_report, commit_and_report}
 use Rattle.dfu_device.specs.DeviceView.{DeviceView, profile}
+use Rattle.dfu_device.specs.Decision.{plan_of}
+use Rattle.dfu_slots.specs.Seen.{image_of, spare_of}
 use Rattle.dfu_device.specs.declared.decision.Decision.{Decision}
 use Rattle.dfu_device.specs.declared.decision.Decision.TheVariants as decision
-use Rattle.dfu_device.specs.Rows.{Answers, WroteBlock, FailedBlock, Committed, FailedCommit}
+use Rattle.dfu_device.specs.Rows.{Answers, WroteBlock, FailedBlock, Committed, FailedCommit, Done}
 
 -- The row of a stage that writes: GETSTATUS with a time of 0 in dfuDNLOAD-SYNC and dfuMANIFEST-SYNC,
 -- the end of dfuDNBUSY and of dfuMANIFEST.
@@ -19,6 +21,10 @@ due_plan c (InManifestSync taken) = commit_and_report c taken InDfuIdle
 due_plan c (InManifest taken passed) =
     Commits taken Ack (if c.tolerant then InManifestSyncComplete else InManifestWaitReset) (λ fault. Ack)
 due_plan c stage = Sure Stall stage
+
+-- The row that is due in a device.
+abbrev pub DueRow : ℕ → DeviceView → Answer → List ℕ → DeviceView → Type 0
+DueRow len w a out w' = Done (due_plan (profile w) w.stage) len w a out w'
 
 -- A plan that writes was carried out, and all its writes worked.
 abbrev pub WorksOut : Plan → ℕ → DeviceView → Answer → List ℕ → DeviceView → Type 0
@@ -75,6 +81,10 @@ IsSureOrDue p c stage asked len = IsSure p ⊎ ((p ≡ due_plan c stage) × IsDu
 abbrev pub wanted : Option ℕ → ℕ
 wanted None = 0
 wanted (Some len) = len
+
+-- The plan that a decision is for a device with this block that is not written, which got this body.
+abbrev pub plan_in : (block body : List ℕ) → Decision → DeviceView → Plan
+plan_in block body decision d = plan_of (profile d) (image_of d.slots) (spare_of d.slots) block body decision
 
 -- What is decided sends at most so many bytes of this image.
 abbrev pub SendsWithin : Decision → List ℕ → ℕ → Type 0

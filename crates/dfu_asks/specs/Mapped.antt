@@ -2,7 +2,7 @@
 use Rattle.std.specs.Prelude.{◌≡◌, ◌≢◌, ◌⊎◌, ◌+◌, ◌-◌, ◌^◌, ◌≤◌, ◌<◌, ℕ, List, [], slice_index}
 use Rattle.dfu_slots.specs.declared.layout.Unit.{Unit as WriteUnit}
 use Rattle.dfu_slots.specs.Units.{Grain}
-use Rattle.dfu_slots.specs.Medium.{MediumState}
+use Rattle.dfu_slots.specs.Medium.{MediumState, Fuse}
 use Rattle.dfu_slots.specs.Medium.Fuse.{Unknown}
 use Rattle.dfu_slots.specs.Layout.{slot_size, OPEN}
 use Rattle.dfu_slots.specs.Image.{gate_of, spare_at, HasImage}
@@ -15,6 +15,16 @@ grain_of unit sector = record { unit = unit; sector = sector.size }
 -- The medium of these bytes that its owner writes so: nothing is known of its next writes.
 abbrev pub mapped : Grain → List ℕ → MediumState
 mapped grain bytes = record { bytes = bytes; failures = 2 ^ 64 - 1; fuse = Unknown; grain = grain; tag = [] }
+
+-- What is not seen of flash that is mapped: how often a write has failed, what the next writes will do, and a tag of its owner's.
+pub record Unseen : Type 0 where
+  pub failures : ℕ
+  pub fuse : Fuse
+  pub tag : List ℕ
+
+-- The medium of these bytes that its owner writes so, of which this is not seen. Each medium with these bytes is one of them.
+abbrev pub mapped_with : Unseen → Grain → List ℕ → MediumState
+mapped_with u grain bytes = record { bytes = bytes; failures = u.failures; fuse = u.fuse; grain = grain; tag = u.tag }
 
 -- So many bytes from there on lie within the spare slot of a medium.
 pub record IsInSpare (m : MediumState) (at len : ℕ) : Type 0 where

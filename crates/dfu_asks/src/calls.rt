@@ -91,7 +91,7 @@ impl Asking {
         requires memory { HasRoom self.old.unit held.old }
         ensures outcome { let a = lent self.old block.old held.old in
             let flash = medium.now.bytes.now in IsKeptOn self.old block.old held.old flash →
-            DeviceCalled a flash out.old (λ x sent d'. Handles setup.now body.now (device_in a flash) x sent d')
+            DeviceCalled a flash out.old (λ d x sent d'. Handles setup.now body.now d x sent d')
             (lent self.new block.new held.new) out.new result }
         ensures first { result ≡ Reply.Asks → (w : PendingWrites) × (self.new.work ≡ Some w) × (w.done ≡ 0) }
         ensures few { HasAtMost 65535 result }
@@ -132,7 +132,7 @@ impl Asking {
     ) -> Result<Reply, Refusal>
         requires { HasRoom self.old.unit held.old }
         ensures outcome { let a = lent self.old block.old held.old in IfOk result (λ r. IsKeptOn self.old block.old held.old flash.now →
-            DeviceCalled a flash.now out.old (λ x sent d'. Handles setup.now body.now (device_in a flash.now) x sent d')
+            DeviceCalled a flash.now out.old (λ d x sent d'. Handles setup.now body.now d x sent d')
             (lent self.new block.new held.new) out.new r) }
         ensures first { IfOk result (λ r. r ≡ Reply.Asks → (w : PendingWrites) × (self.new.work ≡ Some w) × (w.done ≡ 0)) }
         ensures served { OnOk result (IsServed self.old block.old flash.now (answer_room self.old.config) (length out.old)) }
@@ -169,7 +169,7 @@ impl Asking {
         requires { HasRoom self.old.unit held.old }
         ensures outcome { let a = lent self.old block.old held.old in IfOk result (λ r. IsKeptOn self.old block.old held.old flash.now →
             (out : List ℕ) × DeviceCalled a flash.now (replicate 6 0)
-            (λ x sent d'. (x ≡ Answer.Ack) × (sent ≡ []) × Elapses ms (device_in a flash.now) d')
+            (λ d x sent d'. (x ≡ Answer.Ack) × (sent ≡ []) × Elapses ms d d')
             (lent self.new block.new held.new) out r) }
         ensures first { IfOk result (λ r. r ≡ Reply.Asks → (w : PendingWrites) × (self.new.work ≡ Some w) × (w.done ≡ 0)) }
         ensures served { OnOk result (IsServed self.old block.old flash.now 0 0) }

@@ -1,18 +1,17 @@
 //! What is decided is carried out, or is begun.
 ghost use Rattle.std.specs.Prelude.{◌≡◌, ◌-◌, ◌≤◌, ◌++◌, min, ℕ, List, length, take, drop, Some, None};
 ghost use Rattle.dfu_slots.specs.Image.{slot_of};
-ghost use Rattle.dfu_slots.specs.Seen.{image_of, spare_of};
-ghost use Rattle.dfu_device.specs.Decision.{plan_of, IsPossible};
+ghost use Rattle.dfu_slots.specs.Seen.{image_of};
+ghost use Rattle.dfu_device.specs.Decision.{IsPossible};
 ghost use Rattle.dfu_device.specs.Rows.{Done};
-ghost use Rattle.dfu_device.specs.DeviceView.{profile};
 ghost use Rattle.dfu_asks.specs.declared.pending_writes.PendingWrites.{PendingWrites};
 ghost use Rattle.dfu_asks.specs.declared.noted.Noted.{Noted};
 ghost use Rattle.dfu_asks.specs.Mapped.{grain_of, mapped};
 ghost use Rattle.dfu_asks.specs.Noted.{IsView, noted_at};
 ghost use Rattle.dfu_asks.specs.Lent.{lent, HasRoom, IsSetUpAs};
-ghost use Rattle.dfu_asks.specs.Due.{IsSureOrDue, SendsWithin, wanted};
-ghost use Rattle.dfu_asks.specs.Asks.{device_in, store_in, IsReply, GivesAnswer};
-ghost use Rattle.dfu_asks.specs.Calls.{DeviceCalled, HasAtMost};
+ghost use Rattle.dfu_asks.specs.Due.{plan_in, SendsWithin, wanted};
+ghost use Rattle.dfu_asks.specs.Asks.{store_in, IsReply, GivesAnswer};
+ghost use Rattle.dfu_asks.specs.Calls.{AreSureOrDue, DeviceCalled, HasAtMost};
 ghost use Rattle.dfu_asks.specs.Refused.{IsKeptOn};
 
 use crate::noted::View;
@@ -108,14 +107,13 @@ impl Asking {
         requires memory { HasRoom self.old.unit held.old }
         ensures outcome { let a = lent self.old block.old held.old in
             let flash = medium.now.bytes.now in
-            let w = device_in a flash in
             let s = store_in a flash in
-            let p = plan_of (profile w) (image_of s) (spare_of s) a.block body.now decision in
             let len = wanted asked in
             IsKeptOn self.old block.old held.old flash →
             IsPossible self.old.config.functional.transfer (length a.block) (length body.now) s decision →
-            IsSureOrDue p (profile w) w.stage asked len → SendsWithin decision (image_of s) (length out.old) →
-            DeviceCalled a flash out.old (λ x sent d'. Done p len w x sent d') (lent self.new block.new held.new) out.new result }
+            AreSureOrDue (plan_in a.block body.now decision) a flash asked len → SendsWithin decision (image_of s) (length out.old) →
+            DeviceCalled a flash out.old (λ d x sent d'. Done (plan_in a.block body.now decision d) len d x sent d')
+            (lent self.new block.new held.new) out.new result }
         ensures first { result ≡ Reply.Asks → (w : PendingWrites) × (self.new.work ≡ Some w) × (w.done ≡ 0) }
         ensures few { HasAtMost 65535 result }
         ensures same { IsSetUpAs self.old self.new }

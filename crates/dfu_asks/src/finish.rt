@@ -2,14 +2,16 @@
 ghost use Rattle.std.specs.Prelude.{◌≡◌, ◌≤◌, ℕ, List, [], length, take, true, false, if◌then◌else◌, ◌<◌, ◌↔◌, Some};
 ghost use Rattle.dfu_slots.specs.Image.{HasImage};
 ghost use Rattle.dfu_slots.specs.Writes.{put_rest};
-ghost use Rattle.dfu_asks.specs.Mapped.{grain_of, mapped};
+ghost use Rattle.dfu_asks.specs.Mapped.{grain_of, mapped, Unseen};
 ghost use Rattle.dfu_asks.specs.Noted.{IsNoted};
 ghost use Rattle.dfu_asks.specs.Lent.{lent, HasRoom, IsSetUpAs};
-ghost use Rattle.dfu_asks.specs.Asks.{is_block, capped, done_mode, failed_mode, IsFinished, IsBrokenOff, NotesAfter, IsAnswered, GivesAnswer, device_of, IsWorking, writes_in, steps_in};
+ghost use Rattle.dfu_asks.specs.Asks.{is_block, capped, done_mode, failed_mode, IsFinished, IsBrokenOff, NotesAfter, IsAnswered, GivesAnswer, device_of, unseen_in, device_with, IsWorking, writes_in, steps_in};
 ghost use Rattle.dfu_slots.specs.Seen.{SlotsState};
 ghost use Rattle.dfu_asks.specs.declared.pending_writes.PendingWrites.{PendingWrites};
 ghost use Rattle.dfu_asks.specs.Carried.{total, carried, IsReached};
-ghost use Rattle.dfu_asks.specs.Calls.{DueComes, HasAtMost};
+ghost use Rattle.dfu_asks.specs.Calls.{HasEnded, DueComes, HasAtMost};
+ghost use Rattle.dfu_asks.specs.Due.{Works};
+ghost use Rattle.dfu_device.specs.declared.answer.Answer.{Answer};
 
 use crate::{Asking, Noted, Reply, Sector};
 use dfu_device::{Answer, Config, DeviceState};
@@ -179,6 +181,12 @@ impl Asking {
             self.old.work ≡ Some work → IsWorking a work len s was →
             flash.now ≡ carried was (writes_in a work) work.done → IsReached (steps_in a work) work.done →
             DueComes (device_of a s) len s was flash.now out.old (lent self.new block.now held.new) out.new result }
+        ensures begun { let a = lent self.old block.now held.old in
+            let now = lent self.new block.now held.new in
+            (work : PendingWrites) (len : ℕ) (s : SlotsState) (x : Answer) (count : ℕ) → self.old.work ≡ Some work →
+            IsWorking a work len s flash.now → work.done ≡ 0 → result ≡ Reply.Answered x count →
+            HasEnded flash.now x count out.old out.new now
+            (λ y sent. (u : Unseen) → Works len (device_of a (unseen_in u s)) y sent (device_with u now flash.now)) }
         ensures more { (work : PendingWrites) → self.old.work ≡ Some work →
             (result ≡ Reply.Asks) ↔ (work.done < total (writes_in (lent self.old block.now held.old) work)) }
         ensures kept { result ≡ Reply.Asks → self.new.work ≡ self.old.work }

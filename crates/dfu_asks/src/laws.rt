@@ -1,18 +1,28 @@
 //! Laws of what is asked. Each is the contract of a function with an empty body. It is proved, and has no effect when called.
 
-ghost use Rattle.std.specs.Prelude.{◌≡◌, ◌⊎◌, ◌+◌, ◌≤◌, ℕ, List, length, true};
+ghost use Rattle.std.specs.Prelude.{◌≡◌, ◌⊎◌, ◌+◌, ◌≤◌, ℕ, List, length, Bool, true, slice_range};
 ghost use Rattle.dfu_slots.specs.Units.{Grain};
 ghost use Rattle.dfu_slots.specs.declared.fault.WriteFault.{WriteFault};
 ghost use Rattle.dfu_slots.specs.Medium.{MediumState, Write, AllWrites, BrokenWrites, Torn, written};
 ghost use Rattle.dfu_slots.specs.Seen.{SlotsState, Commit, writes_of, store_on, room_of, is_shaped};
 ghost use Rattle.dfu_slots.specs.Store.{IsStore};
 ghost use Rattle.dfu_device.specs.Parts.{is_put};
+ghost use Rattle.dfu_device.specs.DeviceView.{DeviceView};
+ghost use Rattle.dfu_device.specs.Errors.{IsMediumError};
+ghost use Rattle.dfu_device.specs.Rows.{Cause, Row};
+ghost use Rattle.dfu_device.specs.declared.answer.Answer.{Answer};
+ghost use Rattle.dfu_asks.specs.declared.reply.Reply.TheVariants.{Answered};
+ghost use Rattle.dfu_asks.specs.Lent.{LentAsking};
+ghost use Rattle.dfu_asks.specs.Asks.{device_in};
+ghost use Rattle.dfu_asks.specs.Calls.{DeviceCalled, DeviceTook};
 ghost use Rattle.dfu_asks.specs.Mapped.{mapped};
 ghost use Rattle.dfu_asks.specs.declared.pending_writes.SlotWrite.{SlotWrite};
 ghost use Rattle.dfu_asks.specs.Steps.{Step, step_writes};
 ghost use Rattle.dfu_asks.specs.Jobs.{job_writes, job_steps};
 ghost use Rattle.dfu_asks.specs.Carried.{total, carried, AreWithin, IsPiece};
 ghost use Rattle.dfu_asks.specs.Series.{block_series, block_store, BlockWritten, BlockBroken, CommitDone, CommitBroken};
+
+use dfu_device::laws::rows_keep;
 
 /// Carrying a series out piece by piece makes its writes. Carried out to its end it is all of them; after a piece that is
 /// carried out it is one piece further; and whichever bytes a failed piece leaves in its range, the series was
@@ -50,3 +60,19 @@ pub fn writes_are_the_calls()
         is_put n s ≡ true → n ≤ room_of s →
         BrokenWrites fault s.medium (writes_of s (Commit n)) now → CommitBroken fault s n (store_on now) }
 {}
+
+/// An error of the medium (errWRITE, errPROG or errVERIFY; USB DFU 1.1, section 6.1.2) comes only after an operation that failed. A call
+/// that is answered leads to none, since it has made no write; and a piece that was taken leads to one only if it failed, or if other
+/// bytes are there.
+pub fn errors_follow_failures()
+    ensures answered { (a now : LentAsking) (flash out out' : List ℕ) (cause : Cause) (x : Answer) (count : ℕ) →
+        DeviceCalled a flash out (λ d y sent d'. Row d cause y sent d') now out' (Answered x count) →
+        IsMediumError (device_in now flash).stage → IsMediumError (device_in a flash).stage }
+    ensures took { (d : DeviceView) (len : ℕ) (s : SlotsState) (was flash out out' : List ℕ) (p : Write) (failed : Bool) (now : LentAsking)
+        (x : Answer) (count : ℕ) → DeviceTook d len s was p failed flash out now out' (Answered x count) →
+        IsMediumError (device_in now flash).stage →
+        (failed ≡ true) ⊎ ¬ (slice_range flash p.at (p.at + length p.bytes) ≡ p.bytes) }
+{
+    // Called for its clause `errors`.
+    rows_keep();
+}

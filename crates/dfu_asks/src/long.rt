@@ -3,7 +3,8 @@ ghost use Rattle.std.specs.Prelude.{◌≡◌, ◌↔◌, ℕ, List, [], nat_lt,
 ghost use Rattle.dfu_device.specs.Rows.{Handles, body_length};
 ghost use Rattle.dfu_device.specs.declared.answer.Answer.TheVariants.{Stall};
 ghost use Rattle.dfu_asks.specs.AfterLong.{after_long, IsLong};
-ghost use Rattle.dfu_asks.specs.Asks.{device_in, IsDevice};
+ghost use Rattle.dfu_asks.specs.Mapped.{Unseen};
+ghost use Rattle.dfu_asks.specs.Asks.{device_with, IsDevice};
 ghost use Rattle.dfu_asks.specs.InMode.{IsDeviceIn};
 ghost use Rattle.dfu_asks.specs.Lent.{LentAsking, lent, IsSetUpAs};
 ghost use Rattle.dfu_asks.specs.Refused.{Fits};
@@ -38,8 +39,8 @@ fn is_long(setup: &Setup, transfer: u16) -> bool
 /// as `Asking::too_long`; None exactly if it does not.
 pub fn mode_after_long(config: &Config, mode: DeviceState, setup: &[u8; 8]) -> Option<DeviceState>
     ensures row { IfSome result (λ after. (a : LentAsking) (flash : List ℕ) → IsDeviceIn config.now mode a flash →
-        IsDevice (record a { mode = after }) flash × ((body : List ℕ) → IsBodyOf setup.now body →
-        Handles setup.now body (device_in a flash) Stall [] (device_in (record a { mode = after }) flash))) }
+        IsDevice (record a { mode = after }) flash × ((body : List ℕ) → IsBodyOf setup.now body → (u : Unseen) →
+        Handles setup.now body (device_with u a flash) Stall [] (device_with u (record a { mode = after }) flash))) }
     ensures long { OnSome result (IsLong config.now setup.now) }
     ensures none { IfNone result (¬ IsLong config.now setup.now) }
 {
@@ -65,8 +66,8 @@ impl Asking {
     pub fn too_long(&mut self, setup: &[u8; 8]) -> Result<bool, Refusal>
         ensures long { IfOk result (λ b. IsTrue b ↔ IsLong self.old.config setup.now) }
         ensures row { (block held flash : List ℕ) → IsDevice (lent self.old block held) flash →
-            IfOk result (λ b. IsTrue b → (body : List ℕ) → IsBodyOf setup.now body →
-            Handles setup.now body (device_in (lent self.old block held) flash) Stall [] (device_in (lent self.new block held) flash)) }
+            IfOk result (λ b. IsTrue b → (body : List ℕ) → IsBodyOf setup.now body → (u : Unseen) → Handles setup.now body
+            (device_with u (lent self.old block held) flash) Stall [] (device_with u (lent self.new block held) flash)) }
         ensures is { (block held flash : List ℕ) → OnOk result
             (IsDevice (lent self.old block held) flash → IsDevice (lent self.new block held) flash) }
         ensures unchanged { OnErr result (self.new ≡ self.old) }

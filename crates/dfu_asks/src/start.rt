@@ -6,9 +6,9 @@ ghost use Rattle.dfu_asks.specs.declared.pending_writes.PendingWrites.{PendingWr
 ghost use Rattle.dfu_asks.specs.Mapped.{grain_of, mapped};
 ghost use Rattle.dfu_asks.specs.Noted.{IsView};
 ghost use Rattle.dfu_asks.specs.Lent.{lent, HasRoom, IsSetUpAs};
-ghost use Rattle.dfu_asks.specs.Due.{IsDueStage};
+ghost use Rattle.dfu_asks.specs.Due.{DueRow, IsDueStage};
 ghost use Rattle.dfu_asks.specs.Asks.{device_in, store_in, IsDevice, IsBlockJob, IsCommitJob, IsJobOf};
-ghost use Rattle.dfu_asks.specs.Calls.{DueComes, HasAtMost};
+ghost use Rattle.dfu_asks.specs.Calls.{DeviceCalled, HasAtMost};
 ghost use Rattle.dfu_asks.specs.Ahead.{IsStretch, IsClear};
 
 use crate::noted::View;
@@ -179,9 +179,8 @@ impl Asking {
         requires memory { HasRoom self.old.unit held.old }
         ensures outcome { let a = lent self.old block.now held.old in
             let flash = medium.now.bytes.now in
-            let d = device_in a flash in
-            (len : ℕ) → IsDevice a flash → IsDueStage d.stage asked len →
-            DueComes d len (store_in a flash) flash flash out.old (lent self.new block.now held.new) out.new result }
+            (len : ℕ) → IsDevice a flash → IsDueStage (device_in a flash).stage asked len →
+            DeviceCalled a flash out.old (DueRow len) (lent self.new block.now held.new) out.new result }
         ensures first { result ≡ Reply.Asks → (w : PendingWrites) × (self.new.work ≡ Some w) × (w.done ≡ 0) }
         ensures few { HasAtMost 6 result }
         ensures same { IsSetUpAs self.old self.new }

@@ -73,17 +73,16 @@ pub record Goes (c : DfuConfig) (r : DfuRecord) (block : List ℕ) (r' : DfuReco
 
 -- No writes were due, and the number says what came of a call, which is a row, or asks for its writes, of a device that is as the last
 -- call left it.
-pub record Replied (Whole : Type 0) (a : LentAsking) (flash out : List ℕ) (Row : Answer → List ℕ → DeviceView → Type 0) (number : Reply → ℤ)
-    (result : ℤ) (a' : LentAsking) (out' : List ℕ) : Type 0 where
+pub record Replied (Whole : Type 0) (a : LentAsking) (flash out : List ℕ) (Row : DeviceView → Answer → List ℕ → DeviceView → Type 0)
+    (number : Reply → ℤ) (result : ℤ) (a' : LentAsking) (out' : List ℕ) : Type 0 where
   pub idle : a.work ≡ None
   pub reply : Reply
   pub number_is : result ≡ number reply
   pub called : Whole → DeviceCalled a flash out Row a' out' reply
 
 -- The same for time that passed. The number is 0, or says that writes are asked for.
-pub record TimePassed (Whole : Type 0) (a : LentAsking) (flash : List ℕ) (Row : Answer → List ℕ → DeviceView → Type 0) (result : ℤ)
-    (a' : LentAsking)
-    : Type 0 where
+pub record TimePassed (Whole : Type 0) (a : LentAsking) (flash : List ℕ) (Row : DeviceView → Answer → List ℕ → DeviceView → Type 0)
+    (result : ℤ) (a' : LentAsking) : Type 0 where
   pub idle : a.work ≡ None
   pub reply : Reply
   pub number_is : result ≡ passed_number reply

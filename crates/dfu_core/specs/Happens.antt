@@ -33,7 +33,7 @@ abbrev pub Handled : CoreBoard → (setup body out : List ℕ) → ℤ → List 
 Handled b setup body out n out' b' =
     Goes b.config b.kept b.block b'.kept b'.block (λ a a'. let before = with_memory b.block a in
     Replied (IsIntact b.block b.flash a) before b.flash out
-    (λ x sent d'. Handles (addressed b.config.interface setup) body (device_in before b.flash) x sent d') reply_number n
+    (λ d x sent d'. Handles (addressed b.config.interface setup) body d x sent d') reply_number n
     (with_memory b'.block a') out')
     ⊎ (CoreRefuses b.config b.kept b.block b.flash n b'.kept b'.block × (out' ≡ out))
     ⊎ HasNoRoom (answer_room (setting_of b.config)) b.kept b.block out n b'.kept b'.block out'
@@ -43,7 +43,7 @@ abbrev pub Elapsed : CoreBoard → (ms : ℕ) → ℤ → CoreBoard → Type 0
 Elapsed b ms n b' =
     Goes b.config b.kept b.block b'.kept b'.block (λ a a'. let before = with_memory b.block a in
     TimePassed (IsIntact b.block b.flash a) before b.flash
-    (λ x sent d'. (x ≡ answer.Ack) × (sent ≡ []) × Elapses ms (device_in before b.flash) d') n (with_memory b'.block a'))
+    (λ d x sent d'. (x ≡ answer.Ack) × (sent ≡ []) × Elapses ms d d') n (with_memory b'.block a'))
     ⊎ CoreRefuses b.config b.kept b.block b.flash n b'.kept b'.block
 
 -- What comes of dfu_core_usb_reset.

@@ -5,7 +5,8 @@ use Rattle.dfu_wire.specs.Setup.{IsSetup}
 use Rattle.dfu_device.specs.declared.answer.Answer.TheVariants as answer
 use Rattle.dfu_device.specs.Rows.{Handles, body_length}
 use Rattle.dfu_asks.specs.declared.asking.Asking.{Asking}
-use Rattle.dfu_asks.specs.Asks.{device_in, IsDevice}
+use Rattle.dfu_asks.specs.Mapped.{Unseen}
+use Rattle.dfu_asks.specs.Asks.{device_with, IsDevice}
 use Rattle.dfu_core.specs.declared.config.DfuConfig.{DfuConfig}
 use Rattle.dfu_core.specs.declared.record.DfuRecord.{DfuRecord}
 use Rattle.dfu_core.specs.Kept.{IsKept, with_memory}
@@ -18,4 +19,5 @@ TakesLong c r setup r' = (a : Asking) → IsKept c r a → (a' : Asking) × IsKe
     × ((block flash : List ℕ) → IsDevice (with_memory block a) flash
     → (body : List ℕ) → ((p : Setup) → IsSetup p setup → length body ≡ body_length p)
     → IsDevice (with_memory block a') flash
-    × Handles setup body (device_in (with_memory block a) flash) answer.Stall [] (device_in (with_memory block a') flash))
+    × ((u : Unseen) → Handles setup body (device_with u (with_memory block a) flash) answer.Stall []
+    (device_with u (with_memory block a') flash)))

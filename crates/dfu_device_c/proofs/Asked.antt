@@ -6,7 +6,8 @@ use Rattle.dfu_device.specs.declared.device_state.DeviceState.{DeviceState}
 use Rattle.dfu_device.specs.Rows.{Handles}
 use Rattle.dfu_device.specs.Setting.{Setting}
 use Rattle.dfu_asks.specs.declared.sector.Sector.{Sector}
-use Rattle.dfu_asks.specs.Asks.{device_in, IsDevice}
+use Rattle.dfu_asks.specs.Mapped.{Unseen}
+use Rattle.dfu_asks.specs.Asks.{device_with, IsDevice}
 use Rattle.dfu_asks.specs.InMode.{IsDeviceIn}
 use Rattle.dfu_asks.specs.Lent.{LentAsking}
 use Rattle.dfu_asks.specs.Verdict.{IsBodyOf}
@@ -23,8 +24,8 @@ pub takes_long : (c : DfuConfig) (r r' : DfuRecord) {config : Setting} {unit : W
     (m m' : DeviceState) → IsSetUp c config unit sector → ((x : DeviceState) → HasMode r x → m ≡ x) → r.work ≡ 0 → HasMode r' m'
     → r' ≡ record r { version = r'.version; mode = r'.mode; first = r'.first; second = r'.second; number = r'.number }
     → ((l : LentAsking) (flash : List ℕ) → IsDeviceIn config m l flash → IsDevice (record l { mode = m' }) flash
-    × ((body : List ℕ) → IsBodyOf setup body
-    → Handles setup body (device_in l flash) answer.Stall [] (device_in (record l { mode = m' }) flash)))
+    × ((body : List ℕ) → IsBodyOf setup body → (u : Unseen)
+    → Handles setup body (device_with u l flash) answer.Stall [] (device_with u (record l { mode = m' }) flash)))
     → TakesLong c r setup r'
 takes_long c r r' setup m m' set_up the_mode idle moved rest row a kept = (
   record a { mode = m' },

@@ -15,15 +15,16 @@ use Rattle.dfu_device.specs.Taken.{taken_of, held_in, acknowledged, is_dnload}
 use Rattle.dfu_device.specs.TakenHistory.{RowTakes}
 use Rattle.dfu_asks.specs.declared.reply.Reply.{Reply}
 use Rattle.dfu_asks.specs.Due.{IsDueRow}
-use Rattle.dfu_asks.specs.Asks.{store_in}
-use Rattle.dfu_asks.specs.Calls.{DeviceCalled, called_ended, called_asks}
+use Rattle.dfu_asks.specs.Asks.{store_in, device_in}
+use Rattle.dfu_asks.specs.Calls.{MakesRow, DeviceCalled, called_ended, called_asks}
+use Rattle.dfu_asks.proofs.Unseen.{of_mapped}
 use Rattle.dfu_laws.specs.board.Board.{Board, lent_on, device_on, Event, Handle, Elapse, UsbReset, RefuseClose, Refuse, Says, Answers}
 use Rattle.dfu_laws.specs.board.Happens.{reply_said, IsServedBy, IsReset, IsObjected}
 use Rattle.dfu_laws.specs.board.Keeps.{acknowledged_body}
 use Rattle.dfu_laws.specs.board.Refines.{TellsCall, TellsRows, IsIdle}
 use Rattle.dfu_laws.proofs.board.Closing.{row_leads}
 use Rattle.dfu_laws.proofs.board.Installs.{never_both, row_puts}
-use Rattle.dfu_laws.proofs.board.Turns.{stage_holds, TurnedBy, Turned, idle_there, row_there, said_there, one_row, tells_answer}
+use Rattle.dfu_laws.proofs.board.Turns.{stage_holds, TurnedBy, Turned, idle_there, said_there, one_row, tells_answer}
 
 -- A call's body that was acknowledged.
 abbrev pub block_by : Cause → Says → List ℕ
@@ -72,14 +73,17 @@ module _ (takes : RowTakes) where
       let o = h.outcome (record { fits = h.fits; is = k.is }) in
       from o.0 o.1 h.reply o.2 o.3
     where
-      from : (out out' : List ℕ) (r : Reply) → DeviceCalled (lent_on b) b.flash out (λ x sent d'. Row (device_on b) cause x sent d')
+      rows : DeviceView → Answer → List ℕ → DeviceView → Type 0
+      rows z x sent d' = Row z cause x sent d'
+
+      from : (out out' : List ℕ) (r : Reply) → DeviceCalled (lent_on b) b.flash out rows
           (lent_on b') out' r
           → says ≡ reply_said r out' → CallTurned b' None d cause says
       from out out' _ (called_ended x count e) is = row_turn b' d cause says x e.gave.sent
           (subst (λ (z : DeviceView). Row z cause x e.gave.sent (device_on b')) k.device
-          (row_there b' b.flash x count out out' (λ x sent d'. Row (device_on b) cause x sent d') h.flash e))
-          (idle_there b' b.flash x count out out' (λ x sent d'. Row (device_on b) cause x sent d') h.flash e)
-          (said_there says b.flash x count out out' (lent_on b') (λ x sent d'. Row (device_on b) cause x sent d') e is)
+          (subst (λ (f : List ℕ). Row (device_on b) cause x e.gave.sent (device_in (lent_on b') f)) (sym h.flash) (e.gave.row of_mapped)))
+          (idle_there b' b.flash x count out out' (MakesRow (lent_on b) b.flash rows (lent_on b')) h.flash e)
+          (said_there says b.flash x count out out' (lent_on b') (MakesRow (lent_on b) b.flash rows (lent_on b')) e is)
       from out out' _ (called_asks len asks same due out_is) is = record {
         rows = [];
         due' = Some cause;
@@ -93,7 +97,7 @@ module _ (takes : RowTakes) where
           stood = b.flash;
           asks = asks;
           device = same ∙ k.device;
-          row = subst (λ (z : DeviceView). IsDueRow len z (λ x sent d'. Row z cause x sent d')) k.device due;
+          row = subst (λ (z : DeviceView). IsDueRow len z (λ x sent d'. Row z cause x sent d')) k.device (due of_mapped);
           torn = λ p piece. keeps_same p.write.at (p.write.at + length p.write.bytes) b.flash b'.flash h.flash;
         };
         taken = sym (ap (λ (y : Says). held_in (state_of d.stage) (taken_of (situation d) ++ block_by cause y)) is

@@ -21,7 +21,8 @@ use Rattle.dfu_asks.specs.Asks.{device_in, device_of, IsDevice, steps_in}
 use Rattle.dfu_asks.specs.Calls.{AsksWrites, DeviceCalled, called_ended, called_asks, DeviceTook}
 use Rattle.dfu_asks.specs.Refused.{IsKeptOn, Fits, IsLeft, IsServed, IsTaken}
 use Rattle.dfu_asks.specs.Lent.{lent}
-use Rattle.dfu_laws.specs.board.Board.{Board, lent_on, device_on, Says, Answers}
+use Rattle.dfu_asks.proofs.Unseen.{of_mapped}
+use Rattle.dfu_laws.specs.board.Board.{Board, lent_on, Says, Answers}
 use Rattle.dfu_laws.specs.board.Happens.{IsServedBy, IsTold, BoardStarts, IsRefusedOr, reply_said}
 use Rattle.dfu_laws.specs.board.Steps.{board, result_said}
 
@@ -39,7 +40,7 @@ by_reply b b' out P (reply.Answered x count) is = is
 by_outcome : (b b' : Board) (cause : Cause) (said : Says) (r : Reply) → b.asking.work ≡ None → Fits b.asking (length b.block)
     → b'.flash ≡ b.flash
     → (IsKeptOn b.asking b.block b.held b.flash → (out out' : List ℕ)
-    × DeviceCalled (lent_on b) b.flash out (λ x sent d'. Row (device_on b) cause x sent d') (lent_on b') out' r
+    × DeviceCalled (lent_on b) b.flash out (λ d x sent d'. Row d cause x sent d') (lent_on b') out' r
     × (said ≡ reply_said r out'))
     → IsServedBy b cause said b'
 by_outcome b b' cause said r idle fits flash outcome =
@@ -49,7 +50,7 @@ by_outcome b b' cause said r idle fits flash outcome =
 pub served_step : (b b' : Board) (cause : Cause) (out out' : List ℕ) (r : Reply) → b.asking.work ≡ None → Fits b.asking (length b.block)
     → b'.flash ≡ b.flash
     → (IsKeptOn b.asking b.block b.held b.flash
-    → DeviceCalled (lent_on b) b.flash out (λ x sent d'. Row (device_on b) cause x sent d') (lent_on b') out' r)
+    → DeviceCalled (lent_on b) b.flash out (λ d x sent d'. Row d cause x sent d') (lent_on b') out' r)
     → IsRefusedOr (reply_said r out') b b' (IsServedBy b cause (reply_said r out') b')
 served_step b b' cause out out' r idle fits flash outcome =
     by_reply b b' out' (IsServedBy b cause (reply_said r out') b') r
@@ -59,7 +60,7 @@ served_step b b' cause out out' r idle fits flash outcome =
 pub call_step : (b b' : Board) (cause : Cause) (need room : ℕ) (out out' : List ℕ) (r : Result Reply Refusal) → b'.flash ≡ b.flash
     → OnOk r (IsServed b.asking b.block b.flash need room)
     → IfOk r (λ y. IsKeptOn b.asking b.block b.held b.flash
-    → DeviceCalled (lent_on b) b.flash out (λ x sent d'. Row (device_on b) cause x sent d') (lent_on b') out' y)
+    → DeviceCalled (lent_on b) b.flash out (λ d x sent d'. Row d cause x sent d') (lent_on b') out' y)
     → OnErr r (b' ≡ b)
     → IsRefusedOr (result_said r out') b b' (IsServedBy b cause (result_said r out') b')
 call_step b b' cause need room out out' (Ok r) flash served outcome same =
@@ -68,16 +69,16 @@ call_step b b' cause need room out out' (Err e) flash served outcome same = same
 
 module _ (b b' : Board) (ms : ℕ) (zeros : List ℕ) where
   of_none : (out : List ℕ) (x : Answer) (count : ℕ) (r : Reply) → r ≡ reply.Answered x count
-      → DeviceCalled (lent_on b) b.flash zeros (λ y sent d'. Row (device_on b) (Passing ms) y sent d') (lent_on b') out r → count ≡ 0
+      → DeviceCalled (lent_on b) b.flash zeros (λ d y sent d'. Row d (Passing ms) y sent d') (lent_on b') out r → count ≡ 0
   of_none out x count _ is (called_ended y n e) =
       let one : n ≡ count = cc in
-      sym one ∙ e.gave.count_is ∙ ap (λ (l : List ℕ). length l) e.gave.row.1
+      sym one ∙ e.gave.count_is ∙ ap (λ (l : List ℕ). length l) (e.gave.row of_mapped).1
   of_none out x count _ is (called_asks len asks device due out_is) = absurd (cc)
 
   -- A reply to time that passed, which has no bytes, is what a board does as time passes.
   pub passed_step : (r : Reply) → b.asking.work ≡ None → Fits b.asking (length b.block) → b'.flash ≡ b.flash
       → (IsKeptOn b.asking b.block b.held b.flash → (out : List ℕ)
-      × DeviceCalled (lent_on b) b.flash zeros (λ x sent d'. Row (device_on b) (Passing ms) x sent d') (lent_on b') out r)
+      × DeviceCalled (lent_on b) b.flash zeros (λ d x sent d'. Row d (Passing ms) x sent d') (lent_on b') out r)
       → IsRefusedOr (reply_said r []) b b' (IsServedBy b (Passing ms) (reply_said r []) b')
   passed_step r idle fits flash outcome =
       by_reply b b' [] (IsServedBy b (Passing ms) (reply_said r []) b') r
@@ -85,7 +86,7 @@ module _ (b b' : Board) (ms : ℕ) (zeros : List ℕ) where
       (λ kept. let o = outcome kept in (zeros, o.0, o.1, no_bytes r o.0 o.1)))
     where
       no_bytes : (r : Reply) (out : List ℕ)
-          → DeviceCalled (lent_on b) b.flash zeros (λ y sent d'. Row (device_on b) (Passing ms) y sent d') (lent_on b') out r
+          → DeviceCalled (lent_on b) b.flash zeros (λ d y sent d'. Row d (Passing ms) y sent d') (lent_on b') out r
           → reply_said r [] ≡ reply_said r out
       no_bytes reply.Asks out called = refl
       no_bytes (reply.Answered x count) out called =
@@ -95,7 +96,7 @@ module _ (b b' : Board) (ms : ℕ) (zeros : List ℕ) where
   -- `elapse`.
   pub elapse_step : (r : Result Reply Refusal) → b'.flash ≡ b.flash → OnOk r (IsServed b.asking b.block b.flash 0 0)
       → IfOk r (λ y. IsKeptOn b.asking b.block b.held b.flash
-      → (out : List ℕ) × DeviceCalled (lent_on b) b.flash zeros (λ x sent d'. Row (device_on b) (Passing ms) x sent d') (lent_on b') out y)
+      → (out : List ℕ) × DeviceCalled (lent_on b) b.flash zeros (λ d x sent d'. Row d (Passing ms) x sent d') (lent_on b') out y)
       → OnErr r (b' ≡ b)
       → IsRefusedOr (result_said r []) b b' (IsServedBy b (Passing ms) (result_said r []) b')
   elapse_step (Ok r) flash served outcome same = passed_step r served.work served.fits flash outcome

@@ -12,7 +12,7 @@ use Rattle.dfu_device.specs.History.{IsHistory, HistoryStep as TableRow}
 use Rattle.dfu_device.specs.Taken.{taken_in, taken_of, held_in, is_dnload}
 use Rattle.dfu_asks.specs.declared.pending_writes.PendingWrites.{PendingWrites}
 use Rattle.dfu_asks.specs.Lent.{LentAsking}
-use Rattle.dfu_asks.specs.Asks.{device_in, IsDevice}
+use Rattle.dfu_asks.specs.Asks.{IsDevice}
 use Rattle.dfu_asks.specs.Calls.{HasEnded}
 use Rattle.dfu_laws.specs.board.Board.{Board, lent_on, device_on, Event, Handle, Restart, Says, Answers}
 use Rattle.dfu_laws.specs.board.Keeps.{acknowledged_body}
@@ -91,7 +91,7 @@ stays b' due due' d e says tells stands none = record {
 -- A row that came to its end, after which a board is idle.
 
 -- What is kept is a device then, on the flash of the board.
-pub idle_there : (b' : Board) (flash : List ℕ) (x : Answer) (count : ℕ) (out out' : List ℕ) (R : Answer → List ℕ → DeviceView → Type 0)
+pub idle_there : (b' : Board) (flash : List ℕ) (x : Answer) (count : ℕ) (out out' : List ℕ) (R : Answer → List ℕ → Type 0)
     → b'.flash ≡ flash → HasEnded flash x count out out' (lent_on b') R → IsIdle b' (device_on b')
 idle_there b' flash x count out out' R same e = record {
   work = e.work;
@@ -99,14 +99,9 @@ idle_there b' flash x count out out' R same e = record {
   device = refl;
 }
 
--- The row leads to the device that the board is then.
-pub row_there : (b' : Board) (flash : List ℕ) (x : Answer) (count : ℕ) (out out' : List ℕ) (R : Answer → List ℕ → DeviceView → Type 0)
-    → b'.flash ≡ flash → (e : HasEnded flash x count out out' (lent_on b') R) → R x e.gave.sent (device_on b')
-row_there b' flash x count out out' R same e = subst (λ (f : List ℕ). R x e.gave.sent (device_in (lent_on b') f)) (sym same) e.gave.row
-
 -- What is said are the bytes of the row.
 pub said_there : (says : Says) (flash : List ℕ) (x : Answer) (count : ℕ) (out out' : List ℕ) (now : LentAsking)
-    (R : Answer → List ℕ → DeviceView → Type 0) (e : HasEnded flash x count out out' now R) → says ≡ Answers x (take count out')
+    (R : Answer → List ℕ → Type 0) (e : HasEnded flash x count out out' now R) → says ≡ Answers x (take count out')
     → says ≡ Answers x e.gave.sent
 said_there says flash x count out out' now R e is =
     is ∙ ap (λ (l : List ℕ). Answers x l) (front_is e.gave.sent out out' count e.gave.count_is e.gave.out_is)

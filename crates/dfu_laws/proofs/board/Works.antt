@@ -16,7 +16,7 @@ use Rattle.dfu_asks.specs.declared.pending_writes.PendingWrites.{PendingWrites}
 use Rattle.dfu_asks.specs.Steps.{Step}
 use Rattle.dfu_asks.specs.Carried.{IsPiece}
 use Rattle.dfu_asks.specs.Due.{Works, Fails}
-use Rattle.dfu_asks.specs.Asks.{device_of, steps_in}
+use Rattle.dfu_asks.specs.Asks.{device_in, device_of, steps_in}
 use Rattle.dfu_asks.specs.Calls.{HasEnded, DueComes, comes_asks, comes_ended, took_well, took_failed, took_lied}
 use Rattle.dfu_laws.specs.board.Board.{Board, lent_on, device_on, Took, Says, Answers}
 use Rattle.dfu_laws.specs.board.Happens.{reply_said, FlashIsWritten, IsTold}
@@ -24,7 +24,7 @@ use Rattle.dfu_laws.specs.board.Refines.{TellsCall, IsAtWork}
 use Rattle.dfu_asks.proofs.Pieces.{piece_one}
 use Rattle.dfu_laws.proofs.board.Cut.{WriteLaws, next_of}
 use Rattle.dfu_laws.proofs.board.Due.{DueLeads, works_lead, fails_lead}
-use Rattle.dfu_laws.proofs.board.Turns.{one_work, Turned, stays, idle_there, row_there, said_there, one_row, tells_answer}
+use Rattle.dfu_laws.proofs.board.Turns.{one_work, Turned, stays, idle_there, said_there, one_row, tells_answer}
 
 -- A write in the range of the piece that is due leaves a board at work.
 pub writes_on : (b b' : Board) (cause : Cause) (d : DeviceView) → IsAtWork b cause d → FlashIsWritten b b' → IsAtWork b' cause d
@@ -57,20 +57,23 @@ writes_on b b' cause d k h =
 -- `took`.
 module _ (laws : WriteLaws) (b b' : Board) (cause : Cause) (d : DeviceView) (failed : Bool) (says : Says) (k : IsAtWork b cause d)
     (h : IsTold b failed says b') where
-  over : (x : Answer) (count : ℕ) (R : Answer → List ℕ → DeviceView → Type 0) → HasEnded b.flash x count h.out h.out' (lent_on b') R
+  over : (x : Answer) (count : ℕ) (R : Answer → List ℕ → DeviceView → Type 0)
+      → HasEnded b.flash x count h.out h.out' (lent_on b') (λ y sent. R y sent (device_in (lent_on b') b.flash))
       → ((sent : List ℕ) (w' : DeviceView) → R x sent w' → Row d cause x sent w' × DueLeads d w') → says ≡ Answers x (take count h.out')
       → Turned b' (Some cause) d (Took failed) says
   over x count R e follows is =
       let sent = e.gave.sent in
-      let got = follows sent (device_on b') (row_there b' b.flash x count h.out h.out' R h.flash e) in
+      let Ended : Answer → List ℕ → Type 0 = λ y sent. R y sent (device_in (lent_on b') b.flash) in
+      let got = follows sent (device_on b')
+      (subst (λ (f : List ℕ). R x sent (device_in (lent_on b') f)) (sym h.flash) e.gave.row) in
       record {
         rows = one_row d cause x sent (device_on b');
         due' = None;
         device = device_on b';
         history = (refl, got.0, refl);
         tells = tells_answer (Some cause) d cause x sent (device_on b') says
-            (said_there says b.flash x count h.out h.out' (lent_on b') R e is);
-        stands = idle_there b' b.flash x count h.out h.out' R h.flash e;
+            (said_there says b.flash x count h.out h.out' (lent_on b') Ended e is);
+        stands = idle_there b' b.flash x count h.out h.out' Ended h.flash e;
         taken = got.1.taken
             ∙ sym (ap (λ (l : List ℕ). held_in (state_of (device_on b').stage) l) (append-nil (taken_of (situation d))));
         waits = λ t m. absurd (got.1.waits t m);
@@ -102,7 +105,8 @@ module _ (laws : WriteLaws) (b b' : Board) (cause : Cause) (d : DeviceView) (fai
       (k.row.works x sent w' works, works_lead d w' k.len x sent works)) is
 
   fell : (fault : WriteFault) (x : Answer) (count : ℕ)
-      → HasEnded b.flash x count h.out h.out' (lent_on b') (λ y sent w'. Fails fault k.len (device_of (lent_on b) k.s) y sent w')
+      → HasEnded b.flash x count h.out h.out' (lent_on b')
+      (λ y sent. Fails fault k.len (device_of (lent_on b) k.s) y sent (device_in (lent_on b') b.flash))
       → says ≡ Answers x (take count h.out') → Turned b' (Some cause) d (Took failed) says
   fell fault x count e is =
       over x count (λ y sent w'. Fails fault k.len (device_of (lent_on b) k.s) y sent w') e

@@ -139,7 +139,7 @@ long_turn b a setup body n out' b' sound called block room is_body (inl (is, idl
               [],
               [],
               subst (λ (x : List ℕ). DeviceCalled before b.flash []
-                  (λ y sent d'. Handles own body (device_in before b.flash) y sent d')
+                  (λ d y sent d'. Handles own body d y sent d')
                   (with_memory x t.0) [] (reply.Answered answer.Stall 0)) (sym block)
                   (called_ended answer.Stall 0 (record {
                     gave = record { sent = []; count_is = refl; out_is = refl; row = row.1 };

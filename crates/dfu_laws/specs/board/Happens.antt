@@ -32,7 +32,7 @@ pub record IsServedBy (b : Board) (cause : Cause) (says : Says) (b' : Board) : T
   pub flash : b'.flash ≡ b.flash
   pub reply : Reply
   pub outcome : IsKeptOn b.asking b.block b.held b.flash → (out out' : List ℕ)
-      × DeviceCalled (lent_on b) b.flash out (λ x sent d'. Row (device_on b) cause x sent d') (lent_on b') out' reply
+      × DeviceCalled (lent_on b) b.flash out (λ d x sent d'. Row d cause x sent d') (lent_on b') out' reply
       × (says ≡ reply_said reply out')
 
 -- A call of `usb_reset` that is not refused, by its clauses `served`, `row`, `is` and `work`.

@@ -6,7 +6,8 @@ use Rattle.dfu_device.specs.declared.device_state.DeviceState.{DeviceState}
 use Rattle.dfu_device.specs.Parts.{stage_of}
 use Rattle.dfu_device.specs.Rows.{Handles, body_length}
 use Rattle.dfu_asks.specs.Lent.{LentAsking}
-use Rattle.dfu_asks.specs.Asks.{store_in, device_in, IsDevice}
+use Rattle.dfu_asks.specs.Mapped.{Unseen}
+use Rattle.dfu_asks.specs.Asks.{store_in, unseen_in, device_with, IsDevice}
 use Rattle.dfu_asks.specs.Verdict.{IsBodyOf}
 use Rattle.dfu_asks.proofs.LongSetups.{after_free, found_long, long_elsewhere, long_here}
 use Rattle.dfu_asks.proofs.Refuses.{enters}
@@ -14,8 +15,8 @@ use Rattle.dfu_asks.proofs.long.mode_after_long.Goals as goal
 
 -- The row leads from a device to the one in this mode.
 abbrev Leads : List ℕ → LentAsking → List ℕ → DeviceState → Type 0
-Leads setup a flash after = IsDevice (record a { mode = after }) flash × ((body : List ℕ) → IsBodyOf setup body
-    → Handles setup body (device_in a flash) Stall [] (device_in (record a { mode = after }) flash))
+Leads setup a flash after = IsDevice (record a { mode = after }) flash × ((body : List ℕ) → IsBodyOf setup body → (u : Unseen)
+    → Handles setup body (device_with u a flash) Stall [] (device_with u (record a { mode = after }) flash))
 
 pub returns-then-setup-eq0-clause-row : goal.returns-then-setup-eq0-clause-row
 returns-then-setup-eq0-clause-row c a flash is =
@@ -28,8 +29,8 @@ returns-then-setup-eq0-clause-row c a flash is =
     let long = (found_long config c.args.setup.now p c.is_long.result c.decode-setup.ensures.only says c.if-not-is_long.false).0 in
     subst (λ (n : DeviceState). Leads c.args.setup.now a flash n) (sym c.after_long.ensures) (
       enters a _ flash is.device (after_free m (length a.block) s),
-      λ body body_is. long_here c.args.setup.now p c.decode-setup.ensures.fields (device_in a flash) m (spare_of s) a.block
-          (λ i. stage_of (is.mode_is i) (spare_of s) a.block)
+      λ body body_is u. long_here c.args.setup.now p c.decode-setup.ensures.fields (device_with u a flash) m (spare_of (unseen_in u s)) a.block
+          (λ i. stage_of (is.mode_is i) (spare_of (unseen_in u s)) a.block)
           (omega (arith, long, ap (λ k. k.functional.transfer) is.config_is)) c.if-setup-eq0.true body
           (body_is p c.decode-setup.ensures.fields),
     )
@@ -38,6 +39,6 @@ pub returns-else-setup-eq0-clause-row : goal.returns-else-setup-eq0-clause-row
 returns-else-setup-eq0-clause-row c a flash is =
     subst (λ (n : DeviceState). Leads c.args.setup.now a flash n) is.mode_is (
       is.device,
-      λ body body_is. long_elsewhere c.args.setup.now c.decode-setup.result c.decode-setup.ensures.fields (device_in a flash)
+      λ body body_is u. long_elsewhere c.args.setup.now c.decode-setup.result c.decode-setup.ensures.fields (device_with u a flash)
           c.if-setup-eq0.false body,
     )

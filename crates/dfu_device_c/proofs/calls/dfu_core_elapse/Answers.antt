@@ -4,7 +4,6 @@ use Rattle.std.proofs.lemmas.Result.{IfOk-at_ok}
 use Rattle.dfu_device.specs.declared.answer.Answer.TheVariants as answer
 use Rattle.dfu_device.specs.Rows.{Elapses}
 use Rattle.dfu_asks.specs.declared.reply.Reply.{Reply}
-use Rattle.dfu_asks.specs.Asks.{device_in}
 use Rattle.dfu_asks.specs.Calls.{DeviceCalled}
 use Rattle.dfu_core.specs.declared.record.DfuRecord.{DfuRecord}
 use Rattle.dfu_core.specs.Kept.{IsSetUp, IsKept, with_memory}
@@ -36,7 +35,7 @@ passed : (c : After-elapse) (reply : Reply) (r' : DfuRecord) {n : ℤ} → c.ela
     let memory = c.elapse.new.block ++ c.elapse.new.held in
     (IsSetUp k a'.config a'.unit a'.sector → IsKept k r' a') → Goes k c.args.device.now block r' memory
     (λ x y. TimePassed (IsIntact block flash x) (with_memory block x) flash
-    (λ z sent d'. (z ≡ answer.Ack) × (sent ≡ []) × Elapses c.args.ms (device_in (with_memory block x) flash) d') n (with_memory memory y))
+    (λ d z sent d'. (z ≡ answer.Ack) × (sent ≡ []) × Elapses c.args.ms d d') n (with_memory memory y))
 passed c reply r' is number_is kept =
     let p = parted c in
     let done = c.elapse.ensures in
@@ -50,7 +49,7 @@ passed c reply r' is number_is kept =
           let came = IfOk-at_ok _ is done.outcome (whole (split_in p) flash intact) in (
             came.0,
             in_memory (λ l l'. DeviceCalled l flash (replicate 6 0)
-                (λ z sent d'. (z ≡ answer.Ack) × (sent ≡ []) × Elapses c.args.ms (device_in l flash) d') l' came.0 reply)
+                (λ d z sent d'. (z ≡ answer.Ack) × (sent ≡ []) × Elapses c.args.ms d d') l' came.0 reply)
                 (split_in p) after came.1,
           );
     })

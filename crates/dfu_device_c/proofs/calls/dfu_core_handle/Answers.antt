@@ -4,7 +4,6 @@ use Rattle.std.proofs.lemmas.Result.{IfOk-at_ok}
 use Rattle.dfu_device.specs.Borrowed.{answer_room}
 use Rattle.dfu_device.specs.Rows.{Handles}
 use Rattle.dfu_asks.specs.declared.reply.Reply.{Reply}
-use Rattle.dfu_asks.specs.Asks.{device_in}
 use Rattle.dfu_asks.specs.Calls.{DeviceCalled}
 use Rattle.dfu_core.specs.declared.record.DfuRecord.{DfuRecord}
 use Rattle.dfu_asks.specs.Addressed.{addressed}
@@ -37,7 +36,7 @@ replied : (c : After-handle) (reply : Reply) (r' : DfuRecord) {n : ℤ} → c.ha
     let memory = c.handle.new.block ++ c.handle.new.held in
     (IsSetUp k a'.config a'.unit a'.sector → IsKept k r' a') → Goes k c.args.device.now block r' memory
     (λ x y. Replied (IsIntact block flash x) (with_memory block x) flash c.args.out.now
-    (λ z sent d'. Handles (addressed k.interface c.args.setup.now) c.args.body.now (device_in (with_memory block x) flash) z sent d')
+    (λ d z sent d'. Handles (addressed k.interface c.args.setup.now) c.args.body.now d z sent d')
     reply_number n (with_memory memory y) c.handle.new.out)
 replied c reply r' is number_is kept =
     let p = parted c in
@@ -49,10 +48,10 @@ replied c reply r' is number_is kept =
       reply = reply;
       number_is = number_is;
       called = λ intact. subst (λ (own : List ℕ). DeviceCalled (with_memory c.args.block.now c.in-Ok.asking) flash c.args.out.now
-          (λ z sent d'. Handles own c.args.body.now (device_in (with_memory c.args.block.now c.in-Ok.asking) flash) z sent d')
+          (λ d z sent d'. Handles own c.args.body.now d z sent d')
           (with_memory (c.handle.new.block ++ c.handle.new.held) c.handle.new.self) c.handle.new.out reply) c.addressed-setup.ensures
           (in_memory (λ l l'. DeviceCalled l flash c.args.out.now
-          (λ z sent d'. Handles c.addressed-setup.result c.args.body.now (device_in l flash) z sent d') l' c.handle.new.out reply)
+          (λ d z sent d'. Handles c.addressed-setup.result c.args.body.now d z sent d') l' c.handle.new.out reply)
           (split_in p) after (IfOk-at_ok _ is done.outcome (whole (split_in p) flash intact)));
     })
 

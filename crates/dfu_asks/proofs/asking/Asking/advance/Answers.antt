@@ -1,12 +1,20 @@
-use Rattle.std.proofs.Common.{◌≡◌, ◌<◌, refl, sym, ◌∙◌, subst, arith}
+use Rattle.std.proofs.Common.{◌≡◌, ◌<◌, ℕ, List, refl, sym, ◌∙◌, ap, subst, arith}
 use Rattle.dfu_asks.specs.declared.pending_writes.PendingWrites.{PendingWrites}
-use Rattle.dfu_asks.specs.Lent.{lent}
+use Rattle.dfu_asks.specs.Lent.{LentAsking, lent}
 use Rattle.dfu_asks.specs.Carried.{total, carried, IsReached}
 use Rattle.dfu_asks.specs.Asks.{IsWorking, writes_in, steps_in}
-use Rattle.dfu_asks.specs.Calls.{comes_asks, comes_ended}
+use Rattle.dfu_device.specs.declared.answer.Answer.{Answer}
+use Rattle.dfu_asks.specs.Calls.{HasEnded, comes_asks, comes_ended}
 use Rattle.dfu_asks.proofs.Calling.{same_work, piece_left, gives_in}
-use Rattle.dfu_asks.proofs.Ended.{carried_ended}
+use Rattle.dfu_asks.proofs.Ended.{carried_ended, begun_ended}
 use Rattle.dfu_asks.proofs.asking.Asking.advance.Goals as goal
+
+-- What has ended with an answer has ended with the same one.
+answered : (flash out out' : List ℕ) (now : LentAsking) (Row : Answer → List ℕ → Type 0) (x y : Answer) (count n : ℕ) → x ≡ y → count ≡ n
+    → HasEnded flash y n out out' now Row → HasEnded flash x count out out' now Row
+answered flash out out' now Row x y count n same size e =
+    subst (λ (z : Answer). HasEnded flash z count out out' now Row) (sym same)
+    (subst (λ (k : ℕ). HasEnded flash y k out out' now Row) (sym size) e)
 
 pub returns-then-len-gt0-clause-outcome : goal.returns-then-len-gt0-clause-outcome
 returns-then-len-gt0-clause-outcome c = λ work len s was kept working is reached.
@@ -35,6 +43,23 @@ returns-clause-outcome c = λ work len s was kept working is reached.
     c.finish.ensures.notes c.answer-answer.result.0 c.answer-answer.result.1
     c.args.out.now c.answer-answer.new.out (subst (λ (x : PendingWrites). c.args.flash.now ≡ carried was (writes_in l x) x.done) same is)
     le c.finish.ensures.finished
+    (gives_in c.args.self.now.config c.finish.new.self.config c.finish.new.self.mode v.asked c.answer-answer.result.0
+    c.answer-answer.result.1 c.args.out.now c.answer-answer.new.out c.finish.ensures.same.config c.answer-answer.ensures))
+
+pub returns-clause-begun : goal.returns-clause-begun
+returns-clause-begun c = λ work len s x count kept working none is.
+    let l = lent c.args.self.now c.args.block.now c.args.held.now in
+    let v = c.in-Some.work in
+    let same = same_work work v (sym kept ∙ c.in-Some.is) in
+    let le = c.look_at-len.ensures.none (omega (arith, c.if-len-gt0.false)) in
+    let answer_is : x ≡ c.answer-answer.result.0 = cc in
+    let count_is : count ≡ c.answer-answer.result.1 = cc in
+    answered c.args.flash.now c.args.out.now c.answer-answer.new.out (lent c.finish.new.self c.args.block.now c.finish.new.held) _ _ _ _ _
+    answer_is count_is
+    (begun_ended l (lent c.finish.new.self c.args.block.now c.finish.new.held) v len s c.args.flash.now
+    (subst (λ (y : PendingWrites). IsWorking l y len s c.args.flash.now) same working)
+    c.finish.ensures.notes c.answer-answer.result.0 c.answer-answer.result.1
+    c.args.out.now c.answer-answer.new.out (omega (arith, le, none, ap (λ (y : PendingWrites). y.done) same)) c.finish.ensures.finished
     (gives_in c.args.self.now.config c.finish.new.self.config c.finish.new.self.mode v.asked c.answer-answer.result.0
     c.answer-answer.result.1 c.args.out.now c.answer-answer.new.out c.finish.ensures.same.config c.answer-answer.ensures))
 

@@ -7,14 +7,16 @@ use Rattle.dfu_slots.specs.Seen.{image_of, spare_of, room_of}
 use Rattle.dfu_device.specs.declared.answer.Answer.TheVariants as answer
 use Rattle.dfu_device.specs.declared.device_state.DeviceState.TheVariants as device_state
 use Rattle.dfu_device.specs.declared.decision.Decision.{Decision}
+use Rattle.dfu_device.specs.declared.decision.Decision.TheVariants as decision
 use Rattle.dfu_device.specs.DeviceView.{profile}
 use Rattle.dfu_device.specs.Parts.{shows, is_filled}
 use Rattle.dfu_device.specs.Rows.{Done}
 use Rattle.dfu_device.specs.Decision.{plan_of, IsPossible, HoldsTime}
 use Rattle.dfu_device.proofs.Carried.{holds_time, still_sound}
 use Rattle.dfu_asks.specs.Lent.{lent}
-use Rattle.dfu_asks.specs.Due.{wanted, IsSure, SendsWithin}
-use Rattle.dfu_asks.specs.Asks.{store_in, device_in, IsReply}
+use Rattle.dfu_asks.specs.Due.{plan_in, wanted, IsSure, SendsWithin}
+use Rattle.dfu_asks.specs.Asks.{store_in, unseen_in, device_with, IsReply}
+use Rattle.dfu_asks.proofs.Unseen.{same_image, same_spare}
 use Rattle.dfu_asks.proofs.Calling.{mapped_as, mode_ended, due_called}
 use Rattle.dfu_asks.specs.Mapped.{mapped}
 use Rattle.dfu_asks.proofs.Sending.{image_front, data_room, front_of, counted, count_is, IsAfter, after_filled, sent_row}
@@ -26,7 +28,6 @@ returns-in-Sure-clause-outcome c = λ kept possible due within.
     let flash = c.args.medium.now.bytes.now in
     let l = lent c.args.self.now c.args.block.now c.args.held.now in
     let s = store_in l flash in
-    let w = device_in l flash in
     let m = c.in-Sure.mode in
     let g = c.give-answer.ensures in
     let len = wanted c.args.asked in
@@ -38,12 +39,19 @@ returns-in-Sure-clause-outcome c = λ kept possible due within.
     let whole : length l.block ≡ n = omega (arith, length-take n c.args.block.now, kept.fits.block) in
     let holds : HoldsTime m n (spare_of s) l.block = subst (λ (k : ℕ). HoldsTime m k (spare_of s) l.block) whole
     (holds_time m l.block s (still_sound l.mode m (length l.block) s kept.is.sound can)) in
+    let body = c.args.body.now in
     mode_ended l m l.block flash kept.is can
     c.requires.idle c.give-answer.result.0 c.give-answer.result.1 c.args.out.now c.give-answer.new.out g.sent
-    (λ x sent d'. Done (plan_of (profile w) (image_of s) (spare_of s) l.block c.args.body.now c.args.decision) len w x sent d')
-    g.count_is g.out_is
-    (subst (λ (d : Decision). Done (plan_of (profile w) (image_of s) (spare_of s) l.block c.args.body.now d) len w
-    c.give-answer.result.0 g.sent (shows l.config s m l.block)) (sym c.in-Sure.is) (says (room_of s) (spare_of s) l.block holds, refl))
+    (λ d x sent d'. Done (plan_in l.block body c.args.decision d) len d x sent d') g.count_is g.out_is
+    (λ u.
+    let t = unseen_in u s in
+    let d = device_with u l flash in
+    subst (λ (k : Decision). Done (plan_in l.block body k d) len d c.give-answer.result.0 g.sent (shows l.config t m l.block))
+    (sym c.in-Sure.is) (
+      says (room_of t) (spare_of t) l.block
+          (subst (λ (x : List ℕ). HoldsTime m n x l.block) (sym (same_spare u s)) holds),
+      refl,
+    ))
 
 pub returns-in-Holds-clause-outcome : goal.returns-in-Holds-clause-outcome
 returns-in-Holds-clause-outcome c = λ kept possible due within.
@@ -52,7 +60,6 @@ returns-in-Holds-clause-outcome c = λ kept possible due within.
     let block = c.args.block.now in
     let l = lent c.args.self.now block c.args.held.now in
     let s = store_in l flash in
-    let w = device_in l flash in
     let m = c.in-Holds.mode in
     let n = c.min-len.result in
     let can = subst (λ (d : Decision). IsPossible l.config.functional.transfer (length l.block) (length body) s d) c.in-Holds.is possible in
@@ -63,17 +70,18 @@ returns-in-Holds-clause-outcome c = λ kept possible due within.
     let now = take n (c.copy_from_slice.new.self ++ drop n block) in
     mode_ended l m now flash kept.is (subst (λ (x : List ℕ). IsTrue (is_filled m (length x) s)) (sym held) can.1)
     c.requires.idle answer.Ack 0 c.args.out.now c.args.out.now []
-    (λ x sent d'. Done (plan_of (profile w) (image_of s) (spare_of s) l.block body c.args.decision) (wanted c.args.asked) w x sent d')
-    refl refl
-    (subst (λ (d : Decision). Done (plan_of (profile w) (image_of s) (spare_of s) l.block body d) (wanted c.args.asked) w answer.Ack []
-    (shows l.config s m now)) (sym c.in-Holds.is) ((refl, refl), λ i. shows l.config s m (held i)))
+    (λ d x sent d'. Done (plan_in l.block body c.args.decision d) (wanted c.args.asked) d x sent d') refl refl
+    (λ u.
+    let t = unseen_in u s in
+    let d = device_with u l flash in
+    subst (λ (k : Decision). Done (plan_in l.block body k d) (wanted c.args.asked) d answer.Ack [] (shows l.config t m now))
+    (sym c.in-Holds.is) ((refl, refl), λ i. shows l.config t m (held i)))
 
 pub returns-after-count-from-clause-outcome : goal.returns-after-count-from-clause-outcome
 returns-after-count-from-clause-outcome c = λ kept possible due within.
     let flash = c.args.medium.now.bytes.now in
     let l = lent c.args.self.now c.args.block.now c.args.held.now in
     let s = store_in l flash in
-    let w = device_in l flash in
     let v = c.args.view.now in
     let place = c.in-Sends.place in
     let size = c.in-Sends.size in
@@ -88,7 +96,7 @@ returns-after-count-from-clause-outcome c = λ kept possible due within.
     let long : length image ≡ v.len = ap length front
     ∙ length-take-le v.len (slot_of s.medium v.active).data_bytes (data_room s v.active v.len kept.is.store here
     (omega (arith, c.requires.view.len, c.requires.view.stands.fits))) in
-    let p = plan_of (profile w) image (spare_of s) l.block c.args.body.now in
+    let body = c.args.body.now in
     let len = wanted c.args.asked in
     let ideal : length part ≤ length c.args.out.now =
     subst (λ (d : Decision). SendsWithin d image (length c.args.out.now)) c.in-Sends.is within in
@@ -113,22 +121,25 @@ returns-after-count-from-clause-outcome c = λ kept possible due within.
     mode_ended l m l.block flash kept.is
     (after_filled count size place c.in-Sends.number m (length l.block) s after)
     c.requires.idle answer.Bytes count c.args.out.now c.put_image-count.new.out part
-    (λ x sent d'. Done (p c.args.decision) len w x sent d')
+    (λ d x sent d'. Done (plan_in l.block body c.args.decision d) len d x sent d')
     (count_is image place size count sized)
     (c.put_image-count.ensures.bytes ∙ ap (λ (x : List ℕ). x ++ drop count c.args.out.now) sent)
-    (subst (λ (d : Decision). Done (p d) len w answer.Bytes part (shows l.config s m l.block)) (sym c.in-Sends.is)
-    (sent_row w len part l.block size place c.in-Sends.number m count (count_is image place size count sized) after))
+    (λ u.
+    let t = unseen_in u s in
+    let d = device_with u l flash in
+    subst (λ (k : Decision). Done (plan_in l.block body k d) len d answer.Bytes part (shows l.config t m l.block)) (sym c.in-Sends.is)
+    (subst (λ (x : List ℕ). Done (plan_of (profile d) x (spare_of t) l.block body (decision.Sends place size c.in-Sends.number)) len d
+    answer.Bytes part (shows l.config t m l.block)) (sym (same_image u s))
+    (sent_row d len part l.block size place c.in-Sends.number m count (count_is image place size count sized) after)))
 
 pub returns-in-Writes-clause-outcome : goal.returns-in-Writes-clause-outcome
 returns-in-Writes-clause-outcome c = λ kept possible due within.
     let flash = c.args.medium.now.bytes.now in
     let l = lent c.args.self.now c.args.block.now c.args.held.now in
-    let s = store_in l flash in
-    let w = device_in l flash in
-    due_called l flash c.args.out.now (plan_of (profile w) (image_of s) (spare_of s) l.block c.args.body.now c.args.decision) c.args.asked
+    due_called l flash c.args.out.now (plan_in l.block c.args.body.now c.args.decision) c.args.asked
     (wanted c.args.asked) (lent c.start.new.self c.args.block.now c.start.new.held) c.start.new.out c.start.result
-    (λ sure. elim c.in-Writes.is [
-      | inl e ↦ subst (λ (d : Decision). IsSure (plan_of (profile w) (image_of s) (spare_of s) l.block c.args.body.now d)) e.4 sure
-      | inr e ↦ subst (λ (d : Decision). IsSure (plan_of (profile w) (image_of s) (spare_of s) l.block c.args.body.now d)) e.3 sure
+    (λ d sure. elim c.in-Writes.is [
+      | inl e ↦ subst (λ (k : Decision). IsSure (plan_in l.block c.args.body.now k d)) e.4 sure
+      | inr e ↦ subst (λ (k : Decision). IsSure (plan_in l.block c.args.body.now k d)) e.3 sure
     ])
     due (λ stage. c.start.ensures.outcome (wanted c.args.asked) kept.is stage)

@@ -1,21 +1,23 @@
 use Rattle.std.proofs.Common.{◌≡◌, ℕ, List, [], ◌∷◌, length, None, refl, sym, ◌∙◌, ap, subst, arith}
 use Rattle.std.proofs.lemmas.List.{length-take}
-use Rattle.dfu_slots.specs.Seen.{image_of, spare_of, room_of}
+use Rattle.dfu_slots.specs.Seen.{image_of, room_of}
 use Rattle.dfu_slots.proofs.Seeing.{room_capacity}
 use Rattle.dfu_device.specs.declared.answer.Answer.{Answer}
 use Rattle.dfu_device.specs.declared.answer.Answer.TheVariants as answer
 use Rattle.dfu_device.specs.Table.{Plan, time_plan}
-use Rattle.dfu_device.specs.DeviceView.{profile, profile_of}
+use Rattle.dfu_device.specs.DeviceView.{DeviceView, profile, profile_of}
 use Rattle.dfu_device.specs.Rows.{Done, Elapses}
-use Rattle.dfu_device.specs.Decision.{profile_in, plan_of, IsPossible, DecidesTime}
+use Rattle.dfu_device.specs.Decision.{IsPossible, DecidesTime}
 use Rattle.dfu_device.proofs.Carried.{filled}
 use Rattle.dfu_asks.specs.Lent.{lent}
-use Rattle.dfu_asks.specs.Due.{IsSureOrDue}
-use Rattle.dfu_asks.specs.Asks.{store_in, device_in}
-use Rattle.dfu_asks.specs.Calls.{DeviceCalled}
+use Rattle.dfu_asks.specs.Mapped.{Unseen}
+use Rattle.dfu_asks.specs.Due.{plan_in, IsSureOrDue}
+use Rattle.dfu_asks.specs.Asks.{store_in, device_with}
+use Rattle.dfu_asks.specs.Calls.{AreSureOrDue, DeviceCalled}
 use Rattle.dfu_asks.specs.Refused.{IsKeptOn}
 use Rattle.dfu_asks.proofs.Calling.{called_by}
 use Rattle.dfu_asks.proofs.Quiet.{time_due, time_quiet, decided_time}
+use Rattle.dfu_asks.proofs.Unseen.{same_room, sound_unseen}
 use Rattle.dfu_asks.proofs.Sending.{time_within}
 use Rattle.dfu_asks.proofs.asking.Asking.elapse.Goals as goal
 
@@ -27,7 +29,6 @@ returns-clause-outcome c = λ kept.
     let l = lent c.args.self.now c.args.block.now c.args.held.now in
     let now = lent c.carry_out.new.self c.carry_out.new.block c.carry_out.new.held in
     let s = store_in l flash in
-    let w = device_in l flash in
     let d = c.decide_time-decision.result in
     let zeros : List ℕ = 0 ∷ 0 ∷ 0 ∷ 0 ∷ 0 ∷ 0 ∷ [] in
     let view = c.in_ok-medium.ensures.view in
@@ -39,27 +40,30 @@ returns-clause-outcome c = λ kept.
       room_capacity s,
       ap (λ (f : List ℕ). length f) same_flash,
     ) in
-    let same : profile_in c.profile-profile.result ≡ profile w = c.profile-profile.ensures.profile
-    ∙ ap (λ (n : ℕ). profile_of l.config n) (sym c.profile-profile.ensures.capacity ∙ room) in
     let whole : c.args.self.now.block_len ≡ length l.block =
     omega (arith, length-take c.args.self.now.block_len c.args.block.now, here.fits.block) in
-    let row = decided_time c.profile-profile.result c.args.ms l.mode l.block d w same here.is.sound refl
+    let row : (u : Unseen) → (let w = device_with u l flash in plan_in l.block [] d w ≡ time_plan (profile w) w.stage c.args.ms) = λ u.
+    let w = device_with u l flash in
+    decided_time c.profile-profile.result c.args.ms l.mode l.block d w (c.profile-profile.ensures.profile
+    ∙ ap (λ (n : ℕ). profile_of l.config n) (sym c.profile-profile.ensures.capacity ∙ room ∙ sym (same_room u s)))
+    (sound_unseen u s l.mode (length l.block) here.is.sound) refl
     (subst (λ (n : ℕ). DecidesTime c.profile-profile.result l.mode n c.args.ms d) whole c.decide_time-decision.ensures.row) in
-    let p = plan_of (profile w) (image_of s) (spare_of s) l.block [] d in
     let possible : IsPossible l.config.functional.transfer (length l.block) 0 s d =
     subst (λ (t : ℕ). IsPossible t (length l.block) 0 s d) c.profile-profile.ensures.transfer
     (c.decide_time-decision.ensures.possible (length l.block) s (sym room) (filled l.mode (length l.block) s here.is.sound)) in
-    let due : IsSureOrDue p (profile w) w.stage None 0 =
-    subst (λ (z : Plan). IsSureOrDue z (profile w) w.stage None 0) (sym row) (time_due (profile w) w.stage c.args.ms) in (
+    let due : AreSureOrDue (plan_in l.block [] d) l flash None 0 = λ u.
+    let w = device_with u l flash in
+    subst (λ (z : Plan). IsSureOrDue z (profile w) w.stage None 0) (sym (row u)) (time_due (profile w) w.stage c.args.ms) in
+    let Row : DeviceView → Answer → List ℕ → DeviceView → Type 0 =
+    λ w x sent d'. (x ≡ answer.Ack) × (sent ≡ []) × Elapses c.args.ms w d' in (
       c.carry_out.new.out,
-      subst (λ (f : List ℕ). DeviceCalled l f zeros
-          (λ x sent d'. (x ≡ answer.Ack) × (sent ≡ []) × Elapses c.args.ms (device_in l f) d') now c.carry_out.new.out c.carry_out.result)
-          same_flash
-          (called_by l flash zeros (λ x sent d'. Done p 0 w x sent d')
-          (λ x sent d'. (x ≡ answer.Ack) × (sent ≡ []) × Elapses c.args.ms w d') now c.carry_out.new.out c.carry_out.result
-          (λ x sent d' done.
+      subst (λ (f : List ℕ). DeviceCalled l f zeros Row now c.carry_out.new.out c.carry_out.result) same_flash
+          (called_by l flash zeros (λ w x sent d'. Done (plan_in l.block [] d w) 0 w x sent d') Row now c.carry_out.new.out
+          c.carry_out.result
+          (λ u x sent d' done.
+          let w = device_with u l flash in
           let by_time : Done (time_plan (profile w) w.stage c.args.ms) 0 w x sent d' =
-          subst (λ (z : Plan). Done z 0 w x sent d') row done in
+          subst (λ (z : Plan). Done z 0 w x sent d') (row u) done in
           let quiet = time_quiet (profile w) w.stage c.args.ms 0 w x sent d' by_time in (
             quiet.0,
             quiet.1,

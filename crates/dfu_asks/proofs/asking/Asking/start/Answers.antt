@@ -5,7 +5,7 @@ use Rattle.dfu_asks.specs.Lent.{LentAsking, lent}
 use Rattle.dfu_asks.specs.Asks.{store_in, writes_in, steps_in}
 use Rattle.dfu_asks.proofs.Carrying.{carried_none}
 use Rattle.dfu_asks.proofs.Pieces.{reached_none}
-use Rattle.dfu_asks.proofs.Calling.{begins, is_false}
+use Rattle.dfu_asks.proofs.Calling.{begins, due_begins, is_false}
 use Rattle.dfu_asks.proofs.asking.Asking.start.Goals as goal
 
 pub returns-then-not-is_ahead-clause-outcome : goal.returns-then-not-is_ahead-clause-outcome
@@ -25,5 +25,7 @@ returns-clause-outcome c = λ len is due.
     let working = begins now l.mode l.block s flash
     (spare_of s) l.block job.0 c.args.asked len refl refl refl is.store is.sound is.noted due
     (c.begin_job-job.ensures.due c.args.block.now (spare_of s) l.block c.args.asked len is due) in
-    c.advance.ensures.outcome work len s flash refl working
-    (sym (carried_none (writes_in now work) flash)) (reached_none (steps_in now work))
+    due_begins l flash c.args.out.now len (lent c.advance.new.self c.args.block.now c.advance.new.held) c.advance.new.out c.advance.result
+    (c.advance.ensures.outcome work len s flash refl working
+    (sym (carried_none (writes_in now work) flash)) (reached_none (steps_in now work)))
+    (λ x count is_x. c.advance.ensures.begun work len s x count refl working refl is_x)
