@@ -66,7 +66,6 @@ ended_too b b' begins x is end =
       board = y;
       is = now;
       end = record {
-        work = no_work b.kept x.asking.work is.kept.work end.idle;
         tries = end.tries;
         trial = end.trial;
         stands = subst (λ (m : MediumState). IsStanding m end.tries (OnTrial end.trial)) (sym (same_flash b x is)) end.stands;

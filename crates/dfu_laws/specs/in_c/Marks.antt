@@ -20,10 +20,9 @@ pub record IsCoreMarked (b b' : CoreBoard) : Type 0 where
   pub kept : b'.kept ≡ b.kept
   pub block : b'.block ≡ b.block
 
--- While no operation of the device is due, the trial ends: the sector of the gate of the image on trial may have any bytes then, since the
--- erase that was asked for works, is torn, lies or fails. Then dfu_core_power_on returns 0, or dfu_core_begin if it begins for a host.
+-- The trial ends: the sector of the gate of the image on trial may have any bytes then, since the erase that was asked for works, is torn,
+-- lies or fails. Then dfu_core_power_on returns 0, or dfu_core_begin if it begins for a host.
 pub record CoreTrialEnds (b : CoreBoard) (begins : Bool) (b' : CoreBoard) : Type 0 where
-  pub idle : b.kept.work ≡ 0
   pub tries : ℕ
   pub trial : Trial
   pub stands : IsStanding (medium_of_core b) tries (OnTrial trial)

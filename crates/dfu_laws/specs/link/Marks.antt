@@ -19,10 +19,9 @@ pub record IsMarked (b b' : Board) : Type 0 where
   pub block : b'.block ≡ b.block
   pub held : b'.held ≡ b.held
 
--- While no writes are due, the trial of a board ends: the sector of the gate of the image on trial may have any bytes then, since its erase
--- works, is torn, lies or fails. Then the board restarts, in dfuIDLE if it begins for a host.
+-- The trial of a board ends: the sector of the gate of the image on trial may have any bytes then, since its erase works, is torn, lies or
+-- fails. Then the board restarts, in dfuIDLE if it begins for a host.
 pub record TrialEnds (b : Board) (begins : Bool) (b' : Board) : Type 0 where
-  pub work : b.asking.work ≡ None
   pub tries : ℕ
   pub trial : Trial
   pub stands : IsStanding (medium_on b) tries (OnTrial trial)
