@@ -1,5 +1,5 @@
 -- A board in C asks at most as often as the board that it is.
-use Rattle.std.specs.Prelude.{◌≡◌, ◌≢◌, ℕ, suc, zero, ◌+◌, ◌-◌, ◌/◌, ◌*◌, ◌≤◌, ◌<◌, ◌==◌, ℤ, Bool, pos, List, [], ◌∷◌, length, Some, if◌then◌else◌}
+use Rattle.std.specs.Prelude.{◌≡◌, ℕ, suc, zero, ◌+◌, ◌-◌, ◌/◌, ◌*◌, ◌≤◌, ◌<◌, ℤ, Bool, pos, List, [], ◌∷◌, length, Some, if◌then◌else◌}
 use Rattle.std.proofs.Common.{inl, inr, refl, sym, ap, ◌∙◌, subst, arith}
 use Rattle.std.proofs.Math.Nat.{le-div_iff_mul-le}
 use Rattle.std.proofs.lemmas.Bool.{ne_eqb}
@@ -21,13 +21,13 @@ use Rattle.dfu_core.specs.declared.numbers.Refusal.TheVariants as refusal
 use Rattle.dfu_core.specs.Config.{transfer_of}
 use Rattle.dfu_core.specs.Kept.{IsKept}
 use Rattle.dfu_core.specs.Further.{AsksFurther}
-use Rattle.dfu_core.specs.Numbers.{ASKS, STALL, NO_ROOM, refusal_number, answer_number, reply_number}
+use Rattle.dfu_core.specs.Numbers.{ASKS, refusal_number, answer_number, reply_number}
 use Rattle.dfu_core.specs.Writes.{RefusesPiece, refuses_unfound, refuses_piece}
 use Rattle.dfu_core.specs.Board.{CoreBoard, CoreEvent, CoreHandle, CoreElapse, CoreReset, CoreTooLong, CoreRefuseClose, CoreRefuse, CoreWrite, CoreTook, CoreRestart}
 use Rattle.dfu_core.specs.Happens.{CoreHappens}
-use Rattle.dfu_laws.specs.board.Board.{Board, lent_on, Event, Took, Says, Nothing, WritesDue, Answers, BoardStep}
+use Rattle.dfu_laws.specs.board.Board.{Board, lent_on, Event, Says, Nothing, WritesDue, Answers, BoardStep}
 use Rattle.dfu_laws.specs.board.Counts.{block_erases, most_asks, asks_of, asks_in, IsUnanswered, AreUnanswered, GoesFurther, AllGoFurther, RunAsksFew}
-use Rattle.dfu_laws.specs.in_c.Steps.{CoreStep, IsCoreRun, board_of_core, IsBoardOf, event_of_core, IsRefusal, NumberSays, PassedSays, ObjectionSays, EventSays, IsStepOf, AreStepsOf}
+use Rattle.dfu_laws.specs.in_c.Steps.{CoreStep, IsCoreRun, board_of_core, IsBoardOf, event_of_core, IsRefusal, NumberSays, PassedSays, ObjectionSays, EventSays, AreStepsOf}
 use Rattle.dfu_laws.specs.in_c.Counts.{IsNoAnswer, IsCoreUnanswered, AreCoreUnanswered, asks_of_number, core_asks_in, CoreAsksFew}
 use Rattle.dfu_laws.proofs.in_c.Same.{one_device, one_work, no_work}
 use Rattle.dfu_laws.proofs.in_c.Each.{powers_on}
