@@ -21,6 +21,7 @@ pub mod Programming
 mod Slots
 mod Starts
 pub mod Tidy
+mod Tried
 mod Unique
 pub mod Unread
 mod Uploading

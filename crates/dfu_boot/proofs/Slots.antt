@@ -7,6 +7,7 @@ use Rattle.dfu_slots.specs.Units.{IsWhole}
 use Rattle.dfu_slots.specs.Medium.{MediumState, KeepsOutside}
 use Rattle.dfu_slots.specs.Layout.{Slot, slot, slot_size, ArePlaces, OPEN, header_length, HasHeader}
 use Rattle.dfu_slots.specs.Image.{gate_of, slot_of, IsSized, Counts, IsNewest, Active}
+use Rattle.dfu_slots.proofs.Newest.{places_newest}
 use Rattle.dfu_slots.proofs.Sectors.{gate_wide}
 use Rattle.dfu_slots.proofs.Parts.{slot_outside, data_length}
 use Rattle.dfu_boot.specs.trial.Trial.{IsFilled, image_at}
@@ -46,6 +47,16 @@ active_there m p q sized places newest full =
 -- The active slot has an image.
 pub active_filled : (m : MediumState) (image : List ℕ) (a : Active m image) → IsFilled (slot_of m a.at)
 active_filled m image a = filled m a.at a.spare (length image) a.sized a.places a.newest.counts a.header_is
+
+-- The active image is that in the newest slot.
+pub image_there : (m : MediumState) (p q : ℕ) (image : List ℕ) → ArePlaces m.bytes p q → IsNewest (slot_of m p) (slot_of m q)
+    → Active m image → image_at m p ≡ image
+image_there m p q image places newest a =
+    let same : a.at ≡ p = (places_newest (gate_of m) m.bytes a.at a.spare a.places a.newest).0
+    ∙ sym (places_newest (gate_of m) m.bytes p q places newest).0 in
+    let long = data_length (gate_of m) m.bytes a.at (slot_in m a.at a.spare a.sized a.places) (omega (arith, a.sized.room)) in
+    let len = length_is (slot_of m a.at) (length image) a.header_is (omega (arith, a.header_is.fits, long, a.sized.bound)) in
+    ap (λ (k : ℕ). image_at m k) (sym same) ∙ ap (λ (n : ℕ). take n (slot_of m a.at).data_bytes) len ∙ sym a.image_is
 
 module _ (m now : MediumState) (size : length now.bytes ≡ length m.bytes) where
   -- The medium with other bytes.

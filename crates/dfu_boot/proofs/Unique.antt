@@ -1,12 +1,17 @@
 -- The images of a medium have one standing.
-use Rattle.std.proofs.Common.{◌≡◌, ℕ, sym, ◌∙◌, ap}
+use Rattle.std.proofs.Common.{◌≡◌, ℕ, List, refl, sym, ◌∙◌, ap, arith}
 use Rattle.dfu_slots.specs.Medium.{MediumState}
-use Rattle.dfu_slots.specs.Image.{gate_of}
+use Rattle.dfu_slots.specs.Image.{gate_of, Active}
 use Rattle.dfu_slots.proofs.Newest.{places_newest}
 use Rattle.dfu_boot.specs.trial.Marks.{is_set, starts}
+use Rattle.dfu_boot.specs.trial.Trial.{image_at}
 use Rattle.dfu_boot.specs.trial.Calls.{IsStanding}
+use Rattle.dfu_boot.specs.trial.Lists.{Tried, AreTrusted}
+use Rattle.dfu_boot.specs.declared.trial.standing.Trial.{Trial}
 use Rattle.dfu_boot.specs.declared.trial.standing.Standing.{Standing}
 use Rattle.dfu_boot.specs.declared.trial.standing.Standing.TheVariants as standing
+use Rattle.dfu_boot.proofs.Counting.{at_most}
+use Rattle.dfu_boot.proofs.Slots.{image_there}
 
 module _ (m : MediumState) (tries : ℕ) where
   pub same_standing : (a b : Standing) → IsStanding m tries a → IsStanding m tries b → a ≡ b
@@ -23,3 +28,15 @@ module _ (m : MediumState) (tries : ℕ) where
       let base : a.base ≡ b.base = p.1 ∙ sym q.1 in
       let count : a.starts ≡ b.starts = x.1 ∙ ap (λ (s : ℕ). starts m tries s) slot ∙ sym y.1 in
       λ i. standing.OnTrial (record { slot = slot i; base = base i; starts = count i })
+
+-- Images of which the active one is on trial are these two, with as many runs as starts are recorded.
+pub trusted_trial : (m : MediumState) (tries : ℕ) (t : Trial) (image : List ℕ) → IsStanding m tries (standing.OnTrial t) → Active m image
+    → AreTrusted m tries (Tried (image_at m t.base) image t.starts)
+trusted_trial m tries t image stands active = (
+  t,
+  stands,
+  refl,
+  image_there m t.slot t.base image stands.0.places stands.0.newest active,
+  omega arith,
+  omega (arith, stands.1, at_most m t.slot 1 tries),
+)

@@ -1,8 +1,8 @@
 -- Marks are not read by the store.
-use Rattle.std.proofs.Common.{◌≡◌, ◌⊎◌, inl, inr, ⊎_elim, ℕ, ◌+◌, ◌*◌, ◌≤◌, List, length, take, sym, ◌∙◌, ap, subst, arith}
+use Rattle.std.proofs.Common.{◌≡◌, ◌⊎◌, inl, inr, ⊎_elim, ℕ, ◌+◌, ◌*◌, ◌≤◌, List, length, take, sym, ◌∙◌, subst, arith}
 use Rattle.dfu_slots.specs.Units.{Grain, gate_room}
 use Rattle.dfu_slots.specs.Medium.{MediumState}
-use Rattle.dfu_slots.specs.Layout.{Slot, slot, slot_size, ArePlaces, HasHeader}
+use Rattle.dfu_slots.specs.Layout.{Slot, slot, ArePlaces, HasHeader}
 use Rattle.dfu_slots.specs.Image.{gate_of, slot_of, IsSized, IsNewest, Active}
 use Rattle.dfu_slots.proofs.Sectors.{gate_wide, unit_wide}
 use Rattle.dfu_slots.proofs.Parts.{gate_outside, header_outside, data_outside, slot_outside}

@@ -6,7 +6,9 @@ pub mod CallTurns
 pub mod Each
 pub mod Fits
 pub mod Runs
+pub mod Counts
 pub mod Marked
 pub mod Played
 pub mod GoesOn
+pub mod Stays
 pub mod FormatCalls

@@ -10,6 +10,7 @@ pub mod Ended
 pub mod Played
 pub mod Ran
 pub mod Sessions
+pub mod Stays
 pub mod Parts
 pub mod Stopped
 pub mod Within

@@ -1,7 +1,9 @@
 pub mod Steps
 pub mod Marks
 pub mod Fits
+pub mod Counts
 pub mod Runs
 pub mod Plays
+pub mod Stays
 pub mod FormatCalls
 pub mod Closes

@@ -7,13 +7,17 @@ ghost use Rattle.dfu_laws.specs.board.Counts.{RunAsksFew};
 ghost use Rattle.dfu_laws.specs.board.Accepts.{RunAccepts, HistoryAccepts};
 ghost use Rattle.dfu_laws.specs.board.Refines.{RunRefines, IdleRefines};
 ghost use Rattle.dfu_laws.specs.link.Plays.{PlaysGive, PlaysInstall, PlaysKnow, PlaysKnowWithin, PlaysRun};
+ghost use Rattle.dfu_laws.specs.link.Stays.{PlaysStay};
 ghost use Rattle.dfu_laws.specs.judge.Kept.{HistoryIsKept, StartIsKept};
 ghost use Rattle.dfu_laws.specs.in_c.Closes.{ClosesIfRefused};
 ghost use Rattle.dfu_laws.specs.in_c.Runs.{CoreRefines, CoreKeeps, CoreStays, CoreInstalls, CoreStarts};
 ghost use Rattle.dfu_laws.specs.in_c.FormatCalls.{FormatsEnd, FormatsBeginAnew};
 ghost use Rattle.dfu_laws.specs.in_c.Plays.{CorePlaysInstall, CorePlaysKnow, CorePlaysKnowWithin, CorePlaysGive, CorePlaysRun, CorePlaysGoOn};
+ghost use Rattle.dfu_laws.specs.in_c.Counts.{CoreAsksFew};
+ghost use Rattle.dfu_laws.specs.in_c.Stays.{CorePlaysStay};
 
 use dfu_asks::laws::{pieces_are_the_writes, steps_are_the_writes, writes_are_the_calls};
+use dfu_boot::trial::laws::what_was_confirmed_runs_or_the_newest_on_trial;
 use dfu_device::laws::rows_take;
 use dfu_sim::laws::{only_offered, simulation};
 use dfu_slots::laws::active_image_is_one;
@@ -81,9 +85,12 @@ pub fn boards_ask_few_times()
 /// For all that comes to a board over a link with a host, from power on: if the host reports Installed or Verified, the payload with which
 /// its session began is the active image of the board's flash, and the board is in appIDLE. With any report, the active image is the one
 /// that it was at first, or the whole of a payload offered so far, at each step, also between two writes of a call. The bytes that come
-/// with Uploaded are the active image. All that comes to the board is a run of it, so the laws above hold of it.
+/// with Uploaded are the active image. All that comes to the board are runs of it, so the laws above hold of them. Meanwhile marks of a
+/// trial may be set and trials may end: the image that comes back then is known too. If the payload is on trial once it is in place, each
+/// start runs it until its tries are spent, or the confirmed image if the mark of the start fails; then the confirmed one comes back.
 pub fn boards_install()
     ensures in_place { PlaysInstall }
+    ensures stays { PlaysStay }
     ensures known { PlaysKnow }
     ensures known_within { PlaysKnowWithin }
     ensures gives { PlaysGive }
@@ -93,6 +100,7 @@ pub fn boards_install()
     simulation();
     only_offered();
     active_image_is_one();
+    what_was_confirmed_runs_or_the_newest_on_trial();
 }
 
 /// For every history of a device, and every list of events that it shows, some run of the standard's table has these events, from
@@ -124,12 +132,24 @@ pub fn core_boards_keep_an_image()
     boards_keep_an_image();
 }
 
+/// For any steps of a board in C that just got power: until a call is answered, at most so many calls return DFU_ASKS as
+/// `DFU_BLOCK_ERASES` and `DFU_BLOCK_PROGRAMS` say together of the transfer size and the sector, while a block is written, and as
+/// `DFU_COMMIT_ERASES` and `DFU_COMMIT_PROGRAMS` do while an image is put in place. So a loop that goes on while the number is DFU_ASKS
+/// ends, after at most so many operations.
+pub fn core_boards_ask_few_times()
+    ensures { CoreAsksFew }
+{
+    boards_ask_few_times();
+}
+
 /// Whatever comes to a board in C over a link with a host, from power on: if the host reports Installed or Verified, the payload with
 /// which its session began is the active image of the flash, and dfu_core_state returns appIDLE. Whatever is reported, the active image is
 /// the one that it was at first, or the whole of a payload offered so far, at each step, also between two writes of a call. The bytes that
-/// come with Uploaded are the active image. All that comes to the board is a run of it, so the laws above hold of it.
+/// come with Uploaded are the active image. All that comes to the board are runs of it, so the laws above hold of them. Marks of a trial
+/// and ends of trials may come as with a board, and so `stays` holds.
 pub fn core_boards_install()
     ensures in_place { CorePlaysInstall }
+    ensures stays { CorePlaysStay }
     ensures known { CorePlaysKnow }
     ensures known_within { CorePlaysKnowWithin }
     ensures gives { CorePlaysGive }
@@ -137,6 +157,7 @@ pub fn core_boards_install()
     ensures goes_on { CorePlaysGoOn }
 {
     boards_install();
+    what_was_confirmed_runs_or_the_newest_on_trial();
 }
 
 /// Whatever becomes of the writes of a format: once dfu_core_format_took returns 0 the image is the active one of the flash, on which

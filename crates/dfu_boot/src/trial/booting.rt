@@ -1,15 +1,19 @@
 //! A start that is carried out.
-ghost use Rattle.std.specs.Prelude.{◌≡◌, OnOk, OnErr, IfOk, IfErr};
+ghost use Rattle.std.specs.Prelude.{◌≡◌, ◌<◌, OnOk, OnErr, IfOk, IfErr};
+ghost use Rattle.dfu_slots.specs.Medium.Fuse.{Whole};
 ghost use Rattle.dfu_slots.specs.Image.{HasImage};
 ghost use Rattle.dfu_slots.specs.Changes.{IsOpenFault};
 ghost use Rattle.dfu_boot.specs.trial.Marks.{AreTries};
+ghost use Rattle.dfu_boot.specs.trial.Calls.{IsStanding};
 ghost use Rattle.dfu_boot.specs.trial.Laws.{HasBooted};
+ghost use Rattle.dfu_boot.specs.declared.trial.standing.Trial.{Trial};
+ghost use Rattle.dfu_boot.specs.declared.trial.standing.Standing.TheVariants.{OnTrial};
 
 use crate::trial::look;
 use dfu_slots::{Medium, OpenFault};
 
 /// Looks what starts, carries out what is asked before, and returns where the slot begins that runs. Whatever became of the operation, some
-/// image is active afterwards, and one of the two runs.
+/// image is active afterwards, and one of the two runs: on a medium that works, that on trial as long as a start is left.
 ///
 /// # Errors
 ///
@@ -17,6 +21,8 @@ use dfu_slots::{Medium, OpenFault};
 pub fn boot<M: Medium>(medium: &mut M, tries: u32) -> Result<u32, OpenFault>
     requires tries { AreTries (M.state medium.old).grain tries }
     ensures booted { IfOk result (λ slot. HasBooted (M.state medium.old) tries (M.state medium.new) slot) }
+    ensures tried { IfOk result (λ slot. (t : Trial) → IsStanding (M.state medium.old) tries (OnTrial t) → t.starts < tries →
+        (M.state medium.old).fuse ≡ Whole → slot ≡ t.slot) }
     ensures image { OnOk result (HasImage (M.state medium.new)) }
     ensures fault { IfErr result (λ fault. IsOpenFault fault (M.state medium.old)) }
     ensures unchanged { OnErr result (M.state medium.new ≡ M.state medium.old) }

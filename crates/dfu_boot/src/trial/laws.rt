@@ -1,13 +1,13 @@
 //! Laws of a trial. Each is the contract of a function with an empty body, which is proved and not to be called for what it does.
 ghost use Rattle.std.specs.Prelude.{◌≡◌, ◌⊎◌, ℕ, true, List};
 ghost use Rattle.dfu_slots.specs.Medium.{MediumState};
-ghost use Rattle.dfu_slots.specs.Image.{HasImage};
+ghost use Rattle.dfu_slots.specs.Image.{Active, HasImage};
 ghost use Rattle.dfu_boot.specs.trial.Marks.{AreTries};
 ghost use Rattle.dfu_boot.specs.trial.Calls.{IsStanding, sets, trial_start, runs_in, upload_of};
 ghost use Rattle.dfu_boot.specs.trial.Laws.{Carried, CarriedIf, GoesOn, IsConfirmed, IsBack, Starts, Uploads, RunsNext, RunsOrIsNext};
 ghost use Rattle.dfu_boot.specs.trial.Trial.{image_at};
 ghost use Rattle.dfu_boot.specs.trial.Unread.{MarksAreUnread, UnreadKeepsImages};
-ghost use Rattle.dfu_boot.specs.trial.Lists.{TrialStep, CameAll, Trust, Alone, AreTrusted, AllTrusted};
+ghost use Rattle.dfu_boot.specs.trial.Lists.{TrialStep, CameAll, Trust, Alone, Tried, AreTrusted, AllTrusted};
 ghost use Rattle.dfu_boot.specs.declared.trial.standing.Settled.{Settled};
 ghost use Rattle.dfu_boot.specs.declared.trial.standing.Trial.{Trial};
 ghost use Rattle.dfu_boot.specs.declared.trial.standing.Standing.{Standing};
@@ -51,10 +51,12 @@ pub fn an_upload_gives_what_starts_next()
 
 /// Starts, confirmations, ends, uploads and downloads in any order, with whatever becomes of each operation, once an image was
 /// confirmed. What runs is the image that was confirmed last, or that on trial, fewer than `tries` times before; and some image
-/// is active after each.
+/// is active after each. A list may begin as an image is confirmed, or as one is on trial.
 pub fn what_was_confirmed_runs_or_the_newest_on_trial()
     ensures first { (m : MediumState) (tries : ℕ) (s : Settled) → IsStanding m tries (AreSettled s) → s.is_confirmed ≡ true →
         AreTrusted m tries (Alone (image_at m s.slot)) }
+    ensures tried { (m : MediumState) (tries : ℕ) (t : Trial) (image : List ℕ) → IsStanding m tries (OnTrial t) → Active m image →
+        AreTrusted m tries (Tried (image_at m t.base) image t.starts) }
     ensures list { (m : MediumState) (tries : ℕ) (trust : Trust) (steps : List TrialStep) → AreTries m.grain tries →
         AreTrusted m tries trust → CameAll tries m steps → AllTrusted tries trust m steps }
     ensures image { (m : MediumState) (tries : ℕ) (trust : Trust) → AreTrusted m tries trust → HasImage m }

@@ -1,6 +1,7 @@
 -- What the action of a session in C says of the deed of its host.
-use Rattle.std.specs.Prelude.{◌≡◌, ◌≢◌, ℕ, pos, List, take, drop}
+use Rattle.std.specs.Prelude.{◌≡◌, ◌≢◌, ℕ, pos, Bool, List, take, drop}
 use Rattle.std.proofs.Common.{inl, refl, sym, ap, ◌∙◌, subst, arith}
+use Rattle.dfu_wire.specs.declared.states.State.{State}
 use Rattle.dfu_wire.specs.declared.requests.Request.{Request}
 use Rattle.dfu_host.specs.declared.report.Report.{Report}
 use Rattle.dfu_host.specs.Phases.{Deed, Send, Wait, Reset, Done}
@@ -12,8 +13,9 @@ use Rattle.dfu_host_core.specs.declared.action.DfuAction.{DfuAction}
 use Rattle.dfu_host_core.specs.Actions.{TellsAction}
 use Rattle.dfu_host_core.specs.Runs.{CoreHost, IsCoreHost, HostsTell, TellsOfHost}
 use Rattle.dfu_laws.specs.board.Board.{Event, Elapse, Handle}
+use Rattle.dfu_laws.specs.link.Trials.{MayEnd}
 use Rattle.dfu_laws.specs.link.Comes.{IsUnderWay}
-use Rattle.dfu_laws.specs.ends.Sessions.{CoreSession, NoSession, InSession, IsSessionOf, Wants, sent_body, MayBeUnderWay}
+use Rattle.dfu_laws.specs.ends.Sessions.{CoreSession, NoSession, InSession, IsSessionOf, Wants, sent_body, MayBeUnderWay, MayEndIn}
 
 -- The live session in C is the one of this host.
 pub record HostOf (payload : List ℕ) (x : CoreHost) (session : Session) : Type 0 where
@@ -28,6 +30,14 @@ host_of_session payload x s session e is = held session (subst (λ (y : CoreSess
     held : (y : Session) → IsSessionOf (InSession payload x) y → HostOf payload x y
     held (Hosted h) is = record { host = h; live = refl; is = is }
     held Nobody is = absurd is
+
+-- A trial may end as with that host.
+pub may_end : (s : CoreSession) (session : Session) (state : State) (begins : Bool) → IsSessionOf s session → MayEndIn s state begins
+    → MayEnd session state begins
+may_end NoSession Nobody state begins is may = tt
+may_end (InSession payload x) (Hosted h) state begins is may = may h is
+may_end NoSession (Hosted h) state begins is may = absurd is
+may_end (InSession payload x) Nobody state begins is may = absurd is
 
 -- The action sends a request of its host.
 pub record SendsOf (payload : List ℕ) (d : Deed) (a : DfuAction) : Type 0 where

@@ -14,7 +14,7 @@ use Rattle.dfu_host_core.specs.declared.action.DfuAction.{DfuAction}
 use Rattle.dfu_host_core.specs.Runs.{CoreHost, IsCoreHost, HostsRefine, HostsTell}
 use Rattle.dfu_laws.specs.board.Board.{Board, Says, BoardStep}
 use Rattle.dfu_laws.specs.link.Comes.{HearsSentBack, left, BoardComes, passes, sends, refuses, waits, resets, is_reset, restarts, leaves, restarts_at_reset, marks}
-use Rattle.dfu_laws.specs.ends.Sessions.{CoreSession, InSession, IsSessionOf, Wants, IsEntering, sent_body, HostTakes, TellsOf, Settles, HearsRestart, nobody_hears, hears_it}
+use Rattle.dfu_laws.specs.ends.Sessions.{CoreSession, InSession, IsSessionOf, Wants, sent_body, HostTakes, TellsOf, Settles, HearsRestart, nobody_hears, hears_it}
 use Rattle.dfu_laws.specs.ends.Comes.{EndsCome, time_passes, sends_it, objects_to_it, refuses_image, waits_it_out, resets_bus, bus_is_reset, board_restarts, leaves_app, board_makes_way, mark_is_set}
 use Rattle.dfu_laws.proofs.ends.Actions.{host_of_session, sends_so, waits_so, resets_so, way_so}
 use Rattle.dfu_laws.proofs.ends.Heard.{heard_by, hears_wait, hears_reset, hears_restart, hears_back}

@@ -1,5 +1,5 @@
 -- Sessions of a host in C and a board in C: the laws.
-use Rattle.std.specs.Prelude.{◌≡◌, ℕ, pos, Bool, List, [], ◌++◌, Option}
+use Rattle.std.specs.Prelude.{◌≡◌, ℕ, pos, List, [], ◌++◌, Option}
 use Rattle.std.proofs.Common.{refl, sym, subst}
 use Rattle.std.proofs.lemmas.List.{append-nil}
 use Rattle.dfu_wire.specs.declared.states.State.{State}
@@ -18,7 +18,6 @@ use Rattle.dfu_core.specs.Board.{CoreBoard}
 use Rattle.dfu_host_core.specs.Beginning.{HasBegunAs}
 use Rattle.dfu_host_core.specs.Runs.{HostsBegin, HostsRefine, HostsTell, HasPayload}
 use Rattle.dfu_laws.specs.board.Board.{Board, state_on, BoardStep}
-use Rattle.dfu_laws.specs.link.Trials.{MayEnd}
 use Rattle.dfu_laws.specs.link.Plays.{Plays, starts, offers, uploads, aborts, goes_on, ends}
 use Rattle.dfu_laws.specs.in_c.Steps.{CoreStep, board_of_core, IsBoardOf}
 use Rattle.dfu_laws.specs.in_c.Marks.{no_mark}
@@ -31,7 +30,7 @@ use Rattle.dfu_laws.proofs.in_c.Runs.{same_flash, core_state}
 use Rattle.dfu_laws.proofs.in_c.Played.{one_board}
 use Rattle.dfu_laws.proofs.in_c.Marked.{marked_too, ended_too, core_marked_append, core_marked_more, core_marked_end}
 use Rattle.dfu_laws.proofs.in_c.GoesOn.{are_append}
-use Rattle.dfu_laws.proofs.ends.Actions.{host_of_session}
+use Rattle.dfu_laws.proofs.ends.Actions.{host_of_session, may_end}
 use Rattle.dfu_laws.proofs.ends.Heard.{abort_by}
 use Rattle.dfu_laws.proofs.ends.Settled.{aborted_counted}
 use Rattle.dfu_laws.proofs.ends.Came.{came}
@@ -51,13 +50,6 @@ no_session (Hosted h) is = absurd is
 has_payload : (purpose : Purpose) (payload : List ℕ) → HasPayload (goal_of_purpose purpose payload) payload
 has_payload Install payload = refl
 has_payload Verify payload = refl
-
-may_end : (s : CoreSession) (session : Session) (state : State) (begins : Bool) → IsSessionOf s session → MayEndIn s state begins
-    → MayEnd session state begins
-may_end NoSession Nobody state begins is may = tt
-may_end (InSession payload x) (Hosted h) state begins is may = may h is
-may_end NoSession (Hosted h) state begins is may = absurd is
-may_end (InSession payload x) Nobody state begins is may = absurd is
 
 module _ (begin : HostsBegin) (refine : HostsRefine) (tells : HostsTell) where
   plays_so : (b : Board) (steps : List BoardStep) (past : List (List ℕ)) (last : Option (List ℕ)) (s : CoreSession) (now : Board)

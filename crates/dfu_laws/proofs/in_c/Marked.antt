@@ -1,12 +1,8 @@
 -- Marks of a trial on a board in C are marks on the board that it is, and so is the end of a trial.
-use Rattle.std.specs.Prelude.{◌≡◌, ℕ, pos, Bool, List, [], ◌∷◌, ◌++◌}
-use Rattle.std.proofs.Common.{refl, sym, ap, subst}
+use Rattle.std.specs.Prelude.{◌≡◌, pos, Bool, List, [], ◌∷◌, ◌++◌, length}
+use Rattle.std.proofs.Common.{refl, sym, ap, ◌∙◌, subst}
 use Rattle.dfu_slots.specs.Medium.{MediumState}
 use Rattle.dfu_boot.specs.trial.Unread.{IsUnread}
-use Rattle.dfu_boot.specs.trial.Calls.{IsStanding}
-use Rattle.dfu_boot.specs.trial.Laws.{Carried}
-use Rattle.dfu_boot.specs.declared.trial.operation.Operation.TheVariants.{Close}
-use Rattle.dfu_boot.specs.declared.trial.standing.Standing.TheVariants.{OnTrial}
 use Rattle.dfu_core.specs.declared.config.DfuConfig.{DfuConfig}
 use Rattle.dfu_core.specs.Kept.{IsKept}
 use Rattle.dfu_core.specs.Board.{CoreBoard, medium_of_core}
@@ -15,7 +11,7 @@ use Rattle.dfu_laws.specs.board.Board.{Board, medium_on}
 use Rattle.dfu_laws.specs.link.Marks.{IsMarked, TrialEnds}
 use Rattle.dfu_laws.specs.in_c.Steps.{CoreStep, IsCoreRun, board_of_core, IsBoardOf}
 use Rattle.dfu_laws.specs.in_c.Marks.{IsCoreMarked, CoreTrialEnds, AreCoreMarked, no_mark, one_mark, one_trial, IsCoreMarkedRun, AreCoreJoined}
-use Rattle.dfu_laws.proofs.in_c.Same.{no_work, set_up_alike}
+use Rattle.dfu_laws.proofs.in_c.Same.{set_up_alike}
 use Rattle.dfu_laws.proofs.in_c.Each.{powers_on}
 use Rattle.dfu_laws.proofs.in_c.Runs.{same_flash}
 
@@ -42,7 +38,6 @@ marked_too b b' x is mark =
       board = y;
       is = now;
       mark = record {
-        work = no_work b.kept x.asking.work is.kept.work mark.idle;
         unread = subst (λ (m : MediumState). IsUnread m (medium_on y)) (sym (same_flash b x is))
             (subst (λ (m : MediumState). IsUnread (medium_of_core b) m) (sym (same_flash flashed y now)) un);
         asking = refl;
@@ -66,12 +61,7 @@ ended_too b b' begins x is end =
       board = y;
       is = now;
       end = record {
-        work = no_work b.kept x.asking.work is.kept.work end.idle;
-        tries = end.tries;
-        trial = end.trial;
-        stands = subst (λ (m : MediumState). IsStanding m end.tries (OnTrial end.trial)) (sym (same_flash b x is)) end.stands;
-        torn = subst (λ (m : MediumState). Carried m (Close end.trial.slot) (medium_on y)) (sym (same_flash b x is))
-            (subst (λ (m : MediumState). Carried (medium_of_core b) (Close end.trial.slot) m) (sym (same_flash b' y now)) end.torn);
+        size = end.size ∙ sym (ap (λ (z : Board). length z.flash) is.is);
         starts = on.1;
         same = set_up_alike b.config b.kept b'.kept x.asking end.powers.after is.kept
             (subst (λ (c : DfuConfig). IsKept c b'.kept end.powers.after) end.config on.0.kept);

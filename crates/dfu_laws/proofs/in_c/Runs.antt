@@ -29,7 +29,7 @@ use Rattle.dfu_laws.proofs.in_c.Turned.{IsSound}
 use Rattle.dfu_laws.proofs.in_c.Each.{powers_on, turn}
 
 -- From a board in C that is this device, steps lead to one that is another.
-record RanTo (b : CoreBoard) (a : Asking) (steps : List CoreStep) (b' : CoreBoard) : Type 0 where
+pub record RanTo (b : CoreBoard) (a : Asking) (steps : List CoreStep) (b' : CoreBoard) : Type 0 where
   pub config : b'.config ≡ b.config
   pub last : Asking
   pub sound : IsSound b' last
@@ -53,7 +53,7 @@ same_state : (b : CoreBoard) (a : Asking) (state : State) → IsSound b a → Is
 same_state b a state sound is =
     ap (λ (m : DeviceState). state_of (stage_of m [] [])) (one_mode b.kept a.mode is.mode sound.kept.mode is.has_mode) ∙ is.state_is
 
-run_to : (b : CoreBoard) (a : Asking) (steps : List CoreStep) (b' : CoreBoard) → IsSound b a → IsCoreRun b steps b' → RanTo b a steps b'
+pub run_to : (b : CoreBoard) (a : Asking) (steps : List CoreStep) (b' : CoreBoard) → IsSound b a → IsCoreRun b steps b' → RanTo b a steps b'
 run_to b a [] b' sound run = record {
   config = ap (λ (x : CoreBoard). x.config) run;
   last = a;

@@ -96,7 +96,7 @@ job_some : (r : DfuRecord) (j : SlotWrite) → HasJob r j → r.work ≡ 0 → �
 job_some r (slot_write.Block spare close) h is = omega (arith, is, h.0)
 job_some r (slot_write.Commit spare generation register) h is = omega (arith, is, h.0)
 
-one_work : (r : DfuRecord) (x y : Option PendingWrites) → HasWork r x → HasWork r y → x ≡ y
+pub one_work : (r : DfuRecord) (x y : Option PendingWrites) → HasWork r x → HasWork r y → x ≡ y
 one_work r None None h k = refl
 one_work r None (Some w) h k = absurd (job_some r w.job k.0 h)
 one_work r (Some w) None h k = absurd (job_some r w.job h.0 k)

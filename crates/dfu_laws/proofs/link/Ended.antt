@@ -1,38 +1,49 @@
 -- What the end of a trial leaves of a board and of what holds of the live session.
-use Rattle.std.specs.Prelude.{◌≡◌, ◌⊎◌, ℕ, ◌-◌, ◌*◌, ◌/◌, Bool, true, List, ◌∷◌, length}
+use Rattle.std.specs.Prelude.{◌≡◌, ℕ, ◌-◌, ◌*◌, ◌/◌, Bool, true, List, [], ◌∷◌, length}
 use Rattle.std.proofs.Common.{inl, inr, refl, sym, ap, ◌∙◌, subst}
 use Rattle.dfu_wire.specs.declared.states.State.TheVariants.{DfuIdle}
 use Rattle.dfu_slots.specs.Units.{gate_room}
-use Rattle.dfu_slots.specs.Seen.{SlotsState, room_of}
+use Rattle.dfu_slots.specs.Seen.{room_of}
 use Rattle.dfu_device.specs.Stage.{Profile, Stage, InDfuIdle, state_of}
 use Rattle.dfu_device.specs.Outcome.{Situation}
 use Rattle.dfu_device.specs.DeviceView.{DeviceView, profile, profile_of, situation}
-use Rattle.dfu_asks.specs.Asks.{store_in}
+use Rattle.dfu_device.specs.History.{IsHistory, HistoryStep as TableRow}
+use Rattle.dfu_asks.specs.Mapped.{grain_of}
+use Rattle.dfu_asks.specs.Lent.{LentAsking}
+use Rattle.dfu_asks.specs.Asks.{grain_in, store_in}
 use Rattle.dfu_host.specs.Blocks.{first}
 use Rattle.dfu_host.specs.Phases.{Goal, ToLoad, ToFetch, ToVerify, ToCompare, Task, Phase, Enter, Block, Close, Fetch, Compare}
 use Rattle.dfu_host.specs.Table.{deed}
-use Rattle.dfu_sim.specs.Session.{Live, NoOne, Loading, Fetching, IsOneOf}
+use Rattle.dfu_sim.specs.Session.{Live, NoOne, Loading, Fetching}
 use Rattle.dfu_sim.specs.LinkView.{Session, Nobody, Hosted}
 use Rattle.dfu_sim.specs.Agreement.{IsLiveOffer}
 use Rattle.dfu_sim.specs.Fact.{AtBlock, AllTaken, Fetches, Fact, FetchFact, CompareFact, GoalFact, SessionFact}
 use Rattle.dfu_sim.proofs.CommonFacts.{goal_anywhere}
 use Rattle.dfu_laws.specs.board.Board.{Board, lent_on, device_on, state_on}
 use Rattle.dfu_laws.specs.board.Happens.{start_stage, BoardStarts}
+use Rattle.dfu_laws.specs.board.Refines.{IsIdle, IdleRefines}
 use Rattle.dfu_laws.specs.link.Marks.{TrialEnds}
 use Rattle.dfu_laws.specs.link.Trials.{IsTransfer, MayEnd}
 
 -- The board.
 
--- Media of the same size and grain have the same room for an image.
-same_room : (s s' : SlotsState) → length s'.medium.bytes ≡ length s.medium.bytes → s'.medium.grain ≡ s.medium.grain
-    → room_of s' ≡ room_of s
+-- Flash of the same size has the same room for an image.
+same_room : (a a' : LentAsking) (flash flash' : List ℕ) → length flash' ≡ length flash → grain_in a' ≡ grain_in a
+    → room_of (store_in a' flash') ≡ room_of (store_in a flash)
 unfolding room_of
-same_room s s' size grain = λ i. size i / 2 - 2 * gate_room (grain i)
+same_room a a' flash flash' size grain = λ i. size i / 2 - 2 * gate_room (grain i)
 
 -- The device goes by the same profile.
 pub ends_profile : (b b' : Board) (begins : Bool) → TrialEnds b begins b' → profile (device_on b') ≡ profile (device_on b)
 ends_profile b b' begins end = λ i. profile_of (end.same.config i)
-    (same_room (store_in (lent_on b) b.flash) (store_in (lent_on b') b'.flash) end.torn.0.size end.torn.1 i)
+    (same_room (lent_on b) (lent_on b') b.flash b'.flash end.size (λ j. grain_of (end.same.unit j) (end.same.sector j)) i)
+
+-- A board is in the state of the device that it is.
+pub state_idle : (refines : IdleRefines) (b : Board) (d : DeviceView) → IsIdle b d → state_on b ≡ state_of d.stage
+state_idle refines b d k =
+    let r = refines b b d [] k refl in
+    let same : r.device ≡ d = subst (λ (rows : List TableRow). IsHistory d rows r.device) r.tells.0 r.history in
+    r.state ∙ ap (λ (x : DeviceView). state_of x.stage) same
 
 -- A board that begins for a host is in dfuIDLE.
 pub begins_idle : (b' : Board) (begins : Bool) → BoardStarts begins b' → begins ≡ true → (device_on b').stage ≡ InDfuIdle

@@ -1,24 +1,22 @@
 -- What a restart leaves of which a host hears no more than that its own reset is over.
 use Rattle.std.specs.Prelude.{◌≡◌, ℕ, Bool, true, false, if◌then◌else◌, List, [], ◌∷◌, Option, Some, None}
 use Rattle.std.proofs.Common.{inl, refl, sym, ap, ◌∙◌, subst}
-use Rattle.dfu_slots.specs.Seen.{shows_same, image_of}
+use Rattle.dfu_slots.specs.Seen.{shows_same}
 use Rattle.dfu_device.specs.declared.answer.Answer.TheVariants as answer
 use Rattle.dfu_device.specs.Stage.{Profile, InAppIdle}
 use Rattle.dfu_device.specs.Outcome.{Situation, powered}
 use Rattle.dfu_device.specs.DeviceView.{DeviceView, profile, situation}
 use Rattle.dfu_device.specs.Rows.{Cause, PowerOn, Row}
-use Rattle.dfu_device.specs.History.{HistoryStep as TableRow}
 use Rattle.dfu_host.specs.declared.report.Report.{Report}
 use Rattle.dfu_host.specs.declared.report.Report.TheVariants.{Installed, Uploaded, Verified}
-use Rattle.dfu_host.specs.Phases.{Goal, ToLoad, ToFetch, ToVerify, ToCompare, Task, Phase, Find, Enter, ResetFind, LastUploaded, Last, Reset, Heard, Waited, WasReset}
+use Rattle.dfu_host.specs.Phases.{Goal, ToLoad, ToFetch, ToVerify, ToCompare, Task, Phase, Find, Enter, ResetFind, LastUploaded, Last, Reset, Heard, WasReset}
 use Rattle.dfu_host.specs.Table.{deed, on_waited, on_reset}
 use Rattle.dfu_host.specs.Host.{HostState}
 use Rattle.dfu_sim.specs.Session.{Machine, Loading, begins_not, ends_not, SaysReport, SaysInPlace, AGo, MachineStep, goes}
 use Rattle.dfu_sim.specs.Opening.{task_for}
-use Rattle.dfu_sim.specs.Play.{given, Took, took}
+use Rattle.dfu_sim.specs.Play.{given, took}
 use Rattle.dfu_sim.specs.LinkView.{Hosted}
 use Rattle.dfu_sim.specs.Agreement.{live_of, live_goal, IsLiveOffer}
-use Rattle.dfu_sim.specs.LinkAgreement.{IsSound}
 use Rattle.dfu_sim.specs.Fact.{IsDfuIdle, IsInApp, EndsAs, GoalFact, HostFact}
 use Rattle.dfu_sim.proofs.CommonFacts.{goal_anywhere}
 use Rattle.dfu_sim.proofs.GoalLaws.{Next}
@@ -26,7 +24,7 @@ use Rattle.dfu_sim.proofs.Saying.{step_live, step_up}
 use Rattle.dfu_sim.proofs.Taking.{TookWell, goal_taken, task_by}
 use Rattle.dfu_laws.specs.board.Board.{Board, Event, Restart, Answers, BoardStep}
 use Rattle.dfu_laws.specs.board.Happens.{IsRun}
-use Rattle.dfu_laws.specs.board.Refines.{IsOne, TellsRows, IsIdle, StandsFor, IdleRefines}
+use Rattle.dfu_laws.specs.board.Refines.{TellsRows, IsIdle, StandsFor, IdleRefines}
 use Rattle.dfu_laws.proofs.link.Timed.{DeviceWell}
 use Rattle.dfu_laws.proofs.link.Served.{answered, one_row}
 use Rattle.dfu_laws.proofs.link.Fixed.{row_profile}

@@ -1,5 +1,5 @@
 -- What marks of a trial leave of a board: the device that it is, with the same image and in the same stage.
-use Rattle.std.specs.Prelude.{◌≡◌, ◌&&◌, ◌||◌, ◌==◌, ℕ, ◌+◌, ◌-◌, ◌*◌, ◌/◌, ◌^◌, ◌%◌, ◌≢◌, ◌≤◌, ◌<◌, nat_le, nat_lt, IsTrue, List, length, take, drop, get_or, slice_index, slice_range, if◌then◌else◌}
+use Rattle.std.specs.Prelude.{◌≡◌, ◌&&◌, ◌||◌, ◌==◌, ℕ, ◌+◌, ◌-◌, ◌*◌, ◌/◌, ◌^◌, ◌≤◌, ◌<◌, nat_le, nat_lt, IsTrue, List, length, take, drop, get_or, slice_index, slice_range, if◌then◌else◌}
 use Rattle.std.proofs.Common.{inl, inr, refl, sym, ap, ◌∙◌, subst, arith, ⊎_elim}
 use Rattle.std.proofs.lemmas.Bool.{cases_lt}
 use Rattle.std.proofs.lemmas.List.{get_or-take, get_or-drop}
@@ -7,7 +7,7 @@ use Rattle.dfu_slots.specs.Units.{Grain, gate_room}
 use Rattle.dfu_slots.specs.Medium.{IsErased, IsAhead, written}
 use Rattle.dfu_slots.specs.Layout.{Slot, slot, slot_size, header_length}
 use Rattle.dfu_slots.specs.Image.{IsSized, is_newest, active_at, spare_at}
-use Rattle.dfu_slots.specs.Seen.{store_of, image_of, spare_of, is_begun, room_of, is_shaped}
+use Rattle.dfu_slots.specs.Seen.{store_of, image_of, spare_of, is_begun, room_of}
 use Rattle.dfu_slots.specs.Store.{IsStore}
 use Rattle.dfu_slots.proofs.Stands.{two_slots}
 use Rattle.dfu_slots.proofs.Newest.{tested_places}
@@ -24,8 +24,8 @@ use Rattle.dfu_asks.specs.declared.noted.Noted.{Noted}
 use Rattle.dfu_asks.specs.Mapped.{mapped}
 use Rattle.dfu_asks.specs.Noted.{IsNoted}
 use Rattle.dfu_asks.specs.Lent.{LentAsking}
-use Rattle.dfu_asks.specs.Asks.{grain_in, store_in, device_in, IsDevice}
-use Rattle.dfu_laws.specs.board.Board.{Board, lent_on, medium_on, device_on}
+use Rattle.dfu_asks.specs.Asks.{grain_in, device_in, IsDevice}
+use Rattle.dfu_laws.specs.board.Board.{Board, lent_on, medium_on}
 use Rattle.dfu_laws.specs.board.Refines.{IsIdle}
 use Rattle.dfu_laws.specs.link.Marks.{IsMarked}
 
@@ -76,12 +76,12 @@ module _ (w : Grain) (old now : List ℕ) (un : IsUnread (mapped w old) (mapped 
       there : IsErased w.sector now (sp + 2 * g + k) (sp + 2 * g + k)
       there p low high none = ⊎_elim
           (λ inner.
-              byte_in now (sp + 2 * g) (sp + slot_size now) p (omega (arith, low)) (omega (arith, inner, half))
-              ∙ ap (λ (x : Slot). get_or x.data_bytes (p - (sp + 2 * g)) 0) spare_there
-              ∙ sym (byte_in old (sp + 2 * g) (sp + slot_size old) p (omega (arith, low)) inner)
-              ∙ ahead some p low (omega (arith, high, un.size)) none)
+          byte_in now (sp + 2 * g) (sp + slot_size now) p (omega (arith, low)) (omega (arith, inner, half))
+          ∙ ap (λ (x : Slot). get_or x.data_bytes (p - (sp + 2 * g)) 0) spare_there
+          ∙ sym (byte_in old (sp + 2 * g) (sp + slot_size old) p (omega (arith, low)) inner)
+          ∙ ahead some p low (omega (arith, high, un.size)) none)
           (λ past. absurd (none (sp + slot_size old) (omega (arith, fits)) past
-              (end_edge w old (two_slots (mapped w old) sized) sized.whole (active_at g old) sp (tested_places g old) some)))
+          (end_edge w old (two_slots (mapped w old) sized) sized.whole (active_at g old) sp (tested_places g old) some)))
           (cases_lt p (sp + slot_size old))
 
   module _ (held : List ℕ) (end : ℕ) where

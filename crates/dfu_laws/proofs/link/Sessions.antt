@@ -6,7 +6,6 @@ use Rattle.dfu_slots.specs.Seen.{SlotsState, image_of}
 use Rattle.dfu_device.specs.Stage.{Profile, Stage, InManifestSync, InManifest, state_of}
 use Rattle.dfu_device.specs.Outcome.{Situation, Works}
 use Rattle.dfu_device.specs.DeviceView.{DeviceView, profile, situation}
-use Rattle.dfu_device.specs.History.{IsHistory, HistoryStep as TableRow}
 use Rattle.dfu_asks.specs.Asks.{store_in}
 use Rattle.dfu_host.specs.declared.limits.Limits.{Limits}
 use Rattle.dfu_host.specs.declared.report.Report.{Report}
@@ -31,7 +30,7 @@ use Rattle.dfu_laws.specs.link.Marks.{TrialEnds}
 use Rattle.dfu_laws.specs.link.Trials.{MayEnd}
 use Rattle.dfu_laws.specs.link.Plays.{opened_on, Plays, starts, offers, uploads, aborts as gives_up, goes_on, ends, PlaysInstall, PlaysGive, PlaysKnow, PlaysKnowWithin}
 use Rattle.dfu_laws.proofs.link.Acted.{machine, agrees}
-use Rattle.dfu_laws.proofs.link.Ended.{ends_profile, more_offered, ending_fact}
+use Rattle.dfu_laws.proofs.link.Ended.{state_idle, ends_profile, more_offered, ending_fact}
 use Rattle.dfu_laws.proofs.link.Played.{Stands, went_on}
 use Rattle.dfu_laws.proofs.link.Stopped.{start_sound}
 use Rattle.dfu_laws.proofs.link.Within.{rest_known}
@@ -59,13 +58,6 @@ abort_lives : {tolerant : Bool} {t : ℕ} {m m' : Machine} {report : Option Repo
     m'.live ≡ m.live
 abort_lives aborts = refl
 
--- A board is in the state of the device that it is.
-state_idle : (refines : IdleRefines) (b : Board) (d : DeviceView) → IsIdle b d → state_on b ≡ state_of d.stage
-state_idle refines b d k =
-    let r = refines b b d [] k refl in
-    let same : r.device ≡ d = subst (λ (rows : List TableRow). IsHistory d rows r.device) r.tells.0 r.history in
-    r.state ∙ ap (λ (x : DeviceView). state_of x.stage) same
-
 -- The clauses `shown` and `only` of the law `active_image_is_one`.
 abbrev pub ImageIsShown : Type 0
 ImageIsShown = (s : SlotsState) → HasImage s.medium → Active s.medium (image_of s)
@@ -74,139 +66,139 @@ abbrev pub OneImage : Type 0
 OneImage = (s : SlotsState) (image : List ℕ) → Active s.medium image → image ≡ image_of s
 
 module _ (refines : IdleRefines) (simulation : Simulation) (only : OnlyOffered) (c : Profile) (sized : 0 < c.transfer) (one : OneImage)
-    where
-  opened_fact : (s : Situation) (p : Profile) → p ≡ c → (goal : Goal) (limits : Limits)
-      → SessionFact c s (opened c goal limits.actions limits.restarts)
-      → SessionFact c s (opened p goal limits.actions limits.restarts)
-  opened_fact s p e goal limits f =
-      subst (λ (x : Profile). SessionFact c s (opened x goal limits.actions limits.restarts)) (sym e) f
+  where
+    opened_fact : (s : Situation) (p : Profile) → p ≡ c → (goal : Goal) (limits : Limits)
+        → SessionFact c s (opened c goal limits.actions limits.restarts)
+        → SessionFact c s (opened p goal limits.actions limits.restarts)
+    opened_fact s p e goal limits f =
+        subst (λ (x : Profile). SessionFact c s (opened x goal limits.actions limits.restarts)) (sym e) f
 
-  -- What holds of a session that begins.
-  offer_fact : (past : List (List ℕ)) (s : Situation) (purpose : Purpose) (payload : List ℕ) (limits : Limits) → IsSound past s.stage
-      → 0 < length payload → SessionFact c s (opened c (goal_of_purpose purpose payload) limits.actions limits.restarts)
-  offer_fact past s purpose payload limits sound some =
-      (simulation c (record { device = s; session = Nobody })
-      (record { device = s; session = opened c (goal_of_purpose purpose payload) limits.actions limits.restarts }) []
-      (machine simulation only c sized past s Nobody) (Offers purpose payload limits) silent sized tt
-      (agrees simulation only c sized past s Nobody sound tt)
-      (record { allowed = some; first = Works; second = Works; room = true; same = refl })).fact
+    -- What holds of a session that begins.
+    offer_fact : (past : List (List ℕ)) (s : Situation) (purpose : Purpose) (payload : List ℕ) (limits : Limits) → IsSound past s.stage
+        → 0 < length payload → SessionFact c s (opened c (goal_of_purpose purpose payload) limits.actions limits.restarts)
+    offer_fact past s purpose payload limits sound some =
+        (simulation c (record { device = s; session = Nobody })
+        (record { device = s; session = opened c (goal_of_purpose purpose payload) limits.actions limits.restarts }) []
+        (machine simulation only c sized past s Nobody) (Offers purpose payload limits) silent sized tt
+        (agrees simulation only c sized past s Nobody sound tt)
+        (record { allowed = some; first = Works; second = Works; room = true; same = refl })).fact
 
-  upload_fact : (past : List (List ℕ)) (s : Situation) (limits : Limits) → IsSound past s.stage
-      → SessionFact c s (opened c ToFetch limits.actions limits.restarts)
-  upload_fact past s limits sound =
-      (simulation c (record { device = s; session = Nobody })
-      (record { device = s; session = opened c ToFetch limits.actions limits.restarts }) []
-      (machine simulation only c sized past s Nobody) (Uploads limits) silent sized tt
-      (agrees simulation only c sized past s Nobody sound tt)
-      (record { allowed = tt; first = Works; second = Works; room = true; same = refl })).fact
+    upload_fact : (past : List (List ℕ)) (s : Situation) (limits : Limits) → IsSound past s.stage
+        → SessionFact c s (opened c ToFetch limits.actions limits.restarts)
+    upload_fact past s limits sound =
+        (simulation c (record { device = s; session = Nobody })
+        (record { device = s; session = opened c ToFetch limits.actions limits.restarts }) []
+        (machine simulation only c sized past s Nobody) (Uploads limits) silent sized tt
+        (agrees simulation only c sized past s Nobody sound tt)
+        (record { allowed = tt; first = Works; second = Works; room = true; same = refl })).fact
 
-  record GaveUp (s : Situation) (h : HostState) : Type 0 where
-    fact : SessionFact c s (Hosted (aborted h))
-    live : live_of (Hosted (aborted h)) ≡ live_of (Hosted h)
+    record GaveUp (s : Situation) (h : HostState) : Type 0 where
+      fact : SessionFact c s (Hosted (aborted h))
+      live : live_of (Hosted (aborted h)) ≡ live_of (Hosted h)
 
-  gave_up : (past : List (List ℕ)) (s : Situation) (h : HostState) → IsSound past s.stage → IsLiveOffer past (live_of (Hosted h))
-      → SessionFact c s (Hosted h) → GaveUp s h
-  gave_up past s h sound offered f =
-      let x = simulation c (record { device = s; session = Hosted h }) (record { device = s; session = Hosted (aborted h) }) []
-      (machine simulation only c sized past s (Hosted h)) Aborts silent sized f
-      (agrees simulation only c sized past s (Hosted h) sound offered)
-      (record { allowed = tt; first = Works; second = Works; room = true; same = refl }) in
-      record { fact = x.fact; live = sym x.agrees.live ∙ abort_lives x.step }
+    gave_up : (past : List (List ℕ)) (s : Situation) (h : HostState) → IsSound past s.stage → IsLiveOffer past (live_of (Hosted h))
+        → SessionFact c s (Hosted h) → GaveUp s h
+    gave_up past s h sound offered f =
+        let x = simulation c (record { device = s; session = Hosted h }) (record { device = s; session = Hosted (aborted h) }) []
+        (machine simulation only c sized past s (Hosted h)) Aborts silent sized f
+        (agrees simulation only c sized past s (Hosted h) sound offered)
+        (record { allowed = tt; first = Works; second = Works; room = true; same = refl }) in
+        record { fact = x.fact; live = sym x.agrees.live ∙ abort_lives x.step }
 
-  record StandsSo (first : List ℕ) (past : List (List ℕ)) (last : Option (List ℕ)) (l : BoardLink) : Type 0 where
-    device : DeviceView
-    stands : Stands c first past last l device
+    record StandsSo (first : List ℕ) (past : List (List ℕ)) (last : Option (List ℕ)) (l : BoardLink) : Type 0 where
+      device : DeviceView
+      stands : Stands c first past last l device
 
-  -- A session begins on a board on which this holds.
-  begins : (first : List ℕ) (past now : List (List ℕ)) (last next : Option (List ℕ)) (l : BoardLink) (goal : Goal) (limits : Limits)
-      → (x : StandsSo first past last l) → SessionFact c (situation x.device) (opened c goal limits.actions limits.restarts)
-      → ((payload : List ℕ) → live_goal goal ≡ Loading payload → next ≡ Some payload) → IsLiveOffer now (live_goal goal)
-      → IsSound now x.device.stage → (image_of x.device.slots ≡ first) ⊎ IsOneOf (image_of x.device.slots) now
-      → StandsSo first now next (opened_on l.board goal limits)
-  begins first past now last next l goal limits x f live offered sound known = record {
-    device = x.device;
-    stands = record {
-      idle = x.stands.idle;
-      profile_is = x.stands.profile_is;
-      fact = opened_fact (situation x.device) (profile (device_on l.board)) (ap profile x.stands.idle.device ∙ x.stands.profile_is)
-          goal limits f;
-      live = live;
-      offered = offered;
-      sound = sound;
-      known = known;
-    };
-  }
+    -- A session begins on a board on which this holds.
+    begins : (first : List ℕ) (past now : List (List ℕ)) (last next : Option (List ℕ)) (l : BoardLink) (goal : Goal) (limits : Limits)
+        → (x : StandsSo first past last l) → SessionFact c (situation x.device) (opened c goal limits.actions limits.restarts)
+        → ((payload : List ℕ) → live_goal goal ≡ Loading payload → next ≡ Some payload) → IsLiveOffer now (live_goal goal)
+        → IsSound now x.device.stage → (image_of x.device.slots ≡ first) ⊎ IsOneOf (image_of x.device.slots) now
+        → StandsSo first now next (opened_on l.board goal limits)
+    begins first past now last next l goal limits x f live offered sound known = record {
+      device = x.device;
+      stands = record {
+        idle = x.stands.idle;
+        profile_is = x.stands.profile_is;
+        fact = opened_fact (situation x.device) (profile (device_on l.board)) (ap profile x.stands.idle.device ∙ x.stands.profile_is)
+            goal limits f;
+        live = live;
+        offered = offered;
+        sound = sound;
+        known = known;
+      };
+    }
 
-  -- A trial ends on a board on which this holds.
-  trial_ended : (first : List ℕ) (past : List (List ℕ)) (last : Option (List ℕ)) (l : BoardLink) (b' : Board) (image : List ℕ)
-      (begins : Bool) → StandsSo first past last l → MayEnd l.session (state_on l.board) begins → TrialEnds l.board begins b'
-      → Active (medium_on b') image → StandsSo first (image ∷ past) last (record { board = b'; session = l.session })
-  trial_ended first past last l b' image begins x may end active =
-      let on = end.starts.0 in
-      record {
-        device = device_on b';
-        stands = record {
-          idle = record { work = on.work; is = on.is; device = refl };
-          profile_is = ends_profile l.board b' begins end ∙ ap profile x.stands.idle.device ∙ x.stands.profile_is;
-          fact = ending_fact c l.session l.board b' begins x.device (state_idle refines l.board x.device x.stands.idle) may end.starts
-              x.stands.fact;
-          live = x.stands.live;
-          offered = more_offered image past (live_of l.session) x.stands.offered;
-          sound = subst (λ (d : DeviceView). IsSound (image ∷ past) d.stage) (sym on.device) (start_sound (image ∷ past) on.begins);
-          known = inr (inl (sym (one (store_in (lent_on b') b'.flash) image active)));
-        };
-      }
+    -- A trial ends on a board on which this holds.
+    trial_ended : (first : List ℕ) (past : List (List ℕ)) (last : Option (List ℕ)) (l : BoardLink) (b' : Board) (image : List ℕ)
+        (begins : Bool) → StandsSo first past last l → MayEnd l.session (state_on l.board) begins → TrialEnds l.board begins b'
+        → Active (medium_on b') image → StandsSo first (image ∷ past) last (record { board = b'; session = l.session })
+    trial_ended first past last l b' image begins x may end active =
+        let on = end.starts.0 in
+        record {
+          device = device_on b';
+          stands = record {
+            idle = record { work = on.work; is = on.is; device = refl };
+            profile_is = ends_profile l.board b' begins end ∙ ap profile x.stands.idle.device ∙ x.stands.profile_is;
+            fact = ending_fact c l.session l.board b' begins x.device (state_idle refines l.board x.device x.stands.idle) may end.starts
+                x.stands.fact;
+            live = x.stands.live;
+            offered = more_offered image past (live_of l.session) x.stands.offered;
+            sound = subst (λ (d : DeviceView). IsSound (image ∷ past) d.stage) (sym on.device) (start_sound (image ∷ past) on.begins);
+            known = inr (inl (sym (one (store_in (lent_on b') b'.flash) image active)));
+          };
+        }
 
-  stands : (first : List ℕ) (b : Board) (steps : List BoardStep) (past : List (List ℕ)) (last : Option (List ℕ)) (l : BoardLink) →
-      IsPoweredOn b
-      → profile (device_on b) ≡ c → image_of (device_on b).slots ≡ first → Plays b steps past last l → StandsSo first past last l
-  stands first b _ _ _ _ on e i starts = record {
-    device = device_on b;
-    stands = record {
-      idle = record { work = on.work; is = on.is; device = refl };
-      profile_is = e;
-      fact = tt;
-      live = λ payload x. absurd (cc);
-      offered = tt;
-      sound = subst (λ (x : DeviceView). IsSound [] x.stage) (sym on.device) (start_sound [] on.begins);
-      known = inl i;
-    };
-  }
-  stands first b steps _ _ _ on e i (offers {past = past} {last = last} {l = l} purpose payload limits p none some) =
-      let x = stands first b steps past last l on e i p in
-      begins first past (payload ∷ past) last (Some payload) l (goal_of_purpose purpose payload) limits x
-      (offer_fact past (situation x.device) purpose payload limits x.stands.sound some)
-      (λ y same. some_is payload y (sym (goal_live purpose payload) ∙ same))
-      (subst (λ (y : Live). IsLiveOffer (payload ∷ past) y) (sym (goal_live purpose payload)) (inl refl))
-      (more_sound payload past x.device.stage x.stands.sound)
-      (more_known (image_of x.device.slots) payload first past x.stands.known)
-  stands first b steps past _ _ on e i (uploads {last = last} {l = l} limits p none) =
-      let x = stands first b steps past last l on e i p in
-      begins first past past last None l ToFetch limits x (upload_fact past (situation x.device) limits x.stands.sound)
-      (λ y same. absurd (cc)) tt x.stands.sound x.stands.known
-  stands first b steps past last _ on e i (gives_up {l = l} {h = h} p live) =
-      let x = stands first b steps past last l on e i p in
-      let f = subst (λ (y : Session). SessionFact c (situation x.device) y) live x.stands.fact in
-      let o = subst (λ (y : Session). IsLiveOffer past (live_of y)) live x.stands.offered in
-      let g = gave_up past (situation x.device) h x.stands.sound o f in
-      record {
-        device = x.device;
-        stands = record {
-          idle = x.stands.idle;
-          profile_is = x.stands.profile_is;
-          fact = g.fact;
-          live = λ y same. x.stands.live y (ap live_of live ∙ sym g.live ∙ same);
-          offered = subst (λ (y : Live). IsLiveOffer past y) (sym g.live) o;
-          sound = x.stands.sound;
-          known = x.stands.known;
-        };
-      }
-  stands first b _ past last _ on e i (goes_on {steps = steps} {more = more} {l = l} {l' = l'} {answer = answer} p comes) =
-      let x = stands first b steps past last l on e i p in
-      let y = went_on refines simulation only c sized past first last l l' x.device more answer x.stands comes in
-      record { device = y.device; stands = y.stands }
-  stands first b steps _ last _ on e i (ends {past = past} {l = l} {b' = b'} {begins = begins} image p may end active) =
-      trial_ended first past last l b' image begins (stands first b steps past last l on e i p) may end active
+    stands : (first : List ℕ) (b : Board) (steps : List BoardStep) (past : List (List ℕ)) (last : Option (List ℕ)) (l : BoardLink) →
+        IsPoweredOn b
+        → profile (device_on b) ≡ c → image_of (device_on b).slots ≡ first → Plays b steps past last l → StandsSo first past last l
+    stands first b _ _ _ _ on e i starts = record {
+      device = device_on b;
+      stands = record {
+        idle = record { work = on.work; is = on.is; device = refl };
+        profile_is = e;
+        fact = tt;
+        live = λ payload x. absurd (cc);
+        offered = tt;
+        sound = subst (λ (x : DeviceView). IsSound [] x.stage) (sym on.device) (start_sound [] on.begins);
+        known = inl i;
+      };
+    }
+    stands first b steps _ _ _ on e i (offers {past = past} {last = last} {l = l} purpose payload limits p none some) =
+        let x = stands first b steps past last l on e i p in
+        begins first past (payload ∷ past) last (Some payload) l (goal_of_purpose purpose payload) limits x
+        (offer_fact past (situation x.device) purpose payload limits x.stands.sound some)
+        (λ y same. some_is payload y (sym (goal_live purpose payload) ∙ same))
+        (subst (λ (y : Live). IsLiveOffer (payload ∷ past) y) (sym (goal_live purpose payload)) (inl refl))
+        (more_sound payload past x.device.stage x.stands.sound)
+        (more_known (image_of x.device.slots) payload first past x.stands.known)
+    stands first b steps past _ _ on e i (uploads {last = last} {l = l} limits p none) =
+        let x = stands first b steps past last l on e i p in
+        begins first past past last None l ToFetch limits x (upload_fact past (situation x.device) limits x.stands.sound)
+        (λ y same. absurd (cc)) tt x.stands.sound x.stands.known
+    stands first b steps past last _ on e i (gives_up {l = l} {h = h} p live) =
+        let x = stands first b steps past last l on e i p in
+        let f = subst (λ (y : Session). SessionFact c (situation x.device) y) live x.stands.fact in
+        let o = subst (λ (y : Session). IsLiveOffer past (live_of y)) live x.stands.offered in
+        let g = gave_up past (situation x.device) h x.stands.sound o f in
+        record {
+          device = x.device;
+          stands = record {
+            idle = x.stands.idle;
+            profile_is = x.stands.profile_is;
+            fact = g.fact;
+            live = λ y same. x.stands.live y (ap live_of live ∙ sym g.live ∙ same);
+            offered = subst (λ (y : Live). IsLiveOffer past y) (sym g.live) o;
+            sound = x.stands.sound;
+            known = x.stands.known;
+          };
+        }
+    stands first b _ past last _ on e i (goes_on {steps = steps} {more = more} {l = l} {l' = l'} {answer = answer} p comes) =
+        let x = stands first b steps past last l on e i p in
+        let y = went_on refines simulation only c sized past first last l l' x.device more answer x.stands comes in
+        record { device = y.device; stands = y.stands }
+    stands first b steps _ last _ on e i (ends {past = past} {l = l} {b' = b'} {begins = begins} image p may end active) =
+        trial_ended first past last l b' image begins (stands first b steps past last l on e i p) may end active
 
 module _ (refines : IdleRefines) (simulation : Simulation) (only : OnlyOffered) (shown : ImageIsShown) (one : OneImage) where
   active_idle : (b : Board) (d : DeviceView) → IsIdle b d → Active (medium_on b) (image_of d.slots)

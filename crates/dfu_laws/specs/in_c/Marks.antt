@@ -1,33 +1,22 @@
 -- What a trial changes on the flash of a board in C, and steps with such changes between them.
-use Rattle.std.specs.Prelude.{◌≡◌, ℕ, pos, Bool, List, [], ◌∷◌}
+use Rattle.std.specs.Prelude.{◌≡◌, pos, Bool, List, [], ◌∷◌, length}
 use Rattle.dfu_boot.specs.trial.Unread.{IsUnread}
-use Rattle.dfu_boot.specs.trial.Calls.{IsStanding}
-use Rattle.dfu_boot.specs.trial.Laws.{Carried}
-use Rattle.dfu_boot.specs.declared.trial.operation.Operation.TheVariants.{Close}
-use Rattle.dfu_boot.specs.declared.trial.standing.Trial.{Trial}
-use Rattle.dfu_boot.specs.declared.trial.standing.Standing.TheVariants.{OnTrial}
 use Rattle.dfu_core.specs.Power.{Powers}
 use Rattle.dfu_core.specs.Board.{CoreBoard, medium_of_core}
 use Rattle.dfu_core.specs.Happens.{start_mode, CoreHappens}
 use Rattle.dfu_laws.specs.in_c.Steps.{CoreStep, IsCoreRun}
 
--- While no operation of the device is due, bytes of the flash changed that the slot store does not read: as by the operation that
--- dfu_core_trial_start or dfu_core_trial_confirm asks for, whatever became of it, if it sets a mark. All else is as it was.
+-- Bytes of the flash changed that the slot store does not read: as by the operation that dfu_core_trial_start or dfu_core_trial_confirm asks
+-- for, whatever became of it, if it sets a mark. All else is as it was.
 pub record IsCoreMarked (b b' : CoreBoard) : Type 0 where
-  pub idle : b.kept.work ≡ 0
   pub unread : IsUnread (medium_of_core b) (medium_of_core b')
   pub config : b'.config ≡ b.config
   pub kept : b'.kept ≡ b.kept
   pub block : b'.block ≡ b.block
 
--- While no operation of the device is due, the trial ends: the sector of the gate of the image on trial may have any bytes then, since the
--- erase that was asked for works, is torn, lies or fails. Then dfu_core_power_on returns 0, or dfu_core_begin if it begins for a host.
+-- A trial ends, and dfu_core_power_on returns 0, or dfu_core_begin if the board begins for a host. The flash is as large as before.
 pub record CoreTrialEnds (b : CoreBoard) (begins : Bool) (b' : CoreBoard) : Type 0 where
-  pub idle : b.kept.work ≡ 0
-  pub tries : ℕ
-  pub trial : Trial
-  pub stands : IsStanding (medium_of_core b) tries (OnTrial trial)
-  pub torn : Carried (medium_of_core b) (Close trial.slot) (medium_of_core b')
+  pub size : length b'.flash ≡ length b.flash
   pub config : b'.config ≡ b.config
   pub powers : Powers b'.config (start_mode begins) b'.flash (pos 0) b'.kept
 

@@ -1,32 +1,22 @@
 -- What a trial changes on the flash of a board, and steps of a board with such changes between them.
-use Rattle.std.specs.Prelude.{◌≡◌, ℕ, Bool, List, [], ◌∷◌, None}
+use Rattle.std.specs.Prelude.{◌≡◌, Bool, List, [], ◌∷◌, length}
 use Rattle.dfu_boot.specs.trial.Unread.{IsUnread}
-use Rattle.dfu_boot.specs.trial.Calls.{IsStanding}
-use Rattle.dfu_boot.specs.trial.Laws.{Carried}
-use Rattle.dfu_boot.specs.declared.trial.operation.Operation.TheVariants.{Close}
-use Rattle.dfu_boot.specs.declared.trial.standing.Trial.{Trial}
-use Rattle.dfu_boot.specs.declared.trial.standing.Standing.TheVariants.{OnTrial}
 use Rattle.dfu_asks.specs.Lent.{IsSetUpAs}
 use Rattle.dfu_laws.specs.board.Board.{Board, medium_on, BoardStep}
 use Rattle.dfu_laws.specs.board.Happens.{BoardStarts, Happens, IsRun}
 
--- While no writes are due, bytes of the flash changed that the slot store does not read, as by a mark of a trial that is set, or torn, or
--- fails. All else of the board is as it was.
+-- Bytes of the flash changed that the slot store does not read, as by a mark of a trial that is set, or torn, or fails. All else of the board
+-- is as it was.
 pub record IsMarked (b b' : Board) : Type 0 where
-  pub work : b.asking.work ≡ None
   pub unread : IsUnread (medium_on b) (medium_on b')
   pub asking : b'.asking ≡ b.asking
   pub block : b'.block ≡ b.block
   pub held : b'.held ≡ b.held
 
--- While no writes are due, the trial of a board ends: the sector of the gate of the image on trial may have any bytes then, since its erase
--- works, is torn, lies or fails. Then the board restarts, in dfuIDLE if it begins for a host.
+-- A trial ends, and the board restarts, in dfuIDLE if it begins for a host. The flash is as large as before; which image is active on it is
+-- said where this is used. By dfu_boot only the sector of the gate on trial changes, and the confirmed image is back or the trial goes on.
 pub record TrialEnds (b : Board) (begins : Bool) (b' : Board) : Type 0 where
-  pub work : b.asking.work ≡ None
-  pub tries : ℕ
-  pub trial : Trial
-  pub stands : IsStanding (medium_on b) tries (OnTrial trial)
-  pub torn : Carried (medium_on b) (Close trial.slot) (medium_on b')
+  pub size : length b'.flash ≡ length b.flash
   pub starts : BoardStarts begins b'
   pub same : IsSetUpAs b.asking b'.asking
 

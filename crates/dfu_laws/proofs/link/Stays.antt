@@ -1,0 +1,32 @@
+-- A payload in place stays what runs, while it is on trial.
+use Rattle.std.specs.Prelude.{ℕ, List}
+use Rattle.dfu_slots.specs.Medium.{MediumState}
+use Rattle.dfu_slots.specs.Image.{Active}
+use Rattle.dfu_boot.specs.trial.Marks.{AreTries}
+use Rattle.dfu_boot.specs.trial.Trial.{image_at}
+use Rattle.dfu_boot.specs.trial.Calls.{IsStanding}
+use Rattle.dfu_boot.specs.trial.Lists.{TrialStep, CameAll, Trust, Tried, AreTrusted, AllTrusted}
+use Rattle.dfu_boot.specs.declared.trial.standing.Trial.{Trial}
+use Rattle.dfu_boot.specs.declared.trial.standing.Standing.TheVariants.{OnTrial}
+use Rattle.dfu_laws.specs.board.Board.{medium_on}
+use Rattle.dfu_laws.specs.link.Plays.{PlaysInstall}
+use Rattle.dfu_laws.specs.link.Stays.{PlaysStay}
+
+-- The clauses `tried` and `list` of the law `what_was_confirmed_runs_or_the_newest_on_trial`.
+abbrev pub TrialIsTrusted : Type 0
+TrialIsTrusted = (m : MediumState) (tries : ℕ) (t : Trial) (image : List ℕ) → IsStanding m tries (OnTrial t) → Active m image
+    → AreTrusted m tries (Tried (image_at m t.base) image t.starts)
+
+abbrev pub ListIsTrusted : Type 0
+ListIsTrusted = (m : MediumState) (tries : ℕ) (trust : Trust) (steps : List TrialStep) → AreTries m.grain tries
+    → AreTrusted m tries trust → CameAll tries m steps → AllTrusted tries trust m steps
+
+pub plays_stay : TrialIsTrusted → ListIsTrusted → PlaysInstall → PlaysStay
+plays_stay tried list_is installs b steps more past last l l' answer tries t list on sized plays comes says are stands came =
+    let x = installs b steps more past last l l' answer on sized plays comes says in
+    let m = medium_on l'.board in
+    record {
+      payload = x.payload;
+      offered = x.offered;
+      runs = list_is m tries (Tried (image_at m t.base) x.payload t.starts) list are (tried m tries t x.payload stands x.active) came;
+    }
