@@ -1,12 +1,17 @@
-//! Three callers to copy, each over a trait of its driver: a medium on a chip or on flash, a bootloader, and a flashing tool.
+//! Callers to copy: over a trait of a driver a medium on a chip or on flash, a bootloader and a flashing tool; over a medium an install
+//! and a restart; and a session over a link in memory.
 #![tactic(auto)]
 
 mod bootloader;
 mod flasher;
 mod fram;
+mod image;
 mod nor;
+mod simulated;
 
 pub use bootloader::{Happened, Start, Transfer, UsbDevice, boot, load, serve, tell};
 pub use flasher::{UsbHost, flash};
 pub use fram::{Chip, ChipFault, Fram};
+pub use image::{install, restarted};
 pub use nor::{Flash, Nor};
+pub use simulated::installs;

@@ -17,6 +17,7 @@ mod many_pieces;
 mod named;
 mod restart;
 mod rows;
+mod sizes;
 mod stations;
 mod uploads;
 

@@ -1,6 +1,7 @@
 //! The three callers together: the flashing tool's session reaches the bootloader's device, on a chip in memory.
 
 mod cable;
+mod images;
 mod part;
 mod ram;
 mod seat;

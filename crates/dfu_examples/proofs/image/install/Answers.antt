@@ -1,6 +1,6 @@
 use Rattle.std.proofs.Common.{◌≡◌, ◌⊎◌, inl, inr, ⊎_elim, ℕ, ◌+◌, List, ◌++◌, length, take, Result, Ok, Err, OnOk, OnErr, ◌∙◌, ap, arith}
 use Rattle.dfu_slots.specs.Seen.{SlotsState, image_of, spare_of}
-use Rattle.dfu_tests.proofs.slots.install.Goals as goal
+use Rattle.dfu_examples.proofs.image.install.Goals as goal
 
 -- What was put at the front is read back from it.
 put_front : (old mid image : List ℕ) → take (0 + length image) mid ≡ take 0 old ++ image → take (length image) mid ≡ image

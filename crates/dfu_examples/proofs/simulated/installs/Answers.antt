@@ -1,5 +1,5 @@
 use Rattle.std.proofs.Common.{refl, arith}
-use Rattle.dfu_tests.proofs.link.installs.Goals as goal
+use Rattle.dfu_examples.proofs.simulated.installs.Goals as goal
 
 pub returns-in-Ok : goal.returns-in-Ok
 returns-in-Ok g c = λ purpose file payload limits can is ok.

@@ -1,0 +1,32 @@
+//! An image that is installed in one piece, and a device whose power goes and comes back.
+
+ghost use Rattle.std.specs.Prelude.{◌≡◌, ◌⊎◌, ◌≤◌, length, OnOk, OnErr};
+ghost use Rattle.dfu_slots.specs.Seen.{image_of, store_on};
+ghost use Rattle.dfu_device.specs.Stage.{InAppIdle};
+
+use dfu_device::Device;
+use dfu_slots::{Medium, PutFault, Slots};
+
+/// Installs an image of at most 4,096 bytes. After an error the active image is the one before or the new one, whole.
+pub fn install<M: Medium>(slots: &mut Slots<M>, image: &[u8]) -> Result<(), PutFault>
+    requires { length image.now ≤ 4096 }
+    ensures installed { OnOk result (image_of slots.new ≡ image.now) }
+    ensures old_or_new { OnErr result (
+        (image_of slots.new ≡ image_of slots.old) ⊎ (image_of slots.new ≡ image.now)) }
+{
+    slots.begin()?;
+    slots.put(0, image)?;
+    slots.commit(image.len() as u32)
+}
+
+/// Lets the power go and come back. The device is never refused, because its medium has an active image; it forgets what was put
+/// behind that image.
+pub fn restarted<M: Medium>(device: Device<M>) -> Device<M>
+    ensures { result ≡ record { config = device.config; slots = store_on device.slots.medium; stage = InAppIdle } }
+{
+    let config = device.config();
+    match Device::power_on(config, device.into_medium()) {
+        Ok(device) => device,
+        Err(_) => unreachable!(),
+    }
+}

@@ -1,0 +1,30 @@
+//! A session over a link in memory, whose events are a list.
+
+ghost use Rattle.std.specs.Prelude.{◌≡◌, ℕ, List, IsTrue};
+ghost use Rattle.dfu_host.specs.declared.limits.Limits.{Limits};
+ghost use Rattle.dfu_sim.specs.declared.offering.Purpose.{Purpose};
+ghost use Rattle.dfu_link.specs.Bytes.{link_of};
+ghost use Rattle.dfu_link.specs.CleanRun.{resting};
+ghost use Rattle.dfu_link.specs.Running.{happenings};
+ghost use Rattle.dfu_link.specs.CleanInstall.{CanInstall, clean_passes, offer_and_passes};
+
+use dfu_sim::{Event, World, run};
+use dfu_slots::Faulty;
+use std::alloc::Global;
+
+/// Plays a list of events, and returns true if all of them came. If the list is an offer and the passes of a clean run, verified or
+/// not, then the payload is the active image of a device in appIDLE, and the host reported that.
+pub fn installs<'f, M: Faulty>(
+    world: &mut World<'f, M>,
+    alloc: Global,
+    events: &[Event<'f, '_>],
+) -> bool
+    ensures { (purpose : Purpose) (file payload : List ℕ) (limits : Limits) → CanInstall world.old.bench purpose file limits payload
+        → happenings events.now ≡ offer_and_passes purpose file limits (clean_passes purpose world.old.bench.device.config payload)
+        → IsTrue result → link_of world.new.bench ≡ resting payload }
+{
+    match run(world, alloc, events) {
+        Ok(_) => true,
+        Err(_) => false,
+    }
+}
