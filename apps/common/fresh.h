@@ -6,11 +6,11 @@
 #include <stdbool.h>
 #include <stdio.h>
 
-/* Makes a file and opens it, to be written a line at a time. What is there already is opened only if nothing of it is lost: a pipe, or
-   a terminal. NULL if that fails, for the reason in errno: EEXIST if something else is there, a link to nothing too. */
+/* Makes a file and opens it, to be written a line at a time. A file that is there already is opened only if nothing of it is lost: a pipe,
+   or a terminal. NULL if that fails, for the reason in errno: EEXIST if something else is there, a link to nothing too. */
 FILE *fresh_open(const char *name);
 
-/* Closes it. Whether all of it was written; else errno says why not. */
+/* Closes it. Returns whether all of it was written; else errno says why not. */
 bool fresh_close(FILE *file);
 
 #endif

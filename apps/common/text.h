@@ -8,16 +8,16 @@
 #include <stdint.h>
 #include <stdio.h>
 
-/* How many bytes the character at the front of `text` has, and which it is; 0 if they aren't UTF-8. */
+/* Returns how many bytes the character at the front of `text` has, and which it is; 0 if they aren't UTF-8. */
 size_t text_character(const char *text, uint32_t *character);
 
-/* Whether a terminal may take it for a command, or draw other text by it in another place. */
+/* Returns whether a terminal may take it for a command, or draw other text by it in another place. */
 bool text_is_control(uint32_t character);
 
 /* Prints it as it is, but for bytes of control characters and of what isn't UTF-8, which are written as \xNN. */
 void text_print(FILE *out, const char *text);
 
-/* Whether a person can type it: no byte of it would have to be escaped. */
+/* Returns whether a person can type it: no byte of it would have to be escaped. */
 bool text_is_typed(const char *text);
 
 /* Writes it as one word of a shell's line. False if it can't be typed, or there is no room. */

@@ -1,5 +1,5 @@
 /* SPDX-License-Identifier: MIT OR Apache-2.0 */
-/* What is known better than the tables of next.c, and the line to type, which has the words of the command line. */
+/* Advice that knows more than the tables of next.c, and the line to type, which has the words of the command line. */
 #include "advice.h"
 #include "../common/text.h"
 

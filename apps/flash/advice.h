@@ -30,17 +30,17 @@ const char *advice_or(const char *step);
 /* A raw image that nobody has named a device for: if one device is there, the words that take it. */
 void advise_raw(libusb_context *usb, const struct words *words);
 
-/* What is known of a session that is refused, and of one that has ended. */
+/* Facts of a session that is refused, and of one that has ended. */
 void advise_refused(const struct session *session, int32_t refusal);
 void advise_ended(const struct session *session, const char *name);
 
-/* Why a device can't be opened. */
+/* Reason why a device can't be opened. */
 void advise_access(int access);
 
 /* A word that is none of the options: which one it may be. Nothing, if it is like none. */
 void advise_word(const char *word);
 
-/* The same of a word that is the name of an option, but for the hyphens before it. */
+/* Likewise of a word that is the name of an option, but for the hyphens before it. */
 void advise_name(const char *word);
 
 #endif

@@ -1,5 +1,5 @@
 /* SPDX-License-Identifier: MIT OR Apache-2.0 */
-/* What is seen of boards, files and memories makes the next step a line to type, or says where something is wrong. */
+/* Turns facts of boards, files and memories into the next step as a line to type, or says where something is wrong. */
 #include "advice.h"
 #include "facts.h"
 #include "one.h"
@@ -13,7 +13,8 @@
 /* The blocks of which every device has room: the smallest packet of a control endpoint (USB 2.0, section 5.5.3). */
 #define SMALLEST_BLOCK 8
 
-/* Where an image begins as a rule: at the first address that a device's map has for images; and, of an upload, all of that range. */
+/* Address at which an image begins as a rule: at the first address that a device's map has for images; and, of an upload, all of that
+   range. */
 static bool name_memory(const struct found *found, bool is_upload, char *words, size_t room)
 {
     struct dfuse_range range;
@@ -92,7 +93,7 @@ void advise_refused(const struct session *session, int32_t refusal)
         say_outside(session);
 }
 
-/* Where the first byte is that isn't the image's. */
+/* Place of the first byte that isn't the image's. */
 static void say_odd(const struct session *session)
 {
     const struct odd *odd = &session->odd_byte;
@@ -109,7 +110,7 @@ static void say_odd(const struct session *session)
     advice_first(seen);
 }
 
-/* Whether larger blocks were asked for than the device says that it takes. */
+/* Returns whether larger blocks were asked for than the device says that it takes. */
 static bool is_too_large(const struct session *session)
 {
     const struct found *is = &session->wire.device->is;

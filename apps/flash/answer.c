@@ -1,5 +1,5 @@
 /* SPDX-License-Identifier: MIT OR Apache-2.0 */
-/* How each answer of libusb is reported to the host. The proof of what Installed and Verified mean rests on this file: a transfer
+/* Reports each answer of libusb to the host. The proof of what Installed and Verified mean rests on this file: a transfer
    that is reported as acknowledged or answered was really made, and if the device lost its state, a restart is reported before
    anything that it answers later.
 
@@ -110,7 +110,7 @@ static struct answer answer_of(struct wire *wire, bool is_in, uint16_t length, i
     return answer;
 }
 
-/* How a download ends: its last request, and what the device reports after it. */
+/* End of a download: its last request, and what the device reports after it. */
 static void note_end(struct wire *wire, const struct dfu_action *action, const struct answer *answer)
 {
     bool is_status = is_request(action->setup, KIND_IN, REQUEST_GETSTATUS);
@@ -185,7 +185,7 @@ static struct answer pulled(struct wire *wire)
     return reported(wire, DFU_SEEN_RESET);
 }
 
-/* Whether the device may be another one after a reset than before it. */
+/* Returns whether the device may be another one after a reset than before it. */
 static bool is_changed(const struct wire *wire, int error)
 {
     return error == LIBUSB_ERROR_NOT_FOUND || error == LIBUSB_ERROR_NO_DEVICE

@@ -1,5 +1,5 @@
 /* SPDX-License-Identifier: MIT OR Apache-2.0 */
-/* What is reported to the host of an action: libusb's answers, in the host's words. */
+/* Reports to the host of an action: libusb's answers, in the host's words. */
 #ifndef DFU_FLASH_ANSWER_H
 #define DFU_FLASH_ANSWER_H
 
@@ -19,7 +19,7 @@ struct answer {
     int error;    /* what libusb said to a transfer or a reset that failed, else 0; the host doesn't get it */
 };
 
-/* What comes between two actions. */
+/* Events between two actions. */
 struct wire {
     struct device *device;
     bool is_leaving;      /* a DETACH was acknowledged, and nothing was sent since: the device is to leave */

@@ -1,5 +1,5 @@
 /* SPDX-License-Identifier: MIT OR Apache-2.0 */
-/* How a session begins: with the device's functional descriptor, and with limits. */
+/* Begins a session: with the device's functional descriptor, and with limits. */
 #include "facts.h"
 #include "properties.h"
 #include "session.h"
@@ -68,7 +68,7 @@ static int32_t begin(struct session *session, const uint8_t descriptor[9], size_
                              session->restarts);
 }
 
-/* Whether a functional descriptor is missing, or is none that a session can go by. */
+/* Returns whether a functional descriptor is missing, or is none that a session can go by. */
 static bool is_odd(int32_t refusal)
 {
     return refusal == DFU_SHORT || refusal == DFU_LONG || refusal == DFU_WRONG_LENGTH || refusal == DFU_WRONG_TYPE

@@ -1,5 +1,5 @@
 /* SPDX-License-Identifier: MIT OR Apache-2.0 */
-/* What the standard's status codes mean (section 6.1.2). share/man/dfu-flash.1 has the same list; tests/apps/flash compares them. */
+/* Meanings of the standard's status codes (section 6.1.2). share/man/dfu-flash.1 has the same list; tests/apps/flash compares them. */
 #include "standard.h"
 
 /* As the standard has it, and of the commonest also what is the matter as a rule. */

@@ -31,7 +31,7 @@ static struct {
     int status; /* STATUS_DONE, as long as all goes as it has to */
 } demo;
 
-/* What a step is, before it; nothing once one went wrong. */
+/* Announces a step; nothing once one went wrong. */
 static void tell(const char *what)
 {
     if (!demo.words.quiet && demo.status == STATUS_DONE)
@@ -85,7 +85,7 @@ static int32_t read_file(const struct words *words)
     return refusal == 0 && demo.file.payload == 0 ? DFU_EMPTY_PAYLOAD : refusal;
 }
 
-/* One run, as of a command line of its own. Whether it ends with that status, and the board would start this image then. */
+/* One run, as of a command line of its own. Returns whether it ends with that status, and the board would start this image then. */
 static void step(enum job job, struct image *image, int wanted, const struct image *stands)
 {
     bool has_bar = !demo.words.quiet && terminal_is(stderr);
@@ -106,7 +106,7 @@ static void step(enum job job, struct image *image, int wanted, const struct ima
         demo.status = STATUS_BROKEN;
 }
 
-/* What was planned, and what came of it before it went wrong, if it did. */
+/* Table of what was planned, and what came of it before it went wrong, if it did. */
 static void show(void)
 {
     unsigned middle = (unsigned)(demo.file.payload / demo_block()) / 2;

@@ -7,7 +7,7 @@
 #include <stddef.h>
 #include <stdint.h>
 
-/* What happens to it at a block. */
+/* Faults at a block. */
 enum demo_fate {
     DEMO_NOTHING,
     DEMO_ANSWER, /* the board takes the block, and its answer is lost */
@@ -17,20 +17,20 @@ enum demo_fate {
 /* Makes it, with a first image, for images of so many bytes; its application runs. False if there is no memory for it. */
 bool demo_make(uint16_t vendor, uint16_t product, size_t most);
 
-/* What is to happen at the block of that number, once. */
+/* Fault that is planned for the block of that number, once. */
 void demo_plan(enum demo_fate fate, unsigned block);
 
 /* The plug is put in again: the board gets power. */
 void demo_plug(void);
 
-/* Whether it has power, and whether its application runs, so that it is in run-time mode. */
+/* Returns whether it has power, and whether its application runs, so that it is in run-time mode. */
 bool demo_has_power(void);
 bool demo_is_app(void);
 
-/* How often it was enumerated: who opened it before doesn't reach it any more. */
+/* Number of its enumerations: who opened it before doesn't reach it any more. */
 unsigned demo_generation(void);
 
-/* How many bytes a block has. */
+/* Size of a block in bytes. */
 size_t demo_block(void);
 
 /* Its identifiers, and its functional descriptor. */
@@ -41,7 +41,7 @@ void demo_functional(uint8_t bytes[9]);
 /* One request of the class: as many bytes as were sent or answered, or an error of libusb. */
 int demo_request(const uint8_t setup[8], uint8_t *data);
 
-/* A reset of the bus. Whether its descriptors are the same after it. */
+/* A reset of the bus. Returns whether its descriptors are the same after it. */
 bool demo_reset(void);
 
 /* The image that it would start. */

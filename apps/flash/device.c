@@ -1,8 +1,8 @@
 /* SPDX-License-Identifier: MIT OR Apache-2.0 */
 /* Opens the device, and finds it again after it left: a device that goes from run-time mode to DFU mode, or back, leaves the
    bus and comes as another one, with other descriptors and often with other identifiers. So it is known by its path; and by
-   its serial number only if that was asked for, since two devices may have the same one. That it is no other board at the
-   same place session.c sees, by what it was before in the same mode. */
+   its serial number only if that was asked for, since two devices may have the same one. session.c detects another board at the same place,
+   because it compares a device with what it was before in the same mode. */
 #include "device.h"
 #include "clock.h"
 #include "say.h"
@@ -60,7 +60,7 @@ void device_drop(struct device *device)
     device->is.device = NULL;
 }
 
-/* How many of what is wanted can be opened; one of them is kept. */
+/* Counts those of the wanted devices that can be opened; one of them is kept. */
 static int keep_one(struct device *device, const struct wanted *wanted)
 {
     struct found list[FOUND_ROOM];
@@ -77,7 +77,7 @@ static int keep_one(struct device *device, const struct wanted *wanted)
     return open;
 }
 
-/* How many of what is on the bus it may be, at its path, or if nothing is there, elsewhere: one that can't be read for a moment has not
+/* Counts the devices on the bus that it may be, at its path, or if nothing is there, elsewhere: one that can't be read for a moment has not
    left, and another board may have its serial number. */
 static int look_for(struct device *device)
 {
@@ -102,7 +102,7 @@ static void say_why(struct device *device, int error)
     found_drop(&one, count);
 }
 
-/* Whether to go on waiting for it. Once that has taken 10 seconds, this says so. */
+/* Returns whether to go on waiting for it. Once that has taken 10 seconds, this says so. */
 static bool is_awaited(const struct device *device, int64_t began_ms, bool *is_said)
 {
     int64_t most_ms = (int64_t)device->patience.seconds * 1000;
@@ -141,7 +141,7 @@ bool device_reopen(struct device *device)
     return false;
 }
 
-/* Whether one with the serial number that was asked for is there. */
+/* Returns whether one with the serial number that was asked for is there. */
 static bool is_elsewhere(const struct device *device)
 {
     const struct wanted named = {.path = device->bus, .serial = device->serial, .dfu_serial = device->dfu_serial, .place = ANYWHERE};

@@ -9,7 +9,7 @@
 #include <signal.h>
 #include <stdbool.h>
 
-/* What --wait and --quiet say of a wait for a device. */
+/* Settings --wait and --quiet of a wait for a device. */
 struct patience {
     uint32_t away_ms; /* how long one that left is waited for at least; 0: 10 seconds */
     bool is_asked;    /* a device that isn't there yet is waited for, */

@@ -21,7 +21,7 @@ static const struct {
     {"detach-delay", 'E', true},
 };
 
-/* What is passed over, with what is so here. */
+/* Options that are passed over, with what is so here. */
 static struct {
     int option;
     const char *note;

@@ -11,11 +11,11 @@
 #define DFU_UTIL_OPTIONS "D:U:ld:p:S:i:a:t:weRZ:n:c:E:vs:"
 
 /* A long option that dfu-util has and this program hasn't, as the short one that it is there: `--intf=0` as `-i0`. Any other word is handed
-   back as it is. What is handed back isn't to be freed. */
+   back as it is. The caller must not free the result. */
 char *dfu_util_short(char *word);
 
-/* Whether the option, with its value, means here what it means in dfu-util, or is one that isn't needed here. If not, what does that here
-   is said. An option that dfu-util doesn't have is none of its. */
+/* Returns whether the option, with its value, means here what it means in dfu-util, or is one that isn't needed here. If not, what does
+   that here is said. An option that dfu-util doesn't have is none of its. */
 bool dfu_util_is_same(int option, const char *value);
 
 /* Says which options were given that aren't needed here. */
@@ -24,7 +24,7 @@ void dfu_util_notes(void);
 /* The values of -d, -S and -s, read as dfu-util reads them. False if they aren't understood, or aren't taken, which is then said. */
 bool dfu_util_device(const char *text, struct words *words);
 
-/* The same, which says nothing where it is none of them. */
+/* Likewise, but it prints nothing where it is none of them. */
 bool dfu_util_ids(const char *text, struct words *words);
 
 bool dfu_util_serial(char *text, struct words *words);

@@ -11,8 +11,8 @@
 
 #define MOST_DIGITS 4
 
-/* One identifier at the front of `text`: up to four hexadecimal digits, with or without 0x, or * for any. What isn't there stays as it is.
-   Where it ends; NULL if it has more digits. */
+/* One identifier at the front of `text`: up to four hexadecimal digits, with or without 0x, or * for any. A number that isn't there stays
+   as it is. Returns its end; NULL if it has more digits. */
 static const char *take_id(const char *text, uint16_t *id)
 {
     char digits[MOST_DIGITS + 1] = {0};
@@ -33,7 +33,7 @@ static const char *take_id(const char *text, uint16_t *id)
     return text + count;
 }
 
-/* VENDOR:PRODUCT, of which either may be left out. Where it ends; NULL if it is none. */
+/* VENDOR:PRODUCT, of which either may be left out. Returns its end; NULL if it is none. */
 static const char *take_ids(const char *text, uint16_t *vendor, uint16_t *product)
 {
     const char *end = take_id(text, vendor);
@@ -88,7 +88,7 @@ bool dfu_util_serial(char *text, struct words *words)
            || words_refuse("-S takes a serial number, as --list shows it, or one for each mode with a comma between them", "");
 }
 
-/* What dfu-util does at an address, and what is so here. */
+/* Modifiers of dfu-util at an address, and what is so here. */
 static const struct {
     const char *word, *answer;
 } modifiers[] = {
@@ -104,7 +104,7 @@ static bool is_modifier(const char *text, const char *word)
     return strncmp(text, word, length) == 0 && (text[length] == '\0' || text[length] == ':');
 }
 
-/* Whether none of those is among the words behind colons. */
+/* Returns whether none of those is among the words behind colons. */
 static bool is_harmless(const char *text)
 {
     for (const char *at = strchr(text, ':'); at != NULL; at = strchr(at + 1, ':'))

@@ -45,13 +45,13 @@ int32_t dfuse_begin_session(struct session *session);
 /* Takes the elements of FILE, a DfuSe file, for the device's setting: 0, or a refusal of dfuse_file.h or dfu_host.h. */
 int32_t dfuse_take_file(struct session *session);
 
-/* How many bytes of the image have an address below this one. */
+/* Counts the bytes of the image that have an address below this one. */
 uint64_t dfuse_below(const struct dfuse *dfuse, uint64_t address);
 
 /* Prints the elements of a DfuSe file, a line each: their addresses and how many bytes they have. */
 void dfuse_print_elements(const struct dfuse *dfuse);
 
-/* The same as a member of a record in JSON, with their places in the file. */
+/* Likewise as a member of a record in JSON, with their places in the file. */
 void dfuse_elements_json(const struct session *session);
 
 /* Carries out what the host asks for, up to its report or to another end. */
@@ -60,44 +60,44 @@ void dfuse_run(struct session *session);
 /* Reads the memory from the address on, up to an end. */
 void dfuse_read(struct session *session);
 
-/* Sends a request with a body, once the device is back if it was away. Whether it went out is known after it. */
+/* Sends a request with a body, once the device is back if it was away. Returns whether it went out is known after it. */
 struct answer dfuse_send(struct session *session, const struct dfuse_action *action, const uint8_t *body, bool *is_reached);
 
-/* How the session goes on after an action, by dfuse_watch.h. */
+/* Decides how the session goes on after an action, by dfuse_watch.h. */
 uint32_t dfuse_course(struct session *session, const struct dfuse_action *action, const uint8_t *body, const struct answer *answer,
                       bool is_reached);
 
-/* How it ends if it doesn't go on; false. */
+/* Ends the session if it doesn't go on; false. */
 bool dfuse_end(struct session *session, uint32_t course);
 
 /* Waits as the device asks for: if it says 0 again and again, a little longer. */
 struct answer dfuse_wait(struct session *session, uint32_t ms);
 
-/* Whether the device that is open is the one that the session was begun with. */
+/* Returns whether the device that is open is the one that the session was begun with. */
 bool dfuse_is_same(const struct session *session);
 
-/* What it came to, if there is a report. False if the report, or how the device left, has a number that is none. */
+/* Prints its report, if there is one. False if the report, or how the device left, has a number that is none. */
 bool dfuse_verdict(const struct session *session, struct verdict *verdict);
 
 /* Prints the ranges of a setting's memory map, a line each, or why there is none. */
 void dfuse_print_map(const struct found *found);
 
-/* The same as members of a record in JSON. */
+/* Likewise as members of a record in JSON. */
 void dfuse_print_json(const struct found *found);
 
-/* Whether each address of a part of the memory can be read: 0, DFUSE_OUTSIDE, DFUSE_NOT_READABLE, or why the string is no map. */
+/* Returns whether each address of a part of the memory can be read: 0, DFUSE_OUTSIDE, DFUSE_NOT_READABLE, or why the string is no map. */
 int32_t dfuse_may_read(const uint8_t *map, size_t map_length, uint64_t start, uint64_t end);
 
 /* The first range of a map that takes images, or that can be read. False if there is none. */
 bool dfuse_first(const uint8_t *map, size_t map_length, bool is_upload, struct dfuse_range *range);
 
-/* Whether an address of a part of the memory is on no range: then which is the first, and where the memory below it ends, or 0. */
+/* Returns whether an address of a part of the memory is on no range: then which is the first, and where the memory below it ends, or 0. */
 bool dfuse_missing(const uint8_t *map, size_t map_length, uint64_t start, uint64_t end, uint64_t *missing, uint64_t *past);
 
-/* Where the range ends that has this address. False if there is none. */
+/* Finds the end of the range that has this address. False if there is none. */
 bool dfuse_end_of(const uint8_t *map, size_t map_length, uint64_t address, uint64_t *end);
 
-/* How many pages have an address of a part of the memory. */
+/* Counts the pages that have an address of a part of the memory. */
 uint64_t dfuse_pages(const uint8_t *map, size_t map_length, uint64_t start, uint64_t end);
 
 #endif

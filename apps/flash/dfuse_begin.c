@@ -1,5 +1,5 @@
 /* SPDX-License-Identifier: MIT OR Apache-2.0 */
-/* How a session with a device of DfuSe begins: what is refused before anything is sent, and the limits. */
+/* Begins a session with a device of DfuSe: what is refused before anything is sent, and the limits. */
 #include "session.h"
 #include "standard.h"
 
@@ -10,7 +10,7 @@
 #define PAGE_POLLS 1000  /* GETSTATUS while a page is erased, if the device reports no times */
 #define BLOCK_ACTIONS 60 /* of a block, with one that is asked for its status again and again */
 
-/* What the host for DFU 1.1 says of the file and the device: its suffix, an empty image, and whether it is for another device. Of a DfuSe
+/* Refusals of the host for DFU 1.1 of the file and the device: its suffix, an empty image, and whether it is for another device. Of a DfuSe
    file the suffix was read, and its elements are taken. */
 static int32_t file_refusal(struct session *session)
 {
@@ -35,7 +35,7 @@ static void take_limits(struct session *session, uint64_t pages, uint64_t length
     session->actions = actions > UINT32_MAX ? UINT32_MAX : (uint32_t)actions;
 }
 
-/* How many pages these bytes touch. */
+/* Counts the pages that these bytes touch. */
 static uint64_t pages_of(const struct dfuse *dfuse, uint64_t address, uint64_t length)
 {
     return dfuse_pages(dfuse->map, dfuse->map_length, address, address + length);

@@ -109,7 +109,7 @@ bool dfuse_first(const uint8_t *map, size_t map_length, bool is_upload, struct d
     return false;
 }
 
-/* How far the memory goes that ends below this address, or 0. */
+/* End of the memory that ends below this address, or 0. */
 static uint64_t end_below(const uint8_t *map, size_t map_length, uint64_t address)
 {
     struct dfuse_range range;

@@ -1,5 +1,5 @@
 /* SPDX-License-Identifier: MIT OR Apache-2.0 */
-/* What a session with DfuSe came to, if it has a report. */
+/* Verdict on a session with DfuSe, if it has a report. */
 #include "session.h"
 #include "status.h"
 
@@ -25,7 +25,7 @@ static const struct {
 };
 /* clang-format on */
 
-/* How the device left, after what Verified means. */
+/* Words for how the device left, after what Verified means. */
 static const char *const leavings[] = {
     [DFUSE_STAYED] = "; the device stays in DFU mode",
     [DFUSE_LEFT] = "; the device starts its application",

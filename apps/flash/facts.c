@@ -1,17 +1,17 @@
 /* SPDX-License-Identifier: MIT OR Apache-2.0 */
-/* What is seen of the device after an action, for dfu_watch.h. */
+/* Facts of the device after an action, for dfu_watch.h. */
 #include "facts.h"
 
 #include <string.h>
 
-/* Whether the device has the functional descriptor that the session was begun with. */
+/* Returns whether the device has the functional descriptor that the session was begun with. */
 static bool is_as_begun(const struct session *session)
 {
     const struct found *is = &session->wire.device->is;
     return is->descriptor_size == session->known_size && memcmp(is->descriptor, session->known, sizeof is->descriptor) == 0;
 }
 
-/* Whether the device is what it was when it was found first in its mode. */
+/* Returns whether the device is what it was when it was found first in its mode. */
 static bool is_first_again(const struct session *session)
 {
     const struct found *is = &session->wire.device->is;

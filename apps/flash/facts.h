@@ -1,5 +1,5 @@
 /* SPDX-License-Identifier: MIT OR Apache-2.0 */
-/* What is seen of the device after an action, for dfu_watch.h. */
+/* Facts of the device after an action, for dfu_watch.h. */
 #ifndef DFU_FLASH_FACTS_H
 #define DFU_FLASH_FACTS_H
 
@@ -9,11 +9,11 @@
    of another image: it isn't noted. */
 void facts_note(struct session *session);
 
-/* What is seen now: whether a request went out to the device, and whether it is gone, is known to the caller. */
+/* Facts that are seen now: whether a request went out to the device, and whether it is gone, is known to the caller. */
 struct dfu_facts facts_of(const struct session *session, bool is_reached, bool is_gone);
 
-/* Whether it is in DFU mode with no functional descriptor, so that nothing says how large its blocks are. One with a memory map is none of
-   these: it may be a DfuSe device. */
+/* Returns whether it is in DFU mode with no functional descriptor, so that nothing says how large its blocks are. One with a memory map is
+   none of these: it may be a DfuSe device. */
 bool facts_lacks_descriptor(const struct found *is);
 
 #endif

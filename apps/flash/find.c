@@ -22,7 +22,7 @@ bool has_ports(const char *path)
     return strchr(path, '-') != NULL;
 }
 
-/* How many devices are at a path; -1 if the bus can't be listed. */
+/* Counts the devices at a path; -1 if the bus can't be listed. */
 static int count_at(libusb_context *usb, const char *path)
 {
     libusb_device **devices;
@@ -67,7 +67,7 @@ bool is_dfuse(const struct found *found)
     return found->descriptor_size == FUNCTIONAL_BYTES && two_bytes(found->descriptor + AT_VERSION) == VERSION_DFUSE;
 }
 
-/* Whether it is the name of the memory map that a setting has: what is between @ and the first /, without spaces at its end. */
+/* Returns whether it is the name of the memory map that a setting has: what is between @ and the first /, without spaces at its end. */
 static bool is_map_name(const char *name, const char *setting)
 {
     size_t length = strlen(name), end;
@@ -125,7 +125,7 @@ bool is_again(const struct found *first, const struct found *now)
            && is_same_name(first->name, now->name);
 }
 
-/* What is going on in one look at the bus. */
+/* State of one look at the bus. */
 struct look {
     const struct wanted *wanted;
     struct found *list;

@@ -36,7 +36,7 @@ struct place {
 
 #define ANYWHERE ((struct place){-1, -1, NULL})
 
-/* What a device has to be. */
+/* Criteria for a device. */
 struct wanted {
     bool has_ids;
     bool is_of_file;           /* they are those of the file's suffix, and not of --device */
@@ -49,31 +49,31 @@ struct wanted {
     uint16_t dfu_vendor, dfu_product;
 };
 
-/* Whether its functional descriptor is that of DfuSe (bcdDFUVersion 011Ah). */
+/* Returns whether its functional descriptor is that of DfuSe (bcdDFUVersion 011Ah). */
 bool is_dfuse(const struct found *found);
 
-/* Whether a setting is what is asked for: in run-time mode each does. A setting whose name is a memory map may be asked for by the
+/* Returns whether a setting is what is asked for: in run-time mode each does. A setting whose name is a memory map may be asked for by the
    map's name, as `Internal Flash`. */
 bool is_placed(const struct place *place, const struct found *found);
 
-/* Whether it may be what is wanted, by what is known before it is opened: its identifiers and its path. */
+/* Returns whether it may be what is wanted, by what is known before it is opened: its identifiers and its path. */
 bool may_be(const struct wanted *wanted, const struct found *found);
 
-/* Whether a configuration has an interface with DFU. */
+/* Returns whether a configuration has an interface with DFU. */
 bool has_dfu(const struct libusb_config_descriptor *configuration);
 
-/* Whether what was found is wanted. */
+/* Returns whether what was found is wanted. */
 bool is_wanted(const struct wanted *wanted, const struct found *found);
 
-/* How many bytes of a setting's name are a version, as 1.1.0 is one by itself and in `1.1.0, on trial, 2 starts left`; 0 if it begins
-   with none. */
+/* Counts the bytes of a setting's name that are a version, as 1.1.0 is one by itself and in `1.1.0, on trial, 2 starts left`; 0 if it
+   begins with none. */
 size_t version_of(const char *name);
 
-/* Whether two looks at a device in one mode saw the same: its identifiers, interface and setting, and, if both looks could read
+/* Returns whether two looks at a device in one mode saw the same: its identifiers, interface and setting, and, if both looks could read
    them, its serial number and the setting's name, but for one that is a version. */
 bool is_again(const struct found *first, const struct found *now);
 
-/* Writes those that are on the bus and are wanted to `list`, up to `room`. How many they are, or an error of libusb. */
+/* Writes those that are on the bus and are wanted to `list`, up to `room`. Returns their number, or an error of libusb. */
 int find_all(libusb_context *usb, const struct wanted *wanted, struct found *list, int room);
 
 /* Gives the references of `count` entries back. */
@@ -85,10 +85,10 @@ void path_of(libusb_device *device, char path[PATH_ROOM]);
 /* If the system has no ports, a path is the number of a bus, and names no device. */
 bool has_ports(const char *path);
 
-/* Whether any device is at the path, with DFU or without. */
+/* Returns whether any device is at the path, with DFU or without. */
 bool is_at(libusb_context *usb, const char *path);
 
-/* Whether the bus can be listed, and no device is at that path. */
+/* Returns whether the bus can be listed, and no device is at that path. */
 bool is_free(libusb_context *usb, const char *path);
 
 /* The functional descriptor of the setting number `at` of an interface: from its extra bytes, from those of the other settings,

@@ -13,17 +13,17 @@ void json_text(const char *name, const char *text);
 void json_number(const char *name, uint64_t number);
 void json_truth(const char *name, bool is);
 
-/* The same as so many hexadecimal digits, in quotes. */
+/* Likewise as so many hexadecimal digits, in quotes. */
 void json_hex(const char *name, uint32_t number, int digits);
 
 /* The fields of a setting: interface, alternate setting and name. */
 void json_setting(const struct found *found);
 
-/* What a session is for, and the device that it is with. */
+/* Purpose of a session, and the device that it is with. */
 struct session;
 void json_session(const struct session *session);
 
-/* Where the device gave back another byte than the image's: by its number, or by its address. */
+/* Place where the device gave back another byte than the image's: by its number, or by its address. */
 struct odd;
 void json_odd(const struct odd *odd, bool is_address);
 

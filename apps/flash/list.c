@@ -1,5 +1,5 @@
 /* SPDX-License-Identifier: MIT OR Apache-2.0 */
-/* What is printed of --list and of --dry-run. */
+/* Prints the lines of --list and of --dry-run. */
 #include "list.h"
 #include "json.h"
 #include "next.h"
@@ -79,7 +79,7 @@ int list_devices(libusb_context *usb, const struct wanted *wanted, bool is_json)
     return record_out() ? STATUS_DONE : STATUS_FILE;
 }
 
-/* The same as of a session that was made, as far as it is known before. */
+/* Likewise as of a session that was made, as far as it is known before. */
 static void print_plan_record(const struct session *session)
 {
     record_begin(session, STATUS_DONE, "dry-run",

@@ -1,5 +1,5 @@
 /* SPDX-License-Identifier: MIT OR Apache-2.0 */
-/* What is there, and what would be done. */
+/* Lists the devices that are there, and what a session would do. */
 #ifndef DFU_FLASH_LIST_H
 #define DFU_FLASH_LIST_H
 

@@ -1,6 +1,6 @@
 /* SPDX-License-Identifier: MIT OR Apache-2.0 */
-/* Why no device is the wanted one: one by one, what was asked for is compared with the devices that are left, and the first thing that
-   none of them has is named. */
+/* Explains why no device is the wanted one: one by one, what was asked for is compared with the devices that are left, and the first thing
+   that none of them has is named. */
 #include "advice.h"
 #include "say.h"
 #include "standard.h"
@@ -8,10 +8,10 @@
 
 #include <stdio.h>
 
-/* What is asked for, one after the other. */
+/* Criteria, one after the other. */
 enum criterion { IDENTIFIERS, PATH, SERIAL, INTERFACE, SETTING, CRITERIA };
 
-/* What is wanted up to this criterion, and nothing of those after it. */
+/* Criteria up to this criterion, and nothing of those after it. */
 static struct wanted up_to(const struct wanted *wanted, enum criterion last)
 {
     struct wanted part = *wanted;
@@ -26,7 +26,7 @@ static struct wanted up_to(const struct wanted *wanted, enum criterion last)
     return part;
 }
 
-/* Puts those that fit to the front of the list. How many they are. */
+/* Puts those that fit to the front of the list. Returns their number. */
 static int take_fitting(const struct wanted *wanted, struct found *list, int count)
 {
     int fitting = 0;

@@ -149,7 +149,7 @@ static void print_serials(void)
             worker_print_serial(mode, session.first[mode].serial);
 }
 
-/* What a session leaves is gone but for its log. */
+/* The files that a session leaves are gone but for its log. */
 static void forget(void)
 {
     struct log log = session.wire.trace.log;

@@ -1,5 +1,5 @@
 /* SPDX-License-Identifier: MIT OR Apache-2.0 */
-/* What a system has beside clocks, stops, terminals and files, which have headers of their own. The folders posix (with linux or unix
+/* Calls of a system beside clocks, stops, terminals and files, which have headers of their own. The folders posix (with linux or unix
    beside it) and windows have all of these for their systems: no other file asks which system it is on. */
 #ifndef DFU_FLASH_PLATFORM_H
 #define DFU_FLASH_PLATFORM_H
@@ -11,7 +11,7 @@
 /* Before all else: the words of the command line in UTF-8. False if there is no memory for them. */
 bool platform_words(int *count, char ***texts);
 
-/* Why a device may be listed, and be gone once it is opened. */
+/* Reason why a device may be listed, and be gone once it is opened. */
 const char *platform_gone(void);
 
 /* On standard error: what helps if a device can't be opened, by `access`. */

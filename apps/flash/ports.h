@@ -1,5 +1,5 @@
 /* SPDX-License-Identifier: MIT OR Apache-2.0 */
-/* What is on the bus, looked at without opening anything: a device that is at work is not disturbed, and one that hangs holds up
+/* Devices on the bus, looked at without opening anything: a device that is at work is not disturbed, and one that hangs holds up
    nobody. */
 #ifndef DFU_FLASH_PORTS_H
 #define DFU_FLASH_PORTS_H
@@ -13,7 +13,7 @@ struct port {
     bool is_wanted; /* it has DFU, and the identifiers that are asked for */
 };
 
-/* Writes a port for each device that is there. How many they are, or an error of libusb. */
+/* Writes a port for each device that is there. Returns their number, or an error of libusb. */
 int ports_look(const struct wanted *wanted, struct port *ports);
 
 #endif

@@ -1,5 +1,5 @@
 /* SPDX-License-Identifier: MIT OR Apache-2.0 */
-/* What is printed at the end, on standard output. */
+/* Prints the record at the end, on standard output. */
 #ifndef DFU_FLASH_RECORD_H
 #define DFU_FLASH_RECORD_H
 
@@ -27,17 +27,17 @@ void record_begin(const struct session *session, int status, const char *report,
 /* The report's name and what it means, in one line; or, with `is_json`, one record. False if standard output failed. */
 bool record_print(const struct session *session, const struct verdict *verdict, bool is_json);
 
-/* The same if there is no more to say than these. */
+/* Likewise if there is no more to say than these. */
 bool record_short(int status, const char *report, const char *words, bool is_json);
 
-/* The same of a session that the host refused. */
+/* Likewise of a session that the host refused. */
 bool record_refused(int32_t refusal, bool is_json);
 
-/* With `is_json`, the same if there was no session: a file failed, there is no device, or no access to it. Why is on standard error. The
-   status with which the program ends: that one; STATUS_FILE if standard output failed; or, if it is none of these, that of `broken`. */
+/* With `is_json`, the same if there was no session: a file failed, there is no device, or no access to it. The reason is on standard error.
+   The status with which the program ends: that one; STATUS_FILE if standard output failed; or, if it is none of these, that of `broken`. */
 int record_none(int status, bool is_json);
 
-/* Whether all that was printed came to standard output. If it didn't, that is said on standard error. */
+/* Returns whether all that was printed came to standard output. If it didn't, that is said on standard error. */
 bool record_out(void);
 
 #endif

@@ -1,5 +1,5 @@
 /* SPDX-License-Identifier: MIT OR Apache-2.0 */
-/* Why a session does not begin: the host's refusals of dfu_host.h, with their names in docs/REFUSALS.md, and those of
+/* Reasons why a session does not begin: the host's refusals of dfu_host.h, with their names in docs/REFUSALS.md, and those of
    this program's own. */
 #include "image.h"
 #include "say.h"

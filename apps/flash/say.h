@@ -9,7 +9,7 @@
 #include <stdint.h>
 #include <stdio.h>
 
-/* What a line begins with that is of a simulated board; empty for a real one. */
+/* Text that a line begins with that is of a simulated board; empty for a real one. */
 extern const char *say_mark;
 
 /* A line for a device, as --list prints it. */
@@ -24,10 +24,10 @@ bool say_failed(const char *name, const char *what, const char *why);
 /* The last of these, for a record; NULL if there was none. */
 const char *say_reason(void);
 
-/* Why a device isn't opened, or its interface isn't claimed, by `access`; and what helps. The status that this is. */
+/* Prints why a device isn't opened, or its interface isn't claimed, by `access`; and what helps. The status that this is. */
 int say_no_access(const struct found *found);
 
-/* Why no device is the one that is wanted, and what is there. The status that this is. */
+/* Prints why no device is the one that is wanted, and what is there. The status that this is. */
 int say_missing(libusb_context *usb, const struct wanted *wanted);
 
 /* The name of a refusal of the host, and what it means in words. */
@@ -36,7 +36,7 @@ const char *refusal_words(int32_t refusal);
 
 struct session;
 
-/* What a session came to. */
+/* Prints the verdict on a session. */
 struct verdict {
     int status;      /* with which the program ends */
     char name[24];   /* the report's name; `gone`, `silent`, `many`, `other`, `broken` or `stalled` if there is none */
@@ -44,7 +44,7 @@ struct verdict {
     uint8_t code;    /* of `refused`: the device's bStatus, else 0 */
 };
 
-/* What an end means: the status, and in words. `device`, if there is one, names the device that may have the old image, the new one or
+/* Meaning of an end: the status, and in words. `device`, if there is one, names the device that may have the old image, the new one or
    neither, once a block was sent. */
 struct meaning {
     int status;
@@ -57,7 +57,7 @@ void verdict_words(struct verdict *verdict, const struct session *session, const
 
 struct verdict verdict_of(const struct session *session);
 
-/* That of a mistake of this program. */
+/* The end of a mistake of this program. */
 struct verdict verdict_broken(void);
 
 #endif

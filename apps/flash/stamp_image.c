@@ -31,7 +31,7 @@ static int32_t parts_of(struct parts *parts, const struct image *image, const st
     return dfuse_file_image(image->bytes, image->length, (uint8_t)setting, parts->list, DFUSE_ELEMENTS, &parts->count);
 }
 
-/* What there is, in words. */
+/* Bytes that are there, in words. */
 static void say_parts(const struct parts *parts, const struct words *words)
 {
     char seen[200];
@@ -44,7 +44,7 @@ static void say_parts(const struct parts *parts, const struct words *words)
     advice_first(seen);
 }
 
-/* Whether all bytes there are the same; if not, the first that isn't is said. */
+/* Returns whether all bytes there are the same; if not, the first that isn't is said. */
 static bool is_room(const uint8_t *bytes, const struct words *words)
 {
     char seen[120];

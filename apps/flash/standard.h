@@ -50,7 +50,7 @@ const char *request_name(uint8_t request);
 const char *state_name(uint8_t state);
 const char *code_name(uint32_t code);
 
-/* What a code means, in words. */
+/* Meaning of a code, in words. */
 const char *code_words(uint32_t code);
 
 /* The number of two bytes, low byte first. */
@@ -75,7 +75,7 @@ static inline uint16_t setup_length(const uint8_t setup[8])
     return two_bytes(setup + 6);
 }
 
-/* Whether a functional descriptor of so many bytes has this bit of bmAttributes. */
+/* Returns whether a functional descriptor of so many bytes has this bit of bmAttributes. */
 static inline bool has_attribute(const uint8_t *descriptor, size_t size, uint8_t bit)
 {
     return size >= FUNCTIONAL_BYTES_1_0 && (descriptor[AT_ATTRIBUTES] & bit) != 0;

@@ -99,7 +99,7 @@ void station_time(char text[32])
         text[0] = '\0';
 }
 
-/* Whether the report is one that is added to: it is new, or its front is that of one. */
+/* Returns whether the report is one that is added to: it is new, or its front is that of one. */
 static bool open_report(const char *name)
 {
     char front[sizeof stamp_header];

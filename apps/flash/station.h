@@ -1,5 +1,5 @@
 /* SPDX-License-Identifier: MIT OR Apache-2.0 */
-/* What a record has for an audit: when, which file with which check sum, and at which bay; and the report of --report, a line for each
+/* Fields of a record for an audit: when, which file with which check sum, and at which bay; and the report of --report, a line for each
    board. */
 #ifndef DFU_FLASH_STATION_H
 #define DFU_FLASH_STATION_H

@@ -1,5 +1,5 @@
 /* SPDX-License-Identifier: MIT OR Apache-2.0 */
-/* What ends a session before its report: a signal, or the time of --timeout. */
+/* Events that end a session before its report: a signal, or the time of --timeout. */
 #ifndef DFU_FLASH_STOP_H
 #define DFU_FLASH_STOP_H
 

@@ -6,7 +6,7 @@
 #include <stdbool.h>
 #include <stdio.h>
 
-/* Whether somebody sees there what is printed, or types what is read. */
+/* Returns whether somebody sees there what is printed, or types what is read. */
 bool terminal_is(FILE *stream);
 
 /* The columns and the lines of the terminal that standard error is. False if nobody says. */

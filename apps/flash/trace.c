@@ -1,7 +1,7 @@
 /* SPDX-License-Identifier: MIT OR Apache-2.0 */
 /* The trace of --verbose. An action has seven words with one space between: its number, the request (or WAIT, or RESET), wValue (or
    the milliseconds), wLength, what is reported to the host, the state that the device reported in that, and the milliseconds that it took.
-   What begins and ends a session has a line that begins with a word. Other programs read this: what is here stays. */
+   The begin and the end of a session have a line that begins with a word. Other programs read this: what is here stays. */
 #include "trace.h"
 #include "answer.h"
 #include "standard.h"
@@ -13,7 +13,7 @@
 
 #define SHORT_BYTES 8 /* an answer of up to so many is shown byte by byte */
 
-/* Where a line goes that is to be printed; in a log it begins as a comment. */
+/* Prints a line that is to be printed; in a log it begins as a comment. */
 static FILE *begin_line(const struct trace *trace)
 {
     if (trace->log.file == NULL)
@@ -30,7 +30,7 @@ static void print_bytes(FILE *out, const struct answer *answer)
         text_hex(out, answer->bytes, answer->count);
 }
 
-/* What was reported to the host, and of nothing the error of libusb. */
+/* Report to the host, and of nothing the error of libusb. */
 static void print_answer(FILE *out, const struct answer *answer)
 {
     static const char *const seen[] = {

@@ -7,7 +7,7 @@
 #include <stdbool.h>
 #include <stddef.h>
 
-/* Opens it, or makes it, and takes it for this process. What it has comes to `text`, with a NUL, to be freed; a line at its end that is not
+/* Opens it, or makes it, and takes it for this process. Its content comes to `text`, with a NUL, to be freed; a line at its end that is not
    whole is taken away. With `only_looks` nothing is made, taken or changed. False for the reason that is in `why`. */
 bool used_open(const char *list, bool only_looks, char **text, const char **why);
 

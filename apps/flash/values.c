@@ -1,5 +1,5 @@
 /* SPDX-License-Identifier: MIT OR Apache-2.0 */
-/* What the value of each option may be. */
+/* Values that each option may have. */
 #include "values.h"
 #include "dfu_util.h"
 #include "stamp.h"

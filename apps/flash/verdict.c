@@ -1,5 +1,5 @@
 /* SPDX-License-Identifier: MIT OR Apache-2.0 */
-/* What a session came to: the report's name, the exit status, and what it means in words. */
+/* Verdict on a session: the report's name, the exit status, and what it means in words. */
 #include "say.h"
 #include "session.h"
 #include "status.h"
@@ -41,7 +41,7 @@ static const struct {
     [END_UNRESET] = {"not-reset", {STATUS_UNRESET, "a reset is missing, which this system does not make", "the device"}},
 };
 
-/* The same, if the device took the whole image, and was to give it back or was to be reset. */
+/* Likewise, if the device took the whole image, and was to give it back or was to be reset. */
 static const struct meaning uncompared[] = {
     [END_UNRESET] = {STATUS_UNRESET,
         "the device took the whole image; a reset is missing, which this system does not make: pull its plug, and put it in again", NULL},
@@ -56,7 +56,7 @@ static const struct meaning fetched = {STATUS_UNRESET,
     "the device gave the image that it has; to leave DFU mode it needs its plug pulled", NULL};
 /* clang-format on */
 
-/* What a device may have is said only if a block was sent. */
+/* The state of a device is said only if a block was sent. */
 void verdict_words(struct verdict *verdict, const struct session *session, const struct meaning *meaning)
 {
     bool has_sent = (session->dfuse.is ? session->dfuse.watch.sent : session->watch.sent) != 0;

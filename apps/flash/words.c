@@ -129,7 +129,7 @@ struct plain {
     int count;
 };
 
-/* Whether the words go together. */
+/* Returns whether the words go together. */
 static bool is_whole(struct words *words, const struct plain *plain)
 {
     bool has_file = words->job == JOB_DOWNLOAD || words->job == JOB_UPLOAD || (words->job == JOB_DEMO && words->file != NULL);

@@ -33,10 +33,10 @@ bool worker_begin(struct worker *worker, const struct words *words, struct image
 /* Reads what has come. Each line of standard error is handed to `say`, with the worker. */
 void worker_read(struct worker *worker, void (*say)(void *worker, const char *line));
 
-/* Whether its streams are at their end, so that it is about to end. */
+/* Returns whether its streams are at their end, so that it is about to end. */
 bool worker_is_ending(const struct worker *worker);
 
-/* Whether it has ended; then its exit status, or that of a mistake with the reason in `why`. */
+/* Returns whether it has ended; then its exit status, or that of a mistake with the reason in `why`. */
 bool worker_has_ended(struct worker *worker, int *status, const char **why);
 
 /* Tells it to give up, which it has to do by then. */

@@ -15,7 +15,7 @@ static void request(const char *what, uint8_t kind, uint8_t number, uint16_t val
     printf("%-10s %2d state %u\n", what, (int)n, (unsigned)dfu.state);
 }
 
-/* What a reset of the bus leads to. A product sets a flag that its bootloader reads, and restarts; there dfu_device_begin is called. */
+/* Handles a reset of the bus. A product sets a flag that its bootloader reads, and restarts; there dfu_device_begin is called. */
 static void reset(void) {
     printf("bus reset: %s\n", dfu_runtime_usb_reset(&dfu) ? "into the bootloader" : "the application goes on");
 }

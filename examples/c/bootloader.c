@@ -22,14 +22,14 @@ static const struct dfu_config config = {
     .sector = 0,
 };
 
-/* What lasts through a loss of power, and what need not: two buffers, and the device. */
+/* Memory that lasts through a loss of power, and what need not: two buffers, and the device. */
 static uint8_t flash[DFU_MEDIUM_SIZE(1, 0, 1024)];
 static uint8_t block[DFU_BLOCK_SIZE(64, 1)], data[64];
 static const struct dfu_driver driver = DFU_MEMORY_DRIVER(flash);
 static struct dfu_device dfu = {
     .config = &config, .flash = flash, .size = sizeof flash, .block = block, .most = sizeof block, .driver = &driver};
 
-/* What runs now: the upgrade, or the application at its place in the flash. */
+/* Program that runs now: the upgrade, or the application at its place in the flash. */
 static void show(const char *what, int32_t answer) {
     struct dfu_place place;
     printf("%-10s %2d state %d\n", what, (int)answer, (int)dfu_device_state(&dfu));

@@ -49,7 +49,7 @@ static void ask(const char *what, uint8_t kind, uint8_t request, uint8_t length)
     show(what, dfu_device_serve(&dfu, setup, endpoint, endpoint, sizeof endpoint));
 }
 
-/* What runs: the application at its place, if there is one. */
+/* Program that runs: the application at its place, if there is one. */
 static void application(void) {
     struct dfu_place place;
     if (dfu_device_image(&dfu, &place) == 0 && place.length > 0)

@@ -11,7 +11,7 @@
 
 enum { PAGE = 256, SECTOR = 4096, CAPACITY = 2 * SECTOR, BLOCK = 1024, IMAGE = 5000 };
 
-/* What the part takes at most, in milliseconds. */
+/* Times that the part takes at most, in milliseconds. */
 enum { ERASE_MS = 45, PROGRAM_MS = 3 };
 
 static const struct dfu_config config = {
@@ -51,13 +51,13 @@ static int program(void *own, uint32_t at, const uint8_t *from, uint32_t length)
     return is_programmed[at / PAGE]++ != 0;
 }
 
-/* What need not last through a loss of power. */
+/* Memory that need not last through a loss of power. */
 static uint8_t block[DFU_BLOCK_SIZE(BLOCK, PAGE)], data[BLOCK], image[IMAGE];
 static const struct dfu_driver driver = {part, erase, program};
 static struct dfu_device dfu = {
     .config = &config, .flash = part, .size = sizeof part, .block = block, .most = sizeof block, .driver = &driver};
 
-/* What runs now: the upgrade, or the application at its place in the part. */
+/* Program that runs now: the upgrade, or the application at its place in the part. */
 static void show(const char *what, int32_t answer) {
     struct dfu_place place;
     printf("%-10s %2d state %d\n", what, (int)answer, (int)dfu_device_state(&dfu));

@@ -52,7 +52,7 @@ static const struct dfu_driver slots_driver = {part, erase, program}, run_driver
 static struct dfu_device dfu = {.config = &config, .flash = part, .size = SLOTS, .driver = &slots_driver};
 static struct dfu_install install = {.run = part + RUN, .size = CAPACITY, .area = {SECTOR, DFU_NOWHERE}, .driver = &run_driver};
 
-/* What the bootloader does once the power comes: the application is started if the run area holds all of it. */
+/* Runs the bootloader once the power comes: the application is started if the run area holds all of it. */
 static void power_on(void) {
     struct dfu_place place;
     struct dfu_ask ask;

@@ -1,11 +1,11 @@
 /* SPDX-License-Identifier: MIT OR Apache-2.0 */
-/* The board: an nRF51 as QEMU's machine `microbit` has it, with 256 KiB of flash in pages of 1,024 bytes and 16 KiB of memory. What the
- * bootloader, the image and the factory have to agree on. */
+/* The board: an nRF51 as QEMU's machine `microbit` has it, with 256 KiB of flash in pages of 1,024 bytes and 16 KiB of memory. Numbers on
+   which the bootloader, the image and the factory have to agree. */
 #ifndef BOARD_H
 #define BOARD_H
 #include "dfu_device.h"
 
-/* How often a new image is started on trial, until it confirms itself; with 0 none is on trial. */
+/* Counts how often a new image is started on trial, until it confirms itself; with 0 none is on trial. */
 #ifndef TRIES
 #define TRIES 0
 #endif

@@ -1,5 +1,5 @@
 /* SPDX-License-Identifier: MIT OR Apache-2.0 */
-/* What an image and the bootloader know of each other.
+/* Agreement of an image and the bootloader.
  *
  * An image begins with a table of 48 words, as any of a Cortex-M0: the first is where its stack ends, in the image's memory, and each
  * other one is the handler of an exception. Word 1 is the start. The bootloader forwards PendSV, SysTick and all interrupts but those of

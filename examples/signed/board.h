@@ -1,6 +1,6 @@
 /* SPDX-License-Identifier: MIT OR Apache-2.0 */
 /* The board of ../microcontroller, QEMU's machine `microbit`, with a bootloader that takes signed images alone. It has more room than the
- * one there, and the images have less. What the bootloader, the image and the factory have to agree on. */
+ * one there, and the images have less. Numbers on which the bootloader, the image and the factory have to agree. */
 #ifndef BOARD_H
 #define BOARD_H
 #include "dfu_trial.h"

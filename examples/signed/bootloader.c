@@ -25,12 +25,12 @@ static uint8_t block[DFU_BLOCK_SIZE(TRANSFER, UNIT)], answer[TRANSFER];
 static struct frame request;
 static uint32_t running; /* where the image that runs begins in the medium */
 
-/* Whether the upgrade runs, or the image. */
+/* Tells whether the upgrade runs, or the image. */
 static int is_upgrading;
 
 enum { NO_ANSWER = -100 };
 
-/* What a call gives. If the record or the flash is not as it was left, the device gets power again. */
+/* Result of a call. If the record or the flash is not as it was left, the device gets power again. */
 static int32_t checked(int32_t result) {
     if (result < 0 && result != DFU_STALL)
         restart(NOTE_NONE);
@@ -107,7 +107,7 @@ void on_text(const uint8_t *text, uint32_t length) {
         frame_send(serial_put, FRAME_TEXT, 0, text, length < 64 ? length : 64);
 }
 
-/* Whether the image at this place may start, and is in the run area. */
+/* Returns whether the image at this place may start, and is in the run area. */
 static int is_ready(const struct dfu_place *place, struct signed_image *image) {
     struct dfu_install install = {.run = flash_run, .size = CAPACITY, .area = {PAGE, DFU_NOWHERE}, .driver = &run_driver};
     return signed_may_start(&board, place, image) && image->program % 4 == 0

@@ -10,7 +10,7 @@ enum { KEY_HASH_TYPE = 0x01, DIGEST_TYPE = 0x10, SIGNATURE_TYPE = 0x24, COUNTER_
 enum { PROTECTED = 0x6908, UNPROTECTED = 0x6907 };
 #define MAGIC 0x96f3b83du
 
-/* Where an image has what: each is within its length. The places of values are 0 if there is none: at 0 is the header. */
+/* Places in an image: each is within its length. The places of values are 0 if there is none: at 0 is the header. */
 struct layout {
     size_t header, body, protect, end; /* bytes of the header; where the program, the protected and the unprotected TLVs end */
     size_t digest, key_hash, signature, counter, hardware;
@@ -42,7 +42,7 @@ static int go_on(size_t *at, size_t count, size_t length) {
     return 1;
 }
 
-/* Whether TLVs of this kind begin here that have so many bytes in all. */
+/* Returns whether TLVs of this kind begin here that have so many bytes in all. */
 static int begins(const struct signed_bytes *bytes, size_t at, size_t count, uint16_t kind) {
     uint8_t head[HEAD];
     if (count < HEAD)
@@ -74,7 +74,7 @@ static enum signed_verdict find_parts(const struct signed_bytes *bytes, struct l
     return number(header + 16) == 0 ? SIGNED_TAKEN : SIGNED_WRONG_FLAGS;
 }
 
-/* Where the value of a type is kept, and how long it is: NULL for a type that is not looked at. */
+/* Place where the value of a type is kept, and how long it is: NULL for a type that is not looked at. */
 static size_t *place_of(struct layout *found, int is_protected, uint16_t type, size_t *length) {
     switch (type) {
     case COUNTER_TYPE: return *length = COUNTER_LENGTH, is_protected ? &found->counter : NULL;
@@ -154,7 +154,7 @@ static enum signed_verdict is_signed(const struct signed_rules *rules, const str
     return signed_ed25519(signature, digest, DIGEST, key) ? SIGNED_TAKEN : SIGNED_WRONG_SIGNATURE;
 }
 
-/* What is read here is signed. */
+/* All that is read here is signed. */
 static enum signed_verdict fits(const struct signed_rules *rules, const struct signed_bytes *bytes, const struct layout *found) {
     uint8_t value[COUNTER_LENGTH];
     if (found->hardware == 0)

@@ -9,8 +9,8 @@
 /* SHA-256 (FIPS 180-4) of `length` bytes and, after them, `more_length` bytes. Either may be 0; then its pointer is not read. */
 void signed_sha256(const uint8_t *bytes, size_t length, const uint8_t *more, size_t more_length, uint8_t digest[32]);
 
-/* Whether this is a signature by Ed25519 (RFC 8032) of these bytes, for this public key: 1, or 0. A signature whose s is not below the
- * group's order has to be refused: else a second signature of the same image could be made from the first one. */
+/* Returns whether this is a signature by Ed25519 (RFC 8032) of these bytes, for this public key: 1, or 0. A signature whose s is not below
+ * the group's order has to be refused: else a second signature of the same image could be made from the first one. */
 int signed_ed25519(const uint8_t signature[64], const uint8_t *bytes, size_t length, const uint8_t key[32]);
 
 #endif

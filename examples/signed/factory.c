@@ -1,5 +1,5 @@
 /* SPDX-License-Identifier: MIT OR Apache-2.0 */
-/* What a programmer writes into the flash of a new board: the bootloader, and the medium with a first image, which is confirmed. The
+/* Writes what a programmer puts into the flash of a new board: the bootloader, and the medium with a first image, which is confirmed. The
  * bootloader brings the run area to it. */
 #include <stdio.h>
 #include <string.h>

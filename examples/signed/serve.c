@@ -38,7 +38,7 @@ static int32_t check(struct signed_board *board) {
     return 0;
 }
 
-/* The work comes before all else, as in dfu_device_serve: a host may be early. What can't be checked is not closed. */
+/* The work comes before all else, as in dfu_device_serve: a host may be early. An image that can't be checked is not closed. */
 int32_t signed_serve(struct signed_board *board, const uint8_t setup[8], const uint8_t *body, uint8_t *out, size_t room) {
     struct dfu_device *device = board->device;
     int32_t n = dfu_device_work(device);

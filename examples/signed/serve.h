@@ -18,8 +18,8 @@ struct signed_board {
  * image: the active one, if none is on trial. One that is refused is stalled, and the device is in dfuERROR with errTARGET or errFILE. */
 int32_t signed_serve(struct signed_board *board, const uint8_t setup[8], const uint8_t *body, uint8_t *out, size_t room);
 
-/* Whether the image at this place may be started: it is signed, and for this board. No counter is compared: who can write flash can put
- * an older image there. Of one that is taken, `image` says where its program is. */
+/* Returns whether the image at this place may be started: it is signed, and for this board. No counter is compared: who can write flash can
+ * put an older image there. Of one that is taken, `image` says where its program is. */
 int signed_may_start(struct signed_board *board, const struct dfu_place *place, struct signed_image *image);
 
 #endif

@@ -80,7 +80,7 @@ int32_t dfu_tinyusb_start(struct dfu_device *device);
 /** @brief Time passes: now_ms counts milliseconds, and begins again after 2^32. Call it at least each 10 ms. */
 void dfu_tinyusb_task(uint32_t now_ms);
 
-/** @brief Whether the device is to leave the bus and come back now, once for each time that it is. */
+/** @brief Returns whether the device is to leave the bus and come back now, once for each time that it is. */
 bool dfu_tinyusb_leaves(void);
 
 /** @brief bInterfaceProtocol: 1 in run-time mode, 2 in DFU mode. */

@@ -1,5 +1,6 @@
 /* SPDX-License-Identifier: MIT OR Apache-2.0 */
-/* What dfu_tinyusb.c and dfu_tinyusb_runtime.c share, and nothing else includes: which reset counts, the interface, time in appDETACH. */
+/* Parts that dfu_tinyusb.c and dfu_tinyusb_runtime.c share, and nothing else includes: which reset counts, the interface, time in
+   appDETACH. */
 #ifndef DFU_TINYUSB_PARTS_H
 #define DFU_TINYUSB_PARTS_H
 
@@ -54,7 +55,7 @@ static bool deinit(void)
 }
 
 /* TinyUSB calls reset at each reset of the bus (an enumeration has two), when the cable is pulled, and at a SET_CONFIGURATION of another
- * value, which is no reset: the hook tells that apart. What counts is the first reset after a SET_CONFIGURATION. */
+ * value, which is no reset: the hook tells that apart. The first reset after a SET_CONFIGURATION. */
 static bool counts(void)
 {
     const bool was_configured = is_configured;
@@ -90,7 +91,7 @@ static void detach(void)
     ahead_ms = ACKNOWLEDGED_MS;
 }
 
-/* How many milliseconds of appDETACH have passed since the last call. */
+/* Returns how many milliseconds of appDETACH have passed since the last call. */
 static uint32_t passed(uint32_t now_ms, bool is_detaching)
 {
     const uint32_t all = is_timing && is_detaching ? now_ms - last_ms : 0, ahead = all < ahead_ms ? all : ahead_ms;

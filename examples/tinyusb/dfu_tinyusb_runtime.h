@@ -46,7 +46,7 @@ void dfu_tinyusb_runtime_start(struct dfu_runtime *runtime);
 /** @brief Time passes: now_ms counts milliseconds, and begins again after 2^32. Call it at least each 10 ms. */
 void dfu_tinyusb_task(uint32_t now_ms);
 
-/** @brief Whether the application is to leave for its bootloader now. */
+/** @brief Returns whether the application is to leave for its bootloader now. */
 bool dfu_tinyusb_leaves(void);
 
 #ifdef __cplusplus

@@ -38,7 +38,7 @@ static int say_file(void)
     return STATUS_FILE;
 }
 
-/* Whether logs can be made in the folder. */
+/* Returns whether logs can be made in the folder. */
 static bool has_folder(void)
 {
     const char *folder = all.words->folder;
@@ -48,7 +48,7 @@ static bool has_folder(void)
     return say_failed(folder, " can't have the logs", "it has to be a folder that is there, in which files can be made");
 }
 
-/* The file says for which devices it is, or --device does. What is for any would go to whatever has DFU on the bus. */
+/* The file says for which devices it is, or --device does. An image for any device would go to whatever has DFU on the bus. */
 static int take_file(void)
 {
     int32_t refusal = image_read(&all.image, all.words);
@@ -101,7 +101,7 @@ static int look(void)
     return 0;
 }
 
-/* Whether there is something to wait for still: with --wait=SECONDS for so long since a device came or ended. */
+/* Returns whether there is something to wait for still: with --wait=SECONDS for so long since a device came or ended. */
 static bool goes_on(void)
 {
     int64_t patience_ms = (int64_t)all.words->patience * 1000;

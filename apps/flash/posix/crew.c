@@ -1,5 +1,5 @@
 /* SPDX-License-Identifier: MIT OR Apache-2.0 */
-/* What the processes say is read here alone, and printed a whole line at a time. */
+/* The processes' lines are read here alone, and printed a whole line at a time. */
 #define _POSIX_C_SOURCE 200809L
 #include "../crew.h"
 #include "../clock.h"
@@ -31,14 +31,14 @@ void crew_make(struct crew *crew, const struct words *words)
 static void say(void *with, const char *line)
 {
     const struct worker *worker = with;
-    /* Why the one of before can't be opened again is nobody's concern. */
+    /* The reason why the one of before can't be opened again is nobody's concern. */
     if (worker->is_early)
         return;
     rows_clear(&rows);
     fprintf(stderr, "%s: %s\n", worker->bay->path, line);
 }
 
-/* Whether a status is graver than another: an image that isn't proved to be in place hides no device that failed. */
+/* Returns whether a status is graver than another: an image that isn't proved to be in place hides no device that failed. */
 static bool is_worse(int status, int than)
 {
     if (status == STATUS_DONE || than == STATUS_DONE)

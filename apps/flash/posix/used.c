@@ -104,7 +104,7 @@ bool used_open(const char *list, bool only_looks, char **text, const char **why)
     return is_open;
 }
 
-/* What a full disk has of a line stays, since another process may have added one behind it; used_open takes it away, or it isn't
+/* The part of a line that a full disk took stays, since another process may have added one behind it; used_open takes it away, or it isn't
    understood. */
 bool used_add(const char *line, size_t length)
 {

@@ -1,5 +1,5 @@
 /* SPDX-License-Identifier: MIT OR Apache-2.0 */
-/* What a wait looks at, and what a process that was forked forgets of it. */
+/* Descriptors that a wait looks at, and what a process that was forked forgets of it. */
 #ifndef DFU_FLASH_WAKE_H
 #define DFU_FLASH_WAKE_H
 

@@ -21,7 +21,7 @@ static bool fail(const char *name, const char *why)
     return say_failed(name, " can't be made", why);
 }
 
-/* What is there: 0 nothing, 1 a file that may be replaced, -1 what is to stay, which is said. */
+/* Returns what is there: 0 nothing, 1 a file that may be replaced, -1 what is to stay, which is said. */
 static int look(const char *name, bool is_forced, struct stat *there)
 {
     bool is_there = lstat(name, there) == 0;
@@ -110,7 +110,7 @@ static bool take_name(const char *beside, const char *name)
     return false;
 }
 
-/* Gives the new file its name. That of a file that came meanwhile is not taken. */
+/* Gives the new file its name. The name of a file that came meanwhile is not taken. */
 static bool give_name(const char *beside, const char *name, bool is_there)
 {
     if (is_there)

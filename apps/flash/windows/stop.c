@@ -1,6 +1,6 @@
 /* SPDX-License-Identifier: MIT OR Apache-2.0 */
-/* What ends a session: Ctrl-C and Ctrl-Break, a window that is closed, a user who signs out, and the time limit. Each comes on a thread
-   of its own. */
+/* Events that end a session: Ctrl-C and Ctrl-Break, a window that is closed, a user who signs out, and the time limit. Each comes on a
+   thread of its own. */
 #include "../stop.h"
 #include "../clock.h"
 #include "wake.h"

@@ -35,7 +35,7 @@ static bool is_regular(HANDLE file)
     return GetFileType(file) == FILE_TYPE_DISK && GetFileInformationByHandle(file, &is) && (is.dwFileAttributes & others) == 0;
 }
 
-/* Whether the user may write it, and take its name away. */
+/* Returns whether the user may write it, and take its name away. */
 static bool may_replace(const wchar_t *wide)
 {
     HANDLE file = CreateFileW(wide, GENERIC_WRITE | DELETE, SHARED, NULL, OPEN_EXISTING, FILE_FLAG_OPEN_REPARSE_POINT, NULL);
@@ -45,7 +45,7 @@ static bool may_replace(const wchar_t *wide)
     return true;
 }
 
-/* What is there: 0 nothing, 1 a file that may be replaced, -1 what is to stay, which is said. */
+/* Returns what is there: 0 nothing, 1 a file that may be replaced, -1 what is to stay, which is said. */
 static int look(const char *name, const wchar_t *wide, bool is_forced)
 {
     HANDLE file = CreateFileW(wide, 0, SHARED, NULL, OPEN_EXISTING, FILE_FLAG_OPEN_REPARSE_POINT | FILE_FLAG_BACKUP_SEMANTICS, NULL);
@@ -69,7 +69,7 @@ static int look(const char *name, const wchar_t *wide, bool is_forced)
     return -1;
 }
 
-/* How many units the path of its folder has, with the sign at its end. */
+/* Counts the units that the path of its folder has, with the sign at its end. */
 static int folder_of(const wchar_t *wide)
 {
     int folder = 0;

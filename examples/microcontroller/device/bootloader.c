@@ -20,12 +20,12 @@ static struct dfu_device device;
 static uint8_t block[DFU_BLOCK_SIZE(TRANSFER, UNIT)], answer[TRANSFER];
 static struct frame request;
 
-/* Whether the upgrade runs, or the image. */
+/* Tells whether the upgrade runs, or the image. */
 static int is_upgrading;
 
 enum { NO_ANSWER = -100 };
 
-/* What a call gives. If the record or the flash is not as it was left, the device gets power again. */
+/* Result of a call. If the record or the flash is not as it was left, the device gets power again. */
 static int32_t checked(int32_t result) {
     if (result < 0 && result != DFU_STALL)
         restart(NOTE_NONE);
@@ -106,7 +106,7 @@ static int is_installed(const struct dfu_place *place) {
     return dfu_install_settle(&install, flash_medium + place->at, place->length) == 0;
 }
 
-/* What is to run is in the run area. After a fault no image is started, but for one on trial, as often as it may be. */
+/* The program that is to run is in the run area. After a fault no image is started, but for one on trial, as often as it may be. */
 static int is_ready(enum note note, struct dfu_place *place) {
     if (TRIES == 0)
         return note != NOTE_FAULT && dfu_device_image(&device, place) == 0 && is_installed(place);

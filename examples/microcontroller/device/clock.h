@@ -7,7 +7,7 @@
 /* Starts it from 0. */
 void clock_begin(void);
 
-/* How many milliseconds have passed since the last call. */
+/* Returns how many milliseconds have passed since the last call. */
 uint32_t clock_passed(void);
 
 /* An interrupt in so many milliseconds, or none more if that is 0. clock_is_due clears it. */

@@ -35,8 +35,8 @@ void flash_write_word(volatile uint32_t *to, uint32_t word) {
     wait_until_ready();
 }
 
-/* What is asked for lies in the medium or in the run area, by the libraries' contracts. A bootloader is not to erase itself, so that is
- * looked at again. */
+/* The range that is asked for lies in the medium or in the run area, by the libraries' contracts. A bootloader is not to erase itself, so
+ * that is looked at again. */
 static int is_in(uint32_t begins, uint32_t at, uint32_t length, uint32_t whole) {
     const uint32_t size = begins == MEDIUM ? MEDIUM_SIZE : begins == RUN ? CAPACITY : 0;
     return at <= size && length <= size - at && at % whole == 0 && length % whole == 0;

@@ -16,10 +16,10 @@ static const struct dfu_trial trial = {
     .tries = {16, PAGE, TRIES},
 };
 
-/* What the look of this start found, which its boot takes: the images are read once. */
+/* Result of the look of this start, which its boot takes: the images are read once. */
 static struct dfu_standing standing;
 
-/* Where the image begins in the medium that was started last: it runs elsewhere, so that it can't know by itself. */
+/* Place where the image begins in the medium that was started last: it runs elsewhere, so that it can't know by itself. */
 static uint32_t started;
 
 int32_t trials_transfer(struct dfu_device *device, const uint8_t setup[8]) {

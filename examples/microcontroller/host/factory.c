@@ -1,5 +1,5 @@
 /* SPDX-License-Identifier: MIT OR Apache-2.0 */
-/* What a programmer writes into the flash of a new board: the bootloader, the medium with a first image, and the run area with it. */
+/* Writes what a programmer puts into the flash of a new board: the bootloader, the medium with a first image, and the run area with it. */
 #include <stdio.h>
 #include <string.h>
 

@@ -33,7 +33,7 @@ static int read_file(const char *path, size_t *length) {
     return is_wrong ? -1 : 0;
 }
 
-/* What a host does with a device that comes to the bus: asks who it is. A question may fall into the device's start, and is asked
+/* Acts as a host does with a device that comes to the bus: asks who it is. A question may fall into the device's start, and is asked
  * again; it changes nothing. */
 static enum link_outcome greet(uint8_t about[FRAME_ABOUT_LENGTH]) {
     enum link_outcome outcome = LINK_SILENT;

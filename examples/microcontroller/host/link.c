@@ -16,7 +16,7 @@
 static int listening = -1, line = -1;
 static uint8_t number;
 static struct frame incoming;
-/* What is to be sent: a frame of FRAME_MOST bytes, each of them escaped, with its check sum and two END. */
+/* Bytes that are to be sent: a frame of FRAME_MOST bytes, each of them escaped, with its check sum and two END. */
 static uint8_t outgoing[2 * (FRAME_MOST + 2) + 2];
 static size_t out_length;
 
@@ -91,7 +91,7 @@ static void print_text(void) {
     putchar('\n');
 }
 
-/* What is waited for: an answer with a number, which is 0 to 255, or one of these. */
+/* Events that are waited for: an answer with a number, which is 0 to 255, or one of these. */
 enum { A_TEXT = -1, THE_TIME = -2 };
 
 /* Takes frames until that came: 1; or 0, if the time is over; or -1 if the device is gone. */

@@ -5,7 +5,7 @@
 #include <stddef.h>
 #include <stdint.h>
 
-/* What came of a frame that was sent. */
+/* Result of a frame that was sent. */
 enum link_outcome {
     LINK_ANSWERED,
     LINK_STALLED,
@@ -20,10 +20,10 @@ int link_listen(const char *path);
 int link_accept(int ms);
 
 /* Sends a frame and waits for its answer, at most so many milliseconds; `room` bytes of it are kept, `count` says how many it had.
- * What the image says in that time is printed. */
+ * Text of the image in that time is printed. */
 enum link_outcome link_ask(uint8_t kind, const uint8_t *bytes, size_t length, int ms, uint8_t *answer, size_t room, size_t *count);
 
-/* Lets time pass: 0; or -1 if the device leaves. What the image says is printed. */
+/* Lets time pass: 0; or -1 if the device leaves. Text of the image is printed. */
 int link_wait(int ms);
 
 /* Waits until the image says something, at most so many milliseconds: the same. */

@@ -1,7 +1,7 @@
 /* SPDX-License-Identifier: MIT OR Apache-2.0 */
-/* How many instructions a run of counted.c, or of another program whose main is named `counted`, takes in QEMU: on a Cortex-M of the mps2
- * boards with `-icount shift=6`, where an instruction takes 64 ns and the board's timer ticks each 40 ns; on RV32 by the processor's own
- * count. Two loops whose instructions are known show whether that is so. */
+/* Counts how many instructions a run of counted.c, or of another program whose main is named `counted`, takes in QEMU: on a Cortex-M of the
+ * mps2 boards with `-icount shift=6`, where an instruction takes 64 ns and the board's timer ticks each 40 ns; on RV32 by the processor's
+ * own count. Two loops whose instructions are known show whether that is so. */
 #include <stdint.h>
 #include <stdio.h>
 

@@ -20,7 +20,7 @@ uint32_t session(struct room *given)
 }
 #endif
 
-/* What a device keeps, and the register of a suffix (USB DFU 1.1, appendix B). */
+/* Memory of a device, and the register of a suffix (USB DFU 1.1, appendix B). */
 static void prepare(void)
 {
     static const uint8_t descriptor[9] = {9, 0x21, 7, 255, 0, TRANSFER & 0xff, TRANSFER >> 8, 0x10, 1};
@@ -71,7 +71,7 @@ void stopped(void)
 }
 
 #ifdef __x86_64__
-/* What core wants there, which is made for programs that unwind. */
+/* Symbol that core wants there, which is made for programs that unwind. */
 void rust_eh_personality(void);
 void rust_eh_personality(void)
 {

@@ -38,7 +38,7 @@ struct text {
     unsigned count;
 };
 
-/* What a device tells of itself, from one enumeration to the next. */
+/* Answers of a device about itself, from one enumeration to the next. */
 struct face {
     uint16_t vendor, product, release;
     uint8_t serial;                /* the number of the text, 0 is none */
@@ -83,7 +83,7 @@ void face_spoil(struct face *face);
 /* The setting of an interface's number that is of DFU, or NULL. */
 const struct setting *face_setting(const struct face *face, int interface, int alternate);
 
-/* Whether the text of that number is this one. */
+/* Returns whether the text of that number is this one. */
 bool face_says(const struct face *face, uint8_t number, const char *text);
 
 /* Writes it in UTF-8, up to a character 0; an empty text where it is no UTF-16. */

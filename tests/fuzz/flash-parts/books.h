@@ -6,7 +6,7 @@
 #include <stddef.h>
 #include <stdint.h>
 
-/* What a run leaves to the process that started it. */
+/* Files that a run leaves to the process that started it. */
 struct outcome {
     bool is_done;           /* the program came to its end, and was looked at */
     bool is_killed;         /* a signal was sent that ends a program, since none is caught */
@@ -29,7 +29,7 @@ void trace(const char *format, ...) __attribute__((format(printf, 1, 2)));
 void *take(size_t length);
 void give(void *memory);
 
-/* What the program holds. */
+/* Handles that the program holds. */
 struct books {
     int contexts, lists, configurations, handles, references, claims;
     int blocks; /* of memory */

@@ -1,4 +1,4 @@
-/* What a program may send to which device, and what it may report. */
+/* Requests that a program may send to which device, and what it may report. */
 #ifndef FUZZ_CHECK_H
 #define FUZZ_CHECK_H
 
@@ -16,7 +16,7 @@ void check_stalled(struct board *board);
 /* The status that the program ends with. */
 void check_status(int status);
 
-/* Whether a block was sent, or was to be. */
+/* Returns whether a block was sent, or was to be. */
 bool check_has_downloaded(void);
 
 /* What it printed. */

@@ -60,7 +60,7 @@ void clock_pass(uint64_t ms)
     now_ms = end;
 }
 
-/* Whether a signal is to come in a wait: by chance, and where nothing else will happen any more. */
+/* Returns whether a signal is to come in a wait: by chance, and where nothing else will happen any more. */
 static bool is_cut(void)
 {
     static unsigned waits;

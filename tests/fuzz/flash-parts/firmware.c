@@ -66,7 +66,7 @@ static void spoil(void)
         firmware.length = below(firmware.length);
 }
 
-/* What has no signature is a raw image, and is sent whole; but not what builds produce in a format of its own. */
+/* A file without a signature is a raw image, and is sent whole; but not what builds produce in a format of its own. */
 static void look(void)
 {
     static const char *const fronts[] = {":0400000041", ":10FFFE00aB", "S1070000", "S9030000", "UF2\n", "\x7f" "ELF"};
@@ -80,7 +80,7 @@ static void look(void)
         firmware.payload = firmware.length;
 }
 
-/* What an earlier run left, whose words named other files. */
+/* Files that an earlier run left, whose words named other files. */
 static void clear_folder(void)
 {
     DIR *folder = opendir(".");
@@ -138,7 +138,7 @@ static bool has(const char *name, const void *bytes, size_t length)
     return count == length && memcmp(found, bytes, length) == 0;
 }
 
-/* What stood at OUT before stands there still. */
+/* The file that stood at OUT before stands there still. */
 static bool is_out_kept(void)
 {
     struct stat is;

@@ -20,7 +20,7 @@ struct image {
 };
 
 struct model {
-    /* What it is set up with. */
+    /* Settings. */
     uint8_t attributes;            /* bmAttributes */
     uint16_t detach_ms, transfer;
     uint32_t busy_ms, manifest_ms, least, capacity;

@@ -1,4 +1,4 @@
-/* What the program printed: text that does no harm to a terminal, and a record that is JSON and has the exit status. */
+/* Text that the program printed: text that does no harm to a terminal, and a record that is JSON and has the exit status. */
 #include "books.h"
 #include "check.h"
 #include "run.h"
@@ -14,7 +14,7 @@
 
 struct streams streams;
 
-/* How many bytes a character of UTF-8 has, or 0 where there is none. */
+/* Returns how many bytes a character of UTF-8 has, or 0 where there is none. */
 static int character(const unsigned char *at)
 {
     int more = at[0] < 0x80 ? 0 : at[0] < 0xc2 ? -1 : at[0] < 0xe0 ? 1 : at[0] < 0xf0 ? 2 : at[0] < 0xf5 ? 3 : -1;
@@ -122,7 +122,7 @@ static void check_list(const char *out)
     }
 }
 
-/* What the device may have is said only where a block was sent. */
+/* The state of the device is said only where a block was sent. */
 static void check_harm(const char *line)
 {
     if (strstr(line, "no block was sent") != NULL && check_has_downloaded())

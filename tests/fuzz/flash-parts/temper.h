@@ -1,4 +1,4 @@
-/* How rough a run is. Each number is the `times` of chance(): one event in so many, 0 for none. */
+/* Roughness of a run. Each number is the `times` of chance(): one event in so many, 0 for none. */
 #ifndef FUZZ_TEMPER_H
 #define FUZZ_TEMPER_H
 

@@ -1,4 +1,4 @@
-/* What is read of a face. */
+/* Reads of a face. */
 #include "board.h"
 
 #include <string.h>

@@ -1,4 +1,4 @@
-/* What becomes of a transfer. */
+/* Fate of a transfer. */
 #include "usb.h"
 #include "books.h"
 #include "bus.h"

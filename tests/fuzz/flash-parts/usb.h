@@ -1,4 +1,4 @@
-/* What stands behind the types that libusb keeps to itself. */
+/* Contents of the types that libusb keeps to itself. */
 #ifndef FUZZ_USB_H
 #define FUZZ_USB_H
 
@@ -31,7 +31,7 @@ void call_begins(const char *name);
 /* An error that the call ends with though nothing is wrong, or 0. */
 int call_fails(void);
 
-/* Whether the device of a handle is on the bus still. */
+/* Returns whether the device of a handle is on the bus still. */
 bool handle_is_there(const struct libusb_device_handle *handle);
 
 /* The request of the class, by the temper: what libusb_control_transfer answers. */

@@ -11,7 +11,7 @@
 
 enum job { JOB_NONE, JOB_DOWNLOAD, JOB_UPLOAD, JOB_DETACH, JOB_LIST };
 
-/* What they ask for, where they are sound; else nothing is known of it. */
+/* Their meaning, where they are sound; else nothing is known of it. */
 struct asked {
     bool is_sound;
     enum job job;

@@ -65,7 +65,7 @@ static size_t make_descriptor(uint8_t *descriptor, uint32_t transfer) {
     return roll(40) ? size : roll(10);
 }
 
-/* What the device is doing: its state (bState), and how many bytes it has taken or given. */
+/* State of the device: its state (bState), and how many bytes it has taken or given. */
 struct peer {
     uint32_t state, taken, given;
 };

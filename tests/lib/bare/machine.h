@@ -9,10 +9,10 @@ uintptr_t semihost(uintptr_t call, const void *words);
 /* The end of the program. */
 void leave(int status) __attribute__((noreturn));
 
-/* Where each exception that nothing expects leads: the program ends with status 3. */
+/* Place to which each exception that nothing expects leads: the program ends with status 3. */
 void on_fault(void) __attribute__((noreturn));
 
-/* Where a start leads, with a stack. */
+/* Place to which a start leads, with a stack. */
 void begin(void) __attribute__((noreturn));
 
 /* Runs a function on the stack that ends at `top`. */

@@ -1,4 +1,5 @@
-/* What the libraries for C want of a C library, byte by byte: no access of these is unaligned. On ARM by the names of its EABI too. */
+/* Calls that the libraries for C want of a C library, byte by byte: no access of these is unaligned. On ARM by the names of its EABI too.
+   */
 #include <stdint.h>
 #include <string.h>
 

@@ -65,7 +65,7 @@ static int has(const uint8_t *bytes, uint32_t length) {
         && memcmp(medium + place.at, bytes, length) == 0;
 }
 
-/* Whether the medium stands a loss of power now. */
+/* Returns whether the medium stands a loss of power now. */
 static int stands(void) {
     static uint8_t third[IMAGE] = {9, 9};
     memset(&device.record, 0xa5, sizeof device.record);

@@ -40,7 +40,7 @@ int puts(const char *text) {
     return putchar('\n');
 }
 
-/* What stands between % and the letter of a conversion. */
+/* Text between % and the letter of a conversion. */
 struct form {
     int is_left, has_zeros, width, most, size; /* size: 0 int, 1 long or size_t, 2 long long */
 };
@@ -142,7 +142,7 @@ FILE *fopen(const char *name, const char *mode) {
     return file.handle == UINTPTR_MAX ? NULL : &file;
 }
 
-/* How many things were read; semihosting says how many bytes were not. */
+/* Returns how many things were read; semihosting says how many bytes were not. */
 size_t fread(void *to, size_t each, size_t count, FILE *file) {
     const uintptr_t words[3] = {file->handle, (uintptr_t)to, each * count};
     return (each * count - semihost(6, words)) / each;

@@ -1,4 +1,4 @@
-/* What the rows of check.c share: a device whose program refuses images, and what is expected of it. */
+/* Parts that the rows of check.c share: a device whose program refuses images, and what is expected of it. */
 #ifndef CHECKING_H
 #define CHECKING_H
 #include "driver.h"
@@ -67,7 +67,7 @@ static int32_t refuse(uint32_t status) {
     return dfu_core_refuse(&config, &board.record, status);
 }
 
-/* What a call of a refusal does to the board: nothing beside the mode, or nothing at all. */
+/* Effects of a refusal to the board: nothing beside the mode, or nothing at all. */
 static struct board before;
 static void keep(void) {
     before = board;

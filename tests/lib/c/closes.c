@@ -1,6 +1,6 @@
-/* Whether a setup closes a download: over random requests of hosts that mostly do it right, what dfu_core_closes says is what handling the
- * setup then does, and whether dfu_core_refuse_close takes it; and where it says 1, the candidate is there to be checked. Then its
- * refusals. It takes how many sequences. */
+/* Tells whether a setup closes a download: over random requests of hosts that mostly do it right, what dfu_core_closes says is what
+ * handling the setup then does, and whether dfu_core_refuse_close takes it; and where it says 1, the candidate is there to be checked. Then
+ * its refusals. It takes how many sequences. */
 #include "driver.h"
 
 static const struct fate well = {WELL, 0, 0, 0};

@@ -16,7 +16,7 @@ static void is(int holds, const char *what)
         printf("wrong: %s\n", what);
 }
 
-/* The same numbers on each machine and each run. */
+/* Numbers are the same on each machine and each run. */
 static uint64_t seed = 1;
 
 static uint32_t chance(void)

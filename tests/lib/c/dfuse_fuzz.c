@@ -75,7 +75,7 @@ static size_t read_file(const char *name, uint8_t *bytes, size_t room)
     return count;
 }
 
-/* Whether the log has a request of the class. */
+/* Returns whether the log has a request of the class. */
 static int has_sent(void)
 {
     char line[256];
@@ -88,7 +88,7 @@ static int has_sent(void)
     return is;
 }
 
-/* Whether the device stalled GETSTATE before the first download, while a command of an earlier session wasn't started. */
+/* Returns whether the device stalled GETSTATE before the first download, while a command of an earlier session wasn't started. */
 static int has_hidden_command(void)
 {
     char line[256];
@@ -101,7 +101,7 @@ static int has_hidden_command(void)
     return is;
 }
 
-/* Whether the memory has the elements; and whether each page without one is as it was. */
+/* Returns whether the memory has the elements; and whether each page without one is as it was. */
 static int has_image(const struct second *second)
 {
     for (uint64_t at = 0; at < second->count; at++) {
@@ -126,7 +126,7 @@ static int others_stand(const struct second *second)
     return 1;
 }
 
-/* What is wrong with a run, or NULL. */
+/* Fault of a run, or NULL. */
 static const char *fault_of(int status)
 {
     static struct second second;

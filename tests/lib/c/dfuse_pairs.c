@@ -25,8 +25,9 @@ static unsigned char old[MOST], expected[MOST], saved[MOST];
 static size_t size;
 static long runs, wrong, counts[STATUSES];
 
-/* What a run sent: how many transfers, and which of them have an answer that can be cut to three bytes, and which of them no device may
- * stall: GETSTATE while it was brought something that it hasn't started, as in the promises of crates/dfuse_link (specs/Reactions). */
+/* Requests that a run sent: how many transfers, and which of them have an answer that can be cut to three bytes, and which of them no
+ * device may stall: GETSTATE while it was brought something that it hasn't started, as in the promises of crates/dfuse_link
+ * (specs/Reactions). */
 struct sent {
     unsigned count;
     int started;
@@ -89,7 +90,7 @@ static int run(const char *fate, struct sent *sent)
     return WIFEXITED(status) ? WEXITSTATUS(status) : 256 + status;
 }
 
-/* Whether each page that is the same in both memories is as it was. */
+/* Returns whether each page that is the same in both memories is as it was. */
 static int others_stand(void)
 {
     for (size_t page = 0; page < size; page += PAGE)
@@ -122,7 +123,7 @@ static const char *fault_of(int status, const struct sent *sent)
     return front_stands() && !is_right ? "the front stands without the rest" : NULL;
 }
 
-/* Whether a fate of this kind can come to a transfer. */
+/* Returns whether a fate of this kind can come to a transfer. */
 static int can_come(const struct sent *sent, unsigned at, int kind)
 {
     return kind == SHORT ? sent->is_long[at] : kind == STALL ? !sent->is_answered[at] : 1;

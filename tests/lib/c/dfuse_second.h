@@ -31,7 +31,7 @@ static inline void sign(uint8_t *file, size_t length)
         file[length - 4 + (size_t)byte] = (uint8_t)(crc >> 8 * byte);
 }
 
-/* What a second reader finds: the answer, what the file says, and the elements of a setting, in the order of the file. */
+/* Findings of a second reader: the answer, what the file says, and the elements of a setting, in the order of the file. */
 struct second {
     int32_t answer;
     struct dfuse_file says;

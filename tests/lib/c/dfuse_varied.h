@@ -82,7 +82,7 @@ static void set_hexadecimal(const char *name, unsigned number)
     set(name, text);
 }
 
-/* What the descriptors say, most of it as it has to be. */
+/* Fields of the descriptors, most of it as it has to be. */
 static void set_descriptors(void)
 {
     static const unsigned versions[] = {0x011a, 0x0110, 0x0100, 0x1a01, 0};

@@ -1,5 +1,5 @@
-/* What the programs that try the device over flash share: flash in memory with a driver that writes it, and the loop of a program, over
- * the calls of dfu_core.h. Flash with sectors is as NOR flash is: a program needs a range that was erased, and a sector is erased
+/* Parts that the programs which try the device over flash share: flash in memory with a driver that writes it, and the loop of a program,
+ * over the calls of dfu_core.h. Flash with sectors is as NOR flash is: a program needs a range that was erased, and a sector is erased
  * whole. */
 #ifndef DRIVER_H
 #define DRIVER_H
@@ -29,7 +29,7 @@ struct board {
     uint32_t unit, sector;
 };
 
-/* What happens to a write that is asked for: it is carried out; or this one of them fails, or lies, or is cut off behind so many
+/* Fate of a write that is asked for: it is carried out; or this one of them fails, or lies, or is cut off behind so many
  * bytes, with any bytes behind those where `torn` is set. */
 enum trouble { WELL, FAILS, LIES, CUT };
 struct fate {
@@ -42,7 +42,7 @@ struct fate {
 static uint32_t writes, last_length;
 static int is_off;
 
-/* Whether an ask is one for this flash. */
+/* Returns whether an ask is one for this flash. */
 static inline int is_ask(const struct board *board, const struct dfu_ask *ask) {
     uint32_t whole = ask->kind == DFU_ERASE ? board->sector : board->unit;
     if (whole == 0 || ask->length < 1 || ask->at + (size_t)ask->length > board->size || ask->at % whole != 0 || ask->length % whole != 0)

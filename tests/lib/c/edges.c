@@ -1,6 +1,6 @@
-/* What the other programs do not come to: images of more than 4,096 bytes and mediums that are too large for them, names, files of every
- * refusal, requests without a body, and pointers that are NULL where nothing is to be read or written. The header forbids these, and the
- * libraries take another place for them: no call may crash. */
+/* Cases that the other programs do not come to: images of more than 4,096 bytes and mediums that are too large for them, names, files of
+ * every refusal, requests without a body, and pointers that are NULL where nothing is to be read or written. The header forbids these, and
+ * the libraries take another place for them: no call may crash. */
 #include <stdio.h>
 #include <stdlib.h>
 #include <string.h>

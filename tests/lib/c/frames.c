@@ -27,7 +27,7 @@ static void expect(int is, const char *what) {
     }
 }
 
-/* How many whole frames are among the first `count` bytes of the line. */
+/* Returns how many whole frames are among the first `count` bytes of the line. */
 static int taken(struct frame *frame, size_t count) {
     int frames = 0;
     for (size_t at = 0; at < count; at++)

@@ -15,13 +15,13 @@ static uint32_t roll(uint32_t sides) {
     return (dice >> 8) % sides;
 }
 
-/* Whether a header is of version 2 with a length that fits. */
+/* Returns whether a header is of version 2 with a length that fits. */
 static int is_formed(const uint8_t *header) {
     return header[1] == 2 && !header[2] && !header[3] && !header[12] && !header[13] && !header[14] && !header[15]
         && (header[4] | header[5] << 8 | header[6] << 16 | (uint32_t)header[7] << 24) <= 64;
 }
 
-/* Whether the first of two slots is the active one by gates and headers alone. */
+/* Returns whether the first of two slots is the active one by gates and headers alone. */
 static int is_newest(const uint8_t *mine, const uint8_t *other) {
     if (mine[0] != 0xa5 || !is_formed(mine + 16))
         return 0;

@@ -19,7 +19,7 @@ static uint64_t some(void) {
     return any() % 4 ? any() % 30 : any();
 }
 
-/* Whether the record and the buffer are what follows, where a call answered and these bytes were seen in a phase before: `size` of
+/* Returns whether the record and the buffer are what follows, where a call answered and these bytes were seen in a phase before: `size` of
  * the buffer's 64 bytes are the session's, and all of it was 5Ah. */
 static int follows(const struct dfu_session *before, const struct dfu_session *now, const uint8_t *room, size_t size, uint32_t seen,
                    const uint8_t *bytes, size_t count) {

@@ -1,4 +1,4 @@
-/* How deep each call goes below its caller: a thread runs it on a stack that was painted. It takes the most bytes that
+/* Depth to which each call goes below its caller: a thread runs it on a stack that was painted. It takes the most bytes that
  * are allowed. */
 #include "painted.h"
 #include <stdio.h>

@@ -1,6 +1,6 @@
 /* The memory that a program lends for the block. With a byte less than DFU_BLOCK_SIZE each call that takes it answers DFU_NO_BLOCK and
  * changes nothing, whether operations are due or not; and a download touches no byte behind it, in each unit, in place and with sectors.
- * What is held back stands behind the transfer size, and with the bytes on the flash is the candidate. */
+ * The bytes held back stand behind the transfer size, and with the bytes on the flash is the candidate. */
 #include <stdio.h>
 #include <stdlib.h>
 #include <string.h>

@@ -108,7 +108,7 @@ static const struct row rows[] = {
     FILE_OF("a.s\x11"
             "9",
             "\0", DFU_LOOKS_RAW, DFU_NAMED_NONE, 0, 0),
-    /* What the bytes say comes first, and the name is said beside it. */
+    /* The bytes come first, and the name is said beside it. */
     FILE_OF("a.dfu", "hello\n", DFU_LOOKS_TEXT, DFU_NAMED_DFU, 0, 0),
     FILE_OF("a.dfu", ":0O", DFU_LOOKS_IHEX, DFU_NAMED_DFU, 1, 3),
     FILE_OF("a.elf", "S903\n", DFU_LOOKS_SREC, DFU_NAMED_ELF, 0, 0),

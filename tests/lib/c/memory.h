@@ -1,5 +1,5 @@
-/* What the programs share that try a device whose medium is plain memory: the calls, with what they ask for carried out by the driver of
- * dfu_device_memory.h. */
+/* Parts that the programs share that try a device whose medium is plain memory: the calls, with what they ask for carried out by the driver
+ * of dfu_device_memory.h. */
 #ifndef MEMORY_H
 #define MEMORY_H
 #include "dfu_device_memory.h"

@@ -1,4 +1,4 @@
-/* How much of its images a start reads. The flash is mapped so that one page of it can be read at a time, and the entries of pages of
+/* Share of its images that a start reads. The flash is mapped so that one page of it can be read at a time, and the entries of pages of
  * data are counted: a pass over an image enters each of its pages once. A start of docs/PORTING.md, with a run area, reads one and a half
  * times the bytes of both images, whether one is on trial or not: a look at both, and the compare. A start by the standing of an earlier
  * look reads none. And it starts what a start with a look of its own would, whatever standing it is handed: each one of a session, its

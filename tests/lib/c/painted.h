@@ -1,4 +1,4 @@
-/* How deep a call goes below its caller: a thread runs it on a stack that was painted. */
+/* Depth to which a call goes below its caller: a thread runs it on a stack that was painted. */
 #ifndef PAINTED_H
 #define PAINTED_H
 #define _GNU_SOURCE

@@ -74,7 +74,7 @@ static int has(const uint8_t *bytes, uint32_t length) {
         && memcmp(medium + place.at, bytes, length) == 0;
 }
 
-/* Whether each medium that was seen stands a loss of power; `length` is that of the image before. */
+/* Returns whether each medium that was seen stands a loss of power; `length` is that of the image before. */
 static int stands(const uint8_t *before, uint32_t length, const uint8_t image[IMAGE]) {
     uint8_t third[IMAGE] = {9, 9};
     int is_new = 0;

@@ -1,4 +1,4 @@
-/* What a program asks beside the rows: whether a setup will be stalled, and whether it closes a download, held against what
+/* Questions of a program beside the rows: whether a setup will be stalled, and whether it closes a download, held against what
  * dfu_device_handle then does, in each mode; whether the flash is blank, by each of its bytes; when time changes the state; a body that is
  * too long; the functional descriptor; a beginning in dfuIDLE; a board without an application; the version. */
 #include <stdio.h>

@@ -1,4 +1,4 @@
-/* What examples/signed/check.c says of images: signed [RUNS]. One that is right, in every two parts; each bit of it another one; each
+/* Verdicts of examples/signed/check.c of images: signed [RUNS]. One that is right, in every two parts; each bit of it another one; each
  * length of it; numbers that lie and are signed all the same; each verdict; and RUNS times garbled bytes, each tenth signed, for which it
  * is worked out apart whether they are right. */
 #include "signed.h"
@@ -115,7 +115,7 @@ static void each_verdict(void) {
     begin(512, 0), add_hardware(HARDWARE), add_counter(LEAST), end(), sign(0), expect("a large header", SIGNED_TAKEN, says());
     begin(32, 200), add_counter(9), add_hardware(7), add_counter(9), end(), sign(0), expect("a counter twice", SIGNED_WRONG_TLVS, says());
     begin(32, 200), add_counter(9), add(0xb0, 2), add(0, 2), add_hardware(7), end(), sign(0), expect("one more", SIGNED_TAKEN, says());
-    /* What is left out of the unprotected TLVs, which are no bytes that are signed. */
+    /* Parts that are left out of the unprotected TLVs, which are no bytes that are signed. */
     for (size_t i = 0; i < 3; i++) {
         static const uint32_t at[] = {4, 40, 76}, bytes[] = {36, 36, 68};
         static const enum signed_verdict is[] = {SIGNED_WRONG_DIGEST, SIGNED_OTHER_KEY, SIGNED_WRONG_SIGNATURE};

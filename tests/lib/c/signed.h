@@ -98,7 +98,7 @@ static inline void make(uint32_t counter, uint32_t hardware, unsigned key) {
     sign(key);
 }
 
-/* What is said of bytes in two parts, each in memory of its own that has not a byte more. */
+/* Verdict on bytes in two parts, each in memory of its own that has not a byte more. */
 static inline enum signed_verdict verdict_of(const uint8_t *bytes, size_t count, size_t front, struct signed_image *told) {
     const struct signed_rules rules = {(const uint8_t (*)[SIGNED_KEY])keys, 1, HARDWARE, LEAST};
     uint8_t *first = malloc(front ? front : 1), *second = malloc(count > front ? count - front : 1);

@@ -136,7 +136,7 @@ static void rows(void) {
     }
     expect("empty", "it is stalled", ask(0x21, DFU_DNLOAD, 0, 0, out) == DFU_STALL && is_old());
     expect("empty", "CLRSTATUS", ask(0x21, DFU_CLRSTATUS, 0, 0, out) == 0);
-    /* What is too short for the device is an error of its table, and is not checked. */
+    /* A transfer that is too short for the device is an error of its table, and is not checked. */
     length = 4, send("too short"), board.verdict = SIGNED_TAKEN;
     expect("too short", "errNOTDONE", ask(0x21, DFU_DNLOAD, 1, 0, out) == DFU_STALL && board.verdict == SIGNED_TAKEN
                && status() == DFU_STATUS_ERR_NOTDONE * STATES + DFU_STATE_ERROR && ask(0x21, DFU_CLRSTATUS, 0, 0, out) == 0);

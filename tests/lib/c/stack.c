@@ -1,5 +1,5 @@
-/* How deep each call goes below its caller: a thread runs it on a stack that was painted. It takes the most bytes that are allowed, and
- * prints the size of the record too. The lines that begin with "format" are those of calls that a bootloader may leave out. */
+/* Depth to which each call goes below its caller: a thread runs it on a stack that was painted. It takes the most bytes that are allowed,
+ * and prints the size of the record too. The lines that begin with "format" are those of calls that a bootloader may leave out. */
 #include "painted.h"
 #include <stdio.h>
 

@@ -30,7 +30,7 @@ static void expect(const char *what, int is) {
     wrong += !is;
 }
 
-/* What a byte of the operation that suffers the harm comes to. */
+/* Value that a byte of the operation that suffers the harm comes to. */
 static uint8_t torn(uint32_t i, uint32_t length, uint8_t old, uint8_t meant) {
     switch (tear) {
     case 0: return old;

@@ -23,7 +23,7 @@ static enum harm harm;
 static jmp_buf power;
 static int lost; /* how often it went */
 
-/* What the board did: the image that its last start ran first, the one that runs, whether it is within a reset by the host, and was as
+/* Acts of the board: the image that its last start ran first, the one that runs, whether it is within a reset by the host, and was as
  * the power went, how often the payload ran since it was put in place, whether the image before came back since, and whether a mark was
  * harmed. */
 static int is_upgrading, first_ran, running, is_in_reset, was_in_reset, runs, is_back, is_mark_harmed;
@@ -117,7 +117,7 @@ static void start(void) {
             first_ran = running;
     } while (running == PAYLOAD && behaviour == FAULTS);
 }
-/* What runs is as the state says: each change of it is a reset of the processor. */
+/* The program that runs is as the state says: each change of it is a reset of the processor. */
 static void go_on(void) {
     const int is_upgrade = dfu_device_state(&device) > DFU_STATE_APP_DETACH;
     if (is_upgrade == is_upgrading)
@@ -136,12 +136,12 @@ static int32_t serve(const uint8_t setup[8], const uint8_t *body) {
     return dfu_device_serve(&device, setup, body, out, sizeof out);
 }
 
-/* Whether the payload is the next image to be started: it is active, and on trial with a start left. */
+/* Returns whether the payload is the next image to be started: it is active, and on trial with a start left. */
 static int is_next(void) {
     struct dfu_standing s;
     return dfu_trial_look(&trial, &s) == 0 && number_of(&s.active) == PAYLOAD && s.on_trial == 1 && s.left > 0;
 }
-/* How many starts are marked in the second slot, to which every new image comes beside a confirmed one. */
+/* Returns how many starts are marked in the second slot, to which every new image comes beside a confirmed one. */
 static uint32_t spent(void) {
     const uint32_t size = config.unit > 16 ? config.unit : 16;
     uint32_t count = 0;

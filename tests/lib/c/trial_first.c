@@ -1,6 +1,6 @@
 /* The first image of a board whose images run on trial. If dfu_trial_format made it, in memory or over a driver, an update that never
  * confirms itself is started as often as it may be, and then the first image is back; if dfu_device_format made it, the update runs for
- * ever. What is refused writes nothing. */
+ * ever. A refused call writes nothing. */
 #include <stdio.h>
 #include <string.h>
 

@@ -67,7 +67,7 @@ static void work(void) {
     dfu_device_work(&device);
     go_on();
 }
-/* Whether the power goes in what is done. Then the board starts again, and the power may go in that too. */
+/* Returns whether the power goes in what is done. Then the board starts again, and the power may go in that too. */
 static int is_cut(void (*what)(void)) {
     switch (setjmp(power)) {
     case 0:
@@ -105,7 +105,7 @@ static uint32_t offer(void) {
     return action.value;
 }
 
-/* What the report has to be, and what has to be so. */
+/* Report that has to come, and what has to be so. */
 static void judge(uint32_t report) {
     const uint32_t done = is_verified ? DFU_VERIFIED : config.attributes & 4 ? DFU_INSTALLED : DFU_UNCONFIRMED;
     const int is_next_yet = is_mark_harmed && is_next(), was_unseen = is_blind && was_in_reset;

@@ -1,5 +1,5 @@
-/* How deep each call of dfu_trial.h goes below its caller, over a driver, as stack.c has it for the device. It takes the most bytes that
- * are allowed. */
+/* Depth to which each call of dfu_trial.h goes below its caller, over a driver, as stack.c has it for the device. It takes the most bytes
+ * that are allowed. */
 #include "painted.h"
 #include <stdio.h>
 
@@ -52,7 +52,7 @@ static void *run(void *word)
     return word;
 }
 
-/* What the flash has before the call. For the transfer of an UPLOAD no start is left. */
+/* Bytes of the flash before the call. For the transfer of an UPLOAD no start is left. */
 static int prepare(int call)
 {
     if (call < 3)

@@ -40,7 +40,7 @@ static int32_t make(struct board *board, uint32_t what, uint32_t ms, const uint8
     return length > config.transfer ? dfu_core_too_long(&config, &board->record, setup) : transfer(board, setup, body, &well);
 }
 
-/* Whether both left the same, and the buffer of data has what it had, this body, or the answer. */
+/* Returns whether both left the same, and the buffer of data has what it had, this body, or the answer. */
 static int is_same(const struct board *board, const uint8_t *body) {
     const struct dfu_record *one = &plain.record, *two = &board->record;
     struct dfu_place here, there;

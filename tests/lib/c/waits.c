@@ -1,4 +1,4 @@
-/* How long a host waits for a download, by the choice of busy_ms, and by each block's own time: the rows of the table of docs/PORTING.md,
+/* Time that a host waits for a download, by the choice of busy_ms, and by each block's own time: the rows of the table of docs/PORTING.md,
  * "How long a host waits". The device is the library's; the part's times are modelled, and the bus takes none. After each answer that says
  * dfuDNBUSY the host waits bwPollTimeout, and its next request gets NAK until the block is written. */
 #include <stdio.h>
@@ -57,7 +57,7 @@ static int poll(struct dfu_device *d, const struct part *p)
     return 1;
 }
 
-/* How long a download takes, in seconds; negative if it fails. */
+/* Time that a download takes, in seconds; negative if it fails. */
 static double session(const struct part *p, uint16_t block, uint32_t busy_ms, uint16_t erase_ms, uint16_t program_ms)
 {
     const struct dfu_config config = {DFU_VERSION, 0, 0, 0, 1000, block, 7, 0, busy_ms, 0, 1, p->unit, p->sector, erase_ms, program_ms};

@@ -1,4 +1,4 @@
-/* Where the program waits, the host goes on. */
+/* While the program waits, the host goes on. */
 #include "kernel.h"
 
 #include <poll.h>

@@ -1,4 +1,4 @@
-/* What the paths hand in: a device, images on trial and a run area, over flash that no stand-in reads. */
+/* Arguments of the paths: a device, images on trial and a run area, over flash that no stand-in reads. */
 #ifndef HANDED_IN_H
 #define HANDED_IN_H
 #include <stdio.h>

@@ -10,7 +10,7 @@ static const struct stage *stage;
 static struct stage one[2];
 static int carries, is_plain, is_over, failed;
 static int32_t ends;
-/* What has to come before any other call, and the call that asked for it. */
+/* Call that has to come before any other call, and the call that asked for it. */
 static enum call owed, asking;
 
 /* The calls that hand out what a call asked for, and that learn how it went. Those of a trial hand it out themselves, and read it back
@@ -57,7 +57,7 @@ static void go_on(int32_t n)
         over(end == ALWAYS_NO_MEDIUM ? (int32_t)DFU_NO_MEDIUM : end == OR_SERVED && n == 1 ? 0 : n);
 }
 
-/* Whether the setup begins a download or an upload. */
+/* Returns whether the setup begins a download or an upload. */
 static int begins(void)
 {
     const uint8_t *s = given.setup;

@@ -1,4 +1,4 @@
-/* What the parts share that try each path of the inline calls of include/: the tape of choices, what a program hands in, and the monitor
+/* Parts in common that try each path of the inline calls of include/: the tape of choices, what a program hands in, and the monitor
  * of the order of calls. */
 #ifndef MONITOR_H
 #define MONITOR_H
@@ -59,7 +59,7 @@ enum when {
     TRANSFER_BEGINS /* the setup is a DNLOAD or an UPLOAD, and the state dfuIDLE */
 };
 
-/* What the inline call returns if its plan ends with a stage: its answer, but.. */
+/* Result of the inline call if its plan ends with a stage: its answer, but.. */
 enum end {
     AS_ANSWERED,
     OR_NOT_WRITTEN,  /* DFU_NOT_WRITTEN for DFU_ASKS, which is no more carried out */
@@ -74,7 +74,7 @@ struct stage {
     enum end end;
 };
 
-/* What a program hands in, by which each proved call has to be made. */
+/* Arguments that a program hands in, by which each proved call has to be made. */
 struct given {
     const struct dfu_config *config;
     const struct dfu_record *record; /* NULL: the record of the path's first call */
@@ -97,7 +97,7 @@ void note(enum call call);
 void note_number(int32_t number);
 /* A choice of the path, 0 to n - 1: each is tried. */
 unsigned pick(unsigned n);
-/* Whether there is another path of the inline call of this name. */
+/* Returns whether there is another path of the inline call of this name. */
 int next_path(const char *name);
 /* The inline call has come to its end: all choices of the path were taken. */
 void path_ends(void);

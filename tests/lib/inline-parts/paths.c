@@ -8,7 +8,7 @@
 #include "plans.h"
 #include "runtime.h"
 
-/* What a path has beside its plan: a state and a time that is due, a setup, or a driver that is not asked. */
+/* Parts of a path beside its plan: a state and a time that is due, a setup, or a driver that is not asked. */
 enum { STATES = 1, SETUPS = 2, NO_DRIVER = 4 };
 
 static const struct inline_call {

@@ -1,4 +1,4 @@
-/* What stand-ins answer: in turn each number that the header has for the call, any operation, and any number of the driver. */
+/* Answers of stand-ins: in turn each number that the header has for the call, any operation, and any number of the driver. */
 #include <limits.h>
 #include <string.h>
 

@@ -1,4 +1,4 @@
-// What tests/lib/page/run.py asks for: sessions of the page's modules over the stand-in, in its own time, and scripts. All comes and goes
+// Requests of tests/lib/page/run.py: sessions of the page's modules over the stand-in, in its own time, and scripts. All comes and goes
 // as JSON: files and images as text of Latin 1, one character a byte.
 import { Board } from '/board.js'
 import { functionalIn } from '/descriptors.js'
@@ -37,7 +37,7 @@ export const dfuseWordsOf = (report, leaving) => {
 export const scripts = texts => texts.map(text => runScript(modules, linesOf(text)).join('\n'))
 export const functional = (bytes, number, alternate) => Array.from(functionalIn(Uint8Array.from(bytes), number, alternate))
 
-// What a person does who is asked. chooses: 'it', 'none', or 'bystander' once and then none; replugs: whether the plug is pulled.
+// Acts of a person who is asked. chooses: 'it', 'none', or 'bystander' once and then none; replugs: whether the plug is pulled.
 class Person {
   constructor(usb, { chooses = 'none', replugs = false }) {
     Object.assign(this, { usb, chooses, replugs, asked: 0 })
@@ -95,7 +95,7 @@ async function run({ file, settings = {}, wantsVerified = true, limits = null, p
   return answerOf(usb, { verdict, session, wire, trace, person })
 }
 
-// The same as the page makes a session of any file, with a device of DfuSe too: `maps` in settings. words: those of DfuseSession.
+// Likewise as the page makes a session of any file, with a device of DfuSe too: `maps` in settings. words: those of DfuseSession.
 async function runAny({ file, settings = {}, place = {}, platform = 'Linux', stopAt = -1, chooses, replugs, ...words }) {
   beOn(platform)
   const usb = new StandInUsb(modules.device, settings)

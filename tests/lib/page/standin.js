@@ -127,7 +127,7 @@ export class StandInUsb extends EventTarget {
     this.dispatchEvent(Object.assign(new Event(what), { device }))
   }
 
-  // Where its mode is another one it comes as another device.
+  // If its mode is another one it comes as another device.
   look() {
     if (this.current.isApp !== this.isApp() && !this.current.isSwapped) this.enumerate()
   }

@@ -4,7 +4,7 @@
 // DNLOAD of block 0 brings a command: 21h and an address set the pointer, 41h and an address erase the page that has it. That of block 2 or
 // more brings bytes for the pointer. GETSTATUS starts what was brought and answers dfuDNBUSY; once its time is over the next one tells what
 // came of it. ABORT drops what was not started. UPLOAD from dfuIDLE or dfuUPLOAD-IDLE gives the memory at the pointer, by the number of the
-// block. DNLOAD of no bytes leaves for the application, which GETSTATUS starts. Where the power goes while something is written or erased,
+// block. DNLOAD of no bytes leaves for the application, which GETSTATUS starts. If the power goes while something is written or erased,
 // every other byte of it stands.
 import { partsOf } from '/names.js'
 
@@ -35,7 +35,7 @@ export const DFUSE_USUAL = {
   tellsNames: false,  // WebUSB tells the names of its settings
 }
 
-// What stands in the memory at first.
+// Bytes that stand in the memory at first.
 export const oldByte = at => (at * 31 + (at >> 8)) & 255
 
 // The ranges of a map, by plain rules, with no part of the page.
@@ -144,7 +144,7 @@ export class DfuseDevice {
     if (this.at === MANIFEST) this.settle()
   }
 
-  // What a command has done stands once its time is over.
+  // The work of a command stands once its time is over.
   settle() {
     if (this.left > 0) return
     if (this.at === BUSY) {

@@ -1,5 +1,5 @@
-/* Several boards on one bus. What is seen of each is in memory that this process and those that it forks have in common; its device, with
- * its medium, is in the one process that works with it. */
+/* Several boards on one bus. All that is seen of each is in memory that this process and those that it forks have in common; its device,
+ * with its medium, is in the one process that works with it. */
 #include "boards.h"
 #include "bus.h"
 #include "settings.h"
@@ -98,7 +98,7 @@ void boards_enter(int board)
     seen = &all_seen[board];
 }
 
-/* What is done at the end is done with the board that was worked with. */
+/* Work at the end is done with the board that was worked with. */
 static void enter_awake(void)
 {
     boards_enter(awake);
@@ -121,7 +121,7 @@ void boards_pass_time(void)
         bus_pass_time();
 }
 
-/* Whether a board was pulled out by now, so long ago. */
+/* Returns whether a board was pulled out by now, so long ago. */
 static bool is_pulled(int board, unsigned ms)
 {
     const struct settings *its = &each[board];

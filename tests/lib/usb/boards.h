@@ -4,7 +4,7 @@
 
 #include <stdbool.h>
 
-/* Reads what there is, once. How many boards there are. */
+/* Reads what there is, once. Returns how many boards there are. */
 int boards_start(void);
 
 /* The settings, and what is seen, are those of this board from here on. */

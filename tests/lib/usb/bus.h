@@ -5,7 +5,7 @@
 #include <stdbool.h>
 #include <stdint.h>
 
-/* What is seen of a device on the bus. Where there are several (boards.h) the processes that work with them share this. */
+/* Facts of a device on the bus. If there are several (boards.h) the processes that work with them share this. */
 struct seen {
     unsigned generation, away;
     bool is_app, is_there, is_swapped;
@@ -16,7 +16,7 @@ struct seen {
 /* Reads the settings and makes the device, once; later calls do nothing. */
 void bus_start(void);
 
-/* What is seen of the device that the calls below are about. */
+/* Facts of the device that the calls below are about. */
 extern struct seen *seen;
 
 /* Makes that device by the settings, once. */
@@ -35,7 +35,7 @@ int bus_transfer(const uint8_t setup[8], uint8_t *data, uint16_t length, unsigne
 /* A reset of the bus: whether the device's descriptors are the same behind it. */
 bool bus_reset(void);
 
-/* Whether nothing that is sent comes to the device any more. */
+/* Returns whether nothing that is sent comes to the device any more. */
 bool bus_is_deaf(void);
 
 /* The interface is put into that alternate setting. */
@@ -49,13 +49,13 @@ unsigned bus_generation(void);
 
 bool bus_is_app(void);
 
-/* Whether it is on the bus, or is about to be listed again. */
+/* Returns whether it is on the bus, or is about to be listed again. */
 bool bus_is_there(void);
 
 /* A string descriptor that the device has of its own, and its bytes; NULL if it has none. */
 const uint8_t *bus_string(unsigned number, unsigned *length);
 
-/* Whether another board stands in the device's place. */
+/* Returns whether another board stands in the device's place. */
 bool bus_is_swapped(void);
 
 /* The number of the interface of what stands there. */

@@ -3,8 +3,8 @@
  * DNLOAD of block 0 brings a command: 21h and an address set the pointer, 41h and an address erase the page that has it. That of block 2
  * or more brings bytes for the pointer. GETSTATUS starts what was brought and answers dfuDNBUSY; once its time is over the next one tells
  * what came of it. ABORT drops what was not started. UPLOAD from dfuIDLE or dfuUPLOAD-IDLE gives the memory at the pointer, by the
- * number of the block. DNLOAD of no bytes leaves for the application, which GETSTATUS starts. The memory is that of USB_PAGES. Where the
- * power goes while something is written or erased, every other byte of it stands. */
+ * number of the block. DNLOAD of no bytes leaves for the application, which GETSTATUS starts. The memory is that of USB_PAGES. If the power
+ * goes while something is written or erased, every other byte of it stands. */
 #include "dfuse_pages.h"
 #include "log.h"
 #include "model.h"
@@ -59,7 +59,7 @@ static void usb_reset(void)
 {
 }
 
-/* What a command has done stands once its time is over. */
+/* The work of a command stands once its time is over. */
 static void settle(void)
 {
     if (dfuse.left_ms > 0)

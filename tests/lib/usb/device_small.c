@@ -3,7 +3,7 @@
  * It has one slot and writes in place: block 0 erases what stood there. A block is kept as it comes; GETSTATUS answers dfuDNBUSY,
  * and once that answer is out the block is written, and the state is dfuDNLOAD-IDLE. Behind the close GETSTATUS answers
  * dfuMANIFEST, and then it resets itself, at once or after USB_MANIFEST ms, and starts the application: no host asks for that.
- * ABORT and CLRSTATUS lead to dfuIDLE; what it doesn't know it stalls, and stays as it is. Where a download was broken off it stays
+ * ABORT and CLRSTATUS lead to dfuIDLE; what it doesn't know it stalls, and stays as it is. If a download was broken off it stays
  * in DFU mode, also without power. */
 #include "model.h"
 #include "settings.h"
@@ -35,7 +35,7 @@ static bool is_there(void)
     return small.away_ms == 0;
 }
 
-/* What a reset, or power, starts. */
+/* Program that a reset, or power, starts. */
 static void start(void)
 {
     small.leaves_ms = 0;

@@ -1,7 +1,7 @@
 /* A device by the rules of U-Boot 2023.01's DFU function (drivers/usb/gadget/f_dfu.c there), written anew for these
  * tests. It differs from appendix A of the standard in what it says of a block: dfuDNLOAD-IDLE at once, no dfuDNBUSY.
- * A wrong request leads to dfuERROR with the code OK; a block that can't be taken, to errUNKNOWN. What was downloaded
- * is flushed after the answer that says dfuMANIFEST; where that fails, U-Boot leaves, and the device is gone. */
+ * A wrong request leads to dfuERROR with the code OK; a block that can't be taken, to errUNKNOWN. The download is flushed after the answer
+ * that says dfuMANIFEST; where that fails, U-Boot leaves, and the device is gone. */
 #include "model.h"
 #include "settings.h"
 #include "uboot_store.h"
@@ -162,7 +162,7 @@ static int handle(const uint8_t setup[8], const uint8_t *body, size_t length, ui
     return count < 0 ? count : (int)told;
 }
 
-/* What SET_INTERFACE does, and a host's SET_CONFIGURATION after a reset. What is gathered of a download stays. */
+/* Effects of SET_INTERFACE, and a host's SET_CONFIGURATION after a reset. The part that is gathered of a download stays. */
 static void set_interface(void)
 {
     uboot.state = IDLE;

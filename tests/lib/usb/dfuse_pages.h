@@ -11,7 +11,7 @@
 /* Lays the pages, and fills them with the old image, and FFh behind it. */
 void pages_make(void);
 
-/* Whether an address is on a page. */
+/* Returns whether an address is on a page. */
 bool pages_has(uint32_t address);
 
 /* Erases the page that has an address: false if there is none, or it can't be erased. */
@@ -20,7 +20,7 @@ bool pages_erase(uint32_t address);
 /* Writes bytes: false if one of them is on no page that can be written, or if a cell that isn't erased refuses it. */
 bool pages_write(uint32_t address, const uint8_t *bytes, size_t length);
 
-/* Reads bytes, up to the first that can't be read. How many they are. */
+/* Reads bytes, up to the first that can't be read. Returns how many they are. */
 size_t pages_read(uint32_t address, uint8_t *out, size_t length);
 
 /* Keeps the memory as it is, and brings every other byte that has changed since back. */

@@ -1,4 +1,4 @@
-/* What becomes of single transfers. */
+/* Fates of single transfers. */
 #ifndef USB_FATES_H
 #define USB_FATES_H
 

@@ -1,4 +1,4 @@
-/* What a run reads and leaves: the old image, the image that stands at the end (USB_SAVE), and the device's parts, one
+/* Files that a run reads and leaves: the old image, the image that stands at the end (USB_SAVE), and the device's parts, one
  * behind the other (USB_STATE). Such a file is for a run of the same settings. */
 #include "keep.h"
 #include "settings.h"

@@ -1,4 +1,4 @@
-/* What a device on the stand-in's bus has to answer: the proved device, and the models of U-Boot, of a small bootloader
+/* Calls that a device on the stand-in's bus has to answer: the proved device, and the models of U-Boot, of a small bootloader
  * and of a DfuSe device. */
 #ifndef USB_MODEL_H
 #define USB_MODEL_H

@@ -48,7 +48,7 @@ static const char *text(const char *name, const char *otherwise)
     return found != NULL ? found : otherwise;
 }
 
-/* Whether the variable is the first of two words; it has to be one of them. */
+/* Returns whether the variable is the first of two words; it has to be one of them. */
 static bool is_first(const char *name, const char *first, const char *second, const char *otherwise)
 {
     const char *found = text(name, otherwise);

@@ -98,7 +98,7 @@ enum fate_kind {
     FATE_STALL
 };
 
-/* What becomes of the transfer of one number, and, of FATE_DEAF and FATE_MUTE, of each behind it; `bytes` is for FATE_SHORT. */
+/* Fate of the transfer of one number, and, of FATE_DEAF and FATE_MUTE, of each behind it; `bytes` is for FATE_SHORT. */
 struct fate {
     enum fate_kind kind;
     unsigned number, bytes;
@@ -169,7 +169,7 @@ extern struct settings settings;
 /* Reads the environment once; a value that is not understood ends the program. */
 void settings_read(void);
 
-/* Whether an application leaves this request out, whichever device it runs on. */
+/* Returns whether an application leaves this request out, whichever device it runs on. */
 bool settings_leave_out(uint8_t request);
 
 /* Ends the program with a message: what was asked for is not to be had, or not to be believed. */

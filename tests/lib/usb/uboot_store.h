@@ -6,13 +6,13 @@
 
 void store_make(void);
 
-/* What is gathered is forgotten, as it is when the power goes; the medium stays. */
+/* The part that is gathered is forgotten, as it is when the power goes; the medium stays. */
 void store_forget(void);
 
 /* Takes a block, or with no bytes the end of the download: 0, or -1 where the number is wrong or a write failed. */
 int store_write(const uint8_t *bytes, size_t count, uint16_t number);
 
-/* What is gathered is written, and a file replaced: 0, or -1. */
+/* The part that is gathered is written, and a file replaced: 0, or -1. */
 int store_flush(void);
 
 /* Reads the next bytes of the image, at most `room`: how many, or -1 where the number is wrong. */

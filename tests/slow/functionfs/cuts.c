@@ -1,4 +1,4 @@
-/* What a loss of power leaves, at each write of a medium: cuts START LOG END IMAGE..
+/* Bytes that a loss of power leaves, at each write of a medium: cuts START LOG END IMAGE..
  *
  * START is the medium as it was, LOG a log of the kernel's dm-log-writes, END the medium as it is. A mark in the log, the last part of
  * an IMAGE's path, tells that its download begins; before the first one the first IMAGE is active. At each write these are tried: that

@@ -1,4 +1,4 @@
-/* What mboot's code takes from the headers of MicroPython and of ST: the little of it that is wanted here. */
+/* Names that mboot's code takes from the headers of MicroPython and of ST: the little of it that is wanted here. */
 #ifndef MBOOT_DEVICE_H
 #define MBOOT_DEVICE_H
 

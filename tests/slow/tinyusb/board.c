@@ -16,7 +16,7 @@ uint8_t board_protocol(void)
     return dfu_tinyusb_protocol();
 }
 
-/* How often the device is told of a reset: the program is linked with --wrap. */
+/* Returns how often the device is told of a reset: the program is linked with --wrap. */
 int32_t __real_dfu_core_usb_reset(const struct dfu_config *, struct dfu_record *, uint8_t *, size_t, const uint8_t *, size_t);
 int32_t __wrap_dfu_core_usb_reset(const struct dfu_config *, struct dfu_record *, uint8_t *, size_t, const uint8_t *, size_t);
 int32_t __wrap_dfu_core_usb_reset(const struct dfu_config *c, struct dfu_record *r, uint8_t *b, size_t most, const uint8_t *f, size_t size)

@@ -45,7 +45,7 @@ static void complete(uint8_t endpoint, unsigned length)
     tud_task();
 }
 
-/* Whether a packet goes this way now. If not, it is a stall, or nothing ever comes. */
+/* Returns whether a packet goes this way now. If not, it is a stall, or nothing ever comes. */
 static int waits(int way)
 {
     return ends[way].is_stalled ? BUS_STALL : ends[way].is_armed ? 0 : BUS_HANGS;
@@ -68,7 +68,7 @@ static int status(int way, enum stop stop, int answer)
     return answer;
 }
 
-/* Whether the request breaks off in its data stage here, behind so many packets. */
+/* Returns whether the request breaks off in its data stage here, behind so many packets. */
 static bool breaks_off(enum stop stop, unsigned packets)
 {
     return stop == WITHIN_DATA && (bus_packets == 0 ? rand() % 2 == 0 : packets == bus_packets);
@@ -161,7 +161,7 @@ void bus_time(unsigned ms)
     dfu_tinyusb_task(clock_ms);
 }
 
-/* What TinyUSB wants of a controller. */
+/* Calls that TinyUSB wants of a controller. */
 bool dcd_edpt_xfer(uint8_t rhport, uint8_t endpoint, uint8_t *buffer, uint16_t length)
 {
     const int way = (endpoint & 0x80) != 0 ? IN : OUT;

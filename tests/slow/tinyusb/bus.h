@@ -4,16 +4,16 @@
 #include <stdbool.h>
 #include <stdint.h>
 
-/* Where a request breaks off. BEFORE_TASK: tud_task has not seen the setup when the next thing comes. */
+/* Place where a request breaks off. BEFORE_TASK: tud_task has not seen the setup when the next thing comes. */
 enum stop { TO_THE_END, AFTER_SETUP, WITHIN_DATA, BEFORE_STATUS, TWO_SETUPS, BEFORE_TASK };
 /* WITHIN_DATA: behind so many packets; 0: by dice. */
 extern unsigned bus_packets;
-/* What the host saw. Answers are 0 or more: how many bytes came, or 0 for an acknowledgment. */
+/* Answers that the host saw. Answers are 0 or more: how many bytes came, or 0 for an acknowledgment. */
 enum { BUS_STALL = -1, BUS_NOTHING = -2, BUS_HANGS = -3 };
 
 /* bus_request: body has wLength bytes if the host sends, else `in` has room for as many. */
 int bus_request(const uint8_t setup[8], const uint8_t *body, uint8_t *in, enum stop stop);
-/* bus_enumerate: two resets, descriptors, SET_ADDRESS, SET_CONFIGURATION. Whether each was answered. */
+/* bus_enumerate: two resets, descriptors, SET_ADDRESS, SET_CONFIGURATION. Returns whether each was answered. */
 bool bus_enumerate(void);
 /* bus_reset: one reset, or the cable is pulled. */
 void bus_reset(bool is_unplugged);

@@ -1,4 +1,4 @@
-/* What TinyUSB wants of a controller and neither of the two here has: another endpoint, waking the host, frames. */
+/* Calls that TinyUSB wants of a controller and neither of the two here has: another endpoint, waking the host, frames. */
 #include "board.h"
 #include "device/dcd.h"
 

@@ -183,7 +183,7 @@ static bool passes(int broken, enum stop stop, enum next next)
     return ended == 0;
 }
 
-/* How many places a request has to break off there: behind each packet, but for the last one of the host. */
+/* Returns how many places a request has to break off there: behind each packet, but for the last one of the host. */
 static unsigned places(int at, enum stop stop)
 {
     const unsigned packets = (list[at].length + CFG_TUD_ENDPOINT0_SIZE - 1u) / CFG_TUD_ENDPOINT0_SIZE;

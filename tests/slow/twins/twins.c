@@ -152,7 +152,7 @@ static void garble(void) {
     memcpy(two.flash, one.flash, sizeof two.flash);
 }
 
-/* What is asked of both beside the calls: these take no flash, or read it alone. */
+/* Questions to both beside the calls: these take no flash, or read it alone. */
 static void look(const uint8_t setup[8]) {
     struct dfu_place a = {7, 7}, b = a;
     uint8_t x[9] = {0}, y[9] = {0};

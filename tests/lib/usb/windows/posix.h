@@ -1,4 +1,4 @@
-/* What the stand-in calls and Windows doesn't have. */
+/* Calls of the stand-in and Windows doesn't have. */
 #ifndef USB_WINDOWS_POSIX_H
 #define USB_WINDOWS_POSIX_H
 
