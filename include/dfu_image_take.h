@@ -31,34 +31,34 @@ extern "C" {
  * one; no bytes; the first gap from the lowest address on, or too many bytes; too short a room. docs/REFUSALS.md says of each exactly when
  * (`image_of`). taken.from is the line from 1, the block or segment from 0, or the address that is named here, and else 0. */
 enum {
-    DFU_TAKE_NO_FORMAT = -101,           /* format is none of DFU_LOOKS_IHEX to DFU_LOOKS_ELF */
-    DFU_TAKE_NO_ROOM = -102,             /* the image has taken.length bytes, and the room fewer */
-    DFU_TAKE_NO_MEMORY = -103,           /* the memory is too little; says nothing of the file */
-    DFU_TAKE_NO_MARK = -104,             /* line: it doesn't begin as a record */
-    DFU_TAKE_BAD_DIGIT = -105,           /* line: not pairs of hexadecimal digits */
-    DFU_TAKE_BAD_LENGTH = -106,          /* line: another length than it says, or than its type has */
-    DFU_TAKE_BAD_CHECKSUM = -107,        /* line */
-    DFU_TAKE_BAD_TYPE = -108,            /* line */
-    DFU_TAKE_BAD_COUNT = -109,           /* line: not the number of data records before it */
-    DFU_TAKE_PAST_SEGMENT = -110,        /* line: data past its segment, or past address FFFFFFFFh */
-    DFU_TAKE_TRAILING = -111,            /* line: it stands behind the end record */
-    DFU_TAKE_NO_END = -112,              /* the end record is missing */
-    DFU_TAKE_BAD_SIZE = -113,            /* not one or more blocks of 512 bytes */
-    DFU_TAKE_BAD_MAGIC = -114,           /* block */
-    DFU_TAKE_BAD_BLOCK = -115,           /* block: over 476 bytes of data */
-    DFU_TAKE_BAD_NUMBER = -116,          /* block */
-    DFU_TAKE_FILE_CONTAINER = -117,      /* block: for a file of the device */
-    DFU_TAKE_OTHER_FAMILY = -118,        /* block: for other boards than the first */
-    DFU_TAKE_NOT_ELF = -119,             /* no ELF header of 32 bits, little endian */
-    DFU_TAKE_CUT_HEADER = -120,          /* not all program headers, of 32 bytes */
-    DFU_TAKE_CUT_SEGMENT = -121,         /* segment */
-    DFU_TAKE_PAST_THE_END = -122,        /* block or segment: data past address FFFFFFFFh */
-    DFU_TAKE_TOO_LARGE = -123,           /* line, block or segment: over 16,777,216 bytes of data from there on */
-    DFU_TAKE_TOO_MANY_ELEMENTS = -124,   /* line, block or segment: over 1,024 parts from there on */
-    DFU_TAKE_OVERLAPS = -125,            /* address: two records have it; the lowest */
-    DFU_TAKE_NO_DATA = -126,             /* it has no bytes for any address */
-    DFU_TAKE_GAP = -127,                 /* address: nothing is there up to before taken.to, and no byte fills it */
-    DFU_TAKE_TOO_LARGE_FILLED = -128     /* with what fills the gaps there are over 16,777,216 bytes */
+    DFU_TAKE_NO_FORMAT = -101,         /* format is none of DFU_LOOKS_IHEX to DFU_LOOKS_ELF */
+    DFU_TAKE_NO_ROOM = -102,           /* the image has taken.length bytes, and the room fewer */
+    DFU_TAKE_NO_MEMORY = -103,         /* the memory is too little; says nothing of the file */
+    DFU_TAKE_NO_MARK = -104,           /* line: it doesn't begin as a record */
+    DFU_TAKE_BAD_DIGIT = -105,         /* line: not pairs of hexadecimal digits */
+    DFU_TAKE_BAD_LENGTH = -106,        /* line: another length than it says, or than its type has */
+    DFU_TAKE_BAD_CHECKSUM = -107,      /* line */
+    DFU_TAKE_BAD_TYPE = -108,          /* line */
+    DFU_TAKE_BAD_COUNT = -109,         /* line: not the number of data records before it */
+    DFU_TAKE_PAST_SEGMENT = -110,      /* line: data past its segment, or past address FFFFFFFFh */
+    DFU_TAKE_TRAILING = -111,          /* line: it stands behind the end record */
+    DFU_TAKE_NO_END = -112,            /* the end record is missing */
+    DFU_TAKE_BAD_SIZE = -113,          /* not one or more blocks of 512 bytes */
+    DFU_TAKE_BAD_MAGIC = -114,         /* block */
+    DFU_TAKE_BAD_BLOCK = -115,         /* block: over 476 bytes of data */
+    DFU_TAKE_BAD_NUMBER = -116,        /* block */
+    DFU_TAKE_FILE_CONTAINER = -117,    /* block: for a file of the device */
+    DFU_TAKE_OTHER_FAMILY = -118,      /* block: for other boards than the first */
+    DFU_TAKE_NOT_ELF = -119,           /* no ELF header of 32 bits, little endian */
+    DFU_TAKE_CUT_HEADER = -120,        /* not all program headers, of 32 bytes */
+    DFU_TAKE_CUT_SEGMENT = -121,       /* segment */
+    DFU_TAKE_PAST_THE_END = -122,      /* block or segment: data past address FFFFFFFFh */
+    DFU_TAKE_TOO_LARGE = -123,         /* line, block or segment: over 16,777,216 bytes of data from there on */
+    DFU_TAKE_TOO_MANY_ELEMENTS = -124, /* line, block or segment: over 1,024 parts from there on */
+    DFU_TAKE_OVERLAPS = -125,          /* address: two records have it; the lowest */
+    DFU_TAKE_NO_DATA = -126,           /* it has no bytes for any address */
+    DFU_TAKE_GAP = -127,               /* address: nothing is there up to before taken.to, and no byte fills it */
+    DFU_TAKE_TOO_LARGE_FILLED = -128   /* with what fills the gaps there are over 16,777,216 bytes */
 };
 
 /* What a call says. */

@@ -61,17 +61,17 @@ image_fault_place (file.Overlaps address) = address
 
 -- A refusal with the number of the fault, and with its places. A file without bytes is -126, a gap -127, and an image that is too large
 -- with what fills it -128.
-abbrev pub refusal_of : ImageFileFault → ImageRefusal
-refusal_of (Unread fault) = record { number = image_fault_number fault; from = image_fault_place fault; to = 0 }
-refusal_of NoData = record { number = negsuc 125; from = 0; to = 0 }
-refusal_of (Unlaid lay.NoMemory) = record { number = negsuc 102; from = 0; to = 0 }
-refusal_of (Unlaid (lay.Gap from to)) = record { number = negsuc 126; from = from; to = to }
-refusal_of (Unlaid lay.TooLarge) = record { number = negsuc 127; from = 0; to = 0 }
+abbrev pub image_refusal : ImageFileFault → ImageRefusal
+image_refusal (Unread fault) = record { number = image_fault_number fault; from = image_fault_place fault; to = 0 }
+image_refusal NoData = record { number = negsuc 125; from = 0; to = 0 }
+image_refusal (Unlaid lay.NoMemory) = record { number = negsuc 102; from = 0; to = 0 }
+image_refusal (Unlaid (lay.Gap from to)) = record { number = negsuc 126; from = from; to = to }
+image_refusal (Unlaid lay.TooLarge) = record { number = negsuc 127; from = 0; to = 0 }
 
 -- A number of no format is refused with -101.
 abbrev pub no_format : ℤ
 no_format = negsuc 100
 
 -- A room that is shorter than the image is refused with -102.
-abbrev pub no_room : ℤ
-no_room = negsuc 101
+abbrev pub room_too_short : ℤ
+room_too_short = negsuc 101

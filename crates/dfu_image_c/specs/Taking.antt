@@ -6,7 +6,7 @@ use Rattle.dfu_formats.specs.declared.images.making.Image.{Image}
 use Rattle.dfu_formats.specs.declared.images.making.ImageFileFault.{ImageFileFault}
 use Rattle.dfu_formats.specs.images.Making.{MakesImage, elements_in}
 use Rattle.dfu_image_c.specs.declared.taking.DfuTaken.{DfuTaken}
-use Rattle.dfu_image_c.specs.Refusals.{no_format, no_room, refusal_of}
+use Rattle.dfu_image_c.specs.Refusals.{no_format, room_too_short, image_refusal}
 
 -- The format of a number: 1 Intel HEX, 2 S-records, 3 UF2, 4 ELF.
 abbrev pub format_of : ℕ → Option Format
@@ -25,7 +25,7 @@ filling_of n = if nat_lt n 256 then Some n else None
 abbrev pub LiesInFront : (bytes old new : List ℕ) → ℤ → Type 0
 LiesInFront bytes old new result =
     ((result ≡ pos 0) × (length bytes ≤ length old) × (new ≡ bytes ++ drop (length bytes) old))
-    ⊎ ((result ≡ no_room) × (length old < length bytes) × (new ≡ old))
+    ⊎ ((result ≡ room_too_short) × (length old < length bytes) × (new ≡ old))
 
 -- What a call leaves of what was read: the image in the room, and its address and length; or its refusal, and the room as it was.
 abbrev pub Leaves : Result Image ImageFileFault → (old new : List ℕ) → (taken : DfuTaken) → ℤ → Type 0
@@ -33,11 +33,11 @@ Leaves (Ok image) old new taken result =
     (taken ≡ record { length = length image.bytes.items; from = 0; to = 0; address = image.address })
     × LiesInFront image.bytes.items old new result
 Leaves (Err fault) old new taken result =
-    let refusal = refusal_of fault in
+    let refusal = image_refusal fault in
     (taken ≡ record { length = 0; from = refusal.from; to = refusal.to; address = 0 }) × (result ≡ refusal.number) × (new ≡ old)
 
 -- The file is read as one of a format, and left so. Of no format nothing changes.
-abbrev pub Takes : Option Format → (fill : Option ℕ) → (file old new : List ℕ) → (before after : DfuTaken) → ℤ → Type 0
-Takes None fill file old new before after result = (result ≡ no_format) × (new ≡ old) × (after ≡ before)
-Takes (Some format) fill file old new before after result =
+abbrev pub TakesImage : Option Format → (fill : Option ℕ) → (file old new : List ℕ) → (before after : DfuTaken) → ℤ → Type 0
+TakesImage None fill file old new before after result = (result ≡ no_format) × (new ≡ old) × (after ≡ before)
+TakesImage (Some format) fill file old new before after result =
     (read : Result Image ImageFileFault) × MakesImage fill (elements_in format file) read × Leaves read old new after result

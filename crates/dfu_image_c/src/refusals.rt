@@ -1,7 +1,7 @@
 //! What C gets if there is no image of a file: a number, and the places that the fault names.
 
 ghost use Rattle.std.specs.Prelude.{◌≡◌};
-ghost use Rattle.dfu_image_c.specs.Refusals.{image_fault_number, image_fault_place, refusal_of};
+ghost use Rattle.dfu_image_c.specs.Refusals.{image_fault_number, image_fault_place, image_refusal};
 
 use dfu_formats::images::{ImageFault, ImageFileFault, LayFault};
 
@@ -81,8 +81,8 @@ fn image_fault_place(fault: ImageFault) -> u64
 }
 
 /// The refusal of a file that makes no image.
-pub(crate) fn refusal_of(fault: ImageFileFault) -> ImageRefusal
-    ensures { result ≡ refusal_of fault }
+pub(crate) fn image_refusal(fault: ImageFileFault) -> ImageRefusal
+    ensures { result ≡ image_refusal fault }
 {
     let (number, from, to) = match fault {
         ImageFileFault::Unread(fault) => (image_fault_number(fault), image_fault_place(fault), 0),

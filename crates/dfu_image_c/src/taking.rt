@@ -1,9 +1,9 @@
 //! The image of a file of a format, at the front of the caller's room.
 
 ghost use Rattle.std.specs.Prelude.{◌≡◌};
-ghost use Rattle.dfu_image_c.specs.Taking.{Leaves, Takes, filling_of, format_of};
+ghost use Rattle.dfu_image_c.specs.Taking.{Leaves, TakesImage, filling_of, format_of};
 
-use crate::refusals::{NO_FORMAT, NO_ROOM, refusal_of};
+use crate::refusals::{NO_FORMAT, NO_ROOM, image_refusal};
 use dfu_formats::images::{Format, Image, ImageFileFault, image_of};
 use std::alloc::Global;
 
@@ -67,7 +67,7 @@ fn leave(read: Result<Image, ImageFileFault>, room: &mut [u8], taken: &mut DfuTa
             0
         }
         Err(fault) => {
-            let refusal = refusal_of(fault);
+            let refusal = image_refusal(fault);
             *taken = DfuTaken {
                 length: 0,
                 from: refusal.from,
@@ -89,7 +89,7 @@ pub extern "C" fn dfu_image_take(
     room: &mut [u8],
     taken: &mut DfuTaken,
 ) -> i32
-    ensures { Takes (format_of format) (filling_of fill) file.now room.old room.new taken.old taken.new result }
+    ensures { TakesImage (format_of format) (filling_of fill) file.now room.old room.new taken.old taken.new result }
 {
     let Some(format) = format_of(format) else {
         return NO_FORMAT;

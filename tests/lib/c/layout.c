@@ -247,4 +247,3 @@ AT(dfuse_action, what, 8);
 AT(dfuse_action, value, 12);
 AT(dfuse_action, more, 16);
 AT(dfuse_action, setup, 20);
-

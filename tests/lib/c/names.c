@@ -149,7 +149,8 @@ IS(DFU_WRONG_TYPE, -34);
 IS(DFU_NO_SESSION, -41);
 IS(DFU_NO_SEEN, -42);
 
-int main(void) {
+int main(void)
+{
     return 0;
 }
 

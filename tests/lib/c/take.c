@@ -57,32 +57,33 @@ struct row {
 #define UF2(flags, number, byte) \
     "UF2\n\x57\x51\x5d\x9e" flags "\0\0\0\x08\1\0\0\0" number "\1\0\0\0\0\0\0\0" byte ZEROS_475 "\x30\x6f\xb1\x0a"
 #define ELF(count) \
-    "\x7f" "ELF\1\1\1" "\0\0\0\0\0\0\0\0\0" "\2\0\x28\0\1\0\0\0" "\0\0\0\0" "\x34\0\0\0" "\0\0\0\0" "\0\0\0\0" "\x34\0\x20\0\1\0\0\0\0\0\0\0" \
-    "\1\0\0\0\x54\0\0\0\0\0\0\x20\0\0\0\x08" count "\0\0\0\3\0\0\0\5\0\0\0\4\0\0\0" "abc"
+    "\177ELF\1\1\1\0\0\0\0\0\0\0\0\0\2\0\50\0\1\0\0\0\0\0\0\0\64\0\0\0" ZEROS_8 \
+    "\64\0\40\0\1\0\0\0\0\0\0\0" \
+    "\1\0\0\0\124\0\0\0\0\0\0\40\0\0\0\10" count "\0\0\0\3\0\0\0\5\0\0\0\4\0\0\0abc"
 
 static const struct row rows[] = {
-    TAKEN("one record", ":03000000414243" "37\n" END, IHEX, NONE, 0, "ABC"),
-    TAKEN("two that touch, the second first", ":010001004" "2BC\n:0100000041BE\n" END, IHEX, NONE, 0, "AB"),
+    TAKEN("one record", ":0300000041424337\n" END, IHEX, NONE, 0, "ABC"),
+    TAKEN("two that touch, the second first", ":0100010042BC\n:0100000041BE\n" END, IHEX, NONE, 0, "AB"),
     TAKEN("an upper half", ":020000040800F2\n:0200100041426B\n" END, IHEX, NONE, 0x08000010, "AB"),
-    TAKEN("a gap that is filled", ":0100000041BE\n:0100030042BA\n" END, IHEX, 0xff, 0, "A\xff\xff" "B"),
+    TAKEN("a gap that is filled", ":0100000041BE\n:0100030042BA\n" END, IHEX, 0xff, 0, "A\377\377B"),
     TAKEN("a byte order mark, blanks, lower case", "\xef\xbb\xbf  :0100000041be \r\n\n:00000001ff", IHEX, 0, 0, "A"),
     TAKEN("S-records", "S00600004844521B\nS1050000414277\nS9030000FC\n", DFU_LOOKS_SREC, NONE, 0, "AB"),
     TAKEN("a block of UF2", UF2("\0\0\0\0", "\0\0\0\0", "A"), DFU_LOOKS_UF2, NONE, 0x08000000, "A"),
     TAKEN("a segment of ELF", ELF("\3"), DFU_LOOKS_ELF, NONE, 0x08000000, "abc"),
     REFUSED("no mark", "0100000041BE\n" END, IHEX, NONE, DFU_TAKE_NO_MARK, 1, 0),
-    REFUSED("the letter O", ":01000000" "41BE\n:01OO010042BC\n" END, IHEX, NONE, DFU_TAKE_BAD_DIGIT, 2, 0),
+    REFUSED("the letter O", ":0100000041BE\n:01OO010042BC\n" END, IHEX, NONE, DFU_TAKE_BAD_DIGIT, 2, 0),
     REFUSED("a shorter record", ":0200000041BD\n" END, IHEX, NONE, DFU_TAKE_BAD_LENGTH, 1, 0),
     REFUSED("a wrong sum", ":0100000041BF\n" END, IHEX, NONE, DFU_TAKE_BAD_CHECKSUM, 1, 0),
-    REFUSED("an unknown type", ":0000000" "6FA\n" END, IHEX, NONE, DFU_TAKE_BAD_TYPE, 1, 0),
+    REFUSED("an unknown type", ":00000006FA\n" END, IHEX, NONE, DFU_TAKE_BAD_TYPE, 1, 0),
     REFUSED("a wrong count", "S1050000414277\nS5030002FA\nS9030000FC\n", DFU_LOOKS_SREC, NONE, DFU_TAKE_BAD_COUNT, 2, 0),
-    REFUSED("past the last address", ":02000004FFFFFC\n:02FFFF00414" "27D\n" END, IHEX, NONE, DFU_TAKE_PAST_SEGMENT, 2, 0),
+    REFUSED("past the last address", ":02000004FFFFFC\n:02FFFF0041427D\n" END, IHEX, NONE, DFU_TAKE_PAST_SEGMENT, 2, 0),
     REFUSED("behind the end", END ":0100000041BE\n", IHEX, NONE, DFU_TAKE_TRAILING, 2, 0),
     REFUSED("no end", ":0100000041BE\n", IHEX, NONE, DFU_TAKE_NO_END, 0, 0),
     REFUSED("no blocks", "UF2\n", DFU_LOOKS_UF2, NONE, DFU_TAKE_BAD_SIZE, 0, 0),
     REFUSED("another number", UF2("\0\0\0\0", "\1\0\0\0", "A"), DFU_LOOKS_UF2, NONE, DFU_TAKE_BAD_NUMBER, 0, 0),
     REFUSED("for a file", UF2("\0\x10\0\0", "\0\0\0\0", "A"), DFU_LOOKS_UF2, NONE, DFU_TAKE_FILE_CONTAINER, 0, 0),
     REFUSED("not for flash", UF2("\1\0\0\0", "\0\0\0\0", "A"), DFU_LOOKS_UF2, NONE, DFU_TAKE_NO_DATA, 0, 0),
-    REFUSED("no header", "\x7f" "ELF\2", DFU_LOOKS_ELF, NONE, DFU_TAKE_NOT_ELF, 0, 0),
+    REFUSED("no header", "\177ELF\2", DFU_LOOKS_ELF, NONE, DFU_TAKE_NOT_ELF, 0, 0),
     REFUSED("a cut segment", ELF("\4"), DFU_LOOKS_ELF, NONE, DFU_TAKE_CUT_SEGMENT, 0, 0),
     REFUSED("an end alone", END, IHEX, NONE, DFU_TAKE_NO_DATA, 0, 0),
     REFUSED("two bytes at an address", ":0200000041427B\n:0100010043BB\n" END, IHEX, 0, DFU_TAKE_OVERLAPS, 1, 0),

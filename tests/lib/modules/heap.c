@@ -1,5 +1,5 @@
-/* heap.ll behind heap.py: where each block lies, by hand. The first three words are the heap's own; a block takes its bytes and one more, up
- * to a multiple of 8. */
+/* heap.ll behind heap.py: where each block lies, by hand. The first three words are the heap's own; a block takes its bytes and one more,
+ * up to a multiple of 8. */
 #include <stdio.h>
 #include <stdlib.h>
 #include <string.h>

@@ -62,7 +62,8 @@ def of_the_program(name, word, payload):
         return None
     with tempfile.TemporaryDirectory() as folder:
         (pathlib.Path(folder) / name).write_bytes(payload)
-        run = subprocess.run([PROGRAM, 'add', '--format', word, name, 'out.dfu', '--explain'], capture_output=True, text=True, check=False, cwd=folder)
+        words = [PROGRAM, 'add', '--format', word, name, 'out.dfu', '--explain']
+        run = subprocess.run(words, capture_output=True, text=True, check=False, cwd=folder)
         return run.stdout, run.stderr
 
 
@@ -73,7 +74,8 @@ def good(browser, address, work):
         is_asked(browser)
         fields = shown(browser, '#fields')
         check_that(f'{name}: what was read', name in fields and places in fields and f'{len(wanted)} bytes' in fields, fields)
-        check(f'{name}: no refusal, no box', shown(browser, '#file-refused') + shown(browser, '#raw-anyway-row') + shown(browser, '#fill-row'), '')
+        for other in ('#file-refused', '#raw-anyway-row', '#fill-row'):
+            check(f'{name}: no {other}', shown(browser, other), '')
         is_labelled(browser, name)
         is_readable(browser, name)
         fits(browser, name)
@@ -87,8 +89,8 @@ def good(browser, address, work):
         (pathlib.Path(work) / (file.rsplit('.', 1)[0] + '.dfu')).unlink()
         if PROGRAM.exists():
             (pathlib.Path(work) / file).write_bytes(payload)
-            run = subprocess.run([PROGRAM, 'add', '--format', 'auto', '--vid', '1209', '--pid', '0001', file, 'ours.dfu'],
-                                 capture_output=True, check=False, cwd=work)
+            words = [PROGRAM, 'add', '--format', 'auto', '--vid', '1209', '--pid', '0001', file, 'ours.dfu']
+            run = subprocess.run(words, capture_output=True, check=False, cwd=work)
             check(f'{name}: dfu add', (run.returncode, (pathlib.Path(work) / 'ours.dfu').read_bytes()), (0, found))
     browser.click('#connect')
     is_ready(browser)

@@ -58,7 +58,8 @@ def numbers():
                                                          'apps/flash/standard.h'))
     theirs = {name: int(number, 0) for name, number in re.findall(r'(?:^   |^enum \{|,) (\w+) = (-?(?:0x[0-9a-f]+|\d+))\b', headers, re.M)}
     lists = re.findall(r'const char \*const (\w+)\[\] = \{(.*?)\};', (TOP / 'apps/flash/standard.c').read_text(), re.S)
-    pages = ''.join((TOP / 'apps/web' / it).read_text() for it in ('host.js', 'watch.js', 'dfuse_host.js', 'dfuse_watch.js', 'names.js', 'taking.js'))
+    ours = ('host.js', 'watch.js', 'dfuse_host.js', 'dfuse_watch.js', 'names.js', 'taking.js')
+    pages = ''.join((TOP / 'apps/web' / it).read_text() for it in ours)
     fronts = {name: 'DFU_' for name in ('WHAT', 'REPORT', 'REFUSAL', 'COURSE', 'COURSES')}
     fronts.update({'TAKE': 'DFU_TAKE_', 'SEEN': 'DFU_SEEN_', 'LOOKS': 'DFU_LOOKS_', 'NAMED': 'DFU_NAMED_', 'ATTRIBUTE': ''})
     fronts.update({name: 'DFUSE_' for name in ('WORK', 'OUTCOME', 'LEAVING', 'ACCESS', 'FILE')})
