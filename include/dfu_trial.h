@@ -8,10 +8,10 @@
  * update that hangs is started for ever. So the first image must be confirmed where it is made: dfu_trial_format, or in a factory's file
  * dfu_trial_format_memory.
  *
- * TRIALS END WHAT IS PROVED OF SESSIONS: what dfu_device.h says of lists of calls, and what a host's report says, is not proved of a
- * program that runs images on trial. What is proved: each call dfu_core_trial_* answers as dfu_trial_core.h says. And of the source in
- * Rattle, once an image was confirmed, over lists of starts, confirmations, ends, uploads and downloads with any fault: only the confirmed
- * image runs, or the newest on trial. Lists of the calls in C and the inline calls dfu_trial_* are only tested.
+ * What is proved: each call dfu_core_trial_* answers as dfu_trial_core.h says. And of the source in Rattle, once an image was confirmed,
+ * over lists of starts, confirmations, ends, uploads and downloads with any fault: only the confirmed image runs, or the newest on trial.
+ * What a host's report says of the active image holds through marks, torn or not, and through ends of trials (docs/PROMISES.md, "With an
+ * image on trial"). Lists of these calls in C and the inline calls dfu_trial_* are only tested.
  *
  *     static struct dfu_trial trial = {.flash = slots, .size = size, .driver = &driver, .tries = {16, 4096, 4}};
  *     struct dfu_place place;
