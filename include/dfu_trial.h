@@ -183,10 +183,10 @@ static inline int32_t dfu_trial_upload(const struct dfu_trial *t, struct dfu_ask
  *
  * Memory: sizeof(struct dfu_trial), 28 bytes with pointers of 32 bits, and within a call 268 bytes for a struct dfu_ask.
  *
- * TRIALS END WHAT IS PROVED OF SESSIONS: what dfu_device.h says of lists of calls, and what a host's report says, is not proved of a
- * program that runs images on trial. Proved is that each call dfu_core_trial_* answers as said above. And of the source in Rattle, once an
- * image was confirmed, over lists of starts, confirmations, ends, uploads and downloads with any fault: only the confirmed image runs, or
- * the newest on trial. Lists of the calls in C and the inline calls dfu_trial_* are only tested. */
+ * What is proved: each call dfu_core_trial_* answers as said above. And of the source in Rattle, once an image was confirmed, over lists
+ * of starts, confirmations, ends, uploads and downloads with any fault: only the confirmed image runs, or the newest on trial. What a
+ * host's report says of the active image holds through marks, torn or not, and through ends of trials (docs/PROMISES.md, "With an image
+ * on trial"). Lists of these calls in C and the inline calls dfu_trial_* are only tested. */
 
 /* The bodies of the calls: dfu_trial_core.h has what they stand on. */
 

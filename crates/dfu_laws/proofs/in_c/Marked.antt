@@ -8,7 +8,7 @@ use Rattle.dfu_core.specs.Kept.{IsKept}
 use Rattle.dfu_core.specs.Board.{CoreBoard, medium_of_core}
 use Rattle.dfu_core.specs.Happens.{CoreHappens}
 use Rattle.dfu_laws.specs.board.Board.{Board, medium_on}
-use Rattle.dfu_laws.specs.link.Marks.{IsMarked, TrialEnds}
+use Rattle.dfu_laws.specs.link.Marks.{IsMarkedBoard, TrialEnds}
 use Rattle.dfu_laws.specs.in_c.Steps.{CoreStep, IsCoreRun, board_of_core, IsBoardOf}
 use Rattle.dfu_laws.specs.in_c.Marks.{IsCoreMarked, CoreTrialEnds, AreCoreMarked, no_mark, one_mark, one_trial, IsCoreMarkedRun, AreCoreJoined}
 use Rattle.dfu_laws.proofs.in_c.Same.{set_up_alike}
@@ -19,7 +19,7 @@ use Rattle.dfu_laws.proofs.in_c.Runs.{same_flash}
 pub record MarkedToo (x : Board) (b' : CoreBoard) : Type 0 where
   pub board : Board
   pub is : IsBoardOf b' board
-  pub mark : IsMarked x board
+  pub mark : IsMarkedBoard x board
 
 pub marked_too : (b b' : CoreBoard) (x : Board) → IsBoardOf b x → IsCoreMarked b b' → MarkedToo x b'
 marked_too b b' x is mark =

@@ -27,7 +27,7 @@ use Rattle.dfu_asks.specs.Lent.{LentAsking}
 use Rattle.dfu_asks.specs.Asks.{grain_in, device_in, IsDevice}
 use Rattle.dfu_laws.specs.board.Board.{Board, lent_on, medium_on}
 use Rattle.dfu_laws.specs.board.Refines.{IsIdle}
-use Rattle.dfu_laws.specs.link.Marks.{IsMarked}
+use Rattle.dfu_laws.specs.link.Marks.{IsMarkedBoard}
 
 -- A byte of a range.
 byte_in : (l : List ℕ) (a b p : ℕ) → a ≤ p → p < b → slice_index l p ≡ get_or (slice_range l a b) (p - a) 0
@@ -94,7 +94,8 @@ module _ (w : Grain) (old now : List ℕ) (un : IsUnread (mapped w old) (mapped 
     bytes_same = ap (λ (x : Slot). written x.data_bytes (end - length held) held) spare_same
 
     begun_same : is_begun (store_of (mapped w now) held end) ≡ is_begun (store_of (mapped w old) held end)
-    begun_same = begun_from_gate (store_of (mapped w old) held end) (store_of (mapped w now) held end) (ap (λ (x : Slot). x.gate) spare_same)
+    begun_same =
+        begun_from_gate (store_of (mapped w old) held end) (store_of (mapped w now) held end) (ap (λ (x : Slot). x.gate) spare_same)
 
     room_same : room_of (store_of (mapped w now) held end) ≡ room_of (store_of (mapped w old) held end)
     unfolding room_of
@@ -166,7 +167,7 @@ module _ (a : LentAsking) (old now : List ℕ) (un : IsUnread (mapped (grain_in 
   profile_again = λ i. profile_of a.config (room_same (grain_in a) old now un a.held a.put_end i)
 
 -- Marks on a board leave the device that it is.
-pub marked_on : (b b' : Board) (d : DeviceView) → IsIdle b d → IsMarked b b' → MarkedOn d b'
+pub marked_on : (b b' : Board) (d : DeviceView) → IsIdle b d → IsMarkedBoard b b' → MarkedOn d b'
 marked_on b b' d k mark =
     let re : b' ≡ record b { flash = b'.flash } = λ i. record {
       asking = mark.asking i;

@@ -7,7 +7,7 @@ use Rattle.dfu_asks.specs.Lent.{IsSetUpAs}
 use Rattle.dfu_laws.specs.board.Board.{Board, Event, Handle, Says, BoardStep}
 use Rattle.dfu_laws.specs.board.Happens.{Happens, IsRun}
 use Rattle.dfu_laws.specs.link.Calls.{Reaches, lost, once, twice, Objects, refused_once, refused_twice, Stops, behind, within, within_second}
-use Rattle.dfu_laws.specs.link.Marks.{IsMarked, TrialEnds, AreMarked, none_is, one_more, one_end, IsMarkedRun, AreJoined}
+use Rattle.dfu_laws.specs.link.Marks.{IsMarkedBoard, TrialEnds, AreMarked, none_is, one_more, one_end, IsMarkedRun, AreJoined}
 use Rattle.dfu_laws.specs.link.Comes.{BoardLink, BoardComes, passes, sends, refuses, waits, resets, is_reset, restarts, leaves, restarts_at_reset, marks}
 use Rattle.dfu_laws.specs.link.Plays.{Plays, starts, offers, uploads, aborts as gives_up, goes_on, ends, PlaysRun}
 
@@ -55,7 +55,7 @@ stops_run call b b' _ (within_second {first = first} {second = second} {mid = mi
 
 -- What comes next over a link is a run, or a mark with no steps.
 abbrev pub WentBy : Board → List BoardStep → Board → Type 0
-WentBy b steps b' = IsRun b steps b' ⊎ ((steps ≡ []) × IsMarked b b')
+WentBy b steps b' = IsRun b steps b' ⊎ ((steps ≡ []) × IsMarkedBoard b b')
 
 pub comes_run : (l l' : BoardLink) (steps : List BoardStep) (answer : Answered) → BoardComes l steps answer l' →
     WentBy l.board steps l'.board

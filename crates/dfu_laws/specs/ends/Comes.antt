@@ -8,7 +8,7 @@ use Rattle.dfu_host_core.specs.Runs.{CoreHost}
 use Rattle.dfu_laws.specs.board.Board.{Board, Event, Handle, Elapse, UsbReset, Refuse, Restart, Says, BoardStep}
 use Rattle.dfu_laws.specs.board.Happens.{IsRun}
 use Rattle.dfu_laws.specs.link.Calls.{Serves, Reaches, Objects, Stops}
-use Rattle.dfu_laws.specs.link.Marks.{IsMarked}
+use Rattle.dfu_laws.specs.link.Marks.{IsMarkedBoard}
 use Rattle.dfu_laws.specs.ends.Sessions.{CoreSession, InSession, Wants, IsEntering, sent_body, HostTakes, TellsOf, Settles, HearsRestart, MayBeUnderWay}
 
 -- What comes next, with the steps of the board, and what is reported then. The program does what dfu_host_next says: it sends a request
@@ -56,4 +56,4 @@ pub data EndsCome (s : CoreSession) (b : Board) : List BoardStep → Answered �
       → (begins ≡ false) ⊎ IsEntering payload x → IsRun b (power ∷ []) b' → power.event ≡ Restart begins → HostTakes payload x 5 bytes x'
       → Settles payload x' said s' → EndsCome s b (power ∷ []) said s' b'
   -- A mark of a trial is set, or torn, or fails. The session learns nothing of it.
-  mark_is_set : {b' : Board} → IsMarked b b' → EndsCome s b [] silent s b'
+  mark_is_set : {b' : Board} → IsMarkedBoard b b' → EndsCome s b [] silent s b'

@@ -6,8 +6,8 @@ use Rattle.dfu_core.specs.Board.{CoreBoard, medium_of_core}
 use Rattle.dfu_core.specs.Happens.{start_mode, CoreHappens}
 use Rattle.dfu_laws.specs.in_c.Steps.{CoreStep, IsCoreRun}
 
--- Bytes of the flash changed that the slot store does not read: as by the operation that dfu_core_trial_start or dfu_core_trial_confirm asks
--- for, whatever became of it, if it sets a mark. All else is as it was.
+-- Bytes of the flash changed that the slot store does not read: as by the operation that dfu_core_trial_start or dfu_core_trial_confirm
+-- asks for, whatever became of it, if it sets a mark. All else is as it was.
 pub record IsCoreMarked (b b' : CoreBoard) : Type 0 where
   pub unread : IsUnread (medium_of_core b) (medium_of_core b')
   pub config : b'.config ≡ b.config

@@ -13,8 +13,8 @@ use Rattle.dfu_laws.specs.link.Stays.{RunsOnTrial}
 use Rattle.dfu_laws.specs.in_c.Steps.{CoreStep}
 use Rattle.dfu_laws.specs.in_c.Plays.{CoreLink, CorePlays, CoreComes}
 
--- If Installed or Verified is reported and an image is on trial then, it is the payload, and each start runs that or the confirmed image, as
--- with a board.
+-- If Installed or Verified is reported and an image is on trial then, it is the payload, and each start runs that or the confirmed image,
+-- as with a board.
 abbrev pub CorePlaysStay : Type 0
 CorePlaysStay = (b : CoreBoard) (steps more : List CoreStep) (past : List (List ℕ)) (last : Option (List ℕ)) (l l' : CoreLink)
     (answer : Answered) (tries : ℕ) (t : Trial) (list : List TrialStep) → IsCoreOn b → CorePlays b steps past last l

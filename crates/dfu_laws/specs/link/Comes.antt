@@ -13,7 +13,7 @@ use Rattle.dfu_sim.specs.Play.{Answered, silent, Took, took, notify_restart}
 use Rattle.dfu_laws.specs.board.Board.{Board, Event, Handle, Elapse, UsbReset, Refuse, Restart, Says, Answers, BoardStep}
 use Rattle.dfu_laws.specs.board.Happens.{IsRun}
 use Rattle.dfu_laws.specs.link.Calls.{Serves, Reaches, Objects, Stops}
-use Rattle.dfu_laws.specs.link.Marks.{IsMarked}
+use Rattle.dfu_laws.specs.link.Marks.{IsMarkedBoard}
 
 -- A board, and the session that is live.
 pub record BoardLink : Type 0 where
@@ -73,4 +73,4 @@ pub data BoardComes (l : BoardLink) : List BoardStep → Answered → BoardLink 
       → (begins ≡ false) ⊎ (h.phase ≡ Enter) → IsRun l.board (power ∷ []) b' → power.event ≡ Restart begins
       → BoardComes l (power ∷ []) (took h WasReset).answer (left b' (took h WasReset))
   -- A mark of a trial is set, of a start or a confirmation, or torn, or fails. The host hears nothing.
-  marks : {b' : Board} → IsMarked l.board b' → BoardComes l [] silent (record l { board = b' })
+  marks : {b' : Board} → IsMarkedBoard l.board b' → BoardComes l [] silent (record l { board = b' })

@@ -5,9 +5,9 @@ use Rattle.dfu_asks.specs.Lent.{IsSetUpAs}
 use Rattle.dfu_laws.specs.board.Board.{Board, medium_on, BoardStep}
 use Rattle.dfu_laws.specs.board.Happens.{BoardStarts, Happens, IsRun}
 
--- Bytes of the flash changed that the slot store does not read, as by a mark of a trial that is set, or torn, or fails. All else of the board
--- is as it was.
-pub record IsMarked (b b' : Board) : Type 0 where
+-- Bytes of the flash changed that the slot store does not read, as by a mark of a trial that is set, or torn, or fails. All else of the
+-- board is as it was.
+pub record IsMarkedBoard (b b' : Board) : Type 0 where
   pub unread : IsUnread (medium_on b) (medium_on b')
   pub asking : b'.asking ≡ b.asking
   pub block : b'.block ≡ b.block
@@ -23,7 +23,7 @@ pub record TrialEnds (b : Board) (begins : Bool) (b' : Board) : Type 0 where
 -- Marks were set on a board, or a trial ended, one after the other, or nothing came.
 pub data AreMarked (b : Board) : Board → Type 0 where
   none_is : AreMarked b b
-  one_more : {mid b' : Board} → AreMarked b mid → IsMarked mid b' → AreMarked b b'
+  one_more : {mid b' : Board} → AreMarked b mid → IsMarkedBoard mid b' → AreMarked b b'
   one_end : {mid b' : Board} {begins : Bool} → AreMarked b mid → TrialEnds mid begins b' → AreMarked b b'
 
 -- These steps come to a board, and before, between and after them marks may be set and trials may end.
