@@ -46,9 +46,9 @@ fn hint(alloc: Global, file: &str, head: &[u8]) -> Option<String> {
 
 /// Adds a suffix to what a reader gives, and makes OUT only if that succeeded; then this text follows the line. The outcome has the
 /// reason of a fault.
-fn add_read<R: Files + Print + AllocGlobal, S: Read + Drop>(
-    rt: &R,
-    added: Added<'_>,
+fn add_read<'w, R: Files + Print + AllocGlobal, S: Read + Drop>(
+    rt: &'w R,
+    added: Added<'w>,
     noting: &mut RecordingReader<S>,
     behind: &str,
 ) -> Outcome
@@ -56,7 +56,7 @@ where
     R::File: Owned,
 {
     let alloc = rt.alloc();
-    let mut made = Replacement::new(rt, added.to);
+    let mut made = Replacement::new(rt, Some(added.file), added.to);
     let mut line = Vec::new(alloc);
     let (exit, fault) = add_with_fault(alloc, &mut *noting, added.ids, &mut made, &mut line);
     if exit == Exit::Done && line.extend_from_slice(behind.as_bytes()).is_ok() {

@@ -1,38 +1,56 @@
 //! `dfu check`.
 
 use crate::JsonLines;
-use crate::given::{RecordingReader, open};
+use crate::given::RecordingReader;
 use crate::reasons::{error_reason, given_reason};
 use dfu_output::{Exit, Outcome, check_with_fault, fault_text, name_before, write_out};
 use dfu_suffix::{Findings, SuffixFault};
-use std::io;
+use std::fs;
+use std::io::{self, Read};
 use std::rt::Files;
 
-/// Checks a file, or standard input if the name is `-`, and says why it is refused if that is wanted. The line is an object if
+/// Checks what a reader gives, of the file with this name, and says why it is refused if that is wanted. The line is an object if
 /// `json` says so.
+fn check_given<R: Print + AllocGlobal, S: Read + Drop>(
+    rt: &R,
+    file: &str,
+    reader: S,
+    explain: bool,
+    json: bool,
+) -> Outcome {
+    let alloc = rt.alloc();
+    let mut out = JsonLines::new(alloc, json, Some(file), io::writer(rt));
+    let mut noting = RecordingReader::new(reader);
+    let mut findings = Findings::new();
+    let (exit, fault) = check_with_fault(alloc, &mut noting, &mut out, &mut findings);
+    let reason = match fault {
+        Some(fault) if explain => given_reason(alloc, file, fault, &noting, &findings),
+        _ => None,
+    };
+    Outcome { exit, reason }
+}
+
+/// Checks a file, or standard input if the name is `-`. The two are two types, because a value of both has the 8,192 bytes of standard
+/// input's buffer, which are cleared and moved for a file too.
 fn check_file<R: Files + Input + Print + AllocGlobal>(
     rt: &R,
     file: &str,
     explain: bool,
     json: bool,
 ) -> Outcome {
-    let alloc = rt.alloc();
-    let mut out = JsonLines::new(alloc, json, Some(file), io::writer(rt));
-    match open(rt, file) {
-        Ok(reader) => {
-            let mut noting = RecordingReader::new(reader);
-            let mut findings = Findings::new();
-            let (exit, fault) = check_with_fault(alloc, &mut noting, &mut out, &mut findings);
-            let reason = match fault {
-                Some(fault) if explain => given_reason(alloc, file, fault, &noting, &findings),
-                _ => None,
-            };
-            Outcome { exit, reason }
+    if file == "-" {
+        return check_given(rt, file, rt.reader(), explain, json);
+    }
+    match fs::open(rt, file) {
+        Ok(reader) => check_given(rt, file, reader, explain, json),
+        Err(error) => {
+            let alloc = rt.alloc();
+            let mut out = JsonLines::new(alloc, json, Some(file), io::writer(rt));
+            Outcome {
+                exit: fault_text(SuffixFault::Read, &mut out),
+                reason: error_reason(alloc, file, &error),
+            }
         }
-        Err(error) => Outcome {
-            exit: fault_text(SuffixFault::Read, &mut out),
-            reason: error_reason(alloc, file, &error),
-        },
     }
 }
 

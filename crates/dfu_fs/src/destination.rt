@@ -1,5 +1,6 @@
 //! Where OUT leads: the file that is to be made or replaced.
 
+use dfu_suffix::check;
 use std::alloc::{AllocError, Global};
 use std::fs::{self, Metadata};
 use std::io::{self, ErrorKind};
@@ -115,4 +116,38 @@ pub(crate) fn place_of<R: Files + AllocGlobal>(rt: &R, out: &str) -> io::Result<
     }
     let why = "somebody else replaces it again and again";
     Err(io::Error::new(ErrorKind::InvalidInput, why))
+}
+
+/// Whether the file at OUT's place may go, so that no input is lost that was typed for OUT: it is FILE itself, it has no bytes, or it is
+/// a DFU file, as each that `dfu add` makes. If nothing is there, it may.
+fn may_go<R: Files>(rt: &R, file: &str, place: &Destination) -> io::Result<bool> {
+    let Some(old) = &place.file else {
+        return Ok(true);
+    };
+    if old.len() == 0 {
+        return Ok(true);
+    }
+    // Standard input has no name to look at.
+    if file != "-" && is_same(&found(fs::metadata(rt, file))?, &place.file) {
+        return Ok(true);
+    }
+    Ok(check(fs::open(rt, place.name.as_str())?).is_ok())
+}
+
+/// The place that OUT of `dfu add` leads to.
+///
+/// # Errors
+///
+/// Those of `place_of`; or what is there may not go, or can't be looked at.
+pub(crate) fn place_for<R: Files + AllocGlobal>(
+    rt: &R,
+    file: &str,
+    out: &str,
+) -> io::Result<Destination> {
+    let place = place_of(rt, out)?;
+    if may_go(rt, file, &place)? {
+        return Ok(place);
+    }
+    let why = "it is there, and no DFU file; remove it, or give OUT another name";
+    Err(io::Error::new(ErrorKind::AlreadyExists, why))
 }

@@ -16,6 +16,8 @@ use std::rt::Files;
 #[derive(Drop)]
 pub(crate) struct Replacement<'a, R: Files> {
     rt: &'a R,
+    // FILE of `dfu add`, whose OUT has to be one that may go.
+    file: Option<&'a str>,
     out: &'a str,
     part: Option<TempFile<R::File>>,
     /// At what making or writing the part failed.
@@ -23,9 +25,10 @@ pub(crate) struct Replacement<'a, R: Files> {
 }
 
 impl<'a, R: Files> Replacement<'a, R> {
-    pub(crate) fn new(rt: &'a R, out: &'a str) -> Self {
+    pub(crate) fn new(rt: &'a R, file: Option<&'a str>, out: &'a str) -> Self {
         Replacement {
             rt,
+            file,
             out,
             part: None,
             error: None,
@@ -59,7 +62,7 @@ where
     /// Makes the part, unless it is there.
     fn make(&mut self) -> io::Result<()> {
         if self.part.is_none() {
-            self.part = Some(begin(self.rt, self.out)?);
+            self.part = Some(begin(self.rt, self.file, self.out)?);
         }
         Ok(())
     }
@@ -127,16 +130,16 @@ pub(crate) fn finish<R: Files + Print + AllocGlobal>(
 }
 
 /// Makes OUT of this text, and writes the line for it.
-pub(crate) fn replace<R: Files + Print + AllocGlobal>(
-    rt: &R,
-    to: &str,
+pub(crate) fn replace<'a, R: Files + Print + AllocGlobal>(
+    rt: &'a R,
+    to: &'a str,
     text: &[u8],
     line: &[u8],
 ) -> Outcome
 where
     R::File: Owned,
 {
-    let mut made = Replacement::new(rt, to);
+    let mut made = Replacement::new(rt, None, to);
     if made.is_made() && write_whole(&mut made, text).is_ok() {
         return finish(rt, to, made, line);
     }

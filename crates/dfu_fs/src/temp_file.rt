@@ -2,7 +2,7 @@
 
 ghost use Rattle.std.specs.Prelude.{◌≡◌, ◌*◌, true, false, bit_and, bit_or};
 
-use crate::destination::{Destination, beside, place_of};
+use crate::destination::{Destination, beside, place_for, place_of};
 use std::alloc::{AllocError, Global};
 use std::fs::{self, File, Metadata, OpenFile, OpenOptions, Permissions};
 use std::io::{self, ErrorKind};
@@ -94,12 +94,20 @@ pub(crate) fn remove<R: Files>(rt: &R, part: &TempFile<R::File>) {
     let _ = fs::remove_file(rt, part.name.as_str());
 }
 
-/// Makes the part for OUT, which has its rights before it has any byte.
-pub(crate) fn begin<R: Files + AllocGlobal>(rt: &R, out: &str) -> io::Result<TempFile<R::File>>
+/// Makes the part for OUT, which has its rights before it has any byte; for OUT of `dfu add` if `file` is its FILE.
+pub(crate) fn begin<R: Files + AllocGlobal>(
+    rt: &R,
+    file: Option<&str>,
+    out: &str,
+) -> io::Result<TempFile<R::File>>
 where
     R::File: Owned,
 {
-    let part = new_part(rt, place_of(rt, out)?)?;
+    let place = match file {
+        Some(file) => place_for(rt, file, out)?,
+        None => place_of(rt, out)?,
+    };
+    let part = new_part(rt, place)?;
     let ready = match &part.place.file {
         Some(old) => take_rights(&part.file, old),
         None => Ok(()),

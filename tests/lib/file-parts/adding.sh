@@ -38,6 +38,38 @@ expect 3 'fault Read' sh -c "'$dfu' check - <&-"
 expect 3 'fault Read' sh -c "'$dfu' run - <&-"
 expect 0 "$ok" sh -c "'$dfu' check ones.dfu <&-"
 
+# An OUT with bytes that is no DFU file stays, because it may be an input that was typed for OUT: of `dfu add *.bin`, say. So does a DFU
+# file that is damaged, or of DfuSe.
+printf 'BBBB' > two.bin
+head -c 19 ones.dfu > short.dfu
+sed 's/^\o377/\o000/' ones.dfu > damaged.dfu
+printf '\377\377\377\377\377\377\377\377\032\001UFD\020\000\000\000\000' > dfuse.dfu
+for name in two.bin short.dfu damaged.dfu dfuse.dfu; do
+    cp "$name" before
+    refuse "$name"
+    same "$name" before
+    ln -s "$name" "to-$name"
+    refuse "to-$name"
+    same "$name" before
+done
+equal 'why' 'dfu: two.bin: it is there, and no DFU file; remove it, or give OUT another name' \
+    "$("$dfu" add digits.bin two.bin --explain 2>&1 > said)"
+rm two.bin
+add two.bin
+same two.bin digits.dfu
+# An OUT without a byte is replaced, and so is FILE itself by whatever name.
+: > empty
+add empty
+same empty digits.dfu
+cp digits.bin itself
+ln itself linked
+ln -s itself pointing
+expect 0 'wrote 25' "$dfu" add itself pointing $ids
+same itself digits.dfu
+same linked digits.bin
+expect 0 'wrote 25' "$dfu" add ./linked linked $ids
+same linked digits.dfu
+
 # A link stays, and what it leads to gets the bytes.
 mkdir sub
 cp ones.dfu target

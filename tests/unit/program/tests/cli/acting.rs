@@ -4,10 +4,11 @@ use crate::host::Host;
 use crate::machine::{Kind, Machine, entry_in};
 use dfu::cli::run_words;
 use unit_program::Outcome;
+use unit_program::known_files::FOUR_ONES;
 use unit_program::words::words_of;
 
 /// What OUT was before.
-pub const OLD: &[u8] = b"old";
+pub const OLD: &[u8] = &FOUR_ONES;
 
 pub const ADD: &str = "dfu add a b --vid 1209 --pid 0001 --did 0100";
 

@@ -36,8 +36,48 @@ fn reads_standard_input() -> Outcome {
 #[test]
 fn replaces_a_file() -> Outcome {
     let machine = machine_over(Kind::File, OLD, "")?;
+    let made = "open a;see b;look b;see a;open b;create .dfu-part-0 600;owner;rights 644;write;sync;rename .dfu-part-0 b;";
+    makes(&machine, ADD, made, "a;b;")
+}
+
+/// OUT that has bytes and is no DFU file stays, because it may be an input that was typed for OUT. It is looked at and read, and no
+/// part is made.
+#[test]
+fn keeps_an_input() -> Outcome {
+    let mut damaged = FOUR_ONES;
+    damaged[0] = 0;
+    for input in [b"other".as_slice(), &damaged, &FOUR_ONES[1..]] {
+        let machine = machine_over(Kind::File, input, "")?;
+        ends(&machine, ADD, 3)?;
+        prints(&machine, "fault Write\n")?;
+        calls(&machine, "open a;see b;look b;see a;open b;");
+        holds(&machine, "a;b;", "b", input)?;
+    }
+    Ok(())
+}
+
+/// FILE itself is replaced, as is a file without a byte, and what is read for either is no more than their looks.
+#[test]
+fn replaces_file_and_what_is_empty() -> Outcome {
+    let machine = machine_with(b"123456789", "")?;
+    let made = "open a;see a;look a;see a;create .dfu-part-0 600;owner;rights 644;write;sync;rename .dfu-part-0 a;";
+    ends(&machine, "dfu add a a --vid 1209 --pid 0001 --did 0100", 0)?;
+    calls(&machine, made);
+    holds(&machine, "a;", "a", &DIGITS)?;
+    let machine = machine_over(Kind::File, b"", "")?;
     let made = "open a;see b;look b;create .dfu-part-0 600;owner;rights 644;write;sync;rename .dfu-part-0 b;";
     makes(&machine, ADD, made, "a;b;")
+}
+
+/// Standard input is no file of the folder, so a file called `-` is no FILE.
+#[test]
+fn keeps_a_file_called_as_standard_input() -> Outcome {
+    let machine = Machine::new(b"123456789", "");
+    machine.put("-", Kind::File, b"other")?;
+    machine.put("b", Kind::Link, b"-")?;
+    ends(&machine, "dfu add - b", 3)?;
+    calls(&machine, "see b;look b;follow b;look -;open -;");
+    holds(&machine, "-;b;", "-", b"other")
 }
 
 /// OUT is not looked at.
@@ -88,7 +128,7 @@ fn follows_links() -> Outcome {
     machine.put("/d/e", Kind::File, OLD)?;
     machine.put("e", Kind::File, OLD)?;
     ends(&machine, ADD, 0)?;
-    let made = "open a;see b;look b;follow b;look /d/c;follow /d/c;look /d/e;create /d/.dfu-part-0 600;\
+    let made = "open a;see b;look b;follow b;look /d/c;follow /d/c;look /d/e;see a;open /d/e;create /d/.dfu-part-0 600;\
 owner;rights 644;write;sync;rename /d/.dfu-part-0 /d/e;";
     calls(&machine, made);
     holds(&machine, "a;b;/d/c;e;/d/e;", "/d/e", &DIGITS)?;

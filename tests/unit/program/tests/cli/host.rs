@@ -1,6 +1,6 @@
 //! The machine in memory as the system of the program.
 
-use crate::machine::{Kind, Machine, entry_in};
+use crate::machine::{Entry, Kind, Machine, entry_in, place_in};
 use crate::opened::Opened;
 use crate::typed::Typed;
 use dfu::system::alloc::{AllocGlobal, Global};
@@ -59,6 +59,14 @@ impl Host<'_> {
         Ok(entry_in(&state.folder, path)?.kind)
     }
 
+    /// What a look at a name finds.
+    fn found(&self, path: &str) -> io::Result<Metadata> {
+        self.look(path)?;
+        let state = self.machine.state.borrow();
+        let number = place_in(&state.folder, path)?;
+        Ok(metadata_of(&state.folder[number], number))
+    }
+
     /// What a link has.
     fn target(&self, path: &str) -> io::Result<String> {
         let state = self.machine.state.borrow();
@@ -88,17 +96,18 @@ impl Host<'_> {
     }
 }
 
-/// What a look finds: the kinds in octal, as Unix has them, with the usual rights.
-fn metadata_of(kind: Kind) -> Metadata {
-    let mode = match kind {
+/// What a look at the file of this number finds: the kinds in octal, as Unix has them, with the usual rights.
+fn metadata_of(entry: &Entry, number: usize) -> Metadata {
+    let mode = match entry.kind {
         Kind::File => 0o100_644,
         Kind::Link => 0o120_777,
         Kind::Other => 0o040_755,
     };
     Metadata {
         mode,
-        place: (0, 0),
+        place: (0, number as u64),
         owner: (0, 0),
+        bytes: entry.bytes.len() as u64,
     }
 }
 
@@ -126,12 +135,12 @@ impl<'m> Files for Host<'m> {
 
     fn metadata(&self, path: &str) -> io::Result<Metadata> {
         self.machine.call("see", &format!(" {path}"))?;
-        self.look(&self.end_of(path)?).map(metadata_of)
+        self.found(&self.end_of(path)?)
     }
 
     fn symlink_metadata(&self, path: &str) -> io::Result<Metadata> {
         self.machine.call("look", &format!(" {path}"))?;
-        self.look(path).map(metadata_of)
+        self.found(path)
     }
 
     fn read_link(&self, path: &str) -> io::Result<PathBuf> {

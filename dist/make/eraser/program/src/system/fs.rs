@@ -68,6 +68,8 @@ pub struct Metadata {
     pub place: (u64, u64),
     /// The user and the group.
     pub owner: (u32, u32),
+    /// How many bytes it has.
+    pub bytes: u64,
 }
 
 const KINDS: u32 = 0o170_000;
@@ -75,6 +77,12 @@ const REGULAR: u32 = 0o100_000;
 const LINK: u32 = 0o120_000;
 
 impl Metadata {
+    /// How many bytes it has.
+    #[allow(clippy::len_without_is_empty)]
+    pub fn len(&self) -> u64 {
+        self.bytes
+    }
+
     /// Whether it is a regular file.
     pub fn is_file(&self) -> bool {
         self.mode & KINDS == REGULAR
@@ -89,7 +97,7 @@ impl Metadata {
 impl From<std::fs::Metadata> for Metadata {
     fn from(found: std::fs::Metadata) -> Metadata {
         use unix::MetadataExt;
-        Metadata { mode: found.mode(), place: (found.dev(), found.ino()), owner: (found.uid(), found.gid()) }
+        Metadata { mode: found.mode(), place: (found.dev(), found.ino()), owner: (found.uid(), found.gid()), bytes: found.len() }
     }
 }
 
