@@ -49,8 +49,8 @@ closed_some w = by_test (w.sector == 0) refl
     by_test true e = omega (arith, length-gate_unit (gate_size w.unit) 0 (unit_wide w.unit), unit_wide w.unit)
     by_test false e = some w.sector (eqb-false w.sector 0 e) (length-replicate {A = ℕ} w.sector 255)
 
-close_none : (w : Grain) (at : ℕ) (close : Bool) → let shut : List Write = if close then record { at = at; bytes = closed_gate w } ∷ [] else [] in
-    total shut ≤ 0 → shut ≡ []
+close_none : (w : Grain) (at : ℕ) (close : Bool) →
+    let shut : List Write = if close then record { at = at; bytes = closed_gate w } ∷ [] else [] in total shut ≤ 0 → shut ≡ []
 close_none w at true le = absurd (omega (arith, le, closed_some w))
 close_none w at false le = refl
 

@@ -152,7 +152,8 @@ module _ (a now : LentAsking) (w : PendingWrites) (len : ℕ) (s : SlotsState) (
 
   works_with : (u : Unseen) (sent : List ℕ) → IsAnswered a.config (done_mode a.config a.mode (length a.block)) w.asked x sent
       → Works len (device_of a (unseen_in u s)) x sent
-      (shows a.config (left_with a now w len s flash flash working notes x count out out' u) (done_mode a.config a.mode (length a.block)) a.block)
+      (shows a.config (left_with a now w len s flash flash working notes x count out out' u)
+      (done_mode a.config a.mode (length a.block)) a.block)
   works_with u sent says =
       let there : (unseen_in u s).medium ≡ mapped_with u (grain_in a) flash =
       ap (λ (m : MediumState). mapped_with u m.grain m.bytes) working.medium in
@@ -164,7 +165,8 @@ module _ (a now : LentAsking) (w : PendingWrites) (len : ℕ) (s : SlotsState) (
       (no_write (mapped_with u (grain_in a) flash))) x sent says).comes
 
   pub begun_ended : IsFinished a now → GivesAnswer (λ y sent. IsAnswered a.config now.mode w.asked y sent) x count out out'
-      → HasEnded flash x count out out' now (λ y sent. (u : Unseen) → Works len (device_of a (unseen_in u s)) y sent (device_with u now flash))
+      → HasEnded flash x count out out' now
+      (λ y sent. (u : Unseen) → Works len (device_of a (unseen_in u s)) y sent (device_with u now flash))
   begun_ended fin gives =
       finished a now w len s flash flash working notes x count out out'
       (λ y sent. (u : Unseen) → Works len (device_of a (unseen_in u s)) y sent (device_with u now flash))

@@ -1,5 +1,6 @@
 -- Which rows write, and what is decided on a request or on a time.
 use Rattle.std.proofs.Common.{◌≡◌, inl, inr, ⊎_elim, ◌==◌, not, nat_le, nat_lt, max, Bool, true, false, IsTrue, ℕ, ◌+◌, [], List, length, take, drop, Some, None, refl, sym, ◌∙◌, ap, subst}
+use Rattle.dfu_wire.specs.declared.setups.Setup.{Setup}
 use Rattle.dfu_wire.specs.declared.requests.Request.{Request as Asked}
 use Rattle.dfu_wire.specs.declared.requests.Request.TheVariants as asked
 use Rattle.dfu_slots.specs.declared.fault.WriteFault.{WriteFault}
@@ -13,10 +14,10 @@ use Rattle.dfu_device.specs.Stage.{Request, Dnload, Upload, GetStatus, GetState,
 use Rattle.dfu_device.specs.Table.{Plan, Sure, Writes, Commits, has_no_bytes, block_plan, upload_plan, plan, time_plan}
 use Rattle.dfu_device.specs.DeviceView.{DeviceView, profile}
 use Rattle.dfu_device.specs.Parts.{stage_of, is_sound}
-use Rattle.dfu_device.specs.Rows.{Done, meant, asked_length}
-use Rattle.dfu_device.specs.Decision.{profile_in, plan_of, HasLength, Decides, DecidesTime}
+use Rattle.dfu_device.specs.Rows.{Done, meant, asked_length, is_served, setup_plan}
+use Rattle.dfu_device.specs.Decision.{profile_in, plan_of, DecidesTime}
 use Rattle.dfu_device.specs.Cases.{either_way}
-use Rattle.dfu_device.proofs.Carried.{holds_written, holds_time}
+use Rattle.dfu_device.proofs.Carried.{holds_time}
 use Rattle.dfu_asks.specs.Due.{due_plan, WorksOut, FailsOut, IsDueRow, IsSure, IsSureOrDue, writes_now}
 use Rattle.dfu_device.specs.Pace.{block_ms, image_ms}
 
@@ -47,7 +48,7 @@ sure_plan c image st GetState off = tt
 sure_plan c image st r off = tt
 
 -- What a request comes to calls nothing of the slot store, or it is the row that is due.
-pub request_due : (c : Profile) (image : List ℕ) (st : Stage) (q : Asked) (body : List ℕ)
+request_due : (c : Profile) (image : List ℕ) (st : Stage) (q : Asked) (body : List ℕ)
     → IsSureOrDue (plan c image st (meant q body)) c st (Some (asked_length q)) (asked_length q)
 request_due c image (InDownloadSync before block number) (asked.GetStatus len) body = by_time (c.busy == 0) refl
   where
@@ -62,6 +63,13 @@ request_due c image (InManifestSync taken) (asked.GetStatus len) body = by_time 
     by_time true on = inr (rw on refl, refl)
     by_time false off = inl (sure_plan c image (InManifestSync taken) GetStatus off)
 request_due c image st q body = inl (sure_plan c image st (meant q body) refl)
+
+-- So is what a setup comes to.
+pub setup_due : (w : DeviceView) (p : Setup) (q : Asked) (body : List ℕ)
+    → IsSureOrDue (setup_plan w p q body) (profile w) w.stage (Some (asked_length q)) (asked_length q)
+setup_due w p q body =
+    either_way (λ (z : Plan). IsSureOrDue z (profile w) w.stage (Some (asked_length q)) (asked_length q)) (is_served p q body) _ _
+    (request_due (profile w) (image_of w.slots) w.stage q body) (inl tt)
 
 -- Nor does what a time comes to, or it is the row that is due.
 pub time_due : (c : Profile) (st : Stage) (ms : ℕ) → IsSureOrDue (time_plan c st ms) c st None 0
@@ -119,19 +127,7 @@ due_row p len w is = record {
 
 -- What is decided.
 
--- What is decided on a request in a device is its row.
-pub decided : (p : ProfileRead) (q : Asked) (m : DeviceState) (block body : List ℕ) (d : Decision) (w : DeviceView)
-    → profile_in p ≡ profile w
-    → IsTrue (is_sound m (length block) w.slots) → w.stage ≡ stage_of m (spare_of w.slots) block → Decides p m q d → HasLength q body
-    → plan_of (profile w) (image_of w.slots) (spare_of w.slots) block body d ≡ plan (profile w) (image_of w.slots) w.stage (meant q body)
-decided p q m block body d w same sound stage decides fits =
-    let image = image_of w.slots in
-    let spare = spare_of w.slots in
-    subst (λ (c : Profile). plan_of c image spare block body d ≡ plan c image (stage_of m spare block) (meant q body)) same
-    (decides image spare block body (holds_written m (length block) w.slots sound) fits)
-    ∙ ap (λ (st : Stage). plan (profile w) image st (meant q body)) (sym stage)
-
--- So is what is decided on a time.
+-- What is decided on a time in a device is its row.
 pub decided_time : (p : ProfileRead) (ms : ℕ) (m : DeviceState) (block : List ℕ) (d : Decision) (w : DeviceView) → profile_in p ≡ profile w
     → IsTrue (is_sound m (length block) w.slots) → w.stage ≡ stage_of m (spare_of w.slots) block → DecidesTime p m (length block) ms d
     → plan_of (profile w) (image_of w.slots) (spare_of w.slots) block [] d ≡ time_plan (profile w) w.stage ms

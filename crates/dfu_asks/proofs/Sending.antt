@@ -8,6 +8,8 @@ use Rattle.dfu_slots.specs.Seen.{SlotsState, image_of}
 use Rattle.dfu_device.specs.declared.answer.Answer.TheVariants as answer
 use Rattle.dfu_device.specs.declared.device_state.DeviceState.{DeviceState}
 use Rattle.dfu_device.specs.declared.device_state.DeviceState.TheVariants as device_state
+use Rattle.dfu_wire.specs.declared.setups.Setup.{Setup}
+use Rattle.dfu_wire.specs.declared.requests.Request.{Request as Asked}
 use Rattle.dfu_wire.specs.declared.codes.Code.TheVariants.{StalledPkt as ErrStalledPkt, Address as ErrAddress}
 use Rattle.dfu_device.specs.declared.decision.Decision.{Decision}
 use Rattle.dfu_device.specs.declared.decision.Decision.TheVariants as decision
@@ -15,9 +17,9 @@ use Rattle.dfu_device.specs.Cases.{either_way}
 use Rattle.dfu_device.specs.Decision.{plan_of, IsSilent}
 use Rattle.dfu_device.specs.Stage.{Profile, Request, Dnload, Upload, GetStatus, GetState, Stage, Data, InDfuIdle, InDownloadSync, InDownloadIdle, InManifestSync, InUploadIdle}
 use Rattle.dfu_device.specs.Table.{Plan, Sure, has_no_bytes, next_number, error, block_plan, upload_plan, plan}
-use Rattle.dfu_device.specs.DeviceView.{DeviceView}
+use Rattle.dfu_device.specs.DeviceView.{DeviceView, profile}
 use Rattle.dfu_device.specs.Parts.{shows, is_filled}
-use Rattle.dfu_device.specs.Rows.{Done}
+use Rattle.dfu_device.specs.Rows.{Done, meant, is_served, setup_plan}
 use Rattle.dfu_slots.specs.Store.{IsStore}
 use Rattle.dfu_slots.proofs.Stands.{standing}
 use Rattle.dfu_slots.proofs.Newest.{active_end}
@@ -141,10 +143,13 @@ sends_small c image spare block body (decision.Sends place size number) room fit
 sends_small c image spare block body d room fits small = tt
 
 -- What is decided on a request sends no more bytes than a block may have.
-pub request_within : (c : Profile) (image spare block body : List ℕ) (d : Decision) (st : Stage) (r : Request) (room : ℕ)
-    → plan_of c image spare block body d ≡ plan c image st r → c.transfer ≤ room → SendsWithin d image room
-request_within c image spare block body d st r room is fits =
-    sends_small c image spare block body d room fits (subst (IsSmall c.transfer) (sym is) (small_plan c image st r))
+pub setup_within : (w : DeviceView) (spare block body : List ℕ) (d : Decision) (p : Setup) (q : Asked) (room : ℕ)
+    → plan_of (profile w) (image_of w.slots) spare block body d ≡ setup_plan w p q body → (profile w).transfer ≤ room
+    → SendsWithin d (image_of w.slots) room
+setup_within w spare block body d p q room is fits =
+    let n = (profile w).transfer in
+    sends_small (profile w) (image_of w.slots) spare block body d room fits (subst (IsSmall n) (sym is)
+    (either_way (IsSmall n) (is_served p q body) _ _ (small_plan (profile w) (image_of w.slots) w.stage (meant q body)) tt))
 
 -- What is decided on a time sends nothing.
 pub time_within : (d : Decision) (image : List ℕ) (room : ℕ) → IsSilent d → SendsWithin d image room

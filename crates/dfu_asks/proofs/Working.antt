@@ -292,7 +292,8 @@ module _ (c : Setting) (w : Grain) (b held : List ℕ) (end : ℕ) (j : SlotWrit
   }
 
   -- So after a write of a commit.
-  commit_fails : (fault : WriteFault) (d : DeviceState) (n : ℕ) (Says : Type 0) → Rose s.medium.failures now.failures → is_block d ≡ false → Says
+  commit_fails : (fault : WriteFault) (d : DeviceState) (n : ℕ) (Says : Type 0) → Rose s.medium.failures now.failures → is_block d ≡ false
+      → Says
       → CommitBroken fault s n at_rest
       → Ends c at_rest (device_state.Error (commit_code fault)) b (Stays d s at_rest)
       (Says × FailedCommit fault (take n (spare_of s)) c s (shows c at_rest (device_state.Error (commit_code fault)) b))

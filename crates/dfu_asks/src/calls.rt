@@ -5,6 +5,7 @@ ghost use Rattle.dfu_device.specs.Table.{reset_stage};
 ghost use Rattle.dfu_device.specs.Parts.{stage_of};
 ghost use Rattle.dfu_device.specs.Stage.{state_of, code_of};
 ghost use Rattle.dfu_device.specs.Borrowed.{answer_room};
+ghost use Rattle.dfu_device.specs.declared.answer.Answer.TheVariants.{Ack};
 ghost use Rattle.dfu_asks.specs.declared.pending_writes.PendingWrites.{PendingWrites};
 ghost use Rattle.dfu_asks.specs.Mapped.{grain_of, mapped};
 ghost use Rattle.dfu_asks.specs.Noted.{IsView};
@@ -16,8 +17,8 @@ ghost use Rattle.dfu_asks.specs.Addressed.{addressed};
 
 use crate::noted::{View, look};
 use crate::{Asking, Mapped, Refusal, Reply};
-use dfu_device::{Answer, asked_length, decide, decide_time, goes_with};
-use dfu_wire::{Code, Request, Setup, State};
+use dfu_device::{asked_row, decide_time};
+use dfu_wire::{Code, State};
 
 /// The setup as a device takes it whose interface has this number (bInterfaceNumber): with wIndex 0 if that is its wIndex (USB DFU 1.1,
 /// section 3), and else with another one, of which a device stalls each request and stays as it is. A program whose interface is not
@@ -98,19 +99,9 @@ impl Asking {
         ensures same { IsSetUpAs self.old self.new }
         ensures fits { self.new.block_len ≤ length block.new }
     {
-        let setup = Setup::decode(setup);
-        match setup.request() {
-            Request::NotDfu => Reply::Answered(Answer::Stall, 0),
-            request => {
-                if !goes_with(&setup, body) {
-                    return Reply::Answered(Answer::Stall, 0);
-                }
-                let profile = self.config.profile(u64::from(view.room));
-                let decision = decide(&profile, self.mode, request);
-                let asked = Some(asked_length(request));
-                self.carry_out(decision, asked, body, block, held, medium, view, out)
-            }
-        }
+        let profile = self.config.profile(u64::from(view.room));
+        let (decision, asked) = asked_row(&profile, self.mode, setup, body);
+        self.carry_out(decision, Some(asked), body, block, held, medium, view, out)
     }
 
     /// Answers a setup with its body, as `Device::handle`; or the row writes, and its writes are asked for now.
@@ -169,7 +160,7 @@ impl Asking {
         requires { HasRoom self.old.unit held.old }
         ensures outcome { let a = lent self.old block.old held.old in IfOk result (λ r. IsKeptOn self.old block.old held.old flash.now →
             (out : List ℕ) × DeviceCalled a flash.now (replicate 6 0)
-            (λ d x sent d'. (x ≡ Answer.Ack) × (sent ≡ []) × Elapses ms d d')
+            (λ d x sent d'. (x ≡ Ack) × (sent ≡ []) × Elapses ms d d')
             (lent self.new block.new held.new) out r) }
         ensures first { IfOk result (λ r. r ≡ Reply.Asks → (w : PendingWrites) × (self.new.work ≡ Some w) × (w.done ≡ 0)) }
         ensures served { OnOk result (IsServed self.old block.old flash.now 0 0) }

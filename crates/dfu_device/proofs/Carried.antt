@@ -1,5 +1,5 @@
 -- What is decided is carried out, and is a row.
-use Rattle.std.proofs.Common.{◌≡◌, ◌&&◌, Bool, inl, inr, IsTrue, true, ℕ, List, [], length, refl, sym, ◌∙◌, ap, subst, arith, Result, Ok, Err, OnOk, IfErr}
+use Rattle.std.proofs.Common.{◌≡◌, ◌&&◌, Bool, inl, inr, IsTrue, true, if◌then◌else◌, ℕ, List, [], length, refl, sym, ◌∙◌, ap, subst, arith, Result, Ok, Err, OnOk, IfErr}
 use Rattle.std.proofs.lemmas.Grind.{common_steps}
 use Rattle.std.proofs.lemmas.List.{length-take-le}
 use Rattle.dfu_wire.specs.declared.requests.Request.{Request as Asked}
@@ -16,13 +16,14 @@ use Rattle.dfu_device.specs.declared.answer.PendingAnswer.{PendingAnswer}
 use Rattle.dfu_device.specs.declared.answer.PendingAnswer.TheVariants as pending_answer
 use Rattle.dfu_device.specs.declared.device_state.DeviceState.{DeviceState}
 use Rattle.dfu_device.specs.declared.device_state.DeviceState.TheVariants as device_state
-use Rattle.dfu_device.specs.Stage.{Reply, Profile, Stage, InError}
-use Rattle.dfu_device.specs.Table.{Plan, Writes, Commits, write_code, commit_code, plan, time_plan}
+use Rattle.dfu_device.specs.Stage.{Reply, Stall, Profile, Stage, InError}
+use Rattle.dfu_device.specs.Table.{Plan, Sure, Writes, Commits, write_code, commit_code, plan, time_plan}
 use Rattle.dfu_device.specs.DeviceView.{DeviceView, profile, profile_of}
 use Rattle.dfu_device.specs.Parts.{stage_of, is_put, is_filled, is_sound}
-use Rattle.dfu_device.specs.Rows.{Answers, Done, Elapses, meant, asked_length, Committed, FailedCommit, WroteBlock, FailedBlock}
-use Rattle.dfu_device.specs.Decision.{profile_in, reply_in, plan_of, HoldsWritten, HoldsTime, HasLength, Decides, DecidesTime, Allows, AllowsAsked}
-use Rattle.dfu_device.specs.inside.PendingAnswer.{pending_answer_of, AnswersPending, DonePending, ServedPending}
+use Rattle.dfu_device.specs.Rows.{Answers, Done, Handles, handled_as, Elapses, meant, asked_length, is_served, setup_plan, Committed, FailedCommit, WroteBlock, FailedBlock}
+use Rattle.dfu_device.specs.Decision.{profile_in, reply_in, plan_of, HoldsWritten, HoldsTime, HasLength, DecidesTime, Allows, AllowsAsked}
+use Rattle.dfu_device.specs.Asked.{DecidesSetup}
+use Rattle.dfu_device.specs.inside.PendingAnswer.{pending_answer_of, AnswersPending, DonePending}
 
 -- A reply is answered as its pending answer is.
 pub as_drafted : (r : ReplyRead) (asked : ℕ) (w : DeviceView) (a : Answer) (out : List ℕ)
@@ -92,22 +93,31 @@ still_sound m n b s sound fills = sound_of (is_shaped s) (is_filled m b s) (is_f
     sound_of : (p q r : Bool) → IsTrue (p && q) → r ≡ true → IsTrue (p && r)
     sound_of p q r t e = grind (arith, common_steps)
 
--- What is decided on a request and carried out is its row.
-pub served : (p : ProfileRead) (q : Asked) (m : DeviceState) (block body : List ℕ) (d : Decision) (asked : ℕ) (w w' : DeviceView)
-    (x : PendingAnswer)
+-- What is decided on a setup in a device is its row.
+pub decided_setup : (p : ProfileRead) (m : DeviceState) (setup block body : List ℕ) (d : Decision) (asked : ℕ) (w : DeviceView)
     → profile_in p ≡ profile w → IsTrue (is_sound m (length block) w.slots) → w.stage ≡ stage_of m (spare_of w.slots) block
-    → Decides p m q d → HasLength q body → asked ≡ asked_length q
-    → DonePending (plan_of (profile w) (image_of w.slots) (spare_of w.slots) block body d) asked w x w' → ServedPending q body w x w'
-served p q m block body d asked w w' x same sound stage decides fits len done = λ a out says.
+    → (decides : DecidesSetup p m setup body d asked)
+    → plan_of (profile w) (image_of w.slots) (spare_of w.slots) block body d ≡ setup_plan w decides.read decides.request body
+decided_setup p m setup block body d asked w same sound stage decides =
     let image = image_of w.slots in
     let spare = spare_of w.slots in
-    let there : plan_of (profile_in p) image spare block body d ≡ plan (profile_in p) image (stage_of m spare block) (meant q body) =
-    decides image spare block body (holds_written m (length block) w.slots sound) fits in
-    let here : plan_of (profile w) image spare block body d ≡ plan (profile w) image w.stage (meant q body) =
-    subst (λ (c : Profile). plan_of c image spare block body d ≡ plan c image (stage_of m spare block) (meant q body)) same there
-    ∙ ap (λ (st : Stage). plan (profile w) image st (meant q body)) (sym stage) in
-    subst (λ (z : Plan). Done z (asked_length q) w a out w') here
-    (subst (λ (n : ℕ). Done (plan_of (profile w) image spare block body d) n w a out w') len (done a out says))
+    let served = is_served decides.read decides.request body in
+    let r = meant decides.request body in
+    subst (λ (c : Profile). plan_of c image spare block body d
+    ≡ (if served then plan c image (stage_of m spare block) r else Sure Stall (stage_of m spare block))) same
+    (decides.row image spare block (holds_written m (length block) w.slots sound))
+    ∙ ap (λ (st : Stage). if served then plan (profile w) image st r else Sure Stall st) (sym stage)
+
+-- What is decided on a setup and carried out is its row.
+pub handled : (p : ProfileRead) (m : DeviceState) (setup block body : List ℕ) (d : Decision) (asked : ℕ) (w : DeviceView)
+    → profile_in p ≡ profile w → IsTrue (is_sound m (length block) w.slots) → w.stage ≡ stage_of m (spare_of w.slots) block
+    → DecidesSetup p m setup body d asked → (a : Answer) (out : List ℕ) (w' : DeviceView)
+    → Done (plan_of (profile w) (image_of w.slots) (spare_of w.slots) block body d) asked w a out w' → Handles setup body w a out w'
+handled p m setup block body d asked w same sound stage decides a out w' done =
+    handled_as decides.read decides.request decides.fields decides.asks
+    (subst (λ (z : Plan). Done z (asked_length decides.request) w a out w')
+    (decided_setup p m setup block body d asked w same sound stage decides)
+    (subst (λ (n : ℕ). Done (plan_of (profile w) (image_of w.slots) (spare_of w.slots) block body d) n w a out w') decides.asked_is done))
 
 -- What is decided on a time and carried out is its row.
 pub passed : (p : ProfileRead) (ms : ℕ) (m : DeviceState) (block body : List ℕ) (d : Decision) (w w' : DeviceView) (x : PendingAnswer)

@@ -7,6 +7,7 @@ pub mod DeviceView
 pub mod Parts
 pub mod Rows
 pub mod Decision
+pub mod Asked
 pub mod Borrowed
 pub mod Cases
 pub mod Came

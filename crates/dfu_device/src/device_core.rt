@@ -7,19 +7,18 @@ ghost use Rattle.dfu_device.specs.DeviceView.{DeviceView, profile};
 ghost use Rattle.dfu_device.specs.Parts.{is_sound};
 ghost use Rattle.dfu_device.specs.Rows.{Elapses};
 ghost use Rattle.dfu_device.specs.Borrowed.{answer_room};
-ghost use Rattle.dfu_device.specs.Decision.{profile_in, plan_of, HasLength, IsPossible, IsSilent};
-ghost use Rattle.dfu_device.specs.inside.PendingAnswer.{AnswersPending, DonePending, ServedPending, HandledPending};
+ghost use Rattle.dfu_device.specs.Decision.{profile_in, plan_of, IsPossible, IsSilent};
+ghost use Rattle.dfu_device.specs.inside.PendingAnswer.{AnswersPending, DonePending, HandledPending};
 
 use crate::answer::{PendingAnswer, pending_answer_of};
 use crate::config::Profile;
 use crate::decision::Decision;
 use crate::device_state::DeviceState;
-use crate::table::{asked_length, decide, goes_with};
+use crate::table::asked_row;
 use crate::time_table::decide_time;
 use crate::{Answer, Config};
 use arrayvec::ArrayVec;
 use dfu_slots::{Medium, Slots};
-use dfu_wire::{Request, Setup};
 
 // Replaces the bytes of the block.
 fn hold(block: &mut ArrayVec<u8, 4096>, bytes: &[u8])
@@ -73,26 +72,8 @@ impl<M: Medium> DeviceCore<M> {
         ensures fits { (a : Answer) (sent : List ℕ) → AnswersPending result (shown self.new) a sent
             → length sent ≤ answer_room self.old.config }
     {
-        let setup = Setup::decode(setup);
-        let request = setup.request();
-        match request {
-            Request::NotDfu => PendingAnswer::Stall,
-            request => {
-                if !goes_with(&setup, body) {
-                    return PendingAnswer::Stall;
-                }
-                self.serve(request, body)
-            }
-        }
-    }
-
-    /// A request of the class whose body fits: its row of the table.
-    fn serve(&mut self, request: Request, body: &[u8]) -> PendingAnswer
-        requires fits { HasLength request body.now }
-        ensures row { ServedPending request body.now (shown self.old) result (shown self.new) }
-    {
-        let decision = decide(&self.profile(), self.mode, request);
-        self.carry_out(decision, asked_length(request), body)
+        let (decision, asked) = asked_row(&self.profile(), self.mode, setup, body);
+        self.carry_out(decision, asked, body)
     }
 
     /// Carries a decision out, with the body of its request, which asks for so many bytes of a status or of a state.

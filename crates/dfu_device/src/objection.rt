@@ -1,14 +1,30 @@
 //! The program of a device refuses an image.
 
 ghost use Rattle.std.specs.Prelude.{[], ◌≡◌, ◌↔◌, not, IsTrue};
-ghost use Rattle.dfu_device.specs.Rows.{ClosesDownload, RefusingClose, Row};
+ghost use Rattle.dfu_device.specs.Rows.{is_close, IsCloseSetup, ClosesDownload, RefusingClose, Row};
 ghost use Rattle.dfu_device.specs.Table.{objection_code, refuse_stage};
 
 use crate::device_state::DeviceState;
-use crate::table::is_close;
 use crate::{Answer, Device};
 use dfu_slots::Medium;
-use dfu_wire::Code;
+use dfu_wire::{Code, Request, Setup};
+
+// Whether a request is a DNLOAD of no bytes.
+fn closes(request: Request) -> bool
+    ensures { result ≡ is_close request }
+{
+    match request {
+        Request::Dnload { length, .. } => length == 0,
+        _ => false,
+    }
+}
+
+/// Whether a setup is a DNLOAD with wLength 0, which closes a download in dfuDNLOAD-IDLE.
+pub fn is_close(setup: &[u8; 8]) -> bool
+    ensures { IsTrue result ↔ IsCloseSetup setup.now }
+{
+    closes(Setup::decode(setup).request())
+}
 
 /// Why the program of a device refuses an image (USB DFU 1.1, section 6.1.2, bStatus).
 #[derive(Clone, Copy, Drop)]

@@ -1,6 +1,5 @@
 -- An answer before its bytes are in a buffer.
 use Rattle.std.specs.Prelude.{ℕ, List, take, drop}
-use Rattle.dfu_wire.specs.declared.requests.Request.{Request as Asked}
 use Rattle.dfu_slots.specs.Seen.{image_of}
 use Rattle.dfu_device.specs.declared.answer.Answer.{Answer}
 use Rattle.dfu_device.specs.declared.answer.PendingAnswer.{PendingAnswer}
@@ -10,7 +9,7 @@ use Rattle.dfu_device.specs.declared.decision.Reply.TheVariants as reply
 use Rattle.dfu_device.specs.Stage.{Reply, Ack, Data, StateOf, Stall, state_of, status_of}
 use Rattle.dfu_device.specs.Table.{Plan}
 use Rattle.dfu_device.specs.DeviceView.{DeviceView, profile}
-use Rattle.dfu_device.specs.Rows.{Answers, Done, ServesRequest, Handles}
+use Rattle.dfu_device.specs.Rows.{Answers, Done, Handles}
 
 -- The pending answer of a reply to a request for so many bytes.
 abbrev pub pending_answer_of : (asked : ℕ) → ReplyRead → PendingAnswer
@@ -40,10 +39,6 @@ AnswersPending d w a out = Answers (asked_of d) (reply_of d w) a out
 -- A plan was carried out, but for its reply, which is drafted.
 abbrev pub DonePending : Plan → ℕ → DeviceView → PendingAnswer → DeviceView → Type 0
 DonePending p len w d w' = (a : Answer) (out : List ℕ) → AnswersPending d w' a out → Done p len w a out w'
-
--- The row of a request that goes by the table, with its answer drafted.
-abbrev pub ServedPending : Asked → List ℕ → DeviceView → PendingAnswer → DeviceView → Type 0
-ServedPending q body w d w' = (a : Answer) (out : List ℕ) → AnswersPending d w' a out → ServesRequest q body w a out w'
 
 -- The row of a setup with its body, with its answer drafted.
 abbrev pub HandledPending : List ℕ → List ℕ → DeviceView → PendingAnswer → DeviceView → Type 0

@@ -29,7 +29,8 @@ returns-then-setup-eq0-clause-row c a flash is =
     let long = (found_long config c.args.setup.now p c.is_long.result c.decode-setup.ensures.only says c.if-not-is_long.false).0 in
     subst (λ (n : DeviceState). Leads c.args.setup.now a flash n) (sym c.after_long.ensures) (
       enters a _ flash is.device (after_free m (length a.block) s),
-      λ body body_is u. long_here c.args.setup.now p c.decode-setup.ensures.fields (device_with u a flash) m (spare_of (unseen_in u s)) a.block
+      λ body body_is u. long_here c.args.setup.now p c.decode-setup.ensures.fields (device_with u a flash) m (spare_of (unseen_in u s))
+          a.block
           (λ i. stage_of (is.mode_is i) (spare_of (unseen_in u s)) a.block)
           (omega (arith, long, ap (λ k. k.functional.transfer) is.config_is)) c.if-setup-eq0.true body
           (body_is p c.decode-setup.ensures.fields),

@@ -1,35 +1,23 @@
-use Rattle.std.proofs.Common.{refl, sym, ◌∙◌}
-use Rattle.dfu_device.specs.declared.answer.PendingAnswer.TheVariants as pending_answer
+use Rattle.std.proofs.Common.{ℕ, length, refl, sym, subst}
+use Rattle.dfu_device.specs.Decision.{IsPossible}
 use Rattle.dfu_device.specs.inside.PendingAnswer.{HandledPending}
-use Rattle.dfu_device.specs.Rows.{handled_as}
 use Rattle.dfu_device.specs.inside.View.{shown}
 use Rattle.dfu_device.proofs.AnswersFit.{handled_fits}
-use Rattle.dfu_device.proofs.Before.{refused_class, served_class}
+use Rattle.dfu_device.proofs.Carried.{filled, handled}
 use Rattle.dfu_device.proofs.device_core.DeviceCore.pending_answer.Goals as goal
 
-pub returns-in-NotDfu : goal.returns-in-NotDfu
-returns-in-NotDfu g c =
-    let w = shown c.args.self.now in
-    let row : HandledPending c.args.setup.now c.args.body.now w pending_answer.Stall w = λ a out says.
-    handled_as c.decode-setup.result c.request-request.result c.decode-setup.ensures.fields
-    c.request-request.ensures.asks (rw c.in-NotDfu.is (says, refl)) in
-    record { row = row; fits = λ a sent says. handled_fits _ _ _ _ _ _ (row a sent says) }
+pub carry_out-requires : goal.carry_out-requires
+carry_out-requires g c =
+    let d = c.args.self.now in
+    let n = length d.block.items in
+    subst (λ (t : ℕ). IsPossible t n (length c.args.body.now) d.slots c.asked_row-decision.result.0) c.profile.ensures.transfer
+    (c.asked_row-decision.ensures.possible n d.slots (sym c.profile.ensures.capacity) (filled d.mode n d.slots d.sound))
 
-pub returns-then-not-goes_with : goal.returns-then-not-goes_with
-returns-then-not-goes_with g c =
-    let w = shown c.args.self.now in
-    let row : HandledPending c.args.setup.now c.args.body.now w pending_answer.Stall w = λ a out says.
-    handled_as c.decode-setup.result c.request-request.result c.decode-setup.ensures.fields c.request-request.ensures.asks
-    (refused_class c.decode-setup.result c.request-request.result c.args.body.now _ w a out c.in_default.not-NotDfu
-    (sym c.goes_with.ensures ∙ c.if-not-goes_with.true) says) in
-    record { row = row; fits = λ a sent says. handled_fits _ _ _ _ _ _ (row a sent says) }
-
-pub returns-else-not-goes_with : goal.returns-else-not-goes_with
-returns-else-not-goes_with g c =
-    let w = shown c.args.self.now in
-    let w' = shown c.serve.new.self in
-    let row : HandledPending c.args.setup.now c.args.body.now w c.serve.result w' = λ a out says.
-    handled_as c.decode-setup.result c.request-request.result c.decode-setup.ensures.fields c.request-request.ensures.asks
-    (served_class c.decode-setup.result c.request-request.result c.args.body.now w w' a out c.in_default.not-NotDfu
-    (sym c.goes_with.ensures ∙ c.if-not-goes_with.false) (c.serve.ensures.row a out says)) in
+pub returns : goal.returns
+returns g c =
+    let d = c.args.self.now in
+    let row : HandledPending c.args.setup.now c.args.body.now (shown d) c.carry_out.result (shown c.carry_out.new.self) = λ a out says.
+    handled c.profile.result d.mode c.args.setup.now d.block.items c.args.body.now c.asked_row-decision.result.0
+    c.asked_row-decision.result.1 (shown d) c.profile.ensures.profile d.sound refl c.asked_row-decision.ensures.row a out (shown c.carry_out.new.self)
+    (c.carry_out.ensures.row a out says) in
     record { row = row; fits = λ a sent says. handled_fits _ _ _ _ _ _ (row a sent says) }

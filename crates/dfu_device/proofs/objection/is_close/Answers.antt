@@ -3,7 +3,7 @@ use Rattle.dfu_wire.specs.declared.setups.Setup.{Setup}
 use Rattle.dfu_wire.specs.declared.requests.Request.{Request as Asked}
 use Rattle.dfu_wire.specs.Request.{Asks}
 use Rattle.dfu_device.specs.Rows.{is_close}
-use Rattle.dfu_device.proofs.table.is_close.Goals as goal
+use Rattle.dfu_device.proofs.objection.is_close.Goals as goal
 
 -- A setup is read in one way, and asks for one request.
 pub returns : goal.returns
