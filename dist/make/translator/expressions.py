@@ -8,12 +8,12 @@ from text import bits, bytes_of, constant, width
 SIGNS = {"add": "+", "sub": "-", "mul": "*", "and": "&", "or": "|", "xor": "^", "udiv": "/", "urem": "%", "shl": "<<", "lshr": ">>"}
 OPPOSITE = {"==": "!=", "!=": "==", "<": ">=", ">=": "<", ">": "<=", "<=": ">"}
 ORDERS = {"eq": "==", "ne": "!=", "ult": "<", "ule": "<=", "ugt": ">", "uge": ">="}
-NAME, CAST, SUM = range(3)
+NAME, CAST, SUM, ROW = range(4)
 
 
 class Expression(NamedTuple):
-    """Text of C. The rank says where it needs brackets: a SUM as a part of anything, a CAST before [] and the like. A comparison has the
-    text of the opposite one besides."""
+    """Text of C. The rank says where it needs brackets: a SUM as a part of anything, a CAST before [] and the like. A ROW is what a table
+    has at a place that the next line loads. A comparison has the text of the opposite one besides."""
     text: str
     rank: int = NAME
     opposite: str = ""
@@ -110,6 +110,6 @@ def size_of(it):
 def access(type, align):
     """The end of the name of what loads or stores a number at a place that is a multiple of `align`: its bits; and unless the place is a
     multiple of all its bytes, u for a multiple of 1, or a2 or a4."""
-    size = bytes_of(type)
+    size = 8 if type == "size" else bytes_of(type)
     align = min(it for it in (1, 2, 4, 8) if it == align or 2 * it > size)
-    return f"{size * 8}{'' if align == size else 'u' if align == 1 else f'a{align}'}"
+    return f"{'_size' if type == 'size' else size * 8}{'' if align == size else 'u' if align == 1 else f'a{align}'}"

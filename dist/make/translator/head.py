@@ -68,9 +68,11 @@ HELPERS = {
 
 def helper(name):
     """One of them, for the bits that its name says, and for places that are multiples of so many bytes: 64 of 8, 64a4 of 4, and 64u
-    of 1. Of 24, 40, 48 or 56 bits the first bytes are kept, as the low byte comes first."""
-    if name.endswith("_size") or name == "wide":
-        return "static inline " + re.sub(r"\b(?:NAME|T)\b", lambda it: {"NAME": name, "T": "size_t"}[it[0]], HELPERS[name.replace("_size", "")])
+    of 1; _size are those of a size_t. Of 24, 40, 48 or 56 bits the first bytes are kept, as the low byte comes first."""
+    kind, _, align = name.partition("_size")
+    if align or name.endswith("_size") or name == "wide":
+        words = {"NAME": name, "T": "size_t", "SIZE": "sizeof x", "AT": "p" if align == "u" else f"ALIGNED(p, {align[1:] or 8})"}
+        return "static inline " + re.sub(rf"\b(?:{'|'.join(words)})\b", lambda it: words[it[0]], HELPERS[kind])
     kind, bits, align = re.fullmatch(r"([a-z_]+)([0-9]+)(u|a[0-9]+|)", name).groups()
     size, wide = int(bits) // 8, min(it for it in (8, 16, 32, 64) if it >= int(bits))
     words = {"NAME": name, "T": f"uint{wide}_t", "intT": f"int{wide}_t", "SIZE": str(size), "PAIR": f"i{bits}_i1",
@@ -89,7 +91,7 @@ def head(header, bodies):
     names = " and ".join(header.names)
     includes = "\n".join(f'#include "{it}"' for it in header.names)
     pairs = sorted(set(re.findall(r"struct ((?:i[0-9]+|ptr)_(?:i[0-9]+|ptr))\b", bodies)))
-    used = sorted(set(re.findall(rf"\b((?:{'|'.join(HELPERS)})(?:[0-9]+(?:u|a[0-9]+|)|_size|(?<=\bwide)))\(", bodies)))
+    used = sorted(set(re.findall(rf"\b((?:{'|'.join(HELPERS)})(?:(?:[0-9]+|_size)(?:u|a[0-9]+|)|(?<=\bwide)))\(", bodies)))
     return "\n".join([
         WHAT_IT_IS.format(names=names, what=WHAT.get(names, ""), includes=includes) + of_c(bodies),
         *(f'_Static_assert({it}, "another layout");' for it in header.layouts), "",

@@ -1,5 +1,5 @@
 """The statements for memory: arrays, loads, stores, copies, and places."""
-from expressions import CAST, SUM, Expression, access, byte_at, c_type, moved
+from expressions import CAST, ROW, SUM, Expression, access, byte_at, c_type, cast, moved
 from refusals import refuse
 from text import bits, bytes_of, constant
 
@@ -22,15 +22,19 @@ class Memory:
         if place in self.body.types:
             return self.keep(line, type, self.as_made(line, type, Expression(self.name_of(place))))
         at = self.value("ptr", place)
+        if at.rank == ROW:
+            return self.keep(line, type, cast(self.body.type_of(type, line["made"]), Expression(at.text)))
         if bits(type) == 8:
             return self.keep(line, type, Expression(byte_at(at)))
         if bits(type) < 8 or type == "ptr":
             return refuse(line.number, "a load of no whole bytes, or of a pointer", line.written)
-        self.keep(line, type, self.as_made(line, type, Expression(f"load{access(type, self.align_of(line))}({at.text})")))
+        is_size = self.body.type_of(type, line["made"]) == "size"
+        self.keep(line, type, Expression(f"load{access('size' if is_size else type, self.align_of(line))}({at.text})"))
 
     def store(self, line):
         type, place = line["type"], line["place"]
-        what = self.value(type, line["value"])
+        is_size = type == "i64" and place not in self.body.types and self.body.program.sizes.stores_size(self.body.function.name, line)
+        what = self.size(line["value"]) if is_size else self.value(type, line["value"])
         if place in self.body.types:
             return self.emit(f"{self.name_of(place)} = {what.text};")
         at = self.value("ptr", place)
@@ -38,7 +42,7 @@ class Memory:
             return self.emit(f"{byte_at(at)} = {what.text};")
         if bits(type) < 8 or type == "ptr":
             return refuse(line.number, "a store of no whole bytes, or of a pointer", line.written)
-        self.emit(f"store{access(type, self.align_of(line))}({at.text}, {what.text});")
+        self.emit(f"store{access('size' if is_size else type, self.align_of(line))}({at.text}, {what.text});")
 
     def align_of(self, line):
         """What the place of a load or a store is a multiple of, by the line itself or by what is known of its pointer."""
@@ -76,6 +80,8 @@ class Memory:
         self.set(line, "ptr", Expression(f"{base.part()} + {count.part()}", SUM))
 
     def row(self, line):
+        if line["base"] in self.body.program.tables.rows:
+            return self.set(line, "ptr", Expression(f"{self.body.program.tables.named[line['base']]}[{self.size(line['by']).text}]", ROW))
         base, by, size = self.value("ptr", line["base"]), self.size(line["by"]), bytes_of(line["type"])
         self.set(line, "ptr", Expression(f"{base.part()} + {size} * {by.part()}", SUM))
 

@@ -2,7 +2,9 @@
 
 All values begin with 0. Each line raises its value to the most that it makes of the ones that it reads, and each call raises the
 parameters to what it hands over, until nothing changes. A value that rises often goes up to the next power of two, so that this ends.
-What is read from memory, or given by C as a uint64_t, may be any number; a `size_t` of C and a pointer are below 2 to the 32."""
+What is read from an array is at most what cells.py finds that it holds. What is read from elsewhere, or given by C as a uint64_t, may be
+any number; a `size_t` of C and a pointer are below 2 to the 32."""
+from cells import WRITES, Cells
 from conditions import Conditions
 from text import bits, constant, halves
 
@@ -27,6 +29,7 @@ class Ranges:
         self.functions = {it.name: it for it in module.functions}
         self.found = {it.name: {} for it in module.functions}
         self.conditions = {it.name: Conditions(it) for it in module.functions}
+        self.cells = Cells(module, lambda name: self.conditions[name].blocks)
         self.rises = {}
         for function in module.functions:
             if function.is_export:
@@ -38,6 +41,8 @@ class Ranges:
                 for block in self.conditions[function.name].blocks:
                     for line in block.lines:
                         self.raise_by(function.name, block, line)
+            self.has_changed |= self.cells.has_changed
+            self.cells.has_changed = False
 
     def begin_export(self, function, parameters):
         """What C hands over."""
@@ -58,6 +63,9 @@ class Ranges:
             called = self.functions.get(line["function"].strip('@"'))
             for (type, value), (_, name) in zip(line.given, called.parameters if called else []):
                 self.raise_value(called.name, name, function, type, value, facts)
+        if line.kind in WRITES:
+            type = line.words.get("type", "i8")
+            self.cells.write(function, line, self.of(function, type, line["value"], facts) if "value" in line.words else 0)
         if line.kind == "give":
             self.raise_value(function, self.RESULT, function, line["type"], line["value"], facts)
         elif line.kind == "call" and called:
@@ -136,7 +144,14 @@ class Ranges:
             return SIZE
         if kind in ("compare", "compare_places"):
             return 1
-        return most_of(line["type"]) if kind == "load" else 0
+        return self.made_by_load(function, line) if kind == "load" else 0
+
+    def made_by_load(self, function, line):
+        maker = self.conditions[function].makers.get(line["place"], (None, None))[1]
+        if maker is not None and maker.kind == "row" and maker["type"] == line["type"] and maker["base"] in self.cells.rows:
+            return self.cells.rows[maker["base"]]
+        most = self.cells.most_read(function, line["place"], line["type"])
+        return most_of(line["type"]) if most is None else min(most, most_of(line["type"]))
 
     def of_row(self, function, block, line, value, label):
         """The most that a phi is for whoever comes from a block. One that counts up to a number is at most that."""

@@ -3,8 +3,9 @@
 One is so if it has at most 32 bits, as ranges.py finds where size_t has 32; or if nobody reads more than its low 32 bits then: a place
 that it moves, a number of bytes, a number of 32 bits that is made of it. All begin as such, and each line that reads more takes what it
 reads away."""
+from live import Live
 from ranges import SIZE, Ranges
-from text import bits, constant
+from text import bits, bytes_of, constant
 
 # Sums whose low bits are made of low bits alone.
 BY_LOW_BITS = ("add", "sub", "mul", "and", "or", "xor")
@@ -19,6 +20,7 @@ class Sizes:
         self.ranges = Ranges(module, header)
         self.functions = {it.name: it for it in module.functions}
         self.read_whole = {it.name: set() for it in module.functions}
+        self.live = Live(self.ranges.cells.places, self.bytes_loaded)
         has_changed = True
         while has_changed:
             has_changed = False
@@ -26,6 +28,7 @@ class Sizes:
                 read = self.read_whole[function.name]
                 for block in self.ranges.conditions[function.name].blocks:
                     for line in block.lines:
+                        has_changed |= self.live.follow(function.name, line)
                         new = {it for it in self.wholes(function.name, line) if it[0] == "%"} - read
                         has_changed |= bool(new)
                         read |= new
@@ -33,6 +36,14 @@ class Sizes:
     def is_low(self, function, name):
         """Whether a value has at most 32 bits, on a processor whose size_t has 32."""
         return self.ranges.found[function].get(name, 0) <= SIZE
+
+    def bytes_loaded(self, function, line):
+        """How many bytes a load takes, on a processor whose size_t has 32 bits."""
+        return 4 if line["type"] == "i64" and self.is_size(function, line["made"]) else bytes_of(line["type"])
+
+    def stores_size(self, function, line):
+        """Whether nobody reads the high bits of the 64 that a line stores then."""
+        return line["type"] == "i64" and self.live.wanted(function, line["place"], 8) >> 4 == 0
 
     def gives_size(self, function):
         return function.result == "i64" and self.is_size(function.name, Ranges.RESULT)
@@ -49,6 +60,8 @@ class Sizes:
             called = self.functions.get(line["function"].strip('@"'))
             names = [name for _, name in called.parameters] if called else [None] * len(line.given)
             return [value for (_, value), name in zip(line.given, names) if not (name and self.is_size(called.name, name))]
+        if kind == "store" and self.stores_size(function, line):
+            return []
         if kind == "give" and self.is_size(function, Ranges.RESULT):
             return []
         if kind == "sum" and line["sum"] == "and" and any((constant("i64", line[it]) or SIZE + 1) <= SIZE for it in ("left", "right")):

@@ -8,7 +8,6 @@ import sys
 import lines
 from alignment import Alignments
 from body import Body
-from expressions import c_type
 from head import HELPERS, head
 from header import Header
 from module import Module
@@ -17,6 +16,7 @@ from nulls import without_null
 from refusals import end_if_any, refuse
 from sizes import Sizes
 from sources import Sources, comment
+from tables import Tables
 
 
 class Program:
@@ -33,20 +33,13 @@ class Program:
                 self.functions.of(function.name)
         for name in {*header.exports} - {it.name for it in module.functions}:
             refuse(0, "the module has no such export", name)
-        self.tables = Names()
-        for table in module.tables:
-            self.functions.taken.add(self.tables.of(table.name))
+        self.tables = Tables(module, Names())
+        self.functions.taken.update(self.tables.named.values())
 
     def check(self, function):
         export = self.header.exports.get(function.name)
         if not export or not export.fits(function):
             refuse(function.number, "an export that the header does not have so", function.name)
-
-
-def of_table(table, name):
-    rows = [f"{it}" if it < 10 else f"{it:#x}" for it in table.rows] or ["0"]
-    written = ",\n    ".join(", ".join(rows[k:k + 20]) for k in range(0, len(rows), 20))
-    return f"static _Alignas({table.align}) const {c_type(table.type)} {name}[{len(rows)}] = {{\n    {written}\n}};"
 
 
 def main():
@@ -63,7 +56,7 @@ def main():
     texts = ["\n".join([comment(it.function.name, sources.of(it.function.name)), *it.write()]) for it in bodies]
     end_if_any()
     functions = "\n\n".join(texts)
-    tables = "\n".join(of_table(it, program.tables.of(it.name)) for it in module.tables)
+    tables = "\n".join(program.tables.text(it) for it in program.tables.written)
     prototypes = "\n".join(body.head() + ";" for body in bodies if not body.export)
     sys.stdout.write("\n".join([head(header, prototypes + functions), tables, "", prototypes, "", functions, ""]))
 
