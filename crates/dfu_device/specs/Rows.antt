@@ -115,10 +115,6 @@ setup_plan w p q body = if is_served p q body then plan (profile w) (image_of w.
 
 -- The rows.
 
--- The row of a request that goes by the table.
-abbrev pub ServesRequest : Asked → List ℕ → DeviceView → Answer → List ℕ → DeviceView → Type 0
-ServesRequest q body w a out w' = Done (plan (profile w) (image_of w.slots) w.stage (meant q body)) (asked_length q) w a out w'
-
 -- The row of a setup with its body: as these eight bytes are read.
 pub data Handles (setup body : List ℕ) (w : DeviceView) (a : Answer) (out : List ℕ) (w' : DeviceView) : Type 0 where
   handled_as : (p : Setup) (q : Asked) → IsSetup p setup → Asks p q → Done (setup_plan w p q body) (asked_length q) w a out w'
