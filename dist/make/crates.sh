@@ -4,7 +4,7 @@
 # The program; each library with the names of its headers, its C being NAME.c of a crate NAME_c; and the libraries that the page takes, as
 # modules of WebAssembly. (eraser/package.py names the crates of the plain Rust.)
 program=dfu_cmd
-libraries='dfu_device_c:dfu_core dfu_host_c:dfuse_watch dfu_boot_c:dfu_install_core:dfu_trial_core'
+libraries='dfu_device_c:dfu_core dfu_host_c:dfuse_watch dfu_boot_c:dfu_home_core:dfu_install_core:dfu_trial_core'
 of_page='dfu_device_c dfu_host_c'
 # The library that allocates: its header, and the number by which it refuses too little memory. It is of the page too.
 held=dfu_image_c:dfu_image_take:-103

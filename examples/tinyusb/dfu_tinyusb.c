@@ -1,6 +1,9 @@
 /* SPDX-License-Identifier: MIT OR Apache-2.0 */
 #include "dfu_tinyusb.h"
 #include "dfu_tinyusb_parts.h"
+#ifdef DFU_TINYUSB_HOME
+#include "dfu_home.h"
+#endif
 
 static struct dfu_device *dfu;
 static int32_t refusal;
@@ -62,6 +65,19 @@ static bool await(uint8_t rhport, tusb_control_request_t const *request, const u
     return is_awaited;
 }
 
+/* Whether a setup may be served. A program that runs from the first slot of two areas (DFU_TINYUSB_HOME) takes no download that would be
+ * written over it: that is stalled, and nothing changes. */
+static bool may_come(const uint8_t setup[8])
+{
+#ifdef DFU_TINYUSB_HOME
+    const int32_t n = dfu_home_transfer(dfu, setup);
+    return n != DFU_NOT_HOME && noted(n) == 0;
+#else
+    (void)setup;
+    return true;
+#endif
+}
+
 static bool begin(uint8_t rhport, tusb_control_request_t const *request, const uint8_t setup[8])
 {
     int32_t n;
@@ -84,7 +100,7 @@ static bool control(uint8_t rhport, uint8_t stage, tusb_control_request_t const 
     switch (stage) {
     case CONTROL_STAGE_SETUP:
         is_awaited = false;
-        is_taken = !is_refused && begin(rhport, request, setup);
+        is_taken = !is_refused && may_come(setup) && begin(rhport, request, setup);
         break;
     case CONTROL_STAGE_DATA:
         is_awaited = false;

@@ -1,2 +1,3 @@
 mod Within
 mod Whole
+mod Told

@@ -1,2 +1,3 @@
+pub mod home
 pub mod install
 pub mod trial

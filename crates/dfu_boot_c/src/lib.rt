@@ -1,5 +1,6 @@
 //! What starts an image, for programs in C, as a static library.
 #![tactic(auto)]
 
+mod home;
 mod install;
 mod trial;

@@ -2,5 +2,5 @@
 
 mod again;
 mod calls;
-mod flash;
+pub(crate) mod flash;
 mod told;

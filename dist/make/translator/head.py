@@ -18,7 +18,8 @@ WHAT = {
     "dfu_host.h": "the host of USB DFU 1.1.",
     "dfuse_watch.h": "the hosts of USB DFU 1.1 (dfu_host.h) and of DfuSe (dfuse_host.h), DfuSe files (dfuse_file.h),\n * what a file is (dfu_image.h), and when a device is given up (dfu_watch.h and this one).",
     "dfu_image_take.h": "the image in a file of Intel HEX, S-records, UF2 or ELF.",
-    "dfu_install_core.h and dfu_trial_core.h": "a run area, to which images are linked, and images on trial.",
+    "dfu_home_core.h and dfu_install_core.h and dfu_trial_core.h":
+        "two areas, of which one is run; a run area, to which images are linked; and images on trial.",
 }
 OF_C = """
 #if defined(__BYTE_ORDER__) && __BYTE_ORDER__ != __ORDER_LITTLE_ENDIAN__

@@ -4,6 +4,7 @@
 #include "dfu_host.h"
 #include "dfuse_watch.h"
 #include "dfuse_file.h"
+#include "dfu_home.h"
 #include "dfu_image_take.h"
 #include "dfu_install.h"
 #include "dfu_trial.h"
@@ -89,6 +90,10 @@ AT(dfu_install, run, 0);
 AT(dfu_install, size, sizeof(void *));
 AT(dfu_install, area, 2 * sizeof(void *));
 AT(dfu_install, driver, 2 * sizeof(void *) + 8);
+
+SIZE(dfu_home_record, 8);
+AT(dfu_home_record, last, 0);
+AT(dfu_home_record, count, 4);
 
 SIZE(dfu_tries, 12);
 AT(dfu_tries, unit, 0);

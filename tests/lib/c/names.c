@@ -6,6 +6,7 @@
 #include "dfu_image_take.h"
 #include "dfuse_watch.h"
 #include "dfuse_file.h"
+#include "dfu_home.h"
 #include "dfu_install.h"
 #include "dfu_trial.h"
 
@@ -31,6 +32,7 @@ IS(DFU_FEW_TRIES, -17);
 IS(DFU_MANY_TRIES, -18);
 IS(DFU_ELSEWHERE, -19);
 IS(DFU_NO_CANDIDATE, -20);
+IS(DFU_NOT_HOME, -26);
 
 IS(DFU_ERASE, 1);
 IS(DFU_PROGRAM, 2);

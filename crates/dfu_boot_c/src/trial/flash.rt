@@ -74,8 +74,8 @@ pub(crate) struct Flash<'f> {
     pub(crate) standing: Standing,
 }
 
-// The flash as a medium; None if no unit has that size, if there are no such sectors, or if it has 2^32 bytes or more.
-fn medium_of<'f>(tries: &DfuTries, flash: &'f [u8]) -> Option<Mapped<'f>>
+/// The flash as a medium; None if no unit has that size, if there are no such sectors, or if it has 2^32 bytes or more.
+pub(crate) fn medium_of<'f>(tries: &DfuTries, flash: &'f [u8]) -> Option<Mapped<'f>>
     ensures state { IfSome result (λ m. mapped (mapped_grain m.unit m.sector) m.bytes.now ≡ flash_state tries.now flash.now) }
     ensures part { IfSome result (λ m. IsTriesPart tries.now) }
     ensures none { IfNone result (IsTriesPart tries.now → 2 ^ 32 ≤ length flash.now) }

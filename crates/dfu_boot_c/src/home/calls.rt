@@ -1,0 +1,95 @@
+//! The calls for two areas, as a program in C makes them: `include/dfu_home_core.h` says each for a reader of C.
+ghost use Rattle.std.specs.Prelude.{◌≡◌, ◌⊎◌, ◌+◌, ◌-◌, ◌^◌, min, not, ◌==◌, pos, negsuc};
+ghost use Rattle.dfu_home.specs.Took.{Noted};
+ghost use Rattle.dfu_boot_c.specs.install.Calls.{last_of};
+ghost use Rattle.dfu_boot_c.specs.home.Flash.{home_state, RefusesFlash};
+ghost use Rattle.dfu_boot_c.specs.home.Tells.{ToldHome, due_of_ask, AnswersDownload};
+ghost use Rattle.dfu_slots.specs.Image.{HasImage};
+
+use crate::home::flash::medium;
+use crate::home::numbers::{DfuHomeRecord, due_of, number_of, progress_of};
+use crate::install::area::number_of as place_number;
+use dfu_core::{ASKS, DfuAsk, DfuConfig, ERASE, PROGRAM};
+use dfu_home::{Due, is_home, next, took};
+
+/// What is due next, as `next` of dfu_home: 0, and the active image is in the first slot; or -11, and `ask` has the operation.
+///
+/// Refused, in this order: -2 if no unit has that size or there are no such sectors, -3 if the flash has 2^32 bytes or more, -16 without
+/// sectors, -3 without an active image, -8 if more operations came than the flash has times 128 bytes.
+#[unsafe(no_mangle)]
+pub extern "C" fn dfu_core_home_next(
+    config: &DfuConfig,
+    kept: &DfuHomeRecord,
+    flash: &[u8],
+    ask: &mut DfuAsk,
+) -> i32
+    ensures outcome { ToldHome config.now kept.now flash.now result ask.old ask.new
+        ⊎ (RefusesFlash config.now flash.now result × (ask.new ≡ ask.old)) }
+{
+    let medium = match medium(config, flash) {
+        Ok(medium) => medium,
+        Err(refusal) => return refusal.number(),
+    };
+    match next(&medium, flash, progress_of(kept), &mut ask.bytes) {
+        Due::Refuse(refusal) => number_of(refusal),
+        Due::Home => 0,
+        Due::Erase { at } => {
+            ask.kind = ERASE;
+            ask.at = at;
+            ask.length = config.sector;
+            ASKS
+        }
+        Due::Program { at, len } => {
+            ask.kind = PROGRAM;
+            ask.at = at;
+            ask.length = len;
+            ASKS
+        }
+    }
+}
+
+/// The operation that `dfu_core_home_next` gave was carried out, or failed if `failed` is not 0; as `took` of dfu_home: 0, and `kept` has
+/// noted it.
+#[unsafe(no_mangle)]
+pub extern "C" fn dfu_core_home_took(
+    kept: &mut DfuHomeRecord,
+    flash: &[u8],
+    ask: &DfuAsk,
+    failed: u32,
+) -> i32
+    ensures result { result ≡ pos 0 }
+    ensures noted { Noted flash.now ask.now.length (due_of_ask ask.now) ask.now.bytes (not (failed == 0)) (last_of kept.new.last) }
+    ensures count { kept.new.count ≡ min (kept.old.count + 1) (2 ^ 32 - 1) }
+{
+    let progress = took(
+        flash,
+        ask.length,
+        due_of(ask),
+        &ask.bytes,
+        failed != 0,
+        progress_of(kept),
+    );
+    kept.last = place_number(progress.last);
+    kept.count = progress.count;
+    0
+}
+
+/// Whether a program that runs from the first slot may take a download, as `is_home` of dfu_home: 1 if the active image is there, and then
+/// a download goes to the second slot; 0 if it is in the second, and a download would be written over the program.
+///
+/// Refused, in this order: -2 if no unit has that size or there are no such sectors, -3 if the flash has no active image, or 2^32 bytes or
+/// more.
+#[unsafe(no_mangle)]
+pub extern "C" fn dfu_core_home_may_download(config: &DfuConfig, flash: &[u8]) -> i32
+    ensures outcome { AnswersDownload (home_state config.now flash.now) result
+        ⊎ (((¬ HasImage (home_state config.now flash.now)) × (result ≡ negsuc 2)) ⊎ RefusesFlash config.now flash.now result) }
+{
+    match medium(config, flash) {
+        Ok(medium) => match is_home(&medium) {
+            Some(true) => 1,
+            Some(false) => 0,
+            None => -3,
+        },
+        Err(refusal) => refusal.number(),
+    }
+}

@@ -1,0 +1,37 @@
+//! The flash of a device as a medium, by its configuration.
+ghost use Rattle.std.specs.Prelude.{◌≡◌, IfOk, OnOk, IfErr};
+ghost use Rattle.dfu_asks.specs.Mapped.{grain_of as mapped_grain, mapped};
+ghost use Rattle.dfu_boot_c.specs.trial.Tries.{flash_state, IsTriesPart};
+ghost use Rattle.dfu_boot_c.specs.home.Flash.{part_of, IsFlashRefused};
+
+use crate::trial::flash::{DfuTries, Refusal, medium_of};
+use dfu_asks::Mapped;
+use dfu_core::DfuConfig;
+
+// How the flash is written, as a trial has it: no tries matter.
+fn part_of(config: &DfuConfig) -> DfuTries
+    ensures { result ≡ part_of config.now }
+{
+    DfuTries {
+        unit: config.unit,
+        sector: config.sector,
+        tries: 0,
+    }
+}
+
+/// The flash as a medium that is written as the configuration says, or why it is none: the first of `NoConfig`, if no unit has that size or
+/// there are no such sectors, and `NoMedium`, if it has 2^32 bytes or more.
+pub(crate) fn medium<'f>(config: &DfuConfig, flash: &'f [u8]) -> Result<Mapped<'f>, Refusal>
+    ensures state { IfOk result (λ m. mapped (mapped_grain m.unit m.sector) m.bytes.now ≡ flash_state (part_of config.now) flash.now) }
+    ensures part { OnOk result (IsTriesPart (part_of config.now)) }
+    ensures err { IfErr result (λ e. IsFlashRefused e config.now flash.now) }
+{
+    let part = part_of(config);
+    if medium_of(&part, &[]).is_none() {
+        return Err(Refusal::NoConfig);
+    }
+    match medium_of(&part, flash) {
+        Some(medium) => Ok(medium),
+        None => Err(Refusal::NoMedium),
+    }
+}

@@ -1,0 +1,53 @@
+//! What a program in C keeps of a copy, and the numbers that it gets and hands in.
+ghost use Rattle.std.specs.Prelude.{◌≡◌};
+ghost use Rattle.dfu_boot_c.specs.home.Flash.{progress_of};
+ghost use Rattle.dfu_boot_c.specs.home.Tells.{home_refusal_number, due_of_ask};
+
+use crate::install::area::last_of;
+use dfu_core::{DfuAsk, ERASE, PROGRAM};
+use dfu_home::{Due, Progress, Refusal};
+
+/// What is kept of a copy between two calls: `struct dfu_home_record`.
+#[repr(C)]
+#[derive(Drop)]
+pub struct DfuHomeRecord {
+    /// Where the last operation went, if it worked and the power has not gone since; else FFFFFFFFh.
+    pub last: u32,
+    /// How many operations came since the power came.
+    pub count: u32,
+}
+
+/// How far a copy is.
+pub(crate) fn progress_of(kept: &DfuHomeRecord) -> Progress
+    ensures { result ≡ progress_of kept.now }
+{
+    Progress {
+        last: last_of(kept.last),
+        count: kept.count,
+    }
+}
+
+/// The operation that a program was asked for; for another kind none.
+pub(crate) fn due_of(ask: &DfuAsk) -> Due
+    ensures { result ≡ due_of_ask ask.now }
+{
+    match ask.kind {
+        ERASE => Due::Erase { at: ask.at },
+        PROGRAM => Due::Program {
+            at: ask.at,
+            len: ask.length,
+        },
+        _ => Due::Home,
+    }
+}
+
+/// The number of a refusal: DFU_NO_SECTORS, DFU_NO_MEDIUM or DFU_NOT_WRITTEN.
+pub(crate) fn number_of(refusal: Refusal) -> i32
+    ensures { result ≡ home_refusal_number refusal }
+{
+    match refusal {
+        Refusal::NoSectors => -16,
+        Refusal::NoImage => -3,
+        Refusal::NotWritten => -8,
+    }
+}
