@@ -15,7 +15,7 @@ const OPENS_AFTER = 6 // actions
 const MOST_ROWS = 500
 const MOST_AT_ONCE = 10000
 const MOST_PASSES = 1000000 // of a line
-const SETUP = ['blank', 'ids', 'device', 'unit', 'erase', 'capacity', 'image', 'check', 'limits']
+const SETUP = ['blank', 'ids', 'device', 'unit', 'erase', 'pace', 'capacity', 'image', 'check', 'limits']
 export class PlayView {
   constructor(modules, examples) {
     Object.assign(this, { modules, examples, diagram: new Diagram(by('diagram')) })

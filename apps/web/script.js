@@ -38,6 +38,7 @@ const FORMS = {
   })],
   unit: [1, word => ({ what: 'unit', unit: UNITS.includes(number(word)) ? number(word) : undefined })],
   erase: [1, word => ({ what: 'erase', sector: number(word, 131072) % 256 === 0 ? number(word) : undefined })],
+  pace: [2, (erase, program) => ({ what: 'pace', erase_ms: number(erase, 65535), program_ms: number(program, 65535) })],
   capacity: [1, word => ({ what: 'capacity', capacity: number(word, 1048576, 1) })],
   image: [1, word => ({ what: 'image', image: bytesOf(word) })],
   check: [1, word => ({ what: 'check', check: bytesOf(word) })],

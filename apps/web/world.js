@@ -9,7 +9,7 @@ import { refusalOf } from './refusals.js'
 import { lineOf } from './script.js'
 
 const NONE = new Uint8Array(0)
-const SETTINGS = ['ids', 'device', 'unit', 'erase', 'capacity', 'image', 'check']
+const SETTINGS = ['ids', 'device', 'unit', 'erase', 'pace', 'capacity', 'image', 'check']
 const textOf = bytes => (bytes.length === 0 ? '-' : hexOf(bytes))
 
 // A script ends here: what is printed last.
@@ -56,7 +56,7 @@ export class World {
 
   set({ what, ...values }) {
     if (this.device !== null) throw new ScriptEnd(`refused LateConfig ${this.number}`)
-    if (what === 'ids' || what === 'device') Object.assign(this.config, values)
+    if (['ids', 'device', 'pace'].includes(what)) Object.assign(this.config, values)
     else Object.assign(this, values)
   }
 

@@ -8,13 +8,13 @@ use Rattle.dfu_link.specs.Words.{lines_of}
 use Rattle.dfu_link.specs.Lines.{line_of}
 use Rattle.dfu_link.specs.ScriptRun.{Point}
 use Rattle.dfu_sim.specs.LinkView.{Nobody}
-use Rattle.dfu_link.specs.Said.{Said, Offer, Does}
+use Rattle.dfu_link.specs.Said.{Does, EventLine, HasTear}
 use Rattle.dfu_link.specs.Expecting.{Expectation, FailsToPrint}
 use Rattle.dfu_link.specs.Falls.{BreaksIn, in_events, in_passes, in_show, for_file, for_tear, LineFalls, NextFalls}
 use Rattle.dfu_link.specs.TextLimit.{GoesOver, IsStopped, GivesNone}
 use Rattle.dfu_link.specs.inside.Expected.{PrintsNext}
 use Rattle.dfu_link.specs.inside.Source.{SourceState, TakesLines, GivesLine, StopsSource}
-use Rattle.dfu_link.specs.inside.Moving.{Moves, MovesAndFalls, HasStopped, FindsNoRoom, FindsNoTear}
+use Rattle.dfu_link.specs.inside.Moving.{Moves, MovesAndFalls, FindsNoRoom}
 use Rattle.dfu_link.specs.declared.scripting.fault.ScriptFault.{ScriptFault}
 use Rattle.dfu_link.specs.declared.scripting.fault.ScriptFault.TheVariants.{BadLine, LateConfig, Expected, NonePrinted, TooLarge, NoMemory, Read, Write}
 use Rattle.dfu_link.proofs.MoveLaws.{moves_trans}
@@ -148,20 +148,18 @@ break_falls p k line old new NoMemory stop breaks = inr breaks
 break_falls p k line old new f stop breaks = elim stop [ ]
 
 -- It stops in what a line prints.
-pub line_breaks : (p : Point) (k : ℕ) (line : List ℕ) (old new : Option (List ℕ)) (said : Said) (f : ScriptFault)
-    → line_of p.given line ≡ Some said → HasStopped p said old new f → LineFalls p k line old new f
-line_breaks p k line old new said f e broken = break_falls p k line old new f (break_of f (broken line e)) (broken line e)
+pub breaks_fall : (p : Point) (k : ℕ) (line : List ℕ) {old new : Option (List ℕ)} (f : ScriptFault) → BreaksIn p line old new f
+    → LineFalls p k line old new f
+breaks_fall p k line {old = old} {new = new} f breaks = break_falls p k line old new f (break_of f breaks) breaks
 
 -- There is no memory for the tear of a line.
-pub tear_falls : (p : Point) (k : ℕ) (line : List ℕ) (old : Option (List ℕ)) (said : Said) (f : ScriptFault)
-    → line_of p.given line ≡ Some said → FindsNoTear said f → LineFalls p k line old old f
-tear_falls p k line old (Does d) f e (has, is) =
+pub tear_falls : (p : Point) (k : ℕ) (line : List ℕ) (old : Option (List ℕ)) (d : EventLine) (f : ScriptFault)
+    → line_of p.given line ≡ Some (Does d) → HasTear d → f ≡ NoMemory → LineFalls p k line old old f
+tear_falls p k line old d f e has is =
     subst (λ (g : ScriptFault). LineFalls p k line old old g) (sym is) (inl (for_tear e has, refl))
-tear_falls p k line old said f e no_tear = elim no_tear [ ]
 
 -- There is no memory for the file that a line offers.
-pub offer_falls : (p : Point) (k : ℕ) (line : List ℕ) (old : Option (List ℕ)) (said : Said) (f : ScriptFault)
-    → line_of p.given line ≡ Some said → p.at.session ≡ Nobody → FindsNoRoom said f → LineFalls p k line old old f
-offer_falls p k line old (Does (Offer purpose file)) f e free is = subst (λ (g : ScriptFault). LineFalls p k line old old g) (sym is)
-    (inl (for_file (record { purpose = purpose; file = file; says = e }) free, refl))
-offer_falls p k line old said f e free is = elim is [ ]
+pub offer_falls : (p : Point) (k : ℕ) (line : List ℕ) (old : Option (List ℕ)) (f : ScriptFault) → FindsNoRoom p.given line f
+    → p.at.session ≡ Nobody → LineFalls p k line old old f
+offer_falls p k line old f none free =
+    subst (λ (g : ScriptFault). LineFalls p k line old old g) (sym none.is) (inl (for_file none.offers free, refl))

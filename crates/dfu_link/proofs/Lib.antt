@@ -1,4 +1,5 @@
 pub mod Blank
+pub mod PaceLaws
 pub mod WordLaws
 pub mod LineLaws
 pub mod WriteLaws

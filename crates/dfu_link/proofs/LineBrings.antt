@@ -10,8 +10,8 @@ use Rattle.dfu_link.specs.Words.{ok_of, hex_word_bytes, number_of, first_word, t
 use Rattle.dfu_link.specs.Fields.{small_of, count_of, attributes_of_word, unit_of_word, sector_of, objection_of, named_bytes}
 use Rattle.dfu_link.specs.Keywords.{keyword_of, later_keyword_of, fate_keyword_of}
 use Rattle.dfu_sim.specs.Happening.{Fate}
-use Rattle.dfu_link.specs.Said.{ConfigLine, TheIds, TheDevice, TheUnit, TheSector, TheCapacity, TheImage, TheCheck, EventLine, Offer, Upload, Abort, Go, Time, Reset, Cut, Refuse, Said, Blank, Sets, LimitsTo, Does, GoesOn, Show, Expects}
-use Rattle.dfu_link.specs.Lines.{◌>>=◌, field, number_field, short_at, hex_at, offered_file, identifier_at, ends, said_ids, said_device, unit_line, erase_of, said_capacity, said_image, check_of, said_limits, offer_of, time_of, refuse_of, pass_of, slip_of, harmed_of, until_of, go_of, expect_of, by_keyword, is_comment, says, read_line, line_of}
+use Rattle.dfu_link.specs.Said.{ConfigLine, TheIds, TheDevice, TheUnit, TheSector, ThePace, TheCapacity, TheImage, TheCheck, EventLine, Offer, Upload, Abort, Go, Time, Reset, Cut, Refuse, Said, Blank, Sets, LimitsTo, Does, GoesOn, Show, Expects}
+use Rattle.dfu_link.specs.Lines.{◌>>=◌, field, number_field, short_at, hex_at, offered_file, identifier_at, ends, said_ids, said_device, unit_line, erase_of, pace_line, said_capacity, said_image, check_of, said_limits, offer_of, time_of, refuse_of, pass_of, slip_of, harmed_of, until_of, go_of, expect_of, by_keyword, is_comment, says, read_line, line_of}
 use Rattle.dfu_link.specs.declared.scripting.fault.Field.TheVariants.{Times}
 use Rattle.dfu_link.specs.declared.scripting.fault.LineFault.{LineFault}
 use Rattle.dfu_link.specs.declared.scripting.fault.LineFault.TheVariants.{Long, Keyword}
@@ -38,6 +38,7 @@ set_brings (TheIds ids) = Nothing
 set_brings (TheDevice functional least busy manifest) = Nothing
 set_brings (TheUnit unit) = Nothing
 set_brings (TheSector n) = Nothing
+set_brings (ThePace erase program) = Nothing
 set_brings (TheCapacity n) = Nothing
 set_brings (TheImage image) = AnImage image
 set_brings (TheCheck front) = Nothing
@@ -124,6 +125,11 @@ unit_brings words said h = bind_ok (field _ unit_of_word 2 2 words) _ said h (λ
 erase_brings : (words : List (List ℕ)) (said : Said) → erase_of words ≡ Ok said → said_brings said ≡ Nothing
 unfolding erase_of
 erase_brings words said h = bind_ok (field _ sector_of 2 2 words) _ said h (λ n is hn. ends_bring (Sets (TheSector n.0)) 2 n.1 said hn)
+
+pace_brings : (words : List (List ℕ)) (said : Said) → pace_line words ≡ Ok said → said_brings said ≡ Nothing
+unfolding pace_line
+pace_brings words said h = bind_ok (short_at 2 3 words) _ said h (λ e ie he. bind_ok (short_at 3 3 e.1) _ said he
+    (λ p ip hp. ends_bring (Sets (ThePace e.0 p.0)) 3 p.1 said hp))
 
 capacity_brings : (words : List (List ℕ)) (said : Said) → said_capacity words ≡ Ok said → said_brings said ≡ Nothing
 unfolding said_capacity
@@ -231,6 +237,7 @@ keyword_says given line word words said h =
     word_case (words_bring given) (codes "device") _ _ _ _ word words said h (device_brings words said) (λ h.
     word_case (words_bring given) (codes "unit") _ _ _ _ word words said h (unit_brings words said) (λ h.
     word_case (words_bring given) (codes "erase") _ _ _ _ word words said h (erase_brings words said) (λ h.
+    word_case (words_bring given) (codes "pace") _ _ _ _ word words said h (pace_brings words said) (λ h.
     word_case (words_bring given) (codes "capacity") _ _ _ _ word words said h (capacity_brings words said) (λ h.
     word_case (words_bring given) (codes "image") _ _ _ _ word words said h (image_brings words said) (λ h.
     word_case (words_bring given) (codes "limits") _ _ _ _ word words said h (limits_bring words said) (λ h.
@@ -245,7 +252,7 @@ keyword_says given line word words said h =
     word_case (words_bring given) (codes "show") _ _ _ _ word words said h (ends_bring Show 1 words said) (λ h.
     word_case (words_bring given) (codes "expect") _ _ _ _ word words said h (expect_brings line said) (λ h.
     word_case (words_bring given) (codes "check") _ _ _ _ word words said h (check_brings words said) (λ h.
-    word_case (words_bring given) (codes "refuse") _ _ _ _ word words said h (refuse_brings words said) (λ h. absurd cc)))))))))))))))))))
+    word_case (words_bring given) (codes "refuse") _ _ _ _ word words said h (refuse_brings words said) (λ h. absurd cc))))))))))))))))))))
 
 -- A comment brings nothing.
 comment_brings : (given : Option (List ℕ)) (word : List ℕ) (words : List (List ℕ)) → is_comment word ≡ true

@@ -6,7 +6,7 @@ use Rattle.std.proofs.KnownBytes.{Appends-nil, Appends-trans}
 use Rattle.dfu_device.specs.DeviceView.{DeviceView}
 use Rattle.dfu_slots.specs.Medium.{Fuse}
 use Rattle.dfu_slots.specs.Medium.Fuse.{Whole}
-use Rattle.dfu_sim.specs.LinkView.{LinkView, WorldView}
+use Rattle.dfu_sim.specs.LinkView.{WorldView}
 use Rattle.dfu_sim.specs.Bytes.{armed}
 use Rattle.dfu_link.specs.Texts.{image_line}
 use Rattle.dfu_link.specs.Said.{Said}
@@ -15,7 +15,7 @@ use Rattle.dfu_link.specs.ScriptRun.{Settings, nothing, then_prepares, prepared,
 use Rattle.dfu_link.specs.Expecting.{Expectation}
 use Rattle.dfu_link.specs.inside.Expected.{PrintsNext}
 use Rattle.dfu_link.specs.inside.Source.{SourceState, GivesLine}
-use Rattle.dfu_link.specs.inside.Moving.{Steps, Moves, Ends, IsUnarmed, LinesDone, all_done, gives_back, Prepared}
+use Rattle.dfu_link.specs.inside.Moving.{Steps, Moves, Ends, IsUnarmed, Prepared}
 use Rattle.dfu_link.proofs.GivenLaws.{gives_none, gives_trans}
 
 -- No line was done.
@@ -97,12 +97,6 @@ ends_after {p = p} {q = q} {s = s} {t = t} {old = old} {mid = mid} {new = new} m
       told = subst (λ (xs : List ℕ). Appends old new xs) (sym (append_assoc m.shown e.shown image))
           (Appends-trans old mid new m.shown (e.shown ++ image) m.told e.told);
     }
-
--- Lines were done, and then others until no session was live, or all that were left.
-pub lines_after : {p q : Point} {s t u : SourceState} {old mid new : Option (List ℕ)} {to : LinkView → Point} {d : Option DeviceView}
-    → Moves p s old q t mid → LinesDone q t mid to u new d → LinesDone p s old to u new d
-lines_after m (all_done e) = all_done (ends_after m e)
-lines_after m (gives_back n) = gives_back (moves_trans m n)
 
 -- Lines that set.
 

@@ -21,6 +21,7 @@ use Rattle.dfu_link.specs.inside.Moving.{SilentPasses, HasDoneLine, HasStopped}
 use Rattle.dfu_link.proofs.WriteLaws.{broke_after}
 use Rattle.dfu_link.proofs.ExpectLaws.{prints_none, prints_more, fails_after}
 use Rattle.dfu_link.proofs.ToldLines.{told_line_is}
+use Rattle.dfu_link.proofs.FallLaws.{breaks_fall}
 use Rattle.dfu_link.proofs.PlayLaws.{replicate_more, plays_one}
 
 abbrev passes : Happening
@@ -115,8 +116,9 @@ pub stopped_on : {b : LinkView} {c c' : WorldView} (g : Option (List ℕ)) (chec
     {old mid new : Option (List ℕ)} {x y z : Option Expectation} {f : ScriptFault} → SilentPasses check b x old c.bench y mid
     → HasCome c (checked check c.bench passes) c' r → ShowsActive c'.bench → PrintsNext y mid (told_line r c'.up) z new (Err f)
     → HasStopped (point_at g check limits x b) GoesOn old new f
-stopped_on {c' = c'} g check limits r {old = old} {mid = mid} {new = new} {f = f} silent come active prints line e =
+stopped_on {b = b} {c' = c'} g check limits r {old = old} {mid = mid} {new = new} {x = x} {f = f} silent come active prints k line e =
     let before = silent.prints in
-    in_passes e (goes_on_by g check limits r 0 None tt silent come active (part_some prints.err))
+    breaks_fall (point_at g check limits x b) k line f
+    (in_passes e (goes_on_by g check limits r 0 None tt silent come active (part_some prints.err))
     (broke_after old mid new [] (told_line r c'.up) before.told prints.err)
-    (fails_after (told_line r c'.up) new f before prints.fault)
+    (fails_after (told_line r c'.up) new f before prints.fault))

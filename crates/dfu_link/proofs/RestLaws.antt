@@ -1,22 +1,24 @@
--- Lines that are done while no session is live.
-use Rattle.std.proofs.Common.{◌≡◌, ℕ, List, Option, Some, None, Result, Ok, Err, Bool, true, false, refl}
+-- Lines that are done on one link after the other.
+use Rattle.std.proofs.Common.{◌≡◌, ℕ, List, Option, Some, None, Result, Ok, Err, true, false, refl, sym, subst}
 use Rattle.std.specs.Prelude.{OnOk, IfErr}
 use Rattle.dfu_device.specs.DeviceView.{DeviceView}
-use Rattle.dfu_sim.specs.LinkView.{LinkView}
-use Rattle.dfu_link.specs.Said.{said_by}
+use Rattle.std.specs.Io.KnownBytes.{IsAtEnd}
+use Rattle.dfu_sim.specs.LinkView.{Nobody, LinkView}
+use Rattle.dfu_link.specs.Said.{Said, given_bytes, said_by}
+use Rattle.dfu_link.specs.Lines.{line_of}
 use Rattle.dfu_link.specs.Texts.{image_line}
-use Rattle.dfu_link.specs.ScriptRun.{Point, at_rest}
+use Rattle.dfu_link.specs.ScriptRun.{Point}
 use Rattle.dfu_link.specs.Expecting.{Expectation}
 use Rattle.dfu_link.specs.inside.Expected.{at_point, PrintsNext}
 use Rattle.dfu_link.specs.declared.scripting.expectation.ScriptContext.{ScriptContext}
 use Rattle.dfu_link.specs.Falls.{LineFalls}
-use Rattle.dfu_link.specs.inside.Source.{SourceState, Next, GivesLine, StopsSource}
-use Rattle.dfu_link.specs.inside.Moving.{DoesLine, Steps, LineEnds, Moves, Ends, LinesDone, all_done, gives_back, Plainly, says_none, says_events, MovesAndFalls, FindsNoRoom, FindsNoTear}
+use Rattle.dfu_link.specs.inside.Source.{SourceState, GivesLine}
+use Rattle.dfu_link.specs.inside.Moving.{DoesLine, Steps, LineEnds, IsDoneOrLeft, is_done, is_left, LinkDone, all_done, one_left, Moves, Ends, Plainly, says_none, says_events, MovesAndFalls, FindsNoRoom}
 use Rattle.dfu_link.specs.declared.scripting.line.EventLine.{EventLine}
 use Rattle.dfu_link.specs.declared.scripting.fault.ScriptFault.{ScriptFault}
 use Rattle.dfu_link.proofs.StepLaws.{step_acts}
 use Rattle.dfu_link.proofs.MoveLaws.{moves_none, moves_then, moves_trans, ends_now, ends_after}
-use Rattle.dfu_link.proofs.FallLaws.{line_breaks, tear_falls, offer_falls, given_falls, image_falls, source_falls, falls_after}
+use Rattle.dfu_link.proofs.FallLaws.{offer_falls, given_falls, image_falls, falls_after}
 
 -- The line that was given.
 
@@ -30,80 +32,80 @@ pub first_falls : {s : SourceState} {p : Point} {old new : Option (List ℕ)} {n
     → line ≡ s.line → LineFalls p n line old new f → (r : SourceState) → GivesLine r s → MovesAndFalls p r old new f
 first_falls {p = p} {old = old} number is falls r given = given_falls (moves_none p r old) given number is falls
 
--- Lines one after the other.
+-- Links one after the other.
 
--- From wherever the source was before it gave the first line, if it did, lines were done; and now it has given the next, or has none left.
-pub record HasMoved (given : Bool) (first : SourceState) (p : Point) (old : Option (List ℕ)) (q : Point) (more : Bool) (s : SourceState)
-    (new : Option (List ℕ)) : Type 0 where
-  pub from : (r : SourceState) → Next r given first → (at : SourceState) × Moves p r old q at new × Next at more s
-
--- From there lines were done, and the source is here.
-pub record Went (given : Bool) (first : SourceState) (p : Point) (old : Option (List ℕ)) (q : Point) (s : SourceState)
-    (new : Option (List ℕ)) : Type 0 where
-  pub from : (r : SourceState) → Next r given first → Moves p r old q s new
+-- From wherever the source was before it gave the first line, lines were done; and now it has given the next.
+pub record HasMoved (first : SourceState) (p : Point) (old : Option (List ℕ)) (q : Point) (s : SourceState) (new : Option (List ℕ))
+    : Type 0 where
+  pub from : (r : SourceState) → GivesLine r first → (at : SourceState) × Moves p r old q at new × GivesLine at s
 
 -- No line was done.
-pub moved_none : (given : Bool) (s : SourceState) (p : Point) (old : Option (List ℕ)) → HasMoved given s p old p given s old
-moved_none given s p old = record { from = λ r next. (r, moves_none p r old, next) }
+pub moved_none : (s : SourceState) (p : Point) (old : Option (List ℕ)) → HasMoved s p old p s old
+moved_none s p old = record { from = λ r given. (r, moves_none p r old, given) }
 
-ends_of : {p : Point} {s s' : SourceState} {old new : Option (List ℕ)} {to : LinkView → Point}
-    → LinesDone p s old to s' new None → Ends p s old new
+ends_of : {p q : Point} {s s' : SourceState} {old new : Option (List ℕ)} → LinkDone p s old q s' new false → Ends p s old new
 ends_of (all_done ends) = ends
 
-moves_of : {p : Point} {s s' : SourceState} {old new : Option (List ℕ)} {to : LinkView → Point} {d : DeviceView}
-    → LinesDone p s old to s' new (Some d) → Moves p s old (to (at_rest d)) s' new
-moves_of (gives_back moves) = moves
+left_of : {p q : Point} {s s' : SourceState} {old new : Option (List ℕ)} → LinkDone p s old q s' new true
+    → (at : SourceState) × Moves p s old q at new × GivesLine at s'
+left_of (one_left {at = at} moves gives) = (at, moves, gives)
 
--- The line that was given was done, and those after it until no session was live.
-pub moved_on : {given : Bool} {first s u : SourceState} {p q : Point} {old mid new : Option (List ℕ)} {to : LinkView → Point}
-    {d : DeviceView}
-    → HasMoved given first p old q true s mid → ((r : SourceState) → GivesLine r s → LinesDone q r mid to u new (Some d))
-    → Went given first p old (to (at_rest d)) u new
+-- Lines were done on a link, and one is left.
+pub moved_on : {first s u : SourceState} {p q q' : Point} {old mid new : Option (List ℕ)} → HasMoved first p old q s mid
+    → ((r : SourceState) → GivesLine r s → LinkDone q r mid q' u new true) → HasMoved first p old q' u new
 moved_on moved done = record {
-  from = λ r next.
-      let h = moved.from r next in
-      moves_trans h.1 (moves_of (done h.0 h.2));
+  from = λ r given.
+      let h = moved.from r given in
+      let left = left_of (done h.0 h.2) in
+      (left.0, moves_trans h.1 left.1, left.2);
 }
 
--- The line that was given was done, and all that were left.
-pub moved_to_the_end : {given : Bool} {first s u : SourceState} {p q : Point} {old mid new : Option (List ℕ)} {to : LinkView → Point}
-    → HasMoved given first p old q true s mid → ((r : SourceState) → GivesLine r s → LinesDone q r mid to u new None)
-    → (r : SourceState) → Next r given first → Ends p r old new
-moved_to_the_end moved done r next =
-    let h = moved.from r next in
+-- All that were left were done on a link.
+pub moved_to_the_end : {first s u : SourceState} {p q q' : Point} {old mid new : Option (List ℕ)} → HasMoved first p old q s mid
+    → ((r : SourceState) → GivesLine r s → LinkDone q r mid q' u new false) → (r : SourceState) → GivesLine r first → Ends p r old new
+moved_to_the_end moved done r given =
+    let h = moved.from r given in
     ends_after h.1 (ends_of (done h.0 h.2))
 
+-- A line that is left moves nothing.
+pub left_moves : {k : ℕ} {line : List ℕ} {p q q' : Point} {s t : SourceState} {old mid new : Option (List ℕ)}
+    → IsDoneOrLeft k q line mid q' new true → Moves p s old q t mid → Moves p s old q' t new
+left_moves {p = p} {q' = q'} {s = s} {t = t} {old = old} {mid = mid} (is_left none same told) moves =
+    subst (λ (h : Option (List ℕ)). Moves p s old q' t h) (sym told) (subst (λ (r : Point). Moves p s old r t mid) (sym same) moves)
+
+-- One that is done is a step.
+pub done_steps : {k : ℕ} {line : List ℕ} {p p' : Point} {old new : Option (List ℕ)} → IsDoneOrLeft k p line old p' new false
+    → Steps k p line old p' new
+done_steps (is_done step) = step
+
 -- The line that was given fell, or one after it.
-pub moved_and_fell : {given : Bool} {first s : SourceState} {p q : Point} {old mid new : Option (List ℕ)} {f : ScriptFault}
-    → HasMoved given first p old q true s mid → ((r : SourceState) → GivesLine r s → MovesAndFalls q r mid new f)
-    → (r : SourceState) → Next r given first → MovesAndFalls p r old new f
-moved_and_fell moved falls r next =
-    let h = moved.from r next in
+pub moved_and_fell : {first s : SourceState} {p q : Point} {old mid new : Option (List ℕ)} {f : ScriptFault}
+    → HasMoved first p old q s mid → ((r : SourceState) → GivesLine r s → MovesAndFalls q r mid new f)
+    → (r : SourceState) → GivesLine r first → MovesAndFalls p r old new f
+moved_and_fell moved falls r given =
+    let h = moved.from r given in
     falls_after h.1 (falls h.0 h.2)
 
--- And then the source gave no line.
-pub went_and_stopped : {given : Bool} {first s : SourceState} {p q : Point} {old mid : Option (List ℕ)} {f : ScriptFault}
-    → Went given first p old q s mid → StopsSource q.given s f → (r : SourceState) → Next r given first → MovesAndFalls p r old mid f
-went_and_stopped went stops r next = source_falls (went.from r next) stops
+-- There is no memory for the file that the line offers.
+pub file_falls : {first s : SourceState} {p q : Point} {old mid : Option (List ℕ)} {line : List ℕ} {f : ScriptFault}
+    → HasMoved first p old q s mid → line ≡ s.line → FindsNoRoom q.given line f → q.at.session ≡ Nobody
+    → (r : SourceState) → GivesLine r first → MovesAndFalls p r old mid f
+file_falls {s = s} {q = q} {mid = mid} {line = line} {f = f} moved is none free r given =
+    let h = moved.from r given in
+    given_falls h.1 h.2 refl is (offer_falls q s.number line mid f none free)
 
--- And then the source gave the next, or had none left.
-pub went_next : {given : Bool} {first s : SourceState} {p q : Point} {old mid : Option (List ℕ)} (more : Bool) (t : SourceState)
-    → Went given first p old q s mid → Next s more t → HasMoved given first p old q more t mid
-went_next {s = s} more t went n = record { from = λ r next. (s, went.from r next, n) }
+-- No line was given, and the line of the image is out; or it stopped in it.
+pub image_only : (done : Result Unit ScriptFault) (p : Point) {old new : Option (List ℕ)} {x : Option Expectation}
+    → PrintsNext p.next old (image_line p.at.device) x new done
+    → OnOk done ((r : SourceState) → IsAtEnd r.left → Ends p r old new)
+image_only (Ok it) p {old = old} prints = λ r ended. ends_now (moves_none p r old) ended prints
+image_only (Err f) p prints = tt
 
--- No line is left, and the line of the image is out.
-pub moved_ends : (done : Result Unit ScriptFault) {given : Bool} {first s : SourceState} {p q : Point} {old mid new : Option (List ℕ)}
-    {x : Option Expectation} → HasMoved given first p old q false s mid → PrintsNext q.next mid (image_line q.at.device) x new done
-    → OnOk done ((r : SourceState) → Next r given first → Ends p r old new)
-moved_ends (Ok it) moved prints = λ r next. ends_now (moved.from r next).1 (moved.from r next).2 prints
-moved_ends (Err f) moved prints = tt
-
--- Or it stopped in it.
-pub moved_breaks : (done : Result Unit ScriptFault) {given : Bool} {first s : SourceState} {p q : Point} {old mid new : Option (List ℕ)}
-    {x : Option Expectation} → HasMoved given first p old q false s mid → PrintsNext q.next mid (image_line q.at.device) x new done
-    → IfErr done (λ f. (r : SourceState) → Next r given first → MovesAndFalls p r old new f)
-moved_breaks (Ok it) moved prints = tt
-moved_breaks (Err f) moved prints = λ r next. image_falls (moved.from r next).1 (moved.from r next).2 prints
+pub image_breaks_off : (done : Result Unit ScriptFault) (p : Point) {old new : Option (List ℕ)} {x : Option Expectation}
+    → PrintsNext p.next old (image_line p.at.device) x new done
+    → IfErr done (λ f. (r : SourceState) → IsAtEnd r.left → MovesAndFalls p r old new f)
+image_breaks_off (Ok it) p prints = tt
+image_breaks_off (Err f) p {old = old} prints = λ r ended. image_falls (moves_none p r old) ended prints
 
 -- A line but for its events.
 
@@ -113,20 +115,16 @@ pub plain_done : {d : DeviceView} {l l' : ScriptContext} {k : ℕ} {line : List 
     → (b : LinkView) → b.device ≡ d → Steps k (at_point l b) line old (at_point l' b) new
 plain_done (says_none done) = done
 
--- There is no memory for the file that its events offer.
-pub no_room : {d : DeviceView} {l l' : ScriptContext} {k : ℕ} {line : List ℕ} {old new : Option (List ℕ)} {events : EventLine}
-    (f : ScriptFault)
-    → Plainly d l k line old (Some events) l' new → FindsNoRoom (said_by events) f → LineFalls (at_point l (at_rest d)) k line old new f
-no_room {d = d} {l = l} {k = k} {line = line} {old = old} {events = events} f (says_events says) none =
-    offer_falls (at_point l (at_rest d)) k line old (said_by events) f says refl none
+-- It says these events.
+pub says_these : {d : DeviceView} {l l' : ScriptContext} {k : ℕ} {line : List ℕ} {old new : Option (List ℕ)} {events : EventLine}
+    → Plainly d l k line old (Some events) l' new → line_of (given_bytes l.given) line ≡ Some (said_by events)
+says_these (says_events says) = says
 
--- There is none for their tear.
-pub no_tear : {d : DeviceView} {l l' : ScriptContext} {k : ℕ} {line : List ℕ} {old new : Option (List ℕ)} {events : EventLine}
-    (b : LinkView)
-    (f : ScriptFault) → Plainly d l k line old (Some events) l' new → FindsNoTear (said_by events) f
-    → LineFalls (at_point l b) k line old new f
-no_tear {l = l} {k = k} {line = line} {old = old} {events = events} b f (says_events says) none =
-    tear_falls (at_point l b) k line old (said_by events) f says none
+-- They are left to do.
+pub plain_left : {d : DeviceView} {l l' : ScriptContext} {k : ℕ} {line : List ℕ} {old new : Option (List ℕ)} {events : EventLine}
+    {b : LinkView} → Plainly d l k line old (Some events) l' new → b.session ≡ Nobody
+    → IsDoneOrLeft k (at_point l b) line old (at_point l' b) new true
+plain_left (says_events says) none = is_left none refl refl
 
 -- The line goes as what it says.
 pub line_ends : (done : Result Unit ScriptFault) {d : DeviceView} {l l' : ScriptContext} {k : ℕ} {line : List ℕ}
@@ -136,5 +134,13 @@ pub line_ends : (done : Result Unit ScriptFault) {d : DeviceView} {l l' : Script
 line_ends (Ok it) (says_events says) acts = record { ok = step_acts says acts.ok; fault = tt }
 line_ends (Err f) {l = l} {k = k} {line = line} {old = old} {new = new} {events = events} {b = b} (says_events says) acts = record {
   ok = tt;
-  fault = line_breaks (at_point l b) k line old new (said_by events) f says acts.fault;
+  fault = acts.fault k line says;
 }
+
+-- The same by what its events say.
+pub said_ends : (done : Result Unit ScriptFault) {d : DeviceView} {l l' : ScriptContext} {k : ℕ} {line : List ℕ}
+    {old mid new : Option (List ℕ)}
+    {events : EventLine} {b : LinkView} {q : Point} {said : Said} → Plainly d l k line old (Some events) l' mid → said_by events ≡ said
+    → DoesLine (at_point l' b) said mid q new done → LineEnds k (at_point l b) line old q new done
+said_ends done {l' = l'} {mid = mid} {new = new} {b = b} {q = q} plain is acts =
+    line_ends done plain (subst (λ (s : Said). DoesLine (at_point l' b) s mid q new done) (sym is) acts)

@@ -14,6 +14,7 @@ use Rattle.dfu_link.specs.Expecting.{Expectation}
 use Rattle.dfu_link.specs.Falls.{in_events}
 use Rattle.dfu_link.specs.inside.Expected.{point_at, Prints}
 use Rattle.dfu_link.specs.inside.Moving.{PlaysEvents, HasDoneLine, DoesLine, Steps}
+use Rattle.dfu_link.proofs.FallLaws.{breaks_fall}
 
 -- A line that says nothing does nothing.
 pub step_blank : {k : ℕ} {p : Point} {line : List ℕ} {old : Option (List ℕ)} → line_of p.given line ≡ Some Blank → Steps k p line old p old
@@ -53,7 +54,8 @@ events_act (Ok done) {g = g} {check = check} {l = l} {x = x} {b = b} {b' = b'} d
   };
   fault = tt;
 }
-events_act (Err f) d p = record { ok = tt; fault = λ line e. in_events e p.fault }
+events_act (Err f) {g = g} {check = check} {l = l} {x = x} {b = b} d p =
+    record { ok = tt; fault = λ k line e. breaks_fall (point_at g check l x b) k line f (in_events e p.fault) }
 
 -- What an event line says is done by its events.
 pub line_acts : {r : Result Unit ScriptFault} {g : Option (List ℕ)} {check : List ℕ} {l : Limits} {x x' : Option Expectation}

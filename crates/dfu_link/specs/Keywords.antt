@@ -31,6 +31,7 @@ keyword_of w =
     else if bytes_eq w (codes "device") then Some key.Device
     else if bytes_eq w (codes "unit") then Some key.Unit
     else if bytes_eq w (codes "erase") then Some key.Erase
+    else if bytes_eq w (codes "pace") then Some key.Pace
     else if bytes_eq w (codes "capacity") then Some key.Capacity
     else if bytes_eq w (codes "image") then Some key.Image
     else later_keyword_of w

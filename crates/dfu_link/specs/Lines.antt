@@ -8,7 +8,7 @@ use Rattle.dfu_sim.specs.declared.offering.Purpose.TheVariants.{Install, Verify}
 use Rattle.dfu_sim.specs.Happening.{Fate, Pass, LostOut, LostBack, Twice, TwiceLostBack, Slip, CutIn, Fail, Lie, unharmed, harmed}
 use Rattle.dfu_link.specs.Words.{ok_of, hex_word_bytes, number_of, first_word, text_behind, words_of}
 use Rattle.dfu_link.specs.Fields.{small_of, count_of, attributes_of_word, unit_of_word, sector_of, objection_of, named_bytes}
-use Rattle.dfu_link.specs.Said.{Said, Blank, Sets, LimitsTo, Does, GoesOn, Show, Expects, TheIds, TheDevice, TheUnit, TheSector, TheCapacity, TheImage, TheCheck, Offer, Upload, Abort, Go, Time, Reset, Cut, Refuse}
+use Rattle.dfu_link.specs.Said.{Said, Blank, Sets, LimitsTo, Does, GoesOn, Show, Expects, TheIds, TheDevice, TheUnit, TheSector, ThePace, TheCapacity, TheImage, TheCheck, Offer, Upload, Abort, Go, Time, Reset, Cut, Refuse}
 use Rattle.dfu_link.specs.Keywords.{keyword_of, fate_keyword_of}
 use Rattle.dfu_link.specs.declared.scripting.words.Keyword.{Keyword}
 use Rattle.dfu_link.specs.declared.scripting.words.Keyword.TheVariants as key
@@ -104,6 +104,13 @@ unfoldable pub erase_of : List (List ℕ) → Read Said
 erase_of words = do
   sector ← field a.Sector sector_of 2 2 words
   ends (Sets (TheSector sector.0)) 2 sector.1
+
+-- After `pace`: how many milliseconds an erase and a program of 256 bytes take.
+unfoldable pub pace_line : List (List ℕ) → Read Said
+pace_line words = do
+  erase ← short_at 2 3 words
+  program ← short_at 3 3 erase.1
+  ends (Sets (ThePace erase.0 program.0)) 3 program.1
 
 -- After `capacity`: how many bytes an image may have.
 unfoldable pub said_capacity : List (List ℕ) → Read Said
@@ -205,6 +212,7 @@ by_keyword given key.Ids line words = said_ids words
 by_keyword given key.Device line words = said_device words
 by_keyword given key.Unit line words = unit_line words
 by_keyword given key.Erase line words = erase_of words
+by_keyword given key.Pace line words = pace_line words
 by_keyword given key.Capacity line words = said_capacity words
 by_keyword given key.Image line words = said_image words
 by_keyword given key.Limits line words = said_limits words

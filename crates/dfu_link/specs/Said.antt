@@ -34,13 +34,15 @@ abbrev pub offered_bytes : offereds.Offered → List ℕ
 offered_bytes (offered.Spelled text) = hex_bytes text
 offered_bytes (offered.Given bytes) = bytes.now
 
--- What a configuration line sets: who the device is, what it is like, how its medium is written or erased, how many bytes an image may
--- have, the image at first, or the bytes with which an image begins that the program takes.
+-- What a configuration line sets: who the device is, what it is like, how its medium is written or erased, how many milliseconds an erase
+-- and a program of 256 bytes take, how many bytes an image may have, the image at first, or the bytes with which an image begins that the
+-- program takes.
 pub data ConfigLine : Type 0 where
   TheIds : Ids → ConfigLine
   TheDevice : Functional → (least busy manifest : ℕ) → ConfigLine
   TheUnit : WriteUnit → ConfigLine
   TheSector : ℕ → ConfigLine
+  ThePace : (erase program : ℕ) → ConfigLine
   TheCapacity : ℕ → ConfigLine
   TheImage : List ℕ → ConfigLine
   TheCheck : List ℕ → ConfigLine
@@ -82,6 +84,7 @@ config_line_of (config.Ids ids) = TheIds ids
 config_line_of (config.Device functional least busy manifest) = TheDevice functional least busy manifest
 config_line_of (config.Unit unit) = TheUnit unit
 config_line_of (config.Erase sector) = TheSector sector.bytes
+config_line_of (config.Pace erase program) = ThePace erase program
 config_line_of (config.Capacity room) = TheCapacity room.bytes
 config_line_of (config.Image text) = TheImage (hex_bytes text)
 config_line_of (config.Check text) = TheCheck (hex_bytes text)
@@ -92,23 +95,22 @@ harm_fate kind.Cut = CutIn
 harm_fate kind.Fail = Fail
 harm_fate kind.Lie = Lie
 
+-- What a line says in which a write is harmed, after so many that work, with this tear.
+abbrev pub harmed_line : kinds.HarmKind → (writes : ℕ) → HexText → Said
+harmed_line h writes text = Does (Go (harm_fate h) (harmed writes (hex_bytes text)) 1)
+
 -- What an event line as the code has it says.
 abbrev pub said_by : event_lines.EventLine → Said
 said_by (events.Offer purpose file) = Does (Offer purpose (offered_bytes file))
 said_by events.Upload = Does Upload
 said_by events.Abort = Does Abort
 said_by (events.Go f times) = Does (Go (fate_of f) (harm_in f) times)
-said_by (events.GoHarmed h writes text) = Does (Go (harm_fate h) (harmed writes (hex_bytes text)) 1)
+said_by (events.GoHarmed h writes text) = harmed_line h writes text
 said_by events.GoOn = GoesOn
 said_by (events.Time ms) = Does (Time ms)
 said_by events.Reset = Does Reset
 said_by events.Cut = Does Cut
 said_by (events.Refuse why) = Does (Refuse why)
-
--- The tear that a line as the code has it brings; others bring none.
-abbrev pub tear_bytes : event_lines.EventLine → List ℕ
-tear_bytes (events.GoHarmed h writes text) = hex_bytes text
-tear_bytes d = []
 
 -- What a line as the code has it says.
 abbrev pub said_of : lines.Line → Said

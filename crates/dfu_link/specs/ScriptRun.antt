@@ -21,7 +21,7 @@ use Rattle.dfu_sim.specs.Comes.{Comes}
 use Rattle.dfu_sim.specs.declared.fault.LinkFault.{LinkFault}
 use Rattle.dfu_link.specs.Texts.{answer_line, image_line, show_line}
 use Rattle.dfu_link.specs.Words.{lines_of}
-use Rattle.dfu_link.specs.Said.{ConfigLine, TheIds, TheDevice, TheUnit, TheSector, TheCapacity, TheImage, TheCheck, EventLine, Offer, Upload, Abort, Go, Time, Reset, Cut, Refuse, Said, Blank, Sets, LimitsTo, Does, GoesOn, Show, Expects}
+use Rattle.dfu_link.specs.Said.{ConfigLine, TheIds, TheDevice, TheUnit, TheSector, ThePace, TheCapacity, TheImage, TheCheck, EventLine, Offer, Upload, Abort, Go, Time, Reset, Cut, Refuse, Said, Blank, Sets, LimitsTo, Does, GoesOn, Show, Expects}
 use Rattle.dfu_link.specs.Lines.{line_of}
 use Rattle.dfu_link.specs.Expecting.{Expectation, Meets, still}
 
@@ -56,13 +56,22 @@ beginning given = record {
   given = given;
 }
 
--- What a configuration line sets takes the place of what was set before.
+-- What a configuration line sets takes the place of what was set before. The pace of the device's flash is that of a medium that is written
+-- and erased as the device's own.
 abbrev pub set : Settings → ConfigLine → Settings
 set s (TheIds ids) = record s { device = record s.device { ids = ids } }
 set s (TheDevice functional least busy manifest) =
     record s { device = record s.device { functional = functional; least = least; busy_ms = busy; manifest_ms = manifest } }
-set s (TheUnit unit) = record s { grain = record s.grain { unit = unit } }
-set s (TheSector n) = record s { grain = record s.grain { sector = n } }
+set s (TheUnit unit) = record s {
+  grain = record s.grain { unit = unit };
+  device = record s.device { pace = record s.device.pace { unit = unit } };
+}
+set s (TheSector n) = record s {
+  grain = record s.grain { sector = n };
+  device = record s.device { pace = record s.device.pace { sector = n } };
+}
+set s (ThePace erase program) =
+    record s { device = record s.device { pace = record s.device.pace { erase_ms = erase; program_ms = program } } }
 set s (TheCapacity n) = record s { capacity = n }
 set s (TheImage bytes) = record s { image = bytes }
 set s (TheCheck bytes) = record s { check = bytes }

@@ -1,21 +1,21 @@
 -- What lines do one after the other, as the loops of the code have it.
-use Rattle.std.specs.Prelude.{◌≡◌, ℕ, ◌+◌, List, [], ◌++◌, Bool, Option, Some, None, Result, IfSome, OnOk, IfErr, replicate}
+use Rattle.std.specs.Prelude.{◌≡◌, ℕ, ◌+◌, List, [], ◌++◌, Bool, true, false, Option, Some, None, Result, IfSome, OnOk, IfErr, replicate}
 use Rattle.std.specs.Io.KnownBytes.{Appends, IsAtEnd}
 use Rattle.dfu_slots.specs.Medium.Fuse.{Whole}
 use Rattle.dfu_device.specs.DeviceView.{DeviceView}
-use Rattle.dfu_sim.specs.LinkView.{LinkView}
+use Rattle.dfu_sim.specs.LinkView.{Nobody, LinkView}
 use Rattle.dfu_sim.specs.Happening.{Happening, Goes, Pass, unharmed}
 use Rattle.dfu_link.specs.Texts.{image_line}
 use Rattle.dfu_link.specs.Words.{lines_of}
-use Rattle.dfu_link.specs.Said.{Offer, HasTear, Said, Does, given_bytes, said_by}
+use Rattle.dfu_link.specs.Said.{Offer, Said, Does, given_bytes, said_by}
 use Rattle.dfu_link.specs.Lines.{line_of}
-use Rattle.dfu_link.specs.ScriptRun.{Settings, Prepares, HasToStart, at_rest, AllCome, Point, LineActs, LinesRun}
-use Rattle.dfu_link.specs.Falls.{HasBroken, BreaksIn, LineFalls, NextFalls}
+use Rattle.dfu_link.specs.ScriptRun.{Settings, Prepares, HasToStart, AllCome, Point, LineActs, LinesRun}
+use Rattle.dfu_link.specs.Falls.{HasBroken, IsOffer, LineFalls, NextFalls}
 use Rattle.dfu_link.specs.TextLimit.{GoesOver, IsStopped}
 use Rattle.dfu_link.specs.Expecting.{Expectation, Meets}
 use Rattle.dfu_link.specs.inside.Expected.{at_point, Prints}
 use Rattle.dfu_link.specs.declared.scripting.expectation.ScriptContext.{ScriptContext}
-use Rattle.dfu_link.specs.inside.Source.{SourceState, GivesLines, Next, StopsSource}
+use Rattle.dfu_link.specs.inside.Source.{SourceState, GivesLine, GivesLines, Next, StopsSource}
 use Rattle.dfu_link.specs.declared.scripting.line.EventLine.{EventLine as EventLineRead}
 use Rattle.dfu_link.specs.declared.scripting.event_parts.OfferedFile.{OfferedFile}
 use Rattle.dfu_link.specs.declared.scripting.event_parts.OfferedFile.TheVariants.{Decoded, Given}
@@ -43,9 +43,9 @@ pub record HasDoneLine (p : Point) (said : Said) (old : Option (List ℕ)) (p' :
   pub acts : (k : ℕ) → LineActs k p said out p'
   pub told : Appends old new out
 
--- It stopped in what a line prints.
+-- Each line that says this falls.
 abbrev pub HasStopped : Point → Said → Option (List ℕ) → Option (List ℕ) → ScriptFault → Type 0
-HasStopped p said old new fault = (line : List ℕ) → line_of p.given line ≡ Some said → BreaksIn p line old new fault
+HasStopped p said old new fault = (k : ℕ) (line : List ℕ) → line_of p.given line ≡ Some said → LineFalls p k line old new fault
 
 -- How doing what a line says went.
 pub record DoesLine (p : Point) (said : Said) (old : Option (List ℕ)) (p' : Point) (new : Option (List ℕ)) (r : Result Unit ScriptFault)
@@ -121,11 +121,16 @@ pub record MovesAndFalls (p : Point) (s : SourceState) (old new : Option (List �
 abbrev pub IsUnarmed : DeviceView → Type 0
 IsUnarmed d = d.slots.medium.fuse ≡ Whole
 
--- Lines were done until no session was live, and the device is given back; or all lines were done, and last the line of the image is out.
-pub data LinesDone (p : Point) (s : SourceState) (old : Option (List ℕ)) (to : LinkView → Point) (s' : SourceState) (new : Option (List ℕ))
-    : Option DeviceView → Type 0 where
-  all_done : Ends p s old new → LinesDone p s old to s' new None
-  gives_back : {d : DeviceView} → Moves p s old (to (at_rest d)) s' new → LinesDone p s old to s' new (Some d)
+-- A line was done on a link; or it is left, since it offers a file and no session is live.
+pub data IsDoneOrLeft (k : ℕ) (p : Point) (line : List ℕ) (old : Option (List ℕ)) (p' : Point) (new : Option (List ℕ)) : Bool → Type 0 where
+  is_done : Steps k p line old p' new → IsDoneOrLeft k p line old p' new false
+  is_left : p.at.session ≡ Nobody → p' ≡ p → new ≡ old → IsDoneOrLeft k p line old p' new true
+
+-- Lines were done on a link. They were all that a source had, and last the line of the image is out; or the source has given one more.
+pub data LinkDone (p : Point) (s : SourceState) (old : Option (List ℕ)) (p' : Point) (s' : SourceState) (new : Option (List ℕ))
+    : Bool → Type 0 where
+  all_done : Ends p s old new → LinkDone p s old p' s' new false
+  one_left : {at : SourceState} → Moves p s old p' at new → GivesLine at s' → LinkDone p s old p' s' new true
 
 -- A line was done but for its events, in each session: it said none, or these are left to play.
 pub data Plainly (d : DeviceView) (l : ScriptContext) (k : ℕ) (line : List ℕ) (old : Option (List ℕ))
@@ -165,12 +170,11 @@ abbrev pub CannotConfigure : Settings → SourceState → ScriptFault → Type 0
 CannotConfigure x s NoMemory = Unit {0}
 CannotConfigure x s fault = StopsSetting x s fault
 
--- There is no memory for the file that is offered.
-abbrev pub FindsNoRoom : Said → ScriptFault → Type 0
-FindsNoRoom (Does (Offer purpose file)) fault = fault ≡ NoMemory
-FindsNoRoom said fault = ⊥
+-- These are the bytes of the file that a line offers; none if it offers none.
+abbrev pub IsFileOf : Option (List ℕ) → (line bytes : List ℕ) → Type 0
+IsFileOf given line bytes = (said : Said) → line_of given line ≡ Some said → bytes ≡ file_bytes said
 
--- There is no memory for the tear that a line brings.
-abbrev pub FindsNoTear : Said → ScriptFault → Type 0
-FindsNoTear (Does events) fault = HasTear events × (fault ≡ NoMemory)
-FindsNoTear said fault = ⊥
+-- There is no memory for the file that a line offers.
+pub record FindsNoRoom (given : Option (List ℕ)) (line : List ℕ) (fault : ScriptFault) : Type 0 where
+  pub offers : IsOffer given line
+  pub is : fault ≡ NoMemory

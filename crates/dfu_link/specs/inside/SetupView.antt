@@ -1,7 +1,7 @@
 -- What the `ScriptConfig` of the code means.
 use Rattle.std.specs.Prelude.{ℕ, List, [], ◌∷◌, Option, Some, None, Vec}
 use Rattle.std.specs.declared.alloc.Global.{Global}
-use Rattle.dfu_device.specs.Pace.{no_pace}
+use Rattle.dfu_device.specs.declared.config.Pace.{Pace}
 use Rattle.dfu_device.specs.Setting.{Setting}
 use Rattle.dfu_link.specs.Said.{given_bytes}
 use Rattle.dfu_link.specs.ScriptRun.{Settings}
@@ -24,6 +24,10 @@ check_bytes (Some front) = front.items
 abbrev pub setup_grain : WriteUnit → Sector → Grain
 setup_grain unit sector = record { unit = unit; sector = sector.bytes }
 
+-- How long its flash takes, which is written in the unit and erased in the sectors that are set.
+abbrev pub pace_of : ScriptConfig → Pace
+pace_of s = record { erase_ms = s.erase_ms; program_ms = s.program_ms; unit = s.unit; sector = s.sector.bytes }
+
 -- What the device is set up with.
 abbrev pub setting_of_device : ScriptConfig → Setting
 setting_of_device s = record {
@@ -32,7 +36,7 @@ setting_of_device s = record {
   least = s.least;
   busy_ms = s.busy_ms;
   manifest_ms = s.manifest_ms;
-  pace = no_pace;
+  pace = pace_of s;
 }
 
 -- What is set.

@@ -2,14 +2,15 @@
 //! begins that an action closes.
 
 ghost use Rattle.std.specs.Prelude.{◌≡◌, IfOk, IfErr, ◌+◌, ◌≤◌, ◌<◌, ◌∷◌, [], length, get_or, drop, IfSome, IfNone};
-ghost use Rattle.dfu_link.specs.Said.{said_by, harm_fate};
-ghost use Rattle.dfu_link.specs.inside.Moving.{held_bytes, file_bytes, FindsNoRoom};
+ghost use Rattle.dfu_link.specs.Said.{given_bytes, harm_fate};
+ghost use Rattle.dfu_link.specs.inside.Moving.{held_bytes, IsFileOf, FindsNoRoom};
 ghost use Rattle.dfu_sim.specs.Happening.{fate_of, harm_in, happening, Offers, harmed};
 ghost use Rattle.dfu_link.specs.ScriptRun.{begins_with};
 ghost use Rattle.dfu_link.specs.inside.Taken.{taken_at};
 
 use crate::scripting::fault::ScriptFault;
-use crate::scripting::line::{EventLine, HarmKind, Offered};
+use crate::scripting::line::{EventLine, HarmKind, Line, Offered};
+use crate::scripting::reading::parse;
 use crate::scripting::starting::bytes_of;
 use dfu_device::Candidate;
 use dfu_host::Limits;
@@ -36,16 +37,17 @@ impl<'g> OfferedFile<'g> {
     }
 }
 
-/// The file that is offered. Other events have none. Of one that is given nothing is copied.
+/// The file that a line offers; other lines offer none. Of one that is given nothing is copied.
 pub(crate) fn file_of<'g>(
     alloc: Global,
-    events: EventLine<'_, 'g>,
+    given: Option<&'g [u8]>,
+    line: &[u8],
 ) -> Result<OfferedFile<'g>, ScriptFault>
-    ensures ok { IfOk result (λ file. held_bytes file ≡ file_bytes (said_by events.entry)) }
-    ensures fault { IfErr result (λ f. FindsNoRoom (said_by events.entry) f) }
+    ensures ok { IfOk result (λ file. IsFileOf (given_bytes given.entry) line.now (held_bytes file)) }
+    ensures fault { IfErr result (λ f. FindsNoRoom (given_bytes given.entry) line.now f) }
 {
-    match events {
-        EventLine::Offer { file, .. } => match file {
+    match parse(given, line) {
+        Some(Line::Do(EventLine::Offer { file, .. })) => match file {
             Offered::Given(bytes) => Ok(OfferedFile::Given(bytes)),
             Offered::Spelled(text) => Ok(OfferedFile::Decoded(bytes_of(alloc, text)?)),
         },

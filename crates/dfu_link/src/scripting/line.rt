@@ -47,6 +47,11 @@ pub(crate) enum ConfigLine<'l> {
     Unit(Unit),
     /// The sectors in which it is erased.
     Erase(Sector),
+    /// How many milliseconds the medium takes to erase a sector, and to program 256 bytes.
+    Pace {
+        erase_ms: u16,
+        program_ms: u16,
+    },
     /// How many bytes an image may have.
     Capacity(Room),
     /// The image that the device has at first.

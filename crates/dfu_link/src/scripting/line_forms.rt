@@ -3,7 +3,7 @@
 ghost use Rattle.std.specs.Prelude.{◌≡◌};
 ghost use Rattle.dfu_link.specs.Words.{words_of};
 ghost use Rattle.dfu_link.specs.Said.{given_bytes, offered_bytes, said_of};
-ghost use Rattle.dfu_link.specs.Lines.{Tells, said_ids, said_device, unit_line, erase_of, said_capacity, said_image, check_of, said_limits, no_file, offered_file, offer_of, time_of, refuse_of, expect_of};
+ghost use Rattle.dfu_link.specs.Lines.{Tells, said_ids, said_device, unit_line, erase_of, pace_line, said_capacity, said_image, check_of, said_limits, no_file, offered_file, offer_of, time_of, refuse_of, expect_of};
 
 use crate::scripting::fault::{Field, LineFault};
 use crate::scripting::fields::{field, hex_at, identifier_at, number_at, offered, short_at};
@@ -66,6 +66,20 @@ pub(crate) fn erase(line: &[u8]) -> Result<Line<'_, 'static>, LineFault>
 {
     let (sector, rest) = field!(line, 2, 2, Sector, fields::sector);
     ended(Line::Set(ConfigLine::Erase(sector)), 2, rest)
+}
+
+/// `pace ERASE PROGRAM`.
+#[tactic(auto, unfolding(crate::specs::Lines::pace_line))]
+pub(crate) fn pace(line: &[u8]) -> Result<Line<'_, 'static>, LineFault>
+    ensures { Tells said_of result (pace_line (words_of line.now)) }
+{
+    let (erase_ms, rest) = short_at(line, 2, 3)?;
+    let (program_ms, rest) = short_at(rest, 3, 3)?;
+    let said = Line::Set(ConfigLine::Pace {
+        erase_ms,
+        program_ms,
+    });
+    ended(said, 3, rest)
 }
 
 /// `capacity N`.

@@ -1,26 +1,26 @@
 //! The events of an event line, played.
 
-ghost use Rattle.std.specs.Prelude.{◌≡◌, ℕ, List, Option, [], ◌∷◌, replicate, IfOk, IfErr};
+ghost use Rattle.std.specs.Prelude.{◌≡◌, ℕ, List, Option, [], ◌∷◌, replicate};
 ghost use Rattle.dfu_device.specs.Candidate.{candidate_in};
 ghost use Rattle.dfu_sim.specs.LinkView.{ShowsActive};
 ghost use Rattle.dfu_sim.specs.Comes.{HasCome};
 ghost use Rattle.dfu_sim.specs.Happening.{Goes, fate_of, harm_in, happening};
 ghost use Rattle.dfu_link.specs.ScriptRun.{is_accepted, checked, checked_fate};
 ghost use Rattle.dfu_sim.specs.LinkView.{IsLive};
-ghost use Rattle.dfu_link.specs.Said.{GoesOn, said_by, tear_bytes};
+ghost use Rattle.dfu_link.specs.Said.{Does, GoesOn, Offer, said_by, harmed_line};
 ghost use Rattle.dfu_link.specs.inside.Expected.{expectation_of, point_at, at_point};
-ghost use Rattle.dfu_link.specs.inside.Moving.{PlaysEvents, DoesLine, file_bytes, FindsNoTear};
+ghost use Rattle.dfu_link.specs.inside.Moving.{PlaysEvents, DoesLine, file_bytes};
 
 use crate::notes::Tracer;
 use crate::scripting::event_parts::{begins, harmed, offered};
 use crate::scripting::expectation::{Expectation, ScriptContext};
 use crate::scripting::fault::ScriptFault;
-use crate::scripting::line::EventLine;
+use crate::scripting::line::{EventLine, HarmKind, HexText};
 use crate::scripting::saying::{is_silent, say_next};
 use crate::scripting::starting::bytes_of;
 use dfu_device::{Device, Objection};
 use dfu_host::{Limits, Report};
-use dfu_sim::{Event, Fate, LinkFault, World};
+use dfu_sim::{Event, Fate, LinkFault, Purpose, World};
 use dfu_slots::{Faulty, Medium};
 use std::alloc::Global;
 use std::io::Write;
@@ -127,29 +127,39 @@ fn pass_on<'f, T: Tracer<M>, M: Faulty, W: Write>(
     }
 }
 
-/// The tear of a write that is harmed. Other events have none.
-pub(crate) fn tear_of(alloc: Global, events: EventLine<'_, '_>) -> Result<Vec<u8>, ScriptFault>
-    ensures ok { IfOk result (λ v. v.items ≡ tear_bytes events.entry) }
-    ensures fault { IfErr result (λ f. FindsNoTear (said_by events.entry) f) }
+/// Lets the host take an action in which a write is harmed, and writes what is printed of it. It takes memory for the tear.
+fn play_harmed<'f, T: Tracer<M>, M: Faulty, W: Write>(
+    alloc: Global,
+    world: &mut World<'f, M>,
+    harm: HarmKind,
+    writes: u32,
+    tear: HexText<'_>,
+    check: &[u8],
+    next: &mut Option<Expectation>,
+    writer: &mut W,
+    tracer: &mut T,
+) -> Result<(), ScriptFault>
+    ensures { (given : Option (List ℕ)) (limits : Limits) →
+        DoesLine (point_at given check.now limits (expectation_of next.old) world.old.bench) (harmed_line harm writes tear.entry)
+        (W.contents writer.old)
+        (point_at given check.now limits (expectation_of next.new) world.new.bench) (W.contents writer.new) result }
 {
-    match events {
-        EventLine::GoHarmed { tear, .. } => bytes_of(alloc, tear),
-        _ => Ok(Vec::new(alloc)),
-    }
+    let torn = bytes_of(alloc, tear)?;
+    let fate = harmed(harm, writes, &torn);
+    play_actions::<T, M, W>(world, fate, 1, check, next, writer, tracer)
 }
 
-/// Plays the events of a line, and writes what is printed of them.
+/// Plays the events of a line, and writes what is printed of them. It takes memory for a tear.
 pub(crate) fn play_events<'f, T: Tracer<M>, M: Faulty, W: Write>(
+    alloc: Global,
     world: &mut World<'f, M>,
     events: EventLine<'_, '_>,
     file: &'f [u8],
-    torn: &[u8],
     context: &mut ScriptContext<'_>,
     writer: &mut W,
     tracer: &mut T,
 ) -> Result<(), ScriptFault>
-    requires file { file.now ≡ file_bytes (said_by events) }
-    requires tear { torn.now ≡ tear_bytes events }
+    requires { file.now ≡ file_bytes (said_by events) }
     ensures { DoesLine (at_point context.old world.old.bench) (said_by events.entry) (W.contents writer.old)
         (at_point context.new world.new.bench)
         (W.contents writer.new) result }
@@ -166,10 +176,9 @@ pub(crate) fn play_events<'f, T: Tracer<M>, M: Faulty, W: Write>(
         EventLine::Go { fate, times } => {
             play_actions::<T, M, W>(world, fate, times, check, next, writer, tracer)
         }
-        EventLine::GoHarmed { harm, writes, .. } => {
-            let fate = harmed(harm, writes, torn);
-            play_actions::<T, M, W>(world, fate, 1, check, next, writer, tracer)
-        }
+        EventLine::GoHarmed { harm, writes, tear } => play_harmed::<T, M, W>(
+            alloc, world, harm, writes, tear, check, next, writer, tracer,
+        ),
         EventLine::GoOn => pass_on::<T, M, W>(world, check, next, writer, tracer),
         EventLine::Time(ms) => {
             tracer.add_time(ms);
@@ -181,28 +190,18 @@ pub(crate) fn play_events<'f, T: Tracer<M>, M: Faulty, W: Write>(
     }
 }
 
-/// The same while a session is live: an offer is refused for each file.
-pub(crate) fn play_live<'f, T: Tracer<M>, M: Faulty, W: Write>(
-    world: &mut World<'f, M>,
-    events: EventLine<'_, '_>,
-    torn: &[u8],
+/// Refuses an offer, since a session is live, and writes that.
+pub(crate) fn refuse_offer<'f, M: Faulty, W: Write>(
+    world: &World<'f, M>,
     context: &mut ScriptContext<'_>,
     writer: &mut W,
-    tracer: &mut T,
 ) -> Result<(), ScriptFault>
-    requires live { IsLive world.old.bench.session }
-    requires tear { torn.now ≡ tear_bytes events }
-    ensures { DoesLine (at_point context.old world.old.bench) (said_by events.entry) (W.contents writer.old)
-        (at_point context.new world.new.bench)
-        (W.contents writer.new) result }
+    requires { IsLive world.now.bench.session }
+    ensures { (purpose : Purpose) (file : List ℕ) →
+        DoesLine (at_point context.old world.now.bench) (Does (Offer purpose file)) (W.contents writer.old)
+        (at_point context.new world.now.bench) (W.contents writer.new) result }
 {
-    match events {
-        EventLine::Offer { .. } => {
-            // Called for its clause `active`, which a refusal's bench needs; what it answers isn't
-            // used.
-            let _ = world.device();
-            say_next(writer, &mut context.next, Err(LinkFault::HostBusy), &[])
-        }
-        _ => play_events::<T, M, W>(world, events, &[], torn, context, writer, tracer),
-    }
+    // Called for its clause `active`, which a refusal's bench needs; what it answers isn't used.
+    let _ = world.device();
+    say_next(writer, &mut context.next, Err(LinkFault::HostBusy), &[])
 }

@@ -10,7 +10,7 @@ use crate::scripting::fault::{Field, LineFault};
 use crate::scripting::fields::{field, hex_at, number_at};
 use crate::scripting::line::{EventLine, HarmKind, Line};
 use crate::scripting::line_forms::{
-    capacity, check, device, erase, expect, ids, image, limits, offer, refuse, time, unit,
+    capacity, check, device, erase, expect, ids, image, limits, offer, pace, refuse, time, unit,
 };
 use crate::scripting::words;
 use crate::scripting::words::{
@@ -118,6 +118,7 @@ fn by_keyword<'l, 'g>(
         Keyword::Device => device(rest),
         Keyword::Unit => unit(rest),
         Keyword::Erase => erase(rest),
+        Keyword::Pace => pace(rest),
         Keyword::Capacity => capacity(rest),
         Keyword::Image => image(rest),
         Keyword::Limits => limits(rest),

@@ -24,9 +24,10 @@ pub(crate) struct SetLines {
 }
 
 /// What is set: what `Config::new` takes, the unit in which the medium is written and the sectors in which it is
-/// erased, and how many bytes an image may have. Set are also the image at first (the byte 00 if there is none), the
-/// bytes with which an image begins that the program takes (any if there are none), and the limits of sessions. The
-/// bytes that FILE means are given, and the lines that set are known by their numbers.
+/// erased, how many milliseconds an erase and a program of 256 bytes take, and how many bytes an image may have. Set
+/// are also the image at first (the byte 00 if there is none), the bytes with which an image begins that the program
+/// takes (any if there are none), and the limits of sessions. The bytes that FILE means are given, and the lines that
+/// set are known by their numbers.
 #[derive(Drop)]
 pub(crate) struct ScriptConfig<'g> {
     pub ids: Ids,
@@ -36,6 +37,8 @@ pub(crate) struct ScriptConfig<'g> {
     pub manifest_ms: u32,
     pub unit: Unit,
     pub sector: Sector,
+    pub erase_ms: u16,
+    pub program_ms: u16,
     pub room: Room,
     pub image: Option<Vec<u8>>,
     pub check: Option<Vec<u8>>,
@@ -60,6 +63,8 @@ pub(crate) fn beginning(given: Option<&[u8]>) -> ScriptConfig<'_>
         manifest_ms: 10,
         unit: Unit::Byte,
         sector: Sector { bytes: 0 },
+        erase_ms: 0,
+        program_ms: 0,
         room: Room { bytes: 64 },
         image: None,
         check: None,
@@ -104,6 +109,10 @@ pub(crate) fn set(
         }
         ConfigLine::Unit(unit) => (setup.unit, setup.lines.unit) = (unit, number),
         ConfigLine::Erase(sector) => (setup.sector, setup.lines.sector) = (sector, number),
+        ConfigLine::Pace {
+            erase_ms,
+            program_ms,
+        } => (setup.erase_ms, setup.program_ms) = (erase_ms, program_ms),
         ConfigLine::Capacity(room) => (setup.room, setup.lines.capacity) = (room, number),
         ConfigLine::Image(text) => {
             setup.image = Some(bytes_of(alloc, text)?);

@@ -7,7 +7,7 @@ ghost use Rattle.dfu_link.specs.Said.{hex_bytes};
 ghost use Rattle.dfu_link.specs.ScriptRun.{DeviceStarts};
 ghost use Rattle.dfu_link.specs.Falls.{StartFalls};
 ghost use Rattle.dfu_link.specs.inside.Moving.{IsUnarmed};
-ghost use Rattle.dfu_link.specs.inside.SetupView.{setting_of_device, settings_of, setup_grain, image_bytes};
+ghost use Rattle.dfu_link.specs.inside.SetupView.{setting_of_device, settings_of, setup_grain, image_bytes, pace_of};
 ghost use Rattle.dfu_link.specs.inside.Forming.{Formed, FormFalls};
 
 use crate::notes::{Reason, Stopped};
@@ -16,7 +16,7 @@ use crate::scripting::line::{HexText, Room, Sector};
 use crate::scripting::script_config::ScriptConfig;
 use crate::scripting::setup_fault::{line_of_fault, setup_fault};
 use crate::scripting::words::is_word;
-use dfu_device::{Config, ConfigFault, Device};
+use dfu_device::{Config, ConfigFault, Device, Pace};
 use dfu_slots::{FormatFault, SimMedium, Slots, Unit};
 use std::alloc::Global;
 
@@ -92,19 +92,32 @@ fn form(
     }
 }
 
+/// How long the flash of the device takes.
+fn pace_of(setup: &ScriptConfig<'_>) -> Pace
+    ensures { result ≡ pace_of setup.now }
+{
+    Pace {
+        erase_ms: setup.erase_ms,
+        program_ms: setup.program_ms,
+        unit: setup.unit,
+        sector: setup.sector.bytes,
+    }
+}
+
 /// The configuration of the device, or the first fault of what it is set up with.
 pub(crate) fn device_config(setup: &ScriptConfig<'_>) -> Result<Config, ConfigFault>
     ensures ok { IfOk result (λ c. c ≡ record (setting_of_device setup.now) { functional = of_this_version setup.now.functional }) }
     ensures allowed { IfOk result (λ c. IsAllowed c) }
     ensures err { IfErr result (λ e. FirstFault e (setting_of_device setup.now)) }
 {
-    Config::new(
+    let config = Config::new(
         setup.ids,
         setup.functional,
         setup.least,
         setup.busy_ms,
         setup.manifest_ms,
-    )
+    )?;
+    Ok(config.with_pace(pace_of(setup)))
 }
 
 /// Starts the device, in appIDLE on a formatted medium in memory.

@@ -150,6 +150,7 @@ pub(crate) enum Keyword {
     Device,
     Unit,
     Erase,
+    Pace,
     Capacity,
     Image,
     Limits,
@@ -214,6 +215,7 @@ pub(crate) fn read_keyword(word: &[u8]) -> Option<Keyword>
         b"device" => Device,
         b"unit" => Unit,
         b"erase" => Erase,
+        b"pace" => Pace,
         b"capacity" => Capacity,
         b"image" => Image,
     })

@@ -1,8 +1,8 @@
 use Rattle.std.proofs.Common.{◌≡◌, ◌∙◌, ℕ, List, [], ◌∷◌, refl, ap}
 use Rattle.dfu_host.specs.declared.limits.Limits.{Limits}
-use Rattle.dfu_sim.specs.Happening.{Happening, Fate, Harm, Offers, Goes, harmed, fate_of, harm_in}
+use Rattle.dfu_sim.specs.Happening.{Happening, Offers, fate_of, harm_in}
 use Rattle.dfu_sim.specs.declared.offering.Purpose.{Purpose}
-use Rattle.dfu_link.specs.Said.{Offer, Upload, Abort, Go, Time, Reset, Cut, Refuse, given_bytes, hex_bytes, offered_bytes, harm_fate, said_by, tear_bytes}
+use Rattle.dfu_link.specs.Said.{Offer, Upload, Abort, Go, Time, Reset, Cut, Refuse, given_bytes, offered_bytes, said_by}
 use Rattle.dfu_link.specs.inside.Moving.{file_bytes}
 use Rattle.dfu_link.specs.declared.scripting.line.EventLine.{EventLine}
 use Rattle.dfu_link.proofs.PlayLaws.{offer_unchecked}
@@ -16,15 +16,9 @@ same_offer : {event : Happening} {purpose : Purpose} {file text : List ℕ} {lim
 same_offer {purpose = purpose} {limits = limits} is same =
     ap (λ (e : Happening). e ∷ []) (is ∙ ap (λ (f : List ℕ). Offers purpose f limits) same)
 
--- An action that is harmed so is the only event.
-same_harm : {fate given : Fate} {harm : Harm} {writes : ℕ} {tear text : List ℕ} → fate ≡ given → harm ≡ harmed writes tear → tear ≡ text
-    → Goes fate harm ∷ [] ≡ Goes given (harmed writes text) ∷ []
-same_harm {given = given} {harm = harm} {writes = writes} is how same = ap (λ (f : Fate). Goes f harm ∷ []) is
-    ∙ ap (λ (h : Harm). Goes given h ∷ []) (how ∙ ap (λ (t : List ℕ). harmed writes t) same)
-
 pub returns-in-Offer : goal.returns-in-Offer
 returns-in-Offer g c = line_acts (Offer c.in-Offer.purpose (offered_bytes c.in-Offer.file)) (ap said_by c.in-Offer.is)
-    (same_offer c.offered.ensures (c.requires.file ∙ ap (λ (d : EventLine). file_bytes (said_by d)) c.in-Offer.is))
+    (same_offer c.offered.ensures (c.requires ∙ ap (λ (d : EventLine). file_bytes (said_by d)) c.in-Offer.is))
     (c.play.ensures c.args.context.now.check.now (offer_unchecked c.args.context.now.check.now c.args.world.now.bench c.offered.ensures))
 
 pub returns-in-Upload : goal.returns-in-Upload
@@ -39,9 +33,7 @@ returns-in-Go g c =
 
 pub returns-in-GoHarmed : goal.returns-in-GoHarmed
 returns-in-GoHarmed g c =
-    line_acts (Go (harm_fate c.in-GoHarmed.harm) (harmed c.in-GoHarmed.writes (hex_bytes c.in-GoHarmed.tear)) 1)
-    (ap said_by c.in-GoHarmed.is) (same_harm c.harmed-fate.ensures.fate c.harmed-fate.ensures.harm
-    (c.requires.tear ∙ ap tear_bytes c.in-GoHarmed.is)) c.play_actions-in-GoHarmed.ensures
+    rw c.in-GoHarmed.is (c.play_harmed.ensures (given_bytes c.args.context.now.given) c.args.context.now.limits)
 
 pub returns-in-GoOn : goal.returns-in-GoOn
 returns-in-GoOn g c = rw c.in-GoOn.is (c.pass_on.ensures (given_bytes c.args.context.now.given) c.args.context.now.limits)

@@ -61,6 +61,39 @@ fn harms_are_told() -> Outcome {
     )
 }
 
+/// The same over flash with sectors of 256 bytes that takes 40 ms for an erase and 8 ms for 256 bytes. The unit of 16 bytes is not full,
+/// so block 0 writes nothing; but it closes the spare slot's gate, if that is open: an erase and 256 bytes, 48 ms, beside its 5. The image
+/// takes three erases, 120 ms, and 16 + 256 + 256 bytes, 16.5 ms, said as 17, beside its 10. The spare slot's gate is at 768, its header
+/// at 1,024, and its data begin at 1,280.
+const PACED: &str = "\
+# 1 Find; GETSTATUS 0 6; pass; OK 0 appIDLE; appIDLE; appIDLE; -; 0 ms
+# 2 Detach; DETACH 255 0; pass; ack; appIDLE; appDETACH; -; 0 ms
+# 3 Enter; reset; pass; -; appDETACH; dfuIDLE; -; 0 ms
+# 4 Find; GETSTATUS 0 6; pass; OK 0 dfuIDLE; dfuIDLE; dfuIDLE; -; 0 ms
+# 5 Block 0; DNLOAD 0 4; pass; ack; dfuIDLE; dfuDNLOAD-SYNC; -; 0 ms
+# 6 Poll 0; GETSTATUS 0 6; pass; OK 53 dfuDNBUSY; dfuDNLOAD-SYNC; dfuDNBUSY; -; 0 ms
+# 7 WaitPoll 0; wait 53; pass; -; dfuDNBUSY; dfuDNLOAD-SYNC; -; 53 ms
+# 8 Poll 0; GETSTATUS 0 6; pass; OK 0 dfuDNLOAD-IDLE; dfuDNLOAD-SYNC; dfuDNLOAD-IDLE; -; 53 ms
+# 9 Close; DNLOAD 1 0; pass; ack; dfuDNLOAD-IDLE; dfuMANIFEST-SYNC; -; 53 ms
+# 10 Manifest; GETSTATUS 0 6; pass; OK 147 dfuMANIFEST; dfuMANIFEST-SYNC; dfuMANIFEST; -; 53 ms
+# 11 WaitManifest; wait 147; pass; -; dfuMANIFEST; dfuMANIFEST-SYNC; MADE; 200 ms
+# 12 Manifest; GETSTATUS 0 6; pass; OK 0 dfuIDLE; dfuMANIFEST-SYNC; dfuIDLE; -; 200 ms
+# 13 Last; reset; pass; -; dfuIDLE; appIDLE; -; 200 ms
+report installed
+image ffffffff
+";
+
+/// What putting the image in place writes.
+const MADE: &str = "erased 256 at 1280, 16 at 1280, erased 256 at 1024, 16 at 1024, erased 256 at 768, 16 at 768";
+
+#[test]
+fn times_of_the_flash_are_told() -> Outcome {
+    traced(
+        "unit 16/erase 256/pace 40 8/capacity 256/offer W/go until report",
+        &PACED.replace("MADE", MADE),
+    )
+}
+
 /// A writer that fails at a byte, and counts the writes after that.
 struct Failing {
     room: usize,
