@@ -14,7 +14,7 @@
  * is handed in overlaps anything else that is. The library keeps nothing between two calls.
  *
  * Proved: each call answers as said here, for any file, by the readers of `dfu add`, if the library gets memory as it asks for it. That the
- * words of `memory` are handed out so, apart from one another and each once, is not proved: dist/make/translator/heap.py does it. */
+ * words of `memory` are handed out so, apart from one another and each once, is not proved: tests show it. */
 #ifndef DFU_IMAGE_TAKE_H
 #define DFU_IMAGE_TAKE_H
 
