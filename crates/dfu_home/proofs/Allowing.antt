@@ -1,12 +1,11 @@
 -- What is due lies in the first slot, and leaves the image.
-use Rattle.std.proofs.Common.{◌≡◌, ◌⊎◌, inl, inr, ⊎_elim, ℕ, ◌+◌, ◌-◌, ◌*◌, ◌%◌, ◌≤◌, ◌<◌, List, length, get_or, take, drop, slice_index, Option, refl, sym, ◌∙◌, ap, subst, arith}
+use Rattle.std.proofs.Common.{◌≡◌, inl, inr, ℕ, ◌+◌, ◌-◌, ◌*◌, ◌%◌, ◌≤◌, ◌<◌, List, length, get_or, drop, slice_index, Option, sym, ◌∙◌, ap, subst, arith}
 use Rattle.std.proofs.lemmas.List.{get_or-take, get_or-drop}
 use Rattle.dfu_slots.specs.Units.{gate_size}
 use Rattle.dfu_slots.specs.Medium.{MediumState}
 use Rattle.dfu_slots.specs.Layout.{slot_size}
 use Rattle.dfu_slots.specs.Image.{gate_of, capacity_of, Active}
 use Rattle.dfu_slots.proofs.Stands.{ActiveAt, standing}
-use Rattle.dfu_slots.proofs.Series.{SameSize}
 use Rattle.dfu_slots.proofs.Seeing.{active_on}
 use Rattle.dfu_slots.proofs.Sectors.{gate_wide, room_sector, edge_zero, room_edge, edge_add}
 use Rattle.dfu_slots.proofs.Parts.{data_length}

@@ -1,9 +1,9 @@
 -- The image is in the second slot while the gate of the first one is closed.
-use Rattle.std.proofs.Common.{◌≡◌, ◌⊎◌, inl, inr, ⊎_elim, ℕ, ◌+◌, ◌*◌, ◌≤◌, ◌<◌, ◌^◌, List, length, take, sym, ◌∙◌, ap, subst, arith}
+use Rattle.std.proofs.Common.{◌≡◌, ⊎_elim, ℕ, ◌≤◌, ◌<◌, List, length, take, sym, ◌∙◌, ap, subst, arith}
 use Rattle.dfu_slots.specs.Medium.{MediumState}
 use Rattle.dfu_slots.specs.Layout.{slot_size, IsOpen, header_length}
 use Rattle.dfu_slots.specs.Image.{gate_of, slot_of, capacity_of, Active, HasImage, active_at}
-use Rattle.dfu_slots.proofs.Stands.{ActiveAt, two_slots, standing}
+use Rattle.dfu_slots.proofs.Stands.{ActiveAt, standing}
 use Rattle.dfu_slots.proofs.Newest.{places_are, tested_places, place_end}
 use Rattle.dfu_slots.proofs.Parts.{data_length}
 use Rattle.dfu_home.proofs.Headers.{length_is}

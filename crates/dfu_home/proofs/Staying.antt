@@ -1,13 +1,12 @@
 -- The active image stays, whatever becomes of what is due.
-use Rattle.std.proofs.Common.{◌≡◌, ◌≢◌, ◌⊎◌, inl, inr, ⊎_elim, ℕ, ◌+◌, ◌-◌, ◌*◌, ◌≤◌, ◌<◌, List, length, take, drop, slice_index, refl, sym, ◌∙◌, ap, subst, arith}
+use Rattle.std.proofs.Common.{◌≡◌, ◌⊎◌, inl, inr, ⊎_elim, ℕ, ◌≤◌, ◌<◌, List, length, take, slice_index, refl, sym, ◌∙◌, ap, subst, arith}
 use Rattle.std.proofs.lemmas.Bool.{cases_eq}
 use Rattle.dfu_suffix.specs.Register.{register}
 use Rattle.dfu_slots.specs.Units.{IsWhole}
 use Rattle.dfu_slots.specs.Medium.{MediumState, KeepsOutside}
-use Rattle.dfu_slots.specs.Layout.{Slot, slot, slot_size, ArePlaces, IsOpen, OPEN, generation, next_generation, header, header_length, HasHeader}
-use Rattle.dfu_slots.specs.Image.{gate_of, slot_of, capacity_of, Counts, IsNewest, Active}
+use Rattle.dfu_slots.specs.Layout.{Slot, slot, slot_size, IsOpen, OPEN, generation, next_generation, header, header_length, HasHeader}
+use Rattle.dfu_slots.specs.Image.{gate_of, capacity_of, Counts, IsNewest, Active}
 use Rattle.dfu_slots.proofs.Stands.{ActiveAt}
-use Rattle.dfu_slots.proofs.Newest.{place_end}
 use Rattle.dfu_slots.proofs.Sectors.{gate_wide}
 use Rattle.dfu_slots.proofs.Parts.{gate_outside, header_outside, data_outside, slot_outside, size_kept, sized_kept, data_length}
 use Rattle.dfu_home.proofs.Headers.{counted, header_two, length_is}

@@ -1,7 +1,7 @@
 -- What a copy programs, and what is due of it.
-use Rattle.std.proofs.Common.{◌≡◌, inl, inr, ℕ, ◌+◌, ◌-◌, ◌*◌, ◌≤◌, ◌<◌, ◌==◌, true, false, List, [], ◌∷◌, ◌++◌, length, take, drop, replicate, Option, if◌then◌else◌, refl, sym, ◌∙◌, ap, subst, arith, eq-eqb}
+use Rattle.std.proofs.Common.{◌≡◌, inl, inr, ℕ, ◌+◌, ◌-◌, ◌*◌, ◌≤◌, ◌==◌, List, [], ◌∷◌, ◌++◌, length, take, drop, replicate, Option, if◌then◌else◌, refl, sym, ◌∙◌, ap, subst, arith}
 use Rattle.std.proofs.lemmas.List.{drop-replicate, take-replicate, take_all}
-use Rattle.std.proofs.lemmas.Bool.{cond-true, cond-false, ne_eqb}
+use Rattle.std.proofs.lemmas.Bool.{cond-false, ne_eqb}
 use Rattle.std.proofs.Math.Seq.{take-append-add}
 use Rattle.dfu_suffix.specs.Register.{register}
 use Rattle.dfu_slots.specs.Units.{gate_size}
@@ -14,8 +14,8 @@ use Rattle.dfu_boot.specs.install.Next.{Does as Fills}
 use Rattle.dfu_boot.specs.declared.install.due.Due.{Due as FillDue}
 use Rattle.dfu_home.specs.declared.due.Due.{Due}
 use Rattle.dfu_home.specs.declared.due.Due.TheVariants.{Refuse, Home, Erase, Program}
-use Rattle.dfu_home.specs.Places.{first_of, second_of, away_image, HasCopyHeader, copy_header, HasBytes, last_in_data}
-use Rattle.dfu_home.specs.Next.{CopiesBytes, IsHeadDue, IsCopyDue, IsUnitDue, GivesUnit, GivesBytes, program_bytes}
+use Rattle.dfu_home.specs.Places.{first_of, second_of, away_image, HasBytes, last_in_data}
+use Rattle.dfu_home.specs.Next.{CopiesBytes, IsHeadDue, IsCopyDue, program_bytes}
 
 -- A buffer of zeros, to whose front bytes were copied.
 pub filled_up : (bytes copied : List ℕ) → copied ≡ bytes
