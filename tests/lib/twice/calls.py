@@ -9,7 +9,8 @@ import sys
 
 HEADERS = ("dfu_core.h", "dfu_host.h", "dfu_image.h", "dfu_trial_core.h", "dfu_install_core.h", "dfu_home_core.h", "dfuse_host.h",
            "dfuse_file.h", "dfu_watch.h", "dfuse_watch.h")
-CALL = re.compile(r"(?<![\w{])(u?int32_t) (dfu(?:se)?_\w+)\(([^(){};]*)\);")
+# (an inline call of a header is declared too, and no library has it)
+CALL = re.compile(r"(?<!static inline )(?<![\w{])(u?int32_t) (dfu(?:se)?_\w+)\(([^(){};]*)\);")
 PARAMETER = re.compile(r"(.*?[ *])(\w+)(\[\d+\])?")
 # What is handed with a length behind it, in so many elements.
 ELEMENT = "struct dfuse_element"
