@@ -1,7 +1,7 @@
 /* SPDX-License-Identifier: MIT OR Apache-2.0 */
 /* dfu-flash: brings a DFU file to a device over USB, or fetches the image that it has. The proved host decides what comes next, and what a
    session comes to (dfu_host.h); this program finds the device, carries out what the host asks for and reports to it what came of it.
-   share/man/dfu-flash.1 says how it is used, and flash/README.md what is this program's own. */
+   share/man/dfu-flash.1 says how it is used, and apps/flash/README.md what is this program's own. */
 #include "advice.h"
 #include "all.h"
 #include "demo.h"

@@ -43,6 +43,8 @@ static const struct {
     {"file", "leave it out: dfu-flash FILE flashes it"},
     {"read", "did you mean --upload?"},
     {"output", "did you mean --upload?"},
+    {"alternate", "did you mean --alt?"},
+    {"altsetting", "did you mean --alt?"},
     {"leave", "leave it out: a device leaves DFU mode once all is compared; see --no-leave"},
     {"vid", "did you mean --device?"},
     {"pid", "did you mean --device?"},
@@ -78,6 +80,15 @@ static size_t distance(const char *one, const char *other)
     return rows[strlen(one) % 3][width];
 }
 
+/* The option of exactly this name, or NULL. */
+static const struct option *option_of(const char *name)
+{
+    for (const struct option *option = options; option->name != NULL; option++)
+        if (strcmp(option->name, name) == 0)
+            return option;
+    return NULL;
+}
+
 /* The option that a word is like; NULL if none is, or two are. */
 static const char *nearest(const char *word)
 {
@@ -111,6 +122,10 @@ void advise_word(const char *word)
             advice_is(tried[at].step);
             return;
         }
+    if (option_of(name) != NULL) {
+        advice_is(option_of(name)->has_arg == no_argument ? "leave out what is behind its =" : "give it its value, as --help has it");
+        return;
+    }
     is = nearest(name);
     if (is == NULL)
         return;
@@ -121,9 +136,8 @@ void advise_word(const char *word)
 void advise_name(const char *word)
 {
     char step[80];
-    for (const struct option *option = options; option->name != NULL; option++)
-        if (strcmp(option->name, word) == 0) {
-            snprintf(step, sizeof step, "did you mean --%s?", word);
-            advice_is(step);
-        }
+    if (option_of(word) == NULL)
+        return;
+    snprintf(step, sizeof step, "did you mean --%s?", word);
+    advice_is(step);
 }

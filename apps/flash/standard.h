@@ -1,6 +1,6 @@
 /* SPDX-License-Identifier: MIT OR Apache-2.0 */
 /* The numbers and names of USB DFU 1.1 that dfu_host.h doesn't have, each once: of setups (section 3), of a functional descriptor
-   (section 4.1.3), of interfaces (sections 4.1.2 and 4.2.3) and of states and codes (section 6.1.2). web/names.js is the same. */
+   (section 4.1.3), of interfaces (sections 4.1.2 and 4.2.3) and of states and codes (section 6.1.2). apps/web/names.js is the same. */
 #ifndef DFU_FLASH_STANDARD_H
 #define DFU_FLASH_STANDARD_H
 

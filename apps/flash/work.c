@@ -94,7 +94,7 @@ static bool make_file(struct session *session, const struct words *words)
     session->made = words->file;
     if (!words->quiet) {
         say_text(stderr, "dfu-flash: ", words->file, "");
-        fprintf(stderr, " has its %llu bytes\n", (unsigned long long)session->host.kept);
+        fprintf(stderr, " has its %llu byte%s\n", (unsigned long long)session->host.kept, session->host.kept == 1 ? "" : "s");
     }
     return true;
 }

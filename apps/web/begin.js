@@ -1,5 +1,5 @@
 // SPDX-License-Identifier: MIT OR Apache-2.0
-// How a session begins: what it is for, with which functional descriptor, and within which limits. As flash/begin.c.
+// How a session begins: what it is for, with which functional descriptor, and within which limits. As apps/flash/begin.c.
 import { REFUSAL } from './host.js'
 import { ATTRIBUTE, FUNCTIONAL, hasAttribute, speaksDfuse, transferOf } from './names.js'
 import { willDetach } from './stalls.js'

@@ -1,6 +1,6 @@
 // SPDX-License-Identifier: MIT OR Apache-2.0
 // How a session with a device of DfuSe begins: what is refused before anything is sent, the elements of the file, and the limits. As
-// flash/dfuse_begin.c.
+// apps/flash/dfuse_begin.c.
 import { canUpload } from './begin.js'
 import { FILE } from './dfuse_host.js'
 import { pagesOf } from './dfuse_map.js'

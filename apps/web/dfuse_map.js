@@ -1,6 +1,6 @@
 // SPDX-License-Identifier: MIT OR Apache-2.0
 // Memory maps, which the library reads: a range as dfu-flash --list prints it, and what a map says of a part of the memory. As
-// flash/dfuse_map.c.
+// apps/flash/dfuse_map.c.
 import { ACCESS } from './dfuse_host.js'
 import { digits } from './names.js'
 

@@ -1,5 +1,5 @@
 // SPDX-License-Identifier: MIT OR Apache-2.0
-// How far a session with DfuSe is: what the host works at, and at which address. As flash/dfuse_session.c shows it.
+// How far a session with DfuSe is: what the host works at, and at which address. As apps/flash/dfuse_session.c shows it.
 import { OUTCOME, WORK } from './dfuse_host.js'
 import { bytesBelow } from './dfuse_map.js'
 import { Progress } from './progress.js'

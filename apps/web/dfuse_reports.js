@@ -1,6 +1,6 @@
 // SPDX-License-Identifier: MIT OR Apache-2.0
-// What a session with DfuSe came to: the words and the status of dfu-flash (flash/dfuse_verdict.c), and for a person what it means. Its
-// other ends are those of reports.js.
+// What a session with DfuSe came to: the words and the status of dfu-flash (apps/flash/dfuse_verdict.c), and for a person what it means.
+// Its other ends are those of reports.js.
 import { LEAVING, OUTCOME } from './dfuse_host.js'
 import { CODES } from './names.js'
 import { AGAIN, MAYBE, rowOf, verdictOf } from './reports.js'

@@ -1,6 +1,6 @@
 // SPDX-License-Identifier: MIT OR Apache-2.0
 // A download with DfuSe: what the proved host asks for is carried out, and what came of that goes back to it. It decides what is erased
-// and written, what counts as read back, and when the device is asked to leave. As flash/dfuse_begin.c and flash/dfuse_session.c.
+// and written, what counts as read back, and when the device is asked to leave. As apps/flash/dfuse_begin.c and apps/flash/dfuse_session.c.
 import { deviceRefusal, imageOf, limitsOf, planOf, totalOf, wordsRefusal } from './dfuse_begin.js'
 import { LEAVING, OUTCOME, WORK } from './dfuse_host.js'
 import { COURSES, DfuseWatch } from './dfuse_watch.js'

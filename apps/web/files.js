@@ -1,5 +1,5 @@
 // SPDX-License-Identifier: MIT OR Apache-2.0
-// What a file is: one of DFU 1.1, a DfuSe file, or a raw image. As flash/image.c.
+// What a file is: one of DFU 1.1, a DfuSe file, or a raw image. As apps/flash/image.c.
 import { DfuseHost } from './dfuse_host.js'
 import { Host, LOOKS, REFUSAL } from './host.js'
 

@@ -2,7 +2,7 @@
 // A proved library in WebAssembly, with its memory. Of both sizes a pointer and a size_t are BigInt (wasm64). The libraries take no
 // memory of their own: what follows __heap_base is this file's. It is handed out from the front, and given back as a whole,
 // with the instance. Each instance is its own: two sessions in two instances share nothing. records.js is of one version of include/, which
-// web/build puts into version.js: a library of another one may have other records, and is refused.
+// apps/web/build puts into version.js: a library of another one may have other records, and is refused.
 import { LAYOUT, readRecord, writeRecord } from './records.js'
 import { VERSION } from './version.js'
 

@@ -1,6 +1,6 @@
 // SPDX-License-Identifier: MIT OR Apache-2.0
 // Files without a suffix that are no image: a device would be sent their text. The library says what a file looks to be; here is what was
-// seen and what to do, in words. As flash/looks.c; the words are those of flash/refusals.c.
+// seen and what to do, in words. As apps/flash/looks.c; the words are those of apps/flash/refusals.c.
 import { LOOKS, NAMED } from './host.js'
 import { digits } from './names.js'
 

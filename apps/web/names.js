@@ -1,5 +1,5 @@
 // SPDX-License-Identifier: MIT OR Apache-2.0
-// The standard's numbers and names (USB DFU 1.1), each once, as flash/standard.h has them: of requests (section 3), states and codes
+// The standard's numbers and names (USB DFU 1.1), each once, as apps/flash/standard.h has them: of requests (section 3), states and codes
 // (section 6.1.2), a functional descriptor (section 4.1.3) and interfaces (sections 4.1.2 and 4.2.3).
 export const KIND = { OUT: 0x21, IN: 0xa1, IS_IN: 0x80 }
 export const REQUEST = { DETACH: 0, DNLOAD: 1, UPLOAD: 2, GETSTATUS: 3, GETSTATE: 5 }

@@ -1,5 +1,5 @@
 // SPDX-License-Identifier: MIT OR Apache-2.0
-// Why a session does not begin, and what to do. The names are those of docs/REFUSALS.md, and the words those of flash/refusals.c.
+// Why a session does not begin, and what to do. The names are those of docs/REFUSALS.md, and the words those of apps/flash/refusals.c.
 import { DFUSE_REFUSALS } from './dfuse_refusals.js'
 
 const OTHER_FILE = 'Take another file, or ask who made it.'

@@ -1,5 +1,5 @@
 // SPDX-License-Identifier: MIT OR Apache-2.0
-// What a session came to: the words and the status of dfu-flash (flash/verdict.c), and for a person what it means and what it doesn't.
+// What a session came to: the words and the status of dfu-flash (apps/flash/verdict.c), and for a person what it means and what it doesn't.
 import { CODES } from './names.js'
 
 export const MAYBE = 'The device may have the old image, the new one or neither. Connect it again, and flash it again.'

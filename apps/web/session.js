@@ -1,6 +1,6 @@
 // SPDX-License-Identifier: MIT OR Apache-2.0
 // The loop: what the host asks for is carried out, and what came of that is reported to it. Nothing else is sent, but for the DETACH of
-// stalls.js. As flash/session.c. What speaks DfuSe has its own loop in dfuse_session.js.
+// stalls.js. As apps/flash/session.c. What speaks DfuSe has its own loop in dfuse_session.js.
 import { cut, goalOf, isDfuse, limitsOf, standIn } from './begin.js'
 import { SEEN, WHAT } from './host.js'
 import { isDownload } from './names.js'

@@ -3,7 +3,7 @@
 // mode may stall GETSTATUS: in appIDLE the standard has it answered (USB DFU 1.1, appendix A.2.1), and many leave it out. If it is
 // stalled twice the host has the bus reset, and asks again. So before the first of these resets the page sends a DETACH of its own,
 // which makes it the reset that leads to DFU mode. When, and after how many resets the device is given up, dfu_watch.h says. As
-// flash/stalls.c and flash/detach.c.
+// apps/flash/stalls.c and apps/flash/detach.c.
 import { SEEN } from './host.js'
 import { ATTRIBUTE, FUNCTIONAL, KIND, REQUEST, detachTimeOf, hasAttribute } from './names.js'
 

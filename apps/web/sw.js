@@ -1,6 +1,6 @@
 // SPDX-License-Identifier: MIT OR Apache-2.0
 // The service worker: it keeps the files of the page, all of one build, and hands them out where the server isn't reached. With a server
-// each file is the server's. web/build writes kept.js, which has FILES, and NAME, another one for each build.
+// each file is the server's. apps/web/build writes kept.js, which has FILES, and NAME, another one for each build.
 importScripts('kept.js')
 
 async function keep() {

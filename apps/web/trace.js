@@ -1,5 +1,5 @@
 // SPDX-License-Identifier: MIT OR Apache-2.0
-// The log of a session, as `dfu-flash --verbose=FILE` writes it (its manual, TRACE; flash/log.h): for readers, and for `dfu judge`.
+// The log of a session, as `dfu-flash --verbose=FILE` writes it (its manual, TRACE; apps/flash/log.h): for readers, and for `dfu judge`.
 // WebUSB has no path: it is 0, a bus without ports.
 import { SEEN } from './host.js'
 import { REQUESTS, STATES, digits, hexOf, partsOf, stateOf } from './names.js'

@@ -1,6 +1,6 @@
 // SPDX-License-Identifier: MIT OR Apache-2.0
-// Which answer of WebUSB is reported to the host as what. As flash/answer.c is for dfu-flash, this file is what the proof of Installed and
-// Verified rests on: a transfer that is reported as acknowledged or answered was really made, and a restart is reported if the device
+// Which answer of WebUSB is reported to the host as what. As apps/flash/answer.c is for dfu-flash, this file is what the proof of Installed
+// and Verified rests on: a transfer that is reported as acknowledged or answered was really made, and a restart is reported if the device
 // lost its state, before anything that it answers later.
 //
 // Of a transfer:

@@ -40,7 +40,7 @@ def said(words_of, device):
 
 
 def words():
-    """Each report and refusal of flash/: its name, status and words."""
+    """Each report and refusal of apps/flash: its name, status and words."""
     status = {name: int(number) for name, number in re.findall(r'(STATUS_\w+) = (\d+)', (TOP / 'apps/flash/status.h').read_text())}
     verdict = (TOP / 'apps/flash/verdict.c').read_text()
     reports = {name.lower().replace('_', '-'): (status[number], said(*rest))
@@ -51,7 +51,7 @@ def words():
 
 
 def numbers():
-    """Each number and name that host.js and names.js write again, as they have it, and as the header or flash/standard has it."""
+    """Each number and name that host.js and names.js write again, as they have it, and as the header or apps/flash/standard.h has it."""
     headers = ''.join((TOP / it).read_text() for it in ('include/dfu_host.h', 'include/dfu_watch.h', 'include/dfuse_host.h',
                                                          'include/dfuse_watch.h', 'include/dfuse_file.h', 'include/dfu_image.h',
                                                          'include/dfu_image_take.h',

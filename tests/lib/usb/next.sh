@@ -1,5 +1,5 @@
 # Rows of tests/apps/flash: the line `next:` behind each end that isn't what was meant, the same in a record, and that the manual's steps
-# are those of flash/next.c.
+# are those of apps/flash/next.c.
 # shellcheck shell=sh disable=SC2016,SC2034,SC2154
 
 # next TEXT: the last line of standard error is this step.
@@ -170,7 +170,10 @@ typed --mass-erase new.dfu -- "leave it out: the pages of the image are erased, 
 typed --unprotect -- "leave it out: no option takes protection away; ST's tools do, and erase all"
 typed --flash new.dfu -- 'leave it out: dfu-flash FILE flashes it'
 typed --read up -- 'did you mean --upload?'
+typed --alternate 1 new.dfu -- 'did you mean --alt?'
 typed -list -- 'did you mean --list?'
+typed new.dfu --address -- 'give it its value, as --help has it'
+typed --list=5 -- 'leave out what is behind its ='
 typed new.dfu any.dfu -- 'name one FILE; what a shell makes of * may be several'
 typed --json -- 'name the file, or - for standard input; dfu-flash --list shows which devices are there'
 for words in --xylophone '--=5' "--$(head -c 300 /dev/zero | tr '\0' v)" '--limits 1 new.dfu'; do
@@ -194,7 +197,7 @@ row 0 - '' '' --help
 expect 'two examples' test "$(sed -n 3,4p out | grep -c 'dfu-flash [^O]')" -eq 2
 expect 'the manual' grep -q 'man dfu-flash$' out
 
-# The tables, as `NAME STEP`: those of flash/next.c, and those of the manual's NEXT STEPS and REFUSALS.
+# The tables, as `NAME STEP`: those of apps/flash/next.c, and those of the manual's NEXT STEPS and REFUSALS.
 sed -n 's/^#define \([A-Z_]*\) "\(.*\)"$/\1\t\2/p' "$top/apps/flash/next.c" > texts
 sed -n 's/^    {\([A-Z0-9_]*\), "\([A-Za-z]*\)", ".*"},$/\1\t\2/p' "$top/apps/flash/refusals.c" > names
 awk -F '\t' -v OFS=' ' '
@@ -217,5 +220,5 @@ sed 's/\\-/-/g; s/\\(aq/'\''/g' "$top/share/man/dfu-flash.1" | awk '
     section == ".SH REFUSALS" && step { text = text " " $0 }
     section == ".SH REFUSALS" && sub(/^Next: /, "") { step = 1; text = $0 }
     { after = $0 }' | grep -v ' none$' | LC_ALL=C sort -u > told
-expect "the manual's next steps are those of flash/next.c" diff steps told
+expect "the manual's next steps are those of apps/flash/next.c" diff steps told
 expect 'each has one' test "$(wc -l < steps)" -ge 80

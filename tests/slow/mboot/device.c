@@ -7,9 +7,9 @@
  * other byte of it. */
 #define _GNU_SOURCE
 #include "device.h"
-#include "../../usb/log.h"
-#include "../../usb/model.h"
-#include "../../usb/settings.h"
+#include "../../lib/usb/log.h"
+#include "../../lib/usb/model.h"
+#include "../../lib/usb/settings.h"
 
 #include <string.h>
 #include <sys/mman.h>

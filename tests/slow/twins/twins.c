@@ -2,7 +2,7 @@
  * flash, of devices that are asked by a host that keeps to the protocol in most requests, that lose power, whose operations fail or leave
  * other bytes, and whose record, flash or configuration is garbled. In place the device over plain memory of 0.2.0 does the same too, as
  * long as nothing is garbled. It takes how many calls to make, and a seed. */
-#include "../../c/driver.h"
+#include "../../lib/c/driver.h"
 #include "landed.h"
 
 static struct board one, two;

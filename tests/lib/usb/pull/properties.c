@@ -1,6 +1,6 @@
-/* In place of flash/linux/properties.c: libusb's answers mean what they mean over WinUSB, and a person has a quarter of a second to pull
-   the plug. With USB_NEW=untold they are those of macOS. */
-#include "../../../../flash/properties.h"
+/* In place of apps/flash/linux/properties.c: libusb's answers mean what they mean over WinUSB, and a person has a quarter of a second to
+   pull the plug. With USB_NEW=untold they are those of macOS. */
+#include "../../../../apps/flash/properties.h"
 
 #include <stdlib.h>
 #include <string.h>
