@@ -8,19 +8,20 @@
 #include <stdint.h>
 #include <stdio.h>
 
-/* Returns how many bytes the character at the front of `text` has, and which it is; 0 if they aren't UTF-8. */
+/* Returns the number of bytes of the character at the front of `text`, and writes its code point to `character`; 0 if the bytes aren't
+   UTF-8. */
 size_t text_character(const char *text, uint32_t *character);
 
-/* Returns whether a terminal may take it for a command, or draw other text by it in another place. */
+/* Returns whether a terminal may take the character for a command, or draw other text in another place because of it. */
 bool text_is_control(uint32_t character);
 
-/* Prints it as it is, but for bytes of control characters and of what isn't UTF-8, which are written as \xNN. */
+/* Prints a text as it is, except that bytes of control characters and bytes that aren't UTF-8 are written as \xNN. */
 void text_print(FILE *out, const char *text);
 
-/* Returns whether a person can type it: no byte of it would have to be escaped. */
+/* Returns whether a person can type the text: no byte of it has to be escaped. */
 bool text_is_typed(const char *text);
 
-/* Writes it as one word of a shell's line. False if it can't be typed, or there is no room. */
+/* Writes the text as one word of a shell's line. Returns false if it can't be typed, or there is no room. */
 bool text_word(const char *text, char *word, size_t room);
 
 /* Prints bytes as hexadecimal digits. */

@@ -1,5 +1,5 @@
 /* SPDX-License-Identifier: MIT OR Apache-2.0 */
-/* Advice that knows more than the tables of next.c, and the line to type, which has the words of the command line. */
+/* Next steps that are more exact than those of the tables of next.c, and the line to type, which repeats the words of the command line. */
 #include "advice.h"
 #include "../common/text.h"
 
@@ -44,7 +44,8 @@ const char *advice_or(const char *step)
     return known.both;
 }
 
-/* The words as a shell reads them, behind `length` bytes of the line. False if one can't be typed, or there is no room. */
+/* Adds the words as a shell reads them, after the first `length` bytes of the line. Returns false if one can't be typed, or there is no
+   room. */
 static bool add_words(char *line, size_t length)
 {
     for (int at = 1; at < known.count; at++) {

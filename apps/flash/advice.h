@@ -1,5 +1,5 @@
 /* SPDX-License-Identifier: MIT OR Apache-2.0 */
-/* A next step that is known better than by the tables of next.c: with the line to type, or with what was seen. */
+/* Next steps that are more exact than those of the tables of next.c, because they give the line to type, or the cause that was seen. */
 #ifndef DFU_FLASH_ADVICE_H
 #define DFU_FLASH_ADVICE_H
 
@@ -11,36 +11,36 @@
 
 struct session;
 
-/* The words of the command line, of which a line to type is made. */
+/* Keeps the words of the command line, from which a line to type is made. */
 void advice_keep(int count, char **texts);
 
-/* From here on this is the next step, in place of that of the tables; or it stands before that. */
+/* Sets the next step, in place of the one of the tables; advice_first sets words that are printed before whichever step it is. */
 void advice_is(const char *step);
 void advice_first(const char *seen);
 
-/* From here on the next step is to run the program with these words before those of the command line. */
+/* Sets the next step to running the program with these words before those of the command line. */
 void advice_run(const char *more);
 
-/* Forgets all that is known better. */
+/* Forgets the step and the words that were set. */
 void advice_forget(void);
 
-/* The step that is known better, or this one, which is a table's. */
+/* Returns the step that was set, or else the given one, which is a table's. */
 const char *advice_or(const char *step);
 
-/* A raw image that nobody has named a device for: if one device is there, the words that take it. */
+/* Advises on a raw image for which no device was named: if exactly one device is there, to add the words that name it. */
 void advise_raw(libusb_context *usb, const struct words *words);
 
-/* Facts of a session that is refused, and of one that has ended. */
+/* Advise on a session that was refused, and on one that has ended. */
 void advise_refused(const struct session *session, int32_t refusal);
 void advise_ended(const struct session *session, const char *name);
 
-/* Reason why a device can't be opened. */
+/* Advises on a device that can't be opened, by the error of libusb. */
 void advise_access(int access);
 
-/* A word that is none of the options: which one it may be. Nothing, if it is like none. */
+/* Suggests the option that an unknown word resembles; nothing if it resembles none. */
 void advise_word(const char *word);
 
-/* Likewise of a word that is the name of an option, but for the hyphens before it. */
+/* Suggests the option for a word that is its name without the hyphens, as `list` for `--list`. */
 void advise_name(const char *word);
 
 #endif

@@ -1,5 +1,5 @@
 /* SPDX-License-Identifier: MIT OR Apache-2.0 */
-/* Turns facts of boards, files and memories into the next step as a line to type, or says where something is wrong. */
+/* Derives the next step from the boards, the file and the memory map: a line to type, or the place where something is wrong. */
 #include "advice.h"
 #include "facts.h"
 #include "one.h"
@@ -13,8 +13,8 @@
 /* The blocks of which every device has room: the smallest packet of a control endpoint (USB 2.0, section 5.5.3). */
 #define SMALLEST_BLOCK 8
 
-/* Address at which an image begins as a rule: at the first address that a device's map has for images; and, of an upload, all of that
-   range. */
+/* Writes the options for the address where an image usually begins, the first address that the device's map has for images; for an upload
+   also the length of that range. Returns false if the map has none. */
 static bool name_memory(const struct found *found, bool is_upload, char *words, size_t room)
 {
     struct dfuse_range range;
@@ -55,7 +55,7 @@ void advise_raw(libusb_context *usb, const struct words *words)
     found_drop(list, count);
 }
 
-/* The first byte that no range of the map has, and where the memory before it ends. */
+/* Names the first byte of the image that no range of the map has, and the end of the memory before it. */
 static void say_outside(const struct session *session)
 {
     const struct dfuse *dfuse = &session->dfuse;
@@ -93,7 +93,7 @@ void advise_refused(const struct session *session, int32_t refusal)
         say_outside(session);
 }
 
-/* Place of the first byte that isn't the image's. */
+/* Names the place of the first byte that differs from the image. */
 static void say_odd(const struct session *session)
 {
     const struct odd *odd = &session->odd_byte;

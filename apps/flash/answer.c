@@ -110,7 +110,8 @@ static struct answer answer_of(struct wire *wire, bool is_in, uint16_t length, i
     return answer;
 }
 
-/* End of a download: its last request, and what the device reports after it. */
+/* Notes how far a download has come at its end: its closing request was acknowledged, and after it the device reported dfuMANIFEST-SYNC or
+   dfuMANIFEST. */
 static void note_end(struct wire *wire, const struct dfu_action *action, const struct answer *answer)
 {
     bool is_status = is_request(action->setup, KIND_IN, REQUEST_GETSTATUS);

@@ -1,5 +1,5 @@
 /* SPDX-License-Identifier: MIT OR Apache-2.0 */
-/* Reports to the host of an action: libusb's answers, in the host's words. */
+/* Carries out the host's actions, and reports libusb's answer to each in the host's words. */
 #ifndef DFU_FLASH_ANSWER_H
 #define DFU_FLASH_ANSWER_H
 
@@ -19,14 +19,14 @@ struct answer {
     int error;    /* what libusb said to a transfer or a reset that failed, else 0; the host doesn't get it */
 };
 
-/* Events between two actions. */
+/* State of the connection from one action to the next. */
 struct wire {
     struct device *device;
     bool is_leaving;      /* a DETACH was acknowledged, and nothing was sent since: the device is to leave */
     bool is_closed;       /* the end of a download was acknowledged, and nothing but GETSTATUS was sent since; */
     bool is_manifesting;  /* and a GETSTATUS said dfuMANIFEST-SYNC or dfuMANIFEST: the device may start its image by itself */
     uint8_t bytes[65536]; /* of one transfer: wLength is under 65,536 */
-    uint64_t transfers;   /* how many were tried */
+    uint64_t transfers;   /* number of transfers that were tried */
     bool is_unreset;      /* a reset was asked for that this system doesn't make, and nobody pulled the plug: the session is over */
     struct trace trace;
 };

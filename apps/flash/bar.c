@@ -24,7 +24,7 @@ int bar_lines(void)
     return terminal_size(&columns, &lines) ? lines : 24;
 }
 
-/* Time that the rest takes at the rate so far; it is rounded up. */
+/* Adds the time that the rest takes at the rate so far, rounded up. */
 static void add_left(char *text, size_t room, uint64_t bytes, uint64_t total, int64_t passed_ms)
 {
     double seconds = (double)passed_ms / 1000 * ((double)(total - bytes) / (double)bytes);
@@ -34,7 +34,7 @@ static void add_left(char *text, size_t room, uint64_t bytes, uint64_t total, in
         snprintf(text, room, ", %d %s left", (int)count + 1, unit);
 }
 
-/* Bytes that are done, the rate, and the time that is left. */
+/* Writes the bytes that are done, the rate, and the time that is left. */
 static void write_amount(char text[AMOUNT_ROOM], uint64_t bytes, uint64_t total, int64_t passed_ms)
 {
     int at = snprintf(text, AMOUNT_ROOM, "%" PRIu64, bytes);

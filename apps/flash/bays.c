@@ -81,7 +81,7 @@ bool bay_is_early(const struct bay *bay)
     return bay->state != BAY_FREE && !bay->is_late;
 }
 
-/* Returns whether the device in a bay is, or counts as, the one of before. */
+/* Returns whether the device in a bay is the one that was flashed before, or counts as it. */
 static bool is_same_as_before(const struct bay *bay, const struct found *is)
 {
     const char *before = bay->serial[is->is_upgrade];

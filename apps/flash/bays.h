@@ -13,7 +13,7 @@
 /* The exit status of a process that found the device of before: it has done nothing, and reports nothing. */
 #define BAY_SAME 100
 
-/* Likewise where nothing tells the device from another one: it has no serial number. */
+/* The exit status if nothing tells the device from the one before, because it has no serial number. */
 #define BAY_TAKEN 102
 
 enum bay_state {
@@ -44,7 +44,7 @@ struct bay *bays_see(struct bays *bays, const struct port *port, int64_t now_ms)
 /* These are all that were seen: a device that has been away is pulled out. */
 void bays_miss(struct bays *bays, const struct port *ports, int count, int64_t now_ms);
 
-/* Returns whether the device in a bay is the one of before, as long as nothing speaks against it. */
+/* Returns whether the device in a bay counts as the one of before as long as nothing speaks against it. */
 bool bay_is_early(const struct bay *bay);
 
 /* BAY_SAME or BAY_TAKEN if the device in a bay is, or counts as, the one of before; else 0. */

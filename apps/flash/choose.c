@@ -36,7 +36,7 @@ static void ask_for_one(const struct found *list, int count)
         say_found(stderr, &list[at]);
 }
 
-/* Returns whether it is one device that can't be opened, so that the name of none of its settings could be read. */
+/* Returns whether all that was found is one device that can't be opened, so that none of its settings' names could be read. */
 static bool is_unread(const struct wanted *wanted, const struct found *list, int count)
 {
     for (int at = 0; at < count; at++)
@@ -62,7 +62,7 @@ static int drop_unread(const struct wanted *wanted, struct found *list, int coun
     return read;
 }
 
-/* Returns whether it can be opened, and found again if it leaves. */
+/* Returns whether a device can be opened, and found again if it leaves. */
 static bool is_usable(const struct device *device)
 {
     return device->is.access == 0 && (has_ports(device->path) || device->serial != NULL);
@@ -77,7 +77,7 @@ static int say_unusable(struct device *device)
     return STATUS_NO_DEVICE;
 }
 
-/* Returns whether one of them can be opened, or has had its time: the rights of a device come a moment after it does. */
+/* Returns whether one of the devices can be opened, or has had its time: the rights of a device come a moment after it does. */
 static bool is_settled(const struct found *list, int count, int64_t *seen_ms)
 {
     int64_t now_ms = clock_ms();
@@ -120,7 +120,7 @@ static int look(const struct device *device, const struct wanted *wanted, struct
     }
 }
 
-/* The wait is printed too. */
+/* Prints why there is no device, and with --wait how long it was waited for. */
 static int say_none(const struct device *device, const struct wanted *wanted)
 {
     int status = say_missing(device->usb, wanted);

@@ -85,7 +85,8 @@ static int32_t read_file(const struct words *words)
     return refusal == 0 && demo.file.payload == 0 ? DFU_EMPTY_PAYLOAD : refusal;
 }
 
-/* One run, as of a command line of its own. Returns whether it ends with that status, and the board would start this image then. */
+/* Makes one run, as from a command line of its own. The demo fails unless the run ends with the wanted status, and the board would then
+   start the image `stands`. */
 static void step(enum job job, struct image *image, int wanted, const struct image *stands)
 {
     bool has_bar = !demo.words.quiet && terminal_is(stderr);
@@ -106,7 +107,7 @@ static void step(enum job job, struct image *image, int wanted, const struct ima
         demo.status = STATUS_BROKEN;
 }
 
-/* Table of what was planned, and what came of it before it went wrong, if it did. */
+/* Makes the steps in their order; once one went wrong, the rest do nothing. */
 static void show(void)
 {
     unsigned middle = (unsigned)(demo.file.payload / demo_block()) / 2;

@@ -121,7 +121,7 @@ void demo_functional(uint8_t bytes[9])
     dfu_device_functional(&board.config, bytes);
 }
 
-/* Fault that is planned for this request, if it is the block that it was planned for. */
+/* Takes the planned fault if this request is the block that it was planned for. */
 static enum demo_fate take_fate(const uint8_t setup[8])
 {
     enum demo_fate fate = board.fate;

@@ -14,20 +14,21 @@ enum demo_fate {
     DEMO_PLUG    /* the plug is pulled before the block comes, and stays out */
 };
 
-/* Makes it, with a first image, for images of so many bytes; its application runs. False if there is no memory for it. */
+/* Makes the board with a first image, for images of up to so many bytes; its application runs. Returns false if there is no memory for
+   it. */
 bool demo_make(uint16_t vendor, uint16_t product, size_t most);
 
-/* Fault that is planned for the block of that number, once. */
+/* Plans a fault at the block of that number, once. */
 void demo_plan(enum demo_fate fate, unsigned block);
 
 /* The plug is put in again: the board gets power. */
 void demo_plug(void);
 
-/* Returns whether it has power, and whether its application runs, so that it is in run-time mode. */
+/* Return whether the board has power, and whether its application runs, so that it is in run-time mode. */
 bool demo_has_power(void);
 bool demo_is_app(void);
 
-/* Number of its enumerations: who opened it before doesn't reach it any more. */
+/* Returns the number of enumerations so far. Whoever opened the board before the last one reaches it no more. */
 unsigned demo_generation(void);
 
 /* Size of a block in bytes. */
@@ -41,7 +42,7 @@ void demo_functional(uint8_t bytes[9]);
 /* One request of the class: as many bytes as were sent or answered, or an error of libusb. */
 int demo_request(const uint8_t setup[8], uint8_t *data);
 
-/* A reset of the bus. Returns whether its descriptors are the same after it. */
+/* Resets the bus. Returns whether the board has the same descriptors after it. */
 bool demo_reset(void);
 
 /* The image that it would start. */

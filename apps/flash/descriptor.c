@@ -1,6 +1,6 @@
 /* SPDX-License-Identifier: MIT OR Apache-2.0 */
-/* Reads of a device beside its transfers: the functional descriptor (USB DFU 1.1, section 4.1.3) and strings.
-   These are requests of USB itself, and are made before a session and when a device has come back. */
+/* Reads the functional descriptor (USB DFU 1.1, section 4.1.3) and the strings of a device. These are requests of USB itself, and are made
+   before a session and when a device has come back. */
 #include "find.h"
 #include "standard.h"
 #include "../common/text.h"

@@ -60,7 +60,7 @@ void device_drop(struct device *device)
     device->is.device = NULL;
 }
 
-/* Counts those of the wanted devices that can be opened; one of them is kept. */
+/* Counts the wanted devices that can be opened, and keeps one of them. */
 static int keep_one(struct device *device, const struct wanted *wanted)
 {
     struct found list[FOUND_ROOM];
@@ -77,8 +77,8 @@ static int keep_one(struct device *device, const struct wanted *wanted)
     return open;
 }
 
-/* Counts the devices on the bus that it may be, at its path, or if nothing is there, elsewhere: one that can't be read for a moment has not
-   left, and another board may have its serial number. */
+/* Counts the devices on the bus that may be this one: those at its path, or if nothing is there, elsewhere. A device that can't be read for
+   a moment has not left, and another board may have its serial number. */
 static int look_for(struct device *device)
 {
     const struct wanted here = {.path = device->path, .place = device->place};
@@ -141,7 +141,7 @@ bool device_reopen(struct device *device)
     return false;
 }
 
-/* Returns whether one with the serial number that was asked for is there. */
+/* Returns whether a device with the serial number that was asked for is there. */
 static bool is_elsewhere(const struct device *device)
 {
     const struct wanted named = {.path = device->bus, .serial = device->serial, .dfu_serial = device->dfu_serial, .place = ANYWHERE};

@@ -9,7 +9,7 @@
 #include <signal.h>
 #include <stdbool.h>
 
-/* Settings --wait and --quiet of a wait for a device. */
+/* Patience with a device that isn't there, by --wait and --quiet. */
 struct patience {
     uint32_t away_ms; /* how long one that left is waited for at least; 0: 10 seconds */
     bool is_asked;    /* a device that isn't there yet is waited for, */
@@ -29,7 +29,7 @@ struct device {
     struct place place;                   /* the interface and setting that were asked for */
     bool is_many;                         /* it came back with more than one setting */
     const volatile sig_atomic_t *is_stop; /* a wait for the device ends if this is set */
-    struct patience patience;             /* what was asked for of waits */
+    struct patience patience;             /* by --wait and --quiet */
 };
 
 /* Which of the devices that are wanted is opened, or why none is, in a status; the reason is said on standard error. With

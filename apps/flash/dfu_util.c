@@ -21,7 +21,7 @@ static const struct {
     {"detach-delay", 'E', true},
 };
 
-/* Options that are passed over, with what is so here. */
+/* Options that are passed over, each with the reason why it isn't needed here. */
 static struct {
     int option;
     const char *note;

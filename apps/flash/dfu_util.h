@@ -14,8 +14,8 @@
    back as it is. The caller must not free the result. */
 char *dfu_util_short(char *word);
 
-/* Returns whether the option, with its value, means here what it means in dfu-util, or is one that isn't needed here. If not, what does
-   that here is said. An option that dfu-util doesn't have is none of its. */
+/* Returns whether the option, with its value, means here what it means in dfu-util, or isn't needed here. If it means something else, this
+   prints what to write in its place. An option that dfu-util doesn't have counts as different. */
 bool dfu_util_is_same(int option, const char *value);
 
 /* Says which options were given that aren't needed here. */
@@ -24,7 +24,7 @@ void dfu_util_notes(void);
 /* The values of -d, -S and -s, read as dfu-util reads them. False if they aren't understood, or aren't taken, which is then said. */
 bool dfu_util_device(const char *text, struct words *words);
 
-/* Likewise, but it prints nothing where it is none of them. */
+/* Reads VENDOR:PRODUCT as -d does, but prints nothing if the text is neither. */
 bool dfu_util_ids(const char *text, struct words *words);
 
 bool dfu_util_serial(char *text, struct words *words);

@@ -88,7 +88,7 @@ bool dfu_util_serial(char *text, struct words *words)
            || words_refuse("-S takes a serial number, as --list shows it, or one for each mode with a comma between them", "");
 }
 
-/* Modifiers of dfu-util at an address, and what is so here. */
+/* Modifiers that dfu-util takes after an address, each with the reason why it isn't taken here. */
 static const struct {
     const char *word, *answer;
 } modifiers[] = {
@@ -104,7 +104,7 @@ static bool is_modifier(const char *text, const char *word)
     return strncmp(text, word, length) == 0 && (text[length] == '\0' || text[length] == ':');
 }
 
-/* Returns whether none of those is among the words behind colons. */
+/* Returns whether none of these modifiers is among the words behind colons. */
 static bool is_harmless(const char *text)
 {
     for (const char *at = strchr(text, ':'); at != NULL; at = strchr(at + 1, ':'))

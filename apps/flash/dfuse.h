@@ -51,7 +51,7 @@ uint64_t dfuse_below(const struct dfuse *dfuse, uint64_t address);
 /* Prints the elements of a DfuSe file, a line each: their addresses and how many bytes they have. */
 void dfuse_print_elements(const struct dfuse *dfuse);
 
-/* Likewise as a member of a record in JSON, with their places in the file. */
+/* Prints the elements as a member of a record in JSON, with their places in the file. */
 void dfuse_elements_json(const struct session *session);
 
 /* Carries out what the host asks for, up to its report or to another end. */
@@ -60,44 +60,47 @@ void dfuse_run(struct session *session);
 /* Reads the memory from the address on, up to an end. */
 void dfuse_read(struct session *session);
 
-/* Sends a request with a body, once the device is back if it was away. Returns whether it went out is known after it. */
+/* Sends a request with a body, once the device is back if it was away. Afterwards `is_reached` says whether the request went out. */
 struct answer dfuse_send(struct session *session, const struct dfuse_action *action, const uint8_t *body, bool *is_reached);
 
-/* Decides how the session goes on after an action, by dfuse_watch.h. */
+/* Decides by dfuse_watch.h how the session goes on after an action. */
 uint32_t dfuse_course(struct session *session, const struct dfuse_action *action, const uint8_t *body, const struct answer *answer,
                       bool is_reached);
 
-/* Ends the session if it doesn't go on; false. */
+/* Returns whether the session goes on by this course; if it doesn't, notes its end. */
 bool dfuse_end(struct session *session, uint32_t course);
 
 /* Waits as the device asks for: if it says 0 again and again, a little longer. */
 struct answer dfuse_wait(struct session *session, uint32_t ms);
 
-/* Returns whether the device that is open is the one that the session was begun with. */
+/* Returns whether the device that is open is the one with which the session began. */
 bool dfuse_is_same(const struct session *session);
 
-/* Prints its report, if there is one. False if the report, or how the device left, has a number that is none. */
+/* Finds the verdict on a session that has a report. Returns false if the number of the report, or of how the device left, is none of
+   dfuse_host.h. */
 bool dfuse_verdict(const struct session *session, struct verdict *verdict);
 
 /* Prints the ranges of a setting's memory map, a line each, or why there is none. */
 void dfuse_print_map(const struct found *found);
 
-/* Likewise as members of a record in JSON. */
+/* Prints the memory map as members of a record in JSON. */
 void dfuse_print_json(const struct found *found);
 
-/* Returns whether each address of a part of the memory can be read: 0, DFUSE_OUTSIDE, DFUSE_NOT_READABLE, or why the string is no map. */
+/* Returns 0 if every address of a part of the memory can be read; else DFUSE_OUTSIDE, DFUSE_NOT_READABLE, or the fault of a string that is
+   no map. */
 int32_t dfuse_may_read(const uint8_t *map, size_t map_length, uint64_t start, uint64_t end);
 
-/* The first range of a map that takes images, or that can be read. False if there is none. */
+/* Finds the first range of a map that takes images, or for an upload that can be read. Returns false if there is none. */
 bool dfuse_first(const uint8_t *map, size_t map_length, bool is_upload, struct dfuse_range *range);
 
-/* Returns whether an address of a part of the memory is on no range: then which is the first, and where the memory below it ends, or 0. */
+/* Returns whether some address of a part of the memory is in no range. If so, `missing` is the first such address, and `past` the end of
+   the memory below it, or 0. */
 bool dfuse_missing(const uint8_t *map, size_t map_length, uint64_t start, uint64_t end, uint64_t *missing, uint64_t *past);
 
-/* Finds the end of the range that has this address. False if there is none. */
+/* Finds the end of the range with this address. Returns false if no range has it. */
 bool dfuse_end_of(const uint8_t *map, size_t map_length, uint64_t address, uint64_t *end);
 
-/* Counts the pages that have an address of a part of the memory. */
+/* Counts the pages that a part of the memory touches. */
 uint64_t dfuse_pages(const uint8_t *map, size_t map_length, uint64_t start, uint64_t end);
 
 #endif

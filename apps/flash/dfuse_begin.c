@@ -1,5 +1,5 @@
 /* SPDX-License-Identifier: MIT OR Apache-2.0 */
-/* Begins a session with a device of DfuSe: what is refused before anything is sent, and the limits. */
+/* Begins a session with a device of DfuSe: sets its limits, or refuses it before anything is sent. */
 #include "session.h"
 #include "standard.h"
 
@@ -10,8 +10,8 @@
 #define PAGE_POLLS 1000  /* GETSTATUS while a page is erased, if the device reports no times */
 #define BLOCK_ACTIONS 60 /* of a block, with one that is asked for its status again and again */
 
-/* Refusals of the host for DFU 1.1 of the file and the device: its suffix, an empty image, and whether it is for another device. Of a DfuSe
-   file the suffix was read, and its elements are taken. */
+/* Refuses by the host for DFU 1.1 a file with a wrong suffix, an empty image, or one for another device. Of a DfuSe file the suffix was
+   read already, and here its elements are taken. */
 static int32_t file_refusal(struct session *session)
 {
     static const uint8_t any[FUNCTIONAL_BYTES] = {FUNCTIONAL_BYTES,   FUNCTIONAL_TYPE, CAN_DOWNLOAD, 0, 0, 64, 0,

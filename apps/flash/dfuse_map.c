@@ -109,7 +109,7 @@ bool dfuse_first(const uint8_t *map, size_t map_length, bool is_upload, struct d
     return false;
 }
 
-/* End of the memory that ends below this address, or 0. */
+/* Returns the last end of a range that is not above this address, or 0 if there is none. */
 static uint64_t end_below(const uint8_t *map, size_t map_length, uint64_t address)
 {
     struct dfuse_range range;

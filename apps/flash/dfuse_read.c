@@ -17,7 +17,7 @@ enum { REQUEST_CLRSTATUS = 4, REQUEST_ABORT = 6 };
 enum { STATE_IDLE = 2, STATE_SYNC = 3, STATE_BUSY = 4, STATE_DNLOAD_IDLE = 5, STATE_ERROR = 10 };
 enum { CODE_OK = 0, CODE_VENDOR = 11, CODE_STALLED = 15 };
 
-/* Tells whether it goes on; or begins anew; or is over, with a report or another end. */
+/* Ways for the upload to go on after a request: with the next one, from its beginning, or not at all, with a report or another end. */
 enum next { NEXT_ON, NEXT_ANEW, NEXT_OVER };
 
 static enum next over(struct session *session, enum end end)
@@ -32,7 +32,7 @@ static enum next report(struct session *session, uint32_t value, uint32_t more)
     return over(session, END_REPORT);
 }
 
-/* Tells whether one more action may be made. */
+/* Spends one action of the limit. Ends the upload if none is left, or a stop came. */
 static enum next spend(struct session *session)
 {
     int stop = *session->wire.device->is_stop;
@@ -147,7 +147,7 @@ static enum next clear(struct session *session)
     }
 }
 
-/* Result of the command that was brought: 0 ms more, or how long it takes. */
+/* Asks for the status until the device has carried out the command that it was sent, and waits as long as it asks for. */
 static enum next poll(struct session *session)
 {
     uint32_t code, state, poll_ms;
@@ -182,7 +182,8 @@ static enum next point(struct session *session, uint32_t address)
     return next == NEXT_ON && answer.seen != DFU_SEEN_ACK ? NEXT_ANEW : next;
 }
 
-/* Reason of a stalled block: nothing waits to be started then. */
+/* Asks for the status to learn why a block was stalled: the memory is protected, the device refuses, or the upload begins anew. No command
+   waits to be started then, so GETSTATUS starts none. */
 static enum next explain(struct session *session)
 {
     uint32_t code, state, poll_ms;

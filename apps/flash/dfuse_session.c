@@ -24,7 +24,7 @@ bool dfuse_is_same(const struct session *session)
            && memcmp(is->descriptor, session->known, sizeof is->descriptor) == 0;
 }
 
-/* A device may give the reason of dfuERROR in a string of its own. */
+/* Notes the string in which a device in dfuERROR may give its reason. */
 static void note_string(struct session *session, const uint8_t setup[8], const struct answer *answer)
 {
     if (is_request(setup, KIND_IN, REQUEST_GETSTATUS) && answer->seen == DFU_SEEN_BYTES && answer->count == GETSTATUS_BYTES)
@@ -92,7 +92,7 @@ static void show_end(struct session *session)
         progress_at(&session->progress, PROGRESS_SENDING, dfuse->shown_to < front ? total : total - front);
 }
 
-/* Progress, by the address at which the host works. */
+/* Shows the progress, by the address at which the host works. */
 static void show(struct session *session)
 {
     struct dfuse *dfuse = &session->dfuse;
@@ -170,7 +170,7 @@ static void stop(struct session *session)
     end(session, *session->wire.device->is_stop == STOP_TIME ? END_TIMED_OUT : END_ABORTED);
 }
 
-/* Reason of the device's refusal, in its own words. */
+/* Prints the reason of the device's refusal, in the device's own words. */
 static void say_string(struct session *session)
 {
     char text[TEXT_ROOM];

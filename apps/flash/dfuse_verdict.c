@@ -25,7 +25,7 @@ static const struct {
 };
 /* clang-format on */
 
-/* Words for how the device left, after what Verified means. */
+/* Words for how the device left, which follow those for Verified. */
 static const char *const leavings[] = {
     [DFUSE_STAYED] = "; the device stays in DFU mode",
     [DFUSE_LEFT] = "; the device starts its application",

@@ -4,14 +4,14 @@
 
 #include <string.h>
 
-/* Returns whether the device has the functional descriptor that the session was begun with. */
+/* Returns whether the device still has the functional descriptor with which the session began. */
 static bool is_as_begun(const struct session *session)
 {
     const struct found *is = &session->wire.device->is;
     return is->descriptor_size == session->known_size && memcmp(is->descriptor, session->known, sizeof is->descriptor) == 0;
 }
 
-/* Returns whether the device is what it was when it was found first in its mode. */
+/* Returns whether the device is the one that was found first in this mode. */
 static bool is_first_again(const struct session *session)
 {
     const struct found *is = &session->wire.device->is;

@@ -9,11 +9,11 @@
    of another image: it isn't noted. */
 void facts_note(struct session *session);
 
-/* Facts that are seen now: whether a request went out to the device, and whether it is gone, is known to the caller. */
+/* Returns the facts as they are now. The caller knows whether a request went out to the device, and whether it is gone. */
 struct dfu_facts facts_of(const struct session *session, bool is_reached, bool is_gone);
 
-/* Returns whether it is in DFU mode with no functional descriptor, so that nothing says how large its blocks are. One with a memory map is
-   none of these: it may be a DfuSe device. */
+/* Returns whether the device is in DFU mode without a functional descriptor, so that nothing says how large its blocks are. A device with a
+   memory map is none of these: it may speak DfuSe. */
 bool facts_lacks_descriptor(const struct found *is);
 
 #endif

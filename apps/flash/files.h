@@ -17,7 +17,7 @@ bool file_read(const char *name, uint8_t **bytes, size_t *length);
 /* Opens a file to be read, as bytes; NULL for the reason in errno. */
 FILE *file_open(const char *name);
 
-/* Returns whether OUT may be made, looked for before anything is sent. False if not, which is then said on standard error. */
+/* Returns whether OUT may be made, before anything is sent. If it may not, prints why on standard error. */
 bool file_may_make(const char *name, bool is_forced);
 
 /* Makes OUT with these bytes, whole or not at all. False if that failed, which is then said on standard error. */

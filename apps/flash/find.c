@@ -67,7 +67,7 @@ bool is_dfuse(const struct found *found)
     return found->descriptor_size == FUNCTIONAL_BYTES && two_bytes(found->descriptor + AT_VERSION) == VERSION_DFUSE;
 }
 
-/* Returns whether it is the name of the memory map that a setting has: what is between @ and the first /, without spaces at its end. */
+/* Returns whether the name is that of the memory map that a setting has: the text between @ and the first /, without spaces at its end. */
 static bool is_map_name(const char *name, const char *setting)
 {
     size_t length = strlen(name), end;

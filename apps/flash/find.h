@@ -49,31 +49,31 @@ struct wanted {
     uint16_t dfu_vendor, dfu_product;
 };
 
-/* Returns whether its functional descriptor is that of DfuSe (bcdDFUVersion 011Ah). */
+/* Returns whether the functional descriptor is that of DfuSe (bcdDFUVersion 011Ah). */
 bool is_dfuse(const struct found *found);
 
-/* Returns whether a setting is what is asked for: in run-time mode each does. A setting whose name is a memory map may be asked for by the
-   map's name, as `Internal Flash`. */
+/* Returns whether a setting is the one that was asked for; in run-time mode every setting is. A setting whose name is a memory map may be
+   asked for by the map's name, as `Internal Flash`. */
 bool is_placed(const struct place *place, const struct found *found);
 
-/* Returns whether it may be what is wanted, by what is known before it is opened: its identifiers and its path. */
+/* Returns whether a device may be the wanted one, by what is known before it is opened: its identifiers and its path. */
 bool may_be(const struct wanted *wanted, const struct found *found);
 
 /* Returns whether a configuration has an interface with DFU. */
 bool has_dfu(const struct libusb_config_descriptor *configuration);
 
-/* Returns whether what was found is wanted. */
+/* Returns whether a setting is the wanted one. */
 bool is_wanted(const struct wanted *wanted, const struct found *found);
 
-/* Counts the bytes of a setting's name that are a version, as 1.1.0 is one by itself and in `1.1.0, on trial, 2 starts left`; 0 if it
-   begins with none. */
+/* Counts the bytes of the version with which a setting's name begins, as of 1.1.0 in `1.1.0, on trial, 2 starts left`; 0 if it begins with
+   none. */
 size_t version_of(const char *name);
 
 /* Returns whether two looks at a device in one mode saw the same: its identifiers, interface and setting, and, if both looks could read
    them, its serial number and the setting's name, but for one that is a version. */
 bool is_again(const struct found *first, const struct found *now);
 
-/* Writes those that are on the bus and are wanted to `list`, up to `room`. Returns their number, or an error of libusb. */
+/* Writes the wanted settings that are on the bus to `list`, up to `room`. Returns their number, or an error of libusb. */
 int find_all(libusb_context *usb, const struct wanted *wanted, struct found *list, int room);
 
 /* Gives the references of `count` entries back. */

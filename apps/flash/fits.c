@@ -4,7 +4,7 @@
 
 #include <stddef.h>
 
-/* Returns whether the options go with --all; each device is at work by itself, so that none is named. */
+/* Returns whether the options go with --all. Each device is flashed by itself, so no option may name one. */
 static bool is_fit_for_all(const struct words *words)
 {
     if (words->folder != NULL && !words->all)
@@ -16,7 +16,7 @@ static bool is_fit_for_all(const struct words *words)
     return (!words->verbose && words->log == NULL) || words_refuse("--all makes logs by --log FOLDER, and not by --verbose", "");
 }
 
-/* Returns whether what is for DfuSe goes with the rest. */
+/* Returns whether the options for DfuSe go with the rest. */
 static bool is_fit_for_dfuse(const struct words *words)
 {
     bool is_upload = words->job == JOB_UPLOAD, is_download = words->job == JOB_DOWNLOAD;
@@ -34,7 +34,7 @@ static bool is_fit_for_dfuse(const struct words *words)
     return !words->stays || words->has_address || is_download || words_refuse("--no-leave goes with --address, or with a DfuSe file", "");
 }
 
-/* Returns whether what is for a station goes with the rest. */
+/* Returns whether the options for a station go with the rest. */
 static bool is_fit_for_station(const struct words *words)
 {
     bool is_session = words->job == JOB_DOWNLOAD || words->job == JOB_UPLOAD || words->job == JOB_DETACH;
@@ -52,7 +52,7 @@ static bool is_fit_for_station(const struct words *words)
            || words_refuse("--retry goes with a FILE that is flashed", "");
 }
 
-/* Returns whether the options go with what is to be done. */
+/* Returns whether the options go with the job: a download, an upload, a list or a detach. */
 bool words_fit(const struct words *words)
 {
     bool has_session = words->has_limits || words->dry_run || words->transfer != 0;

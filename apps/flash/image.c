@@ -65,7 +65,7 @@ static void add_suffix(struct image *image, uint16_t vendor, uint16_t product)
     put_crc(image->bytes + image->length - 4, crc_of(image->bytes, image->length - 4));
 }
 
-/* Returns whether the words say for which device a raw image is, since nothing else does. */
+/* Returns whether the words name the device for a raw image, because nothing else does. */
 static bool has_target(const struct words *words, bool is_empty)
 {
     if (words->has_address || (words->has_ids && words->vendor != ANY_ID && words->product != ANY_ID))
@@ -91,7 +91,7 @@ static void warn(const struct image *image)
                 format, format);
 }
 
-/* Fields of the suffix. */
+/* Takes the fields of the suffix into the image. */
 static int32_t take_suffix(struct image *image)
 {
     struct dfu_file file;
@@ -127,7 +127,7 @@ int32_t image_make(struct image *image, const uint8_t *bytes, size_t length, uin
     return take_suffix(image);
 }
 
-/* Returns whether --raw goes with what the file is: it is for bytes that nobody has said anything of. */
+/* Returns whether --raw goes with the file. It must not have a suffix, or be a DfuSe file, because these say themselves what is sent. */
 static bool may_be_raw(bool has_suffix, bool is_dfuse)
 {
     if (is_dfuse)
@@ -135,7 +135,8 @@ static bool may_be_raw(bool has_suffix, bool is_dfuse)
     return !has_suffix || words_refuse("the file has a suffix, so it says itself where its image ends: leave --raw out", "");
 }
 
-/* Returns whether the words go with what the file is. An image with addresses is read back, in blocks that the device counts in. */
+/* Returns whether the words go with the kind of file. For example --no-verify doesn't go with a DfuSe file, because that is always read
+   back. */
 static bool is_fit(const struct words *words, bool has_suffix, bool is_dfuse)
 {
     if (words->raw && !may_be_raw(has_suffix, is_dfuse))
@@ -192,8 +193,8 @@ static void say_sums(const struct image *image)
     advice_first(seen);
 }
 
-/* A file that begins as a DfuSe file is none without addresses, whatever is wrong with it; but a sound file of DFU 1.1 may have any image.
-   */
+/* Takes a file that begins as a DfuSe file for one even if it is damaged, unless it is a sound file of DFU 1.1, whose image may begin with
+   any bytes. */
 static int32_t take_bytes(struct image *image, const struct words *words)
 {
     struct dfu_look look;

@@ -46,7 +46,7 @@ void json_truth(const char *name, bool is)
     printf(",\"%s\":%s", name, is ? "true" : "false");
 }
 
-/* Parts of a name that begins with a version: the version, and what follows it, as `on trial, 2 starts left`. */
+/* Prints a name that begins with a version as two fields: the version, and the text after it, as `on trial, 2 starts left`. */
 static void json_version(const struct found *found)
 {
     size_t length = version_of(found->name);

@@ -13,7 +13,7 @@ void json_text(const char *name, const char *text);
 void json_number(const char *name, uint64_t number);
 void json_truth(const char *name, bool is);
 
-/* Likewise as so many hexadecimal digits, in quotes. */
+/* A number as so many hexadecimal digits, in quotes. */
 void json_hex(const char *name, uint32_t number, int digits);
 
 /* The fields of a setting: interface, alternate setting and name. */

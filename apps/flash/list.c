@@ -79,7 +79,7 @@ int list_devices(libusb_context *usb, const struct wanted *wanted, bool is_json)
     return record_out() ? STATUS_DONE : STATUS_FILE;
 }
 
-/* Likewise as of a session that was made, as far as it is known before. */
+/* Prints the record of a dry run: that of a session, as far as it is known before one. */
 static void print_plan_record(const struct session *session)
 {
     record_begin(session, STATUS_DONE, "dry-run",

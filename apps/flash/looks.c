@@ -20,7 +20,7 @@ static const struct {
     [DFU_LOOKS_ELF] = {"an ELF file", "elf"},
 };
 
-/* Format that a file should have by the end of its name. */
+/* Formats that a file should have by the ending of its name. */
 static const char *const nameds[] = {
     [DFU_NAMED_IHEX] = "Intel HEX",
     [DFU_NAMED_SREC] = "S-records",
@@ -53,7 +53,7 @@ static void say_file(const char *name)
         fprintf(stderr, "%s ", can ? word : "FILE");
 }
 
-/* Place where a line begins, from 1 on; `length` if it isn't in the file. A byte order mark is before the first. */
+/* Returns the place where a line begins, counted from 1; `length` if the file has fewer lines. A byte order mark stands before line 1. */
 static size_t line_at(const uint8_t *bytes, size_t length, uint64_t line)
 {
     static const uint8_t mark[] = {0xef, 0xbb, 0xbf};
@@ -63,7 +63,7 @@ static size_t line_at(const uint8_t *bytes, size_t length, uint64_t line)
     return at;
 }
 
-/* Reason why a byte is none of a record: what stands before it in its line may be blanks alone. */
+/* Prints why a byte doesn't belong to a record. Only blanks may stand before a record in its line. */
 static void say_why(const struct dfu_look *look, const uint8_t *line, size_t before)
 {
     uint8_t byte = line[before];
@@ -76,7 +76,7 @@ static void say_why(const struct dfu_look *look, const uint8_t *line, size_t bef
         fputs(isxdigit(byte) ? ", behind the end of a record" : ", which is no hexadecimal digit", stderr);
 }
 
-/* Character that stands where no record of Intel HEX or S-records has it. */
+/* Prints the first character that no record of Intel HEX or S-records has at its place. */
 static void say_odd(const struct dfu_look *look, const uint8_t *bytes, size_t length)
 {
     size_t line = line_at(bytes, length, look->line);

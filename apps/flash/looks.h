@@ -7,10 +7,11 @@
 #include <stddef.h>
 #include <stdint.h>
 
-/* Format that the bytes look to have, by the proved dfu_image_look. `file` is their name, or `-` for standard input, which has none. */
+/* Returns the format that the bytes look to have, by the proved dfu_image_look. `file` is their name, or `-` for standard input, which has
+   none. */
 struct dfu_look looks_of(const uint8_t *bytes, size_t length, const char *file);
 
-/* Name by which the format of records of text is named by --format of `dfu add`, if the bytes look to be of one; else NULL. */
+/* Returns the name by which --format of `dfu add` takes the bytes, if they look like records of text; else NULL. */
 const char *looks_text_format(const uint8_t *bytes, size_t length);
 
 /* Says of a file that isn't raw what it is, and what to do with it: a line on standard error, which for a file that `dfu add` takes is

@@ -1,6 +1,6 @@
 /* SPDX-License-Identifier: MIT OR Apache-2.0 */
-/* Explains why no device is the wanted one: one by one, what was asked for is compared with the devices that are left, and the first thing
-   that none of them has is named. */
+/* Explains why no device is the wanted one: it applies one criterion after the other to the devices that are left, and names the first that
+   none of them meets. */
 #include "advice.h"
 #include "say.h"
 #include "standard.h"
@@ -8,10 +8,10 @@
 
 #include <stdio.h>
 
-/* Criteria, one after the other. */
+/* Criteria, in the order in which they are applied. */
 enum criterion { IDENTIFIERS, PATH, SERIAL, INTERFACE, SETTING, CRITERIA };
 
-/* Criteria up to this criterion, and nothing of those after it. */
+/* Returns the criteria up to this one, and none after it. */
 static struct wanted up_to(const struct wanted *wanted, enum criterion last)
 {
     struct wanted part = *wanted;
@@ -26,7 +26,7 @@ static struct wanted up_to(const struct wanted *wanted, enum criterion last)
     return part;
 }
 
-/* Puts those that fit to the front of the list. Returns their number. */
+/* Moves the devices that fit to the front of the list. Returns their number. */
 static int take_fitting(const struct wanted *wanted, struct found *list, int count)
 {
     int fitting = 0;

@@ -1,5 +1,5 @@
 /* SPDX-License-Identifier: MIT OR Apache-2.0 */
-/* Advice once a run has ended otherwise than it was meant to: a line `next:` on standard error, or a member of a record in JSON. The
+/* Advice after a run that ended otherwise than it was meant to: a line `next:` on standard error, or a member of a record in JSON. The
    manual has the same steps, in NEXT STEPS and in REFUSALS; tests/apps/flash compares them. */
 #ifndef DFU_FLASH_NEXT_H
 #define DFU_FLASH_NEXT_H

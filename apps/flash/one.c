@@ -149,7 +149,7 @@ static void print_serials(void)
             worker_print_serial(mode, session.first[mode].serial);
 }
 
-/* The files that a session leaves are gone but for its log. */
+/* Clears the session, but for its log and the number of tries. */
 static void forget(void)
 {
     struct log log = session.wire.trace.log;

@@ -62,7 +62,7 @@ static size_t least(size_t one, size_t other)
     return one < other ? one : other;
 }
 
-/* Counts the letters that have to be put in, taken out, changed, or swapped with the next one to make one word of the other. */
+/* Counts the letters that must be inserted, removed, changed, or swapped with their neighbour to turn one word into the other. */
 static size_t distance(const char *one, const char *other)
 {
     size_t rows[3][LONGEST + 1], width = strlen(other);

@@ -1,6 +1,6 @@
 /* SPDX-License-Identifier: MIT OR Apache-2.0 */
-/* Calls of a system beside clocks, stops, terminals and files, which have headers of their own. The folders posix (with linux or unix
-   beside it) and windows have all of these for their systems: no other file asks which system it is on. */
+/* Calls that depend on the system, apart from clocks, stops, terminals and files, which have headers of their own. The folders posix (with
+   linux or unix beside it) and windows have all of these for their systems: no other file asks which system it is on. */
 #ifndef DFU_FLASH_PLATFORM_H
 #define DFU_FLASH_PLATFORM_H
 
@@ -11,10 +11,10 @@
 /* Before all else: the words of the command line in UTF-8. False if there is no memory for them. */
 bool platform_words(int *count, char ***texts);
 
-/* Reason why a device may be listed, and be gone once it is opened. */
+/* Returns the reason why a device may be listed, and be gone once it is opened. */
 const char *platform_gone(void);
 
-/* On standard error: what helps if a device can't be opened, by `access`. */
+/* Prints on standard error how to get access to a device that can't be opened, by its `access`. */
 void platform_help(const struct found *found);
 
 #endif

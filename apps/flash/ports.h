@@ -1,6 +1,5 @@
 /* SPDX-License-Identifier: MIT OR Apache-2.0 */
-/* Devices on the bus, looked at without opening anything: a device that is at work is not disturbed, and one that hangs holds up
-   nobody. */
+/* Lists the devices on the bus and opens none, so that a device at work isn't disturbed, and one that hangs holds up nobody. */
 #ifndef DFU_FLASH_PORTS_H
 #define DFU_FLASH_PORTS_H
 

@@ -1,6 +1,6 @@
 /* SPDX-License-Identifier: MIT OR Apache-2.0 */
-/* Shows how far a session is: a bar, or a line each ten percent. An upload has no length before it ends, so it has a line for each 65,536
-   bytes. */
+/* Shows the progress of a session: a bar, or a line for each ten percent. The length of an upload isn't known before it ends, so it has a
+   line for each 65,536 bytes. */
 #include "progress.h"
 #include "bar.h"
 #include "clock.h"
@@ -29,7 +29,7 @@ void progress_begin(struct progress *progress, enum progress_style style, uint64
     *progress = (struct progress){.style = style, .total = total};
 }
 
-/* The text that was there before may have been longer. */
+/* Spaces cover the text before, which may have been longer. */
 static void show_bar(struct progress *progress, const char *line)
 {
     int length = (int)strlen(line);

@@ -1,5 +1,5 @@
 /* SPDX-License-Identifier: MIT OR Apache-2.0 */
-/* Shows how far a session is. */
+/* Shows the progress of a session. */
 #ifndef DFU_FLASH_PROGRESS_H
 #define DFU_FLASH_PROGRESS_H
 
@@ -8,7 +8,7 @@
 
 enum progress_part { PROGRESS_NONE, PROGRESS_SENDING, PROGRESS_COMPARING, PROGRESS_FETCHING, PROGRESS_ERASING };
 
-/* Ways to show it: not at all; by lines on standard error; by a bar there, which is a terminal; or, for a program that shows many
+/* Ways to show the progress: not at all; by lines on standard error; by a bar there, if it is a terminal; or, for a program that shows many
    sessions, by lines on standard output that begin with a tab and have a bar in them. */
 enum progress_style { PROGRESS_SILENT, PROGRESS_LINES, PROGRESS_BAR, PROGRESS_ROWS };
 

@@ -58,7 +58,7 @@ int record_status(int status)
     return is_cut && (status == STATUS_DONE || status == STATUS_UNCONFIRMED) ? STATUS_FILE : status;
 }
 
-/* Returns whether it is known which device it is, and at which path. */
+/* Returns whether the device and its path are known. */
 static bool is_known(void)
 {
     return each.is != NULL && (each.is->vendor != 0 || each.is->product != 0);
@@ -98,7 +98,7 @@ static void end(const char *path, const char *step)
     puts("}");
 }
 
-/* Text that a line begins with that is no JSON. */
+/* Begins a line that is not JSON. */
 static void begin_line(void)
 {
     fputs(say_mark, stdout);
@@ -121,7 +121,7 @@ void record_begin(const struct session *session, int status, const char *report,
     json_session(session);
 }
 
-/* If standard output fails, the outcome isn't lost with it: standard error has the report. */
+/* Prints the report on standard error if standard output fails, so that the outcome isn't lost. */
 static bool is_printed(const char *name, const char *code, const char *words)
 {
     if (record_out())
@@ -213,7 +213,7 @@ bool record_refused(int32_t refusal, bool is_json)
     return end_short(STATUS_REFUSED, refusal_name(refusal), refusal_words(refusal), next_of_refusal(refusal), is_json);
 }
 
-/* Reason why there is no session, by the status. */
+/* Reasons why there is no session, by the status. */
 static const struct {
     int status;
     const char *name, *words;

@@ -1,5 +1,5 @@
 /* SPDX-License-Identifier: MIT OR Apache-2.0 */
-/* Prints the record at the end, on standard output. */
+/* Prints the outcome of a run on standard output, as a line or as a record in JSON. */
 #ifndef DFU_FLASH_RECORD_H
 #define DFU_FLASH_RECORD_H
 
@@ -27,17 +27,18 @@ void record_begin(const struct session *session, int status, const char *report,
 /* The report's name and what it means, in one line; or, with `is_json`, one record. False if standard output failed. */
 bool record_print(const struct session *session, const struct verdict *verdict, bool is_json);
 
-/* Likewise if there is no more to say than these. */
+/* Prints an outcome that has no more fields than these. */
 bool record_short(int status, const char *report, const char *words, bool is_json);
 
-/* Likewise of a session that the host refused. */
+/* Prints the outcome of a session that the host refused. */
 bool record_refused(int32_t refusal, bool is_json);
 
-/* With `is_json`, the same if there was no session: a file failed, there is no device, or no access to it. The reason is on standard error.
-   The status with which the program ends: that one; STATUS_FILE if standard output failed; or, if it is none of these, that of `broken`. */
+/* Prints with `is_json` the record of a run without a session, because a file failed, there is no device, or no access to it; the reason is
+   on standard error. Returns the exit status: that one; STATUS_FILE if standard output failed; or, if it is none of these, that of
+   `broken`. */
 int record_none(int status, bool is_json);
 
-/* Returns whether all that was printed came to standard output. If it didn't, that is said on standard error. */
+/* Returns whether all output reached standard output; if not, says so on standard error. */
 bool record_out(void);
 
 #endif

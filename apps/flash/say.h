@@ -9,7 +9,7 @@
 #include <stdint.h>
 #include <stdio.h>
 
-/* Text that a line begins with that is of a simulated board; empty for a real one. */
+/* Mark in front of each line about a simulated board; empty for a real one. */
 extern const char *say_mark;
 
 /* A line for a device, as --list prints it. */
@@ -24,10 +24,11 @@ bool say_failed(const char *name, const char *what, const char *why);
 /* The last of these, for a record; NULL if there was none. */
 const char *say_reason(void);
 
-/* Prints why a device isn't opened, or its interface isn't claimed, by `access`; and what helps. The status that this is. */
+/* Prints why a device isn't opened, or its interface isn't claimed, by its `access`, and how to get access. Returns the exit status for
+   that. */
 int say_no_access(const struct found *found);
 
-/* Prints why no device is the one that is wanted, and what is there. The status that this is. */
+/* Prints why no device is the wanted one, and which devices are there. Returns the exit status for that. */
 int say_missing(libusb_context *usb, const struct wanted *wanted);
 
 /* The name of a refusal of the host, and what it means in words. */
@@ -36,7 +37,7 @@ const char *refusal_words(int32_t refusal);
 
 struct session;
 
-/* Prints the verdict on a session. */
+/* Verdict on a session. */
 struct verdict {
     int status;      /* with which the program ends */
     char name[24];   /* the report's name; `gone`, `silent`, `many`, `other`, `broken` or `stalled` if there is none */
@@ -44,20 +45,20 @@ struct verdict {
     uint8_t code;    /* of `refused`: the device's bStatus, else 0 */
 };
 
-/* Meaning of an end: the status, and in words. `device`, if there is one, names the device that may have the old image, the new one or
-   neither, once a block was sent. */
+/* Meaning of an end: its exit status, and its words. `device`, if it isn't NULL, names the device in the words after these: once a block
+   was sent, that it may have the old image, the new one or neither; else, that no block was sent. */
 struct meaning {
     int status;
     const char *words;
     const char *device;
 };
 
-/* Takes the status and the words, but for what a device may have, if no block was sent. */
+/* Takes the status and the words of a meaning, and adds which image the device may have, by whether a block was sent. */
 void verdict_words(struct verdict *verdict, const struct session *session, const struct meaning *meaning);
 
 struct verdict verdict_of(const struct session *session);
 
-/* The end of a mistake of this program. */
+/* Returns the verdict on a run that a mistake of this program ended. */
 struct verdict verdict_broken(void);
 
 #endif

@@ -37,7 +37,7 @@ static bool is_upload(const struct dfu_action *action)
     return action->what == DFU_SEND && is_request(action->setup, KIND_IN, REQUEST_UPLOAD);
 }
 
-/* Progress, by what was sent or came. */
+/* Shows the progress, by the bytes that were sent or came. */
 static void show(struct session *session, const struct dfu_action *action, const struct answer *answer)
 {
     uint64_t number = setup_value(action->setup), length = setup_length(action->setup);
@@ -135,7 +135,7 @@ static bool begin_anew(struct session *session)
     return session->refusal == 0 || end(session, END_REFUSED);
 }
 
-/* Ends a session by its course; a number that dfu_watch.h doesn't have is a mistake. */
+/* Returns the end that a course of dfu_watch.h means; a number that it doesn't have is a mistake. */
 static enum end end_of(uint32_t course)
 {
     switch (course) {
@@ -190,7 +190,7 @@ static int32_t stop(struct session *session)
     return dfu_host_abort(&session->host, session->file, session->payload_length);
 }
 
-/* Returns whether the host gave up since the time is spent, and not for a signal. */
+/* Returns whether the host gave up because the time is spent, and not for a signal. */
 static bool is_timed_out(const struct session *session)
 {
     return session->done.value == DFU_ABORTED && *session->wire.device->is_stop == STOP_TIME;

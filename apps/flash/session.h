@@ -14,7 +14,7 @@
 
 enum goal { GOAL_DOWNLOAD, GOAL_VERIFIED, GOAL_UPLOAD, GOAL_DETACH };
 
-/* End of a session: with the host's report, or without one. */
+/* Ends of a session: with the host's report, or without one. */
 enum end {
     END_REPORT,
     END_GONE,      /* the device left and did not come back */
@@ -86,7 +86,7 @@ struct session {
 #define REFUSED_NO_ROOM (-123)       /* or has bytes of the image */
 #define REFUSED_NO_RESET (-120)      /* only a reset would bring the device to DFU mode, and this system makes none */
 
-/* Purpose of a session, in a word. */
+/* Returns the name of a goal, in a word. */
 const char *goal_name(enum goal goal);
 
 /* Begins the session of the device that was found. 0, or a refusal: the host's, or one of these. Nothing is sent. */

@@ -25,7 +25,7 @@ struct stamp *stamp_hold(void);
 /* It was held for a board that didn't take it. */
 void stamp_release(struct stamp *stamp);
 
-/* Counts the entries that no board has: with those that are held, or without. */
+/* Count the entries that no board has: with those that are held for a board, or without. */
 size_t stamp_left(void);
 size_t stamp_free(void);
 
@@ -38,7 +38,7 @@ bool stamp_take(const char *path);
 /* The board has ended so. */
 void stamp_end(int status, const char *report);
 
-/* Name in the records of the entry that the board has, or NULL; and the one that it is to get. */
+/* Return the names, as in records, of the entry that the board has, or NULL; and of the one that it is to get. */
 const char *stamp_taken(void);
 const char *stamp_next(void);
 

@@ -31,7 +31,7 @@ static int32_t parts_of(struct parts *parts, const struct image *image, const st
     return dfuse_file_image(image->bytes, image->length, (uint8_t)setting, parts->list, DFUSE_ELEMENTS, &parts->count);
 }
 
-/* Bytes that are there, in words. */
+/* Says where the parts of the image are, of which none has room for the entry. */
 static void say_parts(const struct parts *parts, const struct words *words)
 {
     char seen[200];
@@ -44,7 +44,7 @@ static void say_parts(const struct parts *parts, const struct words *words)
     advice_first(seen);
 }
 
-/* Returns whether all bytes there are the same; if not, the first that isn't is said. */
+/* Returns whether all bytes of the place have one value; if not, says which is the first that differs. */
 static bool is_room(const uint8_t *bytes, const struct words *words)
 {
     char seen[120];

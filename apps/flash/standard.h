@@ -50,7 +50,7 @@ const char *request_name(uint8_t request);
 const char *state_name(uint8_t state);
 const char *code_name(uint32_t code);
 
-/* Meaning of a code, in words. */
+/* Returns the meaning of a status code, in words. */
 const char *code_words(uint32_t code);
 
 /* The number of two bytes, low byte first. */

@@ -99,7 +99,7 @@ void station_time(char text[32])
         text[0] = '\0';
 }
 
-/* Returns whether the report is one that is added to: it is new, or its front is that of one. */
+/* Opens the report, and returns whether lines may be added: it is new, or begins as a report does. */
 static bool open_report(const char *name)
 {
     char front[sizeof stamp_header];

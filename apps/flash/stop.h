@@ -6,7 +6,7 @@
 #include <signal.h>
 #include <stdint.h>
 
-/* Which came first. */
+/* The cause that came first. */
 enum { STOP_NONE, STOP_SIGNAL, STOP_TIME };
 
 extern volatile sig_atomic_t stop_cause;

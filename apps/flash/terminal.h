@@ -6,7 +6,7 @@
 #include <stdbool.h>
 #include <stdio.h>
 
-/* Returns whether somebody sees there what is printed, or types what is read. */
+/* Returns whether the stream is a terminal, where a person sees what is printed, or types what is read. */
 bool terminal_is(FILE *stream);
 
 /* The columns and the lines of the terminal that standard error is. False if nobody says. */

@@ -13,7 +13,7 @@
 
 #define SHORT_BYTES 8 /* an answer of up to so many is shown byte by byte */
 
-/* Prints a line that is to be printed; in a log it begins as a comment. */
+/* Begins a line of the trace, which is a comment in a log. Returns the stream for the rest of it. */
 static FILE *begin_line(const struct trace *trace)
 {
     if (trace->log.file == NULL)
@@ -30,7 +30,7 @@ static void print_bytes(FILE *out, const struct answer *answer)
         text_hex(out, answer->bytes, answer->count);
 }
 
-/* Report to the host, and of nothing the error of libusb. */
+/* Prints the report to the host, and for `nothing` the error of libusb. */
 static void print_answer(FILE *out, const struct answer *answer)
 {
     static const char *const seen[] = {

@@ -7,8 +7,8 @@
 #include <stdbool.h>
 #include <stddef.h>
 
-/* Opens it, or makes it, and takes it for this process. Its content comes to `text`, with a NUL, to be freed; a line at its end that is not
-   whole is taken away. With `only_looks` nothing is made, taken or changed. False for the reason that is in `why`. */
+/* Opens the record, or makes it, and locks it for this process. `text` gets its content, with a NUL, and must be freed; an incomplete last
+   line is removed. With `only_looks` nothing is made, locked or changed. Returns false for the reason in `why`. */
 bool used_open(const char *list, bool only_looks, char **text, const char **why);
 
 /* Adds a line, and waits until the disk has it. False unless it is there whole. */

@@ -1,5 +1,5 @@
 /* SPDX-License-Identifier: MIT OR Apache-2.0 */
-/* Values that each option may have. */
+/* Reads the values of options, and refuses those that an option can't have. */
 #include "values.h"
 #include "dfu_util.h"
 #include "stamp.h"

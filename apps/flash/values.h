@@ -21,8 +21,8 @@ bool value_length(const char *text, struct words *words);
 bool value_stamp(const char *text, struct words *words);
 bool value_stamp_at(const char *text, struct words *words);
 
-/* A hexadecimal number after 0x, up to 32 bits, at the front of `text`; and a count of bytes from 1 on, decimal or hexadecimal. The text
-   after it is in `rest`. */
+/* Read a hexadecimal number after 0x, up to 32 bits, and a count of bytes from 1 on, decimal or hexadecimal, at the front of `text`; `rest`
+   is the text after it. */
 bool value_is_hexadecimal(const char *text, uint32_t *number, const char **rest);
 bool value_is_length(const char *text, uint32_t *length, const char **rest);
 
@@ -35,7 +35,7 @@ bool value_limits(const char *first, const char *second, struct words *words);
 /* --wait, or --wait=SECONDS: NULL if there are none. */
 bool value_wait(const char *text, struct words *words);
 
-/* Returns whether the word after --wait is its seconds: digits alone. */
+/* Returns whether the word after --wait is its seconds: digits and nothing else. */
 bool value_is_seconds(const char *word);
 
 #endif

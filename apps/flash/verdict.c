@@ -41,7 +41,7 @@ static const struct {
     [END_UNRESET] = {"not-reset", {STATUS_UNRESET, "a reset is missing, which this system does not make", "the device"}},
 };
 
-/* Likewise, if the device took the whole image, and was to give it back or was to be reset. */
+/* Meanings of the same ends if the device took the whole image, and was to give it back or to be reset. */
 static const struct meaning uncompared[] = {
     [END_UNRESET] = {STATUS_UNRESET,
         "the device took the whole image; a reset is missing, which this system does not make: pull its plug, and put it in again", NULL},
@@ -51,12 +51,12 @@ static const struct meaning uncompared[] = {
         "the device took the whole image, and stalls GETSTATUS in run-time mode: it was not compared; see --no-verify", NULL},
 };
 
-/* And if it gave the whole image. */
+/* Meanings of the same ends if the device gave the whole image. */
 static const struct meaning fetched = {STATUS_UNRESET,
     "the device gave the image that it has; to leave DFU mode it needs its plug pulled", NULL};
 /* clang-format on */
 
-/* The state of a device is said only if a block was sent. */
+/* Adds which image the device may have only if a block was sent. */
 void verdict_words(struct verdict *verdict, const struct session *session, const struct meaning *meaning)
 {
     bool has_sent = (session->dfuse.is ? session->dfuse.watch.sent : session->watch.sent) != 0;

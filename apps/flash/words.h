@@ -1,5 +1,5 @@
 /* SPDX-License-Identifier: MIT OR Apache-2.0 */
-/* Requests of the command line. */
+/* Reads the command line into the job that it asks for. */
 #ifndef DFU_FLASH_WORDS_H
 #define DFU_FLASH_WORDS_H
 
@@ -50,7 +50,7 @@ struct words {
 /* Reads the words into `words`. False if they aren't understood, which is then said on standard error. */
 bool words_read(struct words *words, int count, char **texts);
 
-/* Returns whether the options go together and with what is to be done; if not, why is said. */
+/* Returns whether the options go together and with the job; if not, says why. */
 bool words_fit(const struct words *words);
 
 /* Says what isn't understood, and the word that it is about, which may be empty. Always false. */

@@ -33,13 +33,13 @@ bool worker_begin(struct worker *worker, const struct words *words, struct image
 /* Reads what has come. Each line of standard error is handed to `say`, with the worker. */
 void worker_read(struct worker *worker, void (*say)(void *worker, const char *line));
 
-/* Returns whether its streams are at their end, so that it is about to end. */
+/* Returns whether both streams of the process are at their end, so that it is about to end. */
 bool worker_is_ending(const struct worker *worker);
 
-/* Returns whether it has ended; then its exit status, or that of a mistake with the reason in `why`. */
+/* Returns whether the process has ended. If so, `status` is its exit status, or that of a mistake, with the reason in `why`. */
 bool worker_has_ended(struct worker *worker, int *status, const char **why);
 
-/* Tells it to give up, which it has to do by then. */
+/* Tells the process to give up, which it must do by the deadline. */
 void worker_stop(struct worker *worker, int64_t deadline_ms);
 
 /* Ends it at once. */

@@ -6,7 +6,7 @@
 
 #include <string.h>
 
-/* What follows each change of the machine. */
+/* Runs the command of --on-installed after a change of the machine that put an image in place. */
 static void look(struct bus *bus)
 {
     if (!bus->machine.is_installed || bus->machine.refusal != 0)

@@ -21,26 +21,27 @@ struct bus {
     int64_t told; /* up to when the time was passed on to the machine, ms */
 };
 
-/* Does the work that is due, and in appDETACH passes the time on: once an answer is out, before a request, and before a reset. */
+/* Does the work that is due, and in appDETACH passes the time on. To be called once an answer is out, before a request, and before a
+   reset. */
 void bus_pass(struct bus *bus);
 
-/* The bus was reset. */
+/* Takes a reset of the bus. */
 void bus_reset(struct bus *bus);
 
-/* The gadget that the state asks for comes to the bus. False if it can't. */
+/* Puts the gadget that the state asks for on the bus. Returns false if it can't. */
 bool bus_settle(struct bus *bus);
 
-/* What the interface is called: Firmware, or with images on trial the version, and the trial. */
+/* Writes the name of the interface: `Firmware`, or with images on trial the version, and the trial. */
 void bus_name(const struct bus *bus, char name[FUNCTION_NAME]);
 void bus_leave(struct bus *bus);
 
-/* A setup that waits there is answered, and what the answer announced is done. */
+/* Answers a setup that waits there, and does what the answer announced. */
 void bus_serve(struct bus *bus, const uint8_t setup[8]);
 
-/* How long poll may wait, in ms: until the time of appDETACH is over, else -1. */
+/* Returns how long poll may wait, in ms: until the time of appDETACH is over, else -1. */
 int bus_pause(struct bus *bus);
 
-/* Whether the machine goes on; false if the library refused its own record. */
+/* Returns whether the machine goes on; false if the library refused its own record. */
 bool bus_is_sound(const struct bus *bus);
 
 #endif

@@ -17,7 +17,7 @@
 #include <time.h>
 #include <unistd.h>
 
-/* Whether it ended in its time, and before a signal ends this program. */
+/* Returns whether the program ended within CHECK_MS, and before a signal ends this one. */
 static bool is_over(int child)
 {
     struct pollfd waits[] = {{.fd = child, .events = POLLIN}, {.fd = stop_descriptor(), .events = POLLIN}};

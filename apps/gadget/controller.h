@@ -11,18 +11,18 @@ struct controller {
     int state;        /* its file `state`, which poll reports once it was written; -1 if there is none */
 };
 
-/* False if there is no such controller, which is said. */
+/* Opens the controller. Returns false if there is none of this name, which is said. */
 bool controller_open(struct controller *controller, const char *name);
 void controller_close(struct controller *controller);
 
-/* Whether its state was written since the last call. True if that can't be known. */
+/* Returns whether the state was written since the last call; true if that can't be known. */
 bool controller_is_new_state(struct controller *controller);
 
-/* A gadget comes to the bus, and leaves it. False, which is said. */
+/* Put a gadget on the bus, and take it off. Return false if that failed, which is said. */
 bool controller_join(const struct controller *controller, const char *gadget);
 bool controller_leave(const char *gadget);
 
-/* A number of a gadget's device descriptor, as idVendor. False, which is said. */
+/* Reads a number of a gadget's device descriptor, as idVendor. Returns false if it can't be read, which is said. */
 bool controller_number(const char *gadget, const char *attribute, uint16_t *number);
 
 #endif

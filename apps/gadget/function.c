@@ -75,7 +75,7 @@ static bool has_event(const struct function *function)
     return poll(&wait, 1, 0) > 0 && (wait.revents & POLLIN) != 0;
 }
 
-/* How many were read, or -1. */
+/* Reads the events that wait. Returns their number, or -1. */
 static int read_events(struct function *function, struct usb_functionfs_event events[MOST_EVENTS])
 {
     ssize_t length = read(function->ep0, events, MOST_EVENTS * sizeof *events);
@@ -103,8 +103,8 @@ void function_begin(struct function *function)
     function->is_enabled = false;
 }
 
-/* Whether events were dropped unread, after those that were read. While a setup waits, poll reports it, and no event;
-   else what it reports came since. */
+/* Returns whether more events were dropped unread, after those that were read. While a setup waits, poll reports the setup and no event;
+   else the event that it reports came since. */
 static bool is_more_dropped(struct function *function, bool has_setup)
 {
     count(function);

@@ -20,7 +20,7 @@ struct function {
     bool is_enabled; /* a configuration is set */
 };
 
-/* What was read at once. The reset, if there is one, came first. Gone: somebody else has taken the gadget off the bus. */
+/* Events that were read at once. A reset among them came first. Gone: somebody else has taken the gadget off the bus. */
 struct events {
     bool is_reset, has_setup, is_gone;
     uint8_t setup[8];
@@ -42,11 +42,12 @@ void function_begin(struct function *function);
 /* To be called before each wait for events. */
 void function_rest(struct function *function);
 
-/* What is there to be read. `is_new_state`: the controller's state was written since the last call, as each reset does. False if FunctionFS
-   failed. */
+/* Reads the events that are there. `is_new_state`: the controller's state was written since the last call, as each reset does. Returns
+   false if FunctionFS failed. */
 bool function_read(struct function *function, bool is_new_state, struct events *events);
 
-/* The data stage of a setup that sends: how many bytes came, or -1 if the host gave up. Once it came it is acknowledged. */
+/* Takes the data stage of a setup that sends. Returns the number of bytes that came, or -1 if the host gave up. Once they came they are
+   acknowledged. */
 int function_take(struct function *function, uint8_t *body, size_t length);
 
 /* The end of a setup that reads or has no data: an answer, an acknowledgement, or a stall. */

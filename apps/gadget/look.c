@@ -1,5 +1,6 @@
 /* SPDX-License-Identifier: MIT OR Apache-2.0 */
-/* What `run` needs: Linux 6.11, FunctionFS, a controller that is free, two gadgets with their FunctionFS, the rights, and a medium. */
+/* Looks for everything that `run` needs: Linux 6.11, FunctionFS, a controller that is free, two gadgets with their FunctionFS, the rights,
+   and a medium. */
 #define _GNU_SOURCE
 #include "look.h"
 #include "controller.h"

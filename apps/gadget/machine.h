@@ -34,19 +34,20 @@ int32_t machine_power_on(struct machine *machine, const struct medium *medium, b
 /* Another program may have ended a trial since: then the device gets power anew, in the mode that it is in. */
 void machine_again(struct machine *machine);
 
-/* What is to be done with a setup before its data stage. A trial may end by it: see dfu_trial_transfer. */
+/* Plans how to handle a setup before its data stage: it is answered, stalled, or its data stage is taken. A trial may end by it: see
+   dfu_trial_transfer. */
 enum plan { PLAN_ANSWER, PLAN_STALL, PLAN_TAKE };
 enum plan machine_plan(struct machine *machine, const uint8_t setup[8]);
 
 /* The answer: how many bytes of `out`, or negative for a stall. If the host sends, the body has wLength bytes. */
 int32_t machine_handle(struct machine *machine, const uint8_t setup[8], const uint8_t *body, uint8_t out[MOST_TRANSFER]);
 
-/* Whether this setup closes a download, and where its image is; and that the image is refused, with errTARGET or errFILE: false if it is no
-   such setup. */
+/* machine_closes returns whether this setup closes a download, and finds its image; machine_refuse_close refuses that image, with errTARGET
+   or errFILE, and returns false if the setup closes none. */
 bool machine_closes(struct machine *machine, const uint8_t setup[8], struct dfu_place *place);
 bool machine_refuse_close(struct machine *machine, const uint8_t setup[8], uint8_t why);
 
-/* So many milliseconds passed; the bus was reset. */
+/* Take milliseconds that passed, and a reset of the bus. */
 void machine_pass(struct machine *machine, int64_t ms);
 void machine_reset(struct machine *machine);
 
@@ -54,17 +55,17 @@ void machine_reset(struct machine *machine);
 int64_t machine_due(struct machine *machine);
 int32_t machine_state(struct machine *machine);
 
-/* Whether the device is to be on the bus in DFU mode. */
+/* Returns whether the device is to be on the bus in DFU mode. */
 bool machine_is_upgrade(struct machine *machine);
 
 /* The functional descriptor. */
 int32_t machine_functional(const struct machine *machine, uint8_t out[9]);
 
-/* Of a medium that is mapped, where its image is; and a new medium in memory: 0, or the library's refusal. */
+/* Find the image of a medium that is mapped, and make a new medium in memory: 0, or the library's refusal. */
 int32_t machine_image(const struct medium *medium, struct dfu_place *place);
 int32_t machine_format(uint8_t *memory, size_t size, const uint8_t *image, size_t length, uint32_t tries);
 
-/* What a refusal of the library means. */
+/* Returns the meaning of a refusal of the library. */
 const char *machine_words(int32_t refusal);
 
 #endif

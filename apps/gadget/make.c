@@ -36,7 +36,7 @@ static uint8_t *read_image(const char *name, size_t most, size_t *length)
     return is_read ? bytes : NULL;
 }
 
-/* What the medium is to hold, in memory. NULL, which is said, with the status. */
+/* Makes the content of a new medium, in memory. Returns NULL if that failed, which is said, with the status. */
 static uint8_t *make_content(const struct words *words, size_t size, int *status)
 {
     size_t length = 0;
@@ -124,7 +124,7 @@ static bool give_name(const char *beside, const char *name)
     return link(beside, name) == 0 && unlink(beside) == 0;
 }
 
-/* What the folder says of its files is on the disk too. */
+/* Waits until the disk has the folder's entry of the file too. */
 static bool sync_folder(const char *name)
 {
     const char *slash = strrchr(name, '/');

@@ -176,7 +176,7 @@ bool medium_write(const struct medium *medium, size_t at, const uint8_t *bytes, 
     return fdatasync(medium->file) == 0;
 }
 
-/* Whether the kernel still has a page of these bytes in its memory. */
+/* Returns whether the kernel still has a page of these bytes in its memory. */
 static bool is_kept(const struct medium *medium, size_t at, size_t length)
 {
     size_t page = (size_t)sysconf(_SC_PAGESIZE), from = at / page * page;

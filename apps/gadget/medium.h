@@ -22,7 +22,7 @@ struct medium {
 /* MEDIUM_MARK: for a mark of a trial, while `run` has it. */
 enum medium_use { MEDIUM_READ, MEDIUM_WRITE, MEDIUM_MARK };
 
-/* What is before the image in a slot: gate and header, which are in sectors of their own if images run on trial. */
+/* Bytes of a slot before its image: gate and header, which are in sectors of their own if images run on trial. */
 enum { MEDIUM_HEAD = 32, MEDIUM_TRIAL_SECTOR = 4096, MEDIUM_TRIAL_HEAD = 2 * MEDIUM_TRIAL_SECTOR };
 size_t medium_head(uint32_t tries);
 
@@ -30,7 +30,7 @@ size_t medium_head(uint32_t tries);
    dfu-gadget, and of a device no file system that is mounted. False, which is said. */
 bool medium_open(struct medium *medium, const char *name, enum medium_use use, size_t head);
 
-/* The same, and maps it. */
+/* Opens a medium as medium_open does, and maps it. */
 bool medium_map(struct medium *medium, const char *name, enum medium_use use, size_t head);
 void medium_close(struct medium *medium);
 
@@ -39,10 +39,10 @@ void medium_close(struct medium *medium);
 bool medium_turn(const struct medium *medium);
 void medium_give_turn(const struct medium *medium);
 
-/* How many bytes the two slots take of `size`, 0 if there is too little: the most that no sector holds bytes of both. */
+/* Returns the bytes that the two slots take of `size`, or 0 if there are too few: the most with which no sector holds bytes of both. */
 size_t medium_slots(size_t size, size_t sector, size_t head);
 
-/* How many bytes a medium for images of up to `most` bytes has, 0 if none can. */
+/* Returns the bytes of a medium for images of up to `most` bytes, or 0 if no medium is large enough. */
 size_t medium_wanted(size_t most, size_t sector, size_t head);
 
 /* The most bytes of an image of a medium with `size` bytes. */

@@ -1,5 +1,5 @@
 /* SPDX-License-Identifier: MIT OR Apache-2.0 */
-/* Where Linux keeps what a gadget is made of. */
+/* Folders in which Linux keeps the parts of a gadget. */
 #ifndef DFU_GADGET_PATHS_H
 #define DFU_GADGET_PATHS_H
 

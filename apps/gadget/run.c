@@ -9,7 +9,7 @@
 #include <errno.h>
 #include <poll.h>
 
-/* What a wait looks at. */
+/* Descriptors that a wait looks at. */
 enum { EVENTS, STOP, CHILD, CONTROLLER_STATE, WAITS };
 
 static bool take_numbers(struct dfu_config *config, const struct words *words)
@@ -59,7 +59,7 @@ static int set_up(struct bus *bus, struct medium *medium, const struct words *wo
                : STATUS_MISSING;
 }
 
-/* What FunctionFS has, once poll reports it. A reset may call for the other gadget: the setup after it is then gone. */
+/* Takes the events of FunctionFS, once poll reports them. A reset may call for the other gadget: then the setup after it is gone. */
 static int take_events(struct bus *bus)
 {
     struct function *function = &bus->functions[bus->mode];
@@ -82,7 +82,7 @@ static int take_events(struct bus *bus)
     return STATUS_DONE;
 }
 
-/* What a wait reports. If there is nothing to be read, what the controller's state reports belongs to an event that was read. */
+/* Takes everything that a wait reports. If there is nothing to read, the controller's state belongs to an event that was read before. */
 static int take_what_came(struct bus *bus, const struct pollfd waits[WAITS])
 {
     if (waits[CHILD].revents != 0)

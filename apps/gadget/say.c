@@ -65,7 +65,7 @@ void say_no_more(const char *name)
     log_file = NULL;
 }
 
-/* Where a line goes; in a log it begins as a comment. */
+/* Begins a line, as a comment if there is a log. Returns the stream for the rest of it. */
 static FILE *begin_line(void)
 {
     if (log_file == NULL)

@@ -12,13 +12,13 @@
 /* A line about a file or another name that others chose: the name, escaped if it has to be, and what is wrong with it. False. */
 bool say_wrong(const char *name, const char *why);
 
-/* The same, with the reason that errno has. False. */
+/* Says the same with the reason in errno. Always false. */
 bool say_failed(const char *name, const char *what);
 
 /* A line about what happens, as a change of mode. */
 void say_event(const char *format, ...) __attribute__((format(printf, 1, 2)));
 
-/* Whether each request gets a line. */
+/* True if each request gets a line. */
 extern bool say_is_verbose;
 
 /* Has these lines, as comments, and each request and reset as a line that `dfu judge` reads, in a new file of this name. False if it
@@ -28,7 +28,7 @@ bool say_to(const char *name);
 /* Nothing more comes. If something could not be written, that is said. */
 void say_no_more(const char *name);
 
-/* What was answered to a request, with so many bytes of its data stage that were taken, for `dfu judge`. */
+/* Writes the answer to a request for `dfu judge`, with the bytes of its data stage that were taken. */
 void say_exchange(const uint8_t setup[8], const uint8_t *body, size_t length, int32_t answer, const uint8_t *out);
 
 /* A line for a request, once it is answered: share/man/dfu-gadget.1, REQUESTS, has its words. `answer` is how many bytes of `out` went

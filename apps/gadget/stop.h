@@ -1,5 +1,5 @@
 /* SPDX-License-Identifier: MIT OR Apache-2.0 */
-/* What ends `run`: SIGTERM, SIGINT or SIGHUP. */
+/* Signals that end `run`: SIGTERM, SIGINT or SIGHUP. */
 #ifndef DFU_GADGET_STOP_H
 #define DFU_GADGET_STOP_H
 

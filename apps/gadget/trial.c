@@ -29,7 +29,7 @@ void trial_words(const struct dfu_trial *trial, uint16_t release, char text[TRIA
              standing.left == trial->tries.tries ? "next " : "", standing.left, standing.left == 1 ? "" : "s");
 }
 
-/* What a result of the library means, if it is not 0. */
+/* Says the meaning of a result of the library other than 0, and returns the exit status for it. */
 static int say_result(const char *name, int32_t result)
 {
     switch (result) {

@@ -175,7 +175,7 @@ static bool take_job(struct words *words, const char *text)
     return words->job != JOB_NONE || refuse(text, "it is none of format, image, run, start, confirm and end");
 }
 
-/* Whether the words go together. */
+/* Returns whether the words go together. */
 static bool is_whole(const struct words *words, bool has_more)
 {
     if (words->job == JOB_NONE || words->medium == NULL || *words->medium == '\0')

@@ -1,5 +1,5 @@
 /* SPDX-License-Identifier: MIT OR Apache-2.0 */
-/* What the command line asks for, and the file of --config. */
+/* Reads the command line, and the file of --config. */
 #ifndef DFU_GADGET_WORDS_H
 #define DFU_GADGET_WORDS_H
 

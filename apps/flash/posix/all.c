@@ -48,7 +48,8 @@ static bool has_folder(void)
     return say_failed(folder, " can't have the logs", "it has to be a folder that is there, in which files can be made");
 }
 
-/* The file says for which devices it is, or --device does. An image for any device would go to whatever has DFU on the bus. */
+/* Refuses an image for any device: the file or --device must say for which devices it is, or it would go to everything with DFU on the
+   bus. */
 static int take_file(void)
 {
     int32_t refusal = image_read(&all.image, all.words);
@@ -101,7 +102,8 @@ static int look(void)
     return 0;
 }
 
-/* Returns whether there is something to wait for still: with --wait=SECONDS for so long since a device came or ended. */
+/* Returns whether --all goes on: a process is at work, or a device may still come, with --wait=SECONDS for so long since the last one came
+   or ended. */
 static bool goes_on(void)
 {
     int64_t patience_ms = (int64_t)all.words->patience * 1000;

@@ -1,5 +1,5 @@
 /* SPDX-License-Identifier: MIT OR Apache-2.0 */
-/* The processes' lines are read here alone, and printed a whole line at a time. */
+/* Reads the lines of all processes in one place, and prints them, a whole line at a time. */
 #define _POSIX_C_SOURCE 200809L
 #include "../crew.h"
 #include "../clock.h"
@@ -31,14 +31,15 @@ void crew_make(struct crew *crew, const struct words *words)
 static void say(void *with, const char *line)
 {
     const struct worker *worker = with;
-    /* The reason why the one of before can't be opened again is nobody's concern. */
+    /* A process that only looks whether the device is another one than before prints nothing. */
     if (worker->is_early)
         return;
     rows_clear(&rows);
     fprintf(stderr, "%s: %s\n", worker->bay->path, line);
 }
 
-/* Returns whether a status is graver than another: an image that isn't proved to be in place hides no device that failed. */
+/* Returns whether a status is worse than another. A failure counts as worse than an image that isn't proved to be in place, so that it
+   isn't hidden. */
 static bool is_worse(int status, int than)
 {
     if (status == STATUS_DONE || than == STATUS_DONE)

@@ -1,5 +1,5 @@
 /* SPDX-License-Identifier: MIT OR Apache-2.0 */
-/* Calls that not every POSIX system has. The folder linux has these for Linux, and the folder unix for all others. */
+/* Calls that not every POSIX system has. The folder linux has them for Linux, and the folder unix for all others. */
 #ifndef DFU_FLASH_OWN_H
 #define DFU_FLASH_OWN_H
 

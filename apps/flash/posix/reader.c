@@ -39,7 +39,7 @@ static bool has_room(struct reader *reader)
     return true;
 }
 
-/* One byte more. Returns whether a line is whole. */
+/* Takes one byte more. Returns whether the line is whole. */
 static bool add(struct reader *reader, char byte)
 {
     bool has = has_room(reader);

@@ -28,7 +28,7 @@ void rows_clear(struct rows *rows)
     rows->shown_ms = 0;
 }
 
-/* Returns whether there is something to show of it. */
+/* Returns whether a worker has a row: one that only looks for another device has none before it says something. */
 static bool is_shown(const struct worker *worker)
 {
     return !worker->is_early || worker->row[0] != '\0';

@@ -104,8 +104,8 @@ bool used_open(const char *list, bool only_looks, char **text, const char **why)
     return is_open;
 }
 
-/* The part of a line that a full disk took stays, since another process may have added one behind it; used_open takes it away, or it isn't
-   understood. */
+/* Adds a line. If the disk is full a part of it may stay, because another process may have added a line behind it; used_open takes that
+   part away, or refuses it. */
 bool used_add(const char *line, size_t length)
 {
     return used >= 0 && write(used, line, length) == (ssize_t)length && fsync(used) == 0;

@@ -1,5 +1,5 @@
 /* SPDX-License-Identifier: MIT OR Apache-2.0 */
-/* Descriptors that a wait looks at, and what a process that was forked forgets of it. */
+/* Wakes a wait when a stop comes; a process that was forked begins without one. */
 #ifndef DFU_FLASH_WAKE_H
 #define DFU_FLASH_WAKE_H
 

@@ -52,7 +52,7 @@ static int say_unnamed(const struct words *words)
     return STATUS_FILE;
 }
 
-/* Runs the new process. */
+/* Flashes the device of its bay, in the new process. */
 static void work(const struct words *all, struct image *image, const struct bay *bay, bool has_rows)
 {
     struct words words = *all;

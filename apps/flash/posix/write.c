@@ -21,7 +21,8 @@ static bool fail(const char *name, const char *why)
     return say_failed(name, " can't be made", why);
 }
 
-/* Returns what is there: 0 nothing, 1 a file that may be replaced, -1 what is to stay, which is said. */
+/* Looks at the name OUT: 0 if nothing has it, 1 if a file that may be replaced has it, and -1, which is said, if something has it that must
+   stay. */
 static int look(const char *name, bool is_forced, struct stat *there)
 {
     bool is_there = lstat(name, there) == 0;
@@ -110,7 +111,7 @@ static bool take_name(const char *beside, const char *name)
     return false;
 }
 
-/* Gives the new file its name. The name of a file that came meanwhile is not taken. */
+/* Gives the new file its name, and doesn't replace a file that came meanwhile. */
 static bool give_name(const char *beside, const char *name, bool is_there)
 {
     if (is_there)

@@ -1,5 +1,5 @@
 /* SPDX-License-Identifier: MIT OR Apache-2.0 */
-/* Handles that a wait looks at. */
+/* Wakes a wait when a stop comes. */
 #ifndef DFU_FLASH_WAKE_H
 #define DFU_FLASH_WAKE_H
 

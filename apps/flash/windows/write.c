@@ -35,7 +35,7 @@ static bool is_regular(HANDLE file)
     return GetFileType(file) == FILE_TYPE_DISK && GetFileInformationByHandle(file, &is) && (is.dwFileAttributes & others) == 0;
 }
 
-/* Returns whether the user may write it, and take its name away. */
+/* Returns whether the user may write the file, and take its name away. */
 static bool may_replace(const wchar_t *wide)
 {
     HANDLE file = CreateFileW(wide, GENERIC_WRITE | DELETE, SHARED, NULL, OPEN_EXISTING, FILE_FLAG_OPEN_REPARSE_POINT, NULL);
@@ -45,7 +45,8 @@ static bool may_replace(const wchar_t *wide)
     return true;
 }
 
-/* Returns what is there: 0 nothing, 1 a file that may be replaced, -1 what is to stay, which is said. */
+/* Looks at the name OUT: 0 if nothing has it, 1 if a file that may be replaced has it, and -1, which is said, if something has it that must
+   stay. */
 static int look(const char *name, const wchar_t *wide, bool is_forced)
 {
     HANDLE file = CreateFileW(wide, 0, SHARED, NULL, OPEN_EXISTING, FILE_FLAG_OPEN_REPARSE_POINT | FILE_FLAG_BACKUP_SEMANTICS, NULL);
@@ -69,7 +70,7 @@ static int look(const char *name, const wchar_t *wide, bool is_forced)
     return -1;
 }
 
-/* Counts the units that the path of its folder has, with the sign at its end. */
+/* Counts the UTF-16 units of the path of its folder, with the separator at its end. */
 static int folder_of(const wchar_t *wide)
 {
     int folder = 0;

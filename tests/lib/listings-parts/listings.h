@@ -1,4 +1,4 @@
-/* What the parts of tests/c/listings share. */
+/* Declarations that the parts of tests/lib/porting/played share. */
 #ifndef LISTINGS_H
 #define LISTINGS_H
 #include <stddef.h>
