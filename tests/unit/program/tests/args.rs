@@ -74,9 +74,7 @@ fn told(job: Subcommand) -> String {
             file,
         } => {
             let file = file.map_or(String::new(), |file| joined(&[&file]));
-            joined(&["run", &script])
-                + &set(trace, "traced")
-                + &file
+            joined(&["run", &script]) + &set(trace, "traced") + &file
         }
         Subcommand::Judge {
             files,

@@ -60,9 +60,8 @@ impl Board {
             assert_eq!(due, *wanted, "after {:?}", self.progress);
             match due {
                 Due::Erase { at } => self.flash[at as usize..][..SECTOR as usize].fill(0xff),
-                Due::Program { at, len } => {
-                    self.flash[at as usize..][..len as usize].copy_from_slice(&bytes[..len as usize])
-                }
+                Due::Program { at, len } => self.flash[at as usize..][..len as usize]
+                    .copy_from_slice(&bytes[..len as usize]),
                 _ => continue,
             }
             self.progress = took(&self.flash, SECTOR, due, &bytes, false, self.progress);
@@ -111,7 +110,12 @@ fn from_the_second_slot_to_the_first() {
 #[test]
 fn only_the_sector_that_differs() {
     let mut board = Board::away(600);
-    board.does(&[CLOSES, Due::Erase { at: 1024 }, program(1024), program(1280)]);
+    board.does(&[
+        CLOSES,
+        Due::Erase { at: 1024 },
+        program(1024),
+        program(1280),
+    ]);
     board.progress = BEGINS; // (a loss of power)
     board.does(&[Due::Erase { at: 1536 }, program(1536)]);
     board.does(&OPENS);
@@ -119,7 +123,14 @@ fn only_the_sector_that_differs() {
     board.does(&[Due::Home]);
     board.flash[1600] ^= 1;
     board.progress = BEGINS;
-    board.does(&[CLOSES, Due::Erase { at: 1536 }, program(1536), CLOSES, OPENS[3], Due::Home]);
+    board.does(&[
+        CLOSES,
+        Due::Erase { at: 1536 },
+        program(1536),
+        CLOSES,
+        OPENS[3],
+        Due::Home,
+    ]);
 }
 
 #[test]
@@ -155,14 +166,23 @@ fn what_is_noted() {
     assert_eq!(noted(program, false, &[9; 1024]), Some(512));
     assert_eq!(noted(program, false, &[9; 767]), None);
     assert_eq!(noted(program, false, &[0xff; 1024]), None);
-    assert_eq!(noted(Due::Program { at: 512, len: 257 }, false, &[9; 1024]), None);
-    assert_eq!(noted(Due::Program { at: 512, len: 0 }, false, &[9; 1024]), None);
+    assert_eq!(
+        noted(Due::Program { at: 512, len: 257 }, false, &[9; 1024]),
+        None
+    );
+    assert_eq!(
+        noted(Due::Program { at: 512, len: 0 }, false, &[9; 1024]),
+        None
+    );
     assert_eq!(noted(Due::Home, false, &[0xff; 1024]), None);
     let last = Progress {
         last: None,
         count: u32::MAX,
     };
-    assert_eq!(took(&[], SECTOR, Due::Home, &bytes, false, last).count, u32::MAX);
+    assert_eq!(
+        took(&[], SECTOR, Due::Home, &bytes, false, last).count,
+        u32::MAX
+    );
 }
 
 #[test]
@@ -171,10 +191,16 @@ fn what_is_refused() {
     let board = Board::away(600);
     let in_place = Mapped::new(&board.flash, Unit::U16).unwrap();
     let refused = |refusal| Due::Refuse(refusal);
-    assert_eq!(next(&in_place, &board.flash, BEGINS, &mut bytes), refused(Refusal::NoSectors));
+    assert_eq!(
+        next(&in_place, &board.flash, BEGINS, &mut bytes),
+        refused(Refusal::NoSectors)
+    );
     let short = &board.flash[..4608];
     let medium = Mapped::with_sectors(short, Unit::U16, SECTOR).unwrap();
-    assert_eq!(next(&medium, short, BEGINS, &mut bytes), refused(Refusal::NoImage));
+    assert_eq!(
+        next(&medium, short, BEGINS, &mut bytes),
+        refused(Refusal::NoImage)
+    );
     let mut board = Board::away(600);
     board.progress.count = 5120 / 128;
     board.does(&[refused(Refusal::NotWritten)]);

@@ -84,7 +84,8 @@ image ffffffff
 ";
 
 /// What putting the image in place writes.
-const MADE: &str = "erased 256 at 1280, 16 at 1280, erased 256 at 1024, 16 at 1024, erased 256 at 768, 16 at 768";
+const MADE: &str =
+    "erased 256 at 1280, 16 at 1280, erased 256 at 1024, 16 at 1024, erased 256 at 768, 16 at 768";
 
 #[test]
 fn times_of_the_flash_are_told() -> Outcome {
