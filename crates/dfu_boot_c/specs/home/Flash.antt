@@ -1,5 +1,5 @@
 -- With what a program in C has its flash written, by the configuration of its device.
-use Rattle.std.specs.Prelude.{◌≡◌, ℕ, ℤ, ◌^◌, ◌≤◌, List, length}
+use Rattle.std.specs.Prelude.{◌≡◌, ℕ, ℤ, ◌^◌, ◌≤◌, List, length, negsuc}
 use Rattle.dfu_slots.specs.Medium.{MediumState}
 use Rattle.dfu_home.specs.declared.due.Progress.{Progress}
 use Rattle.dfu_core.specs.declared.config.DfuConfig.{DfuConfig}

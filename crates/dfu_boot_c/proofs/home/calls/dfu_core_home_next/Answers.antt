@@ -1,4 +1,4 @@
-use Rattle.std.proofs.Common.{List, w32, refl, ◌∙◌, ap, arith}
+use Rattle.std.proofs.Common.{ℕ, List, w32, refl, ◌∙◌, ap, arith}
 use Rattle.std.proofs.lemmas.Int.{to_z-of_z}
 use Rattle.dfu_slots.specs.Medium.{MediumState}
 use Rattle.dfu_asks.specs.Mapped.{grain_of, mapped}
