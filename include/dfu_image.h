@@ -1,5 +1,5 @@
 /* SPDX-License-Identifier: MIT OR Apache-2.0 */
-/* What a file without a DFU suffix is, so that a flashing tool doesn't send the text of a build's file as if it were the image: the
+/* Recognizes files without a DFU suffix, so that a flashing tool doesn't send the text of a build's file as if it were the image: the
  * library's code is dfu_host.c, and dfu_host.h says what a program has to keep to.
  *
  *     struct dfu_look look;
@@ -16,10 +16,9 @@
 extern "C" {
 #endif
 
-/* What a file without a DFU suffix is: the first that holds, in the order DFU_LOOKS_DFUSE, DFU_LOOKS_IHEX to DFU_LOOKS_ELF,
- * DFU_LOOKS_ZIP, DFU_LOOKS_GZIP, DFU_LOOKS_TEXT, DFU_LOOKS_NAMED, and else DFU_LOOKS_RAW. An empty file is one of the last two.
- * Text is UTF-8 without control characters but tab, line feed, form feed and carriage return. Blanks are spaces, tabs and carriage
- * returns. */
+/* Kinds of files without a DFU suffix. The first that holds counts, in the order DFU_LOOKS_DFUSE, DFU_LOOKS_IHEX to DFU_LOOKS_ELF,
+ * DFU_LOOKS_ZIP, DFU_LOOKS_GZIP, DFU_LOOKS_TEXT, DFU_LOOKS_NAMED, and else DFU_LOOKS_RAW. An empty file is one of the last two. Text is
+ * UTF-8 without control characters but tab, line feed, form feed and carriage return. Blanks are spaces, tabs and carriage returns. */
 enum {
     DFU_LOOKS_RAW = 0,   /* nothing is known against a raw image */
     DFU_LOOKS_IHEX = 1,  /* behind a byte order mark, blanks and empty lines it begins with ':' and two hexadecimal digits; or with ':',
@@ -34,7 +33,7 @@ enum {
     DFU_LOOKS_NAMED = 9  /* its bytes may be anything, but its name says another format than raw */
 };
 
-/* What the ending of a name says, in letters of either case. A name that is no more than its ending, as ".hex", counts too. */
+/* Formats by the ending of a name, in letters of either case. A name that is no more than its ending, as ".hex", counts too. */
 enum {
     DFU_NAMED_NONE = 0, /* nothing */
     DFU_NAMED_IHEX = 1, /* .hex, .ihex, .ihx, .mcs */
@@ -44,7 +43,7 @@ enum {
     DFU_NAMED_DFU = 5   /* .dfu */
 };
 
-/* What a look at a file finds. */
+/* Findings of a look at a file. */
 struct dfu_look {
     uint32_t looks;                /* DFU_LOOKS_.. */
     uint32_t named;                /* DFU_NAMED_..: what the name's ending says, whatever the bytes are */

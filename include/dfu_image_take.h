@@ -27,8 +27,8 @@ extern "C" {
 /* In the place of a byte that fills gaps: there may be none. */
 #define DFU_FILL_NONE 256
 
-/* Why there is no image, in this order: a number of no format; of the file the first fault of the first line, block or segment that has
- * one; no bytes; the first gap from the lowest address on, or too many bytes; too short a room. docs/REFUSALS.md says of each exactly when
+/* Refusals of a file, in this order: a number of no format; of the file the first fault of the first line, block or segment that has one;
+ * no bytes; the first gap from the lowest address on, or too many bytes; too short a room. docs/REFUSALS.md says of each exactly when
  * (`image_of`). taken.from is the line from 1, the block or segment from 0, or the address that is named here, and else 0. */
 enum {
     DFU_TAKE_NO_FORMAT = -101,         /* format is none of DFU_LOOKS_IHEX to DFU_LOOKS_ELF */
@@ -61,7 +61,7 @@ enum {
     DFU_TAKE_TOO_LARGE_FILLED = -128   /* with what fills the gaps there are over 16,777,216 bytes */
 };
 
-/* What a call says. */
+/* Result of taking an image. */
 struct dfu_taken {
     DFU_ALIGNED_8 uint64_t length; /* of the image; 0 after a refusal other than DFU_TAKE_NO_ROOM */
     DFU_ALIGNED_8 uint64_t from;   /* the place that a refusal names, or 0 */

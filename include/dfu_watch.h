@@ -28,7 +28,7 @@
 extern "C" {
 #endif
 
-/* What has come of a session's requests so far. A program reads it, and writes no field. */
+/* Record of how a session's requests ended so far. A program reads it, and writes no field. */
 struct dfu_watch {
     uint32_t silent; /* requests and resets in a row that had no answer */
     uint32_t resets; /* resets in a row since requests that the device stalled in run-time mode */
@@ -37,7 +37,7 @@ struct dfu_watch {
     uint8_t anew;    /* 1 if another session was begun in place of the first, else 0 */
 };
 
-/* What the program sees of the device after an action. 0 is no, any other number is yes. */
+/* Facts that the program sees of the device after an action. 0 is no, any other number is yes. */
 struct dfu_facts {
     uint8_t reached; /* the request went out: the device was there */
     uint8_t gone;    /* the device left, and did not come back in time */
@@ -49,7 +49,7 @@ struct dfu_facts {
     uint8_t same;    /* its functional descriptor is the one that the session began with */
 };
 
-/* How a session goes on. */
+/* Ways for a session to go on, or to end. */
 enum {
     DFU_GOES_ON = 0,      /* with what the host asks for */
     DFU_BEGINS_ANEW = 1,  /* with another session: in DFU mode the device has another functional descriptor */

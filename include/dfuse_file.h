@@ -29,7 +29,7 @@
 extern "C" {
 #endif
 
-/* What a file says. */
+/* Fields of a file. */
 struct dfuse_file {
     uint32_t targets;                 /* how many targets it has, 1 to 255 */
     uint32_t setting;                 /* the alternate setting that all of them are for; or DFUSE_SEVERAL */

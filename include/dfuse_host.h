@@ -50,7 +50,7 @@
 extern "C" {
 #endif
 
-/* What a map has. */
+/* Counts of a map. */
 struct dfuse_map {
     DFU_ALIGNED_8 uint64_t name;   /* how many bytes its name has, which follow the '@' */
     DFU_ALIGNED_8 uint64_t ranges; /* how many ranges there are, 1 to 32 */
@@ -63,7 +63,7 @@ struct dfuse_range {
     uint32_t count, access;       /* how many pages there are, from 1 on; DFUSE_READABLE, DFUSE_ERASABLE, DFUSE_WRITABLE */
 };
 
-/* What may be done with a page: bits of access. */
+/* Operations that a page allows: bits of access. */
 enum { DFUSE_READABLE = 1, DFUSE_ERASABLE = 2, DFUSE_WRITABLE = 4 };
 
 /* A part of an image: bytes, and the address where they belong. A pointer takes 8 bytes here even on a processor of 32 bits, so set
@@ -80,7 +80,7 @@ struct dfuse_element {
 #endif
 };
 
-/* What a session is to do, apart from the map and the image. */
+/* Plan of a session, apart from the map and the image. */
 struct dfuse_plan {
     uint32_t start;    /* the address at which the device is to start its application */
     uint32_t actions;  /* how many calls of dfuse_take the session may take; 0 counts as 1 */
@@ -101,7 +101,7 @@ struct dfuse_session {
     uint16_t restarts, transfer, front, leaves;
 };
 
-/* What a session works at. */
+/* Steps of a session. */
 enum {
     DFUSE_ERASE = 0,         /* erases the pages of the image, from `at` on */
     DFUSE_ERASE_AGAIN = 1,   /* erases the page at `at`, in which a write may have stopped halfway */
@@ -113,7 +113,7 @@ enum {
     DFUSE_OVER = 7
 };
 
-/* What is to be done. A field that an action doesn't use is 0. */
+/* Action that is to be done. A field that an action doesn't use is 0. */
 struct dfuse_action {
     DFU_ALIGNED_8 uint64_t length; /* DFU_SEND: how many bytes the body has, 0 to 65,535, which are at the front of the buffer */
     uint32_t what;                 /* DFU_SEND, DFU_WAIT or DFU_DONE */
@@ -134,7 +134,7 @@ enum {
     DFUSE_NOT_DFU = 7         /* the device is in its application */
 };
 
-/* How a device left, with DFUSE_VERIFIED. */
+/* Ways in which a device left, with DFUSE_VERIFIED. */
 enum {
     DFUSE_STAYED = 0, /* it wasn't asked to */
     DFUSE_LEFT = 1,   /* it said that it leaves */
@@ -177,8 +177,8 @@ int32_t dfuse_read_range(const uint8_t *text, size_t length, uint32_t number, st
 int32_t dfuse_begin(struct dfuse_session *session, const uint8_t *map, size_t map_length,
                     const struct dfuse_element *image, size_t elements, const struct dfuse_plan *plan);
 
-/* What the session wants done next, with its body at the front of the buffer: 0; or DFU_NO_SESSION; or DFUSE_NO_ROOM. It writes nothing
- * but the action, and the body's bytes. A buffer of as many bytes as the plan's transfer, and 5 at least, has room for each. */
+/* Tells what the session wants done next, with its body at the front of the buffer: 0; or DFU_NO_SESSION; or DFUSE_NO_ROOM. It writes
+ * nothing but the action, and the body's bytes. A buffer of as many bytes as the plan's transfer, and 5 at least, has room for each. */
 int32_t dfuse_next(const struct dfuse_session *session, const uint8_t *map, size_t map_length,
                    const struct dfuse_element *image, size_t elements, uint8_t *body, size_t room, struct dfuse_action *action);
 

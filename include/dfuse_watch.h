@@ -30,14 +30,14 @@
 extern "C" {
 #endif
 
-/* What has come of a session's requests so far. A program reads it, and writes no field. */
+/* Record of how a session's requests ended so far. A program reads it, and writes no field. */
 struct dfuse_watch {
     uint32_t silent; /* requests in a row that had no answer */
     uint32_t waits;  /* waits of 0 ms since a request other than GETSTATUS, up to 4 */
     uint8_t sent;    /* 1 if a request of the session may have changed the memory, else 0 */
 };
 
-/* How a session goes on, beside DFU_GOES_ON and the ends of dfu_watch.h. */
+/* Ways for a session to go on, beside DFU_GOES_ON and the ends of dfu_watch.h. */
 enum {
     DFU_GOES_RESTARTED = 8, /* the device was asked to leave and is taken for gone: a restart is reported in place of what was seen */
     DFU_GOES_TO_STOP = 9    /* the device is gone, and the user has stopped the session: nothing is reported */
@@ -46,7 +46,7 @@ enum {
 /* 1 if the device was asked to leave, and may be gone with any request; else 0. */
 uint32_t dfuse_watch_closes(const struct dfuse_session *session);
 
-/* How many milliseconds to wait if the host asks for `ms`: as many, but 5 from the fourth wait of 0 ms in a row on. */
+/* Returns the milliseconds to wait if the host asks for `ms`: as many, but 5 from the fourth wait of 0 ms in a row on. */
 uint32_t dfuse_watch_wait(struct dfuse_watch *watch, uint32_t ms);
 
 /* After an action of which `seen` was seen: the result of the first cause that holds. `command` is the first byte of the action's
