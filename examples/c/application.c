@@ -15,7 +15,7 @@ static void request(const char *what, uint8_t kind, uint8_t number, uint16_t val
     printf("%-10s %2d state %u\n", what, (int)n, (unsigned)dfu.state);
 }
 
-/* Handles a reset of the bus. A product sets a flag that its bootloader reads, and restarts; there dfu_device_begin is called. */
+/* Takes a reset of the bus. A product sets a flag that its bootloader reads, and restarts; then the bootloader calls dfu_device_begin. */
 static void reset(void) {
     printf("bus reset: %s\n", dfu_runtime_usb_reset(&dfu) ? "into the bootloader" : "the application goes on");
 }

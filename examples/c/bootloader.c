@@ -22,7 +22,7 @@ static const struct dfu_config config = {
     .sector = 0,
 };
 
-/* Memory that lasts through a loss of power, and what need not: two buffers, and the device. */
+/* The flash lasts through a loss of power; two buffers and the device need not. */
 static uint8_t flash[DFU_MEDIUM_SIZE(1, 0, 1024)];
 static uint8_t block[DFU_BLOCK_SIZE(64, 1)], data[64];
 static const struct dfu_driver driver = DFU_MEMORY_DRIVER(flash);

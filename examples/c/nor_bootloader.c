@@ -11,7 +11,7 @@
 
 enum { PAGE = 256, SECTOR = 4096, CAPACITY = 2 * SECTOR, BLOCK = 1024, IMAGE = 5000 };
 
-/* Times that the part takes at most, in milliseconds. */
+/* Longest times of the part, in milliseconds. */
 enum { ERASE_MS = 45, PROGRAM_MS = 3 };
 
 static const struct dfu_config config = {

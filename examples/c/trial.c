@@ -52,7 +52,7 @@ static struct dfu_device dfu = {
 };
 static const struct dfu_trial trial = {.flash = part, .size = sizeof part, .driver = &driver, .tries = {PAGE, SECTOR, 3}};
 
-/* Runs the bootloader once the power comes, and returns where the image begins that is started. */
+/* Runs the bootloader once the power comes, and returns the place of the image that it starts. */
 static uint32_t power_on(void) {
     struct dfu_place place = {0, 0};
     is_shown = 1;
@@ -64,7 +64,7 @@ static uint32_t power_on(void) {
     return place.at;
 }
 
-/* Runs an application once it knows that it works. */
+/* Confirms the application at this place, as it does itself once it knows that it works. */
 static void confirm(uint32_t at) {
     is_shown = 1;
     printf("%c confirms itself: %d\n", part[at], (int)dfu_trial_accept(&trial, at));

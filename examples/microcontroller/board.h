@@ -5,7 +5,7 @@
 #define BOARD_H
 #include "dfu_device.h"
 
-/* Counts how often a new image is started on trial, until it confirms itself; with 0 none is on trial. */
+/* Number of starts that a new image gets on trial, until it confirms itself; with 0 no image is on trial. */
 #ifndef TRIES
 #define TRIES 0
 #endif

@@ -25,12 +25,13 @@ static uint8_t block[DFU_BLOCK_SIZE(TRANSFER, UNIT)], answer[TRANSFER];
 static struct frame request;
 static uint32_t running; /* where the image that runs begins in the medium */
 
-/* Tells whether the upgrade runs, or the image. */
+/* 1 while the upgrade runs, 0 while the image runs. */
 static int is_upgrading;
 
 enum { NO_ANSWER = -100 };
 
-/* Result of a call. If the record or the flash is not as it was left, the device gets power again. */
+/* Returns the result of a call. If it is a refusal, because the record or the flash is not as it was left, the device restarts as after a
+ * loss of power. */
 static int32_t checked(int32_t result) {
     if (result < 0 && result != DFU_STALL)
         restart(NOTE_NONE);

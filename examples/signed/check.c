@@ -74,7 +74,7 @@ static enum signed_verdict find_parts(const struct signed_bytes *bytes, struct l
     return number(header + 16) == 0 ? SIGNED_TAKEN : SIGNED_WRONG_FLAGS;
 }
 
-/* Place where the value of a type is kept, and how long it is: NULL for a type that is not looked at. */
+/* Returns where the place of a type's value is kept, and its length in `length`; NULL for a type that is not looked at. */
 static size_t *place_of(struct layout *found, int is_protected, uint16_t type, size_t *length) {
     switch (type) {
     case COUNTER_TYPE: return *length = COUNTER_LENGTH, is_protected ? &found->counter : NULL;

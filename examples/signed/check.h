@@ -29,7 +29,7 @@ struct signed_bytes {
     size_t tail_length;
 };
 
-/* Rules by which a board takes. */
+/* Rules by which a board takes an image. */
 enum { SIGNED_KEY = 44 };
 struct signed_rules {
     const uint8_t (*keys)[SIGNED_KEY]; /* the public keys, in DER, as `imgtool getpub` prints one: each may sign */
@@ -53,7 +53,7 @@ enum signed_verdict {
     SIGNED_OLDER            /* signed, and its security counter is below the least; an equal one is taken */
 };
 
-/* Fields that are signed in an image that was taken. */
+/* Signed fields of an image that was taken. */
 struct signed_image {
     uint32_t program, length; /* where the program begins, and its bytes */
     uint32_t counter;

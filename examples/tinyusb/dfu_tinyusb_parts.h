@@ -54,8 +54,8 @@ static bool deinit(void)
     return true;
 }
 
-/* TinyUSB calls reset at each reset of the bus (an enumeration has two), when the cable is pulled, and at a SET_CONFIGURATION of another
- * value, which is no reset: the hook tells that apart. The first reset after a SET_CONFIGURATION. */
+/* Tells whether a reset counts: the first one after a SET_CONFIGURATION does. TinyUSB calls reset at each reset of the bus (an enumeration
+ * has two), when the cable is pulled, and at a SET_CONFIGURATION of another value, which is no reset; the hook tells that apart. */
 static bool counts(void)
 {
     const bool was_configured = is_configured;

@@ -5,7 +5,7 @@
 #include <stddef.h>
 #include <stdint.h>
 
-/* Cause for which the processor was reset, as noted before the reset. A loss of power leaves NOTE_NONE. */
+/* Reason of a restart, which is noted before the processor is reset. A loss of power leaves NOTE_NONE. */
 enum note { NOTE_NONE = 0, NOTE_UPGRADE = 1, NOTE_FAULT = 2 };
 enum note note_taken(void);
 void restart(enum note note) __attribute__((noreturn));
@@ -13,10 +13,11 @@ void restart(enum note note) __attribute__((noreturn));
 /* Starts an image at its place in flash, as image.h says, and returns only if it is none. */
 void image_start(const uint8_t *image, size_t length);
 
-/* Place where the processor begins. */
+/* Runs first after each reset of the processor. */
 void on_reset(void) __attribute__((noreturn));
 
-/* Calls of start.c: the bootloader; at a byte of the serial port; at the interrupt of clock_wake_in; with what the image says. */
+/* Calls that start.c makes: the bootloader; for a byte of the serial port; for the interrupt of clock_wake_in; and for a text of the
+   image. */
 int main(void);
 void on_serial(void);
 void on_time(void);

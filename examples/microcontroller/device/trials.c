@@ -19,7 +19,7 @@ static const struct dfu_trial trial = {
 /* Result of the look of this start, which its boot takes: the images are read once. */
 static struct dfu_standing standing;
 
-/* Place where the image begins in the medium that was started last: it runs elsewhere, so that it can't know by itself. */
+/* Place in the medium of the image that was started last. The image runs elsewhere, so it can't know its place itself. */
 static uint32_t started;
 
 int32_t trials_transfer(struct dfu_device *device, const uint8_t setup[8]) {

@@ -33,8 +33,8 @@ static int read_file(const char *path, size_t *length) {
     return is_wrong ? -1 : 0;
 }
 
-/* Acts as a host does with a device that comes to the bus: asks who it is. A question may fall into the device's start, and is asked
- * again; it changes nothing. */
+/* Asks the device who it is, as a host does with each device that comes to the bus. A question may come while the device still starts, so
+ * it is asked again; it changes nothing. */
 static enum link_outcome greet(uint8_t about[FRAME_ABOUT_LENGTH]) {
     enum link_outcome outcome = LINK_SILENT;
     for (int turn = 0; turn < ABOUT_TURNS && outcome == LINK_SILENT; turn++) {

@@ -91,7 +91,7 @@ static void print_text(void) {
     putchar('\n');
 }
 
-/* Events that are waited for: an answer with a number, which is 0 to 255, or one of these. */
+/* Events that a wait is for: an answer with a number, 0 to 255, or one of these. */
 enum { A_TEXT = -1, THE_TIME = -2 };
 
 /* Takes frames until that came: 1; or 0, if the time is over; or -1 if the device is gone. */

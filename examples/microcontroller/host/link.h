@@ -5,7 +5,7 @@
 #include <stddef.h>
 #include <stdint.h>
 
-/* Result of a frame that was sent. */
+/* Outcomes of a frame that was sent. */
 enum link_outcome {
     LINK_ANSWERED,
     LINK_STALLED,
@@ -26,7 +26,7 @@ enum link_outcome link_ask(uint8_t kind, const uint8_t *bytes, size_t length, in
 /* Lets time pass: 0; or -1 if the device leaves. Text of the image is printed. */
 int link_wait(int ms);
 
-/* Waits until the image says something, at most so many milliseconds: the same. */
+/* Waits until the image says something, at most so many milliseconds. Returns as link_wait does. */
 int link_wait_for_text(int ms);
 
 #endif

@@ -62,7 +62,7 @@ int main(int count, char **words)
     return wrong != 0;
 }
 
-/* Where Rust panics. */
+/* Ends the program if Rust panics. */
 void stopped(void);
 void stopped(void)
 {

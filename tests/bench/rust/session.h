@@ -1,5 +1,5 @@
 /* SPDX-License-Identifier: MIT OR Apache-2.0 */
-/* Arguments of a session of tests/bench/rust is given: package/src/lib.rs has the same. */
+/* Arguments of a session of tests/bench/rust; package/src/lib.rs declares the same. */
 #ifndef SESSION_H
 #define SESSION_H
 #include <stddef.h>

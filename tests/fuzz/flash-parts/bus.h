@@ -23,7 +23,7 @@ void bus_elapse(uint64_t ms);
 /* The board leaves the bus, and comes back after some time with what it is then. */
 void bus_leave(struct board *board);
 
-/* If its mode has changed it leaves the bus, and comes back. */
+/* Lets a board whose mode has changed leave the bus, and come back. */
 void bus_look(struct board *board);
 
 /* Something comes, goes or changes. */

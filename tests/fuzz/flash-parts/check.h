@@ -1,4 +1,4 @@
-/* Requests that a program may send to which device, and what it may report. */
+/* Checks that the program sends only requests that the device may get, and reports only what it may. */
 #ifndef FUZZ_CHECK_H
 #define FUZZ_CHECK_H
 
@@ -19,7 +19,7 @@ void check_status(int status);
 /* Returns whether a block was sent, or was to be. */
 bool check_has_downloaded(void);
 
-/* What it printed. */
+/* Checks the text that the program printed. */
 void check_printed(int status);
 
 #endif

@@ -24,7 +24,7 @@ int64_t signal_came(void)
     return came_ms;
 }
 
-/* Where the program catches none, that ends it; and a second one of a kind may. */
+/* Sends the program a signal. If the program doesn't catch it, that ends the program; and so may a second one of a kind. */
 static void send(int number)
 {
     static bool was_sent[64];
@@ -68,7 +68,7 @@ static bool is_cut(void)
     return chance(temper.stops / 10) || (waits > MOST_WAITS && waits % 100 == 0);
 }
 
-/* How much of it is left where a signal ended it. */
+/* Lets the time pass, and returns how much of it is left if a signal ended the wait. */
 static uint64_t wait_ms(uint64_t ms)
 {
     uint64_t part = is_cut() && ms > 0 ? below(ms > UINT32_MAX ? UINT32_MAX : (uint32_t)ms) : ms;

@@ -143,7 +143,7 @@ int libusb_reset_device(libusb_device_handle *handle)
         check_stalled(handle->device->board);
     clock_pass(10);
     trace("a reset: %d", result);
-    /* If it is said to have failed, though it was carried out, the device is the same still. */
+    /* Even if the call is reported as failed though it was carried out, the device is the same. */
     return result == 0 ? error : !temper.is_fair && chance(20) ? 0 : result;
 }
 

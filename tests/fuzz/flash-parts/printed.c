@@ -1,4 +1,4 @@
-/* Text that the program printed: text that does no harm to a terminal, and a record that is JSON and has the exit status. */
+/* Checks the text that the program printed: it does no harm to a terminal, and a record is JSON and has the exit status. */
 #include "books.h"
 #include "check.h"
 #include "run.h"

@@ -1,4 +1,4 @@
-/* Reads of a face. */
+/* Answers reads of a device's descriptors and strings. */
 #include "board.h"
 
 #include <string.h>

@@ -1,4 +1,4 @@
-/* Fate of a transfer. */
+/* Carries out a transfer, or has it fail by chance. */
 #include "usb.h"
 #include "books.h"
 #include "bus.h"

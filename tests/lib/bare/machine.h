@@ -1,4 +1,4 @@
-/* What the programs of this folder ask of QEMU's semihosting, and of a processor without an OS. */
+/* Calls by which the programs of this folder use QEMU's semihosting, and a processor without an OS. */
 #ifndef BARE_MACHINE_H
 #define BARE_MACHINE_H
 #include <stdint.h>
@@ -9,10 +9,10 @@ uintptr_t semihost(uintptr_t call, const void *words);
 /* The end of the program. */
 void leave(int status) __attribute__((noreturn));
 
-/* Place to which each exception that nothing expects leads: the program ends with status 3. */
+/* Takes each exception that nothing expects, and ends the program with status 3. */
 void on_fault(void) __attribute__((noreturn));
 
-/* Place to which a start leads, with a stack. */
+/* Runs first after a start, with a stack. */
 void begin(void) __attribute__((noreturn));
 
 /* Runs a function on the stack that ends at `top`. */

@@ -67,7 +67,7 @@ static int32_t refuse(uint32_t status) {
     return dfu_core_refuse(&config, &board.record, status);
 }
 
-/* Effects of a refusal to the board: nothing beside the mode, or nothing at all. */
+/* Board before a call, to check that a refusal changes nothing but the mode, or nothing at all. */
 static struct board before;
 static void keep(void) {
     before = board;

@@ -1,6 +1,6 @@
-/* Tells whether a setup closes a download: over random requests of hosts that mostly do it right, what dfu_core_closes says is what
- * handling the setup then does, and whether dfu_core_refuse_close takes it; and where it says 1, the candidate is there to be checked. Then
- * its refusals. It takes how many sequences. */
+/* Tries the question whether a setup closes a download. Over random requests of hosts that mostly do it right, the answer of
+ * dfu_core_closes must be what handling the setup then does, and say whether dfu_core_refuse_close takes it; and after an answer of 1 the
+ * candidate is there to be checked. Then its refusals. It takes the number of sequences. */
 #include "driver.h"
 
 static const struct fate well = {WELL, 0, 0, 0};

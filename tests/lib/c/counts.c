@@ -1,6 +1,6 @@
-/* Counts how many erases and programs a block and putting an image in place cost: at most what the macros of dfu_device.h say, and for some
- * unit, sector and transfer size as many. Downloads by dice, in blocks of any size, over flash in memory. It takes how many downloads to
- * make. */
+/* Counts the erases and programs that a block costs, and putting an image in place: at most as many as the macros of dfu_device.h say, and
+ * for some unit, sector and transfer size exactly as many. Downloads by dice, in blocks of any size, over flash in memory. It takes the
+ * number of downloads. */
 #include <stdio.h>
 #include <stdlib.h>
 #include <string.h>
@@ -14,7 +14,7 @@ static uint8_t medium[DFU_MEDIUM_SIZE(256, 8192, 65536)], block[DFU_BLOCK_SIZE(M
 static uint32_t dice = 1, erases, programs;
 static long blocks, all_erases, all_programs;
 
-/* Counts how often it was as many as the most. */
+/* Numbers of blocks and of images put in place that cost as much as the macros say. */
 static struct { long erases, programs; } of_blocks, of_commits, *full;
 
 static int erase(void *own, uint32_t at, uint32_t length) {

@@ -25,9 +25,8 @@ static unsigned char old[MOST], expected[MOST], saved[MOST];
 static size_t size;
 static long runs, wrong, counts[STATUSES];
 
-/* Requests that a run sent: how many transfers, and which of them have an answer that can be cut to three bytes, and which of them no
- * device may stall: GETSTATE while it was brought something that it hasn't started, as in the promises of crates/dfuse_link
- * (specs/Reactions). */
+/* Requests that a run sent: the number of transfers; those whose answer can be cut to three bytes; and those that no device may stall:
+ * GETSTATE while it was brought something that it hasn't started, as in the promises of crates/dfuse_link (specs/Reactions). */
 struct sent {
     unsigned count;
     int started;

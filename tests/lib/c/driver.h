@@ -29,8 +29,8 @@ struct board {
     uint32_t unit, sector;
 };
 
-/* Fate of a write that is asked for: it is carried out; or this one of them fails, or lies, or is cut off behind so many
- * bytes, with any bytes behind those where `torn` is set. */
+/* Fate of the writes that are asked for: all are carried out; or one of them fails, or lies, or is cut off behind so many bytes, with any
+ * bytes behind those if `torn` is set. */
 enum trouble { WELL, FAILS, LIES, CUT };
 struct fate {
     enum trouble trouble;

@@ -92,7 +92,7 @@ static void names(void) {
     is("no such name", dfu_host_name(0xffffffffu, NULL, 0), 0);
 }
 
-/* What wants NULL for nothing, and what stands in every mode where a device is asked without a medium. */
+/* Tries the calls that take NULL for nothing, and those that in every mode ask a device without a medium. */
 static void nothing(void) {
     static uint8_t medium[DFU_MEDIUM_SIZE(1, 0, 1024)], block[DFU_BLOCK_SIZE(64, 1)], out[64];
     static const uint8_t setup[8] = {0xa1, 3, 0, 0, 0, 0, 6, 0}, download[8] = {0x21, 1, 0, 0, 0, 0, 65, 0}, detach[8] = {0x21, 0, 255};

@@ -31,7 +31,7 @@ static void power_comes(void) {
     memset(programmed, 1, sizeof programmed); /* what was erased before is not known to be */
 }
 
-/* Returns whether the operation is one that may be asked for. */
+/* Checks that the operation is one that may be asked for. */
 static void look(const struct dfu_ask *ask) {
     const uint32_t end = ask->at + ask->length, whole = ask->kind == DFU_ERASE ? install.area.sector : 256;
     const uint32_t seen = end < length ? end : length;

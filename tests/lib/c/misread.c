@@ -8,7 +8,7 @@
 
 enum { UNIT = 16, SECTOR = 256, CAPACITY = 1024, IMAGE = 300, LOOKS = 4, WELL = -1, EMPTY = -2 };
 
-/* Findings of each look: WELL; this bit changed; or EMPTY, FFh everywhere. */
+/* Fate of each look: WELL; this bit reads changed; or EMPTY, FFh everywhere. */
 static int fate[LOOKS], looks;
 static uint8_t part[2 * (2 * SECTOR + CAPACITY)], kept[sizeof part];
 

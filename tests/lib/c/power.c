@@ -11,7 +11,7 @@ static const struct dfu_driver driver = DFU_MEMORY_DRIVER(medium);
 static struct dfu_device device = {.config = &config, .flash = medium, .size = sizeof medium, .block = pending, .most = sizeof pending,
                                    .driver = &driver};
 static const uint8_t old[3] = {1, 2, 3};
-/* Counts how many calls are made before the power goes, and how many were made. */
+/* Number of calls before the power goes, and number that were made. */
 static int last, made;
 
 static int is_off(void) {

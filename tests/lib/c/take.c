@@ -92,7 +92,7 @@ static const struct row rows[] = {
     REFUSED("no file of HEX", "", IHEX, NONE, DFU_TAKE_NO_END, 0, 0),
 };
 
-/* Whether all bytes of a room from a place on are ones. */
+/* Returns whether all bytes of a room from a place on are ones. */
 static int are_ones(const uint8_t *room, size_t from, size_t size)
 {
     while (from < size)

@@ -23,7 +23,7 @@ static enum harm harm;
 static jmp_buf power;
 static int lost; /* how often it went */
 
-/* Acts of the board: the image that its last start ran first, the one that runs, whether it is within a reset by the host, and was as
+/* History of the board: the image that its last start ran first, the one that runs, whether it is within a reset by the host, and was as
  * the power went, how often the payload ran since it was put in place, whether the image before came back since, and whether a mark was
  * harmed. */
 static int is_upgrading, first_ran, running, is_in_reset, was_in_reset, runs, is_back, is_mark_harmed;
@@ -117,7 +117,7 @@ static void start(void) {
             first_ran = running;
     } while (running == PAYLOAD && behaviour == FAULTS);
 }
-/* The program that runs is as the state says: each change of it is a reset of the processor. */
+/* Resets the processor if the state calls for the other program, so that the one that runs is the one that the state says. */
 static void go_on(void) {
     const int is_upgrade = dfu_device_state(&device) > DFU_STATE_APP_DETACH;
     if (is_upgrade == is_upgrading)

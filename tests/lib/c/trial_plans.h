@@ -30,7 +30,7 @@ static struct view see(void) {
 static int is_same(struct view a, struct view b) {
     return a.base == b.base && a.on_trial == b.on_trial && a.left == b.left && a.armed == b.armed;
 }
-/* What is seen is one of these. */
+/* Checks that what is seen is one of these. */
 static void may(const char *what, int n, const struct view *any) {
     const struct view is = see();
     int found = 0;

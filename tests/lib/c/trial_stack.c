@@ -52,7 +52,7 @@ static void *run(void *word)
     return word;
 }
 
-/* Bytes of the flash before the call. For the transfer of an UPLOAD no start is left. */
+/* Prepares the flash for the call. For the transfer of an UPLOAD no start is left. */
 static int prepare(int call)
 {
     if (call < 3)

@@ -77,7 +77,8 @@ static double session(const struct part *p, uint16_t block, uint32_t busy_ms, ui
     return is_well ? waited / 1000 : -1;
 }
 
-/* What a block that erases nothing takes; and more, if the longest block would keep a request waiting for over 4 s. */
+/* Returns a choice of busy_ms: the time of a block that erases nothing; and more, if the longest block would keep a request waiting for
+ * over 4 s. */
 static uint32_t chosen(const struct part *p, uint16_t block)
 {
     const uint32_t typical = (DFU_BLOCK_PROGRAMS(block) * p->tenths + 9) / 10;

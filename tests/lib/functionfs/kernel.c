@@ -27,7 +27,7 @@ ssize_t __real_pwrite(int file, const void *bytes, size_t length, off_t at);
 int __real_fdatasync(int file);
 int __real_posix_fadvise(int file, off_t at, off_t length, int advice);
 
-/* What a write that isn't on the disk has put into the kernel's memory: a reader sees it until it is dropped. */
+/* Bytes that a write which isn't on the disk has put into the kernel's memory: a reader sees them until they are dropped. */
 static struct {
     off_t at;
     size_t length;

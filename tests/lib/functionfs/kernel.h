@@ -35,7 +35,7 @@ void event_add(struct endpoint *endpoint, uint8_t type);
 /* The data stage of the setup that stands there; -1 where the host sends none. */
 int host_data(uint8_t *bytes, size_t room);
 
-/* Result of a transfer, for the log of the host. */
+/* Write the result of a transfer, and notes, to the log of the host. */
 void host_said(const struct endpoint *endpoint, const char *what, const uint8_t *bytes, size_t length);
 void host_note(const char *format, ...) __attribute__((format(printf, 1, 2)));
 

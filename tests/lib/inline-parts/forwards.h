@@ -55,7 +55,7 @@ static int32_t forward(enum call call)
     }
 }
 
-/* What the proved call writes for the program is in the program's own memory. */
+/* Checks that the values which the proved call writes for the program are in the program's own memory. */
 static void is_written(enum call call, int32_t n)
 {
     const struct dfu_place *wanted = call == TRIAL_RUNS ? &given.otherwise : &given.run;

@@ -25,7 +25,7 @@ static void try_driver(void)
     }
 }
 
-/* What is handed in by a program that has memory, and no device: the inline call makes one. Its block is not used by a format. */
+/* Hands in the arguments of a program that has memory, and no device: the inline call makes one. Its block is not used by a format. */
 static void hand_in_memory(uint8_t *medium, size_t size)
 {
     hand_in(1);

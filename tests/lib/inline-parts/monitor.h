@@ -46,7 +46,7 @@ enum call {
     CALLS
 };
 
-/* What the stage before, with its operations, has to have answered so that a stage comes. The last two are of a plan's first stage. */
+/* Answers of the stage before, with its operations, after which a stage comes. The last two are of a plan's first stage. */
 enum when {
     ALWAYS,
     WELL, /* 0 or more */
@@ -59,7 +59,7 @@ enum when {
     TRANSFER_BEGINS /* the setup is a DNLOAD or an UPLOAD, and the state dfuIDLE */
 };
 
-/* Result of the inline call if its plan ends with a stage: its answer, but.. */
+/* Results of the inline call if its plan ends with a stage: the stage's answer, or an exception. */
 enum end {
     AS_ANSWERED,
     OR_NOT_WRITTEN,  /* DFU_NOT_WRITTEN for DFU_ASKS, which is no more carried out */
@@ -74,7 +74,7 @@ struct stage {
     enum end end;
 };
 
-/* Arguments that a program hands in, by which each proved call has to be made. */
+/* Arguments that a program hands in, and with which each proved call has to be made. */
 struct given {
     const struct dfu_config *config;
     const struct dfu_record *record; /* NULL: the record of the path's first call */

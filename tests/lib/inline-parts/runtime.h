@@ -38,7 +38,7 @@ static const uint16_t timeouts[] = {2, 5};
 static const uint32_t times[] = {0, 1, 2, 3, 0xffffffff};
 
 static struct dfu_runtime runtime;
-/* What the rows say of it. */
+/* State and time left that a row expects. */
 static uint32_t state_wanted, left_wanted;
 
 static void request(const struct row *row)

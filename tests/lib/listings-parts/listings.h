@@ -1,4 +1,4 @@
-/* What the parts of tests/listings share. */
+/* Declarations that the parts of tests/listings share. */
 #ifndef LISTINGS_H
 #define LISTINGS_H
 #include <stddef.h>

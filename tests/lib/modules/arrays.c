@@ -13,7 +13,7 @@ static void check(const char *what, int64_t found, uint64_t wanted) {
     }
 }
 
-/* What is below the caller's frame gets other bytes than zeros. */
+/* Fills the stack below the caller's frame with other bytes than zeros. */
 static int dirty(void) {
     volatile uint8_t room[1024];
     for (size_t k = 0; k < sizeof room; k++)

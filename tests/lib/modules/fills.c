@@ -14,7 +14,7 @@ static void check(const char *what, long long found, long long wanted) {
     }
 }
 
-/* What is below the caller's frame gets other bytes than zeros. */
+/* Fills the stack below the caller's frame with other bytes than zeros. */
 static int dirty(int number) {
     volatile uint8_t room[4096];
     for (size_t k = 0; k < sizeof room; k++)

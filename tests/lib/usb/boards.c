@@ -98,7 +98,7 @@ void boards_enter(int board)
     seen = &all_seen[board];
 }
 
-/* Work at the end is done with the board that was worked with. */
+/* Enters the board that was worked with, for the work at the end. */
 static void enter_awake(void)
 {
     boards_enter(awake);
@@ -121,7 +121,7 @@ void boards_pass_time(void)
         bus_pass_time();
 }
 
-/* Returns whether a board was pulled out by now, so long ago. */
+/* Returns whether a board was pulled out at least so many milliseconds ago. */
 static bool is_pulled(int board, unsigned ms)
 {
     const struct settings *its = &each[board];

@@ -108,8 +108,8 @@ int libusb_reset_device(libusb_device_handle *handle)
     return bus_reset() ? 0 : USB_ERROR_NOT_FOUND;
 }
 
-/* Answers of every device in its control endpoint: GET_DESCRIPTOR, for strings. U-Boot's answers it for the functional
- * descriptor too; no device has to. */
+/* Answers GET_DESCRIPTOR for strings at the control endpoint, as every device does. U-Boot's answers it for the functional descriptor too,
+ * which no device has to. */
 static int standard(const libusb_device *device, uint8_t kind, uint8_t request, uint16_t value, uint8_t *data, uint16_t length)
 {
     uint8_t function[9];

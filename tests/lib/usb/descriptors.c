@@ -62,7 +62,7 @@ static int raw_bytes(const char *hex, uint8_t *out, size_t room)
     return (int)count;
 }
 
-/* Bytes that one configuration takes, in one piece of memory, which ends with the last byte of the functional descriptor. */
+/* Memory of one configuration in one piece, which ends with the last byte of the functional descriptor. */
 struct whole {
     struct libusb_config_descriptor configuration;
     struct libusb_interface interface;

@@ -28,7 +28,7 @@ static uint8_t *cell(uint32_t address)
     return (uint8_t *)(uintptr_t)address;
 }
 
-/* What is changed is kept. */
+/* Keeps the bytes that are about to be changed. */
 static bool changes(uint32_t at, uint32_t count)
 {
     flash.at = at;
@@ -187,7 +187,7 @@ static bool is_there(void)
     return true;
 }
 
-/* What an erase or a write has changed is torn no more once time has passed. */
+/* Lets time pass, after which the bytes that an erase or a write has changed are torn no more. */
 static void elapse(uint32_t ms)
 {
     flash.count = ms > 0 ? 0 : flash.count;

@@ -1,4 +1,4 @@
-/* What the programs of this folder share: a flash, a device over it, its descriptors, and a log. */
+/* Parts that the programs of this folder share: a flash, a device over it, its descriptors, and a log. */
 #ifndef BOARD_H
 #define BOARD_H
 #include "dfu_device.h"

@@ -33,7 +33,7 @@ static void put(uint32_t at, const uint8_t *bytes, uint32_t length)
         die("write");
 }
 
-/* How much of an operation is done: all, or half of it where it fails. */
+/* Returns the number of bytes of an operation that are done: all, or half of them where it fails. */
 static uint32_t part(uint32_t length)
 {
     return flash_fails > 0 && (unsigned)rand() % flash_fails == 0 ? length / 2 : length;

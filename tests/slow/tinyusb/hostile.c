@@ -81,7 +81,7 @@ static unsigned choose(uint8_t setup[8])
     return setup[6] | (unsigned)setup[7] << 8;
 }
 
-/* What the answer says of the download that is under way. */
+/* Follows the state of the download that is under way, by the answer to a request. */
 static void follow(const uint8_t setup[8], unsigned length, int answer)
 {
     const bool was_closed = state == 6 || state == 7;
@@ -133,7 +133,8 @@ static void restart(void)
     state = state == 1 ? 2 : 0;
 }
 
-/* What is TinyUSB's: SET_CONFIGURATION of 0 and 1, and SET_INTERFACE. Neither is a reset of the bus, so that a download goes on. */
+/* Sends requests that TinyUSB itself answers: SET_CONFIGURATION of 0 and 1, and SET_INTERFACE. Neither is a reset of the bus, so a download
+ * goes on. */
 static void configure_anew(void)
 {
     const uint8_t setups[3][8] = {{0x00, 9, 0}, {0x00, 9, 1}, {0x01, 11, 0, 0, config.interface_number}};

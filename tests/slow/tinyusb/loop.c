@@ -1,4 +1,4 @@
-/* What the programs at raw-gadget share: a clock, a log, waiting, and another program in this one's place. */
+/* Parts that the programs at raw-gadget share: a clock, a log, waiting, and another program in this one's place. */
 #define _GNU_SOURCE
 #include "board.h"
 #include <errno.h>

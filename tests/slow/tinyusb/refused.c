@@ -1,4 +1,4 @@
-/* Acts of the driver once the device refuses a call, since its record or the flash was changed behind it, over the bus of bus.h: the host
+/* Tries the driver once the device refuses a call, because its record or the flash was changed behind it, over the bus of bus.h: the host
  * gets one stall, and never a dfuIDLE that its download did not lead to; the device begins again in its mode, once for each refusal, and
  * the next host downloads. It ends in `N passed, M failed`. The program is linked with --wrap. */
 #include "bus.h"

@@ -92,7 +92,7 @@ static void restart(bool is_unplugged)
         die("it does not enumerate");
 }
 
-/* What comes next. A reset leads to run-time mode, whatever was broken off. */
+/* Makes the next thing come. A reset leads to run-time mode, whatever was broken off. */
 static void go_on(enum next next)
 {
     static const uint8_t setups[2][8] = {{0, 9, 0}, {0, 9, 1}};

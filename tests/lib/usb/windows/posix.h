@@ -1,4 +1,4 @@
-/* Calls of the stand-in and Windows doesn't have. */
+/* Calls that the stand-in makes and that Windows doesn't have. */
 #ifndef USB_WINDOWS_POSIX_H
 #define USB_WINDOWS_POSIX_H
 
