@@ -38,10 +38,10 @@ struct bays {
     int count;
 };
 
-/* A device was seen. Its bay, if a process is to look at it; else NULL. */
+/* Takes a device that was seen. Returns its bay, if a process is to look at it; else NULL. */
 struct bay *bays_see(struct bays *bays, const struct port *port, int64_t now_ms);
 
-/* These are all that were seen: a device that has been away is pulled out. */
+/* Ends a look at the bus: a device that wasn't seen in it counts as pulled out once it has been away. */
 void bays_miss(struct bays *bays, const struct port *ports, int count, int64_t now_ms);
 
 /* Returns whether the device in a bay counts as the one of before as long as nothing speaks against it. */
@@ -50,7 +50,7 @@ bool bay_is_early(const struct bay *bay);
 /* BAY_SAME or BAY_TAKEN if the device in a bay is, or counts as, the one of before; else 0. */
 int bay_verdict(const struct bay *bay, const struct found *is);
 
-/* The process has ended that was at work with it; with `is_same` it has done nothing. */
+/* Notes that the process at work with the bay's device has ended; with `is_same` it has done nothing. */
 void bay_end(struct bay *bay, bool is_same, int64_t now_ms);
 
 #endif

@@ -20,16 +20,16 @@ struct crew {
 
 void crew_make(struct crew *crew, const struct words *words);
 
-/* Begins one for the device in the bay. */
+/* Begins a process for the device in the bay. */
 void crew_begin(struct crew *crew, const struct words *words, struct image *image, struct bay *bay);
 
 /* Waits until one of them says something, at most that long; prints what there is to say, and the record of each that has ended. */
 void crew_step(struct crew *crew, int ms);
 
-/* A signal came: each gives up. */
+/* Has each process give up, because a signal came. */
 void crew_stop(struct crew *crew);
 
-/* Nothing more comes: standard error is as it was. */
+/* Leaves standard error as it was, because nothing more comes. */
 void crew_end(struct crew *crew);
 
 #endif

@@ -21,7 +21,7 @@ bool demo_make(uint16_t vendor, uint16_t product, size_t most);
 /* Plans a fault at the block of that number, once. */
 void demo_plan(enum demo_fate fate, unsigned block);
 
-/* The plug is put in again: the board gets power. */
+/* Puts the plug in again, so that the board gets power. */
 void demo_plug(void);
 
 /* Return whether the board has power, and whether its application runs, so that it is in run-time mode. */
@@ -39,7 +39,7 @@ uint16_t demo_vendor(void);
 uint16_t demo_product(void);
 void demo_functional(uint8_t bytes[9]);
 
-/* One request of the class: as many bytes as were sent or answered, or an error of libusb. */
+/* Makes a request of the class. Returns the number of bytes that were sent or answered, or an error of libusb. */
 int demo_request(const uint8_t setup[8], uint8_t *data);
 
 /* Resets the bus. Returns whether the board has the same descriptors after it. */

@@ -22,19 +22,19 @@ struct log {
 /* Makes the file, which must not be there yet; a pipe or a terminal may be. False if it can't be made, which is then said. */
 bool log_open(struct log *log, const char *name);
 
-/* A request is about to be sent: if the device was found again since the last one, it was reset. */
+/* Writes a reset before the request that is about to be sent, if the device was found again since the last one. */
 void log_device(struct log *log, const struct device *device);
 
-/* A request was sent to that interface, with this body if it is one with a body, and this came of it. */
+/* Writes a request that was sent to that interface, with its body if it has one, and its answer. */
 void log_request(struct log *log, const uint8_t setup[8], unsigned interface, const uint8_t *body, const struct answer *answer);
 
-/* The bus was reset. */
+/* Writes a reset of the bus. */
 void log_reset(struct log *log);
 
-/* A line with the report, the exit status and the time (station.h), behind which nothing more comes. */
+/* Writes the last line: the report, the exit status and the time (station.h). */
 void log_end(struct log *log, const char *report, int status, const char *time);
 
-/* Nothing more comes. False if something could not be written, which is then said. */
+/* Closes the log. Returns false if something could not be written, which is then said. */
 bool log_close(struct log *log);
 
 #endif

@@ -15,7 +15,7 @@ const char *next_of_refusal(int32_t refusal);
 /* Prints the line, unless there is no step or --quiet was given. */
 void next_say(const char *step);
 
-/* From here on no line is printed, as with --quiet. */
+/* Has no line printed from here on, as with --quiet. */
 void next_hush(void);
 
 #endif

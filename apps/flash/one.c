@@ -141,7 +141,7 @@ static int flash(const struct words *words, struct image *image, struct wanted *
     return record_out() ? STATUS_DONE : STATUS_FILE;
 }
 
-/* By which the next device there is known to be another one. */
+/* Prints the serial number that the device had in each mode, by which the next device there is known to be another one. */
 static void print_serials(void)
 {
     for (int mode = 0; mode < 2; mode++)

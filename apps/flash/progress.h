@@ -23,15 +23,15 @@ struct progress {
     uint32_t said_ms; /* the longest wait that was said */
 };
 
-/* A bar if standard error is a terminal, unless `is_lines`: then other lines are printed on it too. */
+/* Chooses a bar if standard error is a terminal, unless `is_lines`: then other lines are printed on it too. */
 enum progress_style progress_style(bool is_quiet, bool is_lines);
 
 void progress_begin(struct progress *progress, enum progress_style style, uint64_t total);
 
-/* So many bytes of this part are done. */
+/* Shows that so many bytes of this part are done. */
 void progress_at(struct progress *progress, enum progress_part part, uint64_t bytes);
 
-/* The device asks for a wait: one of over 10 seconds is said, unless one as long was said before. */
+/* Says that the device asks for a wait of over 10 seconds, unless one as long was said before. */
 void progress_wait(struct progress *progress, uint32_t ms);
 
 /* Ends the line of a bar. */

@@ -19,30 +19,30 @@ struct stamp;
 /* Reads the list and the record of what is used. False if one can't be used, which is then said. */
 bool stamp_begin(const struct words *words);
 
-/* The next one that no board has, which is then held for one; NULL if there is none. */
+/* Holds the next entry that no board has for a board. Returns NULL if there is none. */
 struct stamp *stamp_hold(void);
 
-/* It was held for a board that didn't take it. */
+/* Releases an entry whose board didn't take it. */
 void stamp_release(struct stamp *stamp);
 
 /* Count the entries that no board has: with those that are held for a board, or without. */
 size_t stamp_left(void);
 size_t stamp_free(void);
 
-/* The board of this process gets this one; NULL: none. With a path, the board there has taken it already. */
+/* Gives this entry to the board of this process; NULL for none. With a path, the board there has taken it already. */
 void stamp_is(struct stamp *stamp, const char *taken_at);
 
-/* From here on the board has it: the record says so. False if it can't, which is then said; nothing may be sent then. */
+/* Records that the board has the entry. Returns false if that can't be recorded, which is then said; then nothing may be sent. */
 bool stamp_take(const char *path);
 
-/* The board has ended so. */
+/* Records how the board's session ended. */
 void stamp_end(int status, const char *report);
 
 /* Return the names, as in records, of the entry that the board has, or NULL; and of the one that it is to get. */
 const char *stamp_taken(void);
 const char *stamp_next(void);
 
-/* Looks where in the file --stamp-at is: 0; or a refusal, if that is no room for an entry. */
+/* Finds the place of --stamp-at in the file. Returns 0, or a refusal if there is no room for an entry. */
 int32_t stamp_place(struct image *image, const struct words *words);
 
 /* Writes the entry of this process's board into the image, whose suffix is made anew. 0, or a refusal. */

@@ -11,10 +11,10 @@ enum { STOP_NONE, STOP_SIGNAL, STOP_TIME };
 
 extern volatile sig_atomic_t stop_cause;
 
-/* From here on signals, and `seconds` if they aren't 0, end a session well and a wait at once. */
+/* Has signals, and the time limit of `seconds` unless it is 0, end a session in order, and a wait at once. */
 void stop_catch(uint32_t seconds);
 
-/* The session is over: the seconds count no more. */
+/* Ends the time limit once the session is over. */
 void stop_no_more(void);
 
 #endif

@@ -19,16 +19,16 @@ struct trace {
     uint64_t number; /* of the last action */
 };
 
-/* A request was sent, a wait of `asked` ms was made, or the bus was reset; and it took `ms`. */
+/* Writes a line for a request that was sent, a wait of `asked` ms, or a reset of the bus, which took `ms`. */
 void trace_request(struct trace *trace, const uint8_t setup[8], const struct answer *answer, int64_t ms);
 void trace_wait(struct trace *trace, uint32_t asked, const struct answer *answer, int64_t ms);
 void trace_reset(struct trace *trace, const struct answer *answer, int64_t ms);
 
-/* A session begins: what it is for, the device and its functional descriptor, the bytes of a block, and the limits. */
+/* Writes the begin of a session: its goal, the device and its functional descriptor, the bytes of a block, and the limits. */
 void trace_begin(const struct trace *trace, const char *goal, const struct found *is, unsigned transfer, uint32_t actions,
                  uint16_t restarts);
 
-/* The session is given up. */
+/* Writes that the session is given up. */
 void trace_abort(const struct trace *trace);
 
 #endif

@@ -7,19 +7,19 @@
 #include "session.h"
 #include "words.h"
 
-/* In place of a status: the session is to be made once more, as --retry asks for. Nothing was printed of it. */
+/* Returned in place of an exit status if the session must be made once more, as --retry asks for. Nothing was printed of it. */
 #define WORK_AGAIN 101
 
-/* Takes what the words ask for. */
+/* Takes into the session what the words ask for. */
 void work_ask(struct session *session, const struct words *words);
 
 /* Opens the device; from here on signals and --timeout end what is done with it. */
 int work_begin(struct session *session, const struct words *words);
 
-/* Runs it from there to the record of its end. */
+/* Runs the session from there to the record of its end. */
 int work_run(struct session *session, const struct words *words, enum progress_style style);
 
-/* Prints what it came to, or why it is refused. */
+/* Print what the session came to, or why it is refused. */
 int work_print(const struct session *session, const struct words *words, const struct verdict *verdict);
 int work_refused(const struct session *session, const struct words *words, int32_t refusal);
 

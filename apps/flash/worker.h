@@ -45,16 +45,16 @@ void worker_stop(struct worker *worker, int64_t deadline_ms);
 /* Ends it at once. */
 void worker_kill(struct worker *worker);
 
-/* It has ended: an entry that its device didn't take is for another one; with one that it took, what is recorded next has that. */
+/* Releases the entry of a process that has ended, if its device didn't take it; else the next record has that entry. */
 void worker_leave_stamp(struct worker *worker);
 
-/* It has ended: gives back what it took. */
+/* Gives back the memory and streams of a process that has ended. */
 void worker_drop(struct worker *worker);
 
-/* In that process: prints how the device was seen in a mode, for the bay. */
+/* Prints, in that process, how the device was seen in a mode, for the bay. */
 void worker_print_serial(bool is_upgrade, const char *serial);
 
-/* In that process: prints that the device takes its entry of --stamp. */
+/* Prints, in that process, that the device takes its entry of --stamp. */
 void worker_print_taken(void);
 
 #endif

@@ -15,7 +15,7 @@ struct installed {
     uint32_t at, length;
 };
 
-/* An image is in place: the command is run with MEDIUM, AT and LENGTH. If it still runs for the one before, it is run again after
+/* Runs the command with MEDIUM, AT and LENGTH for an image that is in place. If it still runs for the image before, it is run again after
    that. Nothing waits for it. */
 void installed_run(struct installed *installed, uint32_t at, uint32_t length);
 

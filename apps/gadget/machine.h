@@ -28,10 +28,10 @@ struct machine {
     int32_t refusal;            /* of the library; 0 if there was none. What follows one has no meaning */
 };
 
-/* The device gets power, and begins as the application or in DFU mode: 0, or the library's refusal. */
+/* Gives the device power, as the application or in DFU mode. Returns 0, or the library's refusal. */
 int32_t machine_power_on(struct machine *machine, const struct medium *medium, bool is_upgrade);
 
-/* Another program may have ended a trial since: then the device gets power anew, in the mode that it is in. */
+/* Gives the device power anew in its mode if another program has ended a trial since. */
 void machine_again(struct machine *machine);
 
 /* Plans how to handle a setup before its data stage: it is answered, stalled, or its data stage is taken. A trial may end by it: see
@@ -39,7 +39,8 @@ void machine_again(struct machine *machine);
 enum plan { PLAN_ANSWER, PLAN_STALL, PLAN_TAKE };
 enum plan machine_plan(struct machine *machine, const uint8_t setup[8]);
 
-/* The answer: how many bytes of `out`, or negative for a stall. If the host sends, the body has wLength bytes. */
+/* Handles a setup. Returns the number of bytes of its answer in `out`, or a negative number for a stall. If the host sends, the body has
+   wLength bytes. */
 int32_t machine_handle(struct machine *machine, const uint8_t setup[8], const uint8_t *body, uint8_t out[MOST_TRANSFER]);
 
 /* machine_closes returns whether this setup closes a download, and finds its image; machine_refuse_close refuses that image, with errTARGET

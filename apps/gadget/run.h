@@ -5,7 +5,7 @@
 
 #include "words.h"
 
-/* Is the device until a signal ends it: the status. */
+/* Runs the device until a signal ends it. Returns the exit status. */
 int run_device(const struct words *words);
 
 #endif

@@ -25,7 +25,7 @@ extern bool say_is_verbose;
    can't be made, which is said. */
 bool say_to(const char *name);
 
-/* Nothing more comes. If something could not be written, that is said. */
+/* Closes the log. If something could not be written, that is said. */
 void say_no_more(const char *name);
 
 /* Writes the answer to a request for `dfu judge`, with the bytes of its data stage that were taken. */

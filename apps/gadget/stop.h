@@ -5,7 +5,7 @@
 
 #include <stdbool.h>
 
-/* From here on a signal is noted, and ends a wait and a transfer that is under way. False if there is no pipe for it. */
+/* Has a signal noted, and end a wait and a transfer that is under way. Returns false if there is no pipe for it. */
 bool stop_catch(void);
 
 /* The signal that came, 0 if none did. */
@@ -14,14 +14,14 @@ int stop_signal(void);
 /* A file descriptor that can be read once one came, for poll. */
 int stop_descriptor(void);
 
-/* The signals as they were, in a child before its program. */
+/* Sets the signals back, in a child before its program. */
 void stop_forget(void);
 
-/* The medium can't be read any more: this ends the program with STATUS_MEDIUM, which is said. Endpoint 0 is closed with it, and so the
+/* Ends the program with STATUS_MEDIUM, which is said, because the medium can't be read any more. Endpoint 0 is closed with it, and so the
    gadget leaves the bus. */
 _Noreturn void stop_lost(void);
 
-/* From here on a page of the mapping that can't be read does that. */
+/* Has a page of the mapping that can't be read end the program so. */
 void stop_at_lost_medium(void);
 
 #endif

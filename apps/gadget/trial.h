@@ -14,13 +14,13 @@ struct dfu_trial trial_of(const struct medium *medium, const struct dfu_driver *
 #define TRIAL_WORDS 64
 void trial_words(const struct dfu_trial *trial, uint16_t release, char text[TRIAL_WORDS]);
 
-/* Marks a start, and prints AT and LENGTH of the image that is to be started. The status. */
+/* Marks a start, and prints AT and LENGTH of the image that is to be started. Returns the exit status. */
 int start_image(const struct words *words);
 
-/* The image that begins at AT is confirmed. The status. */
+/* Confirms the image that begins at AT. Returns the exit status. */
 int confirm_image(const struct words *words);
 
-/* A trial ends, and the image before is active. The status. */
+/* Ends a trial, so that the image before is active. Returns the exit status. */
 int end_trial(const struct words *words);
 
 #endif
