@@ -4,7 +4,16 @@
 #include <stdio.h>
 #include <string.h>
 
-#include "dfu_core.h"
+/* The inline calls of the header come to `power_on` and `is_blank`, which are below. */
+#define dfu_core_power_on power_on
+#define dfu_core_is_blank is_blank
+#include "dfu_device_memory.h"
+#undef dfu_core_power_on
+#undef dfu_core_is_blank
+
+/* The calls of the library. */
+int32_t dfu_core_power_on(const struct dfu_config *config, struct dfu_record *record, const uint8_t *flash, size_t size);
+int32_t dfu_core_is_blank(const struct dfu_config *config, const uint8_t *flash, size_t size);
 
 enum { UNIT = 16, SECTOR = 256, CAPACITY = 1024, IMAGE = 300, LOOKS = 4, WELL = -1, EMPTY = -2 };
 
@@ -24,7 +33,7 @@ static void misread(int turn)
     looks += turn;
 }
 
-static int32_t power_on(const struct dfu_config *config, struct dfu_record *record, const uint8_t *flash, size_t size)
+int32_t power_on(const struct dfu_config *config, struct dfu_record *record, const uint8_t *flash, size_t size)
 {
     misread(0);
     const int32_t n = dfu_core_power_on(config, record, flash, size);
@@ -32,17 +41,13 @@ static int32_t power_on(const struct dfu_config *config, struct dfu_record *reco
     return n;
 }
 
-static int32_t is_blank(const struct dfu_config *config, const uint8_t *flash, size_t size)
+int32_t is_blank(const struct dfu_config *config, const uint8_t *flash, size_t size)
 {
     misread(0);
     const int32_t n = dfu_core_is_blank(config, flash, size);
     misread(1);
     return n;
 }
-
-#define dfu_core_power_on power_on
-#define dfu_core_is_blank is_blank
-#include "dfu_device_memory.h"
 
 static const struct dfu_config config = {DFU_VERSION, 0x0100, 1, 0x1209, 255, 64, 7, 0, 0, 0, 1, UNIT, SECTOR, 0, 0};
 static uint8_t block[DFU_BLOCK_SIZE(64, UNIT)], image[IMAGE], shipped[sizeof part];
