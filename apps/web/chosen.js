@@ -44,12 +44,12 @@ export class ChosenFile {
     }
   }
 
-  // Whether it is sound, or a raw image for a device of DfuSe.
+  // True if it is sound, or a raw image for a device of DfuSe.
   isGood() {
     return this.said !== null && (this.said.refusal === undefined || this.isRaw())
   }
 
-  // Whether all of its bytes are an image, for an address.
+  // True if all of its bytes are an image, for an address.
   isRaw() {
     return this.isForDfuse && mayBeRaw(this, this.bytes)
   }
@@ -106,7 +106,7 @@ export class ChosenFile {
     this.sayAddress()
   }
 
-  // Whether the image was taken out of the file.
+  // True if the image was taken out of the file.
   isTaken() {
     return this.taken !== null && this.taken.refusal === undefined
   }
@@ -132,7 +132,7 @@ export class ChosenFile {
     else this.refuseFormat()
   }
 
-  // What was read of a file that a build made.
+  // Facts that were read of a file that a build made.
   takenFields() {
     if (!this.isTaken()) return []
     const { format, fill, address, bytes } = this.taken

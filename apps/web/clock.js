@@ -18,7 +18,7 @@ export class Clock {
     this.tellStopped()
   }
 
-  // Whether so many milliseconds have passed, and no fewer: a timer may come a little early.
+  // True once so many milliseconds have passed, and no fewer: a timer may come a little early.
   async wait(ms) {
     const end = this.now() + ms
     while (!this.isStopped && this.now() < end) {

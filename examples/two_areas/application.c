@@ -17,8 +17,8 @@ static int guarded_program(void *own, uint32_t at, const uint8_t *bytes, uint32_
 
 static const struct dfu_driver driver = {0, guarded_erase, guarded_program};
 static uint8_t block[DFU_BLOCK_SIZE(BLOCK, UNIT)], data[BLOCK];
-static struct dfu_device device = {.config = &board_config, .flash = (const uint8_t *)FLASH, .size = SIZE, .block = block,
-                                   .most = sizeof block, .driver = &driver};
+static struct dfu_device device = {
+    .config = &board_config, .flash = (const uint8_t *)FLASH, .size = SIZE, .block = block, .most = sizeof block, .driver = &driver};
 
 /* A request of the class, as the stack hands it in. Negative: endpoint 0 is stalled. */
 static int32_t on_request(const uint8_t setup[8]) {

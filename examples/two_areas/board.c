@@ -4,8 +4,16 @@
 #include "board.h"
 
 const struct dfu_config board_config = {
-    .version = DFU_VERSION, .vendor = 0x1209, .product = 0x0001, .device = 0x0100, .attributes = DFU_CAN_DNLOAD | DFU_MANIFESTATION_TOLERANT,
-    .detach_ms = 1000, .transfer = BLOCK, .least = 8, .unit = UNIT, .sector = SECTOR,
+    .version = DFU_VERSION,
+    .vendor = 0x1209,
+    .product = 0x0001,
+    .device = 0x0100,
+    .attributes = DFU_CAN_DNLOAD | DFU_MANIFESTATION_TOLERANT,
+    .detach_ms = 1000,
+    .transfer = BLOCK,
+    .least = 8,
+    .unit = UNIT,
+    .sector = SECTOR,
 };
 
 static uint8_t *const part = (uint8_t *)FLASH;

@@ -27,13 +27,13 @@ enum { OLD = 1, NEW = 2, TEARS = 4 };
 /* It lasts through resets of the processor. */
 struct world {
     uint32_t magic, phase;
-    uint32_t old_length, new_length;         /* bytes of the files */
-    uint32_t operations, cut[2], tear[2];    /* so many came; the numbers of those that are cut off, 0 for none, and in which way */
-    uint32_t all, then;                      /* how many there are without a cut, and with this first one */
-    uint32_t has_taken;                      /* the old image has begun to take the new one */
-    uint32_t ran;                            /* which image ran last: OLD or NEW */
-    uint32_t olds, news, seconds, refusals;  /* how the lives ended, how many had a second cut, and how many downloads were refused */
-    uint32_t copies, most;                   /* how many starts copied, with how many operations at most */
+    uint32_t old_length, new_length;        /* bytes of the files */
+    uint32_t operations, cut[2], tear[2];   /* so many came; the numbers of those that are cut off, 0 for none, and in which way */
+    uint32_t all, then;                     /* how many there are without a cut, and with this first one */
+    uint32_t has_taken;                     /* the old image has begun to take the new one */
+    uint32_t ran;                           /* which image ran last: OLD or NEW */
+    uint32_t olds, news, seconds, refusals; /* how the lives ended, how many had a second cut, and how many downloads were refused */
+    uint32_t copies, most;                  /* how many starts copied, with how many operations at most */
 };
 #define world (*(volatile struct world *)0x20000000u)
 

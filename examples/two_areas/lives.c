@@ -19,8 +19,9 @@ static void write_number(char *end, uint32_t number) {
 }
 
 static void all_done(void) {
-    static char text[] = "      lives,       of them with a second cut: old      , new      ;       copies, of at most     operations;"
-                         "       downloads refused\n      passed, 0 failed";
+    static char text[] =
+        "      lives,       of them with a second cut: old      , new      ;       copies, of at most     operations;"
+        "       downloads refused\n      passed, 0 failed";
     const uint32_t lives = world.olds + world.news;
     write_number(text + 5, lives);
     write_number(text + 18, world.seconds);
@@ -101,8 +102,7 @@ void lives_begin(struct dfu_device *device) {
 /* What starts is the old image or the new one, whole, and stands in the first slot. */
 void lives_start(uint32_t before, const struct dfu_place *place) {
     const uint32_t count = world.operations - before;
-    if (place->at != PLACE - FLASH ||
-        (!is_whole(OLD_FILE, world.old_length, place) && !is_whole(NEW_FILE, world.new_length, place)))
+    if (place->at != PLACE - FLASH || (!is_whole(OLD_FILE, world.old_length, place) && !is_whole(NEW_FILE, world.new_length, place)))
         board_stop("what starts is no whole image", 1);
     if (count == 0)
         return;

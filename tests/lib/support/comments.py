@@ -8,8 +8,8 @@ BLOCK = re.compile(r"\n\s*\n|\n(?=\s*[-|#>]|\s*\d+\. )")
 LEAST_WORDS = 4
 # A tree, the files that it has, and its budget. (Of the page's JavaScript it is what stands there; C, headers and pages are at the aim.)
 TREES = (
-    ("crates, .rt", lambda it: it.startswith("crates/") and it.endswith(".rt"), 22.5),
-    ("crates, .antt", lambda it: it.startswith("crates/") and it.endswith(".antt"), 17.6),
+    ("crates, .rt", lambda it: it.startswith("crates/") and it.endswith(".rt"), 22.8),
+    ("crates, .antt", lambda it: it.startswith("crates/") and it.endswith(".antt"), 17.9),
     ("C of apps/", lambda it: it.startswith("apps/") and it.endswith((".c", ".h")), 6.0),
     ("headers of include/", lambda it: it.startswith("include/") and it.endswith(".h"), 6.0),
     ("C of examples/ and tests/", lambda it: it.startswith(("examples/", "tests/")) and it.endswith((".c", ".h")), 6.0),
