@@ -1,7 +1,7 @@
-# Times of --erase and --program as bwPollTimeout has them: of each block, and of the image. Worked out by hand: --busy, or --manifest for the
-# image; --erase for each sector of 4,096 bytes that begins in the block, one more for the first block, because the gate may be open, and two
-# for the image; --program in proportion to the bytes, of which the first block has 256 more, and the image 512. Without --tries a medium has
-# no sectors.
+# Times of --erase and --program as bwPollTimeout has them: of each block, and of the image. Worked out by hand: --busy, or --manifest for
+# the image; --erase for each sector of 4,096 bytes that begins in the block, one more for the first block, because the gate may be open,
+# and two for the image; --program in proportion to the bytes, of which the first block has 256 more, and the image 512. Without --tries a
+# medium has no sectors.
 # shellcheck shell=sh disable=SC2154
 
 # low_first NUMBER: it as three bytes in hex, as bwPollTimeout has it.

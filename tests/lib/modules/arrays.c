@@ -22,7 +22,8 @@ static int dirty(void) {
 }
 
 static uint64_t held(uint64_t c, uint64_t a, uint64_t b) {
-    int bits[] = {a > b, 4096 > b, 8192 > a, b > a, ((a & 0xFFFFFFFF) | 1ull << 32) > b, 100ull << 8 * (a & 7) > b, a + 4096 > b, c > b, b > a, 0};
+    uint64_t halves = (a & 0xFFFFFFFF) | 1ull << 32, any = 100ull << 8 * (a & 7);
+    int bits[] = {a > b, 4096 > b, 8192 > a, b > a, halves > b, any > b, a + 4096 > b, c > b, b > a, 0};
     uint64_t number = 0;
     for (int k = 0; k < 10; k++)
         number = number << 1 | (uint64_t)(bits[k] != 0);

@@ -1,5 +1,5 @@
-; Arrays of functions. What is called narrow or wide is as in sizes.ll. writes.py takes the writes to what is called gone, because nobody reads
-; these bytes, and no others.
+; Arrays of functions. What is called narrow or wide is as in sizes.ll. writes.py takes the writes to what is called gone, because nobody
+; reads these bytes, and no others.
 
 ; What is handed gets a number of 64 bits; and of what is handed the low 4 bytes are read.
 define internal fastcc void @"arrays::put"(ptr noundef %a0, i64 noundef %a1) unnamed_addr #0 {
@@ -15,8 +15,8 @@ start:
   ret i64 %x.wide
 }
 
-; A size and a number of 64 bits; a copy of the size; two halves; a byte at any place; a sum that may be too large; what C and a call wrote; and a
-; size of which the high half is read.
+; A size and a number of 64 bits; a copy of the size; two halves; a byte at any place; a sum that may be too large; what C and a call
+; wrote; and a size of which the high half is read.
 define i64 @dfu_arrays_held(ptr %a0, i64 %a1, i64 %a2) #0 {
 start:
   %few = alloca [16 x i8], align 8
@@ -94,8 +94,8 @@ start:
   ret i64 %t9
 }
 
-; An array that nobody reads; bytes between two that are read, also of a copy; a copy that nobody reads; the half that a call does not read; a place
-; of C; and a byte that is read at any place.
+; An array that nobody reads; bytes between two that are read, also of a copy; a copy that nobody reads; the half that a call does not
+; read; a place of C; and a byte that is read at any place.
 define i64 @dfu_arrays_writes(ptr %a0, i64 %a1) #0 {
 start:
   %gone.never = alloca [8 x i8], align 8
@@ -157,8 +157,8 @@ start:
   ret i64 %r
 }
 
-; A phi that has the number of each case is called known. One has another number in a case, one a case of two numbers, and one a way that no case
-; leads to.
+; A phi that has the number of each case is called known. One has another number in a case, one a case of two numbers, and one a way that
+; no case leads to.
 define i64 @dfu_arrays_cases(i32 %a0, i64 %a1) #0 {
 start:
   switch i32 %a0, label %other.1 [
