@@ -1,10 +1,11 @@
 /* SPDX-License-Identifier: MIT OR Apache-2.0
  *
- * The body of dfu_install_core.h and dfu_trial_core.h: a run area, to which images are linked, and images on trial.
+ * The body of dfu_home_core.h and dfu_install_core.h and dfu_trial_core.h: two areas, of which one is run; a run area, to which images are linked; and images on trial.
  *
  * Made by dist/make/library of the proved crate. Nobody edits it: change the crate, and make it anew by dist/generate. Compile it as C11
  * beside its header. Memory is arrays of bytes here, laid out as on a 64-bit processor with the low byte first: a size takes
  * 8 bytes there, and so does a pointer. */
+#include "dfu_home_core.h"
 #include "dfu_install_core.h"
 #include "dfu_trial_core.h"
 
@@ -108,22 +109,30 @@ _Static_assert(offsetof(struct dfu_starting, run) == 0, "another layout");
 _Static_assert(offsetof(struct dfu_starting, otherwise) == 8, "another layout");
 _Static_assert(sizeof(struct dfu_starting) == 16, "another layout");
 _Static_assert(_Alignof(struct dfu_starting) == 4, "another layout");
+_Static_assert(offsetof(struct dfu_home_record, last) == 0, "another layout");
+_Static_assert(offsetof(struct dfu_home_record, count) == 4, "another layout");
+_Static_assert(sizeof(struct dfu_home_record) == 8, "another layout");
+_Static_assert(_Alignof(struct dfu_home_record) == 4, "another layout");
 
 struct i32_i32 { uint32_t a; uint32_t b; };
 struct i8_i32 { uint8_t a; uint32_t b; };
+struct i8_i8 { uint8_t a; uint8_t b; };
 
 static inline uint32_t load32(const unsigned char *p) { uint32_t x = 0; memcpy(&x, ALIGNED(p, 4), 4); return x; }
 static inline uint32_t load32u(const unsigned char *p) { uint32_t x = 0; memcpy(&x, p, 4); return x; }
-static inline uint64_t load64(const unsigned char *p) { uint64_t x = 0; memcpy(&x, ALIGNED(p, 8), 8); return x; }
 static inline uint64_t load64a4(const unsigned char *p) { uint64_t x = 0; memcpy(&x, ALIGNED(p, 4), 8); return x; }
+static inline size_t load_size(const unsigned char *p) { size_t x = 0; memcpy(&x, ALIGNED(p, 8), sizeof x); return x; }
 static inline int32_t signed32(uint32_t x) { int32_t y; memcpy(&y, &x, 4); return y; }
 static inline void store32(unsigned char *p, uint32_t x) { memcpy(ALIGNED(p, 4), &x, 4); }
 static inline void store64(unsigned char *p, uint64_t x) { memcpy(ALIGNED(p, 8), &x, 8); }
 static inline void store64a4(unsigned char *p, uint64_t x) { memcpy(ALIGNED(p, 4), &x, 8); }
+static inline void store_size(unsigned char *p, size_t x) { memcpy(ALIGNED(p, 8), &x, sizeof x); }
+static inline uint32_t uadd_sat32(uint32_t x, uint32_t y) { return (uint32_t)(x + y) < x ? (uint32_t)-1 : (uint32_t)(x + y); }
 static inline uint32_t umax32(uint32_t x, uint32_t y) { return x < y ? y : x; }
 static inline uint32_t umin32(uint32_t x, uint32_t y) { return x < y ? x : y; }
 static inline uint64_t umin64(uint64_t x, uint64_t y) { return x < y ? x : y; }
 static inline size_t umin_size(size_t x, size_t y) { return x < y ? x : y; }
+static inline uint32_t usub_sat32(uint32_t x, uint32_t y) { return x < y ? 0 : (uint32_t)(x - y); }
 static inline uint64_t wide(size_t x) { return x; }
 
 static _Alignas(1) const uint8_t static_0[1] = {
@@ -135,36 +144,53 @@ static _Alignas(4) const uint8_t static_1[64] = {
     0xe8, 0xa3, 0xd6, 0xd6, 0x8c, 0xb3, 0x61, 0xcb, 0xb0, 0xc2, 0x64, 0x9b, 0xd4, 0xd2, 0xd3, 0x86, 0x78, 0xe2, 0xa, 0xa0,
     0x1c, 0xf2, 0xbd, 0xbd
 };
-static _Alignas(8) const uint64_t switch_table_dfu_boot_c_trial_flash_prepared[4] = {
-    0x10, 0x10, 0x40, 0x100
+static _Alignas(1) const uint8_t static_3[1] = {
+    0xa5
 };
-static _Alignas(4) const uint32_t switch_table_dfu_boot_c_trial_flash_medium_of[4] = {
+static const uint16_t switch_table_dfu_boot_c_trial_flash_medium_of[4] = {
     1, 0x10, 0x40, 0x100
 };
-static _Alignas(4) const uint32_t switch_table_dfu_slots_layout_is_sized[4] = {
+static const uint8_t switch_table_dfu_slots_layout_is_sized[4] = {
     0, 0xf, 0x3f, 0xff
 };
-static _Alignas(4) const uint32_t switch_table_dfu_slots_layout_gate_of[4] = {
+static const uint16_t switch_table_dfu_boot_c_trial_flash_prepared[4] = {
     0x10, 0x10, 0x40, 0x100
 };
+static const uint32_t switch_table_dfu_core_install_next[3] = {
+    0xfffffffa, 0xfffffff1, 0xfffffff9
+};
+static const uint32_t switch_table_dfu_core_home_next[3] = {
+    0xfffffff0, 0xfffffffd, 0xfffffff8
+};
 
-static uint8_t dfu_boot_install_area_is_run_area(size_t a0, uint32_t a1);
+static uint8_t dfu_boot_install_area_is_run_area(uint64_t a0, uint32_t a1);
 static uint8_t dfu_boot_install_area_are_blank(unsigned char *a0, uint32_t a2, uint32_t a3);
 static struct i8_i32 dfu_boot_install_compare_first_difference(unsigned char *a0, unsigned char *a2, uint32_t a4, uint32_t a5);
+static uint8_t dfu_home_bytes_are_blank(unsigned char *a0, uint32_t a2, uint32_t a3);
+static uint8_t dfu_home_bytes_are_same(unsigned char *a0, size_t a1, unsigned char *a2);
+static void dfu_boot_install_deciding_next(unsigned char *a0, unsigned char *a1, size_t a2, unsigned char *a3, uint64_t a4, uint32_t a5, uint8_t a6, uint32_t a7);
+static void dfu_boot_install_pieces_piece(unsigned char *a0, size_t a1, uint32_t a2, unsigned char *a3);
 static void core_slice_edits_slice_T_copy_from_slice_i8_core_clone_U8Clone(unsigned char *a0, unsigned char *a2, size_t a3);
-static void dfu_boot_c_trial_flash_looked(unsigned char *a0, unsigned char *a1, unsigned char *a2, size_t a3);
-static void dfu_boot_c_trial_flash_prepared(unsigned char *a0, unsigned char *a1, unsigned char *a2, size_t a3);
+static void dfu_boot_c_home_flash_medium(unsigned char *a0, unsigned char *a1, unsigned char *a2, size_t a3);
 static void dfu_boot_c_trial_flash_medium_of(unsigned char *a0, unsigned char *a1, unsigned char *a2, size_t a3);
-static uint8_t dfu_boot_c_trial_flash_unit_sized(uint32_t a0);
+static struct i8_i8 dfu_home_asking_is_home(unsigned char *a0);
 static uint8_t dfu_slots_layout_is_sized(unsigned char *a0);
+static struct i8_i8 dfu_slots_places_count_slots(unsigned char *a0);
 static uint8_t dfu_slots_read_counts(unsigned char *a0, uint32_t a1);
 static uint8_t dfu_slots_read_is_open(unsigned char *a0, uint32_t a1);
 static uint8_t dfu_slots_read_byte_at(unsigned char *a0, uint32_t a1);
 static void dfu_slots_read_header_of(unsigned char *a0, unsigned char *a1, uint32_t a2);
 static uint32_t dfu_slots_layout_capacity_of(unsigned char *a0);
+static void dfu_suffix_crc_Crc_update_small(unsigned char *a0, unsigned char *a1, size_t a2);
+static struct i32_i32 dfu_slots_places_find_places(unsigned char *a0, uint8_t a1, uint8_t a2);
 static uint8_t dfu_slots_places_is_newest(unsigned char *a0, uint32_t a1, uint32_t a2, uint8_t a3, uint8_t a4);
 static uint8_t dfu_slots_read_generation(unsigned char *a0, uint32_t a1);
+static uint8_t dfu_slots_places_has_newest(unsigned char *a0, uint32_t a1, uint32_t a2, uint8_t a3, uint8_t a4);
 static uint8_t dfu_slots_read_header_len(unsigned char *a0, uint32_t a1);
+static void dfu_home_copying_head(unsigned char *a0, unsigned char *a1, unsigned char *a2, unsigned char *a4, size_t a5, uint8_t a6, uint32_t a7, unsigned char *a8);
+static void dfu_home_copying_unit_due(unsigned char *a0, unsigned char *a1, unsigned char *a2, uint32_t a4, uint8_t a5, uint32_t a6, unsigned char *a7, size_t a8, unsigned char *a9);
+static void dfu_boot_c_trial_flash_looked(unsigned char *a0, unsigned char *a1, unsigned char *a2, size_t a3);
+static void dfu_boot_c_trial_flash_prepared(unsigned char *a0, unsigned char *a1, unsigned char *a2, size_t a3);
 static uint8_t dfu_boot_trial_marks_is_set(unsigned char *a0, uint32_t a1, uint32_t a2);
 static uint32_t dfu_boot_trial_marks_starts(unsigned char *a0, uint32_t a1, uint32_t a2);
 static uint32_t dfu_boot_c_trial_told_tell(unsigned char *a0, uint32_t a1, unsigned char *a2);
@@ -172,9 +198,9 @@ static struct i32_i32 dfu_boot_c_trial_told_image_in(unsigned char *a0, uint32_t
 static uint32_t dfu_boot_c_trial_again_start_from(unsigned char *a0, unsigned char *a1, size_t a2, unsigned char *a3, unsigned char *a4, unsigned char *a5);
 
 /* dfu_boot::install::area::is_run_area: crates/dfu_boot/src/install/area.rt */
-static uint8_t dfu_boot_install_area_is_run_area(size_t a0, uint32_t a1) {
+static uint8_t dfu_boot_install_area_is_run_area(uint64_t a0, uint32_t a1) {
     uint8_t r1_0_in;
-    if ((wide(a0) < 0x100000000ULL) & (((a1 - 1) < 0x20000U) & ((a1 & 255) == 0))) r1_0_in = ((uint32_t)a0 % a1) == 0;
+    if ((a0 < 0x100000000ULL) & (((a1 - 1) < 0x20000U) & ((a1 & 255) == 0))) r1_0_in = ((uint32_t)a0 % a1) == 0;
     else {
         r1_0_in = 0;
     }
@@ -246,6 +272,115 @@ return_20:;
     return r77_2;
 }
 
+/* dfu_home::bytes::are_blank: crates/dfu_home/src/bytes.rt */
+static uint8_t dfu_home_bytes_are_blank(unsigned char *a0, uint32_t a2, uint32_t a3) {
+    size_t v1, indvars_iv;
+    uint8_t r9_not_not_not_not_not_not_not_not_not_not;
+    v1 = (size_t)a3;
+    indvars_iv = (size_t)a2;
+    for (;;) {
+        r9_not_not_not_not_not_not_not_not_not_not = indvars_iv >= v1;
+        if (r9_not_not_not_not_not_not_not_not_not_not) break;
+        uint8_t r19 = a0[indvars_iv];
+        if (r19 != 255) break;
+        indvars_iv = indvars_iv + 1;
+    }
+    return r9_not_not_not_not_not_not_not_not_not_not;
+}
+
+/* dfu_home::bytes::are_same: crates/dfu_home/src/bytes.rt */
+static uint8_t dfu_home_bytes_are_same(unsigned char *a0, size_t a1, unsigned char *a2) {
+    size_t r5_0, r5_0_lcssa;
+    r5_0 = 0;
+    for (;;) {
+        if (r5_0 == a1) {
+            r5_0_lcssa = a1;
+            break;
+        }
+        uint8_t r24 = a0[r5_0];
+        uint8_t r29 = a2[r5_0];
+        if (r24 != r29) {
+            r5_0_lcssa = r5_0;
+            break;
+        }
+        r5_0 = r5_0 + 1;
+    }
+    return r5_0_lcssa >= a1;
+}
+
+/* dfu_boot::install::deciding::next: crates/dfu_boot/src/install/deciding.rt */
+static void dfu_boot_install_deciding_next(unsigned char *a0, unsigned char *a1, size_t a2, unsigned char *a3, uint64_t a4, uint32_t a5, uint8_t a6, uint32_t a7) {
+    uint8_t trunc, r24;
+    uint32_t r7_0, r9_4_0, r16_2, r19_631_0;
+    struct i8_i32 r21_pn;
+    uint8_t r19_0_0;
+    uint8_t r23 = dfu_boot_install_area_is_run_area(a4, a5);
+    if (!r23) {
+        *a0 = 0;
+        a0[1] = 0;
+        store32(a0 + 4, 0);
+        return;
+    }
+    if (a2 == 0) {
+        *a0 = 0;
+        a0[1] = 1;
+        store32(a0 + 4, 0);
+        return;
+    }
+    if (a4 < (uint64_t)a2) {
+        *a0 = 0;
+        a0[1] = 2;
+        store32(a0 + 4, 0);
+        return;
+    }
+    trunc = a6 & 1;
+    uint32_t r16 = (uint32_t)a2;
+    r7_0 = (uint32_t)(trunc ? umin32(r16, a7) : 0);
+    struct i8_i32 r21 = dfu_boot_install_compare_first_difference(a1, a3, r7_0, r16);
+    if (r21.a == 1) r21_pn = r21;
+    else {
+        struct i8_i32 r37 = dfu_boot_install_compare_first_difference(a1, a3, 0, r7_0);
+        if (r37.a != 1) {
+            r19_631_0 = 0;
+            r19_0_0 = 3;
+            goto join_13;
+        }
+        r21_pn = r37;
+    }
+    r9_4_0 = r21_pn.b;
+    r16_2 = r9_4_0 & 0xffffff00U;
+    r24 = a5 == 0;
+    if (!(trunc ? (a7 <= r16_2) : 0)) {
+        if (r24) trap();
+    }
+    else {
+        if (r24) trap();
+        if ((a7 - (a7 % a5)) == (r16_2 - (r16_2 % a5))) {
+            uint8_t r47 = dfu_boot_install_area_are_blank(a3, r16_2, r16_2 + 256);
+            if (r47) {
+                r19_631_0 = r16_2;
+                r19_0_0 = 2;
+                goto join_13;
+            }
+        }
+    }
+    r19_631_0 = r9_4_0 - (r9_4_0 % a5);
+    r19_0_0 = 1;
+join_13:
+    *a0 = r19_0_0;
+    a0[1] = 0;
+    store32(a0 + 4, r19_631_0);
+    return;
+}
+
+/* dfu_boot::install::pieces::piece: crates/dfu_boot/src/install/pieces.rt */
+static void dfu_boot_install_pieces_piece(unsigned char *a0, size_t a1, uint32_t a2, unsigned char *a3) {
+    size_t a1_a0 = umin_size(a1, (size_t)a2);
+    memset(a3, 255, 256);
+    core_slice_edits_slice_T_copy_from_slice_i8_core_clone_U8Clone(a3, a0 + a1_a0, umin_size(a1 - a1_a0, 256));
+    return;
+}
+
 /* core::slice::edits::slice+T::copy_from_slice::<i8,20'core::clone::U8Clone{}> */
 static void core_slice_edits_slice_T_copy_from_slice_i8_core_clone_U8Clone(unsigned char *a0, unsigned char *a2, size_t a3) {
     size_t r0_0;
@@ -262,14 +397,442 @@ static void core_slice_edits_slice_T_copy_from_slice_i8_core_clone_U8Clone(unsig
     }
 }
 
+/* dfu_boot_c::home::flash::medium: crates/dfu_boot_c/src/home/flash.rt */
+static void dfu_boot_c_home_flash_medium(unsigned char *a0, unsigned char *a1, unsigned char *a2, size_t a3) {
+    _Alignas(8) unsigned char r7[32];
+    _Alignas(8) unsigned char r15[32];
+    _Alignas(4) unsigned char r17_8[29];
+    _Alignas(4) unsigned char r3[12];
+    uint8_t r17_0_0, r17_4_0;
+    memset(r17_8, 0, 29);
+    uint32_t r4 = load32(a1 + 28);
+    uint32_t r6 = load32(a1 + 32);
+    store32(r3, r4);
+    store32(r3 + 4, r6);
+    dfu_boot_c_trial_flash_medium_of(r7, r3, PLACE(static_0), 0);
+    uint8_t r27 = *r7;
+    if (r27 != 1) {
+        *a0 = 1;
+        a0[1] = 0;
+        a0[2] = 0;
+        memset(a0 + 8, 0, 24);
+        return;
+    }
+    dfu_boot_c_trial_flash_medium_of(r15, r3, a2, a3);
+    uint8_t r49 = *r15;
+    if (r49 != 1) {
+        r17_0_0 = 1;
+        r17_4_0 = 2;
+    }
+    else {
+        memcpy(r17_8 + 5, r15 + 8, 24);
+        r17_0_0 = 0;
+        r17_4_0 = 0;
+    }
+    *a0 = r17_0_0;
+    a0[1] = r17_4_0;
+    a0[2] = 0;
+    memcpy(a0 + 8, r17_8 + 5, 24);
+    return;
+}
+
+/* dfu_boot_c::trial::flash::medium_of: crates/dfu_boot_c/src/trial/flash.rt */
+static void dfu_boot_c_trial_flash_medium_of(unsigned char *a0, unsigned char *a1, unsigned char *a2, size_t a3) {
+    uint8_t r2_0_0, r0_9_0;
+    uint32_t r24, r0_11_0;
+    size_t r0_0_0_0, r0_5_0, r0_8_0;
+    uint32_t r7 = load32(a1);
+    r2_0_0 = (uint8_t)((r7 < 16) ? 0 : (uint8_t)((r7 < 64) ? 1 : (uint8_t)((r7 < 256) ? 2 : 3)));
+    uint32_t switch_load = (uint32_t)switch_table_dfu_boot_c_trial_flash_medium_of[(size_t)r2_0_0];
+    if (switch_load != r7) {
+        memset(a0, 0, 32);
+        return;
+    }
+    r24 = load32(a1 + 4);
+    if ((wide(a3) > 0xffffffffU) | ((r24 > 0x20000U) | ((r24 & 255) != 0))) {
+        r0_0_0_0 = 0;
+        r0_5_0 = 0;
+        r0_8_0 = 0;
+        r0_9_0 = 0;
+        r0_11_0 = 0;
+    }
+    else {
+        r0_0_0_0 = 1;
+        r0_5_0 = (size_t)(uintptr_t)a2;
+        r0_8_0 = a3;
+        r0_9_0 = r2_0_0;
+        r0_11_0 = r24;
+    }
+    store_size(a0, r0_0_0_0);
+    store_size(a0 + 8, r0_5_0);
+    store_size(a0 + 16, r0_8_0);
+    a0[24] = r0_9_0;
+    store32(a0 + 28, r0_11_0);
+    return;
+}
+
+/* dfu_home::asking::is_home::<#f31be65e8793cebb>: crates/dfu_home/src/asking.rt */
+static struct i8_i8 dfu_home_asking_is_home(unsigned char *a0) {
+    uint8_t r26, r27, r3_0_07, v2;
+    uint32_t r45;
+    uint8_t r12 = dfu_slots_layout_is_sized(a0);
+    if (!r12) {
+        r3_0_07 = 0;
+        v2 = 0;
+    }
+    else {
+        struct i8_i8 r25 = dfu_slots_places_count_slots(a0);
+        r26 = r25.a;
+        r27 = r25.b;
+        if ((r27 | r26) == 0) {
+            r3_0_07 = 0;
+            v2 = 0;
+        }
+        else {
+            struct i32_i32 r44 = dfu_slots_places_find_places(a0, r26, r27);
+            r45 = r44.a;
+            uint8_t r54 = dfu_slots_places_has_newest(a0, r45, r44.b, r26, r27);
+            if (!r54) {
+                r3_0_07 = 0;
+                v2 = 0;
+            }
+            else {
+                uint8_t r68 = dfu_slots_read_header_len(a0, r45);
+                if (r68 == 0) {
+                    r3_0_07 = 0;
+                    v2 = 0;
+                }
+                else {
+                    r3_0_07 = 1;
+                    v2 = r45 == 0;
+                }
+            }
+        }
+    }
+    struct i8_i8 r21_half = (struct i8_i8){ 0, 0 };
+    r21_half.a = r3_0_07;
+    struct i8_i8 r21 = r21_half;
+    r21.b = v2;
+    return r21;
+}
+
+/* dfu_slots::layout::is_sized::<#f31be65e8793cebb>: crates/dfu_slots/src/layout.rt */
+static uint8_t dfu_slots_layout_is_sized(unsigned char *a0) {
+    uint32_t r1_0_0_copyload, a0_a1, r5, r69;
+    size_t v0;
+    uint8_t common_ret_op;
+    r1_0_0_copyload = load32(a0 + 20);
+    if (!((r1_0_0_copyload < 0x20001U) & ((r1_0_0_copyload & 255) == 0))) common_ret_op = 0;
+    else {
+        uint8_t r0_0_0_copyload = a0[16];
+        v0 = (size_t)r0_0_0_copyload;
+        uint32_t switch_load = (uint32_t)switch_table_dfu_boot_c_trial_flash_prepared[v0];
+        a0_a1 = umax32(r1_0_0_copyload, switch_load);
+        size_t r3 = load_size(a0 + 8);
+        r5 = (uint32_t)r3;
+        uint32_t pre = a0_a1 << 2;
+        if (!(((pre + 0x2000000U) >= r5) & (((r5 & 1) == 0) ? (pre < r5) : !(r3 & 1)))) common_ret_op = 0;
+        else {
+            r69 = (r5 >> 1) - (a0_a1 << 1);
+            uint32_t switch_load_2 = (uint32_t)switch_table_dfu_slots_layout_is_sized[v0];
+            if ((switch_load_2 & r69) != 0) common_ret_op = 0;
+            else {
+                if (r1_0_0_copyload == 0) common_ret_op = 1;
+                else {
+                    common_ret_op = (r69 % r1_0_0_copyload) == 0;
+                }
+            }
+        }
+    }
+    return common_ret_op;
+}
+
+/* dfu_slots::places::count_slots::<#f31be65e8793cebb>: crates/dfu_slots/src/places.rt */
+static struct i8_i8 dfu_slots_places_count_slots(unsigned char *a0) {
+    uint8_t r5 = dfu_slots_read_counts(a0, 0);
+    size_t r3 = load_size(a0 + 8);
+    uint8_t r11 = dfu_slots_read_counts(a0, (uint32_t)r3 >> 1);
+    struct i8_i8 r20_half = (struct i8_i8){ 0, 0 };
+    r20_half.a = r5;
+    struct i8_i8 r20 = r20_half;
+    r20.b = r11;
+    return r20;
+}
+
+/* dfu_slots::read::counts::<#f31be65e8793cebb>: crates/dfu_slots/src/read.rt */
+static uint8_t dfu_slots_read_counts(unsigned char *a0, uint32_t a1) {
+    _Alignas(1) unsigned char r2[64];
+    _Alignas(1) unsigned char r3_2[16];
+    _Alignas(1) unsigned char r3[16];
+    _Alignas(4) unsigned char r1[4];
+    uint8_t r1_2_0_copyload, r1_3_0_copyload, r1_4_0_copyload;
+    uint32_t r1_5_0_copyload, r1_6_0_copyload, r1_7_0_copyload, r3_0;
+    unsigned char *r1_2, *r2_2;
+    uint8_t common_ret_op, r1_0_in;
+    uint8_t r8 = dfu_slots_read_is_open(a0, a1);
+    if (!r8) r1_0_in = 0;
+    else {
+        dfu_slots_read_header_of(r3, a0, a1);
+        uint8_t r4_2_0_copyload = r3[1];
+        if (r4_2_0_copyload != 2) r1_0_in = 1;
+        else {
+            dfu_slots_read_header_of(r3_2, a0, a1);
+            r1_2_0_copyload = r3_2[1];
+            r1_3_0_copyload = r3_2[2];
+            r1_4_0_copyload = r3_2[3];
+            r1_5_0_copyload = load32u(r3_2 + 4);
+            r1_6_0_copyload = load32u(r3_2 + 8);
+            r1_7_0_copyload = load32u(r3_2 + 12);
+            uint32_t r10 = dfu_slots_layout_capacity_of(a0);
+            if (r10 < r1_5_0_copyload) common_ret_op = 0;
+            else {
+                store32(r1, 0xffffffffU);
+                memset(r2, 0, 64);
+                r1_2 = a0 + 16;
+                r2_2 = a0 + 20;
+                r3_0 = 0;
+                while (r3_0 < r1_5_0_copyload) {
+                    uint32_t a1_a0 = umin32(r1_5_0_copyload - r3_0, 64);
+                    size_t r28 = (size_t)a1_a0;
+                    uint8_t r0_0_0_copyload = *r1_2;
+                    uint32_t r1_0_0_copyload = load32(r2_2);
+                    uint32_t switch_load = (uint32_t)switch_table_dfu_boot_c_trial_flash_prepared[(size_t)r0_0_0_copyload];
+                    size_t r5_0_0_copyload = load_size(a0);
+                    core_slice_edits_slice_T_copy_from_slice_i8_core_clone_U8Clone(r2, (unsigned char *)(uintptr_t)r5_0_0_copyload + (size_t)((r3_0 + a1) + (umax32(r1_0_0_copyload, switch_load) << 1)), r28);
+                    dfu_suffix_crc_Crc_update_small(r1, r2, r28);
+                    r3_0 = a1_a0 + r3_0;
+                }
+                uint32_t r0_0_0_copyload_2 = load32(r1);
+                common_ret_op = ((((r1_2_0_copyload == 2) ? (r1_3_0_copyload == 0) : 0) ? (r1_4_0_copyload == 0) : 0) ? (r1_6_0_copyload == r0_0_0_copyload_2) : 0) ? (r1_7_0_copyload == 0) : 0;
+            }
+            r1_0_in = common_ret_op;
+        }
+    }
+    return r1_0_in;
+}
+
+/* dfu_slots::read::is_open::<#f31be65e8793cebb>: crates/dfu_slots/src/read.rt */
+static uint8_t dfu_slots_read_is_open(unsigned char *a0, uint32_t a1) {
+    uint8_t r2 = dfu_slots_read_byte_at(a0, a1);
+    return r2 == 165;
+}
+
+/* dfu_slots::read::byte_at::<#f31be65e8793cebb>: crates/dfu_slots/src/read.rt */
+static uint8_t dfu_slots_read_byte_at(unsigned char *a0, uint32_t a1) {
+    _Alignas(4) unsigned char r1[1];
+    *r1 = 0;
+    size_t r5_0_0_copyload = load_size(a0);
+    core_slice_edits_slice_T_copy_from_slice_i8_core_clone_U8Clone(r1, (unsigned char *)(uintptr_t)r5_0_0_copyload + (size_t)a1, 1);
+    uint8_t r15 = *r1;
+    return r15;
+}
+
+/* dfu_slots::read::header_of::<#f31be65e8793cebb>: crates/dfu_slots/src/read.rt */
+static void dfu_slots_read_header_of(unsigned char *a0, unsigned char *a1, uint32_t a2) {
+    _Alignas(1) unsigned char r1[16];
+    memset(r1, 0, 16);
+    uint8_t r0_0_0_copyload = a1[16];
+    uint32_t r1_0_0_copyload = load32(a1 + 20);
+    uint32_t switch_load = (uint32_t)switch_table_dfu_boot_c_trial_flash_prepared[(size_t)r0_0_0_copyload];
+    size_t r5_0_0_copyload = load_size(a1);
+    core_slice_edits_slice_T_copy_from_slice_i8_core_clone_U8Clone(r1, (unsigned char *)(uintptr_t)r5_0_0_copyload + (size_t)(umax32(r1_0_0_copyload, switch_load) + a2), 16);
+    memcpy(a0, r1, 16);
+    return;
+}
+
+/* dfu_slots::layout::capacity_of::<#f31be65e8793cebb>: crates/dfu_slots/src/layout.rt */
+static uint32_t dfu_slots_layout_capacity_of(unsigned char *a0) {
+    size_t r3 = load_size(a0 + 8);
+    uint8_t r0_0_0_copyload = a0[16];
+    uint32_t r1_0_0_copyload = load32(a0 + 20);
+    uint32_t switch_load = (uint32_t)switch_table_dfu_boot_c_trial_flash_prepared[(size_t)r0_0_0_copyload];
+    return ((uint32_t)r3 >> 1) - (umax32(r1_0_0_copyload, switch_load) << 1);
+}
+
+/* dfu_suffix::crc::Crc::update_small: crates/dfu_suffix/src/crc.rt */
+static void dfu_suffix_crc_Crc_update_small(unsigned char *a0, unsigned char *a1, size_t a2) {
+    size_t r4_0;
+    uint32_t r3_0;
+    uint32_t r5 = load32(a0);
+    r4_0 = 0;
+    r3_0 = r5;
+    while (r4_0 != a2) {
+        uint8_t r23 = a1[r4_0];
+        uint32_t r6 = r3_0 ^ (uint32_t)r23;
+        uint32_t r20 = load32(PLACE(static_1) + (size_t)((r6 << 2) & 60));
+        uint32_t r23_2 = (r6 >> 4) ^ r20;
+        uint32_t r20_2 = load32(PLACE(static_1) + (size_t)((r23_2 << 2) & 60));
+        r4_0 = r4_0 + 1;
+        r3_0 = (r23_2 >> 4) ^ r20_2;
+    }
+    store32(a0, r3_0);
+    return;
+}
+
+/* dfu_slots::places::find_places::<#f31be65e8793cebb>: crates/dfu_slots/src/places.rt */
+static struct i32_i32 dfu_slots_places_find_places(unsigned char *a0, uint8_t a1, uint8_t a2) {
+    unsigned char *r2 = a0 + 8;
+    size_t r3 = load_size(r2);
+    uint8_t r15 = dfu_slots_places_is_newest(a0, 0, (uint32_t)r3 >> 1, a1 & 1, a2 & 1);
+    size_t r3_2 = load_size(r2);
+    uint32_t r72 = (uint32_t)r3_2 >> 1;
+    struct i32_i32 r15_half = (struct i32_i32){ 0, 0 };
+    r15_half.a = (uint32_t)(r15 ? 0 : r72);
+    struct i32_i32 r15_2 = r15_half;
+    r15_2.b = (uint32_t)(r15 ? r72 : 0);
+    return r15_2;
+}
+
+/* dfu_slots::places::is_newest::<#f31be65e8793cebb>: crates/dfu_slots/src/places.rt */
+static uint8_t dfu_slots_places_is_newest(unsigned char *a0, uint32_t a1, uint32_t a2, uint8_t a3, uint8_t a4) {
+    uint8_t r1_0_in;
+    if (!(a3 & a4)) r1_0_in = a3;
+    else {
+        uint8_t r13 = dfu_slots_read_generation(a0, a1);
+        uint8_t r14 = dfu_slots_read_generation(a0, a2);
+        r1_0_in = r13 == (uint8_t)(r14 + 1);
+    }
+    return r1_0_in;
+}
+
+/* dfu_slots::read::generation::<#f31be65e8793cebb>: crates/dfu_slots/src/read.rt */
+static uint8_t dfu_slots_read_generation(unsigned char *a0, uint32_t a1) {
+    uint8_t r0_0_0_copyload = a0[16];
+    uint32_t r1_0_0_copyload = load32(a0 + 20);
+    uint32_t switch_load = (uint32_t)switch_table_dfu_boot_c_trial_flash_prepared[(size_t)r0_0_0_copyload];
+    uint8_t r7 = dfu_slots_read_byte_at(a0, umax32(r1_0_0_copyload, switch_load) + a1);
+    return r7;
+}
+
+/* dfu_slots::places::has_newest::<#f31be65e8793cebb>: crates/dfu_slots/src/places.rt */
+static uint8_t dfu_slots_places_has_newest(unsigned char *a0, uint32_t a1, uint32_t a2, uint8_t a3, uint8_t a4) {
+    uint8_t r8_0_in;
+    if (a1 == 0) {
+        uint8_t r24 = dfu_slots_places_is_newest(a0, 0, a2, a3 & 1, a4 & 1);
+        r8_0_in = r24;
+    }
+    else {
+        uint8_t r33 = dfu_slots_places_is_newest(a0, a1, a2, a4 & 1, a3 & 1);
+        r8_0_in = r33;
+    }
+    return r8_0_in;
+}
+
+/* dfu_slots::read::header_len::<#f31be65e8793cebb>: crates/dfu_slots/src/read.rt */
+static uint8_t dfu_slots_read_header_len(unsigned char *a0, uint32_t a1) {
+    _Alignas(1) unsigned char r3[16];
+    uint8_t r1_2_0_copyload, r0_0_0_0;
+    uint32_t r1_9_0_copyload;
+    dfu_slots_read_header_of(r3, a0, a1);
+    r1_2_0_copyload = r3[1];
+    r1_9_0_copyload = load32u(r3 + 12);
+    if (r1_2_0_copyload == 2) r0_0_0_0 = 1;
+    else {
+        uint32_t r1_6_0_copyload = load32u(r3 + 4);
+        uint32_t r1_8_0_copyload = load32u(r3 + 8);
+        uint8_t r1_5_0_copyload = r3[3];
+        uint8_t r1_4_0_copyload = r3[2];
+        uint32_t r26 = dfu_slots_layout_capacity_of(a0);
+        if (((((r1_2_0_copyload == 1) & (r1_6_0_copyload <= r26)) ? (r1_4_0_copyload == 0) : 0) ? (r1_5_0_copyload == 0) : 0) ? (r1_8_0_copyload == 0) : 0) r0_0_0_0 = r1_9_0_copyload == 0;
+        else {
+            r0_0_0_0 = 0;
+        }
+    }
+    return r0_0_0_0;
+}
+
+/* dfu_home::copying::head::<#f31be65e8793cebb>: crates/dfu_home/src/copying.rt */
+static void dfu_home_copying_head(unsigned char *a0, unsigned char *a1, unsigned char *a2, unsigned char *a4, size_t a5, uint8_t a6, uint32_t a7, unsigned char *a8) {
+    _Alignas(1) unsigned char r8[16];
+    _Alignas(4) unsigned char r9[16];
+    _Alignas(4) unsigned char r10[16];
+    _Alignas(4) unsigned char r0[12];
+    _Alignas(4) unsigned char r3_2[4];
+    uint8_t sink10;
+    uint32_t sink9, sink;
+    size_t r3 = load_size(a1 + 8);
+    dfu_slots_read_header_of(r10, a1, (uint32_t)r3 >> 1);
+    uint8_t r13_0_0_copyload = *r10;
+    uint32_t r13_38_0_copyload = load32(r10 + 4);
+    store32(r3_2, 0xffffffffU);
+    dfu_suffix_crc_Crc_update_small(r3_2, a4, a5);
+    uint32_t r1 = load32(r3_2);
+    *r9 = (uint8_t)(r13_0_0_copyload + 1);
+    r9[1] = 2;
+    r9[2] = 0;
+    r9[3] = 0;
+    store32(r9 + 4, r13_38_0_copyload);
+    store32(r9 + 8, r1);
+    store32(r9 + 12, 0);
+    memcpy(r8, r9, 16);
+    dfu_slots_read_header_of(r9, a1, 0);
+    uint8_t r46 = dfu_home_bytes_are_same(r9, 16, r8);
+    if (r46) {
+        dfu_home_copying_unit_due(r0, a1, a2, 0, a6, a7, PLACE(static_3), 1, a8);
+        uint8_t v3 = r0[1];
+        uint32_t v4 = load32(r0 + 4);
+        uint32_t v5 = load32(r0 + 8);
+        sink10 = v3;
+        sink9 = v4;
+        sink = v5;
+    }
+    else {
+        uint8_t r0_0_0_copyload = a1[16];
+        uint32_t r1_0_0_copyload = load32(a1 + 20);
+        uint32_t switch_load = (uint32_t)switch_table_dfu_boot_c_trial_flash_prepared[(size_t)r0_0_0_copyload];
+        dfu_home_copying_unit_due(r0, a1, a2, umax32(r1_0_0_copyload, switch_load), a6, a7, r8, 16, a8);
+        uint8_t v7 = r0[1];
+        uint32_t v8 = load32(r0 + 4);
+        uint32_t v9 = load32(r0 + 8);
+        sink10 = v7;
+        sink9 = v8;
+        sink = v9;
+    }
+    uint8_t sink11 = *r0;
+    *a0 = sink11;
+    a0[1] = sink10;
+    store32(a0 + 4, sink9);
+    store32(a0 + 8, sink);
+    return;
+}
+
+/* dfu_home::copying::unit_due::<#f31be65e8793cebb>: crates/dfu_home/src/copying.rt */
+static void dfu_home_copying_unit_due(unsigned char *a0, unsigned char *a1, unsigned char *a2, uint32_t a4, uint8_t a5, uint32_t a6, unsigned char *a7, size_t a8, unsigned char *a9) {
+    uint32_t switch_load;
+    uint8_t r0_0_0_copyload = a1[16];
+    switch_load = (uint32_t)switch_table_dfu_boot_c_trial_flash_prepared[(size_t)r0_0_0_copyload];
+    if ((a5 == 0) ? 1 : (a6 != a4)) {
+        *a0 = 2;
+        a0[1] = 0;
+        store32(a0 + 4, a4);
+        store32(a0 + 8, 0);
+        return;
+    }
+    uint8_t r48 = dfu_home_bytes_are_blank(a2, a6, switch_load + a6);
+    if (!r48) {
+        *a0 = 2;
+        a0[1] = 0;
+        store32(a0 + 4, a6);
+        store32(a0 + 8, 0);
+        return;
+    }
+    memset(a9, 0, 256);
+    core_slice_edits_slice_T_copy_from_slice_i8_core_clone_U8Clone(a9, a7, a8);
+    *a0 = 3;
+    a0[1] = 0;
+    store32(a0 + 4, a6);
+    store32(a0 + 8, switch_load);
+    return;
+}
+
 /* dfu_boot_c::trial::flash::looked: crates/dfu_boot_c/src/trial/flash.rt */
 static void dfu_boot_c_trial_flash_looked(unsigned char *a0, unsigned char *a1, unsigned char *a2, size_t a3) {
     _Alignas(8) unsigned char r8[32];
     _Alignas(4) unsigned char r13_8[29];
     unsigned char *r7;
-    uint32_t r41, r91, r72, r72_2, r10_84_0_0, r10_15_0, r10_17_0, r13_12_0_0, r13_12_3_0, r13_12_4_0, r13_10_0_0;
-    uint8_t r5, r11, r0_0_0_0, r51;
-    uint8_t r10_0_036, r13_4_0;
+    uint32_t r41, r59, r60, r10_84_0_0, r10_15_0, r10_17_0, r13_12_0_0, r13_12_3_0, r13_12_4_0, r13_10_0_0;
+    uint8_t r34, r35, r10_0_036, r13_4_0;
+    uint8_t r0_0_0_0, r51;
     memset(r13_8, 0, 29);
     dfu_boot_c_trial_flash_prepared(r8, a1, a2, a3);
     uint8_t r1_0_0_copyload = *r8;
@@ -294,11 +857,10 @@ static void dfu_boot_c_trial_flash_looked(unsigned char *a0, unsigned char *a1, 
         r13_10_0_0 = 0;
     }
     else {
-        size_t r3_1_0_copyload = (size_t)load64(r8 + 16);
-        r5 = dfu_slots_read_counts(r7, 0);
-        r91 = (uint32_t)r3_1_0_copyload >> 1;
-        r11 = dfu_slots_read_counts(r7, r91);
-        if (!(r5 | r11)) {
+        struct i8_i8 r33 = dfu_slots_places_count_slots(r7);
+        r34 = r33.a;
+        r35 = r33.b;
+        if ((r35 | r34) == 0) {
             r10_0_036 = 1;
             r13_12_0_0 = 0;
             r13_12_3_0 = 0;
@@ -307,35 +869,11 @@ static void dfu_boot_c_trial_flash_looked(unsigned char *a0, unsigned char *a1, 
             r13_10_0_0 = 0;
         }
         else {
-            uint8_t r15 = dfu_slots_places_is_newest(r7, 0, r91, r5, r11);
-            r72 = (uint32_t)(r15 ? 0 : r91);
-            r72_2 = (uint32_t)(r15 ? r91 : 0);
-            if (r72 == 0) {
-                uint8_t r24 = dfu_slots_places_is_newest(r7, 0, r72_2, r5, r11);
-                if (!r24) {
-                    r10_0_036 = 1;
-                    r13_12_0_0 = 0;
-                    r13_12_3_0 = 0;
-                    r13_12_4_0 = 0;
-                    r13_4_0 = 2;
-                    r13_10_0_0 = 0;
-                    goto join_7;
-                }
-            }
-            else {
-                uint8_t r33 = dfu_slots_places_is_newest(r7, r72, r72_2, r11, r5);
-                if (!r33) {
-                    r10_0_036 = 1;
-                    r13_12_0_0 = 0;
-                    r13_12_3_0 = 0;
-                    r13_12_4_0 = 0;
-                    r13_4_0 = 2;
-                    r13_10_0_0 = 0;
-                    goto join_7;
-                }
-            }
-            uint8_t r88 = dfu_slots_read_header_len(r7, r72);
-            if (r88 == 0) {
+            struct i32_i32 r58 = dfu_slots_places_find_places(r7, r34, r35);
+            r59 = r58.a;
+            r60 = r58.b;
+            uint8_t r68 = dfu_slots_places_has_newest(r7, r59, r60, r34, r35);
+            if (!r68) {
                 r10_0_036 = 1;
                 r13_12_0_0 = 0;
                 r13_12_3_0 = 0;
@@ -344,37 +882,47 @@ static void dfu_boot_c_trial_flash_looked(unsigned char *a0, unsigned char *a1, 
                 r13_10_0_0 = 0;
             }
             else {
-                if (!((r72_2 == 0) ? r5 : r11)) r0_0_0_0 = 0;
+                uint8_t r88 = dfu_slots_read_header_len(r7, r59);
+                if (r88 == 0) {
+                    r10_0_036 = 1;
+                    r13_12_0_0 = 0;
+                    r13_12_3_0 = 0;
+                    r13_12_4_0 = 0;
+                    r13_4_0 = 2;
+                    r13_10_0_0 = 0;
+                }
                 else {
-                    uint8_t r26 = dfu_slots_read_header_len(r7, r72_2);
-                    r0_0_0_0 = r26 != 0;
-                }
-                r51 = dfu_boot_trial_marks_is_set(r7, r72, 0);
-                if (!r51) {
-                    uint8_t r60 = dfu_boot_trial_marks_is_set(r7, r72_2, 0);
-                    if (r60 ? r0_0_0_0 : 0) {
-                        uint32_t r70 = dfu_boot_trial_marks_starts(r7, r41, r72);
-                        r10_84_0_0 = 1;
-                        r10_15_0 = r72_2;
-                        r10_17_0 = r70;
-                        goto arm_5;
+                    if (!((uint8_t)((r60 == 0) ? r34 : r35) & 1)) r0_0_0_0 = 0;
+                    else {
+                        uint8_t r26 = dfu_slots_read_header_len(r7, r60);
+                        r0_0_0_0 = r26 != 0;
                     }
-                }
-                r10_84_0_0 = 0;
-                r10_15_0 = (uint32_t)r51;
-                r10_17_0 = 0;
+                    r51 = dfu_boot_trial_marks_is_set(r7, r59, 0);
+                    if (!r51) {
+                        uint8_t r60_2 = dfu_boot_trial_marks_is_set(r7, r60, 0);
+                        if (r60_2 ? r0_0_0_0 : 0) {
+                            uint32_t r70 = dfu_boot_trial_marks_starts(r7, r41, r59);
+                            r10_84_0_0 = 1;
+                            r10_15_0 = r60;
+                            r10_17_0 = r70;
+                            goto arm_5;
+                        }
+                    }
+                    r10_84_0_0 = 0;
+                    r10_15_0 = (uint32_t)r51;
+                    r10_17_0 = 0;
 arm_5:
-                memcpy(r13_8 + 5, r7, 24);
-                r10_0_036 = 0;
-                r13_12_0_0 = r72;
-                r13_12_3_0 = r10_15_0;
-                r13_12_4_0 = r10_17_0;
-                r13_4_0 = 0;
-                r13_10_0_0 = r10_84_0_0;
+                    memcpy(r13_8 + 5, r7, 24);
+                    r10_0_036 = 0;
+                    r13_12_0_0 = r59;
+                    r13_12_3_0 = r10_15_0;
+                    r13_12_4_0 = r10_17_0;
+                    r13_4_0 = 0;
+                    r13_10_0_0 = r10_84_0_0;
+                }
             }
         }
     }
-join_7:
     *a0 = r10_0_036;
     a0[1] = r13_4_0;
     a0[2] = 0;
@@ -410,8 +958,8 @@ static void dfu_boot_c_trial_flash_prepared(unsigned char *a0, unsigned char *a1
         }
         else {
             if (r29 >= 2) {
-                uint64_t switch_load = load64(PLACE(switch_table_dfu_boot_c_trial_flash_prepared) + 8 * (size_t)r1_2_0_copyload);
-                if ((switch_load * ((uint64_t)(size_t)r29 + 2)) > (uint64_t)(size_t)r1_38_0_copyload) {
+                size_t switch_load = (size_t)switch_table_dfu_boot_c_trial_flash_prepared[(size_t)r1_2_0_copyload];
+                if (((uint64_t)switch_load * ((uint64_t)(size_t)r29 + 2)) > (uint64_t)(size_t)r1_38_0_copyload) {
                     r5_7_013 = 2;
                     r5_4_012 = 1;
                     goto arm_1;
@@ -447,221 +995,6 @@ arm_1:
     return;
 }
 
-/* dfu_boot_c::trial::flash::medium_of: crates/dfu_boot_c/src/trial/flash.rt */
-static void dfu_boot_c_trial_flash_medium_of(unsigned char *a0, unsigned char *a1, unsigned char *a2, size_t a3) {
-    uint8_t r9, r0_9_0;
-    uint32_t r24, r0_11_0;
-    size_t r0_0_0_0, r0_5_0, r0_8_0;
-    uint32_t r7 = load32(a1);
-    r9 = dfu_boot_c_trial_flash_unit_sized(r7);
-    uint32_t switch_load = load32(PLACE(switch_table_dfu_boot_c_trial_flash_medium_of) + 4 * (size_t)r9);
-    if (switch_load != r7) {
-        memset(a0, 0, 32);
-        return;
-    }
-    r24 = load32(a1 + 4);
-    if ((wide(a3) > 0xffffffffU) | ((r24 > 0x20000U) | ((r24 & 255) != 0))) {
-        r0_0_0_0 = 0;
-        r0_5_0 = 0;
-        r0_8_0 = 0;
-        r0_9_0 = 0;
-        r0_11_0 = 0;
-    }
-    else {
-        r0_0_0_0 = 1;
-        r0_5_0 = (size_t)(uintptr_t)a2;
-        r0_8_0 = a3;
-        r0_9_0 = r9;
-        r0_11_0 = r24;
-    }
-    store64(a0, r0_0_0_0);
-    store64(a0 + 8, r0_5_0);
-    store64(a0 + 16, r0_8_0);
-    a0[24] = r0_9_0;
-    store32(a0 + 28, r0_11_0);
-    return;
-}
-
-/* dfu_boot_c::trial::flash::unit_sized: crates/dfu_boot_c/src/trial/flash.rt */
-static uint8_t dfu_boot_c_trial_flash_unit_sized(uint32_t a0) {
-    return (uint8_t)((a0 < 16) ? 0 : (uint8_t)((a0 < 64) ? 1 : (uint8_t)((a0 < 256) ? 2 : 3)));
-}
-
-/* dfu_slots::layout::is_sized::<#f31be65e8793cebb>: crates/dfu_slots/src/layout.rt */
-static uint8_t dfu_slots_layout_is_sized(unsigned char *a0) {
-    uint32_t r1_0_0_copyload, a0_a1, r5, r69;
-    size_t v0;
-    uint8_t common_ret_op;
-    r1_0_0_copyload = load32(a0 + 20);
-    if (!((r1_0_0_copyload < 0x20001U) & ((r1_0_0_copyload & 255) == 0))) common_ret_op = 0;
-    else {
-        uint8_t r0_0_0_copyload = a0[16];
-        v0 = (size_t)r0_0_0_copyload;
-        uint32_t switch_load = load32(PLACE(switch_table_dfu_slots_layout_gate_of) + 4 * v0);
-        a0_a1 = umax32(r1_0_0_copyload, switch_load);
-        size_t r3 = (size_t)load64(a0 + 8);
-        r5 = (uint32_t)r3;
-        uint32_t pre = a0_a1 << 2;
-        if (!(((pre + 0x2000000U) >= r5) & (((r5 & 1) == 0) ? (pre < r5) : !(r3 & 1)))) common_ret_op = 0;
-        else {
-            r69 = (r5 >> 1) - (a0_a1 << 1);
-            uint32_t switch_load_2 = load32(PLACE(switch_table_dfu_slots_layout_is_sized) + 4 * v0);
-            if ((switch_load_2 & r69) != 0) common_ret_op = 0;
-            else {
-                if (r1_0_0_copyload == 0) common_ret_op = 1;
-                else {
-                    common_ret_op = (r69 % r1_0_0_copyload) == 0;
-                }
-            }
-        }
-    }
-    return common_ret_op;
-}
-
-/* dfu_slots::read::counts::<#f31be65e8793cebb>: crates/dfu_slots/src/read.rt */
-static uint8_t dfu_slots_read_counts(unsigned char *a0, uint32_t a1) {
-    _Alignas(1) unsigned char r2[64];
-    _Alignas(1) unsigned char r3_2[16];
-    _Alignas(1) unsigned char r3[16];
-    uint8_t r1_2_0_copyload, r1_3_0_copyload, r1_4_0_copyload;
-    uint32_t r1_5_0_copyload, r1_6_0_copyload, r1_7_0_copyload, r1_0_0, r3_0, a1_a0, r3_0_2;
-    unsigned char *r1, *r2_2;
-    size_t r28, r4_0;
-    uint8_t common_ret_op, r1_0_in;
-    uint8_t r8 = dfu_slots_read_is_open(a0, a1);
-    if (!r8) r1_0_in = 0;
-    else {
-        dfu_slots_read_header_of(r3, a0, a1);
-        uint8_t r4_2_0_copyload = r3[1];
-        if (r4_2_0_copyload != 2) r1_0_in = 1;
-        else {
-            dfu_slots_read_header_of(r3_2, a0, a1);
-            r1_2_0_copyload = r3_2[1];
-            r1_3_0_copyload = r3_2[2];
-            r1_4_0_copyload = r3_2[3];
-            r1_5_0_copyload = load32u(r3_2 + 4);
-            r1_6_0_copyload = load32u(r3_2 + 8);
-            r1_7_0_copyload = load32u(r3_2 + 12);
-            uint32_t r10 = dfu_slots_layout_capacity_of(a0);
-            if (r10 < r1_5_0_copyload) common_ret_op = 0;
-            else {
-                memset(r2, 0, 64);
-                r1 = a0 + 16;
-                r2_2 = a0 + 20;
-                r1_0_0 = 0xffffffffU;
-                r3_0 = 0;
-                while (r3_0 < r1_5_0_copyload) {
-                    a1_a0 = umin32(r1_5_0_copyload - r3_0, 64);
-                    r28 = (size_t)a1_a0;
-                    uint8_t r0_0_0_copyload = *r1;
-                    uint32_t r1_0_0_copyload = load32(r2_2);
-                    uint32_t switch_load = load32(PLACE(switch_table_dfu_slots_layout_gate_of) + 4 * (size_t)r0_0_0_copyload);
-                    size_t r5_0_0_copyload = (size_t)load64(a0);
-                    core_slice_edits_slice_T_copy_from_slice_i8_core_clone_U8Clone(r2, (unsigned char *)(uintptr_t)r5_0_0_copyload + (size_t)((r3_0 + a1) + (umax32(r1_0_0_copyload, switch_load) << 1)), r28);
-                    r4_0 = 0;
-                    r3_0_2 = r1_0_0;
-                    while (r4_0 != r28) {
-                        uint8_t r23 = r2[r4_0];
-                        uint32_t r6 = r3_0_2 ^ (uint32_t)r23;
-                        uint32_t r20 = load32(PLACE(static_1) + (size_t)((r6 << 2) & 60));
-                        uint32_t r23_2 = (r6 >> 4) ^ r20;
-                        uint32_t r20_2 = load32(PLACE(static_1) + (size_t)((r23_2 << 2) & 60));
-                        r4_0 = r4_0 + 1;
-                        r3_0_2 = (r23_2 >> 4) ^ r20_2;
-                    }
-                    r1_0_0 = r3_0_2;
-                    r3_0 = a1_a0 + r3_0;
-                }
-                common_ret_op = ((((r1_2_0_copyload == 2) ? (r1_3_0_copyload == 0) : 0) ? (r1_4_0_copyload == 0) : 0) ? (r1_6_0_copyload == r1_0_0) : 0) ? (r1_7_0_copyload == 0) : 0;
-            }
-            r1_0_in = common_ret_op;
-        }
-    }
-    return r1_0_in;
-}
-
-/* dfu_slots::read::is_open::<#f31be65e8793cebb>: crates/dfu_slots/src/read.rt */
-static uint8_t dfu_slots_read_is_open(unsigned char *a0, uint32_t a1) {
-    uint8_t r2 = dfu_slots_read_byte_at(a0, a1);
-    return r2 == 165;
-}
-
-/* dfu_slots::read::byte_at::<#f31be65e8793cebb>: crates/dfu_slots/src/read.rt */
-static uint8_t dfu_slots_read_byte_at(unsigned char *a0, uint32_t a1) {
-    _Alignas(4) unsigned char r1[1];
-    *r1 = 0;
-    size_t r5_0_0_copyload = (size_t)load64(a0);
-    core_slice_edits_slice_T_copy_from_slice_i8_core_clone_U8Clone(r1, (unsigned char *)(uintptr_t)r5_0_0_copyload + (size_t)a1, 1);
-    uint8_t r15 = *r1;
-    return r15;
-}
-
-/* dfu_slots::read::header_of::<#f31be65e8793cebb>: crates/dfu_slots/src/read.rt */
-static void dfu_slots_read_header_of(unsigned char *a0, unsigned char *a1, uint32_t a2) {
-    _Alignas(1) unsigned char r1[16];
-    memset(r1, 0, 16);
-    uint8_t r0_0_0_copyload = a1[16];
-    uint32_t r1_0_0_copyload = load32(a1 + 20);
-    uint32_t switch_load = load32(PLACE(switch_table_dfu_slots_layout_gate_of) + 4 * (size_t)r0_0_0_copyload);
-    size_t r5_0_0_copyload = (size_t)load64(a1);
-    core_slice_edits_slice_T_copy_from_slice_i8_core_clone_U8Clone(r1, (unsigned char *)(uintptr_t)r5_0_0_copyload + (size_t)(umax32(r1_0_0_copyload, switch_load) + a2), 16);
-    memcpy(a0, r1, 16);
-    return;
-}
-
-/* dfu_slots::layout::capacity_of::<#f31be65e8793cebb>: crates/dfu_slots/src/layout.rt */
-static uint32_t dfu_slots_layout_capacity_of(unsigned char *a0) {
-    size_t r3 = (size_t)load64(a0 + 8);
-    uint8_t r0_0_0_copyload = a0[16];
-    uint32_t r1_0_0_copyload = load32(a0 + 20);
-    uint32_t switch_load = load32(PLACE(switch_table_dfu_slots_layout_gate_of) + 4 * (size_t)r0_0_0_copyload);
-    return ((uint32_t)r3 >> 1) - (umax32(r1_0_0_copyload, switch_load) << 1);
-}
-
-/* dfu_slots::places::is_newest::<#f31be65e8793cebb>: crates/dfu_slots/src/places.rt */
-static uint8_t dfu_slots_places_is_newest(unsigned char *a0, uint32_t a1, uint32_t a2, uint8_t a3, uint8_t a4) {
-    uint8_t r1_0_in;
-    if (!(a3 & a4)) r1_0_in = a3;
-    else {
-        uint8_t r13 = dfu_slots_read_generation(a0, a1);
-        uint8_t r14 = dfu_slots_read_generation(a0, a2);
-        r1_0_in = r13 == (uint8_t)(r14 + 1);
-    }
-    return r1_0_in;
-}
-
-/* dfu_slots::read::generation::<#f31be65e8793cebb>: crates/dfu_slots/src/read.rt */
-static uint8_t dfu_slots_read_generation(unsigned char *a0, uint32_t a1) {
-    uint8_t r0_0_0_copyload = a0[16];
-    uint32_t r1_0_0_copyload = load32(a0 + 20);
-    uint32_t switch_load = load32(PLACE(switch_table_dfu_slots_layout_gate_of) + 4 * (size_t)r0_0_0_copyload);
-    uint8_t r7 = dfu_slots_read_byte_at(a0, umax32(r1_0_0_copyload, switch_load) + a1);
-    return r7;
-}
-
-/* dfu_slots::read::header_len::<#f31be65e8793cebb>: crates/dfu_slots/src/read.rt */
-static uint8_t dfu_slots_read_header_len(unsigned char *a0, uint32_t a1) {
-    _Alignas(1) unsigned char r3[16];
-    uint8_t r1_2_0_copyload, r0_0_0_0;
-    uint32_t r1_9_0_copyload;
-    dfu_slots_read_header_of(r3, a0, a1);
-    r1_2_0_copyload = r3[1];
-    r1_9_0_copyload = load32u(r3 + 12);
-    if (r1_2_0_copyload == 2) r0_0_0_0 = 1;
-    else {
-        uint32_t r1_6_0_copyload = load32u(r3 + 4);
-        uint32_t r1_8_0_copyload = load32u(r3 + 8);
-        uint8_t r1_5_0_copyload = r3[3];
-        uint8_t r1_4_0_copyload = r3[2];
-        uint32_t r26 = dfu_slots_layout_capacity_of(a0);
-        if (((((r1_2_0_copyload == 1) & (r1_6_0_copyload <= r26)) ? (r1_4_0_copyload == 0) : 0) ? (r1_5_0_copyload == 0) : 0) ? (r1_8_0_copyload == 0) : 0) r0_0_0_0 = r1_9_0_copyload == 0;
-        else {
-            r0_0_0_0 = 0;
-        }
-    }
-    return r0_0_0_0;
-}
-
 /* dfu_boot::trial::marks::is_set::<#f31be65e8793cebb>: crates/dfu_boot/src/trial/marks.rt */
 static uint8_t dfu_boot_trial_marks_is_set(unsigned char *a0, uint32_t a1, uint32_t a2) {
     _Alignas(1) unsigned char r1[256];
@@ -669,11 +1002,11 @@ static uint8_t dfu_boot_trial_marks_is_set(unsigned char *a0, uint32_t a1, uint3
     size_t r23;
     uint8_t r7_not_not_not_not_not_not_not_not_not_not_not_not_not;
     uint8_t r0_0_0_copyload = a0[16];
-    uint32_t switch_load = load32(PLACE(switch_table_dfu_slots_layout_gate_of) + 4 * (size_t)r0_0_0_copyload);
+    uint32_t switch_load = (uint32_t)switch_table_dfu_boot_c_trial_flash_prepared[(size_t)r0_0_0_copyload];
     uint32_t r1_0_0_copyload = load32(a0 + 20);
     size_t r11 = (size_t)switch_load;
     memset(r1, 0, 256);
-    size_t r5_0_0_copyload = (size_t)load64(a0);
+    size_t r5_0_0_copyload = load_size(a0);
     core_slice_edits_slice_T_copy_from_slice_i8_core_clone_U8Clone(r1, (unsigned char *)(uintptr_t)r5_0_0_copyload + (size_t)(((switch_load + a1) + (switch_load * a2)) + umax32(r1_0_0_copyload, switch_load)), r11);
     r4_0_0_in = r1;
     r23 = r11;
@@ -742,7 +1075,7 @@ static struct i32_i32 dfu_boot_c_trial_told_image_in(unsigned char *a0, uint32_t
     _Alignas(1) unsigned char r3[16];
     uint8_t r0_0_0_copyload = a0[16];
     uint32_t r1_0_0_copyload = load32(a0 + 20);
-    uint32_t switch_load = load32(PLACE(switch_table_dfu_slots_layout_gate_of) + 4 * (size_t)r0_0_0_copyload);
+    uint32_t switch_load = (uint32_t)switch_table_dfu_boot_c_trial_flash_prepared[(size_t)r0_0_0_copyload];
     dfu_slots_read_header_of(r3, a0, a1);
     uint32_t r4_2_0_copyload = load32u(r3 + 4);
     struct i32_i32 r12_half = (struct i32_i32){ 0, 0 };
@@ -789,11 +1122,11 @@ static uint32_t dfu_boot_c_trial_again_start_from(unsigned char *a0, unsigned ch
         r48 = load32(a3);
         uint8_t r59 = dfu_slots_layout_is_sized(r3);
         if (r59) {
-            size_t r3_2 = (size_t)load64(r3 + 8);
+            size_t r3_2 = load_size(r3 + 8);
             r914 = (uint32_t)r3_2 >> 1;
             uint8_t r0_0_0_copyload = r3[16];
             uint32_t r1_0_0_copyload_2 = load32(r3 + 20);
-            uint32_t switch_load = load32(PLACE(switch_table_dfu_slots_layout_gate_of) + 4 * (size_t)r0_0_0_copyload);
+            uint32_t switch_load = (uint32_t)switch_table_dfu_boot_c_trial_flash_prepared[(size_t)r0_0_0_copyload];
             uint32_t r5 = umax32(r1_0_0_copyload_2, switch_load) << 1;
             r12 = r48 != r5;
             r27 = r48 != (r5 + r914);
@@ -856,7 +1189,6 @@ dfu_boot_c_trial_again_looked_again_exit:
         memcpy(r6_15, r15 + 36, 12);
         if (v5) {
             memcpy(r3_3, r6_10_0, 24);
-            store32(r3_3 + 24, (uint32_t)r84);
             unsigned char *r24 = r3_3 + 28;
             memcpy(r24, r6_15, 12);
             r8_3_4_copyload = load32(r24);
@@ -882,7 +1214,7 @@ dfu_boot_c_trial_again_looked_again_exit:
                 }
                 else {
                     uint8_t r0_0_0_copyload_2 = r3_3[16];
-                    uint32_t switch_load_2 = load32(PLACE(switch_table_dfu_slots_layout_gate_of) + 4 * (size_t)r0_0_0_copyload_2);
+                    uint32_t switch_load_2 = (uint32_t)switch_table_dfu_boot_c_trial_flash_prepared[(size_t)r0_0_0_copyload_2];
                     uint32_t r1_0_0_copyload_3 = load32(r3_3 + 20);
                     r19 = ((switch_load_2 + r8_3_4_copyload) + (switch_load_2 * (r8_6_4_copyload + 1))) + umax32(r1_0_0_copyload_3, switch_load_2);
                     switch (r0_0_0_copyload_2) {
@@ -997,7 +1329,7 @@ int32_t dfu_core_install_took(struct dfu_run_area *area, const uint8_t *image, s
     unsigned char *a5 = (unsigned char *)(uintptr_t)ask;
     uint32_t a6 = failed;
     unsigned char *r4, *r13;
-    uint32_t r10, r1_61_0, r0_0_0_0_off0;
+    uint32_t r10, r1_61_0, v1;
     uint8_t r1_0_0;
     uint64_t r18;
     r4 = (unsigned char *)((uintptr_t)a1 + (uintptr_t)(size_t)((a1 == NULL) ? 4096 : 0));
@@ -1022,39 +1354,120 @@ int32_t dfu_core_install_took(struct dfu_run_area *area, const uint8_t *image, s
         r1_61_0 = 0;
         break;
     }
-    if (a6 != 0) r0_0_0_0_off0 = 0xffffffffU;
+    if (a6 != 0) v1 = 0xffffffffU;
     else {
         uint8_t r25 = dfu_boot_install_area_is_run_area(a4, r10);
-        if (!r25) r0_0_0_0_off0 = 0xffffffffU;
+        if (!r25) v1 = 0xffffffffU;
         else {
             switch (r1_0_0) {
-            case 1:
-                if (((uint64_t)(size_t)r1_61_0 + (uint64_t)(size_t)r10) <= (uint64_t)a4) {
-                    uint8_t r29 = dfu_boot_install_area_are_blank(r13, r1_61_0, r1_61_0 + r10);
-                    if (r29) {
-                        r0_0_0_0_off0 = r1_61_0;
-                        goto dfu_boot_c_install_calls_dfu_core_install_took_exit;
-                    }
+            case 1: {
+                if (((uint64_t)(size_t)r1_61_0 + (uint64_t)(size_t)r10) > (uint64_t)a4) {
+                    v1 = 0xffffffffU;
+                    goto dfu_boot_c_install_calls_dfu_core_install_took_exit;
+                }
+                uint8_t r29 = dfu_boot_install_area_are_blank(r13, r1_61_0, r1_61_0 + r10);
+                if (!r29) {
+                    v1 = 0xffffffffU;
+                    goto dfu_boot_c_install_calls_dfu_core_install_took_exit;
                 }
                 break;
-            case 2:
+            }
+            case 2: {
                 r18 = (uint64_t)(size_t)r1_61_0 + 256;
-                if ((uint64_t)a4 >= r18) {
-                    struct i8_i32 r46 = dfu_boot_install_compare_first_difference(r4, r13, r1_61_0, (uint32_t)(size_t)umin64(a2, r18));
-                    if (r46.a != 1) {
-                        r0_0_0_0_off0 = r1_61_0;
-                        goto dfu_boot_c_install_calls_dfu_core_install_took_exit;
-                    }
+                if ((uint64_t)a4 < r18) {
+                    v1 = 0xffffffffU;
+                    goto dfu_boot_c_install_calls_dfu_core_install_took_exit;
+                }
+                struct i8_i32 r46 = dfu_boot_install_compare_first_difference(r4, r13, r1_61_0, (uint32_t)(size_t)umin64(a2, r18));
+                if (r46.a == 1) {
+                    v1 = 0xffffffffU;
+                    goto dfu_boot_c_install_calls_dfu_core_install_took_exit;
                 }
                 break;
-            case 3: break;
+            }
+            case 3:
+                v1 = 0xffffffffU;
+                goto dfu_boot_c_install_calls_dfu_core_install_took_exit;
             default: never();
             }
-            r0_0_0_0_off0 = 0xffffffffU;
+            v1 = r1_61_0;
         }
     }
 dfu_boot_c_install_calls_dfu_core_install_took_exit:
-    store32(a0 + 4, r0_0_0_0_off0);
+    store32(a0 + 4, v1);
+    return signed32(0);
+}
+
+/* dfu_core_home_took: crates/dfu_boot_c/src/home/calls.rt */
+int32_t dfu_core_home_took(struct dfu_home_record *record, const uint8_t *flash, size_t size, const struct dfu_ask *ask, uint32_t failed) {
+    unsigned char *a0 = (unsigned char *)(uintptr_t)record;
+    unsigned char *a1 = (unsigned char *)(uintptr_t)flash;
+    size_t a2 = (size_t)size;
+    unsigned char *a3 = (unsigned char *)(uintptr_t)ask;
+    uint32_t a4 = failed;
+    unsigned char *r4, *r14, *r11_2;
+    uint32_t r13, r1_61_0, r1_9_0, r12, a1_2;
+    uint8_t r1_0_0;
+    size_t r96, r98;
+    r4 = (unsigned char *)((uintptr_t)a1 + (uintptr_t)(size_t)((a1 == NULL) ? 4096 : 0));
+    r13 = load32(a3 + 8);
+    uint32_t r5 = load32(a3);
+    switch (r5) {
+    case 1: {
+        uint32_t r7 = load32(a3 + 4);
+        r1_0_0 = 2;
+        r1_61_0 = r7;
+        r1_9_0 = 0;
+        break;
+    }
+    case 2: {
+        uint32_t r11 = load32(a3 + 4);
+        r1_0_0 = 3;
+        r1_61_0 = r11;
+        r1_9_0 = r13;
+        break;
+    }
+    default:
+        r1_0_0 = 1;
+        r1_61_0 = 0;
+        r1_9_0 = 0;
+        break;
+    }
+    r14 = a3 + 12;
+    r11_2 = a0 + 4;
+    r12 = load32(r11_2);
+    if (!((wide(a2) > 0xffffffffU) | (a4 != 0))) {
+        switch (r1_0_0) {
+        case 2:
+            if ((r13 != 0) ? (((uint64_t)(size_t)r1_61_0 + (uint64_t)(size_t)r13) <= (uint64_t)a2) : 0) {
+                uint8_t r73 = dfu_home_bytes_are_blank(r4, r1_61_0, r1_61_0 + r13);
+                if (r73) {
+                    a1_2 = r1_61_0;
+                    goto dfu_boot_c_home_calls_dfu_core_home_took_exit;
+                }
+            }
+            break;
+        case 3:
+            if ((r1_9_0 - 257) >= 0xffffff00U) {
+                r96 = (size_t)r1_61_0;
+                r98 = (size_t)r1_9_0;
+                if ((uint64_t)a2 >= ((uint64_t)r98 + (uint64_t)r96)) {
+                    uint8_t r145 = dfu_home_bytes_are_same(r4 + r96, r98, r14);
+                    if (r145) {
+                        a1_2 = r1_61_0;
+                        goto dfu_boot_c_home_calls_dfu_core_home_took_exit;
+                    }
+                }
+            }
+            break;
+        case 1: break;
+        default: never();
+        }
+    }
+    a1_2 = 0xffffffffU;
+dfu_boot_c_home_calls_dfu_core_home_took_exit:
+    store32(a0, a1_2);
+    store32(r11_2, uadd_sat32(r12, 1));
     return signed32(0);
 }
 
@@ -1066,67 +1479,252 @@ int32_t dfu_core_install_next(const struct dfu_run_area *area, const uint8_t *im
     unsigned char *a3 = (unsigned char *)(uintptr_t)run;
     size_t a4 = (size_t)size;
     unsigned char *a5 = (unsigned char *)(uintptr_t)ask;
-    unsigned char *r4, *r13;
-    uint32_t r10, r12, a0_2, r7_0, r9_4_0, r16_2, r11_0;
-    uint8_t r3, r24;
-    struct i8_i32 r21_pn;
+    _Alignas(8) unsigned char r5[8];
+    unsigned char *r4;
+    uint32_t r10, r1_52_4_copyload, r11_0;
     r4 = (unsigned char *)((uintptr_t)a1 + (uintptr_t)(size_t)((a1 == NULL) ? 4096 : 0));
-    r13 = (unsigned char *)((uintptr_t)a3 + (uintptr_t)(size_t)((a3 == NULL) ? 4096 : 0));
+    store64(r5, 0);
     r10 = load32(a0);
-    r12 = load32(a0 + 4);
-    r3 = r12 != 0xffffffffU;
-    a0_2 = (uint32_t)(r3 ? r12 : 0);
-    uint8_t r23 = dfu_boot_install_area_is_run_area(a4, r10);
-    if (!r23) r11_0 = 0xfffffffaU;
+    uint32_t r12 = load32(a0 + 4);
+    uint8_t r3 = r12 != 0xffffffffU;
+    dfu_boot_install_deciding_next(r5, r4, a2, (unsigned char *)((uintptr_t)a3 + (uintptr_t)(size_t)((a3 == NULL) ? 4096 : 0)), a4, r10, r3, (uint32_t)(r3 ? r12 : 0));
+    uint8_t r1_0_0_copyload = *r5;
+    r1_52_4_copyload = load32(r5 + 4);
+    switch (r1_0_0_copyload) {
+    case 0: {
+        uint8_t r1_3_1_copyload = r5[1];
+        uint32_t switch_load = (uint32_t)switch_table_dfu_core_install_next[(size_t)r1_3_1_copyload];
+        r11_0 = switch_load;
+        break;
+    }
+    case 3:
+        r11_0 = 0;
+        break;
+    case 1:
+        store32(a5, 1);
+        store32(a5 + 4, r1_52_4_copyload);
+        store32(a5 + 8, r10);
+        r11_0 = 0xfffffff5U;
+        break;
+    case 2:
+        store32(a5, 2);
+        store32(a5 + 4, r1_52_4_copyload);
+        store32(a5 + 8, 256);
+        dfu_boot_install_pieces_piece(r4, a2, r1_52_4_copyload, a5 + 12);
+        r11_0 = 0xfffffff5U;
+        break;
+    default: never();
+    }
+    return signed32(r11_0);
+}
+
+/* dfu_core_home_may_download: crates/dfu_boot_c/src/home/calls.rt */
+int32_t dfu_core_home_may_download(const struct dfu_config *config, const uint8_t *flash, size_t size) {
+    unsigned char *a0 = (unsigned char *)(uintptr_t)config;
+    unsigned char *a1 = (unsigned char *)(uintptr_t)flash;
+    size_t a2 = (size_t)size;
+    _Alignas(8) unsigned char r5[32];
+    uint32_t r6_0;
+    memset(r5, 0, 32);
+    dfu_boot_c_home_flash_medium(r5, a0, (unsigned char *)((uintptr_t)a1 + (uintptr_t)(size_t)((a1 == NULL) ? 4096 : 0)), a2);
+    uint8_t r14 = *r5;
+    if (r14 == 0) {
+        struct i8_i8 r17 = dfu_home_asking_is_home(r5 + 8);
+        r6_0 = (uint32_t)((r17.a == 1) ? (uint32_t)r17.b : 0xfffffffdU);
+    }
     else {
-        if (a2 == 0) r11_0 = 0xfffffff1U;
+        uint8_t r4_0_0_copyload = r5[1];
+        switch (r4_0_0_copyload) {
+        case 0:
+            r6_0 = 0xfffffffeU;
+            break;
+        case 1: {
+            uint8_t r4_3_1_copyload = r5[2];
+            r6_0 = (uint32_t)0xfffffff0U - (uint32_t)r4_3_1_copyload;
+            break;
+        }
+        case 2:
+            r6_0 = 0xfffffffdU;
+            break;
+        default: never();
+        }
+    }
+    return signed32(r6_0);
+}
+
+/* dfu_core_home_next: crates/dfu_boot_c/src/home/calls.rt */
+int32_t dfu_core_home_next(const struct dfu_config *config, const struct dfu_home_record *record, const uint8_t *flash, size_t size, struct dfu_ask *ask) {
+    unsigned char *a0 = (unsigned char *)(uintptr_t)config;
+    unsigned char *a1 = (unsigned char *)(uintptr_t)record;
+    unsigned char *a2 = (unsigned char *)(uintptr_t)flash;
+    size_t a3 = (size_t)size;
+    unsigned char *a4 = (unsigned char *)(uintptr_t)ask;
+    _Alignas(8) unsigned char r10[32];
+    _Alignas(8) unsigned char r3[24];
+    _Alignas(1) unsigned char r13_2[16];
+    unsigned char *const r5_2 = r13_2;
+    _Alignas(4) unsigned char r14[12];
+    _Alignas(8) unsigned char r12_3[8];
+    unsigned char *r4, *r22, *r31, *r35;
+    uint8_t r3_2;
+    uint32_t a0_2, r12, r1_0_0_copyload, r5, r116, r10_2, v8, v9, r12_118_025, common_ret_op;
+    uint8_t r14_0_0_0_extract_trunc, v5;
+    struct i8_i8 r15;
+    size_t r3_4, r47;
+    r4 = (unsigned char *)((uintptr_t)a2 + (uintptr_t)(size_t)((a2 == NULL) ? 4096 : 0));
+    memset(r10, 0, 32);
+    dfu_boot_c_home_flash_medium(r10, a0, r4, a3);
+    uint8_t r21 = *r10;
+    if (r21 != 0) {
+        uint8_t r5_0_0_copyload = r10[1];
+        switch (r5_0_0_copyload) {
+        case 0:
+            common_ret_op = 0xfffffffeU;
+            break;
+        case 1: {
+            uint8_t r5_3_1_copyload = r10[2];
+            common_ret_op = (uint32_t)0xfffffff0U - (uint32_t)r5_3_1_copyload;
+            break;
+        }
+        case 2:
+            common_ret_op = 0xfffffffdU;
+            break;
+        default: never();
+        }
+    }
+    else {
+        r22 = r10 + 8;
+        memcpy(r3, r22, 24);
+        uint32_t r4_2 = load32(a1);
+        r3_2 = r4_2 != 0xffffffffU;
+        a0_2 = (uint32_t)(r3_2 ? r4_2 : 0);
+        r12 = load32(a1 + 4);
+        r14_0_0_0_extract_trunc = r3_2;
+        r31 = a4 + 12;
+        r1_0_0_copyload = load32(r3 + 20);
+        if (r1_0_0_copyload == 0) common_ret_op = 0xfffffff0U;
         else {
-            if (a4 < a2) r11_0 = 0xfffffff9U;
+            uint8_t r30 = dfu_slots_layout_is_sized(r3);
+            if (!r30) common_ret_op = 0xfffffffdU;
             else {
-                uint32_t r16 = (uint32_t)a2;
-                r7_0 = (uint32_t)(r3 ? umin32(r16, a0_2) : 0);
-                struct i8_i32 r21 = dfu_boot_install_compare_first_difference(r4, r13, r7_0, r16);
-                if (r21.a == 1) r21_pn = r21;
-                else {
-                    struct i8_i32 r37 = dfu_boot_install_compare_first_difference(r4, r13, 0, r7_0);
-                    if (r37.a != 1) {
-                        r11_0 = 0;
-                        goto dfu_boot_c_install_calls_dfu_core_install_next_exit;
-                    }
-                    r21_pn = r37;
-                }
-                r9_4_0 = r21_pn.b;
-                r16_2 = r9_4_0 & 0xffffff00U;
-                r24 = r10 == 0;
-                if (!(r3 ? (a0_2 <= r16_2) : 0)) {
-                    if (r24) trap();
-                }
-                else {
-                    if (r24) trap();
-                    if ((r12 - (r12 % r10)) == (r16_2 - (r16_2 % r10))) {
-                        uint8_t r47 = dfu_boot_install_area_are_blank(r13, r16_2, r16_2 + 256);
-                        if (r47) {
-                            store32(a5, 2);
-                            store32(a5 + 4, r16_2);
-                            store32(a5 + 8, 256);
-                            unsigned char *r27 = a5 + 12;
-                            size_t a1_a0 = umin_size(a2, (size_t)r16_2);
-                            memset(r27, 255, 256);
-                            core_slice_edits_slice_T_copy_from_slice_i8_core_clone_U8Clone(r27, r4 + a1_a0, umin_size(a2 - a1_a0, 256));
-                            r11_0 = 0xfffffff5U;
-                            goto dfu_boot_c_install_calls_dfu_core_install_next_exit;
+                uint8_t r45 = dfu_slots_read_is_open(r22, 0);
+                if (!r45) {
+                    if (r12 == 0) {
+                        struct i8_i8 r12_2 = dfu_home_asking_is_home(r22);
+                        if (r12_2.a != 1) {
+                            common_ret_op = 0xfffffffdU;
+                            goto dfu_boot_c_home_calls_dfu_core_home_next_exit;
                         }
                     }
+                    r3_4 = load_size(r3 + 8);
+                    r5 = (uint32_t)r3_4;
+                    r116 = r5 >> 1;
+                    uint8_t r13 = dfu_slots_read_is_open(r22, r116);
+                    if (!r13) {
+                        common_ret_op = 0xfffffffdU;
+                        goto dfu_boot_c_home_calls_dfu_core_home_next_exit;
+                    }
+                    dfu_slots_read_header_of(r5_2, r22, r116);
+                    uint32_t r6_2_0_copyload = load32u(r5_2 + 4);
+                    uint8_t r0_0_0_copyload = r3[16];
+                    uint32_t switch_load = (uint32_t)switch_table_dfu_boot_c_trial_flash_prepared[(size_t)r0_0_0_copyload];
+                    r10_2 = umax32(r1_0_0_copyload, switch_load) << 1;
+                    if ((r116 - r10_2) < r6_2_0_copyload) {
+                        common_ret_op = 0xfffffffdU;
+                        goto dfu_boot_c_home_calls_dfu_core_home_next_exit;
+                    }
+                    if ((r5 >> 7) <= r12) {
+                        common_ret_op = 0xfffffff8U;
+                        goto dfu_boot_c_home_calls_dfu_core_home_next_exit;
+                    }
+                    store64(r12_3, 0);
+                    memset(r14, 0, 12);
+                    size_t r18 = (size_t)r10_2;
+                    r35 = r4 + (size_t)(r10_2 + r116);
+                    dfu_slots_read_header_of(r13_2, r22, r116);
+                    uint32_t r14_2_0_copyload = load32u(r13_2 + 4);
+                    r47 = (size_t)r14_2_0_copyload;
+                    dfu_boot_install_deciding_next(r12_3, r35, r47, r4 + r18, (uint64_t)((r3_4 >> 1) & 0x7fffffffU) - (uint64_t)r18, r1_0_0_copyload, r3_2 & (a0_2 >= r10_2), (uint32_t)(r3_2 ? usub_sat32(a0_2, r10_2) : 0));
+                    uint8_t r57 = *r12_3;
+                    switch (r57) {
+                    case 1: {
+                        uint32_t r59 = load32(r12_3 + 4);
+                        r12_118_025 = r59 + r10_2;
+                        goto arm_7;
+                    }
+                    case 2: {
+                        uint32_t r66 = load32(r12_3 + 4);
+                        dfu_boot_install_pieces_piece(r35, r47, r66, r31);
+                        v8 = 256;
+                        v9 = r66 + r10_2;
+                        goto arm_8;
+                    }
+                    case 3:
+                        dfu_home_copying_head(r14, r22, r4, r35, r47, r14_0_0_0_extract_trunc, a0_2, r31);
+                        break;
+                    case 0: {
+                        uint8_t r89 = r12_3[1];
+                        if (r89 != 1) trap();
+                        dfu_home_copying_head(r14, r22, r4, r35, r47, r14_0_0_0_extract_trunc, a0_2, r31);
+                        break;
+                    }
+                    default: never();
+                    }
+                    uint8_t pr = *r14;
+                    v5 = r14[1];
+                    uint32_t v6 = load32(r14 + 4);
+                    uint32_t v7 = load32(r14 + 8);
+                    switch (pr) {
+                    case 0: {
+                        uint32_t switch_load_2 = (uint32_t)switch_table_dfu_core_home_next[(size_t)v5];
+                        common_ret_op = switch_load_2;
+                        goto dfu_boot_c_home_calls_dfu_core_home_next_exit;
+                    }
+                    case 1:
+                        common_ret_op = 0;
+                        goto dfu_boot_c_home_calls_dfu_core_home_next_exit;
+                    case 2:
+                        r12_118_025 = v6;
+                        goto arm_7;
+                    case 3:
+                        v8 = v7;
+                        v9 = v6;
+                        break;
+                    default: never();
+                    }
+arm_8:
+                    store32(a4, 2);
+                    store32(a4 + 4, v9);
+                    store32(a4 + 8, v8);
+                    common_ret_op = 0xfffffff5U;
+                    goto dfu_boot_c_home_calls_dfu_core_home_next_exit;
                 }
-                store32(a5, 1);
-                store32(a5 + 4, r9_4_0 - (r9_4_0 % r10));
-                store32(a5 + 8, r10);
-                r11_0 = 0xfffffff5U;
+                r15 = dfu_home_asking_is_home(r22);
+                if (r15.a == 0) {
+                    common_ret_op = 0xfffffffdU;
+                    goto dfu_boot_c_home_calls_dfu_core_home_next_exit;
+                }
+                if (r15.b & 1) {
+                    common_ret_op = 0;
+                    goto dfu_boot_c_home_calls_dfu_core_home_next_exit;
+                }
+                size_t r3_3 = load_size(r3 + 8);
+                if (((uint32_t)r3_3 >> 7) <= r12) {
+                    common_ret_op = 0xfffffff8U;
+                    goto dfu_boot_c_home_calls_dfu_core_home_next_exit;
+                }
+                r12_118_025 = 0;
+arm_7:
+                store32(a4, 1);
+                store32(a4 + 4, r12_118_025);
+                uint32_t r46 = load32(a0 + 32);
+                store32(a4 + 8, r46);
+                common_ret_op = 0xfffffff5U;
             }
         }
     }
-dfu_boot_c_install_calls_dfu_core_install_next_exit:
-    return signed32(r11_0);
+dfu_boot_c_home_calls_dfu_core_home_next_exit:
+    return signed32(common_ret_op);
 }
 
 /* dfu_core_trial_confirm: crates/dfu_boot_c/src/trial/calls.rt */
@@ -1138,7 +1736,7 @@ int32_t dfu_core_trial_confirm(const struct dfu_tries *tries, const uint8_t *fla
     unsigned char *a4 = (unsigned char *)(uintptr_t)ask;
     _Alignas(8) unsigned char r6[48];
     _Alignas(4) unsigned char r13[16];
-    uint32_t r3_12_28_copyload, r3_14_28_copyload, switch_load, a0_a1, r5, r7_0;
+    uint32_t r3_1129_28_copyload, r3_13_28_copyload, switch_load, a0_a1, r5, r7_0;
     uint8_t r18_not;
     memset(r6, 0, 48);
     dfu_boot_c_trial_flash_looked(r6, a0, (unsigned char *)((uintptr_t)a1 + (uintptr_t)(size_t)((a1 == NULL) ? 4096 : 0)), a2);
@@ -1164,29 +1762,29 @@ int32_t dfu_core_trial_confirm(const struct dfu_tries *tries, const uint8_t *fla
         uint8_t r3_3_0_copyload = r6[24];
         uint32_t r3_725_0_copyload = load32(r6 + 28);
         uint8_t r23 = r6[32];
-        r3_12_28_copyload = load32(r6 + 36);
-        r3_14_28_copyload = load32(r6 + 40);
-        switch_load = load32(PLACE(switch_table_dfu_slots_layout_gate_of) + 4 * (size_t)r3_3_0_copyload);
+        r3_1129_28_copyload = load32(r6 + 36);
+        r3_13_28_copyload = load32(r6 + 40);
+        switch_load = (uint32_t)switch_table_dfu_boot_c_trial_flash_prepared[(size_t)r3_3_0_copyload];
         a0_a1 = umax32(r3_725_0_copyload, switch_load);
         r5 = a0_a1 << 1;
-        r18_not = a3 == (r5 + r3_12_28_copyload);
+        r18_not = a3 == (r5 + r3_1129_28_copyload);
         if (r23 == 0) {
             if (!r18_not) goto arm_7;
-            if (r3_14_28_copyload & 1) {
+            if (r3_13_28_copyload & 1) {
                 r7_0 = 0;
                 goto dfu_boot_c_trial_calls_dfu_core_trial_confirm_exit;
             }
         }
         else {
             if (!r18_not) {
-                if (a3 != (r5 + r3_14_28_copyload)) goto arm_7;
+                if (a3 != (r5 + r3_13_28_copyload)) goto arm_7;
                 r7_0 = 0;
                 goto dfu_boot_c_trial_calls_dfu_core_trial_confirm_exit;
             }
         }
         store32(r13, 1);
         store32(r13 + 4, 0);
-        store32(r13 + 8, (switch_load + r3_12_28_copyload) + a0_a1);
+        store32(r13 + 8, (switch_load + r3_1129_28_copyload) + a0_a1);
         store32(r13 + 12, switch_load);
         uint32_t r52 = load32(a0 + 4);
         uint32_t r55 = dfu_boot_c_trial_told_tell(r13, r52, a4);
@@ -1275,7 +1873,6 @@ int32_t dfu_core_trial_look(const struct dfu_tries *tries, const uint8_t *flash,
     else {
         memcpy(r3, r5 + 8, 24);
         uint8_t r18 = r5[32];
-        store32(r3 + 24, (uint32_t)r18);
         unsigned char *r20 = r3 + 28;
         memcpy(r20, r5 + 36, 12);
         r10_3_4_copyload = load32(r20);

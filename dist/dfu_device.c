@@ -96,12 +96,14 @@ static inline uint32_t load32a2(const unsigned char *p) { uint32_t x = 0; memcpy
 static inline uint32_t load32u(const unsigned char *p) { uint32_t x = 0; memcpy(&x, p, 4); return x; }
 static inline uint64_t load64(const unsigned char *p) { uint64_t x = 0; memcpy(&x, ALIGNED(p, 8), 8); return x; }
 static inline uint64_t load64u(const unsigned char *p) { uint64_t x = 0; memcpy(&x, p, 8); return x; }
+static inline size_t load_size(const unsigned char *p) { size_t x = 0; memcpy(&x, ALIGNED(p, 8), sizeof x); return x; }
 static inline int32_t signed32(uint32_t x) { int32_t y; memcpy(&y, &x, 4); return y; }
 static inline void store16(unsigned char *p, uint16_t x) { memcpy(ALIGNED(p, 2), &x, 2); }
 static inline void store32(unsigned char *p, uint32_t x) { memcpy(ALIGNED(p, 4), &x, 4); }
 static inline void store48a4(unsigned char *p, uint64_t x) { memcpy(ALIGNED(p, 4), &x, 6); }
 static inline void store64(unsigned char *p, uint64_t x) { memcpy(ALIGNED(p, 8), &x, 8); }
 static inline void store64a4(unsigned char *p, uint64_t x) { memcpy(ALIGNED(p, 4), &x, 8); }
+static inline void store_size(unsigned char *p, size_t x) { memcpy(ALIGNED(p, 8), &x, sizeof x); }
 static inline uint32_t uadd_sat32(uint32_t x, uint32_t y) { return (uint32_t)(x + y) < x ? (uint32_t)-1 : (uint32_t)(x + y); }
 static inline uint16_t umax16(uint16_t x, uint16_t y) { return x < y ? y : x; }
 static inline uint32_t umax32(uint32_t x, uint32_t y) { return x < y ? y : x; }
@@ -125,10 +127,13 @@ static _Alignas(1) const uint8_t static_2[1] = {
 static _Alignas(1) const uint8_t static_3[1] = {
     0xa5
 };
-static _Alignas(4) const uint32_t switch_table_dfu_core_numbers_Refusal_number[5] = {
+static const uint32_t switch_table_dfu_core_numbers_Refusal_number[5] = {
     0xfffffffe, 0xfffffff6, 0xfffffff4, 0xfffffffd, 0xfffffffc
 };
-static _Alignas(4) const uint32_t switch_table_dfu_slots_layout_fill_size[4] = {
+static const uint16_t switch_table_dfu_asks_next_piece_numbered_piece[4] = {
+    0x10, 0x10, 0x40, 0x100
+};
+static const uint16_t switch_table_dfu_slots_layout_fill_size[4] = {
     1, 0x10, 0x40, 0x100
 };
 static _Alignas(4) const uint8_t switch_table_dfu_asks_asking_Asking_fail[13] = {
@@ -137,29 +142,20 @@ static _Alignas(4) const uint8_t switch_table_dfu_asks_asking_Asking_fail[13] = 
 static _Alignas(4) const uint8_t switch_table_dfu_device_device_state_DeviceState_state[13] = {
     0, 1, 2, 3, 3, 4, 5, 6, 6, 7, 8, 9, 0xa
 };
-static _Alignas(8) const uint64_t switch_table_dfu_asks_asking_Asking_advance[4] = {
-    0, 0xf, 0x3f, 0xff
-};
-static _Alignas(4) const uint32_t switch_table_dfu_asks_asking_Asking_is_fit[4] = {
+static const uint8_t switch_table_dfu_asks_asking_Asking_advance[4] = {
     0, 0xf, 0x3f, 0xff
 };
 static _Alignas(4) const uint8_t switch_table_dfu_device_table_decide[9] = {
     3, 3, 3, 1, 3, 2, 3, 3, 3
 };
-static _Alignas(4) const uint32_t switch_table_dfu_device_table_decide_2[9] = {
+static const uint16_t switch_table_dfu_device_table_decide_3[9] = {
     0xf0c, 0xf0c, 0xf0c, 2, 0xf0c, 8, 0xf0c, 0xf0c, 0xf0c
 };
-static _Alignas(4) const uint32_t switch_table_dfu_core_state[12] = {
+static const uint8_t switch_table_dfu_core_state[12] = {
     0, 1, 2, 3, 3, 4, 5, 6, 6, 7, 8, 9
 };
-static _Alignas(8) const uint64_t switch_table_dfu_core_format_took[4] = {
-    1, 0x10, 0x40, 0x100
-};
-static _Alignas(4) const uint32_t switch_table_dfu_core_candidate[4] = {
+static const uint32_t switch_table_dfu_core_candidate[4] = {
     0xffffffff, 0xfffffff0, 0xffffffc0, 0xffffff00
-};
-static _Alignas(4) const uint32_t switch_table_dfu_core_would_stall[4] = {
-    0x10, 0x10, 0x40, 0x100
 };
 
 static uint8_t dfu_core_mode_has_mode(unsigned char *a0);
@@ -167,13 +163,13 @@ static void dfu_core_mode_mode_of(unsigned char *a0, unsigned char *a1);
 static void dfu_core_config_settings_of(unsigned char *a0, unsigned char *a1);
 static struct i8_i32 dfu_asks_sector_Sector_new(uint32_t a0);
 static void dfu_core_config_functional_of(unsigned char *a0, unsigned char *a1);
-static void dfu_asks_noted_Noted_find(unsigned char *a0, unsigned char *a1, uint64_t a2, uint8_t a3, uint32_t a4);
+static void dfu_asks_noted_Noted_find(unsigned char *a0, unsigned char *a1, size_t a2, uint8_t a3, uint32_t a4);
 static void dfu_slots_places_check(unsigned char *a0, unsigned char *a1);
 static uint8_t dfu_slots_layout_is_sized(unsigned char *a0);
 static uint8_t dfu_slots_read_counts(unsigned char *a0, uint32_t a1);
 static uint8_t dfu_slots_read_is_open(unsigned char *a0, uint32_t a1);
 static uint8_t dfu_slots_read_byte_at(unsigned char *a0, uint32_t a1);
-static void core_slice_edits_slice_T_copy_from_slice_i8_core_clone_U8Clone(unsigned char *a0, unsigned char *a2, uint64_t a3);
+static void core_slice_edits_slice_T_copy_from_slice_i8_core_clone_U8Clone(unsigned char *a0, unsigned char *a2, size_t a3);
 static uint32_t dfu_slots_layout_capacity_of(unsigned char *a0);
 static void dfu_slots_read_read_data(unsigned char *a0, uint32_t a1, uint32_t a2, unsigned char *a3, size_t a4);
 static void dfu_suffix_crc_Crc_update_small(unsigned char *a0, unsigned char *a1, uint64_t a2);
@@ -183,8 +179,8 @@ static void dfu_slots_read_header_of(unsigned char *a0, unsigned char *a1, uint3
 static void dfu_core_mode_idle_mode(unsigned char *a0, unsigned char *a1, unsigned char *a2);
 static void dfu_core_mode_mode_in(unsigned char *a0, unsigned char *a1, unsigned char *a2);
 static void dfu_core_mode_set_mode(unsigned char *a0, unsigned char *a1);
-static uint32_t dfu_device_time_table_poll_ms(unsigned char *a0, unsigned char *a1, uint64_t a2);
-static uint32_t dfu_device_time_table_block_ms(unsigned char *a0, uint32_t a1, uint32_t a2, uint64_t a3);
+static uint32_t dfu_device_time_table_poll_ms(unsigned char *a0, unsigned char *a1, size_t a2);
+static uint32_t dfu_device_time_table_block_ms(unsigned char *a0, uint32_t a1, uint32_t a2, size_t a3);
 static uint32_t dfu_device_time_table_writes_ms(unsigned char *a0, uint32_t a1, uint32_t a2, uint32_t a3, uint32_t a4);
 static uint32_t dfu_device_time_table_image_ms(unsigned char *a0, uint32_t a1, uint32_t a2);
 static void dfu_core_format_formatting_of(unsigned char *a0, unsigned char *a1, unsigned char *a2);
@@ -192,28 +188,26 @@ static uint8_t dfu_asks_formatting_Formatting_due(unsigned char *a0, size_t a2, 
 static uint8_t dfu_asks_format_piece_part_piece(unsigned char *a0, size_t a1, unsigned char *a2);
 static uint8_t dfu_asks_next_piece_sequence_piece(unsigned char *a0, unsigned char *a1);
 static uint8_t dfu_asks_next_piece_numbered_piece(unsigned char *a0, size_t a1, unsigned char *a2);
-static void dfu_asks_sector_locate(unsigned char *a0, uint32_t a1, uint64_t a2, size_t a3, uint64_t a4);
 static uint8_t dfu_asks_format_piece_open_piece(size_t a0, uint32_t a1, unsigned char *a2);
 static uint8_t dfu_asks_cut_stands(unsigned char *a0, size_t a1, unsigned char *a2);
 static void dfu_asks_cut_runs_of(unsigned char *a0, unsigned char *a1);
-static uint8_t dfu_asks_cut_are_same(unsigned char *a0, uint64_t a1, unsigned char *a2);
+static uint8_t dfu_asks_cut_are_same(unsigned char *a0, size_t a1, unsigned char *a2);
 static void dfu_wire_bytes_two_bytes(unsigned char *a0, uint16_t a1);
 static uint8_t dfu_asks_next_and_took_is_sound(uint32_t a0, unsigned char *a1);
 static void dfu_asks_cut_fill(unsigned char *a0, unsigned char *a1);
 static void dfu_core_keeping_found(unsigned char *a0, unsigned char *a1, size_t a2, unsigned char *a3);
 static uint8_t dfu_asks_next_piece_next_piece(unsigned char *a0, unsigned char *a1);
 static struct i64_i8 dfu_asks_asking_Asking_look_at(unsigned char *a0, unsigned char *a1, unsigned char *a2, size_t a3, unsigned char *a4, uint64_t a5, unsigned char *a6, size_t a7);
-static struct i8_i64 dfu_asks_asking_Asking_fail(unsigned char *a0, uint8_t a1, uint8_t a2, uint16_t a3, unsigned char *a4, uint64_t a5, unsigned char *a6);
-static void dfu_asks_finish_note(unsigned char *a0, unsigned char *a1, unsigned char *a2, uint64_t a3, uint8_t a4, uint32_t a5);
+static struct i8_i64 dfu_asks_asking_Asking_fail(unsigned char *a0, uint8_t a1, uint8_t a2, uint16_t a3, unsigned char *a4, size_t a5, unsigned char *a6);
+static void dfu_asks_finish_note(unsigned char *a0, unsigned char *a1, unsigned char *a2, size_t a3, uint8_t a4, uint32_t a5);
 static struct i8_i64 dfu_asks_asking_Asking_answer(unsigned char *a0, uint8_t a1, uint16_t a2, unsigned char *a3);
 static struct i8_i64 dfu_asks_asking_Asking_give(unsigned char *a0, uint8_t a1, uint16_t a2, unsigned char *a3);
-static void dfu_asks_asking_Asking_advance(unsigned char *a0, unsigned char *a1, unsigned char *a2, size_t a3, unsigned char *a4, uint64_t a5, unsigned char *a6, uint64_t a7, unsigned char *a8);
+static void dfu_asks_asking_Asking_advance(unsigned char *a0, unsigned char *a1, unsigned char *a2, size_t a3, unsigned char *a4, uint64_t a5, unsigned char *a6, size_t a7, unsigned char *a8);
 static void dfu_core_keeping_keep(unsigned char *a0, unsigned char *a1);
 static uint8_t dfu_asks_closes_mode_closes(unsigned char *a0, unsigned char *a1, unsigned char *a2);
 static void dfu_wire_setups_Setup_request(unsigned char *a0, unsigned char *a1);
 static void dfu_asks_noted_look(unsigned char *a0, unsigned char *a1, unsigned char *a2);
 static void dfu_asks_asking_Asking_see(unsigned char *a0, unsigned char *a1, size_t a2, unsigned char *a3, size_t a4);
-static uint8_t dfu_asks_asking_Asking_is_fit(unsigned char *a0, size_t a1, unsigned char *a2, unsigned char *a3);
 static void dfu_asks_asking_Asking_carry_out(unsigned char *a0, unsigned char *a1, unsigned char *a2, uint8_t a3, uint16_t a4, unsigned char *a5, size_t a6, unsigned char *a7, size_t a8, unsigned char *a9, uint64_t a10, unsigned char *a11, unsigned char *a12, unsigned char *a13, size_t a14);
 static void dfu_asks_asking_Asking_block_job(unsigned char *a0, unsigned char *a1, uint32_t a2, unsigned char *a3, unsigned char *a4);
 static void dfu_device_table_decide(unsigned char *a0, unsigned char *a1, unsigned char *a2, unsigned char *a3);
@@ -232,9 +226,9 @@ static uint8_t dfu_core_mode_has_mode(unsigned char *a0) {
 
 /* dfu_core::mode::mode_of: crates/dfu_core/src/mode.rt */
 static void dfu_core_mode_mode_of(unsigned char *a0, unsigned char *a1) {
-    uint32_t r35, r37, r11_172_0, r11_27_10_0_0, r11_36_0;
+    uint32_t r35, r37, r44, r11_172_0, r11_27_10_0_0, r11_36_0;
     uint16_t r39, r11_27_0_0;
-    uint8_t r11_0_0, r11_15_0;
+    uint8_t r11_15_0;
     uint32_t r16 = load32(a1);
     if (r16 != 300) {
         store32(a0, 0);
@@ -248,42 +242,29 @@ static void dfu_core_mode_mode_of(unsigned char *a0, unsigned char *a1) {
     r35 = load32(a1 + 8);
     r37 = load32(a1 + 12);
     r39 = load16(a1 + 24);
-    uint32_t r44 = load32(a1 + 4);
+    r44 = load32(a1 + 4);
     switch (r44) {
     case 0:
-        r11_0_0 = 0;
-        r11_15_0 = 0;
-        r11_172_0 = r44;
-        r11_27_0_0 = 0;
-        r11_27_10_0_0 = r44;
-        r11_36_0 = r44;
-        break;
-    case 1:
-        r11_0_0 = 1;
-        r11_15_0 = 0;
-        r11_172_0 = r35;
-        r11_27_0_0 = (uint16_t)r37;
-        r11_27_10_0_0 = r37 & 0xffff0000U;
-        r11_36_0 = 0;
-        break;
     case 2:
-        r11_0_0 = 2;
+    case 8:
+    case 10:
         r11_15_0 = 0;
         r11_172_0 = 0;
         r11_27_0_0 = 0;
         r11_27_10_0_0 = 0;
         r11_36_0 = 0;
         break;
-    case 3:
-        r11_0_0 = 3;
+    case 1:
         r11_15_0 = 0;
         r11_172_0 = r35;
-        r11_27_0_0 = r39;
-        r11_27_10_0_0 = 0;
+        r11_27_0_0 = (uint16_t)r37;
+        r11_27_10_0_0 = r37 & 0xffff0000U;
         r11_36_0 = 0;
         break;
+    case 3:
     case 4:
-        r11_0_0 = 4;
+    case 6:
+    case 11:
         r11_15_0 = 0;
         r11_172_0 = r35;
         r11_27_0_0 = r39;
@@ -291,59 +272,24 @@ static void dfu_core_mode_mode_of(unsigned char *a0, unsigned char *a1) {
         r11_36_0 = 0;
         break;
     case 5:
-        r11_0_0 = 5;
         r11_15_0 = 0;
         r11_172_0 = r35;
         r11_27_0_0 = r39;
         r11_27_10_0_0 = 0;
         r11_36_0 = r37;
         break;
-    case 6:
-        r11_0_0 = 6;
-        r11_15_0 = 0;
-        r11_172_0 = r35;
-        r11_27_0_0 = r39;
-        r11_27_10_0_0 = 0;
-        r11_36_0 = 0;
-        break;
     case 7:
-        r11_0_0 = 7;
         r11_15_0 = 0;
         r11_172_0 = r35;
-        r11_27_0_0 = 0;
-        r11_27_10_0_0 = 0;
-        r11_36_0 = 0;
-        break;
-    case 8:
-        r11_0_0 = 8;
-        r11_15_0 = 0;
-        r11_172_0 = 0;
         r11_27_0_0 = 0;
         r11_27_10_0_0 = 0;
         r11_36_0 = 0;
         break;
     case 9:
-        r11_0_0 = 9;
         r11_15_0 = 0;
         r11_172_0 = r35;
         r11_27_0_0 = (uint16_t)r37;
         r11_27_10_0_0 = r37 & 0xffff0000U;
-        r11_36_0 = 0;
-        break;
-    case 10:
-        r11_0_0 = 10;
-        r11_15_0 = 0;
-        r11_172_0 = 0;
-        r11_27_0_0 = 0;
-        r11_27_10_0_0 = 0;
-        r11_36_0 = 0;
-        break;
-    case 11:
-        r11_0_0 = 11;
-        r11_15_0 = 0;
-        r11_172_0 = r35;
-        r11_27_0_0 = r39;
-        r11_27_10_0_0 = 0;
         r11_36_0 = 0;
         break;
     case 12:
@@ -356,7 +302,6 @@ static void dfu_core_mode_mode_of(unsigned char *a0, unsigned char *a1) {
             store32(a0 + 16, 0);
             return;
         }
-        r11_0_0 = 12;
         r11_15_0 = (uint8_t)r39;
         r11_172_0 = 0;
         r11_27_0_0 = 0;
@@ -373,7 +318,7 @@ static void dfu_core_mode_mode_of(unsigned char *a0, unsigned char *a1) {
         return;
     }
     store32(a0, 1);
-    a0[4] = r11_0_0;
+    a0[4] = (uint8_t)r44;
     a0[5] = r11_15_0;
     store32(a0 + 8, r11_172_0);
     store32(a0 + 12, r11_27_10_0_0 | (uint32_t)r11_27_0_0);
@@ -407,7 +352,7 @@ static void dfu_core_config_settings_of(unsigned char *a0, unsigned char *a1) {
     }
     uint32_t r30 = load32(a1);
     if (r30 == 300) {
-        uint32_t switch_load = load32(PLACE(switch_table_dfu_slots_layout_fill_size) + 4 * (size_t)r3_0_0);
+        uint32_t switch_load = (uint32_t)switch_table_dfu_slots_layout_fill_size[(size_t)r3_0_0];
         if (switch_load == r11) {
             r54 = load32(a1 + 32);
             struct i8_i32 r56 = dfu_asks_sector_Sector_new(r54);
@@ -543,18 +488,18 @@ static void dfu_core_config_functional_of(unsigned char *a0, unsigned char *a1) 
 }
 
 /* dfu_asks::noted::Noted::find */
-static void dfu_asks_noted_Noted_find(unsigned char *a0, unsigned char *a1, uint64_t a2, uint8_t a3, uint32_t a4) {
+static void dfu_asks_noted_Noted_find(unsigned char *a0, unsigned char *a1, size_t a2, uint8_t a3, uint32_t a4) {
     _Alignas(8) unsigned char r5[24];
     _Alignas(4) unsigned char r14_6[16];
     _Alignas(4) unsigned char r12[12];
     uint8_t r14_0_0, r14_4_0;
     memset(r14_6, 0, 16);
-    if (a2 >= 0x100000000ULL) {
+    if (wide(a2) >= 0x100000000ULL) {
         memset(a0, 0, 18);
         return;
     }
-    store64(r5, (size_t)(uintptr_t)a1);
-    store64(r5 + 8, a2);
+    store_size(r5, (size_t)(uintptr_t)a1);
+    store_size(r5 + 8, a2);
     r5[16] = a3;
     store32(r5 + 20, a4);
     dfu_slots_places_check(r12, r5);
@@ -581,29 +526,27 @@ static void dfu_slots_places_check(unsigned char *a0, unsigned char *a1) {
     uint8_t r5, r11;
     unsigned char *r2;
     uint32_t r72_2, r72_3, r1_9_0_copyload, v3, v4;
-    uint8_t r1_2_0_copyload, v50, v5;
+    uint8_t r1_2_0_copyload, v50;
     uint8_t r12 = dfu_slots_layout_is_sized(a1);
     if (!r12) {
         *a0 = 1;
-        a0[1] = 0;
         store32(a0 + 4, 0);
         store32(a0 + 8, 0);
         return;
     }
     r5 = dfu_slots_read_counts(a1, 0);
     r2 = a1 + 8;
-    size_t r3 = (size_t)load64(r2);
+    size_t r3 = load_size(r2);
     r11 = dfu_slots_read_counts(a1, (uint32_t)r3 >> 1);
     if (!(r5 | r11)) {
         *a0 = 1;
-        a0[1] = 1;
         store32(a0 + 4, 0);
         store32(a0 + 8, 0);
         return;
     }
-    size_t r3_2 = (size_t)load64(r2);
+    size_t r3_2 = load_size(r2);
     uint8_t r15 = dfu_slots_places_is_newest(a1, 0, (uint32_t)r3_2 >> 1, r5, r11);
-    size_t r3_3 = (size_t)load64(r2);
+    size_t r3_3 = load_size(r2);
     uint32_t r72 = (uint32_t)r3_3 >> 1;
     r72_2 = (uint32_t)(r15 ? 0 : r72);
     r72_3 = (uint32_t)(r15 ? r72 : 0);
@@ -622,7 +565,6 @@ static void dfu_slots_places_check(unsigned char *a0, unsigned char *a1) {
         v50 = 0;
         v3 = r72_3;
         v4 = r72_2;
-        v5 = 0;
     }
     else {
         uint32_t r1_6_0_copyload = load32u(r3_4 + 4);
@@ -635,24 +577,20 @@ static void dfu_slots_places_check(unsigned char *a0, unsigned char *a1) {
                 v50 = 0;
                 v3 = r72_3;
                 v4 = r72_2;
-                v5 = 0;
                 goto v2;
             }
         }
         v50 = 1;
         v3 = 0;
         v4 = 0;
-        v5 = 3;
     }
 v2:
     *a0 = v50;
-    a0[1] = v5;
     store32(a0 + 4, v4);
     store32(a0 + 8, v3);
     return;
 then_7:
     *a0 = 1;
-    a0[1] = 2;
     store32(a0 + 4, 0);
     store32(a0 + 8, 0);
     return;
@@ -668,15 +606,15 @@ static uint8_t dfu_slots_layout_is_sized(unsigned char *a0) {
     else {
         uint8_t r0_0_0_copyload = a0[16];
         v0 = (size_t)r0_0_0_copyload;
-        uint32_t switch_load = load32(PLACE(switch_table_dfu_core_would_stall) + 4 * v0);
+        uint32_t switch_load = (uint32_t)switch_table_dfu_asks_next_piece_numbered_piece[v0];
         a0_a1 = umax32(r1_0_0_copyload, switch_load);
-        size_t r3 = (size_t)load64(a0 + 8);
+        size_t r3 = load_size(a0 + 8);
         r5 = (uint32_t)r3;
         uint32_t pre = a0_a1 << 2;
         if (!(((pre + 0x2000000U) >= r5) & (((r5 & 1) == 0) ? (pre < r5) : !(r3 & 1)))) common_ret_op = 0;
         else {
             r69 = (r5 >> 1) - (a0_a1 << 1);
-            uint32_t switch_load_2 = load32(PLACE(switch_table_dfu_asks_asking_Asking_is_fit) + 4 * v0);
+            uint32_t switch_load_2 = (uint32_t)switch_table_dfu_asks_asking_Asking_advance[v0];
             if ((switch_load_2 & r69) != 0) common_ret_op = 0;
             else {
                 if (r1_0_0_copyload == 0) common_ret_op = 1;
@@ -744,34 +682,34 @@ static uint8_t dfu_slots_read_is_open(unsigned char *a0, uint32_t a1) {
 static uint8_t dfu_slots_read_byte_at(unsigned char *a0, uint32_t a1) {
     _Alignas(4) unsigned char r1[1];
     *r1 = 0;
-    size_t r5_0_0_copyload = (size_t)load64(a0);
+    size_t r5_0_0_copyload = load_size(a0);
     core_slice_edits_slice_T_copy_from_slice_i8_core_clone_U8Clone(r1, (unsigned char *)(uintptr_t)r5_0_0_copyload + (size_t)a1, 1);
     uint8_t r15 = *r1;
     return r15;
 }
 
 /* core::slice::edits::slice+T::copy_from_slice::<i8,20'core::clone::U8Clone{}> */
-static void core_slice_edits_slice_T_copy_from_slice_i8_core_clone_U8Clone(unsigned char *a0, unsigned char *a2, uint64_t a3) {
-    uint64_t r0_0;
-    if (((uint64_t)(size_t)(uintptr_t)a0 - (uint64_t)(size_t)(uintptr_t)a2) >= a3) {
-        memmove(a0, a2, (size_t)a3);
+static void core_slice_edits_slice_T_copy_from_slice_i8_core_clone_U8Clone(unsigned char *a0, unsigned char *a2, size_t a3) {
+    size_t r0_0;
+    if (((uint64_t)(size_t)(uintptr_t)a0 - (uint64_t)(size_t)(uintptr_t)a2) >= (uint64_t)a3) {
+        memmove(a0, a2, a3);
         return;
     }
     r0_0 = 0;
     for (;;) {
         if (r0_0 == a3) return;
-        uint8_t r26 = a2[(size_t)r0_0];
-        a0[(size_t)r0_0] = r26;
+        uint8_t r26 = a2[r0_0];
+        a0[r0_0] = r26;
         r0_0 = r0_0 + 1;
     }
 }
 
 /* dfu_slots::layout::capacity_of::<#ab3713f43cb9a70d>: crates/dfu_slots/src/layout.rt */
 static uint32_t dfu_slots_layout_capacity_of(unsigned char *a0) {
-    size_t r3 = (size_t)load64(a0 + 8);
+    size_t r3 = load_size(a0 + 8);
     uint8_t r0_0_0_copyload = a0[16];
     uint32_t r1_0_0_copyload = load32(a0 + 20);
-    uint32_t switch_load = load32(PLACE(switch_table_dfu_core_would_stall) + 4 * (size_t)r0_0_0_copyload);
+    uint32_t switch_load = (uint32_t)switch_table_dfu_asks_next_piece_numbered_piece[(size_t)r0_0_0_copyload];
     return ((uint32_t)r3 >> 1) - (umax32(r1_0_0_copyload, switch_load) << 1);
 }
 
@@ -779,8 +717,8 @@ static uint32_t dfu_slots_layout_capacity_of(unsigned char *a0) {
 static void dfu_slots_read_read_data(unsigned char *a0, uint32_t a1, uint32_t a2, unsigned char *a3, size_t a4) {
     uint8_t r0_0_0_copyload = a0[16];
     uint32_t r1_0_0_copyload = load32(a0 + 20);
-    uint32_t switch_load = load32(PLACE(switch_table_dfu_core_would_stall) + 4 * (size_t)r0_0_0_copyload);
-    size_t r5_0_0_copyload = (size_t)load64(a0);
+    uint32_t switch_load = (uint32_t)switch_table_dfu_asks_next_piece_numbered_piece[(size_t)r0_0_0_copyload];
+    size_t r5_0_0_copyload = load_size(a0);
     core_slice_edits_slice_T_copy_from_slice_i8_core_clone_U8Clone(a3, (unsigned char *)(uintptr_t)r5_0_0_copyload + (size_t)((a2 + a1) + (umax32(r1_0_0_copyload, switch_load) << 1)), a4);
     return;
 }
@@ -821,7 +759,7 @@ static uint8_t dfu_slots_places_is_newest(unsigned char *a0, uint32_t a1, uint32
 static uint8_t dfu_slots_read_generation(unsigned char *a0, uint32_t a1) {
     uint8_t r0_0_0_copyload = a0[16];
     uint32_t r1_0_0_copyload = load32(a0 + 20);
-    uint32_t switch_load = load32(PLACE(switch_table_dfu_core_would_stall) + 4 * (size_t)r0_0_0_copyload);
+    uint32_t switch_load = (uint32_t)switch_table_dfu_asks_next_piece_numbered_piece[(size_t)r0_0_0_copyload];
     uint8_t r7 = dfu_slots_read_byte_at(a0, umax32(r1_0_0_copyload, switch_load) + a1);
     return r7;
 }
@@ -832,8 +770,8 @@ static void dfu_slots_read_header_of(unsigned char *a0, unsigned char *a1, uint3
     memset(r1, 0, 16);
     uint8_t r0_0_0_copyload = a1[16];
     uint32_t r1_0_0_copyload = load32(a1 + 20);
-    uint32_t switch_load = load32(PLACE(switch_table_dfu_core_would_stall) + 4 * (size_t)r0_0_0_copyload);
-    size_t r5_0_0_copyload = (size_t)load64(a1);
+    uint32_t switch_load = (uint32_t)switch_table_dfu_asks_next_piece_numbered_piece[(size_t)r0_0_0_copyload];
+    size_t r5_0_0_copyload = load_size(a1);
     core_slice_edits_slice_T_copy_from_slice_i8_core_clone_U8Clone(r1, (unsigned char *)(uintptr_t)r5_0_0_copyload + (size_t)(umax32(r1_0_0_copyload, switch_load) + a2), 16);
     memcpy(a0, r1, 16);
     return;
@@ -871,7 +809,6 @@ static void dfu_core_mode_idle_mode(unsigned char *a0, unsigned char *a1, unsign
     memcpy(r54, r7 + 4, 48);
     a0[52] = r8_6_5_2_copyload;
     a0[53] = r8_6_6_2_copyload;
-    store16(a0 + 54, 0);
     store32(a0 + 56, r8_6_8_2_copyload);
     store32(a0 + 60, r8_6_9_2_copyload);
     store32(a0 + 64, r8_6_10_2_copyload);
@@ -925,7 +862,6 @@ static void dfu_core_mode_mode_in(unsigned char *a0, unsigned char *a1, unsigned
     memcpy(a0 + 4, r6_6_0 + 2, 48);
     a0[52] = r6_6_3_0;
     a0[53] = r6_6_4_0;
-    store16(a0 + 54, 0);
     store32(a0 + 56, r6_6_6_0);
     store32(a0 + 60, r6_6_7_0);
     store32(a0 + 64, r6_6_8_0);
@@ -934,90 +870,50 @@ static void dfu_core_mode_mode_in(unsigned char *a0, unsigned char *a1, unsigned
 
 /* dfu_core::mode::set_mode: crates/dfu_core/src/mode.rt */
 static void dfu_core_mode_set_mode(unsigned char *a0, unsigned char *a1) {
-    uint32_t v1, v2, r27_0_0, r27_15_0, r27_28_0;
+    uint8_t v0;
+    uint32_t v1, v2, r27_15_0, r27_28_0;
     uint16_t r1_14_0_0_extract_trunc, r27_41_0;
-    uint8_t v0 = *a1;
+    v0 = *a1;
     v1 = load32(a1 + 4);
     v2 = load32(a1 + 8);
     r1_14_0_0_extract_trunc = (uint16_t)v2;
     switch (v0) {
     case 0:
-        r27_0_0 = 0;
+    case 2:
+    case 8:
+    case 10:
         r27_15_0 = 0;
         r27_28_0 = 0;
         r27_41_0 = 0;
         break;
     case 1:
-        r27_0_0 = 1;
+    case 9:
         r27_15_0 = v1;
         r27_28_0 = v2;
         r27_41_0 = 0;
         break;
-    case 2:
-        r27_0_0 = 2;
-        r27_15_0 = 0;
-        r27_28_0 = 0;
-        r27_41_0 = 0;
-        break;
     case 3:
-        r27_0_0 = 3;
-        r27_15_0 = v1;
-        r27_28_0 = 0;
-        r27_41_0 = r1_14_0_0_extract_trunc;
-        break;
     case 4:
-        r27_0_0 = 4;
+    case 6:
+    case 11:
         r27_15_0 = v1;
         r27_28_0 = 0;
         r27_41_0 = r1_14_0_0_extract_trunc;
         break;
     case 5: {
         uint32_t v3 = load32(a1 + 12);
-        r27_0_0 = 5;
         r27_15_0 = v1;
         r27_28_0 = v3;
         r27_41_0 = r1_14_0_0_extract_trunc;
         break;
     }
-    case 6:
-        r27_0_0 = 6;
-        r27_15_0 = v1;
-        r27_28_0 = 0;
-        r27_41_0 = r1_14_0_0_extract_trunc;
-        break;
     case 7:
-        r27_0_0 = 7;
         r27_15_0 = v1;
         r27_28_0 = 0;
         r27_41_0 = 0;
-        break;
-    case 8:
-        r27_0_0 = 8;
-        r27_15_0 = 0;
-        r27_28_0 = 0;
-        r27_41_0 = 0;
-        break;
-    case 9:
-        r27_0_0 = 9;
-        r27_15_0 = v1;
-        r27_28_0 = v2;
-        r27_41_0 = 0;
-        break;
-    case 10:
-        r27_0_0 = 10;
-        r27_15_0 = 0;
-        r27_28_0 = 0;
-        r27_41_0 = 0;
-        break;
-    case 11:
-        r27_0_0 = 11;
-        r27_15_0 = v1;
-        r27_28_0 = 0;
-        r27_41_0 = r1_14_0_0_extract_trunc;
         break;
     case 12: {
         uint8_t v4 = a1[1];
-        r27_0_0 = 12;
         r27_15_0 = 0;
         r27_28_0 = 0;
         r27_41_0 = v4;
@@ -1026,7 +922,7 @@ static void dfu_core_mode_set_mode(unsigned char *a0, unsigned char *a1) {
     default: never();
     }
     store32(a0, 300);
-    store32(a0 + 4, r27_0_0);
+    store32(a0 + 4, (uint32_t)v0);
     store32(a0 + 8, r27_15_0);
     store32(a0 + 12, r27_28_0);
     store16(a0 + 24, r27_41_0);
@@ -1034,7 +930,7 @@ static void dfu_core_mode_set_mode(unsigned char *a0, unsigned char *a1) {
 }
 
 /* dfu_device::time_table::poll_ms: crates/dfu_device/src/time_table.rt */
-static uint32_t dfu_device_time_table_poll_ms(unsigned char *a0, unsigned char *a1, uint64_t a2) {
+static uint32_t dfu_device_time_table_poll_ms(unsigned char *a0, unsigned char *a1, size_t a2) {
     _Alignas(4) unsigned char r13[12];
     _Alignas(4) unsigned char r15[12];
     uint32_t r1_41_4_copyload, r12_0;
@@ -1074,13 +970,13 @@ static uint32_t dfu_device_time_table_poll_ms(unsigned char *a0, unsigned char *
 }
 
 /* dfu_device::time_table::block_ms: crates/dfu_device/src/time_table.rt */
-static uint32_t dfu_device_time_table_block_ms(unsigned char *a0, uint32_t a1, uint32_t a2, uint64_t a3) {
+static uint32_t dfu_device_time_table_block_ms(unsigned char *a0, uint32_t a1, uint32_t a2, size_t a3) {
     _Alignas(4) unsigned char r1[12];
     memcpy(r1, a0, 12);
     uint8_t r6_0_0_copyload = r1[4];
-    uint32_t switch_load = load32(PLACE(switch_table_dfu_slots_layout_fill_size) + 4 * (size_t)r6_0_0_copyload);
+    uint32_t switch_load = (uint32_t)switch_table_dfu_slots_layout_fill_size[(size_t)r6_0_0_copyload];
     uint32_t r18 = (switch_load - 1) & a2;
-    uint32_t r42 = dfu_device_time_table_writes_ms(r1, a1, a2 - r18, (r18 + (uint32_t)(size_t)umin64(a3, 4096)) & (((uint32_t)0 - switch_load) | 0xffff0000U), (uint32_t)(a2 == 0));
+    uint32_t r42 = dfu_device_time_table_writes_ms(r1, a1, a2 - r18, (r18 + (uint32_t)umin_size(a3, 4096)) & (((uint32_t)0 - switch_load) | 0xffff0000U), (uint32_t)(a2 == 0));
     return r42;
 }
 
@@ -1109,7 +1005,7 @@ static uint32_t dfu_device_time_table_image_ms(unsigned char *a0, uint32_t a1, u
     _Alignas(4) unsigned char r1[12];
     memcpy(r1, a0, 12);
     uint8_t r5_0_0_copyload = r1[4];
-    uint32_t switch_load = load32(PLACE(switch_table_dfu_slots_layout_fill_size) + 4 * (size_t)r5_0_0_copyload);
+    uint32_t switch_load = (uint32_t)switch_table_dfu_slots_layout_fill_size[(size_t)r5_0_0_copyload];
     uint32_t r14 = (switch_load - 1) & a2;
     uint32_t r26 = dfu_device_time_table_writes_ms(r1, a1, a2 - r14, (uint32_t)((r14 == 0) ? 0 : switch_load), 2);
     return r26;
@@ -1160,7 +1056,7 @@ static uint8_t dfu_asks_formatting_Formatting_due(unsigned char *a0, size_t a2, 
     uint8_t common_ret_op;
     if (wide(a2) > 0xffffffffU) common_ret_op = 0;
     else {
-        uint64_t r17 = load64(a3 + 40);
+        size_t r17 = load_size(a3 + 40);
         if (r17 > 0x1000000U) common_ret_op = 0;
         else {
             uint8_t r33 = dfu_asks_format_piece_part_piece(a0, a2, a3);
@@ -1197,7 +1093,7 @@ static uint8_t dfu_asks_format_piece_part_piece(unsigned char *a0, size_t a1, un
     }
     case 2: {
         uint32_t r33 = load32(a0 + 16);
-        size_t r36 = (size_t)load64(a2 + 40);
+        size_t r36 = load_size(a2 + 40);
         store32(r11, 3);
         store32(r11 + 4, r33);
         store32(r11 + 8, (uint32_t)r36);
@@ -1250,14 +1146,14 @@ static uint8_t dfu_asks_next_piece_sequence_piece(unsigned char *a0, unsigned ch
 
 /* dfu_asks::next_piece::numbered_piece: crates/dfu_asks/src/next_piece.rt */
 static uint8_t dfu_asks_next_piece_numbered_piece(unsigned char *a0, size_t a1, unsigned char *a2) {
-    _Alignas(8) unsigned char r6[24];
     uint32_t v0, v1, r20_0_0_copyload, r31, spec_select, r25_2737_0, r25_35_0;
     uint16_t v2;
-    uint8_t r18_0_0_copyload, r25_21_0;
-    size_t r1, r17, r1_4, r1_5, r56;
-    unsigned char *r18, *r17_2;
-    uint64_t r19, r26, r25_15_0, r23;
-    uint8_t r9_0_off0, r21_0_shrunk;
+    uint8_t r18_0_0_copyload, r25_21_0, r25_21_0_ph48, r25_21_0_ph47;
+    size_t r1, r17_3, r19, r1_4, r1_5, r54, r56, r18_4, r1_7, r5_0, r18_2, r5652;
+    size_t r5450, r5651, r5449, r6_4_0, r6_4_0_ph20;
+    unsigned char *r18_3, *r17_4, *r17_2, *r17_5;
+    uint64_t r26, r25_15_0, r18_5, r4_0, r25_15_0_ph46, r25_15_0_ph45;
+    uint8_t r21_0_shrunk;
     uint8_t r2 = *a0;
     v0 = load32(a0 + 4);
     v1 = load32(a0 + 8);
@@ -1271,54 +1167,41 @@ static uint8_t dfu_asks_next_piece_numbered_piece(unsigned char *a0, size_t a1, 
             goto join_4;
         }
         r1 = (size_t)v0;
-        if (r20_0_0_copyload != 0) {
-            r17 = (size_t)r20_0_0_copyload;
-            r18 = a2 + 48;
-            r19 = load64(r18);
-            if (r19 >= (uint64_t)r17) {
-                store64(r18, r19 - (uint64_t)r17);
-                r21_0_shrunk = 0;
-                goto join_4;
-            }
-            a2[72] = 1;
-            memset(a2 + 73, 0, 7);
-            store64(a2 + 80, r19 + (uint64_t)r1);
-            store64(a2 + 88, r17 - (size_t)r19);
-            r21_0_shrunk = 1;
+        if (r20_0_0_copyload == 0) {
+            size_t switch_load = (size_t)switch_table_dfu_asks_next_piece_numbered_piece[(size_t)r18_0_0_copyload];
+            unsigned char *r17 = a2 + 48;
+            size_t r18 = load_size(r17);
+            r18_2 = r18;
+            r17_2 = r17;
+            r5652 = switch_load;
+            r5450 = 0;
+            r25_21_0_ph48 = 4;
+            r25_15_0_ph46 = r1;
+            goto then_1;
+        }
+        r17_3 = (size_t)r20_0_0_copyload;
+        r18_3 = a2 + 48;
+        r19 = load_size(r18_3);
+        if (r19 >= r17_3) {
+            store64(r18_3, r19 - r17_3);
+            r21_0_shrunk = 0;
             goto join_4;
         }
-        switch (r18_0_0_copyload) {
-        case 0:
-        case 1:
-            r25_15_0 = r1;
-            r25_21_0 = 4;
-            r25_2737_0 = 0;
-            r25_35_0 = 16;
-            break;
-        case 2:
-            r25_15_0 = r1;
-            r25_21_0 = 4;
-            r25_2737_0 = 0;
-            r25_35_0 = 64;
-            break;
-        case 3:
-            r25_15_0 = r1;
-            r25_21_0 = 4;
-            r25_2737_0 = 0;
-            r25_35_0 = 256;
-            break;
-        default: never();
-        }
-        break;
+        a2[72] = 1;
+        memset(a2 + 73, 0, 7);
+        store64(a2 + 80, (uint64_t)r19 + (uint64_t)r1);
+        store64(a2 + 88, r17_3 - r19);
+        r21_0_shrunk = 1;
+        goto join_4;
     case 1: {
         uint16_t v3 = load16(a0 + 14);
         size_t v4 = (size_t)r18_0_0_copyload;
-        uint32_t switch_load = load32(PLACE(switch_table_dfu_core_would_stall) + 4 * v4);
+        uint32_t switch_load_2 = (uint32_t)switch_table_dfu_asks_next_piece_numbered_piece[v4];
         uint32_t r1_2 = (uint32_t)v2;
-        r26 = ((uint64_t)(size_t)usub_sat32(v1, r1_2) + (uint64_t)(size_t)v0) + ((uint64_t)(size_t)umax32(r20_0_0_copyload, switch_load) << 1);
-        uint32_t switch_load_2 = load32(PLACE(switch_table_dfu_slots_layout_fill_size) + 4 * v4);
-        r31 = ((uint32_t)v3 + r1_2) & ((uint32_t)0 - switch_load_2);
-        spec_select = (uint32_t)((v2 == 0) ? 0 : umin32(r31, switch_load_2));
+        r26 = ((uint64_t)(size_t)usub_sat32(v1, r1_2) + (uint64_t)(size_t)v0) + ((uint64_t)(size_t)umax32(r20_0_0_copyload, switch_load_2) << 1);
+        uint32_t switch_load66 = (uint32_t)switch_table_dfu_slots_layout_fill_size[v4];
+        r31 = ((uint32_t)v3 + r1_2) & ((uint32_t)0 - switch_load66);
+        spec_select = (uint32_t)((v2 == 0) ? 0 : umin32(r31, switch_load66));
         switch (a1) {
         case 0:
             r25_15_0 = r26;
@@ -1342,9 +1225,9 @@ static uint8_t dfu_asks_next_piece_numbered_piece(unsigned char *a0, size_t a1, 
         switch (a1) {
         case 0: {
             size_t v5 = (size_t)r18_0_0_copyload;
-            uint32_t switch_load_3 = load32(PLACE(switch_table_dfu_core_would_stall) + 4 * v5);
+            uint32_t switch_load_3 = (uint32_t)switch_table_dfu_asks_next_piece_numbered_piece[v5];
             uint32_t r1_3 = (uint32_t)v2;
-            uint32_t switch_load_4 = load32(PLACE(switch_table_dfu_slots_layout_fill_size) + 4 * v5);
+            uint32_t switch_load_4 = (uint32_t)switch_table_dfu_slots_layout_fill_size[v5];
             uint32_t v6 = switch_load_4 - 1;
             r25_15_0 = ((uint64_t)(size_t)usub_sat32(v1, r1_3) + (uint64_t)(size_t)v0) + ((uint64_t)(size_t)umax32(r20_0_0_copyload, switch_load_3) << 1);
             r25_21_0 = 1;
@@ -1411,13 +1294,13 @@ static uint8_t dfu_asks_next_piece_numbered_piece(unsigned char *a0, size_t a1, 
             goto join_4;
         }
         size_t v7 = (size_t)r18_0_0_copyload;
-        uint32_t switch_load_5 = load32(PLACE(switch_table_dfu_slots_layout_fill_size) + 4 * v7);
+        uint32_t switch_load_5 = (uint32_t)switch_table_dfu_slots_layout_fill_size[v7];
         uint32_t v8 = switch_load_5 - 1;
         uint64_t r42 = (uint64_t)(size_t)((switch_load_5 - (v8 & v1)) & v8) + (uint64_t)(size_t)v1;
         size_t r1_6 = (size_t)v0;
         size_t a1_a0 = (size_t)umin64(r42, r1_6);
-        uint32_t switch_load37 = load32(PLACE(switch_table_dfu_core_would_stall) + 4 * v7);
-        r25_15_0 = ((uint64_t)(size_t)umax32(r20_0_0_copyload, switch_load37) << 1) + (uint64_t)r1_6;
+        uint32_t switch_load69 = (uint32_t)switch_table_dfu_asks_next_piece_numbered_piece[v7];
+        r25_15_0 = ((uint64_t)(size_t)umax32(r20_0_0_copyload, switch_load69) << 1) + (uint64_t)r1_6;
         r25_21_0 = 0;
         r25_2737_0 = (uint32_t)a1_a0;
         r25_35_0 = (uint32_t)(size_t)umin64(r42 - (uint64_t)a1_a0, 4096);
@@ -1425,84 +1308,82 @@ static uint8_t dfu_asks_next_piece_numbered_piece(unsigned char *a0, size_t a1, 
     }
     default: never();
     }
+    r54 = (size_t)r25_2737_0;
     r56 = (size_t)r25_35_0;
-    r17_2 = a2 + 48;
-    uint64_t r18_2 = load64(r17_2);
-    dfu_asks_sector_locate(r6, r20_0_0_copyload, r25_15_0, r56, r18_2);
-    uint8_t r21 = *r6;
-    r23 = load64(r6 + 8);
-    switch (r21) {
-    case 0: {
-        uint64_t r25 = load64(r6 + 16);
+    r17_4 = a2 + 48;
+    r18_4 = load_size(r17_4);
+    if (r20_0_0_copyload != 0) {
+        r1_7 = (size_t)r20_0_0_copyload;
+        r18_5 = r25_15_0 + (uint64_t)r56;
+        uint32_t r22 = ((((uint32_t)(size_t)(r25_15_0 >> 15) % r20_0_0_copyload) << 15) | ((uint32_t)r25_15_0 & 32767)) % r20_0_0_copyload;
+        r5_0 = r18_4;
+        r4_0 = (uint64_t)((r22 == 0) ? 0 : ((uint64_t)r1_7 - (uint64_t)(size_t)r22)) + r25_15_0;
+        for (;;) {
+            if (r4_0 >= r18_5) goto arm_4;
+            if (r5_0 < r1_7) break;
+            r5_0 = r5_0 - r1_7;
+            r4_0 = r4_0 + (uint64_t)r1_7;
+        }
         a2[72] = 1;
         memset(a2 + 73, 0, 7);
-        store64(a2 + 80, r23);
-        store64(a2 + 88, r25);
-        r9_0_off0 = 1;
-        break;
+        store64(a2 + 80, r4_0 + (uint64_t)r5_0);
+        store64(a2 + 88, r1_7 - r5_0);
+        r21_0_shrunk = 1;
+        goto join_4;
+arm_4:;
+        uint8_t r4 = r5_0 < r56;
+        size_t r2_4_0 = r5_0 - (size_t)(r4 ? 0 : r56);
+        if (!r4) {
+            r17_5 = r17_4;
+            r6_4_0_ph20 = r2_4_0;
+            goto arm_3;
+        }
+        r5651 = r56;
+        r5449 = r54;
+        r25_21_0_ph47 = r25_21_0;
+        r25_15_0_ph45 = r25_15_0;
+        r6_4_0 = r2_4_0;
+        goto arm_2;
     }
-    case 1:
-        store64(a2 + 72, 0);
-        store64(a2 + 80, r23 + r25_15_0);
-        store64(a2 + 88, (size_t)umin64((uint64_t)r56 - r23, 256));
-        a2[96] = r25_21_0;
-        store64(a2 + 104, r23 + (uint64_t)(size_t)r25_2737_0);
-        r9_0_off0 = 1;
-        break;
-    case 2:
-        store64(r17_2, r23);
-        r9_0_off0 = 0;
-        break;
-    default: never();
+    r18_2 = r18_4;
+    r17_2 = r17_4;
+    r5652 = r56;
+    r5450 = r54;
+    r25_21_0_ph48 = r25_21_0;
+    r25_15_0_ph46 = r25_15_0;
+then_1:;
+    uint8_t r4_2 = r18_2 < r5652;
+    size_t r2_4_0_2 = r18_2 - (size_t)(r4_2 ? 0 : r5652);
+    if (!r4_2) {
+        r17_5 = r17_2;
+        r6_4_0_ph20 = r2_4_0_2;
+        goto arm_3;
     }
-    r21_0_shrunk = r9_0_off0;
+    r5651 = r5652;
+    r5449 = r5450;
+    r25_21_0_ph47 = r25_21_0_ph48;
+    r25_15_0_ph45 = r25_15_0_ph46;
+    r6_4_0 = r2_4_0_2;
+arm_2:
+    store64(a2 + 72, 0);
+    store64(a2 + 80, (uint64_t)r6_4_0 + r25_15_0_ph45);
+    store64(a2 + 88, (size_t)umin64((uint64_t)r5651 - (uint64_t)r6_4_0, 256));
+    a2[96] = r25_21_0_ph47;
+    store64(a2 + 104, (uint64_t)r6_4_0 + (uint64_t)r5449);
+    r21_0_shrunk = 1;
+    goto join_4;
+arm_3:
+    store64(r17_5, r6_4_0_ph20);
+    r21_0_shrunk = 0;
 join_4:
     return r21_0_shrunk;
-}
-
-/* dfu_asks::sector::locate: crates/dfu_asks/src/sector.rt */
-static void dfu_asks_sector_locate(unsigned char *a0, uint32_t a1, uint64_t a2, size_t a3, uint64_t a4) {
-    size_t r1, r7_0_0_0, r7_7_0;
-    uint64_t r18, r5_0, r4_0, r7_4_0;
-    if (a1 == 0) {
-        uint8_t r4 = a4 < (uint64_t)a3;
-        store64(a0, (size_t)(r4 ? 1 : 2));
-        store64(a0 + 8, a4 - (uint64_t)(size_t)(r4 ? 0 : a3));
-        store64(a0 + 16, 0);
-        return;
-    }
-    r1 = (size_t)a1;
-    r18 = (uint64_t)a3 + a2;
-    uint32_t r22 = ((((uint32_t)(size_t)(a2 >> 15) % a1) << 15) | ((uint32_t)a2 & 32767)) % a1;
-    r5_0 = a4;
-    r4_0 = (uint64_t)((r22 == 0) ? 0 : ((uint64_t)r1 - (uint64_t)(size_t)r22)) + a2;
-    for (;;) {
-        if (r4_0 >= r18) goto arm_4;
-        if (r5_0 < (uint64_t)r1) break;
-        r5_0 = r5_0 - (uint64_t)r1;
-        r4_0 = r4_0 + (uint64_t)r1;
-    }
-    r7_0_0_0 = 0;
-    r7_4_0 = r4_0 + r5_0;
-    r7_7_0 = r1 - (size_t)r5_0;
-    goto join_7;
-arm_4:;
-    uint8_t r4_2 = r5_0 < (uint64_t)a3;
-    r7_0_0_0 = (size_t)(r4_2 ? 1 : 2);
-    r7_4_0 = r5_0 - (uint64_t)(size_t)(r4_2 ? 0 : a3);
-    r7_7_0 = 0;
-join_7:
-    store64(a0, r7_0_0_0);
-    store64(a0 + 8, r7_4_0);
-    store64(a0 + 16, r7_7_0);
-    return;
 }
 
 /* dfu_asks::format_piece::open_piece: crates/dfu_asks/src/format_piece.rt */
 static uint8_t dfu_asks_format_piece_open_piece(size_t a0, uint32_t a1, unsigned char *a2) {
     _Alignas(4) unsigned char r1[16];
     store32(r1 + 12, 0);
-    size_t r8 = (size_t)load64(a2 + 40);
+    size_t r8 = load_size(a2 + 40);
     a2[56] = 0;
     a2[57] = 2;
     a2[58] = 0;
@@ -1520,37 +1401,38 @@ static uint8_t dfu_asks_format_piece_open_piece(size_t a0, uint32_t a1, unsigned
 /* dfu_asks::cut::stands: crates/dfu_asks/src/cut.rt */
 static uint8_t dfu_asks_cut_stands(unsigned char *a0, size_t a1, unsigned char *a2) {
     _Alignas(8) unsigned char r10[48];
-    uint64_t r3_2_0_copyload, r1_3_0_copyload, r1_6_0_copyload, r1_8_0_copyload, r3_0, r3_0_lcssa;
+    uint64_t r3_2_0_copyload;
     unsigned char *r44, *r53, *r86;
+    size_t r1_3_0_copyload, r1_6_0_copyload, r1_8_0_copyload, r3_0, r3_0_lcssa;
     uint8_t r1_9_0_copyload;
     uint8_t common_ret_op;
     r3_2_0_copyload = load64(a2 + 80);
-    uint64_t r3_4_0_copyload = load64(a2 + 88);
-    if ((uint64_t)a1 < (r3_4_0_copyload + r3_2_0_copyload)) common_ret_op = 0;
+    size_t r3_4_0_copyload = load_size(a2 + 88);
+    if ((uint64_t)a1 < ((uint64_t)r3_4_0_copyload + r3_2_0_copyload)) common_ret_op = 0;
     else {
         dfu_asks_cut_runs_of(r10, a2);
         r44 = a0 + (size_t)r3_2_0_copyload;
-        size_t r1_0_0_copyload = (size_t)load64(r10);
-        r1_3_0_copyload = load64(r10 + 8);
-        r1_6_0_copyload = load64(r10 + 24);
-        r1_8_0_copyload = load64(r10 + 32);
+        size_t r1_0_0_copyload = load_size(r10);
+        r1_3_0_copyload = load_size(r10 + 8);
+        r1_6_0_copyload = load_size(r10 + 24);
+        r1_8_0_copyload = load_size(r10 + 32);
         r1_9_0_copyload = r10[40];
         uint8_t r40 = dfu_asks_cut_are_same(r44, r1_3_0_copyload, (unsigned char *)(uintptr_t)r1_0_0_copyload);
         if (!r40) common_ret_op = 0;
         else {
-            size_t r1_5_0_copyload = (size_t)load64(r10 + 16);
-            r53 = r44 + (size_t)r1_3_0_copyload;
+            size_t r1_5_0_copyload = load_size(r10 + 16);
+            r53 = r44 + r1_3_0_copyload;
             uint8_t r68 = dfu_asks_cut_are_same(r53, r1_6_0_copyload, (unsigned char *)(uintptr_t)r1_5_0_copyload);
             if (!r68) common_ret_op = 0;
             else {
-                r86 = r53 + (size_t)r1_6_0_copyload;
+                r86 = r53 + r1_6_0_copyload;
                 r3_0 = 0;
                 for (;;) {
                     if (r3_0 == r1_8_0_copyload) {
                         r3_0_lcssa = r1_8_0_copyload;
                         break;
                     }
-                    uint8_t r20 = r86[(size_t)r3_0];
+                    uint8_t r20 = r86[r3_0];
                     if (r20 != r1_9_0_copyload) {
                         r3_0_lcssa = r3_0;
                         break;
@@ -1566,26 +1448,26 @@ static uint8_t dfu_asks_cut_stands(unsigned char *a0, size_t a1, unsigned char *
 
 /* dfu_asks::cut::runs_of: crates/dfu_asks/src/cut.rt */
 static void dfu_asks_cut_runs_of(unsigned char *a0, unsigned char *a1) {
-    uint64_t r15, r1_15_0, r1_7_0, r1_0_0;
+    size_t r15, r1_15_0, r1_7_0, r1_0_0;
     unsigned char *r1_10_0;
-    r15 = load64(a1 + 88);
+    r15 = load_size(a1 + 88);
     uint8_t r17 = a1[72];
     if (r17 & 1) {
-        store64(a0, (uint64_t)(uintptr_t)static_2);
-        store64(a0 + 8, 0);
-        store64(a0 + 16, (uint64_t)(uintptr_t)static_2);
-        store64(a0 + 24, 0);
-        store64(a0 + 32, r15);
-        store64(a0 + 40, 255);
+        store_size(a0, (size_t)(uintptr_t)static_2);
+        store_size(a0 + 8, 0);
+        store_size(a0 + 16, (size_t)(uintptr_t)static_2);
+        store_size(a0 + 24, 0);
+        store_size(a0 + 32, r15);
+        store_size(a0 + 40, 255);
         return;
     }
     uint8_t r25 = a1[96];
     switch (r25) {
     case 0: {
-        uint64_t r2_0_0_copyload = load64(a1 + 16);
-        uint64_t r2_3_0_copyload = load64(a1 + 24);
-        size_t r3_0_0_copyload = (size_t)load64(a1 + 32);
-        uint64_t r3_3_0_copyload = load64(a1 + 40);
+        size_t r2_0_0_copyload = load_size(a1 + 16);
+        size_t r2_3_0_copyload = load_size(a1 + 24);
+        size_t r3_0_0_copyload = load_size(a1 + 32);
+        size_t r3_3_0_copyload = load_size(a1 + 40);
         r1_10_0 = (unsigned char *)(uintptr_t)r3_0_0_copyload;
         r1_15_0 = r3_3_0_copyload;
         r1_7_0 = r2_3_0_copyload;
@@ -1593,8 +1475,8 @@ static void dfu_asks_cut_runs_of(unsigned char *a0, unsigned char *a1) {
         break;
     }
     case 1: {
-        uint64_t r4_0_0_copyload = load64(a1 + 16);
-        uint64_t r4_3_0_copyload = load64(a1 + 24);
+        size_t r4_0_0_copyload = load_size(a1 + 16);
+        size_t r4_3_0_copyload = load_size(a1 + 24);
         r1_10_0 = PLACE(static_2);
         r1_15_0 = 0;
         r1_7_0 = r4_3_0_copyload;
@@ -1611,42 +1493,42 @@ static void dfu_asks_cut_runs_of(unsigned char *a0, unsigned char *a1) {
         r1_10_0 = PLACE(static_2);
         r1_15_0 = 0;
         r1_7_0 = 1;
-        r1_0_0 = (uint64_t)(uintptr_t)static_3;
+        r1_0_0 = (size_t)(uintptr_t)static_3;
         break;
     case 4:
         r1_10_0 = PLACE(static_2);
         r1_15_0 = 0;
         r1_7_0 = 0;
-        r1_0_0 = (uint64_t)(uintptr_t)static_2;
+        r1_0_0 = (size_t)(uintptr_t)static_2;
         break;
     default: never();
     }
     uint64_t r34 = load64(a1 + 104);
-    uint64_t a1_a0 = umin64(r1_7_0, r34);
-    uint64_t a1_a0_2 = umin64(r1_7_0 - a1_a0, r15);
-    uint64_t r20 = r15 - a1_a0_2;
-    uint64_t a1_a0_3 = umin64(r1_15_0, usub_sat64(r34, r1_7_0));
-    uint64_t a1_a0_4 = umin64(r1_15_0 - a1_a0_3, r20);
-    store64(a0, a1_a0 + r1_0_0);
-    store64(a0 + 8, a1_a0_2);
-    store64(a0 + 16, (size_t)(uintptr_t)(r1_10_0 + (size_t)a1_a0_3));
-    store64(a0 + 24, a1_a0_4);
-    store64(a0 + 32, r20 - a1_a0_4);
-    store64(a0 + 40, 0);
+    size_t a1_a0 = (size_t)umin64(r1_7_0, r34);
+    size_t a1_a0_2 = umin_size(r1_7_0 - a1_a0, r15);
+    size_t r20 = r15 - a1_a0_2;
+    size_t a1_a0_3 = (size_t)umin64(r1_15_0, usub_sat64(r34, r1_7_0));
+    size_t a1_a0_4 = umin_size(r1_15_0 - a1_a0_3, r20);
+    store_size(a0, a1_a0 + r1_0_0);
+    store_size(a0 + 8, a1_a0_2);
+    store_size(a0 + 16, (size_t)(uintptr_t)(r1_10_0 + a1_a0_3));
+    store_size(a0 + 24, a1_a0_4);
+    store_size(a0 + 32, r20 - a1_a0_4);
+    store_size(a0 + 40, 0);
     return;
 }
 
 /* dfu_asks::cut::are_same: crates/dfu_asks/src/cut.rt */
-static uint8_t dfu_asks_cut_are_same(unsigned char *a0, uint64_t a1, unsigned char *a2) {
-    uint64_t r5_0, r5_0_lcssa;
+static uint8_t dfu_asks_cut_are_same(unsigned char *a0, size_t a1, unsigned char *a2) {
+    size_t r5_0, r5_0_lcssa;
     r5_0 = 0;
     for (;;) {
         if (r5_0 == a1) {
             r5_0_lcssa = a1;
             break;
         }
-        uint8_t r24 = a0[(size_t)r5_0];
-        uint8_t r29 = a2[(size_t)r5_0];
+        uint8_t r24 = a0[r5_0];
+        uint8_t r29 = a2[r5_0];
         if (r24 != r29) {
             r5_0_lcssa = r5_0;
             break;
@@ -1676,8 +1558,8 @@ static uint8_t dfu_asks_next_and_took_is_sound(uint32_t a0, unsigned char *a1) {
     r2_35_0_copyload = load64(a1 + 8);
     if (!(r2_0_0_copyload & 1)) common_ret_op = 1;
     else {
-        uint64_t r2_4_0_copyload = load64(a1 + 16);
-        if ((a0 != 0) ? (r2_4_0_copyload == (uint64_t)(size_t)a0) : 0) common_ret_op = (((((uint32_t)(size_t)(r2_35_0_copyload >> 15) % a0) << 15) | ((uint32_t)r2_35_0_copyload & 32767)) % a0) == 0;
+        size_t r2_4_0_copyload = load_size(a1 + 16);
+        if ((a0 != 0) ? (r2_4_0_copyload == (size_t)a0) : 0) common_ret_op = (((((uint32_t)(size_t)(r2_35_0_copyload >> 15) % a0) << 15) | ((uint32_t)r2_35_0_copyload & 32767)) % a0) == 0;
         else {
             common_ret_op = 0;
         }
@@ -1693,15 +1575,15 @@ static void dfu_asks_cut_fill(unsigned char *a0, unsigned char *a1) {
     unsigned char *r61;
     uint8_t r70;
     dfu_asks_cut_runs_of(r0, a0);
-    uint64_t r21 = load64(r0 + 8);
-    uint64_t r24 = load64(r0 + 24);
-    r27 = r24 + r21;
-    uint64_t r30 = load64(a0 + 88);
-    a1_a0 = (size_t)umin64(r30, 256);
-    size_t r8_0_0_copyload = (size_t)load64(r0);
+    size_t r21 = load_size(r0 + 8);
+    size_t r24 = load_size(r0 + 24);
+    r27 = (uint64_t)r24 + (uint64_t)r21;
+    size_t r30 = load_size(a0 + 88);
+    a1_a0 = umin_size(r30, 256);
+    size_t r8_0_0_copyload = load_size(r0);
     core_slice_edits_slice_T_copy_from_slice_i8_core_clone_U8Clone(a1, (unsigned char *)(uintptr_t)r8_0_0_copyload, r21);
-    size_t r13_0_0_copyload = (size_t)load64(r0 + 16);
-    core_slice_edits_slice_T_copy_from_slice_i8_core_clone_U8Clone(a1 + (size_t)r21, (unsigned char *)(uintptr_t)r13_0_0_copyload, r24);
+    size_t r13_0_0_copyload = load_size(r0 + 16);
+    core_slice_edits_slice_T_copy_from_slice_i8_core_clone_U8Clone(a1 + r21, (unsigned char *)(uintptr_t)r13_0_0_copyload, r24);
     r61 = a1 + (size_t)r27;
     r70 = r0[40];
     if ((uint64_t)a1_a0 == r27) return;
@@ -1745,8 +1627,8 @@ static void dfu_core_keeping_found(unsigned char *a0, unsigned char *a1, size_t 
     r0_3_0_copyload = r6[44];
     r0_5104_0_copyload = load32(r6 + 48);
     r43 = load16(a0 + 12);
-    uint64_t switch_load = load64(PLACE(switch_table_dfu_core_format_took) + 8 * (size_t)r0_3_0_copyload);
-    if ((uint64_t)a2 < (switch_load + (uint64_t)(size_t)r43)) {
+    size_t switch_load = (size_t)switch_table_dfu_slots_layout_fill_size[(size_t)r0_3_0_copyload];
+    if (a2 < (switch_load + (size_t)r43)) {
         *a3 = 1;
         a3[1] = 1;
         memset(a3 + 8, 0, 136);
@@ -1890,7 +1772,7 @@ static uint8_t dfu_asks_next_piece_next_piece(unsigned char *a0, unsigned char *
         store32(a1 + 60, r8);
         store32(a1 + 64, r1_91_12_copyload);
         store32(a1 + 68, 0);
-        size_t r13 = (size_t)load64(a1 + 24);
+        size_t r13 = load_size(a1 + 24);
         store32(r2_3, 2);
         store32(r2_3 + 4, r1_3_4_copyload);
         store32(r2_3 + 8, r8);
@@ -1910,8 +1792,8 @@ static uint8_t dfu_asks_next_piece_next_piece(unsigned char *a0, unsigned char *
             }
         }
         uint32_t r19 = load32(a1 + 8);
-        size_t r22 = (size_t)load64(a1 + 24);
-        size_t r27 = (size_t)load64(a1 + 40);
+        size_t r22 = load_size(a1 + 24);
+        size_t r27 = load_size(a1 + 40);
         store32(r1, 1);
         store32(r1 + 4, r1_3_4_copyload);
         store32(r1 + 8, r19);
@@ -1930,14 +1812,14 @@ static struct i64_i8 dfu_asks_asking_Asking_look_at(unsigned char *a0, unsigned 
     _Alignas(8) unsigned char r7[112];
     _Alignas(4) unsigned char r12[16];
     uint8_t r0_4_0;
-    uint64_t r0_0_0;
+    size_t r0_0_0;
     unsigned char *v0 = r12 + 8;
     store32(v0, 0);
     uint8_t r5_0_0_copyload = a0[40];
     uint32_t r6_0_0_copyload = load32(a0 + 44);
     uint32_t r17 = load32(a0 + 80);
-    uint64_t r8 = load64(a0 + 72);
-    uint64_t r26 = load64(a0 + 64);
+    size_t r8 = load_size(a0 + 72);
+    size_t r26 = load_size(a0 + 64);
     uint32_t r24 = load32(a1 + 20);
     *r7 = r5_0_0_copyload;
     memset(r7 + 1, 0, 3);
@@ -1945,9 +1827,9 @@ static struct i64_i8 dfu_asks_asking_Asking_look_at(unsigned char *a0, unsigned 
     store32(r7 + 8, r17);
     store32(r7 + 12, 0);
     store64(r7 + 16, (size_t)(uintptr_t)a4);
-    store64(r7 + 24, umin64(a5, r8));
+    store64(r7 + 24, (size_t)umin64(a5, r8));
     store64(r7 + 32, (size_t)(uintptr_t)a2);
-    store64(r7 + 40, (size_t)umin64(a3, r26));
+    store64(r7 + 40, umin_size(a3, r26));
     store64(r7 + 48, (size_t)r24);
     memset(r7 + 56, 0, 40);
     r7[96] = 4;
@@ -1966,7 +1848,7 @@ static struct i64_i8 dfu_asks_asking_Asking_look_at(unsigned char *a0, unsigned 
         r0_0_0 = 0;
     }
     else {
-        uint64_t r47 = load64(r7 + 88);
+        size_t r47 = load_size(r7 + 88);
         uint8_t r52 = dfu_asks_cut_stands(a6, a7, r7);
         r0_4_0 = r52;
         r0_0_0 = r47;
@@ -1979,43 +1861,31 @@ static struct i64_i8 dfu_asks_asking_Asking_look_at(unsigned char *a0, unsigned 
 }
 
 /* dfu_asks::asking::Asking::fail: crates/dfu_asks/src/finish.rt */
-static struct i8_i64 dfu_asks_asking_Asking_fail(unsigned char *a0, uint8_t a1, uint8_t a2, uint16_t a3, unsigned char *a4, uint64_t a5, unsigned char *a6) {
+static struct i8_i64 dfu_asks_asking_Asking_fail(unsigned char *a0, uint8_t a1, uint8_t a2, uint16_t a3, unsigned char *a4, size_t a5, unsigned char *a6) {
     _Alignas(4) unsigned char r4[16];
     store32(r4, 0);
     unsigned char *r10 = a0 + 48;
     uint8_t v0 = *r10;
     *r4 = v0;
-    unsigned char *r12 = a0 + 49;
-    uint8_t v1 = *r12;
-    r4[1] = v1;
-    unsigned char *r14 = a0 + 52;
-    uint32_t v2 = load32(r14);
-    store32(r4 + 4, v2);
-    unsigned char *r16 = a0 + 56;
-    uint32_t v3 = load32(r16);
-    store32(r4 + 8, v3);
-    unsigned char *r18 = a0 + 60;
-    uint32_t v4 = load32(r18);
-    store32(r4 + 12, v4);
     uint8_t r5_0_0_copyload = a0[40];
     uint32_t r6_0_0_copyload = load32(a0 + 44);
     dfu_asks_finish_note(a0 + 84, r4, a4, a5, r5_0_0_copyload, r6_0_0_copyload);
     store64(a0 + 72, 0);
     store32(a0 + 80, 0);
-    uint8_t v5 = *r10;
-    uint8_t switch_load = *(PLACE(switch_table_dfu_asks_asking_Asking_fail) + (size_t)v5);
+    uint8_t v1 = *r10;
+    uint8_t switch_load = *(PLACE(switch_table_dfu_asks_asking_Asking_fail) + (size_t)v1);
     *r10 = 12;
-    *r12 = (uint8_t)((a1 & 1) ? 7 : switch_load);
-    store32(r14, 0);
-    store32(r16, 0);
-    store32(r18, 0);
+    a0[49] = (uint8_t)((a1 & 1) ? 7 : switch_load);
+    store32(a0 + 52, 0);
+    store32(a0 + 56, 0);
+    store32(a0 + 60, 0);
     memset(a0 + 104, 0, 28);
     struct i8_i64 r30 = dfu_asks_asking_Asking_answer(a0, a2, a3, a6);
     return r30;
 }
 
 /* dfu_asks::finish::note: crates/dfu_asks/src/finish.rt */
-static void dfu_asks_finish_note(unsigned char *a0, unsigned char *a1, unsigned char *a2, uint64_t a3, uint8_t a4, uint32_t a5) {
+static void dfu_asks_finish_note(unsigned char *a0, unsigned char *a1, unsigned char *a2, size_t a3, uint8_t a4, uint32_t a5) {
     _Alignas(4) unsigned char r15[18];
     uint8_t v0 = *a1;
     switch (v0) {
@@ -2075,22 +1945,17 @@ static struct i8_i64 dfu_asks_asking_Asking_give(unsigned char *a0, uint8_t a1, 
         uint8_t v0 = a0[48];
         uint8_t v1 = a0[49];
         uint32_t v2 = load32(a0 + 52);
-        uint32_t v3 = load32(a0 + 56);
-        uint32_t v4 = load32(a0 + 60);
-        uint64_t r40 = load64(a0 + 64);
+        size_t r40 = load_size(a0 + 64);
         store32(r1, 0);
         *r1 = v0;
-        r1[1] = v1;
         store32(r1 + 4, v2);
-        store32(r1 + 8, v3);
-        store32(r1 + 12, v4);
         uint32_t r17 = dfu_device_time_table_poll_ms(a0, r1, r40);
         uint8_t switch_load = *(PLACE(switch_table_dfu_device_device_state_DeviceState_state) + (size_t)v0);
-        unsigned char *v7 = r1_2 + 1;
-        memset(v7, 0, 5);
+        unsigned char *v5 = r1_2 + 1;
+        memset(v5, 0, 5);
         *r1_2 = (uint8_t)((v0 == 12) ? v1 : 0);
         store64(r5, (size_t)r17);
-        core_slice_edits_slice_T_copy_from_slice_i8_core_clone_U8Clone(v7, r5, 3);
+        core_slice_edits_slice_T_copy_from_slice_i8_core_clone_U8Clone(v5, r5, 3);
         r1_2[4] = switch_load;
         memcpy(r4, r1_2, 6);
         size_t a1_a0 = (size_t)umin16(a2, 6);
@@ -2100,8 +1965,8 @@ static struct i8_i64 dfu_asks_asking_Asking_give(unsigned char *a0, uint8_t a1, 
         break;
     }
     case 2: {
-        uint8_t v9 = a0[48];
-        uint8_t switch_load_2 = *(PLACE(switch_table_dfu_device_device_state_DeviceState_state) + (size_t)v9);
+        uint8_t v7 = a0[48];
+        uint8_t switch_load_2 = *(PLACE(switch_table_dfu_device_device_state_DeviceState_state) + (size_t)v7);
         *r5_2 = switch_load_2;
         size_t a1_a0_2 = (size_t)(a2 != 0);
         core_slice_edits_slice_T_copy_from_slice_i8_core_clone_U8Clone(a3, r5_2, a1_a0_2);
@@ -2119,28 +1984,27 @@ static struct i8_i64 dfu_asks_asking_Asking_give(unsigned char *a0, uint8_t a1, 
 }
 
 /* dfu_asks::asking::Asking::advance */
-static void dfu_asks_asking_Asking_advance(unsigned char *a0, unsigned char *a1, unsigned char *a2, size_t a3, unsigned char *a4, uint64_t a5, unsigned char *a6, uint64_t a7, unsigned char *a8) {
+static void dfu_asks_asking_Asking_advance(unsigned char *a0, unsigned char *a1, unsigned char *a2, size_t a3, unsigned char *a4, uint64_t a5, unsigned char *a6, size_t a7, unsigned char *a8) {
     _Alignas(4) unsigned char r9[24];
     _Alignas(4) unsigned char r10[16];
     unsigned char *r32, *r24, *r26, *r28, *r30, *r32_2, *r33_2;
-    size_t a1_a0;
-    uint64_t a1_a0_2, r52, r57, r10_0, r0_0_0;
-    uint8_t v8, r17_0_0, r17_7_0;
-    uint32_t r0_4_0, v9, v10, r81, r17_103_0, r17_15_0_0, r17_15_6_0_0, r17_20_0;
+    size_t a1_a0, a1_a0_2, r52, r57, r10_0, r0_0_0;
+    uint8_t v4, r17_0_0, r17_7_0;
+    uint32_t r0_4_0, v5, v6, r81, r17_103_0, r17_15_0_0, r17_15_6_0_0, r17_20_0;
     r32 = a1 + 104;
     uint8_t r33 = *r32;
     if (r33 != 1) {
         *a0 = 1;
         a0[1] = 0;
-        store64(a0 + 8, 0);
+        store_size(a0 + 8, 0);
         return;
     }
     memcpy(r9, a1 + 108, 24);
     struct i64_i8 r61 = dfu_asks_asking_Asking_look_at(a1, r9, a2, a3, a4, a5, PLACE(static_2), 0);
-    if (r61.a != 0) {
+    if ((size_t)r61.a != 0) {
         *a0 = 0;
         a0[1] = 0;
-        store64(a0 + 8, 0);
+        store_size(a0 + 8, 0);
         return;
     }
     store32(r10, 0);
@@ -2148,44 +2012,36 @@ static void dfu_asks_asking_Asking_advance(unsigned char *a0, unsigned char *a1,
     uint8_t v1 = *r24;
     *r10 = v1;
     r26 = a1 + 49;
-    uint8_t v2 = *r26;
-    r10[1] = v2;
     r28 = a1 + 52;
-    uint32_t v3 = load32(r28);
-    store32(r10 + 4, v3);
     r30 = a1 + 56;
-    uint32_t v4 = load32(r30);
-    store32(r10 + 8, v4);
     r32_2 = a1 + 60;
-    uint32_t v5 = load32(r32_2);
-    store32(r10 + 12, v5);
     r33_2 = a1 + 40;
     uint8_t r11_0_0_copyload = *r33_2;
     uint32_t r12_0_0_copyload = load32(a1 + 44);
     dfu_asks_finish_note(a1 + 84, r10, a6, a7, r11_0_0_copyload, r12_0_0_copyload);
-    uint8_t v6 = *r24;
-    switch (v6) {
+    uint8_t v2 = *r24;
+    switch (v2) {
     case 3:
     case 5: {
-        uint64_t r40 = load64(a1 + 64);
-        a1_a0 = (size_t)umin64(a3, r40);
-        uint64_t r47 = load64(a1 + 72);
-        a1_a0_2 = umin64(a5, r47);
+        size_t r40 = load_size(a1 + 64);
+        a1_a0 = umin_size(a3, r40);
+        size_t r47 = load_size(a1 + 72);
+        a1_a0_2 = (size_t)umin64(a5, r47);
         uint8_t r13_0_0_copyload = *r33_2;
-        uint64_t switch_load = load64(PLACE(switch_table_dfu_asks_asking_Asking_advance) + 8 * (size_t)r13_0_0_copyload);
-        uint64_t r46 = a1_a0_2 + (uint64_t)a1_a0;
+        size_t switch_load = (size_t)switch_table_dfu_asks_asking_Asking_advance[(size_t)r13_0_0_copyload];
+        size_t r46 = a1_a0_2 + a1_a0;
         r52 = switch_load & r46;
         r57 = r46 - r52;
         r10_0 = 0;
         while (r10_0 != r52) {
-            uint64_t r68 = r10_0 + r57;
-            uint8_t r27_0 = *((r68 < a1_a0_2) ? (a4 + (size_t)r68) : (a2 + ((size_t)r68 - (size_t)a1_a0_2)));
-            a4[(size_t)r10_0] = r27_0;
+            size_t r68 = r10_0 + r57;
+            uint8_t r27_0 = *((r68 < a1_a0_2) ? (a4 + r68) : (a2 + (r68 - a1_a0_2)));
+            a4[r10_0] = r27_0;
             r10_0 = r10_0 + 1;
         }
         uint32_t r73 = load32(a1 + 80);
         uint8_t pre = *r24;
-        v8 = pre;
+        v4 = pre;
         r0_4_0 = uadd_sat32((uint32_t)a1_a0, r73);
         r0_0_0 = r52;
         break;
@@ -2201,7 +2057,7 @@ static void dfu_asks_asking_Asking_advance(unsigned char *a0, unsigned char *a1,
     case 10:
     case 11:
     case 12:
-        v8 = v6;
+        v4 = v2;
         r0_4_0 = 0;
         r0_0_0 = 0;
         break;
@@ -2209,24 +2065,24 @@ static void dfu_asks_asking_Asking_advance(unsigned char *a0, unsigned char *a1,
     }
     store64(a1 + 72, r0_0_0);
     store32(a1 + 80, r0_4_0);
-    uint64_t r65 = load64(a1 + 64);
-    v9 = load32(r28);
-    v10 = load32(r30);
-    r81 = (uint32_t)(size_t)umin64(a3, r65);
-    switch (v8) {
+    size_t r65 = load_size(a1 + 64);
+    v5 = load32(r28);
+    v6 = load32(r30);
+    r81 = (uint32_t)umin_size(a3, r65);
+    switch (v4) {
     case 3:
         r17_0_0 = 6;
         r17_7_0 = 0;
-        r17_103_0 = uadd_sat32(r81, v9);
-        r17_15_0_0 = v10;
+        r17_103_0 = uadd_sat32(r81, v5);
+        r17_15_0_0 = v6;
         r17_15_6_0_0 = 0;
         r17_20_0 = 0;
         break;
     case 5:
         r17_0_0 = 4;
         r17_7_0 = 0;
-        r17_103_0 = uadd_sat32(r81, v9);
-        r17_15_0_0 = v10;
+        r17_103_0 = uadd_sat32(r81, v5);
+        r17_15_0_0 = v6;
         r17_15_6_0_0 = 0;
         r17_20_0 = 0;
         break;
@@ -2257,14 +2113,14 @@ static void dfu_asks_asking_Asking_advance(unsigned char *a0, unsigned char *a1,
     case 10:
     case 11:
     case 12: {
-        uint32_t v11 = load32(r32_2);
-        uint8_t v12 = *r26;
-        r17_0_0 = v8;
-        r17_7_0 = v12;
-        r17_103_0 = v9;
-        r17_15_0_0 = v10;
-        r17_15_6_0_0 = v10 & 0xffff0000U;
-        r17_20_0 = v11;
+        uint32_t v7 = load32(r32_2);
+        uint8_t v8 = *r26;
+        r17_0_0 = v4;
+        r17_7_0 = v8;
+        r17_103_0 = v5;
+        r17_15_0_0 = v6;
+        r17_15_6_0_0 = v6 & 0xffff0000U;
+        r17_20_0 = v7;
         break;
     }
     default: never();
@@ -2280,7 +2136,7 @@ static void dfu_asks_asking_Asking_advance(unsigned char *a0, unsigned char *a1,
     struct i8_i64 r107 = dfu_asks_asking_Asking_answer(a1, r91, r29_3_2_copyload, a8);
     *a0 = 1;
     a0[1] = r107.a;
-    store64(a0 + 8, (size_t)r107.b);
+    store_size(a0 + 8, (size_t)r107.b);
     return;
 }
 
@@ -2331,9 +2187,9 @@ static void dfu_core_keeping_keep(unsigned char *a0, unsigned char *a1) {
         store32(a1 + 56, r3_10_4_copyload);
         store32(a1 + 60, (uint32_t)((r3_8_4_copyload == 0) ? 0 : ((uint32_t)r3_96_4_copyload + 1)));
     }
-    size_t r26 = (size_t)load64(a0 + 64);
+    size_t r26 = load_size(a0 + 64);
     store16(a1 + 26, (uint16_t)r26);
-    size_t r32 = (size_t)load64(a0 + 72);
+    size_t r32 = load_size(a0 + 72);
     store16(a1 + 66, (uint16_t)r32);
     uint32_t r38 = load32(a0 + 80);
     store32(a1 + 16, r38);
@@ -2464,7 +2320,7 @@ static void dfu_asks_noted_look(unsigned char *a0, unsigned char *a1, unsigned c
         memset(a0, 0, 20);
         return;
     }
-    size_t r3 = (size_t)load64(a1 + 8);
+    size_t r3 = load_size(a1 + 8);
     uint32_t r3847 = (uint32_t)r3 >> 1;
     uint8_t r39 = *a2;
     uint8_t r40 = r39 & 1;
@@ -2477,8 +2333,8 @@ static void dfu_asks_noted_look(unsigned char *a0, unsigned char *a1, unsigned c
     }
     uint8_t r0_0_0_copyload = a1[16];
     uint32_t r1_0_0_copyload = load32(a1 + 20);
-    uint32_t switch_load = load32(PLACE(switch_table_dfu_core_would_stall) + 4 * (size_t)r0_0_0_copyload);
-    size_t r13_0_0_copyload = (size_t)load64(a1);
+    uint32_t switch_load = (uint32_t)switch_table_dfu_asks_next_piece_numbered_piece[(size_t)r0_0_0_copyload];
+    size_t r13_0_0_copyload = load_size(a1);
     r74 = (unsigned char *)(uintptr_t)r13_0_0_copyload + (size_t)(umax32(r1_0_0_copyload, switch_load) + r3847_2);
     r82 = a2 + 1;
     r3_0 = 0;
@@ -2507,10 +2363,12 @@ then_10:
 
 /* dfu_asks::asking::Asking::see: crates/dfu_asks/src/calls.rt */
 static void dfu_asks_asking_Asking_see(unsigned char *a0, unsigned char *a1, size_t a2, unsigned char *a3, size_t a4) {
-    _Alignas(8) unsigned char r20[40];
     _Alignas(8) unsigned char r3[24];
     _Alignas(4) unsigned char r9[20];
-    unsigned char *r39;
+    unsigned char *r21, *r16, *r43;
+    uint32_t r4_0_0_copyload, r4_3_0_copyload, r4_4_0_copyload, r4_5_0_copyload, r44, r74, v3;
+    uint8_t r71;
+    r21 = a1 + 40;
     if (wide(a4) > 0xffffffffU) {
         *a0 = 1;
         a0[1] = 1;
@@ -2518,9 +2376,9 @@ static void dfu_asks_asking_Asking_see(unsigned char *a0, unsigned char *a1, siz
         return;
     }
     uint32_t r7_0_0_copyload = load32(a1 + 44);
-    uint8_t r6_0_0_copyload = a1[40];
-    store64(r3, (size_t)(uintptr_t)a3);
-    store64(r3 + 8, a4);
+    uint8_t r6_0_0_copyload = *r21;
+    store_size(r3, (size_t)(uintptr_t)a3);
+    store_size(r3 + 8, a4);
     r3[16] = r6_0_0_copyload;
     store32(r3 + 20, r7_0_0_copyload);
     dfu_asks_noted_look(r9, r3, a1 + 84);
@@ -2531,68 +2389,40 @@ static void dfu_asks_asking_Asking_see(unsigned char *a0, unsigned char *a1, siz
         memset(a0 + 8, 0, 40);
         return;
     }
-    r39 = r9 + 4;
-    uint8_t r47 = dfu_asks_asking_Asking_is_fit(a1, a2, r3, r39);
-    if (!r47) {
-        *a0 = 1;
-        a0[1] = 2;
-        memset(a0 + 8, 0, 40);
-        return;
-    }
-    memcpy(r20, r3, 24);
-    memcpy(r20 + 24, r39, 16);
-    *a0 = 0;
-    a0[1] = 0;
-    memcpy(a0 + 8, r20, 40);
-    return;
-}
-
-/* dfu_asks::asking::Asking::is_fit: crates/dfu_asks/src/noted.rt */
-static uint8_t dfu_asks_asking_Asking_is_fit(unsigned char *a0, size_t a1, unsigned char *a2, unsigned char *a3) {
-    unsigned char *r16, *r43;
-    uint32_t r44, r46, r74, v2;
-    uint8_t r71, common_ret_op;
-    r16 = a0 + 64;
-    uint64_t r17 = load64(r16);
-    if ((uint64_t)a1 < r17) common_ret_op = 0;
-    else {
-        uint16_t r5_2_0_copyload = load16(a0 + 12);
-        if (umin_size(a1, 4096) < (size_t)r5_2_0_copyload) common_ret_op = 0;
-        else {
-            r43 = a0 + 80;
+    r4_0_0_copyload = load32(r9 + 4);
+    r4_3_0_copyload = load32(r9 + 8);
+    r4_4_0_copyload = load32(r9 + 12);
+    r4_5_0_copyload = load32(r9 + 16);
+    r16 = a1 + 64;
+    size_t r17 = load_size(r16);
+    if (a2 >= r17) {
+        uint16_t r5_2_0_copyload = load16(a1 + 12);
+        if (umin_size(a2, 4096) >= (size_t)r5_2_0_copyload) {
+            r43 = a1 + 80;
             r44 = load32(r43);
-            r46 = load32(a3 + 8);
-            if (r44 > r46) common_ret_op = 0;
-            else {
-                uint64_t r42 = load64(a0 + 72);
-                uint8_t r10_0_0_copyload = a0[40];
-                uint32_t switch_load = load32(PLACE(switch_table_dfu_asks_asking_Asking_is_fit) + 4 * (size_t)r10_0_0_copyload);
-                if (r42 != (uint64_t)(size_t)(switch_load & r44)) common_ret_op = 0;
-                else {
-                    uint32_t r65 = load32(a3 + 4);
-                    uint8_t r67 = dfu_slots_read_is_open(a2, r65);
+            if (r44 <= r4_4_0_copyload) {
+                size_t r42 = load_size(a1 + 72);
+                uint8_t r10_0_0_copyload = *r21;
+                uint32_t switch_load = (uint32_t)switch_table_dfu_asks_asking_Asking_advance[(size_t)r10_0_0_copyload];
+                if (r42 == (size_t)(switch_load & r44)) {
+                    uint8_t r67 = dfu_slots_read_is_open(r3, r4_3_0_copyload);
                     r71 = !r67;
                     r74 = load32(r43);
-                    uint8_t v1 = a0[48];
-                    v2 = load32(a0 + 52);
-                    switch (v1) {
+                    uint8_t v2 = a1[48];
+                    v3 = load32(a1 + 52);
+                    switch (v2) {
                     case 3:
                     case 5: {
-                        uint64_t r92 = load64(r16);
-                        if (!((r92 != 0) ? ((r92 + (uint64_t)(size_t)v2) <= (uint64_t)(size_t)r46) : 0)) common_ret_op = 0;
-                        else {
-                            if (v2 == 0) common_ret_op = 1;
-                            else {
-                                common_ret_op = r71 ? (r74 == v2) : 0;
-                            }
-                        }
+                        size_t r92 = load_size(r16);
+                        if (!((r92 != 0) ? (((uint64_t)r92 + (uint64_t)(size_t)v3) <= (uint64_t)(size_t)r4_4_0_copyload) : 0)) goto then_8;
+                        if (!((v3 == 0) | (r71 ? (r74 == v3) : 0))) goto then_8;
                         break;
                     }
                     case 4:
                     case 6:
                     case 7:
                     case 9:
-                        common_ret_op = (((v2 - 1) < r46) & r71) ? (r74 == v2) : 0;
+                        if (!((((v3 - 1) < r4_4_0_copyload) & r71) ? (r74 == v3) : 0)) goto then_8;
                         break;
                     case 0:
                     case 1:
@@ -2600,16 +2430,26 @@ static uint8_t dfu_asks_asking_Asking_is_fit(unsigned char *a0, size_t a1, unsig
                     case 8:
                     case 10:
                     case 11:
-                    case 12:
-                        common_ret_op = 1;
-                        break;
+                    case 12: break;
                     default: never();
                     }
+                    *a0 = 0;
+                    a0[1] = 0;
+                    memcpy(a0 + 8, r3, 24);
+                    store32(a0 + 32, r4_0_0_copyload);
+                    store32(a0 + 36, r4_3_0_copyload);
+                    store32(a0 + 40, r4_4_0_copyload);
+                    store32(a0 + 44, r4_5_0_copyload);
+                    return;
                 }
             }
         }
     }
-    return common_ret_op;
+then_8:
+    *a0 = 1;
+    a0[1] = 2;
+    memset(a0 + 8, 0, 40);
+    return;
 }
 
 /* dfu_asks::asking::Asking::carry_out: crates/dfu_asks/src/carry.rt */
@@ -2619,9 +2459,8 @@ static void dfu_asks_asking_Asking_carry_out(unsigned char *a0, unsigned char *a
     _Alignas(4) unsigned char r5_2[4];
     uint32_t r1_517_4_copyload, r1_16_12_copyload, r1_19_16_copyload, r16_312_0_copyload, r16_513_0_copyload, r16_7_0_copyload, r12_0_0_copyload;
     uint16_t r1_11_8_copyload, r1_15_8_copyload;
-    size_t r1, a1_a0_3;
+    size_t r1, a1_a0_3, r16_6_0_copyload, r11_3_0_copyload, a1_a0_4, r3_0, r35_1343_1, r35_1343_0;
     uint8_t r16_0_0_copyload, r16_4_0_copyload, r35_0_1, r35_7_1, r35_0_0, r35_7_0;
-    uint64_t r16_6_0_copyload, r11_3_0_copyload, a1_a0_4, r3_0, r35_1343_1, r35_1343_0;
     unsigned char *r49;
     uint8_t r1_0_0_copyload = *a2;
     r1_517_4_copyload = load32(a2 + 4);
@@ -2708,20 +2547,20 @@ static void dfu_asks_asking_Asking_carry_out(unsigned char *a0, unsigned char *a
             uint32_t r16 = load32(a12 + 4);
             uint8_t r0_0_0_copyload = a11[16];
             uint32_t r1_0_0_copyload_2 = load32(a11 + 20);
-            uint32_t switch_load = load32(PLACE(switch_table_dfu_core_would_stall) + 4 * (size_t)r0_0_0_copyload);
+            uint32_t switch_load = (uint32_t)switch_table_dfu_asks_next_piece_numbered_piece[(size_t)r0_0_0_copyload];
             uint32_t r22 = load32(a1 + 80);
-            uint64_t r26 = load64(a1 + 72);
+            size_t r26 = load_size(a1 + 72);
             uint8_t r37 = a1[85];
-            size_t r13_0_0_copyload = (size_t)load64(a11);
+            size_t r13_0_0_copyload = load_size(a11);
             store32(r5_2, 0xffffffffU);
-            dfu_suffix_crc_Crc_update_small(r5_2, (unsigned char *)(uintptr_t)r13_0_0_copyload + (size_t)((umax32(r1_0_0_copyload_2, switch_load) << 1) + r16), (uint64_t)(size_t)r22 - r26);
-            dfu_suffix_crc_Crc_update_small(r5_2, a9, umin64(a10, r26));
+            dfu_suffix_crc_Crc_update_small(r5_2, (unsigned char *)(uintptr_t)r13_0_0_copyload + (size_t)((umax32(r1_0_0_copyload_2, switch_load) << 1) + r16), (uint64_t)(size_t)r22 - (uint64_t)r26);
+            dfu_suffix_crc_Crc_update_small(r5_2, a9, (size_t)umin64(a10, r26));
             uint32_t r1_2 = load32(r5_2);
             store32(r5, 1);
             store32(r5 + 4, r16);
             r5[8] = (uint8_t)(r37 + 1);
             store32(r5 + 12, r1_2);
-            store64(r5 + 16, r26);
+            store_size(r5 + 16, r26);
             store32(r5 + 24, r22);
             break;
         }
@@ -2731,29 +2570,29 @@ static void dfu_asks_asking_Asking_carry_out(unsigned char *a0, unsigned char *a
         r16_312_0_copyload = load32(r5 + 4);
         r16_4_0_copyload = r5[8];
         r16_513_0_copyload = load32(r5 + 12);
-        r16_6_0_copyload = load64(r5 + 16);
+        r16_6_0_copyload = load_size(r5 + 16);
         r16_7_0_copyload = load32(r5 + 24);
         if (r16_7_0_copyload != 0) {
-            size_t r11_0_0_copyload = (size_t)load64(a11);
+            size_t r11_0_0_copyload = load_size(a11);
             r12_0_0_copyload = load32(a1 + 44);
             r49 = (unsigned char *)(uintptr_t)r11_0_0_copyload;
             if (r12_0_0_copyload != 0) {
                 uint32_t r23 = load32(a12 + 4);
                 uint8_t r0_0_0_copyload_2 = a11[16];
                 uint32_t r1_0_0_copyload_3 = load32(a11 + 20);
-                uint32_t switch_load_2 = load32(PLACE(switch_table_dfu_core_would_stall) + 4 * (size_t)r0_0_0_copyload_2);
+                uint32_t switch_load_2 = (uint32_t)switch_table_dfu_asks_next_piece_numbered_piece[(size_t)r0_0_0_copyload_2];
                 uint32_t r27 = load32(a1 + 80);
-                uint64_t r29 = load64(a1 + 72);
+                size_t r29 = load_size(a1 + 72);
                 uint32_t r37_2 = ((r27 + r23) + (umax32(r1_0_0_copyload_3, switch_load_2) << 1)) - (uint32_t)r29;
                 size_t r1_3 = (size_t)r37_2;
-                r11_3_0_copyload = load64(a11 + 8);
-                uint64_t r41 = load64(a1 + 64);
+                r11_3_0_copyload = load_size(a11 + 8);
+                size_t r41 = load_size(a1 + 64);
                 uint32_t r22_2 = ((((r37_2 >> 15) % r12_0_0_copyload) << 15) | (r37_2 & 32767)) % r12_0_0_copyload;
-                a1_a0_4 = umin64(r11_3_0_copyload, (uint64_t)(size_t)((r22_2 == 0) ? 0 : (size_t)umin64((size_t)(r12_0_0_copyload - r22_2), r41 + r29)) + (uint64_t)r1_3);
+                a1_a0_4 = (size_t)umin64(r11_3_0_copyload, (uint64_t)(size_t)((r22_2 == 0) ? 0 : umin_size((size_t)(r12_0_0_copyload - r22_2), r41 + r29)) + (uint64_t)r1_3);
                 r3_0 = r1_3;
                 for (;;) {
                     if (r3_0 >= a1_a0_4) goto join_3;
-                    uint8_t r16_2 = r49[(size_t)r3_0];
+                    uint8_t r16_2 = r49[r3_0];
                     if (r16_2 != 255) break;
                     r3_0 = r3_0 + 1;
                 }
@@ -2776,12 +2615,12 @@ join_3:
         store16(a1 + 124, a3);
         store16(a1 + 126, a4);
         store32(a1 + 128, 0);
-        size_t r33_0_0_copyload = (size_t)load64(a11);
-        uint64_t r33_3_0_copyload = load64(a11 + 8);
+        size_t r33_0_0_copyload = load_size(a11);
+        size_t r33_3_0_copyload = load_size(a11 + 8);
         dfu_asks_asking_Asking_advance(r0, a1, a7, a8, a9, a10, (unsigned char *)(uintptr_t)r33_0_0_copyload, r33_3_0_copyload, a13);
         uint8_t v2 = *r0;
         uint8_t v3 = r0[1];
-        uint64_t v4 = load64(r0 + 8);
+        size_t v4 = load_size(r0 + 8);
         r35_0_1 = v2;
         r35_7_1 = v3;
         r35_1343_1 = v4;
@@ -2795,7 +2634,7 @@ dfu_asks_asking_Asking_start_exit:
     }
     *a0 = r35_0_0;
     a0[1] = r35_7_0;
-    store64(a0 + 8, r35_1343_0);
+    store_size(a0 + 8, r35_1343_0);
     return;
 }
 
@@ -2803,19 +2642,17 @@ dfu_asks_asking_Asking_start_exit:
 static void dfu_asks_asking_Asking_block_job(unsigned char *a0, unsigned char *a1, uint32_t a2, unsigned char *a3, unsigned char *a4) {
     uint32_t r14, r45_sink;
     uint8_t sink;
-    uint64_t r43_sink;
+    size_t r43_sink;
     r14 = load32(a4 + 4);
     if (a2 == 0) {
         uint8_t r18 = dfu_slots_read_is_open(a3, r14);
-        memset(a0 + 9, 0, 3);
         sink = r18;
         r43_sink = 0;
         r45_sink = 0;
     }
     else {
-        uint64_t r43 = load64(a1 + 72);
+        size_t r43 = load_size(a1 + 72);
         uint32_t r45 = load32(a1 + 80);
-        memset(a0 + 9, 0, 3);
         sink = 0;
         r43_sink = r43;
         r45_sink = r45;
@@ -2824,9 +2661,8 @@ static void dfu_asks_asking_Asking_block_job(unsigned char *a0, unsigned char *a
     store32(a0 + 4, r14);
     a0[8] = sink;
     store32(a0 + 12, 0);
-    store64(a0 + 16, r43_sink);
+    store_size(a0 + 16, r43_sink);
     store32(a0 + 24, r45_sink);
-    store32(a0 + 28, 0);
     return;
 }
 
@@ -3309,7 +3145,7 @@ static void dfu_device_table_decide(unsigned char *a0, unsigned char *a1, unsign
     case 8: {
         size_t v30 = (size_t)r11;
         uint8_t switch_load = *(PLACE(switch_table_dfu_device_table_decide) + v30);
-        uint32_t switch_load149 = load32(PLACE(switch_table_dfu_device_table_decide_2) + 4 * v30);
+        uint32_t switch_load149 = (uint32_t)switch_table_dfu_device_table_decide_3[v30];
         r29_0_0 = 0;
         r29_15_0 = switch_load;
         r29_29117_0 = switch_load149;
@@ -3473,8 +3309,8 @@ static void dfu_device_plans_block(unsigned char *a0, unsigned char *a1, uint32_
         memset(a0 + 8, 0, 16);
         return;
     }
-    uint64_t r54 = load64(a1 + 40);
-    if (r54 < ((uint64_t)(size_t)a5 + (uint64_t)(size_t)a2)) {
+    size_t r54 = load_size(a1 + 40);
+    if ((uint64_t)r54 < ((uint64_t)(size_t)a5 + (uint64_t)(size_t)a2)) {
         *a0 = 0;
         a0[1] = 3;
         store32(a0 + 4, 2060);
@@ -3605,7 +3441,7 @@ int32_t dfu_core_image(const struct dfu_config *config, const uint8_t *flash, si
         else {
             uint8_t r5_4_0_0_copyload = r10[1];
             uint32_t r5_4_6_0_copyload = load32a2(r10 + 6);
-            uint32_t switch_load = load32(PLACE(switch_table_dfu_core_would_stall) + 4 * (size_t)r3_2_0_copyload);
+            uint32_t switch_load = (uint32_t)switch_table_dfu_asks_next_piece_numbered_piece[(size_t)r3_2_0_copyload];
             store32(a3, (umax32(r3_31_0_copyload, switch_load) << 1) + (uint32_t)((r5_4_0_0_copyload & 1) ? (uint32_t)(a2 >> 1) : 0));
             store32(a3 + 4, r5_4_6_0_copyload);
             common_ret_op = 0;
@@ -3624,7 +3460,7 @@ int32_t dfu_core_state(const struct dfu_record *record) {
         r14 = load32(a0 + 4);
         if (r14 >= 12) common_ret_op = 10;
         else {
-            uint32_t switch_load = load32(PLACE(switch_table_dfu_core_state) + 4 * (size_t)r14);
+            uint32_t switch_load = (uint32_t)switch_table_dfu_core_state[(size_t)r14];
             common_ret_op = switch_load;
         }
     }
@@ -3647,7 +3483,7 @@ int32_t dfu_core_too_long(const struct dfu_config *config, struct dfu_record *re
     uint8_t r18 = *r8;
     if (r18 != 0) {
         uint8_t r4_0_0_copyload = r8[1];
-        uint32_t switch_load = load32(PLACE(switch_table_dfu_core_numbers_Refusal_number) + 4 * (size_t)r4_0_0_copyload);
+        uint32_t switch_load = (uint32_t)switch_table_dfu_core_numbers_Refusal_number[(size_t)r4_0_0_copyload];
         common_ret_op = switch_load;
     }
     else {
@@ -3742,13 +3578,12 @@ int32_t dfu_core_due(const struct dfu_config *config, const struct dfu_record *r
     uint8_t r12 = *r7;
     if (r12 != 0) {
         uint8_t r4_0_0_copyload = r7[1];
-        uint32_t switch_load = load32(PLACE(switch_table_dfu_core_numbers_Refusal_number) + 4 * (size_t)r4_0_0_copyload);
+        uint32_t switch_load = (uint32_t)switch_table_dfu_core_numbers_Refusal_number[(size_t)r4_0_0_copyload];
         common_ret_op = switch_load;
     }
     else {
         r13 = r7 + 4;
         uint8_t r3_3_0_copyload = r7[52];
-        uint8_t r3_4_0_copyload = r7[53];
         r3_6_0_copyload = load32(r7 + 56);
         r3_7_0_copyload = load32(r7 + 60);
         r3_8_0_copyload = load32(r7 + 64);
@@ -3757,10 +3592,7 @@ int32_t dfu_core_due(const struct dfu_config *config, const struct dfu_record *r
         r1 = (size_t)r28;
         store32(r1_2, 0);
         *r1_2 = r3_3_0_copyload;
-        r1_2[1] = r3_4_0_copyload;
         store32(r1_2 + 4, r3_6_0_copyload);
-        store32(r1_2 + 8, r3_7_0_copyload);
-        store32(r1_2 + 12, r3_8_0_copyload);
         switch (r3_3_0_copyload) {
         case 1:
             if (r1_3_0_copyload & 1) r0_4_0 = 1;
@@ -3802,17 +3634,16 @@ dfu_device_c_tells_dfu_core_due_exit:
 int32_t dfu_core_format_start(const struct dfu_config *config, struct dfu_record *record, const uint8_t *flash, size_t size, const uint8_t *image, size_t length) {
     unsigned char *a0 = (unsigned char *)(uintptr_t)config;
     unsigned char *a1 = (unsigned char *)(uintptr_t)record;
-    unsigned char *a2 = (unsigned char *)(uintptr_t)flash;
+    (void)flash;
     size_t a3 = (size_t)size;
     unsigned char *a4 = (unsigned char *)(uintptr_t)image;
     size_t a5 = (size_t)length;
     _Alignas(4) unsigned char r8[52];
     _Alignas(8) unsigned char r7[24];
     unsigned char *const r3 = r7;
-    unsigned char *r4, *r13;
+    unsigned char *r13;
     uint32_t r5_31_0_copyload, common_ret_op;
     uint8_t r5_2_0_copyload;
-    r4 = a2;
     r13 = a4;
     store64a4(r8 + 44, 0);
     dfu_core_config_settings_of(r8, a0);
@@ -3823,15 +3654,13 @@ int32_t dfu_core_format_start(const struct dfu_config *config, struct dfu_record
         else {
             r5_31_0_copyload = load32(r8 + 48);
             r5_2_0_copyload = r8[44];
-            store64(r7, (size_t)(uintptr_t)r4);
-            store64(r7 + 8, a3);
+            store_size(r7 + 8, a3);
             r7[16] = r5_2_0_copyload;
-            memset(r7 + 17, 0, 3);
             store32(r7 + 20, r5_31_0_copyload);
             uint8_t r28 = dfu_slots_layout_is_sized(r7);
             if (!r28) common_ret_op = 0xfffffffaU;
             else {
-                uint32_t switch_load = load32(PLACE(switch_table_dfu_core_would_stall) + 4 * (size_t)r5_2_0_copyload);
+                uint32_t switch_load = (uint32_t)switch_table_dfu_asks_next_piece_numbered_piece[(size_t)r5_2_0_copyload];
                 if (a5 > (size_t)(((uint32_t)a3 >> 1) - (umax32(r5_31_0_copyload, switch_load) << 1))) common_ret_op = 0xfffffff9U;
                 else {
                     store32(r3, 0xffffffffU);
@@ -3864,7 +3693,6 @@ int32_t dfu_core_format_took(const struct dfu_config *config, struct dfu_record 
     _Alignas(4) unsigned char r8[28];
     _Alignas(4) unsigned char r6[24];
     unsigned char *r4, *r13, *r30;
-    size_t wide_9637;
     uint8_t r3_0_0_copyload, r7_0_0_0, r6_2;
     uint32_t r4_0_0_copyload, r31, r100, r7_8_0, r26, r3_3_4_copyload, common_ret_op;
     r4 = a2;
@@ -3880,7 +3708,6 @@ int32_t dfu_core_format_took(const struct dfu_config *config, struct dfu_record 
         else {
             unsigned char *r24 = r8 + 4;
             memcpy(r6, r24, 24);
-            wide_9637 = (size_t)(uintptr_t)r13;
             r3_0_0_copyload = *r6;
             r4_0_0_copyload = load32(r6 + 4);
             r30 = r6 + 20;
@@ -3892,7 +3719,7 @@ int32_t dfu_core_format_took(const struct dfu_config *config, struct dfu_record 
             store32(r5 + 12, 0);
             store64(r5 + 16, (uint64_t)(uintptr_t)static_2);
             store64(r5 + 24, 0);
-            store64(r5 + 32, wide_9637);
+            store64(r5 + 32, (size_t)(uintptr_t)r13);
             store64(r5 + 40, a5);
             store64(r5 + 48, (size_t)r31);
             memset(r5 + 56, 0, 40);
@@ -3904,22 +3731,13 @@ int32_t dfu_core_format_took(const struct dfu_config *config, struct dfu_record 
                 if (a6 == 0) {
                     uint8_t r70 = dfu_asks_cut_stands(r4, a3, r5);
                     if (r70) {
-                        size_t r93 = (size_t)load64(r5 + 88);
+                        size_t r93 = load_size(r5 + 88);
                         r100 = r31 + (uint32_t)r93;
                         store32(r30, r100);
                         *r3 = r3_0_0_copyload;
-                        memset(r3 + 1, 0, 3);
                         store32(r3 + 4, r4_0_0_copyload);
-                        store32(r3 + 8, 0);
-                        store32(r3 + 12, 0);
-                        store64(r3 + 16, (uint64_t)(uintptr_t)static_2);
-                        store64(r3 + 24, 0);
-                        store64(r3 + 32, wide_9637);
-                        store64(r3 + 40, a5);
-                        store64(r3 + 48, (size_t)r100);
-                        memset(r3 + 56, 0, 40);
-                        r3[96] = 4;
-                        memset(r3 + 97, 0, 15);
+                        store_size(r3 + 40, a5);
+                        store_size(r3 + 48, (size_t)r100);
                         uint8_t r21 = dfu_asks_format_piece_part_piece(r6, a3, r3);
                         if (r21) {
                             uint8_t r6_pre = r6[12];
@@ -3942,9 +3760,9 @@ int32_t dfu_core_format_took(const struct dfu_config *config, struct dfu_record 
                             case 2: {
                                 uint32_t r4_3_4_copyload = load32(r6 + 16);
                                 uint64_t r32 = (uint64_t)(size_t)r4_3_4_copyload + 4096;
-                                uint64_t switch_load = load64(PLACE(switch_table_dfu_core_format_took) + 8 * (size_t)r3_0_0_copyload);
-                                uint64_t v4 = switch_load - 1;
-                                uint8_t r38_fr = r32 < (((switch_load - (uint64_t)((size_t)v4 & a5)) & v4) + (uint64_t)a5);
+                                size_t switch_load = (size_t)switch_table_dfu_slots_layout_fill_size[(size_t)r3_0_0_copyload];
+                                uint64_t v4 = (uint64_t)switch_load - 1;
+                                uint8_t r38_fr = r32 < ((((uint64_t)switch_load - (uint64_t)((size_t)v4 & a5)) & v4) + (uint64_t)a5);
                                 r7_0_0_0 = (uint8_t)(r38_fr ? 2 : 3);
                                 r7_8_0 = (uint32_t)(r38_fr ? (uint32_t)r32 : 0);
                                 break;
@@ -4039,7 +3857,8 @@ int32_t dfu_core_format_next(const struct dfu_config *config, const struct dfu_r
     _Alignas(4) unsigned char r9[28];
     unsigned char *r13, *r22, *r42;
     uint32_t r6_41_0_copyload, common_ret_op;
-    uint64_t r6_6_0_copyload, r6_8_0_copyload;
+    uint64_t r6_6_0_copyload;
+    size_t r6_8_0_copyload;
     r13 = a4;
     store64a4(r8 + 44, 0);
     dfu_core_config_settings_of(r8, a0);
@@ -4072,9 +3891,9 @@ int32_t dfu_core_format_next(const struct dfu_config *config, const struct dfu_r
             if (r30) {
                 r42 = r5 + 72;
                 r6_6_0_copyload = load64(r5 + 80);
-                r6_8_0_copyload = load64(r5 + 88);
+                r6_8_0_copyload = load_size(r5 + 88);
                 uint8_t r45 = dfu_asks_next_and_took_is_sound(r6_41_0_copyload, r42);
-                if (r45 ? ((uint64_t)a3 >= (r6_8_0_copyload + r6_6_0_copyload)) : 0) {
+                if (r45 ? ((uint64_t)a3 >= ((uint64_t)r6_8_0_copyload + r6_6_0_copyload)) : 0) {
                     uint8_t r6_0_0_copyload_2 = *r42;
                     dfu_asks_cut_fill(r5, r22);
                     store32(a6, (uint32_t)((r6_0_0_copyload_2 & 1) ? 1 : 2));
@@ -4109,8 +3928,8 @@ int32_t dfu_core_next(const struct dfu_config *config, const struct dfu_record *
     uint16_t r54;
     uint8_t r5_0_0_copyload, r11_0_0_copyload;
     uint32_t r6_0_0_copyload, common_ret_op;
-    uint64_t r11_6_0_copyload, r11_8_0_copyload;
-    size_t a1_2;
+    uint64_t r11_6_0_copyload;
+    size_t r11_8_0_copyload, a1_2;
     r4 = a2;
     r13 = a4;
     memset(r5, 0, 144);
@@ -4118,7 +3937,7 @@ int32_t dfu_core_next(const struct dfu_config *config, const struct dfu_record *
     uint8_t r32 = *r5;
     if (r32 != 0) {
         uint8_t r17_0_0_copyload = r5[1];
-        uint32_t switch_load = load32(PLACE(switch_table_dfu_core_numbers_Refusal_number) + 4 * (size_t)r17_0_0_copyload);
+        uint32_t switch_load = (uint32_t)switch_table_dfu_core_numbers_Refusal_number[(size_t)r17_0_0_copyload];
         common_ret_op = switch_load;
     }
     else {
@@ -4139,17 +3958,17 @@ int32_t dfu_core_next(const struct dfu_config *config, const struct dfu_record *
                 r5_0_0_copyload = r5[48];
                 r6_0_0_copyload = load32(r5 + 52);
                 uint32_t r17 = load32(r5 + 88);
-                uint64_t r8 = load64(r5 + 80);
-                uint64_t r26 = load64(r5 + 72);
+                size_t r8 = load_size(r5 + 80);
+                size_t r26 = load_size(r5 + 72);
                 *r10 = r5_0_0_copyload;
                 memset(r10 + 1, 0, 3);
                 store32(r10 + 4, r6_0_0_copyload);
                 store32(r10 + 8, r17);
                 store32(r10 + 12, 0);
                 store64(r10 + 16, (size_t)(uintptr_t)(r4 + r1));
-                store64(r10 + 24, umin64((uint64_t)a3 - (uint64_t)r1, r8));
+                store64(r10 + 24, (size_t)umin64((uint64_t)a3 - (uint64_t)r1, r8));
                 store64(r10 + 32, (size_t)(uintptr_t)r4);
-                store64(r10 + 40, (size_t)umin64(r1, r26));
+                store64(r10 + 40, umin_size(r1, r26));
                 store64(r10 + 48, (size_t)r13_3_9_0_copyload);
                 memset(r10 + 56, 0, 40);
                 r10[96] = 4;
@@ -4163,19 +3982,18 @@ int32_t dfu_core_next(const struct dfu_config *config, const struct dfu_record *
                     unsigned char *r69 = r10 + 72;
                     r11_0_0_copyload = *r69;
                     r11_6_0_copyload = load64(r10 + 80);
-                    r11_8_0_copyload = load64(r10 + 88);
+                    r11_8_0_copyload = load_size(r10 + 88);
                     uint8_t r72 = dfu_asks_next_and_took_is_sound(r6_0_0_copyload, r69);
                     if (r72) {
                         memset(r16, 0, 12);
                         size_t r2412 = a5 >> 1;
                         a1_2 = (size_t)((r11_6_0_copyload < (uint64_t)r2412) ? 0 : r2412);
-                        if ((uint64_t)(a1_2 + r2412) >= (r11_8_0_copyload + r11_6_0_copyload)) {
+                        if ((uint64_t)(a1_2 + r2412) >= ((uint64_t)r11_8_0_copyload + r11_6_0_copyload)) {
                             uint8_t r45 = r13[a1_2];
                             if (r45 == 165) {
-                                store64(r7, (size_t)(uintptr_t)r13);
-                                store64(r7 + 8, a5);
+                                store_size(r7, (size_t)(uintptr_t)r13);
+                                store_size(r7 + 8, a5);
                                 r7[16] = r5_0_0_copyload;
-                                memset(r7 + 17, 0, 3);
                                 store32(r7 + 20, r6_0_0_copyload);
                                 dfu_slots_places_check(r16, r7);
                                 uint8_t r65 = *r16;
@@ -4218,8 +4036,8 @@ int32_t dfu_core_took(const struct dfu_config *config, struct dfu_record *record
     _Alignas(8) unsigned char r7[144];
     _Alignas(8) unsigned char r40[16];
     unsigned char *r4, *r13, *r22, *r58, *r19, *r62, *r65, *r9_9_0_r65_sroa_idx, *r9_13_0_r65_sroa_idx;
-    size_t r1, r27_2015_0_ph27;
-    uint64_t r21, r92;
+    size_t r1, r92, r27_2015_0_ph27;
+    uint64_t r21;
     uint8_t r92_not;
     uint8_t r9_0_0_copyload, r9_9_0_copyload, r27_15_0_ph26;
     uint16_t r9_113_0_copyload;
@@ -4235,7 +4053,7 @@ int32_t dfu_core_took(const struct dfu_config *config, struct dfu_record *record
         uint8_t r56 = *r7;
         if (r56 != 0) {
             uint8_t r22_0_0_copyload = r7[1];
-            uint32_t switch_load = load32(PLACE(switch_table_dfu_core_numbers_Refusal_number) + 4 * (size_t)r22_0_0_copyload);
+            uint32_t switch_load = (uint32_t)switch_table_dfu_core_numbers_Refusal_number[(size_t)r22_0_0_copyload];
             common_ret_op = switch_load;
         }
         else {
@@ -4257,7 +4075,7 @@ int32_t dfu_core_took(const struct dfu_config *config, struct dfu_record *record
                 r9_13_0_r65_sroa_idx = r7 + 136;
                 r9_13_0_copyload = load32(r9_13_0_r65_sroa_idx);
                 r91 = dfu_asks_asking_Asking_look_at(r58, r65, r4, r1, r19, r21, r13, a5);
-                r92 = r91.a;
+                r92 = (size_t)r91.a;
                 if (r92 != 0) {
                     if (!(r92_not & (r91.b & 1))) {
                         struct i8_i64 r146 = dfu_asks_asking_Asking_fail(r58, r92_not, r9_9_0_copyload, r9_113_0_copyload, r13, a5, r22);
@@ -4267,13 +4085,12 @@ int32_t dfu_core_took(const struct dfu_config *config, struct dfu_record *record
                     else {
                         store32(r62, 1);
                         store32(r65, (uint32_t)r9_0_0_copyload);
-                        memset(r7 + 125, 0, 3);
                         store16(r9_9_0_r65_sroa_idx, r9_9_0_copyload);
                         store32(r9_13_0_r65_sroa_idx, r9_13_0_copyload + (uint32_t)r92);
                         dfu_asks_asking_Asking_advance(r40, r58, r4, r1, r19, r21, r13, a5, r22);
                         uint8_t r0_1928_8_copyload32 = *r40;
                         uint8_t r0_26_9_copyload37 = r40[1];
-                        size_t r0_3339_16_copyload43 = (size_t)load64(r40 + 8);
+                        size_t r0_3339_16_copyload43 = load_size(r40 + 8);
                         if (r0_1928_8_copyload32 == 0) {
                             dfu_core_keeping_keep(r58, a1);
                             common_ret_op = 0xfffffff5U;
@@ -4311,71 +4128,62 @@ int32_t dfu_core_refuse(const struct dfu_config *config, struct dfu_record *reco
     uint32_t a2 = status;
     _Alignas(4) unsigned char r6[68];
     _Alignas(4) unsigned char r11[16];
-    uint8_t r2_3_0_copyload, r2_4_0_copyload, r1_5_0, r12_0_0, r12_4_0;
-    uint32_t r2_6_0_copyload, r2_7_0_copyload, r2_8_0_copyload, r12_76_0, r12_10_0, r12_13_0, common_ret_op;
+    uint8_t r12_0_0, r12_4_0;
+    uint32_t r12_76_0, r12_10_0, r12_13_0, common_ret_op;
     memset(r6, 0, 68);
     store32(r11, 0);
     dfu_core_mode_idle_mode(r6, a0, a1);
     uint8_t r13 = *r6;
     if (r13 != 0) {
         uint8_t r3_0_0_copyload = r6[1];
-        uint32_t switch_load = load32(PLACE(switch_table_dfu_core_numbers_Refusal_number) + 4 * (size_t)r3_0_0_copyload);
+        uint32_t switch_load = (uint32_t)switch_table_dfu_core_numbers_Refusal_number[(size_t)r3_0_0_copyload];
         common_ret_op = switch_load;
     }
     else {
-        r2_3_0_copyload = r6[52];
-        r2_4_0_copyload = r6[53];
-        r2_6_0_copyload = load32(r6 + 56);
-        r2_7_0_copyload = load32(r6 + 60);
-        r2_8_0_copyload = load32(r6 + 64);
-        switch (a2) {
-        case 1:
-            r1_5_0 = 1;
-            break;
-        case 2:
-            r1_5_0 = 2;
-            break;
-        default:
-            common_ret_op = 0xfffffff2U;
-            goto dfu_device_c_refuse_dfu_core_refuse_exit;
+        if ((a2 - 1) >= 2) common_ret_op = 0xfffffff2U;
+        else {
+            uint32_t r2_8_0_copyload = load32(r6 + 64);
+            uint32_t r2_7_0_copyload = load32(r6 + 60);
+            uint32_t r2_6_0_copyload = load32(r6 + 56);
+            uint8_t r2_4_0_copyload = r6[53];
+            uint8_t r2_3_0_copyload = r6[52];
+            switch (r2_3_0_copyload) {
+            case 7:
+            case 9:
+                r12_0_0 = 12;
+                r12_4_0 = (uint8_t)a2;
+                r12_76_0 = 0;
+                r12_10_0 = 0;
+                r12_13_0 = 0;
+                break;
+            case 0:
+            case 1:
+            case 2:
+            case 3:
+            case 4:
+            case 5:
+            case 6:
+            case 8:
+            case 10:
+            case 11:
+            case 12:
+                r12_0_0 = r2_3_0_copyload;
+                r12_4_0 = r2_4_0_copyload;
+                r12_76_0 = r2_6_0_copyload;
+                r12_10_0 = r2_7_0_copyload;
+                r12_13_0 = r2_8_0_copyload;
+                break;
+            default: never();
+            }
+            *r11 = r12_0_0;
+            r11[1] = r12_4_0;
+            store32(r11 + 4, r12_76_0);
+            store32(r11 + 8, r12_10_0);
+            store32(r11 + 12, r12_13_0);
+            dfu_core_mode_set_mode(a1, r11);
+            common_ret_op = 0;
         }
-        switch (r2_3_0_copyload) {
-        case 7:
-        case 9:
-            r12_0_0 = 12;
-            r12_4_0 = r1_5_0;
-            r12_76_0 = 0;
-            r12_10_0 = 0;
-            r12_13_0 = 0;
-            break;
-        case 0:
-        case 1:
-        case 2:
-        case 3:
-        case 4:
-        case 5:
-        case 6:
-        case 8:
-        case 10:
-        case 11:
-        case 12:
-            r12_0_0 = r2_3_0_copyload;
-            r12_4_0 = r2_4_0_copyload;
-            r12_76_0 = r2_6_0_copyload;
-            r12_10_0 = r2_7_0_copyload;
-            r12_13_0 = r2_8_0_copyload;
-            break;
-        default: never();
-        }
-        *r11 = r12_0_0;
-        r11[1] = r12_4_0;
-        store32(r11 + 4, r12_76_0);
-        store32(r11 + 8, r12_10_0);
-        store32(r11 + 12, r12_13_0);
-        dfu_core_mode_set_mode(a1, r11);
-        common_ret_op = 0;
     }
-dfu_device_c_refuse_dfu_core_refuse_exit:
     return signed32(common_ret_op);
 }
 
@@ -4389,8 +4197,6 @@ int32_t dfu_core_refuse_close(const struct dfu_config *config, struct dfu_record
     _Alignas(4) unsigned char r2[16];
     _Alignas(4) unsigned char r19[16];
     _Alignas(8) unsigned char r6[8];
-    unsigned char *r22;
-    uint8_t r1_5_0;
     uint32_t common_ret_op;
     store32(r2, 0);
     memset(r8, 0, 68);
@@ -4399,47 +4205,31 @@ int32_t dfu_core_refuse_close(const struct dfu_config *config, struct dfu_record
     uint8_t r21 = *r8;
     if (r21 != 0) {
         uint8_t r4_0_0_copyload = r8[1];
-        uint32_t switch_load = load32(PLACE(switch_table_dfu_core_numbers_Refusal_number) + 4 * (size_t)r4_0_0_copyload);
+        uint32_t switch_load = (uint32_t)switch_table_dfu_core_numbers_Refusal_number[(size_t)r4_0_0_copyload];
         common_ret_op = switch_load;
     }
     else {
-        r22 = r8 + 4;
         uint8_t r3_3_0_copyload = r8[52];
-        uint8_t r3_4_0_copyload = r8[53];
         uint32_t r3_6_0_copyload = load32(r8 + 56);
-        uint32_t r3_7_0_copyload = load32(r8 + 60);
-        uint32_t r3_8_0_copyload = load32(r8 + 64);
         *r2 = r3_3_0_copyload;
-        r2[1] = r3_4_0_copyload;
         store32(r2 + 4, r3_6_0_copyload);
-        store32(r2 + 8, r3_7_0_copyload);
-        store32(r2 + 12, r3_8_0_copyload);
-        switch (a3) {
-        case 1:
-            r1_5_0 = 1;
-            break;
-        case 2:
-            r1_5_0 = 2;
-            break;
-        default:
-            common_ret_op = 0xfffffff2U;
-            goto dfu_device_c_refuse_dfu_core_refuse_close_exit;
-        }
-        uint8_t r44 = a0[15];
-        uint64_t r2_0_0_copyload = load64u(a2);
-        store64(r6, (uint64_t)((r44 == (uint8_t)(size_t)(r2_0_0_copyload >> 32)) ? 0 : 0x100000000ULL) | (r2_0_0_copyload & 0xffffff00ffffffffULL));
-        uint8_t r48 = dfu_asks_closes_mode_closes(r22, r2, r6);
-        if (!r48) common_ret_op = 0xfffffff3U;
+        if ((a3 - 1) >= 2) common_ret_op = 0xfffffff2U;
         else {
-            r19[1] = r1_5_0;
-            store32(r19 + 4, 0);
-            store32(r19 + 8, 0);
-            store32(r19 + 12, 0);
-            dfu_core_mode_set_mode(a1, r19);
-            common_ret_op = 0xffffffffU;
+            uint8_t r44 = a0[15];
+            uint64_t r2_0_0_copyload = load64u(a2);
+            store64(r6, (uint64_t)((r44 == (uint8_t)(size_t)(r2_0_0_copyload >> 32)) ? 0 : 0x100000000ULL) | (r2_0_0_copyload & 0xffffff00ffffffffULL));
+            uint8_t r48 = dfu_asks_closes_mode_closes(r8 + 4, r2, r6);
+            if (!r48) common_ret_op = 0xfffffff3U;
+            else {
+                r19[1] = (uint8_t)a3;
+                store32(r19 + 4, 0);
+                store32(r19 + 8, 0);
+                store32(r19 + 12, 0);
+                dfu_core_mode_set_mode(a1, r19);
+                common_ret_op = 0xffffffffU;
+            }
         }
     }
-dfu_device_c_refuse_dfu_core_refuse_close_exit:
     return signed32(common_ret_op);
 }
 
@@ -4463,7 +4253,7 @@ int32_t dfu_core_candidate(const struct dfu_config *config, const struct dfu_rec
     uint8_t r22 = *r3;
     if (r22 != 0) {
         uint8_t r13_0_0_copyload = r3[1];
-        uint32_t switch_load_4 = load32(PLACE(switch_table_dfu_core_numbers_Refusal_number) + 4 * (size_t)r13_0_0_copyload);
+        uint32_t switch_load_4 = (uint32_t)switch_table_dfu_core_numbers_Refusal_number[(size_t)r13_0_0_copyload];
         common_ret_op = switch_load_4;
     }
     else {
@@ -4474,10 +4264,9 @@ int32_t dfu_core_candidate(const struct dfu_config *config, const struct dfu_rec
             if (wide(a3) <= 0xffffffffU) {
                 r11_0_0_copyload = load32(r3 + 52);
                 r10_0_0_copyload = r3[48];
-                store64(r3_2, (size_t)(uintptr_t)r4);
-                store64(r3_2 + 8, a3);
+                store_size(r3_2, (size_t)(uintptr_t)r4);
+                store_size(r3_2 + 8, a3);
                 r3_2[16] = r10_0_0_copyload;
-                memset(r3_2 + 17, 0, 3);
                 store32(r3_2 + 20, r11_0_0_copyload);
                 dfu_asks_noted_look(r13, r3_2, r3 + 92);
                 uint8_t r65 = *r13;
@@ -4495,8 +4284,8 @@ int32_t dfu_core_candidate(const struct dfu_config *config, const struct dfu_rec
                             goto dfu_device_c_tells_refused_exit;
                         }
                         size_t v5 = (size_t)r10_0_0_copyload;
-                        uint32_t switch_load = load32(PLACE(switch_table_dfu_core_would_stall) + 4 * v5);
-                        uint32_t switch_load_2 = load32(PLACE(switch_table_dfu_core_candidate) + 4 * v5);
+                        uint32_t switch_load = (uint32_t)switch_table_dfu_asks_next_piece_numbered_piece[v5];
+                        uint32_t switch_load_2 = (uint32_t)switch_table_dfu_core_candidate[v5];
                         store32(a4, (umax32(r11_0_0_copyload, switch_load) << 1) + r4_2_0_copyload);
                         store32(a4 + 4, switch_load_2 & v4);
                         common_ret_op = 0;
@@ -4521,7 +4310,7 @@ int32_t dfu_core_candidate(const struct dfu_config *config, const struct dfu_rec
             r2_0_0 = 3;
         }
 dfu_device_c_tells_refused_exit:;
-        uint32_t switch_load_3 = load32(PLACE(switch_table_dfu_core_numbers_Refusal_number) + 4 * r2_0_0);
+        uint32_t switch_load_3 = (uint32_t)switch_table_dfu_core_numbers_Refusal_number[r2_0_0];
         common_ret_op = switch_load_3;
     }
 dfu_device_c_image_dfu_core_candidate_exit:
@@ -4546,7 +4335,7 @@ int32_t dfu_core_elapse(const struct dfu_config *config, struct dfu_record *reco
     unsigned char *r4, *r13, *r44, *r19, *r5_2, *v3, *r0_6_0_a0_sroa_idx;
     size_t r1, r2_0_0;
     uint64_t r21, r21_2, r16, r19_3;
-    uint32_t r2_3, r2_4, v5, v6, v7, r18_1148_0, r18_16_0, r18_21_0, r18_26_0, common_ret_op;
+    uint32_t r2_2, r2_3, v5, v6, v7, r18_1148_0, r18_16_0, r18_21_0, r18_26_0, common_ret_op;
     uint8_t r11_2_0_copyload, r11_3_0_copyload, v4, r18_0_0;
     r4 = a2;
     r13 = a4;
@@ -4555,7 +4344,7 @@ int32_t dfu_core_elapse(const struct dfu_config *config, struct dfu_record *reco
     uint8_t r42 = *r5;
     if (r42 != 0) {
         uint8_t r18_0_0_copyload = r5[1];
-        uint32_t switch_load_2 = load32(PLACE(switch_table_dfu_core_numbers_Refusal_number) + 4 * (size_t)r18_0_0_copyload);
+        uint32_t switch_load_2 = (uint32_t)switch_table_dfu_core_numbers_Refusal_number[(size_t)r18_0_0_copyload];
         common_ret_op = switch_load_2;
     }
     else {
@@ -4575,19 +4364,11 @@ int32_t dfu_core_elapse(const struct dfu_config *config, struct dfu_record *reco
             if (r1_0_0_copyload == 0) {
                 r5_2 = r19_2 + 8;
                 v3 = r19_2 + 32;
-                uint32_t r8_3_0_copyload = load32(r19_2 + 40);
                 memcpy(r23, r5 + 14, 10);
-                uint32_t r2_2 = load32(r5 + 24);
-                r2_3 = load32(r5 + 28);
-                r2_4 = load32(r5 + 32);
+                r2_2 = load32(r5 + 28);
+                r2_3 = load32(r5 + 32);
                 r0_6_0_a0_sroa_idx = r23 + 24;
                 memcpy(r0_6_0_a0_sroa_idx, r5 + 36, 12);
-                store16(r23 + 10, 0);
-                store32(r23 + 12, r2_2);
-                store32(r23 + 16, r2_3);
-                store32(r23 + 20, r2_4);
-                store32(r23 + 36, 0);
-                store64(r23 + 40, (size_t)r8_3_0_copyload);
                 r11_2_0_copyload = r23[2];
                 r11_3_0_copyload = r23[3];
                 v4 = r5[56];
@@ -4631,9 +4412,9 @@ int32_t dfu_core_elapse(const struct dfu_config *config, struct dfu_record *reco
                     }
                     break;
                 case 5: {
-                    uint64_t r95 = load64(r5 + 72);
+                    size_t r95 = load_size(r5 + 72);
                     r16 = (uint64_t)(size_t)v7 + (uint64_t)(size_t)a6;
-                    uint32_t r21_3 = dfu_device_time_table_block_ms(r0_6_0_a0_sroa_idx, r2_3, v5, r95);
+                    uint32_t r21_3 = dfu_device_time_table_block_ms(r0_6_0_a0_sroa_idx, r2_2, v5, r95);
                     if ((a6 == 0) ? 1 : (r16 < (uint64_t)(size_t)r21_3)) {
                         r18_0_0 = 0;
                         r18_1148_0 = 5;
@@ -4652,7 +4433,7 @@ int32_t dfu_core_elapse(const struct dfu_config *config, struct dfu_record *reco
                 }
                 case 9: {
                     r19_3 = (uint64_t)(size_t)v6 + (uint64_t)(size_t)a6;
-                    uint32_t r24 = dfu_device_time_table_image_ms(r0_6_0_a0_sroa_idx, r2_4, v5);
+                    uint32_t r24 = dfu_device_time_table_image_ms(r0_6_0_a0_sroa_idx, r2_3, v5);
                     if ((a6 == 0) ? 1 : (r19_3 < (uint64_t)(size_t)r24)) {
                         r18_0_0 = 0;
                         r18_1148_0 = 9;
@@ -4694,7 +4475,6 @@ int32_t dfu_core_elapse(const struct dfu_config *config, struct dfu_record *reco
                 store32(r12 + 8, r18_16_0);
                 store32(r12 + 12, r18_21_0);
                 store32(r12 + 16, r18_26_0);
-                store32(r12 + 20, 0);
                 memset(r13_2, 0, 6);
                 dfu_asks_asking_Asking_carry_out(r29, r44, r12, 0, 0, PLACE(static_2), 0, r4, r1, r19, r21, r5_2, v3, r13_2, 6);
                 uint8_t v10 = *r29;
@@ -4705,7 +4485,7 @@ int32_t dfu_core_elapse(const struct dfu_config *config, struct dfu_record *reco
             uint8_t r1_3_1_copyload = r19_2[1];
             r2_0_0 = (size_t)(((uint32_t)0x4040302U >> (((uint32_t)r1_3_1_copyload << 3) & 31)) & 7);
         }
-        uint32_t switch_load = load32(PLACE(switch_table_dfu_core_numbers_Refusal_number) + 4 * r2_0_0);
+        uint32_t switch_load = (uint32_t)switch_table_dfu_core_numbers_Refusal_number[r2_0_0];
         common_ret_op = switch_load;
     }
 dfu_device_c_calls_dfu_core_elapse_exit:
@@ -4732,7 +4512,7 @@ int32_t dfu_core_usb_reset(const struct dfu_config *config, struct dfu_record *r
     uint8_t r36 = *r5;
     if (r36 != 0) {
         uint8_t r18_0_0_copyload = r5[1];
-        uint32_t switch_load_2 = load32(PLACE(switch_table_dfu_core_numbers_Refusal_number) + 4 * (size_t)r18_0_0_copyload);
+        uint32_t switch_load_2 = (uint32_t)switch_table_dfu_core_numbers_Refusal_number[(size_t)r18_0_0_copyload];
         common_ret_op = switch_load_2;
     }
     else {
@@ -4759,7 +4539,7 @@ int32_t dfu_core_usb_reset(const struct dfu_config *config, struct dfu_record *r
             uint8_t r1_3_1_copyload = r14[1];
             r2_0_0 = (size_t)(((uint32_t)0x4040302U >> (((uint32_t)r1_3_1_copyload << 3) & 31)) & 7);
         }
-        uint32_t switch_load = load32(PLACE(switch_table_dfu_core_numbers_Refusal_number) + 4 * r2_0_0);
+        uint32_t switch_load = (uint32_t)switch_table_dfu_core_numbers_Refusal_number[r2_0_0];
         common_ret_op = switch_load;
     }
 dfu_device_c_calls_dfu_core_usb_reset_exit:
@@ -4780,21 +4560,21 @@ int32_t dfu_core_handle(const struct dfu_config *config, struct dfu_record *reco
     unsigned char *a9 = (unsigned char *)(uintptr_t)out;
     size_t a10 = (size_t)room;
     _Alignas(8) unsigned char r9[144];
-    _Alignas(8) unsigned char r23[48];
+    _Alignas(8) unsigned char r12[48];
     _Alignas(8) unsigned char r27[48];
-    _Alignas(4) unsigned char r12[24];
-    _Alignas(8) unsigned char r17[16];
-    _Alignas(4) unsigned char r28[16];
-    _Alignas(8) unsigned char r9_2[8];
-    _Alignas(4) unsigned char r10[6];
-    _Alignas(4) unsigned char r15[6];
+    _Alignas(4) unsigned char r21_2[24];
+    _Alignas(4) unsigned char r10[24];
+    _Alignas(4) unsigned char r1_2[16];
+    _Alignas(8) unsigned char r0[16];
+    _Alignas(8) unsigned char r12_2[8];
+    _Alignas(4) unsigned char r13_2[6];
     unsigned char *r4, *r13, *r22, *r31, *r68, *r19, *r5, *v7;
-    uint16_t r4_2, v11, r9_0;
+    uint16_t r4_2, r9_0, r9_0_2, r16_24_0;
     uint64_t r2_0_0_copyload, r21;
     uint8_t r15_not_not;
-    size_t r1, r0_97_8_copyload8_pre, r2_0_0;
-    uint32_t r12_3_0_copyload, common_ret_op;
-    uint8_t r38, r0_5_1_copyload5_pre;
+    size_t r1, v14, v25, r2_0_0;
+    uint8_t v8, v9, r16_0_0, r16_4_0, v24;
+    uint32_t v10, v11, v12, r16_9_0, r16_12_0, r16_15_0, r16_18_0, common_ret_op;
     r4 = a2;
     r13 = a4;
     r22 = a7;
@@ -4807,7 +4587,7 @@ int32_t dfu_core_handle(const struct dfu_config *config, struct dfu_record *reco
         uint8_t r66 = *r9;
         if (r66 != 0) {
             uint8_t r27_0_0_copyload = r9[1];
-            uint32_t switch_load_2 = load32(PLACE(switch_table_dfu_core_numbers_Refusal_number) + 4 * (size_t)r27_0_0_copyload);
+            uint32_t switch_load_2 = (uint32_t)switch_table_dfu_core_numbers_Refusal_number[(size_t)r27_0_0_copyload];
             common_ret_op = switch_load_2;
         }
         else {
@@ -4830,88 +4610,112 @@ int32_t dfu_core_handle(const struct dfu_config *config, struct dfu_record *reco
                     if (r1_0_0_copyload == 0) {
                         r5 = r27 + 8;
                         v7 = r27 + 32;
-                        r12_3_0_copyload = load32(r27 + 40);
-                        memset(r12, 0, 24);
-                        memset(r17, 0, 16);
-                        store32(r28, 0);
-                        store64(r9_2, (uint64_t)(r15_not_not ? 0 : 0x100000000ULL) | (r2_0_0_copyload & 0xffffff00ffffffffULL));
-                        dfu_wire_setups_Setup_request(r15, r9_2);
-                        r38 = *r15;
-                        if (r38 != 8) {
-                            store16(r10, r38);
-                            v11 = load16(r15 + 2);
-                            store16(r10 + 2, v11);
-                            uint16_t v12 = load16(r15 + 4);
-                            store16(r10 + 4, v12);
-                            if (a8 == (size_t)((((size_t)r2_0_0_copyload & 255) == 33) ? (size_t)(r2_0_0_copyload >> 48) : 0)) {
-                                memcpy(r23, r9 + 14, 10);
-                                uint32_t r2_2 = load32(r9 + 24);
-                                uint32_t r2_3 = load32(r9 + 28);
-                                uint32_t r2_4 = load32(r9 + 32);
-                                memcpy(r23 + 24, r9 + 36, 12);
-                                store16(r23 + 10, 0);
-                                store32(r23 + 12, r2_2);
-                                store32(r23 + 16, r2_3);
-                                store32(r23 + 20, r2_4);
-                                store32(r23 + 36, 0);
-                                store64(r23 + 40, (size_t)r12_3_0_copyload);
-                                uint8_t v14 = r9[56];
-                                *r28 = v14;
-                                uint8_t v15 = r9[57];
-                                r28[1] = v15;
-                                uint32_t v16 = load32(r9 + 60);
-                                store32(r28 + 4, v16);
-                                uint32_t v17 = load32(r9 + 64);
-                                store32(r28 + 8, v17);
-                                uint32_t v18 = load32(r9 + 68);
-                                store32(r28 + 12, v18);
-                                dfu_device_table_decide(r12, r23, r28, r10);
-                                switch (r38) {
-                                case 3:
-                                case 5:
-                                    r9_0 = v11;
-                                    break;
-                                case 0:
-                                case 1:
-                                case 2:
-                                case 4:
-                                case 6:
-                                case 7:
-                                    r9_0 = 0;
-                                    break;
-                                default: never();
-                                }
-                                dfu_asks_asking_Asking_carry_out(r17, r68, r12, 1, r9_0, r22, a8, r4, r1, r19, r21, r5, v7, r31, a10);
-                                uint8_t r0_0_0_copyload3_pre = *r17;
-                                r0_5_1_copyload5_pre = r17[1];
-                                r0_97_8_copyload8_pre = (size_t)load64(r17 + 8);
-                                dfu_core_keeping_keep(r68, a1);
-                                if (r0_0_0_copyload3_pre == 0) {
-                                    common_ret_op = 0xfffffff5U;
-                                    goto dfu_device_c_calls_dfu_core_handle_exit;
-                                }
-                                switch (r0_5_1_copyload5_pre) {
-                                case 0:
-                                    common_ret_op = 0;
-                                    goto dfu_device_c_calls_dfu_core_handle_exit;
-                                case 1:
-                                    common_ret_op = (uint32_t)r0_97_8_copyload8_pre;
-                                    goto dfu_device_c_calls_dfu_core_handle_exit;
-                                case 2: goto arm_3;
-                                default: never();
-                                }
-                            }
+                        uint32_t r12_3_0_copyload = load32(r27 + 40);
+                        memset(r0, 0, 16);
+                        memset(r10, 0, 24);
+                        memcpy(r12, r9 + 14, 10);
+                        uint32_t r2_2 = load32(r9 + 24);
+                        uint32_t r2_3 = load32(r9 + 28);
+                        uint32_t r2_4 = load32(r9 + 32);
+                        store32(r12 + 12, r2_2);
+                        store32(r12 + 16, r2_3);
+                        store32(r12 + 20, r2_4);
+                        store_size(r12 + 40, (size_t)r12_3_0_copyload);
+                        v8 = r9[56];
+                        v9 = r9[57];
+                        v10 = load32(r9 + 60);
+                        v11 = load32(r9 + 64);
+                        v12 = load32(r9 + 68);
+                        store32(r1_2, 0);
+                        *r1_2 = v8;
+                        r1_2[1] = v9;
+                        store32(r1_2 + 4, v10);
+                        store32(r1_2 + 8, v11);
+                        memset(r21_2, 0, 24);
+                        store64(r12_2, (uint64_t)(r15_not_not ? 0 : 0x100000000ULL) | (r2_0_0_copyload & 0xffffff00ffffffffULL));
+                        dfu_wire_setups_Setup_request(r13_2, r12_2);
+                        uint8_t r2_5 = *r13_2;
+                        v14 = (size_t)(r2_0_0_copyload >> 48);
+                        switch (r2_5) {
+                        case 3:
+                        case 5: {
+                            uint16_t r1_3_2_copyload = load16(r13_2 + 2);
+                            r9_0 = r1_3_2_copyload;
+                            break;
                         }
+                        case 8:
+                            r9_0_2 = 0;
+                            goto then_1;
+                        case 0:
+                        case 1:
+                        case 2:
+                        case 4:
+                        case 6:
+                        case 7:
+                            r9_0 = 0;
+                            break;
+                        default: never();
+                        }
+                        if (a8 == (size_t)((((size_t)r2_0_0_copyload & 255) == 33) ? v14 : 0)) {
+                            dfu_device_table_decide(r21_2, r12, r1_2, r13_2);
+                            uint8_t v16 = *r21_2;
+                            uint8_t v17 = r21_2[1];
+                            uint32_t v18 = load32(r21_2 + 4);
+                            uint32_t v19 = load32(r21_2 + 8);
+                            uint32_t v20 = load32(r21_2 + 12);
+                            uint32_t v21 = load32(r21_2 + 16);
+                            r16_0_0 = v16;
+                            r16_4_0 = v17;
+                            r16_9_0 = v18;
+                            r16_12_0 = v19;
+                            r16_15_0 = v20;
+                            r16_18_0 = v21;
+                            r16_24_0 = r9_0;
+                            goto arm_8;
+                        }
+                        r9_0_2 = r9_0;
+then_1:
+                        r16_0_0 = 0;
+                        r16_4_0 = 3;
+                        r16_9_0 = ((uint32_t)v9 << 8) | (uint32_t)v8;
+                        r16_12_0 = v10;
+                        r16_15_0 = v11;
+                        r16_18_0 = v12;
+                        r16_24_0 = r9_0_2;
+arm_8:
+                        *r10 = r16_0_0;
+                        r10[1] = r16_4_0;
+                        store32(r10 + 4, r16_9_0);
+                        store32(r10 + 8, r16_12_0);
+                        store32(r10 + 12, r16_15_0);
+                        store32(r10 + 16, r16_18_0);
+                        dfu_asks_asking_Asking_carry_out(r0, r68, r10, 1, r16_24_0, r22, a8, r4, r1, r19, r21, r5, v7, r31, a10);
+                        uint8_t v23 = *r0;
+                        v24 = r0[1];
+                        v25 = load_size(r0 + 8);
                         dfu_core_keeping_keep(r68, a1);
-arm_3:
-                        common_ret_op = 0xffffffffU;
-                        goto dfu_device_c_calls_dfu_core_handle_exit;
+                        if (v23 == 0) {
+                            common_ret_op = 0xfffffff5U;
+                            goto dfu_device_c_calls_dfu_core_handle_exit;
+                        }
+                        switch (v24) {
+                        case 0:
+                            common_ret_op = 0;
+                            goto dfu_device_c_calls_dfu_core_handle_exit;
+                        case 1:
+                            common_ret_op = (uint32_t)v25;
+                            goto dfu_device_c_calls_dfu_core_handle_exit;
+                        case 2:
+                            common_ret_op = 0xffffffffU;
+                            goto dfu_device_c_calls_dfu_core_handle_exit;
+                        default: never();
+                        }
                     }
                     uint8_t r1_3_1_copyload = r27[1];
                     r2_0_0 = (size_t)(((uint32_t)0x4040302U >> (((uint32_t)r1_3_1_copyload << 3) & 31)) & 7);
                 }
             }
-            uint32_t switch_load = load32(PLACE(switch_table_dfu_core_numbers_Refusal_number) + 4 * r2_0_0);
+            uint32_t switch_load = (uint32_t)switch_table_dfu_core_numbers_Refusal_number[r2_0_0];
             common_ret_op = switch_load;
         }
     }
@@ -4954,20 +4758,14 @@ int32_t dfu_core_closes(const struct dfu_config *config, const struct dfu_record
     uint8_t r14 = *r7;
     if (r14 != 0) {
         uint8_t r4_0_0_copyload = r7[1];
-        uint32_t switch_load = load32(PLACE(switch_table_dfu_core_numbers_Refusal_number) + 4 * (size_t)r4_0_0_copyload);
+        uint32_t switch_load = (uint32_t)switch_table_dfu_core_numbers_Refusal_number[(size_t)r4_0_0_copyload];
         common_ret_op = switch_load;
     }
     else {
         uint8_t r3_3_0_copyload = r7[52];
-        uint8_t r3_4_0_copyload = r7[53];
         uint32_t r3_6_0_copyload = load32(r7 + 56);
-        uint32_t r3_7_0_copyload = load32(r7 + 60);
-        uint32_t r3_8_0_copyload = load32(r7 + 64);
         *r2 = r3_3_0_copyload;
-        r2[1] = r3_4_0_copyload;
         store32(r2 + 4, r3_6_0_copyload);
-        store32(r2 + 8, r3_7_0_copyload);
-        store32(r2 + 12, r3_8_0_copyload);
         uint8_t r30 = a0[15];
         uint64_t r2_0_0_copyload = load64u(a2);
         store64(r5, (uint64_t)((r30 == (uint8_t)(size_t)(r2_0_0_copyload >> 32)) ? 0 : 0x100000000ULL) | (r2_0_0_copyload & 0xffffff00ffffffffULL));
@@ -5000,15 +4798,13 @@ int32_t dfu_core_is_blank(const struct dfu_config *config, const uint8_t *flash,
         r17 = r15.b;
         if (!((wide(a2) < 0x100000000ULL) & (r15.a & 1))) common_ret_op = 0xfffffffdU;
         else {
-            store64(r5, (size_t)(uintptr_t)r4);
-            store64(r5 + 8, a2);
+            store_size(r5 + 8, a2);
             r5[16] = r3_2_0_copyload;
-            memset(r5 + 17, 0, 3);
             store32(r5 + 20, r17);
             uint8_t r10 = dfu_slots_layout_is_sized(r5);
             if (!r10) common_ret_op = 0xfffffffaU;
             else {
-                uint32_t switch_load = load32(PLACE(switch_table_dfu_core_would_stall) + 4 * (size_t)r3_2_0_copyload);
+                uint32_t switch_load = (uint32_t)switch_table_dfu_asks_next_piece_numbered_piece[(size_t)r3_2_0_copyload];
                 r26 = (uint64_t)(size_t)umax32(r17, switch_load) << 1;
                 uint8_t r31 = dfu_asks_blank_is_erased(r4, 0, r26);
                 if (!r31) common_ret_op = 0;
@@ -5041,7 +4837,7 @@ int32_t dfu_core_would_stall(const struct dfu_config *config, const struct dfu_r
     uint8_t r16 = *r7;
     if (r16 != 0) {
         uint8_t r4_0_0_copyload = r7[1];
-        uint32_t switch_load_2 = load32(PLACE(switch_table_dfu_core_numbers_Refusal_number) + 4 * (size_t)r4_0_0_copyload);
+        uint32_t switch_load_2 = (uint32_t)switch_table_dfu_core_numbers_Refusal_number[(size_t)r4_0_0_copyload];
         common_ret_op = switch_load_2;
     }
     else {
@@ -5054,18 +4850,14 @@ int32_t dfu_core_would_stall(const struct dfu_config *config, const struct dfu_r
         uint8_t r3_4_0_copyload = r7[53];
         uint32_t r3_6_0_copyload = load32(r7 + 56);
         uint32_t r3_7_0_copyload = load32(r7 + 60);
-        uint32_t r3_8_0_copyload = load32(r7 + 64);
         uint8_t r32 = a0[15];
         uint64_t r2_0_0_copyload = load64u(a3);
-        uint32_t switch_load = load32(PLACE(switch_table_dfu_core_would_stall) + 4 * (size_t)r3_0_7_0_copyload);
+        uint32_t switch_load = (uint32_t)switch_table_dfu_asks_next_piece_numbered_piece[(size_t)r3_0_7_0_copyload];
         memcpy(r12, r7 + 10, 10);
-        store16(r12 + 10, 0);
         store32(r12 + 12, r3_0_3_0_copyload);
         store32(r12 + 16, r3_0_4_0_copyload);
         store32(r12 + 20, r3_0_5_0_copyload);
-        memcpy(r12 + 24, r7 + 32, 12);
-        store32(r12 + 36, 0);
-        store64(r12 + 40, (size_t)usub_sat64(a2 >> 1, (uint64_t)(size_t)umax32(r3_0_9_0_copyload, switch_load) << 1));
+        store_size(r12 + 40, (size_t)usub_sat64(a2 >> 1, (uint64_t)(size_t)umax32(r3_0_9_0_copyload, switch_load) << 1));
         store64(r18, (uint64_t)((r32 == (uint8_t)(size_t)(r2_0_0_copyload >> 32)) ? 0 : 0x100000000ULL) | (r2_0_0_copyload & 0xffffff00ffffffffULL));
         dfu_wire_setups_Setup_request(r16_2, r18);
         store32(r1, 0);
@@ -5073,7 +4865,6 @@ int32_t dfu_core_would_stall(const struct dfu_config *config, const struct dfu_r
         r1[1] = r3_4_0_copyload;
         store32(r1 + 4, r3_6_0_copyload);
         store32(r1 + 8, r3_7_0_copyload);
-        store32(r1 + 12, r3_8_0_copyload);
         uint8_t r11 = *r16_2;
         store16(r10, r11);
         uint16_t v6 = load16(r16_2 + 2);

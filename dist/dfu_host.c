@@ -173,6 +173,7 @@ static inline uint64_t load64(const unsigned char *p) { uint64_t x = 0; memcpy(&
 static inline uint64_t load64a2(const unsigned char *p) { uint64_t x = 0; memcpy(&x, ALIGNED(p, 2), 8); return x; }
 static inline uint64_t load64a4(const unsigned char *p) { uint64_t x = 0; memcpy(&x, ALIGNED(p, 4), 8); return x; }
 static inline uint64_t load64u(const unsigned char *p) { uint64_t x = 0; memcpy(&x, p, 8); return x; }
+static inline size_t load_size(const unsigned char *p) { size_t x = 0; memcpy(&x, ALIGNED(p, 8), sizeof x); return x; }
 static inline struct i64_i1 product64(uint64_t x, uint64_t y) { return (struct i64_i1){ x * y, x != 0 && x * y / x != y }; }
 static inline int32_t signed32(uint32_t x) { int32_t y; memcpy(&y, &x, 4); return y; }
 static inline void store16(unsigned char *p, uint16_t x) { memcpy(ALIGNED(p, 2), &x, 2); }
@@ -181,6 +182,7 @@ static inline void store32a2(unsigned char *p, uint32_t x) { memcpy(ALIGNED(p, 2
 static inline void store64(unsigned char *p, uint64_t x) { memcpy(ALIGNED(p, 8), &x, 8); }
 static inline void store64a4(unsigned char *p, uint64_t x) { memcpy(ALIGNED(p, 4), &x, 8); }
 static inline void store64u(unsigned char *p, uint64_t x) { memcpy(p, &x, 8); }
+static inline void store_size(unsigned char *p, size_t x) { memcpy(ALIGNED(p, 8), &x, sizeof x); }
 static inline uint64_t uadd_sat64(uint64_t x, uint64_t y) { return (uint64_t)(x + y) < x ? (uint64_t)-1 : (uint64_t)(x + y); }
 static inline uint16_t umax16(uint16_t x, uint16_t y) { return x < y ? y : x; }
 static inline uint32_t umax32(uint32_t x, uint32_t y) { return x < y ? y : x; }
@@ -265,10 +267,10 @@ static _Alignas(1) const uint8_t static_21[114] = {
 static _Alignas(4) const uint8_t switch_table_dfu_host_session_Session_on_result[11] = {
     0x11, 0x11, 0x11, 0x11, 0x11, 0xc, 0xe, 0x11, 0x11, 0x11, 0x11
 };
-static _Alignas(8) const uint64_t switch_table_dfu_host_name[11] = {
+static const uint8_t switch_table_dfu_host_name[11] = {
     0, 0xa, 0x16, 0x1e, 0x26, 0x2e, 0x3d, 0x46, 0x56, 0x60, 0x69
 };
-static _Alignas(8) const uint64_t switch_table_dfu_host_name_1[11] = {
+static const uint8_t switch_table_dfu_host_name_1[11] = {
     9, 0x15, 0x1d, 0x25, 0x2d, 0x3c, 0x45, 0x55, 0x5f, 0x68, 0x72
 };
 
@@ -278,8 +280,8 @@ static void dfu_formats_dfuse_file_read(unsigned char *a0, unsigned char *a1, si
 static void dfu_suffix_parse_read_small(unsigned char *a0, unsigned char *a1, size_t a2);
 static void dfu_suffix_crc_Crc_update_small(unsigned char *a0, unsigned char *a1, uint64_t a2);
 static void core_slice_edits_slice_T_copy_from_slice_i8_core_clone_U8Clone(unsigned char *a0, unsigned char *a2, size_t a3);
-static void dfu_formats_dfuse_headings_take_heading(unsigned char *a0, unsigned char *a1, uint64_t a2);
-static void dfu_formats_dfuse_elements_take_element(unsigned char *a0, unsigned char *a1, uint64_t a2);
+static void dfu_formats_dfuse_headings_take_heading(unsigned char *a0, unsigned char *a1, size_t a2);
+static void dfu_formats_dfuse_elements_take_element(unsigned char *a0, unsigned char *a1, size_t a2);
 static void dfu_formats_memory_map_Map_read(unsigned char *a0, unsigned char *a1, size_t a2);
 static void dfu_formats_memory_place_take_address(unsigned char *a0, unsigned char *a1, uint64_t a2);
 static void dfu_formats_memory_digits_take_number(unsigned char *a0, size_t a1, size_t a2, unsigned char *a3, uint64_t a4);
@@ -299,8 +301,8 @@ static void dfu_host_c_holding_session_of(unsigned char *a0, unsigned char *a1, 
 static void dfu_host_c_holding_record_of(unsigned char *a0, unsigned char *a1, uint64_t a2);
 static struct i32_i32 dfu_host_c_reports_report_numbers(uint8_t a0, uint8_t a1);
 static struct ptr_i64 dfu_host_task_Task_block(unsigned char *a0, uint64_t a1);
-static void dfu_host_task_download(unsigned char *a0, size_t a1, unsigned char *a2, size_t a3);
-static void dfu_host_task_send(unsigned char *a0, unsigned char *a1, unsigned char *a2, size_t a3);
+static void dfu_host_task_download(unsigned char *a0, size_t a1, size_t a3);
+static void dfu_host_task_send(unsigned char *a0, unsigned char *a1, size_t a3);
 static void dfu_wire_requests_Request_setup(unsigned char *a0, unsigned char *a1);
 static void dfu_wire_setups_Setup_encode(unsigned char *a0, unsigned char *a1);
 static void dfu_wire_bytes_two_bytes(unsigned char *a0, uint16_t a1);
@@ -309,9 +311,9 @@ static void dfu_host_c_beginning_start(unsigned char *a0, unsigned char *a1);
 static uint32_t dfu_host_c_beginning_install(unsigned char *a0, unsigned char *a1, size_t a2, unsigned char *a3, size_t a4, unsigned char *a5, uint32_t a6, uint16_t a7, uint8_t a8);
 static void dfu_host_refusing_goal_to_install(unsigned char *a0, unsigned char *a1, unsigned char *a2, unsigned char *a3, uint8_t a4);
 static void dfu_host_session_Session_on_result(unsigned char *a0, unsigned char *a1, uint8_t a2);
-static void dfu_wire_statuses_Status_decode(unsigned char *a0, unsigned char *a1, uint64_t a2);
+static void dfu_wire_statuses_Status_decode(unsigned char *a0, unsigned char *a1, size_t a2);
 static uint8_t core_slice_scan_any_by_one(unsigned char *a0, size_t a1);
-static uint8_t core_cmp_slices_groups_equal_i8_core_cmp_numbers_U8PartialEq(unsigned char *a0, size_t a1, unsigned char *a2, size_t a3);
+static uint8_t core_cmp_slices_groups_equal_i8_core_cmp_numbers_U8PartialEq(unsigned char *a0, size_t a1, unsigned char *a2);
 static void dfu_host_progress_Progress_restarted(unsigned char *a0, unsigned char *a1);
 static void dfu_host_progress_Progress_spent(unsigned char *a0, unsigned char *a1, unsigned char *a2, uint16_t a3);
 static void dfu_host_task_Task_on_status(unsigned char *a0, unsigned char *a1, unsigned char *a2, unsigned char *a3, unsigned char *a4);
@@ -327,10 +329,10 @@ static void dfuse_host_plan_Plan_page_of(unsigned char *a0, unsigned char *a1, u
 static void dfu_formats_memory_lookups_range_at(unsigned char *a0, uint64_t a1, unsigned char *a2, uint64_t a3);
 static void dfuse_host_asking_address_command(unsigned char *a0, uint8_t a1, size_t a2);
 static uint64_t dfuse_host_plan_Plan_end_of_work(unsigned char *a0, unsigned char *a1);
-static uint64_t dfuse_host_image_image_end(unsigned char *a0, uint64_t a1);
+static uint64_t dfuse_host_image_image_end(unsigned char *a0, size_t a1);
 static uint64_t dfuse_host_plan_Plan_front_end(unsigned char *a0);
 static uint64_t dfuse_host_plan_Plan_element_end(unsigned char *a0, uint64_t a1);
-static void dfuse_host_image_element_at(unsigned char *a0, uint64_t a1, unsigned char *a2, uint64_t a3);
+static void dfuse_host_image_element_at(unsigned char *a0, uint64_t a1, unsigned char *a2, size_t a3);
 static uint64_t dfuse_host_plan_Plan_page_end(unsigned char *a0, uint64_t a1);
 static uint64_t dfuse_host_plan_Plan_write_end(unsigned char *a0, uint64_t a1, uint64_t a2);
 static struct ptr_i64 dfuse_host_plan_Plan_bytes_in(unsigned char *a0, uint64_t a1, uint64_t a2);
@@ -397,10 +399,9 @@ static void dfu_formats_dfuse_file_read(unsigned char *a0, unsigned char *a1, si
     _Alignas(8) unsigned char r8[48];
     unsigned char *const r5_2 = r8;
     unsigned char *v1, *r5_2_0_r25_sroa_idx, *r5_32_0_r25_sroa_idx, *r5_4_0_r25_sroa_idx, *r5_5_0_r25_sroa_idx, *r5_5_3_0_r5_5_0_r25_sroa_idx_sroa_idx, *r4_2_0_r19_sroa_idx, *r4_3_0_r19_sroa_idx, *r21;
-    size_t r2_0, wide_1311, r19, r3_0_0, r5_5_0_0_copyload, r3_0_0_2, r6_26_0, r6_27_0;
+    size_t r2_0, wide_1311, r19, r3_0_0, r3_5_0, r5_5_0_0_copyload, r5_5_3_0_copyload, r3_0_0_2, r3_5_0_2, r6_26_0, r6_27_0;
     uint16_t r7_0_0, r7_0_0_2, r7_0_0_3, r6_17_1_0, r6_17_8_0, r6_17_9_0;
     uint8_t r98, r7_0, r4_0_0_copyload_pn, r5_4_0, r6_0_0, r6_9_0, r6_24_0;
-    uint64_t r3_5_0, r5_5_3_0_copyload, r3_5_0_2;
     uint32_t r5_2_0_copyload, r6_0;
     dfu_suffix_parse_read_small(r5, a1, a2);
     uint8_t r14 = *r5;
@@ -553,10 +554,10 @@ static void dfu_formats_dfuse_file_read(unsigned char *a0, unsigned char *a1, si
                     uint8_t r22 = *r9;
                     if (r22 == 1) break;
                     r5_2_0_copyload = load32(r5_2_0_r25_sroa_idx);
-                    size_t r5_32_0_copyload = (size_t)load64(r5_32_0_r25_sroa_idx);
-                    uint64_t r5_4_0_copyload = load64(r5_4_0_r25_sroa_idx);
-                    r5_5_0_0_copyload = (size_t)load64(r5_5_0_r25_sroa_idx);
-                    r5_5_3_0_copyload = load64(r5_5_3_0_r5_5_0_r25_sroa_idx_sroa_idx);
+                    size_t r5_32_0_copyload = load_size(r5_32_0_r25_sroa_idx);
+                    size_t r5_4_0_copyload = load_size(r5_4_0_r25_sroa_idx);
+                    r5_5_0_0_copyload = load_size(r5_5_0_r25_sroa_idx);
+                    r5_5_3_0_copyload = load_size(r5_5_3_0_r5_5_0_r25_sroa_idx_sroa_idx);
                     r3_0_0_2 = r5_32_0_copyload;
                     r3_5_0_2 = r5_4_0_copyload;
                     r6_0 = 0;
@@ -564,8 +565,8 @@ static void dfu_formats_dfuse_file_read(unsigned char *a0, unsigned char *a1, si
                         dfu_formats_dfuse_elements_take_element(r8, (unsigned char *)(uintptr_t)r3_0_0_2, r3_5_0_2);
                         uint8_t r18 = *r8;
                         if (r18 != 0) goto dfu_formats_dfuse_elements_check_elements_exit_thread;
-                        size_t r4_2_0_copyload = (size_t)load64(r4_2_0_r19_sroa_idx);
-                        uint64_t r4_3_0_copyload = load64(r4_3_0_r19_sroa_idx);
+                        size_t r4_2_0_copyload = load_size(r4_2_0_r19_sroa_idx);
+                        size_t r4_3_0_copyload = load_size(r4_3_0_r19_sroa_idx);
                         r3_0_0_2 = r4_2_0_copyload;
                         r3_5_0_2 = r4_3_0_copyload;
                         r6_0 = r6_0 + 1;
@@ -656,9 +657,8 @@ dfu_formats_dfuse_file_read_file_exit:
     store16(a0 + 10, r6_17_8_0);
     store16(a0 + 12, r6_17_9_0);
     a0[14] = r6_24_0;
-    a0[15] = 0;
-    store64(a0 + 16, r6_26_0);
-    store64(a0 + 24, r6_27_0);
+    store_size(a0 + 16, r6_26_0);
+    store_size(a0 + 24, r6_27_0);
     return;
 }
 
@@ -803,7 +803,7 @@ static void dfu_suffix_parse_read_small(unsigned char *a0, unsigned char *a1, si
     }
     *a0 = r0_0_0;
     a0[1] = r0_6_0;
-    store64(a0 + 8, r0_914_0);
+    store_size(a0 + 8, r0_914_0);
     store64(a0 + 16, r0_12_0);
     store16(a0 + 24, r0_14_0_0);
     store16(a0 + 26, r0_14_6_0);
@@ -850,9 +850,8 @@ static void core_slice_edits_slice_T_copy_from_slice_i8_core_clone_U8Clone(unsig
 }
 
 /* dfu_formats::dfuse::headings::take_heading: crates/dfu_formats/src/dfuse/headings.rt */
-static void dfu_formats_dfuse_headings_take_heading(unsigned char *a0, unsigned char *a1, uint64_t a2) {
-    size_t r57;
-    uint64_t r19;
+static void dfu_formats_dfuse_headings_take_heading(unsigned char *a0, unsigned char *a1, size_t a2) {
+    size_t r57, r19;
     if (a2 < 274) {
         *a0 = 1;
         a0[1] = 10;
@@ -874,7 +873,7 @@ static void dfu_formats_dfuse_headings_take_heading(unsigned char *a0, unsigned 
                             uint32_t r26 = load32u(a1 + 266);
                             r57 = (size_t)r26;
                             r19 = a2 - 274;
-                            if (r19 < (uint64_t)r57) {
+                            if (r19 < r57) {
                                 *a0 = 1;
                                 a0[1] = 11;
                                 memset(a0 + 8, 0, 64);
@@ -882,21 +881,15 @@ static void dfu_formats_dfuse_headings_take_heading(unsigned char *a0, unsigned 
                             }
                             unsigned char *r16 = a1 + 274;
                             uint8_t r90 = a1[6];
-                            uint32_t r26_2 = load32u(a1 + 7);
-                            uint32_t r26_3 = load32u(a1 + 270);
+                            uint32_t r26_2 = load32u(a1 + 270);
                             *a0 = 0;
                             a0[1] = 0;
                             a0[8] = r90;
-                            memset(a0 + 9, 0, 3);
-                            store32(a0 + 12, r26_2);
-                            store64(a0 + 16, (size_t)(uintptr_t)(a1 + 11));
-                            store64(a0 + 24, 255);
-                            store32(a0 + 32, r26_3);
-                            store32(a0 + 36, 0);
-                            store64(a0 + 40, (size_t)(uintptr_t)r16);
-                            store64(a0 + 48, r57);
-                            store64(a0 + 56, (size_t)(uintptr_t)(r16 + r57));
-                            store64(a0 + 64, r19 - (uint64_t)r57);
+                            store32(a0 + 32, r26_2);
+                            store_size(a0 + 40, (size_t)(uintptr_t)r16);
+                            store_size(a0 + 48, r57);
+                            store_size(a0 + 56, (size_t)(uintptr_t)(r16 + r57));
+                            store_size(a0 + 64, r19 - r57);
                             return;
                         }
                     }
@@ -911,11 +904,10 @@ static void dfu_formats_dfuse_headings_take_heading(unsigned char *a0, unsigned 
 }
 
 /* dfu_formats::dfuse::elements::take_element: crates/dfu_formats/src/dfuse/elements.rt */
-static void dfu_formats_dfuse_elements_take_element(unsigned char *a0, unsigned char *a1, uint64_t a2) {
+static void dfu_formats_dfuse_elements_take_element(unsigned char *a0, unsigned char *a1, size_t a2) {
     uint32_t r26, r26_2;
     unsigned char *r16;
-    size_t wide_1311, r49;
-    uint64_t r19;
+    size_t wide_1311, r19, r49;
     if (a2 < 8) {
         *a0 = 1;
         a0[1] = 12;
@@ -928,7 +920,7 @@ static void dfu_formats_dfuse_elements_take_element(unsigned char *a0, unsigned 
     wide_1311 = (size_t)(uintptr_t)r16;
     r19 = a2 - 8;
     r49 = (size_t)r26_2;
-    if (r19 < (uint64_t)r49) {
+    if (r19 < r49) {
         *a0 = 1;
         a0[1] = 12;
         memset(a0 + 8, 0, 40);
@@ -952,8 +944,8 @@ static void dfu_formats_dfuse_elements_take_element(unsigned char *a0, unsigned 
     store32(a0 + 12, 0);
     store64(a0 + 16, wide_1311);
     store64(a0 + 24, r49);
-    store64(a0 + 32, (size_t)(uintptr_t)(r16 + r49));
-    store64(a0 + 40, r19 - (uint64_t)r49);
+    store_size(a0 + 32, (size_t)(uintptr_t)(r16 + r49));
+    store_size(a0 + 40, r19 - r49);
     return;
 }
 
@@ -1017,7 +1009,7 @@ static void dfu_formats_memory_map_Map_read(unsigned char *a0, unsigned char *a1
                 goto dfu_formats_memory_map_read_map_exit;
             }
             r8_6_3_6_copyload = load64(r16_2 + 8);
-            r8_6_5_6_copyload = (size_t)load64(r16_2 + 16);
+            r8_6_5_6_copyload = load_size(r16_2 + 16);
             r8_6_6_6_copyload = load64(r16_2 + 24);
             memset(r1, 0, 768);
             r2_0 = 0;
@@ -1046,7 +1038,7 @@ static void dfu_formats_memory_map_Map_read(unsigned char *a0, unsigned char *a1
                 if (r19_2 != 1) goto arm_2_2;
                 r21 = load64(r20);
                 if (r21 == 0) goto arm_2_2;
-                size_t r3_3_0_copyload = (size_t)load64(r3_3_0_r27_sroa_idx);
+                size_t r3_3_0_copyload = load_size(r3_3_0_r27_sroa_idx);
                 r3_4_0_copyload = load64(r3_4_0_r27_sroa_idx);
                 r29_2 = (unsigned char *)(uintptr_t)r3_3_0_copyload;
                 if (r3_4_0_copyload == 0) goto arm_2_2;
@@ -1057,7 +1049,7 @@ static void dfu_formats_memory_map_Map_read(unsigned char *a0, unsigned char *a1
                 if (r15 != 1) goto arm_6;
                 r17 = load64(r16_3);
                 if (r17 == 0) goto arm_6;
-                size_t r3_3_0_copyload_2 = (size_t)load64(r3_3_0_r23_sroa_idx);
+                size_t r3_3_0_copyload_2 = load_size(r3_3_0_r23_sroa_idx);
                 r3_4_0_copyload_2 = load64(r3_4_0_r23_sroa_idx);
                 r27_2 = (unsigned char *)(uintptr_t)r3_3_0_copyload_2;
                 if (r3_4_0_copyload_2 == 0) break;
@@ -1128,7 +1120,7 @@ arm_3:
                     uint8_t r42 = *r12;
                     if (r42 != 0) goto arm_10;
                     uint64_t r5_0_0_copyload = load64(r43);
-                    size_t r5_3_0_0_copyload = (size_t)load64(r5_3_0_r43_sroa_idx);
+                    size_t r5_3_0_0_copyload = load_size(r5_3_0_r43_sroa_idx);
                     uint64_t r5_3_3_0_copyload = load64(r5_3_3_0_r5_3_0_r43_sroa_idx_sroa_idx);
                     r8_17_0_0 = r5_3_0_0_copyload;
                     r8_17_5_0 = r5_3_3_0_copyload;
@@ -1285,7 +1277,7 @@ static void dfu_formats_memory_place_take_address(unsigned char *a0, unsigned ch
     }
     else {
         r3_0_0_copyload = load64(r5 + 8);
-        size_t r3_3_0_copyload = (size_t)load64(r5 + 16);
+        size_t r3_3_0_copyload = load_size(r5 + 16);
         r3_4_0_copyload = load64(r5 + 24);
         r28 = (unsigned char *)(uintptr_t)r3_3_0_copyload;
         if (r3_4_0_copyload == 0) {
@@ -1313,7 +1305,7 @@ static void dfu_formats_memory_place_take_address(unsigned char *a0, unsigned ch
     *a0 = r7_4_0;
     a0[1] = r7_4_0;
     store64(a0 + 8, r7_72_0);
-    store64(a0 + 16, r7_9_0_0);
+    store_size(a0 + 16, r7_9_0_0);
     store64(a0 + 24, r7_9_3_0);
     return;
 }
@@ -1347,9 +1339,9 @@ static void dfu_formats_memory_digits_take_number(unsigned char *a0, size_t a1, 
         r4_0_2 = r4_0_2 + 1;
         r3_0 = r29 + (r3_0 * (uint64_t)a1);
     }
-    store64(a0, 1);
+    store_size(a0, 1);
     store64(a0 + 8, r3_0);
-    store64(a0 + 16, (size_t)(uintptr_t)(a3 + (size_t)r3_0_lcssa));
+    store_size(a0 + 16, (size_t)(uintptr_t)(a3 + (size_t)r3_0_lcssa));
     store64(a0 + 24, a4 - r3_0_lcssa);
     return;
 }
@@ -1457,10 +1449,8 @@ static uint8_t core_slice_reads_slice_T_starts_with_i8_core_cmp_numbers_U8Partia
     uint8_t common_ret_op_2, common_ret_op;
     if (a1 < a3) common_ret_op = 0;
     else {
-        store64(r9, (size_t)(uintptr_t)a2);
-        store64(r9 + 8, a3);
-        store64(r9 + 16, (size_t)(uintptr_t)a0);
-        store64(r9 + 24, a3);
+        store_size(r9, (size_t)(uintptr_t)a2);
+        store_size(r9 + 16, (size_t)(uintptr_t)a0);
         if (a3 >= 4) {
             uint8_t r41 = core_slice_scan_any_in_ends(r9, a3, 4);
             common_ret_op_2 = r41;
@@ -1501,8 +1491,8 @@ static uint8_t core_slice_scan_any_in_run(unsigned char *a0, size_t a1, size_t a
     unsigned char *r14, *r19;
     size_t r2_0;
     uint8_t r1_0_off0;
-    size_t r3_0_0_copyload = (size_t)load64(a0);
-    size_t r4_0_0_copyload = (size_t)load64(a0 + 16);
+    size_t r3_0_0_copyload = load_size(a0);
+    size_t r4_0_0_copyload = load_size(a0 + 16);
     r14 = (unsigned char *)(uintptr_t)r3_0_0_copyload;
     r19 = (unsigned char *)(uintptr_t)r4_0_0_copyload;
     r2_0 = 0;
@@ -1687,7 +1677,7 @@ arm_11:
         r6_0 = r6_0_2 + 1;
     }
 arm_12:
-    store64(a0, 1);
+    store_size(a0, 1);
     store64(a0 + 8, r4_0);
     store64(a0 + 16, r5_0);
     return;
@@ -1775,10 +1765,10 @@ static void dfu_host_c_holding_session_of(unsigned char *a0, unsigned char *a1, 
     _Alignas(4) unsigned char r36_2[3];
     size_t wide_17346, r3_12_0_0, r3_12_6_0, r3_7_0_0;
     uint8_t v0;
+    uint32_t r36, r40, r6_158_0, r6_106_0, r6_106_0_2, r6_158_0_2, r79;
     uint64_t r38, r6_132_0, r6_132_0_2;
-    uint32_t r40, r6_158_0, r6_106_0, r6_106_0_2, r6_158_0_2, r79;
     uint16_t r6_80_0, r6_80_0_2, r65, r77, r81;
-    uint8_t r6_54_0, r6_28_0_2, r6_0_0_0, r6_28_0, r6_28_0_3, r6_54_0_2, r70, r75;
+    uint8_t r6_54_0, r6_28_0, r6_0_0_0, r6_28_0_2, r6_54_0_2, r70, r75;
     uint32_t r13 = load32(a1);
     if (r13 != 300) {
         memset(a0, 0, 72);
@@ -1813,133 +1803,62 @@ static void dfu_host_c_holding_session_of(unsigned char *a0, unsigned char *a1, 
         break;
     default: goto arm_5;
     }
-    uint32_t r36 = load32(a1 + 24);
+    r36 = load32(a1 + 24);
     r38 = load64(a1 + 8);
     r40 = load32(a1 + 28);
     switch (r36) {
     case 0:
-        r6_158_0 = r36;
-        r6_132_0 = 0;
-        r6_106_0 = r36;
-        r6_28_0 = 0;
-        goto dfu_host_c_phases_phase_at_exit_thread;
     case 1:
-        r6_158_0 = 0;
-        r6_132_0 = 0;
-        r6_106_0 = 0;
-        r6_28_0 = 1;
-        goto dfu_host_c_phases_phase_at_exit_thread;
     case 2:
-        r6_158_0 = 0;
-        r6_132_0 = 0;
-        r6_106_0 = 0;
-        r6_28_0 = 2;
-        goto dfu_host_c_phases_phase_at_exit_thread;
     case 3:
-        r6_158_0 = 0;
-        r6_132_0 = 0;
-        r6_106_0 = 0;
-        r6_28_0 = 3;
-        goto dfu_host_c_phases_phase_at_exit_thread;
     case 4:
-        r6_158_0 = 0;
-        r6_132_0 = 0;
-        r6_106_0 = 0;
-        r6_28_0 = 4;
-        goto dfu_host_c_phases_phase_at_exit_thread;
     case 5:
-        r6_158_0 = 0;
-        r6_132_0 = 0;
-        r6_106_0 = 0;
-        r6_28_0 = 5;
-        goto dfu_host_c_phases_phase_at_exit_thread;
-    case 6:
-        r6_158_0 = 0;
-        r6_132_0 = 0;
-        r6_106_0 = r40;
-        r6_28_0 = 6;
-        goto dfu_host_c_phases_phase_at_exit_thread;
     case 7:
-        r6_158_0 = 0;
-        r6_132_0 = 0;
-        r6_106_0 = 0;
-        r6_28_0 = 7;
-        goto dfu_host_c_phases_phase_at_exit_thread;
-    case 8:
-        r6_158_0 = 0;
-        r6_132_0 = r38;
-        r6_106_0 = 0;
-        r6_28_0 = 8;
-        goto dfu_host_c_phases_phase_at_exit_thread;
-    case 9:
-        r6_158_0 = 0;
-        r6_132_0 = r38;
-        r6_106_0 = 0;
-        r6_28_0 = 9;
-        goto dfu_host_c_phases_phase_at_exit_thread;
-    case 10:
-        r6_158_0 = 0;
-        r6_132_0 = r38;
-        r6_106_0 = 0;
-        r6_28_0 = 10;
-        goto dfu_host_c_phases_phase_at_exit_thread;
-    case 11:
-        r6_158_0 = r40;
-        r6_132_0 = r38;
-        r6_106_0 = 0;
-        r6_28_0 = 11;
-        goto dfu_host_c_phases_phase_at_exit_thread;
     case 12:
-        r6_158_0 = 0;
-        r6_132_0 = 0;
-        r6_106_0 = 0;
-        r6_28_0 = 12;
-        goto dfu_host_c_phases_phase_at_exit_thread;
     case 13:
-        r6_158_0 = 0;
-        r6_132_0 = 0;
-        r6_106_0 = 0;
-        r6_28_0 = 13;
-        goto dfu_host_c_phases_phase_at_exit_thread;
     case 14:
+    case 17:
+    case 21:
+    case 22:
+    case 24:
         r6_158_0 = 0;
         r6_132_0 = 0;
         r6_106_0 = 0;
-        r6_28_0 = 14;
-        goto dfu_host_c_phases_phase_at_exit_thread;
+        break;
+    case 6:
     case 15:
-        r6_158_0 = 0;
-        r6_132_0 = 0;
-        r6_106_0 = r40;
-        r6_28_0 = 15;
-        goto dfu_host_c_phases_phase_at_exit_thread;
     case 16:
         r6_158_0 = 0;
         r6_132_0 = 0;
         r6_106_0 = r40;
-        r6_28_0 = 16;
-        goto dfu_host_c_phases_phase_at_exit_thread;
-    case 17:
+        break;
+    case 8:
+    case 9:
+    case 10:
         r6_158_0 = 0;
-        r6_132_0 = 0;
+        r6_132_0 = r38;
         r6_106_0 = 0;
-        r6_28_0 = 17;
-        goto dfu_host_c_phases_phase_at_exit_thread;
+        break;
+    case 11:
+        r6_158_0 = r40;
+        r6_132_0 = r38;
+        r6_106_0 = 0;
+        break;
     case 18: {
         uint8_t r4 = r38 < 0x10000U;
         r6_80_0 = (uint16_t)(size_t)umin64(r38, 0x10000U);
         r6_54_0 = 0;
-        r6_28_0_2 = (uint8_t)(r4 ? 18 : 0);
+        r6_28_0 = (uint8_t)(r4 ? 18 : 0);
         r6_0_0_0 = r4;
-        break;
+        goto dfu_host_c_phases_phase_at_exit;
     }
     case 19: {
         uint8_t r4_2 = r38 < 0x10000U;
         r6_80_0 = (uint16_t)(size_t)umin64(r38, 0x10000U);
         r6_54_0 = 0;
-        r6_28_0_2 = (uint8_t)(r4_2 ? 19 : 0);
+        r6_28_0 = (uint8_t)(r4_2 ? 19 : 0);
         r6_0_0_0 = r4_2;
-        break;
+        goto dfu_host_c_phases_phase_at_exit;
     }
     case 20: {
         dfu_host_c_reports_report_at(r31, r38, r40);
@@ -1949,22 +1868,10 @@ static void dfu_host_c_holding_session_of(unsigned char *a0, unsigned char *a1, 
         uint8_t r4_3_1_copyload = r31[2];
         r6_80_0 = (uint8_t)(v1 ? r4_3_1_copyload : 0);
         r6_54_0 = (uint8_t)(v1 ? r4_0_0_copyload : 0);
-        r6_28_0_2 = (uint8_t)(v1 ? 20 : 0);
+        r6_28_0 = (uint8_t)(v1 ? 20 : 0);
         r6_0_0_0 = r320;
-        break;
+        goto dfu_host_c_phases_phase_at_exit;
     }
-    case 21:
-        r6_158_0 = 0;
-        r6_132_0 = 0;
-        r6_106_0 = 0;
-        r6_28_0 = 21;
-        goto dfu_host_c_phases_phase_at_exit_thread;
-    case 22:
-        r6_158_0 = 0;
-        r6_132_0 = 0;
-        r6_106_0 = 0;
-        r6_28_0 = 22;
-        goto dfu_host_c_phases_phase_at_exit_thread;
     case 23: {
         dfu_host_c_reports_report_at(r36_2, r38, r40);
         uint8_t r374 = *r36_2;
@@ -1973,33 +1880,27 @@ static void dfu_host_c_holding_session_of(unsigned char *a0, unsigned char *a1, 
         uint8_t r5_3_1_copyload = r36_2[2];
         r6_80_0 = (uint8_t)(v2 ? r5_3_1_copyload : 0);
         r6_54_0 = (uint8_t)(v2 ? r5_0_0_copyload : 0);
-        r6_28_0_2 = (uint8_t)(v2 ? 23 : 0);
+        r6_28_0 = (uint8_t)(v2 ? 23 : 0);
         r6_0_0_0 = r374;
-        break;
+        goto dfu_host_c_phases_phase_at_exit;
     }
-    case 24:
-        r6_158_0 = 0;
-        r6_132_0 = 0;
-        r6_106_0 = 0;
-        r6_28_0 = 24;
-        goto dfu_host_c_phases_phase_at_exit_thread;
     default: goto arm_5;
     }
-    if (r6_0_0_0 != 1) goto arm_5;
-    r6_28_0_3 = r6_28_0_2;
-    r6_54_0_2 = r6_54_0;
-    r6_80_0_2 = r6_80_0;
-    r6_106_0_2 = 0;
-    r6_132_0_2 = 0;
-    r6_158_0_2 = 0;
-    goto arm_4;
-dfu_host_c_phases_phase_at_exit_thread:
-    r6_28_0_3 = r6_28_0;
+    r6_28_0_2 = (uint8_t)r36;
     r6_54_0_2 = 0;
     r6_80_0_2 = 0;
     r6_106_0_2 = r6_106_0;
     r6_132_0_2 = r6_132_0;
     r6_158_0_2 = r6_158_0;
+    goto arm_4;
+dfu_host_c_phases_phase_at_exit:
+    if (r6_0_0_0 != 1) goto arm_5;
+    r6_28_0_2 = r6_28_0;
+    r6_54_0_2 = r6_54_0;
+    r6_80_0_2 = r6_80_0;
+    r6_106_0_2 = 0;
+    r6_132_0_2 = 0;
+    r6_158_0_2 = 0;
 arm_4:
     r65 = load16(a1 + 38);
     uint8_t r67 = a1[42];
@@ -2010,7 +1911,7 @@ arm_4:
     r79 = load32(a1 + 32);
     r81 = load16(a1 + 36);
     if ((v0 | (r3_12_6_0 != 0)) & (r65 != 0)) {
-        switch (r6_28_0_3) {
+        switch (r6_28_0_2) {
         case 8: {
             size_t r10 = (size_t)r65;
             struct i64_i1 mul = product64(r10, r6_132_0_2);
@@ -2066,16 +1967,15 @@ arm_4:
         case 24: break;
         default: never();
         }
-        store64(a0, 1);
-        store64(a0 + 8, r3_7_0_0);
-        store64(a0 + 16, r3_12_0_0);
-        store64(a0 + 24, r3_12_6_0);
+        store_size(a0, 1);
+        store_size(a0 + 8, r3_7_0_0);
+        store_size(a0 + 16, r3_12_0_0);
+        store_size(a0 + 24, r3_12_6_0);
         store16(a0 + 32, r65);
         a0[34] = r70;
         a0[35] = r75;
         store16(a0 + 36, r77);
-        store16(a0 + 38, 0);
-        a0[40] = r6_28_0_3;
+        a0[40] = r6_28_0_2;
         a0[41] = r6_54_0_2;
         store16(a0 + 42, r6_80_0_2);
         store32(a0 + 44, r6_106_0_2);
@@ -2097,162 +1997,87 @@ arm_5:
 
 /* dfu_host_c::holding::record_of: crates/dfu_host_c/src/holding.rt */
 static void dfu_host_c_holding_record_of(unsigned char *a0, unsigned char *a1, uint64_t a2) {
-    uint8_t r9, r16, r20, r6_3_1_copyload, r1_6_0_0_extract_trunc;
+    uint8_t r9, r16, r20, r6_0_0_copyload, r6_3_1_copyload, r1_6_0_0_extract_trunc;
     uint16_t r14, r24, v0, r41;
-    uint32_t r6_7_4_copyload, r38, r24_0_0, r24_77_0;
     uint64_t r6_9_8_copyload, r24_52_0;
+    uint32_t r38, r24_77_0;
     r9 = *a1;
     r14 = load16(a1 + 24);
     r16 = a1[26];
     r20 = a1[27];
     r24 = load16(a1 + 28);
-    uint8_t r6_0_0_copyload = a1[32];
+    r6_0_0_copyload = a1[32];
     r6_3_1_copyload = a1[33];
     v0 = load16(a1 + 34);
-    r6_7_4_copyload = load32(a1 + 36);
     r6_9_8_copyload = load64(a1 + 40);
     r38 = load32(a1 + 56);
     r41 = load16(a1 + 60);
     r1_6_0_0_extract_trunc = (uint8_t)v0;
     switch (r6_0_0_copyload) {
     case 0:
-        r24_0_0 = 0;
-        r24_52_0 = 0;
-        r24_77_0 = 0;
-        break;
     case 1:
-        r24_0_0 = 1;
-        r24_52_0 = 0;
-        r24_77_0 = 0;
-        break;
     case 2:
-        r24_0_0 = 2;
-        r24_52_0 = 0;
-        r24_77_0 = 0;
-        break;
     case 3:
-        r24_0_0 = 3;
-        r24_52_0 = 0;
-        r24_77_0 = 0;
-        break;
     case 4:
-        r24_0_0 = 4;
-        r24_52_0 = 0;
-        r24_77_0 = 0;
-        break;
     case 5:
-        r24_0_0 = 5;
+    case 7:
+    case 12:
+    case 13:
+    case 14:
+    case 17:
+    case 21:
+    case 22:
+    case 24:
         r24_52_0 = 0;
         r24_77_0 = 0;
         break;
     case 6:
-        r24_0_0 = 6;
+    case 15:
+    case 16: {
+        uint32_t r6_7_4_copyload = load32(a1 + 36);
         r24_52_0 = 0;
         r24_77_0 = r6_7_4_copyload;
         break;
-    case 7:
-        r24_0_0 = 7;
-        r24_52_0 = 0;
-        r24_77_0 = 0;
-        break;
+    }
     case 8:
-        r24_0_0 = 8;
-        r24_52_0 = r6_9_8_copyload;
-        r24_77_0 = 0;
-        break;
     case 9:
-        r24_0_0 = 9;
-        r24_52_0 = r6_9_8_copyload;
-        r24_77_0 = 0;
-        break;
     case 10:
-        r24_0_0 = 10;
         r24_52_0 = r6_9_8_copyload;
         r24_77_0 = 0;
         break;
     case 11: {
         uint32_t r6_11_16_copyload = load32(a1 + 48);
-        r24_0_0 = 11;
         r24_52_0 = r6_9_8_copyload;
         r24_77_0 = r6_11_16_copyload;
         break;
     }
-    case 12:
-        r24_0_0 = 12;
-        r24_52_0 = 0;
-        r24_77_0 = 0;
-        break;
-    case 13:
-        r24_0_0 = 13;
-        r24_52_0 = 0;
-        r24_77_0 = 0;
-        break;
-    case 14:
-        r24_0_0 = 14;
-        r24_52_0 = 0;
-        r24_77_0 = 0;
-        break;
-    case 15:
-        r24_0_0 = 15;
-        r24_52_0 = 0;
-        r24_77_0 = r6_7_4_copyload;
-        break;
-    case 16:
-        r24_0_0 = 16;
-        r24_52_0 = 0;
-        r24_77_0 = r6_7_4_copyload;
-        break;
-    case 17:
-        r24_0_0 = 17;
-        r24_52_0 = 0;
-        r24_77_0 = 0;
-        break;
     case 18:
-        r24_0_0 = 18;
         r24_52_0 = (size_t)v0;
         r24_77_0 = 0;
         break;
     case 19:
-        r24_0_0 = 19;
         r24_52_0 = (size_t)v0;
         r24_77_0 = 0;
         break;
     case 20: {
         struct i32_i32 r10 = dfu_host_c_reports_report_numbers(r6_3_1_copyload, r1_6_0_0_extract_trunc);
-        r24_0_0 = 20;
         r24_52_0 = (size_t)r10.a;
         r24_77_0 = r10.b;
         break;
     }
-    case 21:
-        r24_0_0 = 21;
-        r24_52_0 = 0;
-        r24_77_0 = 0;
-        break;
-    case 22:
-        r24_0_0 = 22;
-        r24_52_0 = 0;
-        r24_77_0 = 0;
-        break;
     case 23: {
         struct i32_i32 r10_2 = dfu_host_c_reports_report_numbers(r6_3_1_copyload, r1_6_0_0_extract_trunc);
-        r24_0_0 = 23;
         r24_52_0 = (size_t)r10_2.a;
         r24_77_0 = r10_2.b;
         break;
     }
-    case 24:
-        r24_0_0 = 24;
-        r24_52_0 = 0;
-        r24_77_0 = 0;
-        break;
     default: never();
     }
     store32(a0, 300);
     store32(a0 + 4, (uint32_t)r9 + 1);
     store64(a0 + 8, r24_52_0);
     store64(a0 + 16, a2);
-    store32(a0 + 24, r24_0_0);
+    store32(a0 + 24, (uint32_t)r6_0_0_copyload);
     store32(a0 + 28, r24_77_0);
     store32(a0 + 32, r38);
     store16(a0 + 36, r41);
@@ -2324,7 +2149,7 @@ static struct i32_i32 dfu_host_c_reports_report_numbers(uint8_t a0, uint8_t a1) 
 /* dfu_host::task::Task::block: crates/dfu_host/src/task.rt */
 static struct ptr_i64 dfu_host_task_Task_block(unsigned char *a0, uint64_t a1) {
     uint16_t r13;
-    uint64_t r2_4_0;
+    size_t r2_4_0;
     unsigned char *r2_0_0;
     r13 = load16(a0 + 24);
     uint8_t r7 = *a0;
@@ -2333,29 +2158,29 @@ static struct ptr_i64 dfu_host_task_Task_block(unsigned char *a0, uint64_t a1) {
         r2_0_0 = PLACE(static_20);
     }
     else {
-        uint64_t r16 = load64(a0 + 16);
-        size_t r18_wide = (size_t)load64(a0 + 8);
+        size_t r16 = load_size(a0 + 16);
+        size_t r18_wide = load_size(a0 + 8);
         r2_4_0 = r16;
         r2_0_0 = (unsigned char *)(uintptr_t)r18_wide;
     }
     size_t r15 = (size_t)r13;
     struct i64_i1 mul = product64(r15, a1);
-    uint64_t a1_a0 = (uint64_t)((r13 == 0) ? 0 : (uint64_t)(mul.b ? r2_4_0 : umin64(r2_4_0, a1 * (uint64_t)r15)));
+    size_t a1_a0 = (size_t)((r13 == 0) ? 0 : (size_t)(mul.b ? r2_4_0 : (size_t)umin64(r2_4_0, a1 * (uint64_t)r15)));
     struct ptr_i64 r47_half = (struct ptr_i64){ 0, 0 };
-    r47_half.a = r2_0_0 + (size_t)a1_a0;
+    r47_half.a = r2_0_0 + a1_a0;
     struct ptr_i64 r47 = r47_half;
-    r47.b = (size_t)umin64(r2_4_0 - a1_a0, r15);
+    r47.b = umin_size(r2_4_0 - a1_a0, r15);
     return r47;
 }
 
 /* dfu_host::task::download: crates/dfu_host/src/task.rt */
-static void dfu_host_task_download(unsigned char *a0, size_t a1, unsigned char *a2, size_t a3) {
+static void dfu_host_task_download(unsigned char *a0, size_t a1, size_t a3) {
     _Alignas(8) unsigned char r0[32];
     _Alignas(4) unsigned char r6[6];
     store16(r6, 1);
     store16(r6 + 2, (uint16_t)a1);
     store16(r6 + 4, (uint16_t)a3);
-    dfu_host_task_send(r0, r6, a2, a3);
+    dfu_host_task_send(r0, r6, a3);
     uint8_t v0 = *r0;
     *a0 = v0;
     uint64_t v1 = load64u(r0 + 1);
@@ -2365,7 +2190,7 @@ static void dfu_host_task_download(unsigned char *a0, size_t a1, unsigned char *
 }
 
 /* dfu_host::task::send: crates/dfu_host/src/task.rt */
-static void dfu_host_task_send(unsigned char *a0, unsigned char *a1, unsigned char *a2, size_t a3) {
+static void dfu_host_task_send(unsigned char *a0, unsigned char *a1, size_t a3) {
     _Alignas(4) unsigned char r12[10];
     _Alignas(8) unsigned char r11[8];
     _Alignas(8) unsigned char r15[8];
@@ -2385,8 +2210,7 @@ static void dfu_host_task_send(unsigned char *a0, unsigned char *a1, unsigned ch
     uint64_t r14_3_1_copyload = load64(r15);
     *a0 = 0;
     store64u(a0 + 1, r14_3_1_copyload);
-    store64(a0 + 16, (size_t)(uintptr_t)a2);
-    store64(a0 + 24, a3);
+    store_size(a0 + 24, a3);
     return;
 }
 
@@ -2572,7 +2396,6 @@ static uint32_t dfu_host_c_beginning_install(unsigned char *a0, unsigned char *a
     unsigned char *const r8_3 = r10;
     unsigned char *const r8_2 = r10;
     _Alignas(2) unsigned char r5_26[26];
-    _Alignas(8) unsigned char r5_14[16];
     _Alignas(4) unsigned char r14[12];
     _Alignas(2) unsigned char r5[6];
     unsigned char *r14_0_3_0_r8_sroa_idx;
@@ -2597,11 +2420,9 @@ static uint32_t dfu_host_c_beginning_install(unsigned char *a0, unsigned char *a
         }
         else {
             uint64_t v2 = load64a2(r14 + 2);
-            uint16_t r17_5_32_copyload = load16(r14 + 10);
             memcpy(r8, r10 + 8, 32);
             r14_0_3_0_r8_sroa_idx = r8 + 32;
             store64(r14_0_3_0_r8_sroa_idx, v2);
-            store64(r8 + 40, (size_t)r17_5_32_copyload);
             v4 = (uint16_t)(size_t)(v2 >> 48);
             v6 = (uint8_t)(size_t)(v2 >> 16);
             v8 = (uint8_t)(size_t)(v2 >> 24);
@@ -2609,7 +2430,20 @@ static uint32_t dfu_host_c_beginning_install(unsigned char *a0, unsigned char *a
             if (a8) {
                 dfu_host_refusing_goal_to_install(r8_2, r8, r14_0_3_0_r8_sroa_idx, r5, 1);
                 uint8_t r1_0_0_copyload = *r8_2;
-                if (r1_0_0_copyload != 0) {
+                if (r1_0_0_copyload == 0) {
+                    uint8_t r6 = r8_2[8];
+                    memset(r5_26, 0, 26);
+                    r5_0_1 = 0;
+                    r5_6_1 = 0;
+                    sink40 = (size_t)r6;
+                    sink39 = v4;
+                    sink38 = v6;
+                    sink37 = v8;
+                    sink36 = v10;
+                    sink35 = umax32(a6, 1);
+                    sink = a7;
+                }
+                else {
                     uint8_t r1_3_1_copyload = r8_2[1];
                     memset(r5_26, 0, 26);
                     r5_0_1 = 1;
@@ -2621,20 +2455,6 @@ static uint32_t dfu_host_c_beginning_install(unsigned char *a0, unsigned char *a
                     sink36 = 0;
                     sink35 = 0;
                     sink = 0;
-                }
-                else {
-                    uint8_t r6 = r8_2[8];
-                    memcpy(r5_14, r8_2 + 16, 16);
-                    memset(r5_26, 0, 26);
-                    r5_0_1 = 0;
-                    r5_6_1 = 0;
-                    sink40 = (size_t)r6;
-                    sink39 = v4;
-                    sink38 = v6;
-                    sink37 = v8;
-                    sink36 = v10;
-                    sink35 = umax32(a6, 1);
-                    sink = a7;
                 }
                 r5_0_0 = r5_0_1;
                 r5_6_0 = r5_6_1;
@@ -2649,7 +2469,20 @@ static uint32_t dfu_host_c_beginning_install(unsigned char *a0, unsigned char *a
             else {
                 dfu_host_refusing_goal_to_install(r8_3, r8, r14_0_3_0_r8_sroa_idx, r5, 0);
                 uint8_t r1_0_0_copyload_2 = *r8_3;
-                if (r1_0_0_copyload_2 != 0) {
+                if (r1_0_0_copyload_2 == 0) {
+                    uint8_t r6_2 = r8_3[8];
+                    memset(r5_26, 0, 26);
+                    r5_0_2 = 0;
+                    r5_6_2 = 0;
+                    sink40_2 = (size_t)r6_2;
+                    sink39_2 = v4;
+                    sink38_2 = v6;
+                    sink37_2 = v8;
+                    sink36_2 = v10;
+                    sink35_2 = umax32(a6, 1);
+                    sink_2 = a7;
+                }
+                else {
                     uint8_t r1_3_1_copyload_2 = r8_3[1];
                     memset(r5_26, 0, 26);
                     r5_0_2 = 1;
@@ -2661,20 +2494,6 @@ static uint32_t dfu_host_c_beginning_install(unsigned char *a0, unsigned char *a
                     sink36_2 = 0;
                     sink35_2 = 0;
                     sink_2 = 0;
-                }
-                else {
-                    uint8_t r6_2 = r8_3[8];
-                    memcpy(r5_14, r8_3 + 16, 16);
-                    memset(r5_26, 0, 26);
-                    r5_0_2 = 0;
-                    r5_6_2 = 0;
-                    sink40_2 = (size_t)r6_2;
-                    sink39_2 = v4;
-                    sink38_2 = v6;
-                    sink37_2 = v8;
-                    sink36_2 = v10;
-                    sink35_2 = umax32(a6, 1);
-                    sink_2 = a7;
                 }
                 r5_0_0 = r5_0_2;
                 r5_6_0 = r5_6_2;
@@ -2688,8 +2507,7 @@ static uint32_t dfu_host_c_beginning_install(unsigned char *a0, unsigned char *a
             }
             if (r5_0_0 != 0) common_ret_op = (uint32_t)0xffffffebU - (uint32_t)r5_6_0;
             else {
-                store64(r11, r5_1136_0);
-                memcpy(r11 + 8, r5_14, 16);
+                store_size(r11, r5_1136_0);
                 store16(r11 + 24, r5_18_0);
                 r11[26] = r5_20_0;
                 r11[27] = r5_22_0;
@@ -2697,7 +2515,6 @@ static uint32_t dfu_host_c_beginning_install(unsigned char *a0, unsigned char *a
                 memcpy(r11 + 30, r5_26, 26);
                 store32(r11 + 56, r5_30_0);
                 store16(r11 + 60, r5_32_0);
-                store16(r11 + 62, 0);
                 dfu_host_c_beginning_start(a0, r11);
                 common_ret_op = 0;
             }
@@ -2709,12 +2526,10 @@ static uint32_t dfu_host_c_beginning_install(unsigned char *a0, unsigned char *a
 /* dfu_host::refusing::goal_to_install: crates/dfu_host/src/refusing.rt */
 static void dfu_host_refusing_goal_to_install(unsigned char *a0, unsigned char *a1, unsigned char *a2, unsigned char *a3, uint8_t a4) {
     uint16_t r1_2_0_copyload;
-    uint64_t r0_0_0_copyload, r0_3_0_copyload;
     uint8_t r3_4_0, r8_4_0;
     unsigned char *r76, *r78;
     r1_2_0_copyload = load16(a3 + 2);
-    r0_0_0_copyload = load64(a1);
-    r0_3_0_copyload = load64(a1 + 8);
+    uint64_t r0_3_0_copyload = load64(a1 + 8);
     if (r0_3_0_copyload == 0) r8_4_0 = 0;
     else {
         uint16_t r1_3_0_copyload = load16(a3 + 4);
@@ -2738,9 +2553,7 @@ static void dfu_host_refusing_goal_to_install(unsigned char *a0, unsigned char *
                         }
                         *a0 = 0;
                         *r76 = 0;
-                        store64(r78, 0);
-                        store64(a0 + 16, r0_0_0_copyload);
-                        store64(a0 + 24, r0_3_0_copyload);
+                        store_size(r78, 0);
                         return;
                     }
                     uint8_t r10 = a2[1];
@@ -2750,9 +2563,7 @@ static void dfu_host_refusing_goal_to_install(unsigned char *a0, unsigned char *
                         if (r21 != 0) {
                             *a0 = 0;
                             a0[1] = 0;
-                            store64(a0 + 8, 2);
-                            store64(a0 + 16, r0_0_0_copyload);
-                            store64(a0 + 24, r0_3_0_copyload);
+                            store_size(a0 + 8, 2);
                             return;
                         }
                         r3_4_0 = 4;
@@ -2798,18 +2609,18 @@ static void dfu_host_session_Session_on_result(unsigned char *a0, unsigned char 
     _Alignas(4) unsigned char r36_4[2];
     _Alignas(4) unsigned char r37_4[2];
     _Alignas(4) unsigned char r38_4[2];
-    uint64_t r0_3_0_0_copyload, r0_3_3_0_copyload, r18_14_0, r1_6_0_copyload, r1_8_0_copyload, r31_10_0, r39_17_0_in_speculated, r6_10_0;
+    size_t r0_3_0_0_copyload, r0_3_3_0_copyload, r15, r19;
     unsigned char *r12, *r21, *r14, *r39_9_0_in, *r39_9_0_in_2, *r39_9_0_in_3;
-    uint16_t v0, r1_4_0_copyload, r1_9_0_copyload, v8, r31_6_0_0, r26_2, r40, r8_6_0;
-    uint8_t common_ret_op, v10, or_cond;
-    uint8_t r18_0_0, r18_10_0, r10, r13_2, r1_3_0_copyload, v12, r39_0_0_in_speculated, r6_0_0, r31_4_0, r31_0_0, r39_0_0_in_speculated_2, r6_0_0_2;
+    uint16_t v0, r1_4_0_copyload, r1_9_0_copyload, r31_6_0_0, r26_2, r40, r8_6_0;
+    uint8_t common_ret_op, v9, or_cond;
+    uint8_t r18_0_0, r18_10_0, r10, r13_2, r1_3_0_copyload, v11, r39_0_0_in_speculated, r6_0_0, r31_4_0, r31_0_0, r39_0_0_in_speculated_2, r6_0_0_2;
     uint8_t r39_0_0_in_speculated_3, r6_0_0_3, r7_0_0, r7_5_0, r7_8_0_0, r7_8_4_0_0, r6_4_0, r6_7_0_0, r6_7_4_0_0, r6_0_0_4, r8_0_0, r8_4_0;
     uint8_t r8_7_0_0, r8_0_0_2, r8_4_0_2;
     uint32_t r18_121_0, r1_5_0_copyload, r1_7_0_copyload, r31_8_0, r31_12_0;
-    size_t r15, r19;
+    uint64_t r18_14_0, r1_6_0_copyload, r1_8_0_copyload, r31_10_0, r39_17_0_in_speculated, r6_10_0;
     uint8_t r1 = *a1;
-    r0_3_0_0_copyload = load64(a1 + 8);
-    r0_3_3_0_copyload = load64(a1 + 16);
+    r0_3_0_0_copyload = load_size(a1 + 8);
+    r0_3_3_0_copyload = load_size(a1 + 16);
     r12 = a0 + 32;
     v0 = load16(a0 + 34);
     switch (r1) {
@@ -2860,7 +2671,7 @@ static void dfu_host_session_Session_on_result(unsigned char *a0, unsigned char 
             if (a2 & (r0_3_3_0_copyload != 0)) {
                 uint16_t r7 = load16(a0 + 24);
                 size_t r9_2 = (size_t)r7;
-                if ((r0_3_3_0_copyload < (uint64_t)r9_2) | ((v0 != 0xfffeU) & (r0_3_3_0_copyload == (uint64_t)r9_2))) {
+                if ((r0_3_3_0_copyload < r9_2) | ((v0 != 0xfffeU) & (r0_3_3_0_copyload == r9_2))) {
                     r18_0_0 = 5;
                     r18_10_0 = 0;
                     r18_121_0 = 0;
@@ -2876,21 +2687,19 @@ static void dfu_host_session_Session_on_result(unsigned char *a0, unsigned char 
         case 19: {
             struct ptr_i64 r13 = dfu_host_task_Task_block(a0, (size_t)v0);
             r14 = r13.a;
-            if (r0_3_3_0_copyload != (uint64_t)(size_t)r13.b) common_ret_op = 0;
+            if (r0_3_3_0_copyload != (size_t)r13.b) common_ret_op = 0;
             else {
-                store64(r5, r0_3_0_0_copyload);
-                store64(r5 + 8, r0_3_3_0_copyload);
-                store64(r5 + 16, (size_t)(uintptr_t)r14);
-                store64(r5 + 24, r0_3_3_0_copyload);
+                store_size(r5, r0_3_0_0_copyload);
+                store_size(r5 + 16, (size_t)(uintptr_t)r14);
                 if (r0_3_3_0_copyload < 4) {
-                    uint8_t r60 = core_slice_scan_any_by_one(r5, (size_t)r0_3_3_0_copyload);
+                    uint8_t r60 = core_slice_scan_any_by_one(r5, r0_3_3_0_copyload);
                     common_ret_op = !r60;
                 }
                 else {
                     uint8_t r70 = core_slice_scan_any_in_run(r5, 0, 4);
                     if (r70) common_ret_op = 0;
                     else {
-                        uint8_t r83 = core_cmp_slices_groups_equal_i8_core_cmp_numbers_U8PartialEq(r21, (size_t)r0_3_3_0_copyload, r14, (size_t)r0_3_3_0_copyload);
+                        uint8_t r83 = core_cmp_slices_groups_equal_i8_core_cmp_numbers_U8PartialEq(r21, r0_3_3_0_copyload, r14);
                         common_ret_op = r83;
                     }
                 }
@@ -2974,7 +2783,7 @@ static void dfu_host_session_Session_on_result(unsigned char *a0, unsigned char 
             break;
         case 11: {
             memcpy(r1_3, r12, 32);
-            store64(r2 + 16, 0);
+            store_size(r2 + 16, 0);
             uint8_t v5 = *r1_3;
             switch (v5) {
             case 14:
@@ -3017,7 +2826,7 @@ static void dfu_host_session_Session_on_result(unsigned char *a0, unsigned char 
             *r2 = (uint8_t)(v6 ? 23 : 0);
             r2[1] = v6;
             memset(r2 + 2, 0, 18);
-            if (r13_2 == 2) store64(a0, 3);
+            if (r13_2 == 2) store_size(a0, 3);
             uint16_t r36 = load16(r1_3 + 28);
             dfu_host_progress_Progress_spent(r0, r1_3, r2, r36);
             memcpy(r7_2, r0, 32);
@@ -3045,20 +2854,18 @@ dfu_host_progress_Progress_left_exit:
             r1_7_0_copyload = load32(r1_2 + 16);
             r1_8_0_copyload = load64a4(r1_2 + 20);
             r1_9_0_copyload = load16(r1_2 + 28);
-            v8 = load16(r1_2 + 30);
-            v10 = r18_0_0 == 9;
-            or_cond = v10 & (r10 == 20);
-            unsigned char *v11 = r1_4 + 16;
-            store64(v11, 0);
+            v9 = r18_0_0 == 9;
+            or_cond = v9 & (r10 == 20);
+            unsigned char *v10 = r1_4 + 16;
+            store_size(v10, 0);
             *r1_4 = r10;
             r1_4[1] = r1_3_0_copyload;
             store16(r1_4 + 2, r1_4_0_copyload);
             store32(r1_4 + 4, r1_5_0_copyload);
             store64(r1_4 + 8, r1_6_0_copyload);
-            store32(v11, r1_7_0_copyload);
+            store32(v10, r1_7_0_copyload);
             store64(r12_2, 0);
             *r12_2 = r18_0_0;
-            r12_2[1] = r18_10_0;
             store32(r12_2 + 4, r18_121_0);
             store64(r12_2 + 8, r18_14_0);
             memset(r23, 0, 24);
@@ -3074,7 +2881,7 @@ dfu_host_progress_Progress_left_exit:
             store16(r36_4, 0);
             store16(r37_4, 0);
             store16(r38_4, 0);
-            v12 = (uint8_t)r1_4_0_copyload;
+            v11 = (uint8_t)r1_4_0_copyload;
             switch (r10) {
             case 0:
             case 17:
@@ -3155,17 +2962,17 @@ dfu_host_task_Task_after_enter_exit:
             case 4:
             case 5: break;
             case 6: {
-                uint8_t v13 = r18_0_0 == 8;
-                *r23 = (uint8_t)(v13 ? 0 : 6);
-                r23[1] = (uint8_t)(v13 ? 0 : r1_3_0_copyload);
-                store16(r23 + 2, (uint16_t)(v13 ? 0 : r1_4_0_copyload));
-                store32(r23 + 4, (uint32_t)(v13 ? 0 : r1_5_0_copyload));
-                store64(r23 + 8, (uint64_t)(v13 ? 0 : r1_6_0_copyload));
-                store32(r23 + 16, (uint32_t)(v13 ? 0 : r1_7_0_copyload));
+                uint8_t v12 = r18_0_0 == 8;
+                *r23 = (uint8_t)(v12 ? 0 : 6);
+                r23[1] = (uint8_t)(v12 ? 0 : r1_3_0_copyload);
+                store16(r23 + 2, (uint16_t)(v12 ? 0 : r1_4_0_copyload));
+                store32(r23 + 4, (uint32_t)(v12 ? 0 : r1_5_0_copyload));
+                store64(r23 + 8, (uint64_t)(v12 ? 0 : r1_6_0_copyload));
+                store32(r23 + 16, (uint32_t)(v12 ? 0 : r1_7_0_copyload));
                 break;
             }
             case 7:
-                if (v10) {
+                if (v9) {
                     r31_6_0_0 = 0;
                     r31_4_0 = 0;
                     r31_8_0 = 0;
@@ -3274,13 +3081,13 @@ dfu_host_task_Task_after_ask_exit:
                 store64(r23 + 8, r6_10_0);
                 break;
             case 11: {
-                uint8_t v14 = r18_0_0 == 8;
-                *r23 = (uint8_t)(v14 ? 10 : 11);
-                r23[1] = (uint8_t)(v14 ? 0 : r1_3_0_copyload);
-                store16(r23 + 2, (uint16_t)(v14 ? 0 : r1_4_0_copyload));
-                store32(r23 + 4, (uint32_t)(v14 ? 0 : r1_5_0_copyload));
+                uint8_t v13 = r18_0_0 == 8;
+                *r23 = (uint8_t)(v13 ? 10 : 11);
+                r23[1] = (uint8_t)(v13 ? 0 : r1_3_0_copyload);
+                store16(r23 + 2, (uint16_t)(v13 ? 0 : r1_4_0_copyload));
+                store32(r23 + 4, (uint32_t)(v13 ? 0 : r1_5_0_copyload));
                 store64(r23 + 8, r1_6_0_copyload);
-                store32(r23 + 16, (uint32_t)(v14 ? 0 : r1_7_0_copyload));
+                store32(r23 + 16, (uint32_t)(v13 ? 0 : r1_7_0_copyload));
                 break;
             }
             case 12: {
@@ -3338,23 +3145,23 @@ dfu_host_task_Task_after_ask_exit:
                 memset(r23 + 1, 0, 19);
                 break;
             case 15: {
+                uint8_t v15 = r18_0_0 == 8;
+                *r23 = (uint8_t)(v15 ? 14 : 15);
+                r23[1] = (uint8_t)(v15 ? 0 : r1_3_0_copyload);
+                store16(r23 + 2, (uint16_t)(v15 ? 0 : r1_4_0_copyload));
+                store32(r23 + 4, (uint32_t)(v15 ? 0 : r1_5_0_copyload));
+                store64(r23 + 8, (uint64_t)(v15 ? 0 : r1_6_0_copyload));
+                store32(r23 + 16, (uint32_t)(v15 ? 0 : r1_7_0_copyload));
+                break;
+            }
+            case 16: {
                 uint8_t v16 = r18_0_0 == 8;
-                *r23 = (uint8_t)(v16 ? 14 : 15);
-                r23[1] = (uint8_t)(v16 ? 0 : r1_3_0_copyload);
+                *r23 = (uint8_t)(v16 ? 20 : 16);
+                r23[1] = (uint8_t)(v16 ? 1 : r1_3_0_copyload);
                 store16(r23 + 2, (uint16_t)(v16 ? 0 : r1_4_0_copyload));
                 store32(r23 + 4, (uint32_t)(v16 ? 0 : r1_5_0_copyload));
                 store64(r23 + 8, (uint64_t)(v16 ? 0 : r1_6_0_copyload));
                 store32(r23 + 16, (uint32_t)(v16 ? 0 : r1_7_0_copyload));
-                break;
-            }
-            case 16: {
-                uint8_t v17 = r18_0_0 == 8;
-                *r23 = (uint8_t)(v17 ? 20 : 16);
-                r23[1] = (uint8_t)(v17 ? 1 : r1_3_0_copyload);
-                store16(r23 + 2, (uint16_t)(v17 ? 0 : r1_4_0_copyload));
-                store32(r23 + 4, (uint32_t)(v17 ? 0 : r1_5_0_copyload));
-                store64(r23 + 8, (uint64_t)(v17 ? 0 : r1_6_0_copyload));
-                store32(r23 + 16, (uint32_t)(v17 ? 0 : r1_7_0_copyload));
                 break;
             }
             case 18:
@@ -3474,17 +3281,17 @@ dfu_host_task_Task_after_ask_exit:
                 memset(r23 + 4, 0, 16);
                 break;
             case 20:
-                if (!v10) {
-                    r8_7_0_0 = v12;
+                if (!v9) {
+                    r8_7_0_0 = v11;
                     r8_0_0_2 = 20;
                     r8_4_0_2 = r1_3_0_copyload;
                 }
                 else {
                     uint8_t r13_4 = *a0;
-                    uint8_t v19 = r13_4 == 2;
-                    r8_7_0_0 = (uint8_t)(v19 ? 0 : v12);
-                    r8_0_0_2 = (uint8_t)(v19 ? 0 : 23);
-                    r8_4_0_2 = (uint8_t)(v19 ? 0 : r1_3_0_copyload);
+                    uint8_t v18 = r13_4 == 2;
+                    r8_7_0_0 = (uint8_t)(v18 ? 0 : v11);
+                    r8_0_0_2 = (uint8_t)(v18 ? 0 : 23);
+                    r8_4_0_2 = (uint8_t)(v18 ? 0 : r1_3_0_copyload);
                 }
                 *r23 = r8_0_0_2;
                 r23[1] = r8_4_0_2;
@@ -3492,7 +3299,7 @@ dfu_host_task_Task_after_ask_exit:
                 memset(r23 + 3, 0, 17);
                 break;
             case 21:
-                *r23 = (uint8_t)(v10 ? 24 : 21);
+                *r23 = (uint8_t)(v9 ? 24 : 21);
                 memset(r23 + 1, 0, 19);
                 break;
             case 22:
@@ -3501,31 +3308,23 @@ dfu_host_task_Task_after_ask_exit:
                 break;
             default: never();
             }
-            uint8_t v20 = *r23;
-            uint8_t v21 = r23[1];
-            uint16_t v22 = load16(r23 + 2);
-            uint32_t v23 = load32(r23 + 4);
-            uint64_t v24 = load64(r23 + 8);
-            uint32_t v25 = load32(r23 + 16);
-            *r10_2 = v20;
-            r10_2[1] = v21;
-            store16(r10_2 + 2, v22);
-            store32(r10_2 + 4, v23);
-            store64(r10_2 + 8, v24);
-            store32(r10_2 + 16, v25);
+            uint8_t v19 = *r23;
+            uint8_t v20 = r23[1];
+            uint16_t v21 = load16(r23 + 2);
+            uint32_t v22 = load32(r23 + 4);
+            uint64_t v23 = load64(r23 + 8);
+            uint32_t v24 = load32(r23 + 16);
+            *r10_2 = v19;
+            r10_2[1] = v20;
+            store16(r10_2 + 2, v21);
+            store32(r10_2 + 4, v22);
+            store64(r10_2 + 8, v23);
+            store32(r10_2 + 16, v24);
             if (or_cond) {
                 uint8_t r10_3 = *a0;
-                if (r10_3 == 2) store64(a0, 3);
+                if (r10_3 == 2) store_size(a0, 3);
             }
-            *r17_2 = r10;
-            r17_2[1] = r1_3_0_copyload;
-            store16(r17_2 + 2, r1_4_0_copyload);
-            store32(r17_2 + 4, r1_5_0_copyload);
-            store64(r17_2 + 8, r1_6_0_copyload);
-            store32(r17_2 + 16, r1_7_0_copyload);
             store64a4(r17_2 + 20, r1_8_0_copyload);
-            store16(r17_2 + 28, r1_9_0_copyload);
-            store16(r17_2 + 30, v8);
             dfu_host_progress_Progress_spent(r7_2, r17_2, r10_2, r1_9_0_copyload);
             break;
         }
@@ -3537,31 +3336,27 @@ dfu_host_task_Task_after_ask_exit:
 }
 
 /* dfu_wire::statuses::Status::decode */
-static void dfu_wire_statuses_Status_decode(unsigned char *a0, unsigned char *a1, uint64_t a2) {
+static void dfu_wire_statuses_Status_decode(unsigned char *a0, unsigned char *a1, size_t a2) {
     uint8_t r54, r78;
     if (a2 < 6) {
         *a0 = 1;
-        a0[1] = 0;
         memset(a0 + 4, 0, 12);
         return;
     }
     if (a2 != 6) {
         *a0 = 1;
-        a0[1] = 1;
         memset(a0 + 4, 0, 12);
         return;
     }
     r54 = *a1;
     if (r54 >= 16) {
         *a0 = 1;
-        a0[1] = 5;
         memset(a0 + 4, 0, 12);
         return;
     }
     r78 = a1[4];
     if (r78 >= 11) {
         *a0 = 1;
-        a0[1] = 4;
         memset(a0 + 4, 0, 12);
         return;
     }
@@ -3569,7 +3364,6 @@ static void dfu_wire_statuses_Status_decode(unsigned char *a0, unsigned char *a1
     uint8_t r17 = a1[2];
     uint8_t r21 = a1[3];
     *a0 = 0;
-    a0[1] = 0;
     store32(a0 + 4, (uint32_t)r54);
     store32(a0 + 8, (((uint32_t)r17 << 8) | (uint32_t)r13) | ((uint32_t)r21 << 16));
     a0[12] = r78;
@@ -3588,8 +3382,8 @@ static uint8_t core_slice_scan_any_by_one(unsigned char *a0, size_t a1) {
             common_ret_op = a1;
             break;
         }
-        size_t r3_0_0_copyload = (size_t)load64(a0);
-        size_t r4_0_0_copyload = (size_t)load64(r12);
+        size_t r3_0_0_copyload = load_size(a0);
+        size_t r4_0_0_copyload = load_size(r12);
         uint8_t r3 = *((unsigned char *)(uintptr_t)r3_0_0_copyload + r1_0);
         uint8_t r4 = *((unsigned char *)(uintptr_t)r4_0_0_copyload + r1_0);
         if (r3 != r4) {
@@ -3602,13 +3396,11 @@ static uint8_t core_slice_scan_any_by_one(unsigned char *a0, size_t a1) {
 }
 
 /* core::cmp::slices::groups_equal::<i8,31'core::cmp::numbers::U8PartialEq{}> */
-static uint8_t core_cmp_slices_groups_equal_i8_core_cmp_numbers_U8PartialEq(unsigned char *a0, size_t a1, unsigned char *a2, size_t a3) {
+static uint8_t core_cmp_slices_groups_equal_i8_core_cmp_numbers_U8PartialEq(unsigned char *a0, size_t a1, unsigned char *a2) {
     _Alignas(8) unsigned char r7[32];
     uint8_t common_ret_op;
-    store64(r7, (size_t)(uintptr_t)a0);
-    store64(r7 + 8, a1);
-    store64(r7 + 16, (size_t)(uintptr_t)a2);
-    store64(r7 + 24, a3);
+    store_size(r7, (size_t)(uintptr_t)a0);
+    store_size(r7 + 16, (size_t)(uintptr_t)a2);
     if (a1 < 9) {
         uint8_t r41 = core_slice_scan_any_in_ends(r7, a1, 4);
         common_ret_op = r41;
@@ -3730,13 +3522,14 @@ static void dfu_host_task_Task_on_status(unsigned char *a0, unsigned char *a1, u
     unsigned char *const r11 = r9;
     unsigned char *const r10_2 = r9;
     _Alignas(4) unsigned char r12[12];
-    uint8_t v0, r1_4_0_copyload, v15, v16, r1_7_0_copyload, v25, v26, v33, v34, r3_0_0, r3_4_0, r29_0_0;
+    uint8_t v0, r1_4_0_copyload, v14, v15, r1_7_0_copyload, v23, v24, v30, v31, r3_0_0, r3_4_0, r29_0_0;
     uint8_t r29_5_0;
-    uint64_t v1, r2_4_0, v12, v23, v31, r3_13_0, r29_17_0;
-    uint32_t r1_0_0_copyload, r1_3_0_copyload, v11, v13, r1_0_0_copyload_2, r1_5_0_copyload, v22, v24, v30, v32, r3_10_0, r3_16_0;
+    uint64_t v1, v11, r29_17_0;
+    uint32_t r1_0_0_copyload, r1_3_0_copyload, v10, v12, r1_0_0_copyload_2, r1_5_0_copyload, v20, v22, v27, v29, r3_10_0, r3_16_0;
     uint32_t r29_13_0, r29_21_0;
-    unsigned char *v8, *v17, *v27;
-    uint16_t r8, v14, v21, v29, r3_7_0, r29_9_0;
+    unsigned char *v8, *v16, *v25;
+    uint16_t r8, v13, v19, v26, r3_7_0, r29_9_0;
+    size_t r2_4_0, v21, v28, r3_13_0;
     v0 = *a2;
     v1 = load64(a2 + 8);
     uint8_t r12_0_0_copyload = *a3;
@@ -3744,7 +3537,7 @@ static void dfu_host_task_Task_on_status(unsigned char *a0, unsigned char *a1, u
     uint8_t v3 = a4[1];
     uint16_t v4 = load16(a4 + 2);
     uint32_t v5 = load32(a4 + 4);
-    uint64_t v6 = load64(a4 + 8);
+    size_t v6 = load_size(a4 + 8);
     uint32_t v7 = load32(a4 + 16);
     switch (r12_0_0_copyload) {
     case 1: {
@@ -3755,33 +3548,33 @@ static void dfu_host_task_Task_on_status(unsigned char *a0, unsigned char *a1, u
             r1_3_0_copyload = load32(r12 + 4);
             r1_4_0_copyload = r12[8];
             v8 = r5 + 16;
-            store64(v8, 0);
+            store_size(v8, 0);
             switch (r1_4_0_copyload) {
             case 3:
             case 4:
-                v11 = r1_3_0_copyload;
-                v12 = v1;
+                v10 = r1_3_0_copyload;
+                v11 = v1;
+                v12 = 0;
                 v13 = 0;
                 v14 = 0;
-                v15 = 0;
-                v16 = 11;
+                v15 = 11;
                 break;
             case 5: {
                 r8 = load16(a1 + 24);
                 uint8_t r7 = *a1;
                 if (r7 == 1) r2_4_0 = 0;
                 else {
-                    uint64_t r16 = load64(a1 + 16);
+                    size_t r16 = load_size(a1 + 16);
                     r2_4_0 = r16;
                 }
                 size_t r10 = (size_t)r8;
-                uint8_t r24_not = (r2_4_0 - (v1 * (uint64_t)r10)) > (uint64_t)r10;
-                v11 = 0;
-                v12 = (uint64_t)(r24_not ? (v1 + 1) : 0);
+                uint8_t r24_not = ((uint64_t)r2_4_0 - (v1 * (uint64_t)r10)) > (uint64_t)r10;
+                v10 = 0;
+                v11 = (uint64_t)(r24_not ? (v1 + 1) : 0);
+                v12 = 0;
                 v13 = 0;
                 v14 = 0;
-                v15 = 0;
-                v16 = (uint8_t)(r24_not ? 8 : 12);
+                v15 = (uint8_t)(r24_not ? 8 : 12);
                 break;
             }
             case 0:
@@ -3795,30 +3588,29 @@ static void dfu_host_task_Task_on_status(unsigned char *a0, unsigned char *a1, u
                 store32(r10_2, r1_0_0_copyload);
                 store32(r10_2 + 4, r1_3_0_copyload);
                 r10_2[8] = r1_4_0_copyload;
-                memcpy(r10_2 + 9, a3 + 13, 3);
                 dfu_host_task_Task_troubled(r5, a1, r10_2);
                 uint8_t pre = *r5;
                 uint8_t pre7 = r5[1];
                 uint16_t pre8 = load16(r5 + 2);
                 uint32_t pre9 = load32(r5 + 4);
-                uint64_t pre10 = load64(r5 + 8);
+                size_t pre10 = load_size(r5 + 8);
                 uint32_t pre11 = load32(v8);
-                v11 = pre11;
-                v12 = pre10;
-                v13 = pre9;
-                v14 = pre8;
-                v15 = pre7;
-                v16 = pre;
+                v10 = pre11;
+                v11 = pre10;
+                v12 = pre9;
+                v13 = pre8;
+                v14 = pre7;
+                v15 = pre;
                 break;
             }
             default: never();
             }
-            *r14 = v16;
-            r14[1] = v15;
-            store16(r14 + 2, v14);
-            store32(r14 + 4, v13);
-            store64(r14 + 8, v12);
-            store32(r14 + 16, v11);
+            *r14 = v15;
+            r14[1] = v14;
+            store16(r14 + 2, v13);
+            store32(r14 + 4, v12);
+            store64(r14 + 8, v11);
+            store32(r14 + 16, v10);
             break;
         case 14: {
             r1_0_0_copyload_2 = load32(r12);
@@ -3826,26 +3618,26 @@ static void dfu_host_task_Task_on_status(unsigned char *a0, unsigned char *a1, u
             r1_7_0_copyload = r12[8];
             uint8_t r5_2 = a1[26];
             if (!(r5_2 & 1)) {
-                v27 = r5_3 + 16;
-                store64(v27, 0);
+                v25 = r5_3 + 16;
+                store_size(v25, 0);
                 switch (r1_7_0_copyload) {
                 case 6:
                 case 7:
-                    v29 = 0;
+                    v26 = 0;
+                    v27 = 0;
+                    v28 = 0;
+                    v29 = r1_5_0_copyload;
                     v30 = 0;
-                    v31 = 0;
-                    v32 = r1_5_0_copyload;
-                    v33 = 0;
-                    v34 = 16;
+                    v31 = 16;
                     break;
                 case 2:
                 case 8:
+                    v26 = 0;
+                    v27 = 0;
+                    v28 = 0;
                     v29 = 0;
-                    v30 = 0;
-                    v31 = 0;
-                    v32 = 0;
-                    v33 = 1;
-                    v34 = 20;
+                    v30 = 1;
+                    v31 = 20;
                     break;
                 case 0:
                 case 1:
@@ -3857,52 +3649,51 @@ static void dfu_host_task_Task_on_status(unsigned char *a0, unsigned char *a1, u
                     store32(r9, r1_0_0_copyload_2);
                     store32(r9 + 4, r1_5_0_copyload);
                     r9[8] = r1_7_0_copyload;
-                    memcpy(r9 + 9, a3 + 13, 3);
                     dfu_host_task_Task_troubled(r5_3, a1, r9);
                     uint8_t pre_4 = *r5_3;
                     uint8_t pre7_2 = r5_3[1];
                     uint32_t pre8_2 = load32(r5_3 + 4);
-                    uint64_t pre9_2 = load64(r5_3 + 8);
-                    uint32_t pre10_3 = load32(v27);
+                    size_t pre9_2 = load_size(r5_3 + 8);
+                    uint32_t pre10_3 = load32(v25);
                     uint16_t pre_5 = load16(r5_3 + 2);
-                    v29 = pre_5;
-                    v30 = pre10_3;
-                    v31 = pre9_2;
-                    v32 = pre8_2;
-                    v33 = pre7_2;
-                    v34 = pre_4;
+                    v26 = pre_5;
+                    v27 = pre10_3;
+                    v28 = pre9_2;
+                    v29 = pre8_2;
+                    v30 = pre7_2;
+                    v31 = pre_4;
                     break;
                 }
                 default: never();
                 }
-                r3_0_0 = v34;
-                r3_4_0 = v33;
-                r3_7_0 = v29;
-                r3_10_0 = v32;
-                r3_13_0 = v31;
-                r3_16_0 = v30;
+                r3_0_0 = v31;
+                r3_4_0 = v30;
+                r3_7_0 = v26;
+                r3_10_0 = v29;
+                r3_13_0 = v28;
+                r3_16_0 = v27;
             }
             else {
-                v17 = r7_2 + 16;
-                store64(v17, 0);
+                v16 = r7_2 + 16;
+                store_size(v16, 0);
                 switch (r1_7_0_copyload) {
                 case 6:
                 case 7:
+                    v19 = 0;
+                    v20 = 0;
                     v21 = 0;
-                    v22 = 0;
+                    v22 = r1_5_0_copyload;
                     v23 = 0;
-                    v24 = r1_5_0_copyload;
-                    v25 = 0;
-                    v26 = 15;
+                    v24 = 15;
                     goto dfu_host_task_Task_confirmed_exit;
                 case 2:
                     if ((r1_0_0_copyload_2 & 255) == 0) {
+                        v19 = 0;
+                        v20 = 0;
                         v21 = 0;
                         v22 = 0;
                         v23 = 0;
-                        v24 = 0;
-                        v25 = 0;
-                        v26 = 20;
+                        v24 = 20;
                         goto dfu_host_task_Task_confirmed_exit;
                     }
                     break;
@@ -3919,27 +3710,26 @@ static void dfu_host_task_Task_on_status(unsigned char *a0, unsigned char *a1, u
                 store32(r11, r1_0_0_copyload_2);
                 store32(r11 + 4, r1_5_0_copyload);
                 r11[8] = r1_7_0_copyload;
-                memcpy(r11 + 9, a3 + 13, 3);
                 dfu_host_task_Task_troubled(r7_2, a1, r11);
                 uint8_t pre_2 = *r7_2;
                 uint8_t pre10_2 = r7_2[1];
                 uint32_t pre11_2 = load32(r7_2 + 4);
-                uint64_t pre12 = load64(r7_2 + 8);
-                uint32_t pre13 = load32(v17);
+                size_t pre12 = load_size(r7_2 + 8);
+                uint32_t pre13 = load32(v16);
                 uint16_t pre_3 = load16(r7_2 + 2);
-                v21 = pre_3;
-                v22 = pre13;
-                v23 = pre12;
-                v24 = pre11_2;
-                v25 = pre10_2;
-                v26 = pre_2;
+                v19 = pre_3;
+                v20 = pre13;
+                v21 = pre12;
+                v22 = pre11_2;
+                v23 = pre10_2;
+                v24 = pre_2;
 dfu_host_task_Task_confirmed_exit:
-                r3_0_0 = v26;
-                r3_4_0 = v25;
-                r3_7_0 = v21;
-                r3_10_0 = v24;
-                r3_13_0 = v23;
-                r3_16_0 = v22;
+                r3_0_0 = v24;
+                r3_4_0 = v23;
+                r3_7_0 = v19;
+                r3_10_0 = v22;
+                r3_13_0 = v21;
+                r3_16_0 = v20;
             }
             *r14 = r3_0_0;
             r14[1] = r3_4_0;
@@ -3978,18 +3768,18 @@ dfu_host_task_Task_confirmed_exit:
             break;
         default: never();
         }
-        uint8_t v35 = *r14;
-        uint8_t v36 = r14[1];
-        uint16_t v37 = load16(r14 + 2);
-        uint32_t v38 = load32(r14 + 4);
-        uint64_t v39 = load64(r14 + 8);
-        uint32_t v40 = load32(r14 + 16);
-        r29_0_0 = v35;
-        r29_5_0 = v36;
-        r29_9_0 = v37;
-        r29_13_0 = v38;
-        r29_17_0 = v39;
-        r29_21_0 = v40;
+        uint8_t v32 = *r14;
+        uint8_t v33 = r14[1];
+        uint16_t v34 = load16(r14 + 2);
+        uint32_t v35 = load32(r14 + 4);
+        uint64_t v36 = load64(r14 + 8);
+        uint32_t v37 = load32(r14 + 16);
+        r29_0_0 = v32;
+        r29_5_0 = v33;
+        r29_9_0 = v34;
+        r29_13_0 = v35;
+        r29_17_0 = v36;
+        r29_21_0 = v37;
         break;
     }
     case 6:
@@ -4010,16 +3800,16 @@ dfu_host_task_Task_confirmed_exit:
     case 9:
     case 10:
     case 11: {
-        uint32_t v41 = load32(a2 + 16);
-        uint32_t v42 = load32(a2 + 4);
-        uint16_t v43 = load16(a2 + 2);
-        uint8_t v44 = a2[1];
+        uint32_t v38 = load32(a2 + 16);
+        uint32_t v39 = load32(a2 + 4);
+        uint16_t v40 = load16(a2 + 2);
+        uint8_t v41 = a2[1];
         r29_0_0 = v0;
-        r29_5_0 = v44;
-        r29_9_0 = v43;
-        r29_13_0 = v42;
+        r29_5_0 = v41;
+        r29_9_0 = v40;
+        r29_13_0 = v39;
         r29_17_0 = v1;
-        r29_21_0 = v41;
+        r29_21_0 = v38;
         break;
     }
     default: never();
@@ -4040,26 +3830,23 @@ static void dfu_host_task_Task_troubled(unsigned char *a0, unsigned char *a1, un
     _Alignas(4) unsigned char r10[12];
     _Alignas(4) unsigned char r12[12];
     uint8_t r1_0_0_copyload, r1_4_0_copyload, v4, v5, v11, v12;
-    unsigned char *r1_3_0_a2_sroa_idx, *r1_5_0_a2_sroa_idx;
+    unsigned char *r1_3_0_a2_sroa_idx;
     uint32_t v1, v3, v7, v9;
-    uint64_t v2, v8;
+    size_t v2, v8;
     uint16_t v10;
     r1_0_0_copyload = *a2;
     r1_3_0_a2_sroa_idx = a2 + 1;
     r1_4_0_copyload = a2[8];
-    r1_5_0_a2_sroa_idx = a2 + 9;
     memset(r9, 0, 24);
     if (r1_4_0_copyload != 10) {
-        *r12 = r1_0_0_copyload;
         memcpy(r12 + 1, r1_3_0_a2_sroa_idx, 7);
         r12[8] = r1_4_0_copyload;
-        memcpy(r12 + 9, r1_5_0_a2_sroa_idx, 3);
         dfu_host_task_Task_listed(r6, a1, r12);
         uint8_t pre16 = *r6;
         uint8_t pre17 = r6[1];
         uint16_t pre18 = load16(r6 + 2);
         uint32_t pre19 = load32(r6 + 4);
-        uint64_t pre20 = load64(r6 + 8);
+        size_t pre20 = load_size(r6 + 8);
         uint32_t pre21 = load32(r6 + 16);
         v7 = pre21;
         v8 = pre20;
@@ -4078,15 +3865,13 @@ static void dfu_host_task_Task_troubled(unsigned char *a0, unsigned char *a1, un
             v5 = 23;
         }
         else {
-            *r10 = r1_0_0_copyload;
             memcpy(r10 + 1, r1_3_0_a2_sroa_idx, 7);
             r10[8] = 10;
-            memcpy(r10 + 9, r1_5_0_a2_sroa_idx, 3);
             dfu_host_task_Task_listed(r9, a1, r10);
             uint8_t pre = *r9;
             uint8_t pre12 = r9[1];
             uint32_t pre13 = load32(r9 + 4);
-            uint64_t pre14 = load64(r9 + 8);
+            size_t pre14 = load_size(r9 + 8);
             uint32_t pre15 = load32(r9 + 16);
             v1 = pre15;
             v2 = pre14;
@@ -4177,22 +3962,20 @@ static void dfu_host_c_dfuse_holding_map_of(unsigned char *a0, unsigned char *a1
         memcpy(r5_4, r4 + 8, 792);
         r5_0_0_0 = 1;
     }
-    store64(a0, r5_0_0_0);
+    store_size(a0, r5_0_0_0);
     memcpy(a0 + 8, r5_4, 792);
     return;
 }
 
 /* dfu_host_c::dfuse::holding::session_of: crates/dfu_host_c/src/dfuse/holding.rt */
 static void dfu_host_c_dfuse_holding_session_of(unsigned char *a0, unsigned char *a1, unsigned char *a2, unsigned char *a3, size_t a4) {
-    uint64_t r12, r14, r18, r1_18_0, r1_26_0, r1_10_0, r0_30_0, r0_28_0, r0_27_0;
-    uint32_t r16, r20, r22, r0_32_0, r0_31_0;
-    size_t r1_10_0_0, r1_6_0_0, r0_29_0, r0_204_0;
+    uint32_t r10, r16, r20, r22, r0_32_0, r0_31_0, r0_29_0_shrunk, r0_204_0_shrunk;
+    uint64_t r12, r18, r1_18_0, r1_26_0, r1_10_0, r0_30_0, r0_28_0, r0_27_0;
     uint8_t r0_16_0, r0_12_0, r0_8_0;
     uint32_t r4 = load32(a1);
     if (r4 == 300) {
-        uint32_t r10 = load32(a1 + 4);
+        r10 = load32(a1 + 4);
         r12 = load64(a1 + 8);
-        r14 = load64(a1 + 16);
         r16 = load32(a1 + 32);
         r18 = load64(a1 + 24);
         r20 = load32(a1 + 36);
@@ -4206,10 +3989,10 @@ static void dfu_host_c_dfuse_holding_session_of(unsigned char *a0, unsigned char
                 r0_32_0 = 0;
                 r0_31_0 = 0;
                 r0_30_0 = 0;
-                r0_29_0 = 0;
+                r0_29_0_shrunk = 0;
                 r0_28_0 = 0;
                 r0_27_0 = 0;
-                r0_204_0 = 0;
+                r0_204_0_shrunk = 0;
                 r0_16_0 = (uint8_t)r22;
                 r0_12_0 = 0;
                 r0_8_0 = 1;
@@ -4218,10 +4001,10 @@ static void dfu_host_c_dfuse_holding_session_of(unsigned char *a0, unsigned char
                 r0_32_0 = 0;
                 r0_31_0 = 0;
                 r0_30_0 = 0;
-                r0_29_0 = 0;
+                r0_29_0_shrunk = 0;
                 r0_28_0 = 0;
                 r0_27_0 = 0;
-                r0_204_0 = 0;
+                r0_204_0_shrunk = 0;
                 r0_16_0 = 0;
                 r0_12_0 = 1;
                 r0_8_0 = 1;
@@ -4231,10 +4014,10 @@ static void dfu_host_c_dfuse_holding_session_of(unsigned char *a0, unsigned char
                 r0_32_0 = 0;
                 r0_31_0 = 0;
                 r0_30_0 = 0;
-                r0_29_0 = 0;
+                r0_29_0_shrunk = 0;
                 r0_28_0 = 0;
                 r0_27_0 = 0;
-                r0_204_0 = 0;
+                r0_204_0_shrunk = 0;
                 r0_16_0 = (uint8_t)r22;
                 r0_12_0 = 2;
                 r0_8_0 = 1;
@@ -4243,10 +4026,10 @@ static void dfu_host_c_dfuse_holding_session_of(unsigned char *a0, unsigned char
                 r0_32_0 = 0;
                 r0_31_0 = 0;
                 r0_30_0 = 0;
-                r0_29_0 = 0;
+                r0_29_0_shrunk = 0;
                 r0_28_0 = 0;
                 r0_27_0 = 0;
-                r0_204_0 = 0;
+                r0_204_0_shrunk = 0;
                 r0_16_0 = 0;
                 r0_12_0 = 3;
                 r0_8_0 = 1;
@@ -4255,10 +4038,10 @@ static void dfu_host_c_dfuse_holding_session_of(unsigned char *a0, unsigned char
                 r0_32_0 = 0;
                 r0_31_0 = 0;
                 r0_30_0 = 0;
-                r0_29_0 = 0;
+                r0_29_0_shrunk = 0;
                 r0_28_0 = 0;
                 r0_27_0 = 0;
-                r0_204_0 = 0;
+                r0_204_0_shrunk = 0;
                 r0_16_0 = 0;
                 r0_12_0 = 4;
                 r0_8_0 = 1;
@@ -4267,10 +4050,10 @@ static void dfu_host_c_dfuse_holding_session_of(unsigned char *a0, unsigned char
                 r0_32_0 = 0;
                 r0_31_0 = 0;
                 r0_30_0 = 0;
-                r0_29_0 = 0;
+                r0_29_0_shrunk = 0;
                 r0_28_0 = 0;
                 r0_27_0 = 0;
-                r0_204_0 = 0;
+                r0_204_0_shrunk = 0;
                 r0_16_0 = 0;
                 r0_12_0 = 5;
                 r0_8_0 = 1;
@@ -4279,10 +4062,10 @@ static void dfu_host_c_dfuse_holding_session_of(unsigned char *a0, unsigned char
                 r0_32_0 = 0;
                 r0_31_0 = 0;
                 r0_30_0 = 0;
-                r0_29_0 = 0;
+                r0_29_0_shrunk = 0;
                 r0_28_0 = 0;
                 r0_27_0 = 0;
-                r0_204_0 = 0;
+                r0_204_0_shrunk = 0;
                 r0_16_0 = 0;
                 r0_12_0 = 6;
                 r0_8_0 = 1;
@@ -4291,37 +4074,20 @@ static void dfu_host_c_dfuse_holding_session_of(unsigned char *a0, unsigned char
             }
         }
         case 0:
-            r1_10_0_0 = 0;
+        case 3:
+        case 4:
+        case 5:
             r1_18_0 = r12;
             r1_26_0 = 0;
             break;
         case 1:
-            r1_10_0_0 = 1;
+        case 2: {
+            uint64_t r14 = load64(a1 + 16);
             r1_18_0 = r12;
             r1_26_0 = r14;
             break;
-        case 2:
-            r1_10_0_0 = 2;
-            r1_18_0 = r12;
-            r1_26_0 = r14;
-            break;
-        case 3:
-            r1_10_0_0 = 3;
-            r1_18_0 = r12;
-            r1_26_0 = 0;
-            break;
-        case 4:
-            r1_10_0_0 = 4;
-            r1_18_0 = r12;
-            r1_26_0 = 0;
-            break;
-        case 5:
-            r1_10_0_0 = 5;
-            r1_18_0 = r12;
-            r1_26_0 = 0;
-            break;
+        }
         case 6:
-            r1_10_0_0 = 6;
             r1_18_0 = 0;
             r1_26_0 = 0;
             break;
@@ -4329,15 +4095,10 @@ static void dfu_host_c_dfuse_holding_session_of(unsigned char *a0, unsigned char
         }
         switch (r16) {
         case 0:
-            r1_6_0_0 = 0;
             r1_10_0 = 0;
             break;
         case 1:
-            r1_6_0_0 = 1;
-            r1_10_0 = r18;
-            break;
         case 2:
-            r1_6_0_0 = 2;
             r1_10_0 = r18;
             break;
         default: goto arm_2;
@@ -4358,10 +4119,10 @@ static void dfu_host_c_dfuse_holding_session_of(unsigned char *a0, unsigned char
             r0_32_0 = 0;
             r0_31_0 = r20;
             r0_30_0 = r1_10_0;
-            r0_29_0 = r1_6_0_0;
+            r0_29_0_shrunk = r16;
             r0_28_0 = r1_26_0;
             r0_27_0 = r1_18_0;
-            r0_204_0 = r1_10_0_0;
+            r0_204_0_shrunk = r10;
             r0_16_0 = 0;
             r0_12_0 = 0;
             r0_8_0 = 0;
@@ -4372,10 +4133,10 @@ static void dfu_host_c_dfuse_holding_session_of(unsigned char *a0, unsigned char
             r0_32_0 = r22;
             r0_31_0 = r20;
             r0_30_0 = r1_10_0;
-            r0_29_0 = r1_6_0_0;
+            r0_29_0_shrunk = r16;
             r0_28_0 = r1_26_0;
             r0_27_0 = r1_18_0;
-            r0_204_0 = r1_10_0_0;
+            r0_204_0_shrunk = r10;
             r0_16_0 = 0;
             r0_12_0 = 0;
             r0_8_0 = 0;
@@ -4389,24 +4150,21 @@ arm_1:;
         uint32_t r17 = load32(a1 + 48);
         uint32_t r29 = load32(a1 + 52);
         uint16_t r32 = load16(a1 + 56);
-        store64(a0, 1);
-        store64(a0 + 8, (size_t)(uintptr_t)a2);
-        store64(a0 + 16, (size_t)(uintptr_t)a3);
-        store64(a0 + 24, a4);
+        store_size(a0, 1);
+        store_size(a0 + 8, (size_t)(uintptr_t)a2);
+        store_size(a0 + 16, (size_t)(uintptr_t)a3);
+        store_size(a0 + 24, a4);
         store16(a0 + 32, r9);
         store16(a0 + 34, r11);
         a0[36] = r13 != 0;
-        memset(a0 + 37, 0, 3);
         store32(a0 + 40, r17);
-        store32(a0 + 44, 0);
         a0[48] = r0_8_0;
         a0[49] = r0_12_0;
         a0[50] = r0_16_0;
-        memset(a0 + 51, 0, 5);
-        store64(a0 + 56, r0_204_0);
+        store_size(a0 + 56, (size_t)r0_204_0_shrunk);
         store64(a0 + 64, r0_27_0);
         store64(a0 + 72, r0_28_0);
-        store64(a0 + 80, r0_29_0);
+        store_size(a0 + 80, (size_t)r0_29_0_shrunk);
         store64(a0 + 88, r0_30_0);
         store32(a0 + 96, r0_31_0);
         store32(a0 + 100, r0_32_0);
@@ -4436,7 +4194,7 @@ static void dfuse_host_asking_ask(unsigned char *a0, unsigned char *a1) {
     *a0 = 0;
     store64u(a0 + 1, r0_3_1_copyload);
     memset(a0 + 9, 0, 5);
-    store64(a0 + 16, (uint64_t)(uintptr_t)static_20);
+    store_size(a0 + 16, (size_t)(uintptr_t)static_20);
     store64(a0 + 24, 0);
     return;
 }
@@ -4519,7 +4277,6 @@ static uint64_t dfuse_host_plan_Plan_page_start(unsigned char *a0, uint64_t a1) 
 /* dfuse_host::plan::Plan::page_of: crates/dfuse_host/src/plan.rt */
 static void dfuse_host_plan_Plan_page_of(unsigned char *a0, unsigned char *a1, uint64_t a2) {
     _Alignas(8) unsigned char r4_2[32];
-    _Alignas(8) unsigned char r5_4_5[3];
     uint8_t r11;
     uint64_t r3_31_0_copyload, r5_4_4_0;
     uint32_t r5_4_0_0;
@@ -4527,7 +4284,7 @@ static void dfuse_host_plan_Plan_page_of(unsigned char *a0, unsigned char *a1, u
         memset(a0, 0, 32);
         return;
     }
-    size_t r12_wide = (size_t)load64(a1);
+    size_t r12_wide = load_size(a1);
     unsigned char *r12 = (unsigned char *)(uintptr_t)r12_wide;
     uint64_t r4 = load64(r12 + 784);
     dfu_formats_memory_lookups_range_at(r4_2, a2, r12 + 16, r4);
@@ -4541,15 +4298,12 @@ static void dfuse_host_plan_Plan_page_of(unsigned char *a0, unsigned char *a1, u
         if (r3_31_0_copyload == 0) trap();
         uint32_t r3_0_0_copyload = load32(r4_2 + 8);
         uint64_t r13 = a2 - (uint64_t)(size_t)r3_0_0_copyload;
-        memcpy(r5_4_5, r4_2 + 28, 3);
         r5_4_0_0 = r3_0_0_copyload + (uint32_t)((size_t)r13 - (size_t)(r13 % r3_31_0_copyload));
         r5_4_4_0 = r3_31_0_copyload;
     }
-    store64(a0, (size_t)r11);
+    store_size(a0, (size_t)r11);
     store32(a0 + 8, r5_4_0_0);
-    store32(a0 + 12, 0);
     store64(a0 + 16, r5_4_4_0);
-    memcpy(a0 + 24, r5_4_5, 3);
     return;
 }
 
@@ -4575,7 +4329,7 @@ static void dfu_formats_memory_lookups_range_at(unsigned char *a0, uint64_t a1, 
     return;
 then_8:
     memcpy(r0_5, r23, 24);
-    store64(a0, 1);
+    store_size(a0, 1);
     memcpy(a0 + 8, r0_5, 24);
     return;
 }
@@ -4611,8 +4365,8 @@ static uint64_t dfuse_host_plan_Plan_end_of_work(unsigned char *a0, unsigned cha
     }
     case 0:
     case 3: {
-        size_t r10_0_0_copyload = (size_t)load64(a0 + 8);
-        uint64_t r10_3_0_copyload = load64(a0 + 16);
+        size_t r10_0_0_copyload = load_size(a0 + 8);
+        size_t r10_3_0_copyload = load_size(a0 + 16);
         uint64_t r20 = dfuse_host_image_image_end((unsigned char *)(uintptr_t)r10_0_0_copyload, r10_3_0_copyload);
         r9_0 = r20;
         break;
@@ -4632,12 +4386,13 @@ static uint64_t dfuse_host_plan_Plan_end_of_work(unsigned char *a0, unsigned cha
 }
 
 /* dfuse_host::image::image_end: crates/dfuse_host/src/image.rt */
-static uint64_t dfuse_host_image_image_end(unsigned char *a0, uint64_t a1) {
-    uint64_t r4_0, r3_0;
+static uint64_t dfuse_host_image_image_end(unsigned char *a0, size_t a1) {
+    size_t r4_0;
+    uint64_t r3_0;
     r4_0 = 0;
     r3_0 = 0;
     while (r4_0 != a1) {
-        unsigned char *r23 = a0 + ((size_t)r4_0 * 24);
+        unsigned char *r23 = a0 + (r4_0 * 24);
         uint32_t r5 = load32(r23);
         uint64_t r10 = load64(r23 + 16);
         r4_0 = r4_0 + 1;
@@ -4649,10 +4404,10 @@ static uint64_t dfuse_host_image_image_end(unsigned char *a0, uint64_t a1) {
 /* dfuse_host::plan::Plan::front_end: crates/dfuse_host/src/plan.rt */
 static uint64_t dfuse_host_plan_Plan_front_end(unsigned char *a0) {
     size_t common_ret_op;
-    uint64_t r2_3_0_copyload = load64(a0 + 16);
+    size_t r2_3_0_copyload = load_size(a0 + 16);
     if (r2_3_0_copyload == 0) common_ret_op = 0;
     else {
-        size_t r2_0_0_copyload = (size_t)load64(a0 + 8);
+        size_t r2_0_0_copyload = load_size(a0 + 8);
         uint32_t r18 = load32((unsigned char *)(uintptr_t)r2_0_0_copyload);
         common_ret_op = (size_t)r18;
     }
@@ -4665,8 +4420,8 @@ static uint64_t dfuse_host_plan_Plan_front_end(unsigned char *a0) {
 /* dfuse_host::plan::Plan::element_end: crates/dfuse_host/src/plan.rt */
 static uint64_t dfuse_host_plan_Plan_element_end(unsigned char *a0, uint64_t a1) {
     _Alignas(8) unsigned char r2[32];
-    size_t r3_0_0_copyload = (size_t)load64(a0 + 8);
-    uint64_t r3_3_0_copyload = load64(a0 + 16);
+    size_t r3_0_0_copyload = load_size(a0 + 8);
+    size_t r3_3_0_copyload = load_size(a0 + 16);
     dfuse_host_image_element_at(r2, a1, (unsigned char *)(uintptr_t)r3_0_0_copyload, r3_3_0_copyload);
     uint8_t r10 = *r2;
     uint32_t r1_0_0_copyload = load32(r2 + 8);
@@ -4675,14 +4430,13 @@ static uint64_t dfuse_host_plan_Plan_element_end(unsigned char *a0, uint64_t a1)
 }
 
 /* dfuse_host::image::element_at: crates/dfuse_host/src/image.rt */
-static void dfuse_host_image_element_at(unsigned char *a0, uint64_t a1, unsigned char *a2, uint64_t a3) {
+static void dfuse_host_image_element_at(unsigned char *a0, uint64_t a1, unsigned char *a2, size_t a3) {
     _Alignas(8) unsigned char r0_5[24];
-    uint64_t r3_0;
+    size_t r3_0, r7;
     unsigned char *r23;
-    size_t r7;
     r3_0 = 0;
     while (r3_0 != a3) {
-        r23 = a2 + ((size_t)r3_0 * 24);
+        r23 = a2 + (r3_0 * 24);
         uint32_t r5 = load32(r23);
         r7 = (size_t)r5;
         if (a1 >= (uint64_t)r7) {
@@ -4695,7 +4449,7 @@ static void dfuse_host_image_element_at(unsigned char *a0, uint64_t a1, unsigned
     return;
 then_8:
     memcpy(r0_5, r23, 24);
-    store64(a0, 1);
+    store_size(a0, 1);
     memcpy(a0 + 8, r0_5, 24);
     return;
 }
@@ -4723,8 +4477,8 @@ static struct ptr_i64 dfuse_host_plan_Plan_bytes_in(unsigned char *a0, uint64_t 
     _Alignas(8) unsigned char r4[32];
     uint64_t r0_4_0;
     unsigned char *r0_0_0;
-    size_t r5_0_0_copyload = (size_t)load64(a0 + 8);
-    uint64_t r5_3_0_copyload = load64(a0 + 16);
+    size_t r5_0_0_copyload = load_size(a0 + 8);
+    size_t r5_3_0_copyload = load_size(a0 + 16);
     dfuse_host_image_element_at(r4, a1, (unsigned char *)(uintptr_t)r5_0_0_copyload, r5_3_0_copyload);
     uint8_t r21 = *r4;
     if (r21 != 1) {
@@ -4733,7 +4487,7 @@ static struct ptr_i64 dfuse_host_plan_Plan_bytes_in(unsigned char *a0, uint64_t 
     }
     else {
         uint32_t r1_0_0_copyload = load32(r4 + 8);
-        size_t r1_34_0_copyload = (size_t)load64(r4 + 16);
+        size_t r1_34_0_copyload = load_size(r4 + 16);
         uint64_t r1_4_0_copyload = load64(r4 + 24);
         uint64_t r31 = a1 - (uint64_t)(size_t)r1_0_0_copyload;
         r0_4_0 = umin64(usub_sat64(a2, a1), r1_4_0_copyload - r31);
@@ -4750,9 +4504,8 @@ static struct ptr_i64 dfuse_host_plan_Plan_bytes_in(unsigned char *a0, uint64_t 
 static struct ptr_i64 dfuse_host_plan_Plan_read_bytes(unsigned char *a0, unsigned char *a1) {
     _Alignas(8) unsigned char r1[24];
     uint8_t r2 = *a1;
-    store64(r1, (size_t)r2);
+    store_size(r1, (size_t)r2);
     uint64_t v0 = load64(a1 + 8);
-    store64(r1 + 8, v0);
     uint64_t v1 = load64(a1 + 16);
     store64(r1 + 16, v1);
     uint64_t spec_select = (uint64_t)((r2 == 6) ? 0 : v0);
@@ -4782,7 +4535,7 @@ static void dfuse_host_asking_download(unsigned char *a0, unsigned char *a1, uin
     *a0 = 0;
     store64u(a0 + 1, r0_3_1_copyload);
     memset(a0 + 9, 0, 5);
-    store64(a0 + 16, (size_t)(uintptr_t)a1);
+    store_size(a0 + 16, (size_t)(uintptr_t)a1);
     store64(a0 + 24, a2);
     return;
 }
@@ -4850,16 +4603,17 @@ static struct i32_i32 dfu_host_c_dfuse_reports_report_numbers(uint8_t a0, uint8_
 /* dfuse_host::plan::Plan::grants: crates/dfuse_host/src/refusing.rt */
 static uint8_t dfuse_host_plan_Plan_grants(unsigned char *a0, unsigned char *a1) {
     _Alignas(8) unsigned char r7[32];
-    uint64_t r2_3_0_copyload, r3_0, r14, r4, r4_0, r5_36_0_copyload;
+    size_t r2_3_0_copyload, r3_0;
     unsigned char *r26, *r21, *r5_36_0_r21_sroa_idx, *r5_4_0_r21_sroa_idx, *r5_5_0_r21_sroa_idx, *r5_6_0_r21_sroa_idx, *r5_7_0_r21_sroa_idx, *r5;
     uint8_t r15, r31, r50, or_cond_old, r3_04;
+    uint64_t r14, r4, r4_0, r5_36_0_copyload;
     uint32_t r5_0_0_copyload, r5_4_0_copyload;
     uint8_t r5_7_0_copyload;
     uint8_t r1_0_0_copyload = *a1;
     uint8_t r1_3_0_copyload = a1[1];
     uint8_t r1_4_0_copyload = a1[2];
-    size_t r2_0_0_copyload = (size_t)load64(a0 + 8);
-    r2_3_0_copyload = load64(a0 + 16);
+    size_t r2_0_0_copyload = load_size(a0 + 8);
+    r2_3_0_copyload = load_size(a0 + 16);
     r26 = (unsigned char *)(uintptr_t)r2_0_0_copyload;
     r21 = r7 + 8;
     r5_36_0_r21_sroa_idx = r7 + 16;
@@ -4876,8 +4630,8 @@ static uint8_t dfuse_host_plan_Plan_grants(unsigned char *a0, unsigned char *a1)
             r3_04 = 1;
             goto common_ret;
         }
-        unsigned char *r28 = r26 + ((size_t)r3_0 * 24);
-        size_t r30_wide = (size_t)load64(a0);
+        unsigned char *r28 = r26 + (r3_0 * 24);
+        size_t r30_wide = load_size(a0);
         unsigned char *r30 = (unsigned char *)(uintptr_t)r30_wide;
         uint32_t r32 = load32(r28);
         size_t r34 = (size_t)r32;
@@ -4915,9 +4669,9 @@ common_ret:
 
 /* dfu_host_c::dfuse::holding::record_of: crates/dfu_host_c/src/dfuse/holding.rt */
 static void dfu_host_c_dfuse_holding_record_of(unsigned char *a0, unsigned char *a1) {
-    uint64_t r2_92_8_copyload, r2_10_8_copyload, r2_123_8_copyload, r16_91_0, r16_16_0, r6_51_0, r12_5_0, r12_7_0, r12_12_0;
-    uint8_t r2_11_8_copyload, r2_13_8_copyload;
-    uint32_t r2_144_8_copyload, r16_0_0, r6_0_0, r12_0_0, r12_9_0, r12_14_0, r12_16_0, r12_18_0;
+    uint64_t r2_92_8_copyload, r2_10_8_copyload, r2_123_8_copyload, r16_91_0, r16_16_0, spec_select, r12_5_0, r12_7_0, r12_12_0;
+    uint8_t r2_11_8_copyload, r2_13_8_copyload, r2_71_8_copyload, r12_0_0_shrunk, r12_9_0_shrunk;
+    uint32_t r2_144_8_copyload, r12_14_0, r12_16_0, r12_18_0;
     uint8_t v0 = a1[40];
     r2_92_8_copyload = load64(a1 + 56);
     r2_10_8_copyload = load64(a1 + 64);
@@ -4926,220 +4680,187 @@ static void dfu_host_c_dfuse_holding_record_of(unsigned char *a0, unsigned char 
     r2_13_8_copyload = a1[88];
     r2_144_8_copyload = load32(a1 + 92);
     if (v0 != 0) {
-        uint8_t v2 = a1[42];
-        uint8_t v3 = a1[41];
-        struct i32_i32 r22 = dfu_host_c_dfuse_reports_report_numbers(v3, v2);
-        r12_0_0 = 7;
+        uint8_t v3 = a1[42];
+        uint8_t v4 = a1[41];
+        struct i32_i32 r22 = dfu_host_c_dfuse_reports_report_numbers(v4, v3);
+        r12_0_0_shrunk = 7;
         r12_5_0 = 0;
         r12_7_0 = 0;
-        r12_9_0 = 0;
+        r12_9_0_shrunk = 0;
         r12_12_0 = 0;
         r12_14_0 = 0;
         r12_16_0 = r22.b;
         r12_18_0 = r22.a;
     }
     else {
-        uint8_t r2_71_8_copyload = a1[48];
+        r2_71_8_copyload = a1[48];
         switch (r2_71_8_copyload) {
         case 0:
-            r16_0_0 = 0;
+        case 3:
+        case 4:
+        case 5:
             r16_91_0 = r2_92_8_copyload;
             r16_16_0 = 0;
             break;
         case 1:
-            r16_0_0 = 1;
-            r16_91_0 = r2_92_8_copyload;
-            r16_16_0 = r2_10_8_copyload;
-            break;
         case 2:
-            r16_0_0 = 2;
             r16_91_0 = r2_92_8_copyload;
             r16_16_0 = r2_10_8_copyload;
-            break;
-        case 3:
-            r16_0_0 = 3;
-            r16_91_0 = r2_92_8_copyload;
-            r16_16_0 = 0;
-            break;
-        case 4:
-            r16_0_0 = 4;
-            r16_91_0 = r2_92_8_copyload;
-            r16_16_0 = 0;
-            break;
-        case 5:
-            r16_0_0 = 5;
-            r16_91_0 = r2_92_8_copyload;
-            r16_16_0 = 0;
             break;
         case 6:
-            r16_0_0 = 6;
             r16_91_0 = 0;
             r16_16_0 = 0;
             break;
         default: never();
         }
-        switch (r2_11_8_copyload) {
-        case 0:
-            r6_0_0 = 0;
-            r6_51_0 = 0;
-            break;
-        case 1:
-            r6_0_0 = 1;
-            r6_51_0 = r2_123_8_copyload;
-            break;
-        case 2:
-            r6_0_0 = 2;
-            r6_51_0 = r2_123_8_copyload;
-            break;
-        default: never();
-        }
+        spec_select = (uint64_t)((r2_11_8_copyload == 0) ? 0 : r2_123_8_copyload);
         switch (r2_13_8_copyload) {
         case 0:
-            r12_0_0 = r16_0_0;
+            r12_0_0_shrunk = r2_71_8_copyload;
             r12_5_0 = r16_91_0;
             r12_7_0 = r16_16_0;
-            r12_9_0 = r6_0_0;
-            r12_12_0 = r6_51_0;
+            r12_9_0_shrunk = r2_11_8_copyload;
+            r12_12_0 = spec_select;
             r12_14_0 = 0;
             r12_16_0 = 0;
             r12_18_0 = 0;
             break;
         case 1:
-            r12_0_0 = r16_0_0;
+            r12_0_0_shrunk = r2_71_8_copyload;
             r12_5_0 = r16_91_0;
             r12_7_0 = r16_16_0;
-            r12_9_0 = r6_0_0;
-            r12_12_0 = r6_51_0;
+            r12_9_0_shrunk = r2_11_8_copyload;
+            r12_12_0 = spec_select;
             r12_14_0 = 1;
             r12_16_0 = 0;
             r12_18_0 = 0;
             break;
         case 2:
-            r12_0_0 = r16_0_0;
+            r12_0_0_shrunk = r2_71_8_copyload;
             r12_5_0 = r16_91_0;
             r12_7_0 = r16_16_0;
-            r12_9_0 = r6_0_0;
-            r12_12_0 = r6_51_0;
+            r12_9_0_shrunk = r2_11_8_copyload;
+            r12_12_0 = spec_select;
             r12_14_0 = 2;
             r12_16_0 = 0;
             r12_18_0 = 0;
             break;
         case 3:
-            r12_0_0 = r16_0_0;
+            r12_0_0_shrunk = r2_71_8_copyload;
             r12_5_0 = r16_91_0;
             r12_7_0 = r16_16_0;
-            r12_9_0 = r6_0_0;
-            r12_12_0 = r6_51_0;
+            r12_9_0_shrunk = r2_11_8_copyload;
+            r12_12_0 = spec_select;
             r12_14_0 = 3;
             r12_16_0 = r2_144_8_copyload;
             r12_18_0 = 0;
             break;
         case 4:
-            r12_0_0 = r16_0_0;
+            r12_0_0_shrunk = r2_71_8_copyload;
             r12_5_0 = r16_91_0;
             r12_7_0 = r16_16_0;
-            r12_9_0 = r6_0_0;
-            r12_12_0 = r6_51_0;
+            r12_9_0_shrunk = r2_11_8_copyload;
+            r12_12_0 = spec_select;
             r12_14_0 = 4;
             r12_16_0 = 0;
             r12_18_0 = 0;
             break;
         case 5:
-            r12_0_0 = r16_0_0;
+            r12_0_0_shrunk = r2_71_8_copyload;
             r12_5_0 = r16_91_0;
             r12_7_0 = r16_16_0;
-            r12_9_0 = r6_0_0;
-            r12_12_0 = r6_51_0;
+            r12_9_0_shrunk = r2_11_8_copyload;
+            r12_12_0 = spec_select;
             r12_14_0 = 5;
             r12_16_0 = 0;
             r12_18_0 = 0;
             break;
         case 6:
-            r12_0_0 = r16_0_0;
+            r12_0_0_shrunk = r2_71_8_copyload;
             r12_5_0 = r16_91_0;
             r12_7_0 = r16_16_0;
-            r12_9_0 = r6_0_0;
-            r12_12_0 = r6_51_0;
+            r12_9_0_shrunk = r2_11_8_copyload;
+            r12_12_0 = spec_select;
             r12_14_0 = 6;
             r12_16_0 = 0;
             r12_18_0 = 0;
             break;
         case 7:
-            r12_0_0 = r16_0_0;
+            r12_0_0_shrunk = r2_71_8_copyload;
             r12_5_0 = r16_91_0;
             r12_7_0 = r16_16_0;
-            r12_9_0 = r6_0_0;
-            r12_12_0 = r6_51_0;
+            r12_9_0_shrunk = r2_11_8_copyload;
+            r12_12_0 = spec_select;
             r12_14_0 = 7;
             r12_16_0 = r2_144_8_copyload;
             r12_18_0 = 0;
             break;
         case 8:
-            r12_0_0 = r16_0_0;
+            r12_0_0_shrunk = r2_71_8_copyload;
             r12_5_0 = r16_91_0;
             r12_7_0 = r16_16_0;
-            r12_9_0 = r6_0_0;
-            r12_12_0 = r6_51_0;
+            r12_9_0_shrunk = r2_11_8_copyload;
+            r12_12_0 = spec_select;
             r12_14_0 = 8;
             r12_16_0 = r2_144_8_copyload;
             r12_18_0 = 0;
             break;
         case 9:
-            r12_0_0 = r16_0_0;
+            r12_0_0_shrunk = r2_71_8_copyload;
             r12_5_0 = r16_91_0;
             r12_7_0 = r16_16_0;
-            r12_9_0 = r6_0_0;
-            r12_12_0 = r6_51_0;
+            r12_9_0_shrunk = r2_11_8_copyload;
+            r12_12_0 = spec_select;
             r12_14_0 = 9;
             r12_16_0 = 0;
             r12_18_0 = 0;
             break;
         case 10:
-            r12_0_0 = r16_0_0;
+            r12_0_0_shrunk = r2_71_8_copyload;
             r12_5_0 = r16_91_0;
             r12_7_0 = r16_16_0;
-            r12_9_0 = r6_0_0;
-            r12_12_0 = r6_51_0;
+            r12_9_0_shrunk = r2_11_8_copyload;
+            r12_12_0 = spec_select;
             r12_14_0 = 10;
             r12_16_0 = 0;
             r12_18_0 = 0;
             break;
         case 11:
-            r12_0_0 = r16_0_0;
+            r12_0_0_shrunk = r2_71_8_copyload;
             r12_5_0 = r16_91_0;
             r12_7_0 = r16_16_0;
-            r12_9_0 = r6_0_0;
-            r12_12_0 = r6_51_0;
+            r12_9_0_shrunk = r2_11_8_copyload;
+            r12_12_0 = spec_select;
             r12_14_0 = 11;
             r12_16_0 = 0;
             r12_18_0 = 0;
             break;
         case 12:
-            r12_0_0 = r16_0_0;
+            r12_0_0_shrunk = r2_71_8_copyload;
             r12_5_0 = r16_91_0;
             r12_7_0 = r16_16_0;
-            r12_9_0 = r6_0_0;
-            r12_12_0 = r6_51_0;
+            r12_9_0_shrunk = r2_11_8_copyload;
+            r12_12_0 = spec_select;
             r12_14_0 = 12;
             r12_16_0 = 0;
             r12_18_0 = 0;
             break;
         case 13:
-            r12_0_0 = r16_0_0;
+            r12_0_0_shrunk = r2_71_8_copyload;
             r12_5_0 = r16_91_0;
             r12_7_0 = r16_16_0;
-            r12_9_0 = r6_0_0;
-            r12_12_0 = r6_51_0;
+            r12_9_0_shrunk = r2_11_8_copyload;
+            r12_12_0 = spec_select;
             r12_14_0 = 13;
             r12_16_0 = 0;
             r12_18_0 = 0;
             break;
         case 14:
-            r12_0_0 = r16_0_0;
+            r12_0_0_shrunk = r2_71_8_copyload;
             r12_5_0 = r16_91_0;
             r12_7_0 = r16_16_0;
-            r12_9_0 = r6_0_0;
-            r12_12_0 = r6_51_0;
+            r12_9_0_shrunk = r2_11_8_copyload;
+            r12_12_0 = spec_select;
             r12_14_0 = 14;
             r12_16_0 = 0;
             r12_18_0 = 0;
@@ -5154,11 +4875,11 @@ static void dfu_host_c_dfuse_holding_record_of(unsigned char *a0, unsigned char 
     uint16_t r27 = load16(a1 + 26);
     uint8_t r29 = a1[28];
     store32(a0, 300);
-    store32(a0 + 4, r12_0_0);
+    store32(a0 + 4, (uint32_t)r12_0_0_shrunk);
     store64(a0 + 8, r12_5_0);
     store64(a0 + 16, r12_7_0);
     store64(a0 + 24, r12_12_0);
-    store32(a0 + 32, r12_9_0);
+    store32(a0 + 32, (uint32_t)r12_9_0_shrunk);
     store32(a0 + 36, r12_14_0);
     store32(a0 + 40, r12_16_0);
     store32(a0 + 44, r12_18_0);
@@ -5183,13 +4904,12 @@ static void dfuse_host_session_Session_restarted_once(unsigned char *a0, unsigne
     _Alignas(8) unsigned char r8[56];
     _Alignas(8) unsigned char r6_2[24];
     _Alignas(8) unsigned char r9[24];
-    uint16_t r1_5_0_copyload, v0;
-    uint8_t r2_0_0_copyload, r2_5_0_copyload, r2_7_0_copyload, v1, v2, v3;
+    uint16_t r1_5_0_copyload;
+    uint8_t r2_0_0_copyload, r2_5_0_copyload, r2_7_0_copyload, v0, v1, v2;
     uint64_t r2_38_0_copyload, r2_4_0_copyload, r2_69_0_copyload;
     size_t r15;
     memcpy(r1_0, a1, 100);
     r1_5_0_copyload = load16(a1 + 100);
-    v0 = load16(a1 + 102);
     r2_0_0_copyload = *a2;
     r2_38_0_copyload = load64(a2 + 8);
     r2_4_0_copyload = load64(a2 + 16);
@@ -5199,8 +4919,6 @@ static void dfuse_host_session_Session_restarted_once(unsigned char *a0, unsigne
     memset(r8, 0, 56);
     if (r1_5_0_copyload == 0) {
         memcpy(r6, a1, 100);
-        store16(r6 + 100, 0);
-        store16(r6 + 102, v0);
         *r8 = 1;
         r8[1] = 5;
         dfuse_host_session_Session_spent(r0, r6, r8, 0);
@@ -5208,41 +4926,36 @@ static void dfuse_host_session_Session_restarted_once(unsigned char *a0, unsigne
         return;
     }
     memcpy(r3, a1, 100);
-    store16(r3 + 100, r1_5_0_copyload);
-    store16(r3 + 102, v0);
     r15 = (size_t)r2_0_0_copyload;
     if ((uint8_t)(r2_7_0_copyload + 249) >= 2) {
-        store64(r4 + 8, r15);
+        store_size(r4 + 8, r15);
         store64(r4 + 16, r2_38_0_copyload);
         store64(r4 + 24, r2_4_0_copyload);
         memset(r4 + 32, 0, 24);
+        v0 = 0;
         v1 = 0;
         v2 = 0;
-        v3 = 0;
     }
     else {
-        store64(r6_2, r15);
+        store_size(r6_2, r15);
         store64(r6_2 + 8, r2_38_0_copyload);
         store64(r6_2 + 16, r2_4_0_copyload);
-        store64(r9, r15);
+        store_size(r9, r15);
         store64(r9 + 8, r2_38_0_copyload);
-        store64(r9 + 16, r2_4_0_copyload);
         struct i8_i64 r35 = dfuse_host_plan_Plan_command_of(r3, r9, r2_5_0_copyload, r2_69_0_copyload);
         dfuse_host_plan_Plan_unsure(r4, r3, r6_2, r35.a);
         uint8_t pre = *r4;
         uint8_t pre10 = r4[1];
         uint8_t pre11 = r4[2];
-        v1 = pre11;
-        v2 = pre10;
-        v3 = pre;
+        v0 = pre11;
+        v1 = pre10;
+        v2 = pre;
     }
-    *r3_2 = v3;
-    r3_2[1] = v2;
-    r3_2[2] = v1;
+    *r3_2 = v2;
+    r3_2[1] = v1;
+    r3_2[2] = v0;
     memcpy(r3_2 + 8, r4 + 8, 48);
     memcpy(r10, r1_0, 100);
-    store16(r10 + 100, r1_5_0_copyload);
-    store16(r10 + 102, v0);
     dfuse_host_session_Session_spent(r0, r10, r3_2, (uint16_t)(r1_5_0_copyload + 0xffffU));
     memcpy(a0, r0, 104);
     return;
@@ -5274,8 +4987,8 @@ static void dfuse_host_plan_Plan_unsure(unsigned char *a0, unsigned char *a1, un
         case 4: {
             uint64_t r32 = dfuse_host_plan_Plan_page_start(a1, v0);
             uint64_t r34 = dfuse_host_plan_Plan_page_end(a1, v0);
-            size_t r17_0_0_copyload = (size_t)load64(a1 + 8);
-            uint64_t r17_3_0_copyload = load64(a1 + 16);
+            size_t r17_0_0_copyload = load_size(a1 + 8);
+            size_t r17_3_0_copyload = load_size(a1 + 16);
             uint64_t r39 = dfuse_host_image_image_end((unsigned char *)(uintptr_t)r17_0_0_copyload, r17_3_0_copyload);
             r11_0_0_0 = 1;
             r11_5_0 = r32;
@@ -5301,7 +5014,7 @@ static void dfuse_host_plan_Plan_unsure(unsigned char *a0, unsigned char *a1, un
     *a0 = 0;
     a0[1] = 0;
     a0[2] = 0;
-    store64(a0 + 8, (size_t)r11_1014_0_in);
+    store_size(a0 + 8, (size_t)r11_1014_0_in);
     store64(a0 + 16, r11_13_0);
     store64(a0 + 24, r11_15_0);
     memcpy(a0 + 32, r11_17, 24);
@@ -5324,10 +5037,10 @@ static void dfuse_host_plan_Plan_settle(unsigned char *a0, unsigned char *a1, un
         dfuse_host_plan_Plan_to_erase(r19, a1, a3, a4, r1_3_8_copyload);
         break;
     case 1:
-        store64(r19 + 8, 1);
+        store_size(r19 + 8, 1);
         store64(r19 + 16, r1_3_8_copyload);
         store64(r19 + 24, r1_10_16_copyload);
-        store64(r19 + 32, (size_t)a3);
+        store_size(r19 + 32, (size_t)a3);
         store64(r19 + 40, a4);
         store32(r19 + 48, (uint32_t)((a3 == 2) ? 10 : 5));
         break;
@@ -5381,9 +5094,9 @@ static void dfuse_host_plan_Plan_settle(unsigned char *a0, unsigned char *a1, un
         }
 dfuse_host_plan_Plan_to_leave_exit:
         *r19 = r5_0_0;
-        store64(r19 + 8, r5_1640_0);
+        store_size(r19 + 8, r5_1640_0);
         memset(r19 + 16, 0, 16);
-        store64(r19 + 32, r5_26_0);
+        store_size(r19 + 32, r5_26_0);
         store64(r19 + 40, r5_29_0);
         store32(r19 + 48, r5_32_0);
         break;
@@ -5407,14 +5120,14 @@ static void dfuse_host_plan_Plan_to_erase(unsigned char *a0, unsigned char *a1, 
     uint8_t v2, v3, v4;
     memset(r8, 0, 56);
     r14 = a1 + 8;
-    size_t r7_0_0_copyload = (size_t)load64(r14);
+    size_t r7_0_0_copyload = load_size(r14);
     r7_3_0_r14_sroa_idx = a1 + 16;
-    uint64_t r7_3_0_copyload = load64(r7_3_0_r14_sroa_idx);
+    size_t r7_3_0_copyload = load_size(r7_3_0_r14_sroa_idx);
     uint64_t r18 = dfuse_host_image_image_end((unsigned char *)(uintptr_t)r7_0_0_copyload, r7_3_0_copyload);
     r20 = dfuse_host_plan_Plan_byte_in(a1, a4, r18);
     if (r20.a != 0) {
         store64(r8 + 16, r20.b);
-        store64(r8 + 32, (size_t)a2);
+        store_size(r8 + 32, (size_t)a2);
         store64(r8 + 40, a3);
         store32(r8 + 48, (uint32_t)((a2 == 2) ? 10 : 5));
         v2 = 0;
@@ -5423,8 +5136,8 @@ static void dfuse_host_plan_Plan_to_erase(unsigned char *a0, unsigned char *a1, 
     }
     else {
         uint64_t r26 = dfuse_host_plan_Plan_front_end(a1);
-        size_t r11_0_0_copyload = (size_t)load64(r14);
-        uint64_t r11_3_0_copyload = load64(r7_3_0_r14_sroa_idx);
+        size_t r11_0_0_copyload = load_size(r14);
+        size_t r11_3_0_copyload = load_size(r7_3_0_r14_sroa_idx);
         uint64_t r31 = dfuse_host_image_image_end((unsigned char *)(uintptr_t)r11_0_0_copyload, r11_3_0_copyload);
         dfuse_host_plan_Plan_to_write(r8, a1, a2, a3, r26, r31);
         uint8_t pre = *r8;
@@ -5443,12 +5156,12 @@ static void dfuse_host_plan_Plan_to_erase(unsigned char *a0, unsigned char *a1, 
 
 /* dfuse_host::plan::Plan::byte_in: crates/dfuse_host/src/settling.rt */
 static struct i8_i64 dfuse_host_plan_Plan_byte_in(unsigned char *a0, uint64_t a1, uint64_t a2) {
-    uint64_t r3_3_0_copyload, r3_0, r0_4_0;
+    size_t r3_3_0_copyload, r3_0, r7_2;
     unsigned char *r7;
     uint8_t exitcond_not_not_not_not_not_not_not_not_not_not_not;
-    size_t r7_2;
-    size_t r3_0_0_copyload = (size_t)load64(a0 + 8);
-    r3_3_0_copyload = load64(a0 + 16);
+    uint64_t r0_4_0;
+    size_t r3_0_0_copyload = load_size(a0 + 8);
+    r3_3_0_copyload = load_size(a0 + 16);
     r7 = (unsigned char *)(uintptr_t)r3_0_0_copyload;
     r3_0 = 0;
     for (;;) {
@@ -5457,7 +5170,7 @@ static struct i8_i64 dfuse_host_plan_Plan_byte_in(unsigned char *a0, uint64_t a1
             r0_4_0 = 0;
             goto dfuse_host_image_next_byte_exit;
         }
-        unsigned char *r26 = r7 + ((size_t)r3_0 * 24);
+        unsigned char *r26 = r7 + (r3_0 * 24);
         uint32_t r5 = load32(r26);
         r7_2 = (size_t)r5;
         uint64_t r10 = load64(r26 + 16);
@@ -5492,10 +5205,10 @@ static void dfuse_host_plan_Plan_to_write(unsigned char *a0, unsigned char *a1, 
         v4 = pre;
     }
     else {
-        store64(r6 + 8, 2);
+        store_size(r6 + 8, 2);
         store64(r6 + 16, r10.b);
         store64(r6 + 24, a5);
-        store64(r6 + 32, (size_t)a2);
+        store_size(r6 + 32, (size_t)a2);
         store64(r6 + 40, a3);
         store32(r6 + 48, (uint32_t)((a2 == 2) ? 10 : 5));
         v2 = 0;
@@ -5512,23 +5225,22 @@ static void dfuse_host_plan_Plan_to_write(unsigned char *a0, unsigned char *a1, 
 /* dfuse_host::plan::Plan::to_compare: crates/dfuse_host/src/settling.rt */
 static void dfuse_host_plan_Plan_to_compare(unsigned char *a0, unsigned char *a1, uint8_t a2, uint64_t a3, uint64_t a4) {
     _Alignas(8) unsigned char r8[56];
-    uint64_t r7_3_0_copyload;
+    size_t r7_3_0_copyload, common_ret_op;
     unsigned char *r14;
     struct i8_i64 r19;
-    size_t common_ret_op;
     uint8_t v1, v2, v3;
-    size_t r7_0_0_copyload = (size_t)load64(a1 + 8);
-    r7_3_0_copyload = load64(a1 + 16);
+    size_t r7_0_0_copyload = load_size(a1 + 8);
+    r7_3_0_copyload = load_size(a1 + 16);
     r14 = (unsigned char *)(uintptr_t)r7_0_0_copyload;
     uint64_t r17 = dfuse_host_image_image_end(r14, r7_3_0_copyload);
     r19 = dfuse_host_plan_Plan_byte_in(a1, a4, r17);
     if (r19.a != 0) {
         uint64_t r21 = r19.b;
         uint8_t r42 = dfuse_host_plan_Plan_comparing(a1, r21, a2, a3);
-        store64(r8 + 8, 3);
+        store_size(r8 + 8, 3);
         store64(r8 + 16, r21);
         store64(r8 + 24, 0);
-        store64(r8 + 32, (size_t)a2);
+        store_size(r8 + 32, (size_t)a2);
         store64(r8 + 40, a3);
         store32(r8 + 48, (uint32_t)r42);
         store32(r8 + 52, 0);
@@ -5577,8 +5289,8 @@ static uint8_t dfuse_host_plan_Plan_comparing(unsigned char *a0, uint64_t a1, ui
             size_t a0_a1 = (size_t)umax16(r4, 1);
             uint64_t r35 = r21 / (uint64_t)a0_a1;
             if (!((r35 > 0xfffdU) | (r21 != (r35 * (uint64_t)a0_a1)))) {
-                size_t r10_0_0_copyload = (size_t)load64(a0 + 8);
-                uint64_t r10_3_0_copyload = load64(a0 + 16);
+                size_t r10_0_0_copyload = load_size(a0 + 8);
+                size_t r10_3_0_copyload = load_size(a0 + 16);
                 dfuse_host_image_element_at(r9, a1, (unsigned char *)(uintptr_t)r10_0_0_copyload, r10_3_0_copyload);
                 uint8_t r51 = *r9;
                 uint32_t r3_0_0_copyload = load32(r9 + 8);
@@ -5602,10 +5314,10 @@ static void dfuse_host_plan_Plan_to_write_front(unsigned char *a0, unsigned char
     uint64_t r12 = dfuse_host_plan_Plan_front_end(a1);
     r14 = dfuse_host_plan_Plan_byte_in(a1, a4, r12);
     if (r14.a != 0) {
-        store64(r7 + 8, 4);
+        store_size(r7 + 8, 4);
         store64(r7 + 16, r14.b);
         store64(r7 + 24, 0);
-        store64(r7 + 32, (size_t)a2);
+        store_size(r7 + 32, (size_t)a2);
         store64(r7 + 40, a3);
         store32(r7 + 48, (uint32_t)((a2 == 2) ? 10 : 5));
         store32(r7 + 52, 0);
@@ -5614,10 +5326,10 @@ static void dfuse_host_plan_Plan_to_write_front(unsigned char *a0, unsigned char
         v4 = 0;
     }
     else {
-        uint64_t r9_3_0_copyload = load64(a1 + 16);
+        size_t r9_3_0_copyload = load_size(a1 + 16);
         if (r9_3_0_copyload == 0) common_ret_op = 0;
         else {
-            size_t r9_0_0_copyload = (size_t)load64(a1 + 8);
+            size_t r9_0_0_copyload = load_size(a1 + 8);
             uint32_t r18 = load32((unsigned char *)(uintptr_t)r9_0_0_copyload);
             common_ret_op = (size_t)r18;
         }
@@ -5700,10 +5412,10 @@ join_4:
     *a0 = r7_0_0;
     a0[1] = 0;
     a0[2] = 0;
-    store64(a0 + 8, r7_106_0);
+    store_size(a0 + 8, r7_106_0);
     store64(a0 + 16, r7_13_0);
     store64(a0 + 24, 0);
-    store64(a0 + 32, (size_t)r7_16_0_shrunk);
+    store_size(a0 + 32, (size_t)r7_16_0_shrunk);
     store64(a0 + 40, r7_18_0);
     store32(a0 + 48, r7_20_0);
     store32(a0 + 52, 0);
@@ -5715,7 +5427,7 @@ static void dfuse_host_plan_Plan_unsure_of(unsigned char *a0, unsigned char *a1,
     _Alignas(8) unsigned char r0[56];
     _Alignas(8) unsigned char r1[24];
     uint8_t r2 = *a2;
-    store64(r1, (size_t)r2);
+    store_size(r1, (size_t)r2);
     uint64_t v0 = load64(a2 + 8);
     store64(r1 + 8, v0);
     uint64_t v1 = load64(a2 + 16);
@@ -5735,28 +5447,22 @@ static void dfuse_host_plan_Plan_unsure_of(unsigned char *a0, unsigned char *a1,
 /* dfuse_host::session::Session::spent: crates/dfuse_host/src/session.rt */
 static void dfuse_host_session_Session_spent(unsigned char *a0, unsigned char *a1, unsigned char *a2, uint16_t a3) {
     _Alignas(8) unsigned char r9_21[16];
-    _Alignas(4) unsigned char r9_17_0[7];
-    _Alignas(4) unsigned char r9_25[3];
     uint32_t r1_3_0_copyload, r2_18_8_copyload, r9_27_0;
     uint8_t v1, v2, r2_73_8_copyload, r2_15_8_copyload, r9_0_0, r9_5_0, r9_9_0, r9_1328_0, r9_23_0;
-    unsigned char *r2_9_8_r8_sroa_idx, *r2_13_8_r8_sroa_idx, *r2_16_8_r8_sroa_idx;
     uint64_t r2_11_8_copyload, r2_12_8_copyload, r9_17_5_0, r9_19_0;
+    unsigned char *r2_13_8_r8_sroa_idx;
     r1_3_0_copyload = load32(a1 + 96);
     uint8_t v0 = *a2;
     v1 = a2[1];
     v2 = a2[2];
     r2_73_8_copyload = a2[8];
-    r2_9_8_r8_sroa_idx = a2 + 9;
     r2_11_8_copyload = load64(a2 + 16);
     r2_12_8_copyload = load64(a2 + 24);
     r2_13_8_r8_sroa_idx = a2 + 32;
     r2_15_8_copyload = a2[48];
-    r2_16_8_r8_sroa_idx = a2 + 49;
     r2_18_8_copyload = load32(a2 + 52);
     if (v0 == 1) {
-        memcpy(r9_17_0, r2_9_8_r8_sroa_idx, 7);
         memcpy(r9_21, r2_13_8_r8_sroa_idx, 16);
-        memcpy(r9_25, r2_16_8_r8_sroa_idx, 3);
         r9_17_5_0 = r2_11_8_copyload;
         r9_0_0 = 1;
         r9_5_0 = v1;
@@ -5767,7 +5473,18 @@ static void dfuse_host_session_Session_spent(unsigned char *a0, unsigned char *a
         r9_27_0 = r2_18_8_copyload;
     }
     else {
-        if (r1_3_0_copyload < 2) {
+        if (r1_3_0_copyload >= 2) {
+            memcpy(r9_21, r2_13_8_r8_sroa_idx, 16);
+            r9_17_5_0 = r2_11_8_copyload;
+            r9_0_0 = 0;
+            r9_5_0 = v1;
+            r9_9_0 = v2;
+            r9_1328_0 = r2_73_8_copyload;
+            r9_19_0 = r2_12_8_copyload;
+            r9_23_0 = r2_15_8_copyload;
+            r9_27_0 = r2_18_8_copyload;
+        }
+        else {
             uint8_t v4 = r2_73_8_copyload == 6;
             memset(r9_21, 0, 16);
             r9_17_5_0 = 0;
@@ -5779,36 +5496,19 @@ static void dfuse_host_session_Session_spent(unsigned char *a0, unsigned char *a
             r9_23_0 = 0;
             r9_27_0 = 0;
         }
-        else {
-            memcpy(r9_17_0, r2_9_8_r8_sroa_idx, 7);
-            memcpy(r9_21, r2_13_8_r8_sroa_idx, 16);
-            memcpy(r9_25, r2_16_8_r8_sroa_idx, 3);
-            r9_17_5_0 = r2_11_8_copyload;
-            r9_0_0 = 0;
-            r9_5_0 = v1;
-            r9_9_0 = v2;
-            r9_1328_0 = r2_73_8_copyload;
-            r9_19_0 = r2_12_8_copyload;
-            r9_23_0 = r2_15_8_copyload;
-            r9_27_0 = r2_18_8_copyload;
-        }
     }
     memmove(a0, a1, 40);
     a0[40] = r9_0_0;
     a0[41] = r9_5_0;
     a0[42] = r9_9_0;
-    memset(a0 + 43, 0, 5);
     a0[48] = r9_1328_0;
-    memcpy(a0 + 49, r9_17_0, 7);
     store64(a0 + 56, r9_17_5_0);
     store64(a0 + 64, r9_19_0);
     memcpy(a0 + 72, r9_21, 16);
     a0[88] = r9_23_0;
-    memcpy(a0 + 89, r9_25, 3);
     store32(a0 + 92, r9_27_0);
     store32(a0 + 96, usub_sat32(r1_3_0_copyload, 1));
     store16(a0 + 100, a3);
-    store16(a0 + 102, 0);
     return;
 }
 
@@ -5927,9 +5627,9 @@ int32_t dfuse_file_image(const uint8_t *file, size_t length, uint8_t setting, st
     _Alignas(8) unsigned char r8_4[24];
     unsigned char *r13, *r32, *r1_5_0_r32_sroa_idx, *r1_63_0_r32_sroa_idx, *r1_7_0_r32_sroa_idx, *r1_8_0_r32_sroa_idx, *r1_8_5_0_r1_8_0_r32_sroa_idx_sroa_idx, *r26, *v1, *r4_7_8_sroa_idx;
     uint8_t r5_0_0, r5_0_0_2, r35;
-    size_t r5_6_0, r5_6_0_2, r1_63_0_copyload, r1_8_0_0_copyload, r4_57_0, r4_57_8_copyload;
-    uint64_t r5_9_0, r3_0, r5_9_0_2, r1_7_0_copyload, r1_8_5_0_copyload, r4_7_0, r5_0, r4_7_8_copyload;
+    size_t r5_6_0, r5_9_0, r5_6_0_2, r5_9_0_2, r1_63_0_copyload, r1_7_0_copyload, r1_8_0_0_copyload, r1_8_5_0_copyload, r4_57_0, r4_7_0, r4_57_8_copyload, r4_7_8_copyload;
     uint8_t r4_0_off0;
+    uint64_t r3_0, r5_0;
     uint32_t r1_5_0_copyload, r4_0_0, common_ret_op;
     r13 = (unsigned char *)((uintptr_t)a3 + (uintptr_t)(size_t)((a3 == NULL) ? 4096 : 0));
     memset(r10, 0, 32);
@@ -5941,8 +5641,8 @@ int32_t dfuse_file_image(const uint8_t *file, size_t length, uint8_t setting, st
     }
     else {
         uint8_t r6_3_0_copyload = r10[14];
-        size_t r6_5_0_copyload = (size_t)load64(r10 + 16);
-        uint64_t r6_6_0_copyload = load64(r10 + 24);
+        size_t r6_5_0_copyload = load_size(r10 + 16);
+        size_t r6_6_0_copyload = load_size(r10 + 24);
         r32 = r4 + 8;
         r1_5_0_r32_sroa_idx = r4 + 32;
         r1_63_0_r32_sroa_idx = r4 + 40;
@@ -5969,10 +5669,10 @@ int32_t dfuse_file_image(const uint8_t *file, size_t length, uint8_t setting, st
                 if (r31 == 1) goto after_1_critedge;
                 uint8_t r1_0_0_copyload = *r32;
                 r1_5_0_copyload = load32(r1_5_0_r32_sroa_idx);
-                r1_63_0_copyload = (size_t)load64(r1_63_0_r32_sroa_idx);
-                r1_7_0_copyload = load64(r1_7_0_r32_sroa_idx);
-                r1_8_0_0_copyload = (size_t)load64(r1_8_0_r32_sroa_idx);
-                r1_8_5_0_copyload = load64(r1_8_5_0_r1_8_0_r32_sroa_idx_sroa_idx);
+                r1_63_0_copyload = load_size(r1_63_0_r32_sroa_idx);
+                r1_7_0_copyload = load_size(r1_7_0_r32_sroa_idx);
+                r1_8_0_0_copyload = load_size(r1_8_0_r32_sroa_idx);
+                r1_8_5_0_copyload = load_size(r1_8_5_0_r1_8_0_r32_sroa_idx_sroa_idx);
                 r35 = (uint8_t)(r5_0_0_2 + 255);
                 if (r1_0_0_copyload == a2) break;
                 r5_0_0_2 = r35;
@@ -5989,8 +5689,8 @@ int32_t dfuse_file_image(const uint8_t *file, size_t length, uint8_t setting, st
                 dfu_formats_dfuse_elements_take_element(r4_2, (unsigned char *)(uintptr_t)r4_57_0, r4_7_0);
                 uint8_t r25 = *r4_2;
                 if (r25 != 0) goto dfu_formats_dfuse_elements_Elements_next_element_exit;
-                r4_57_8_copyload = (size_t)load64(v1);
-                r4_7_8_copyload = load64(r4_7_8_sroa_idx);
+                r4_57_8_copyload = load_size(v1);
+                r4_7_8_copyload = load_size(r4_7_8_sroa_idx);
                 memcpy(r8_4, r26, 24);
                 if (r5_0 == (uint64_t)a4) goto arm_11;
                 memcpy(r13 + ((size_t)r5_0 * 24), r8_4, 24);
@@ -6478,15 +6178,15 @@ int32_t dfu_host_name(uint32_t report, uint8_t *out, size_t room) {
     else {
         uint8_t r1_0_0_copyload = r2[1];
         size_t v1 = (size_t)r1_0_0_copyload;
-        uint64_t switch_load = load64(PLACE(switch_table_dfu_host_name) + 8 * v1);
-        uint64_t switch_load2 = load64(PLACE(switch_table_dfu_host_name_1) + 8 * v1);
-        uint64_t r33 = switch_load2 - switch_load;
+        size_t switch_load = (size_t)switch_table_dfu_host_name[v1];
+        size_t switch_load2 = (size_t)switch_table_dfu_host_name_1[v1];
+        uint64_t r33 = (uint64_t)switch_load2 - (uint64_t)switch_load;
         if ((uint64_t)a2 < r33) {
             common_ret_op = 0;
             goto dfu_host_c_names_dfu_host_name_exit;
         }
         r4_4_0 = (size_t)r33;
-        r4_0_0 = PLACE(static_21) + (size_t)switch_load;
+        r4_0_0 = PLACE(static_21) + switch_load;
     }
     core_slice_edits_slice_T_copy_from_slice_i8_core_clone_U8Clone(r4, r4_0_0, r4_4_0);
     common_ret_op = (uint32_t)r4_4_0;
@@ -6542,8 +6242,9 @@ int32_t dfu_host_next(const struct dfu_session *session, const uint8_t *payload,
     _Alignas(4) unsigned char r45[6];
     uint8_t v1, v2, v15;
     uint16_t v3, r16;
-    uint64_t v5, r0_5_59_7_copyload, v16, r2_0, v21, r14_9_0, r14_12_0, r14_18_0;
+    uint64_t v5, v16, v21, r14_18_0;
     uint32_t v6, r14_0, r14_0_0, r14_6_0, r14_15_0, common_ret_op;
+    size_t r0_5_59_7_copyload, r2_0, r14_9_0, r14_12_0;
     memset(r4, 0, 72);
     dfu_host_c_holding_session_of(r4, a0, (unsigned char *)((uintptr_t)a1 + (uintptr_t)(size_t)((a1 == NULL) ? 4096 : 0)), a2);
     uint8_t r13 = *r4;
@@ -6570,19 +6271,19 @@ int32_t dfu_host_next(const struct dfu_session *session, const uint8_t *payload,
         case 17:
             store16(r19, 3);
             store16(r19 + 2, 6);
-            dfu_host_task_send(r18, r19, PLACE(static_20), 0);
+            dfu_host_task_send(r18, r19, 0);
             goto dfu_host_session_Session_next_exitthread_pre_split;
         case 9:
         case 13:
             store16(r23, 5);
             store16(r23 + 2, 1);
-            dfu_host_task_send(r18, r23, PLACE(static_20), 0);
+            dfu_host_task_send(r18, r23, 0);
             goto dfu_host_session_Session_next_exitthread_pre_split;
         case 2: {
             uint16_t r65 = load16(r3 + 28);
             store16(r27, 0);
             store16(r27 + 2, r65);
-            dfu_host_task_send(r18, r27, PLACE(static_20), 0);
+            dfu_host_task_send(r18, r27, 0);
             goto dfu_host_session_Session_next_exitthread_pre_split;
         }
         case 3: {
@@ -6596,24 +6297,24 @@ int32_t dfu_host_next(const struct dfu_session *session, const uint8_t *payload,
         }
         case 4:
             store16(r31, 4);
-            dfu_host_task_send(r18, r31, PLACE(static_20), 0);
+            dfu_host_task_send(r18, r31, 0);
             goto dfu_host_session_Session_next_exitthread_pre_split;
         case 5:
         case 22:
             store16(r35, 6);
-            dfu_host_task_send(r18, r35, PLACE(static_20), 0);
+            dfu_host_task_send(r18, r35, 0);
             goto dfu_host_session_Session_next_exitthread_pre_split;
         case 8: {
             struct ptr_i64 r89 = dfu_host_task_Task_block(r3, v5);
-            dfu_host_task_download(r18, (size_t)v5, r89.a, (size_t)r89.b);
+            dfu_host_task_download(r18, (size_t)v5, (size_t)r89.b);
             goto dfu_host_session_Session_next_exitthread_pre_split;
         }
         case 12: {
             r16 = load16(r3 + 24);
             if (r16 == 0) trap();
             uint8_t r7_2 = *r3;
-            uint64_t r16_2 = load64(r3 + 16);
-            dfu_host_task_download(r18, (size_t)((uint64_t)((r7_2 == 1) ? 0xffffffffffffffffULL : (r16_2 - 1)) / (uint64_t)(size_t)r16) + 1, PLACE(static_20), 0);
+            size_t r16_2 = load_size(r3 + 16);
+            dfu_host_task_download(r18, (size_t)((uint64_t)((r7_2 == 1) ? 0xffffffffffffffffULL : ((uint64_t)r16_2 - 1)) / (uint64_t)(size_t)r16) + 1, 0);
             goto dfu_host_session_Session_next_exitthread_pre_split;
         }
         case 6:
@@ -6630,7 +6331,7 @@ int32_t dfu_host_next(const struct dfu_session *session, const uint8_t *payload,
             store16(r45, 2);
             store16(r45 + 2, v3);
             store16(r45 + 4, r127);
-            dfu_host_task_send(r18, r45, PLACE(static_20), 0);
+            dfu_host_task_send(r18, r45, 0);
             goto dfu_host_session_Session_next_exitthread_pre_split;
         }
         case 7:
@@ -6654,7 +6355,7 @@ int32_t dfu_host_next(const struct dfu_session *session, const uint8_t *payload,
         goto dfu_host_session_Session_next_exit;
 dfu_host_session_Session_next_exitthread_pre_split:;
         uint8_t pr = *r18;
-        uint64_t r0_5_59_7_copyload_pre = load64(r18 + 24);
+        size_t r0_5_59_7_copyload_pre = load_size(r18 + 24);
         r0_5_59_7_copyload = r0_5_59_7_copyload_pre;
         v15 = pr;
 dfu_host_session_Session_next_exit:
@@ -6662,12 +6363,12 @@ dfu_host_session_Session_next_exit:
         if (v1 != 8) r2_0 = 0;
         else {
             uint8_t r7_3 = *r3;
-            uint64_t r16_3 = load64(r3 + 16);
-            uint64_t r2_4_0 = (uint64_t)((r7_3 == 1) ? 0 : r16_3);
+            size_t r16_3 = load_size(r3 + 16);
+            size_t r2_4_0 = (size_t)((r7_3 == 1) ? 0 : r16_3);
             uint16_t r13_3 = load16(r3 + 24);
             size_t r15 = (size_t)r13_3;
             struct i64_i1 mul = product64(r15, v5);
-            r2_0 = (uint64_t)((r13_3 == 0) ? 0 : (uint64_t)(mul.b ? r2_4_0 : umin64(r2_4_0, v5 * (uint64_t)r15)));
+            r2_0 = (size_t)((r13_3 == 0) ? 0 : (size_t)(mul.b ? r2_4_0 : (size_t)umin64(r2_4_0, v5 * (uint64_t)r15)));
         }
         switch (v15) {
         case 0:
@@ -6733,8 +6434,7 @@ int32_t dfuse_read_file(const uint8_t *file, size_t length, struct dfuse_file *o
     _Alignas(8) unsigned char r5[32];
     uint16_t r3_0_0_copyload, r3_3_0_copyload, r3_4_0_copyload;
     uint8_t r3_5_0_copyload, r1_0_0_copyload, r1_0_0_in, r1_0_0;
-    size_t r3_61_0_copyload, r1_9_0;
-    uint64_t r3_7_0_copyload, r1_14_0;
+    size_t r3_61_0_copyload, r3_7_0_copyload, r1_9_0, r1_14_0;
     unsigned char *r32, *r1_8_0_r32_sroa_idx, *r1_8_5_0_r1_8_0_r32_sroa_idx_sroa_idx;
     uint32_t v2, r6_0;
     memset(r5, 0, 32);
@@ -6749,8 +6449,8 @@ int32_t dfuse_read_file(const uint8_t *file, size_t length, struct dfuse_file *o
         r3_3_0_copyload = load16(r5 + 10);
         r3_4_0_copyload = load16(r5 + 12);
         r3_5_0_copyload = r5[14];
-        r3_61_0_copyload = (size_t)load64(r5 + 16);
-        r3_7_0_copyload = load64(r5 + 24);
+        r3_61_0_copyload = load_size(r5 + 16);
+        r3_7_0_copyload = load_size(r5 + 24);
         memset(r4, 0, 72);
         if (r3_5_0_copyload == 0) v2 = 256;
         else {
@@ -6759,8 +6459,8 @@ int32_t dfuse_read_file(const uint8_t *file, size_t length, struct dfuse_file *o
             if (r31 == 1) v2 = 256;
             else {
                 r1_0_0_copyload = r4[8];
-                size_t r1_8_0_0_copyload = (size_t)load64(r4 + 56);
-                uint64_t r1_8_5_0_copyload = load64(r4 + 64);
+                size_t r1_8_0_0_copyload = load_size(r4 + 56);
+                size_t r1_8_5_0_copyload = load_size(r4 + 64);
                 r32 = r4_2 + 8;
                 r1_8_0_r32_sroa_idx = r4_2 + 56;
                 r1_8_5_0_r1_8_0_r32_sroa_idx_sroa_idx = r4_2 + 64;
@@ -6775,8 +6475,8 @@ int32_t dfuse_read_file(const uint8_t *file, size_t length, struct dfuse_file *o
                     uint8_t r31_2 = *r4_2;
                     if (r31_2 == 1) goto return_5_critedge;
                     uint8_t r1_0_0_copyload_2 = *r32;
-                    size_t r1_8_0_0_copyload_2 = (size_t)load64(r1_8_0_r32_sroa_idx);
-                    uint64_t r1_8_5_0_copyload_2 = load64(r1_8_5_0_r1_8_0_r32_sroa_idx_sroa_idx);
+                    size_t r1_8_0_0_copyload_2 = load_size(r1_8_0_r32_sroa_idx);
+                    size_t r1_8_5_0_copyload_2 = load_size(r1_8_5_0_r1_8_0_r32_sroa_idx_sroa_idx);
                     if (r1_0_0_copyload_2 != r1_0_0_copyload) {
                         v2 = 256;
                         goto dfu_host_c_dfuse_file_file_record_exit;
@@ -6831,8 +6531,7 @@ int32_t dfu_host_upload(struct dfu_session *session, const uint8_t *descriptor, 
         else {
             if (r4_7_0_copyload == 0) common_ret_op = 0xffffffe7U;
             else {
-                store64(r7, 1);
-                memset(r7 + 8, 0, 16);
+                store_size(r7, 1);
                 store16(r7 + 24, r4_7_0_copyload);
                 r7[26] = r4_4_0_copyload;
                 r7[27] = r4_5_0_copyload;
@@ -6840,7 +6539,6 @@ int32_t dfu_host_upload(struct dfu_session *session, const uint8_t *descriptor, 
                 memset(r7 + 30, 0, 26);
                 store32(r7 + 56, umax32(a3, 1));
                 store16(r7 + 60, a4);
-                store16(r7 + 62, 0);
                 dfu_host_c_beginning_start(a0, r7);
                 common_ret_op = 0;
             }
@@ -6860,10 +6558,8 @@ int32_t dfu_host_download(struct dfu_session *session, const uint8_t *file, size
     uint32_t a6 = actions;
     uint16_t a7 = restarts;
     _Alignas(4) unsigned char r7[6];
-    uint16_t r4 = load16(a5);
     uint16_t r6 = load16(a5 + 2);
     uint16_t r8 = load16(a5 + 4);
-    store16(r7, r4);
     store16(r7 + 2, r6);
     store16(r7 + 4, r8);
     uint32_t r19 = dfu_host_c_beginning_install(a0, (unsigned char *)((uintptr_t)a1 + (uintptr_t)(size_t)((a1 == NULL) ? 4096 : 0)), a2, (unsigned char *)((uintptr_t)a3 + (uintptr_t)(size_t)((a3 == NULL) ? 4096 : 0)), a4, r7, a6, a7, 0);
@@ -6881,10 +6577,8 @@ int32_t dfu_host_verified(struct dfu_session *session, const uint8_t *file, size
     uint32_t a6 = actions;
     uint16_t a7 = restarts;
     _Alignas(4) unsigned char r7[6];
-    uint16_t r4 = load16(a5);
     uint16_t r6 = load16(a5 + 2);
     uint16_t r8 = load16(a5 + 4);
-    store16(r7, r4);
     store16(r7 + 2, r6);
     store16(r7 + 4, r8);
     uint32_t r19 = dfu_host_c_beginning_install(a0, (unsigned char *)((uintptr_t)a1 + (uintptr_t)(size_t)((a1 == NULL) ? 4096 : 0)), a2, (unsigned char *)((uintptr_t)a3 + (uintptr_t)(size_t)((a3 == NULL) ? 4096 : 0)), a4, r7, a6, a7, 1);
@@ -6924,57 +6618,26 @@ int32_t dfu_host_take(struct dfu_session *session, const uint8_t *payload, size_
         else {
             switch (a5) {
             case 0:
+            case 2:
+            case 3:
+            case 4:
+            case 6:
+            case 5:
+            case 7:
                 r3_20_0_0 = 0;
                 r3_20_10_0 = 0;
                 v1 = 0;
-                r3_11_0_0 = 0;
                 break;
             case 1:
                 r3_20_0_0 = (size_t)(uintptr_t)r22;
                 r3_20_10_0 = a7;
                 v1 = 1;
-                r3_11_0_0 = 1;
-                break;
-            case 2:
-                r3_20_0_0 = 0;
-                r3_20_10_0 = 0;
-                v1 = 0;
-                r3_11_0_0 = 2;
-                break;
-            case 3:
-                r3_20_0_0 = 0;
-                r3_20_10_0 = 0;
-                v1 = 0;
-                r3_11_0_0 = 3;
-                break;
-            case 4:
-                r3_20_0_0 = 0;
-                r3_20_10_0 = 0;
-                v1 = 0;
-                r3_11_0_0 = 4;
-                break;
-            case 6:
-                r3_20_0_0 = 0;
-                r3_20_10_0 = 0;
-                v1 = 0;
-                r3_11_0_0 = 6;
-                break;
-            case 5:
-                r3_20_0_0 = 0;
-                r3_20_10_0 = 0;
-                v1 = 0;
-                r3_11_0_0 = 5;
-                break;
-            case 7:
-                r3_20_0_0 = 0;
-                r3_20_10_0 = 0;
-                v1 = 0;
-                r3_11_0_0 = 7;
                 break;
             default:
                 common_ret_op = 0xffffffd6U;
                 goto dfu_host_c_steps_dfu_host_take_exit;
             }
+            r3_11_0_0 = (size_t)a5;
             memset(r0, 0, 48);
             uint8_t r8_0_0_copyload = r7[32];
             if (!(v1 & (r8_0_0_copyload == 18))) r0_4_0_pn = r30;
@@ -6987,9 +6650,9 @@ int32_t dfu_host_take(struct dfu_session *session, const uint8_t *payload, size_
                 if (!((r3_20_10_0 < r9_2) | ((r8_4_2_copyload != 0xfffeU) & (r3_20_10_0 == r9_2)))) r0_4_0_pn = r30;
                 else {
                     if ((a4 - v4) < r3_20_10_0) {
-                        store64(r18, r3_11_0_0);
-                        store64(r18 + 8, r3_20_0_0);
-                        store64(r18 + 16, r3_20_10_0);
+                        store_size(r18, r3_11_0_0);
+                        store_size(r18 + 8, r3_20_0_0);
+                        store_size(r18 + 16, r3_20_10_0);
                         dfu_host_session_Session_on_result(r7, r18, 1);
                         r14_0 = r30;
                         goto dfu_host_c_steps_step_exit;
@@ -6998,9 +6661,9 @@ int32_t dfu_host_take(struct dfu_session *session, const uint8_t *payload, size_
                     r0_4_0_pn = (uint64_t)v4 + (uint64_t)r3_20_10_0;
                 }
             }
-            store64(r16, r3_11_0_0);
-            store64(r16 + 8, r3_20_0_0);
-            store64(r16 + 16, r3_20_10_0);
+            store_size(r16, r3_11_0_0);
+            store_size(r16 + 8, r3_20_0_0);
+            store_size(r16 + 16, r3_20_10_0);
             dfu_host_session_Session_on_result(r7, r16, 0);
             r14_0 = r0_4_0_pn;
 dfu_host_c_steps_step_exit:
@@ -7336,9 +6999,8 @@ int32_t dfuse_next(const struct dfuse_session *session, const uint8_t *map, size
             if (r8_41_0_copyload == 0) {
                 uint8_t r8_12_0_copyload = r10[96];
                 r17 = (size_t)r8_72_0_copyload;
-                store64(r1, r17);
+                store_size(r1, r17);
                 store64(r1 + 8, r8_83_0_copyload);
-                store64(r1 + 16, r8_9_0_copyload);
                 memset(r15, 0, 32);
                 store32a2(r16 + 2, 0);
                 store16(r17_2 + 4, 0);
@@ -7379,8 +7041,7 @@ int32_t dfuse_next(const struct dfuse_session *session, const uint8_t *map, size
                 case 5: {
                     struct i8_i64 r34 = dfuse_host_plan_Plan_command_of(r28, r1, r8_10_0_copyload, r8_114_0_copyload);
                     r36 = r34.b;
-                    store64(r1_2, r17);
-                    store64(r1_2 + 8, r8_83_0_copyload);
+                    store_size(r1_2, r17);
                     store64(r1_2 + 16, r8_9_0_copyload);
                     memset(r14, 0, 32);
                     switch (r34.a) {
@@ -7408,7 +7069,7 @@ int32_t dfuse_next(const struct dfuse_session *session, const uint8_t *map, size
                     break;
                 }
                 case 11: {
-                    store64(r1_3, r17);
+                    store_size(r1_3, r17);
                     store64(r1_3 + 8, r8_83_0_copyload);
                     store64(r1_3 + 16, r8_9_0_copyload);
                     memset(r0 + 8, 0, 24);
@@ -7431,7 +7092,7 @@ int32_t dfuse_next(const struct dfuse_session *session, const uint8_t *map, size
                 default: never();
                 }
                 uint8_t pr = *r15;
-                r10_10_3_2_copyload_pre = (size_t)load64(r15 + 16);
+                r10_10_3_2_copyload_pre = load_size(r15 + 16);
                 r10_10_5_2_copyload_pre = load64(r15 + 24);
                 v19 = load64u(r15 + 1);
                 memcpy(r12_9, r15 + 9, 5);
@@ -7502,8 +7163,6 @@ int32_t dfuse_begin(struct dfuse_session *session, const uint8_t *map, size_t ma
     _Alignas(2) unsigned char r16_5[46];
     _Alignas(8) unsigned char r4[40];
     _Alignas(8) unsigned char r8_6_10[24];
-    _Alignas(4) unsigned char r8_6_6[5];
-    _Alignas(4) unsigned char r16_10[5];
     _Alignas(4) unsigned char r11_3[3];
     unsigned char *r13, *r25, *r0_3_0_a0_sroa_idx, *r0_4_0_a0_sroa_idx, *r16_5_8_r52_sroa_idx;
     uint32_t r36, r3_0_2, r0_11_0_neg, r8_4_0_neg, r8_8_0, common_ret_op;
@@ -7515,7 +7174,6 @@ int32_t dfuse_begin(struct dfuse_session *session, const uint8_t *map, size_t ma
     memset(r9, 0, 104);
     memset(r11, 0, 800);
     memset(r16_5, 0, 46);
-    memset(r16_10, 0, 5);
     memset(r20, 0, 64);
     dfu_formats_memory_map_Map_read(r11, (unsigned char *)((uintptr_t)a1 + (uintptr_t)(size_t)((a1 == NULL) ? 4096 : 0)), a2);
     uint8_t r26 = *r11;
@@ -7532,17 +7190,14 @@ int32_t dfuse_begin(struct dfuse_session *session, const uint8_t *map, size_t ma
         uint16_t r13_2 = load16(a5 + 14);
         uint32_t r17 = load32(a5);
         memset(r8_6_0, 0, 46);
-        memset(r8_6_6, 0, 5);
         memset(r8_6_10, 0, 24);
-        store64(r4, (size_t)(uintptr_t)r5);
-        store64(r4 + 8, (size_t)(uintptr_t)r13);
-        store64(r4 + 16, a4);
+        store_size(r4, (size_t)(uintptr_t)r5);
+        store_size(r4 + 8, (size_t)(uintptr_t)r13);
+        store_size(r4 + 16, a4);
         store16(r4 + 24, r9_2);
         store16(r4 + 26, r11_2);
         r4[28] = r13_2 != 0;
-        memset(r4 + 29, 0, 3);
         store32(r4 + 32, r17);
-        store32(r4 + 36, 0);
         if (r9_2 == 0) r0_11_0_neg = 0xffffffc3U;
         else {
             if (a4 == 0) r0_11_0_neg = 0xffffffc2U;
@@ -7620,7 +7275,6 @@ int32_t dfuse_begin(struct dfuse_session *session, const uint8_t *map, size_t ma
                             }
                             uint32_t r18 = load32(r13);
                             memcpy(r8_6_0 + 6, r4, 40);
-                            memset(r8_6_6, 0, 5);
                             memset(r8_6_10, 0, 24);
                             v1 = 1;
                             r8_6_8_0 = (size_t)r18;
@@ -7643,21 +7297,18 @@ dfuse_host_plan_Plan_check_exit_thread:
 dfuse_host_session_Session_begin_exit:
         r16_5_8_r52_sroa_idx = r16_5 + 6;
         memcpy(r16_5_8_r52_sroa_idx, r8_6_0 + 6, 40);
-        memcpy(r16_10, r8_6_6, 5);
         if (!v1) common_ret_op = r8_4_0_neg;
         else {
             memcpy(r9, r16_5_8_r52_sroa_idx, 40);
             r9[40] = 0;
             r9[41] = 0;
             r9[42] = 0;
-            memcpy(r9 + 43, r16_10, 5);
-            store64(r9 + 48, 0);
+            store_size(r9 + 48, 0);
             store64(r9 + 56, r8_6_8_0);
             store64(r9 + 64, 0);
             memcpy(r9 + 72, r8_6_10, 24);
             store32(r9 + 96, r8_8_0);
             store16(r9 + 100, r8_9_0);
-            store16(r9 + 102, 0);
             dfu_host_c_dfuse_holding_record_of(r20, r9);
             memcpy(a0, r20, 64);
             common_ret_op = 0;
@@ -7714,16 +7365,16 @@ int32_t dfuse_take(struct dfuse_session *session, const uint8_t *map, size_t map
     unsigned char *const r1_5 = r2_2;
     _Alignas(8) unsigned char r2[48];
     unsigned char *const r1_3 = r2;
-    unsigned char *r22, *r31, *v3, *v4, *v5, *r23, *r23_2;
-    size_t r3_16_0_0, r3_16_8_0, r18;
+    unsigned char *r22, *r31, *r23, *r23_2;
+    size_t r3_16_0_0, r3_16_8_0, r18, r9_21_8_copyload25, r9_1321_8_copyload22, r17_83_8_copyload241, r17_46230_8_copyload232, r17_83_8_copyload242, r17_46230_8_copyload233, r17_46230_0, r17_83_0;
     uint8_t r3_9_0_0, r5_0_0_copyload, r5_10_0_copyload, r5_14_0_copyload, r5_5_3_0, r5_5_7_0, r5_0_0, r13_10_3_0, r13_10_9_0, r13_0_0, r13_6_0, r17_10_3_0;
-    uint8_t r17_10_7_0, r17_0_0, r17_8_0, v10, v11, v12, r9_0_0, r9_5_0, r9_9_0, r9_1319_0_in, v16, v17;
-    uint8_t v18, v19, v20, v21, v30, v31, v32, v33, v34, v35, v36, v37;
-    uint8_t v38, v43, v44, v45, v46, v47, v48, r12_23_0_in, r12_0_0, r12_108_0_in, r12_17_0_in, r17_0_0_2;
+    uint8_t r17_10_7_0, r17_0_0, r17_8_0, v7, v8, v9, r9_0_0, r9_5_0, r9_9_0, r9_1319_0_in, v13, v14;
+    uint8_t v15, v16, v17, v18, v27, v28, v29, v30, v31, v32, v33, v34;
+    uint8_t v35, v40, v41, v42, v43, v44, v45, r12_23_0_in, r12_0_0, r12_108_0_in, r12_17_0_in, r17_0_0_2;
     uint8_t r17_16_0, r17_31_0;
-    uint64_t r5_6_0_copyload, r5_8_0_copyload, r5_13_0_copyload, r9_23_8_copyload26, r9_21_8_copyload25, r9_19_8_copyload24, r9_17_8_copyload23, r9_1321_8_copyload22, r9_17_0, r9_20_0, r33, r17_94_8_copyload244;
-    uint64_t r17_83_8_copyload241, r17_72_8_copyload238, r17_61_8_copyload235, r17_46230_8_copyload232, r14_4, r11_5_0, r11_9_0, r17_94_8_copyload245, r17_83_8_copyload242, r17_72_8_copyload239, r17_61_8_copyload236, r17_46230_8_copyload233;
-    uint64_t r12_26_0, r12_13_0, r12_15_0, r12_19_0, r17_46230_0, r17_61_0, r17_72_0, r17_83_0, r17_94_0;
+    uint64_t r5_6_0_copyload, r5_8_0_copyload, r5_13_0_copyload, r9_23_8_copyload26, r9_19_8_copyload24, r9_17_8_copyload23, r9_17_0, r9_20_0, r33, r17_94_8_copyload244, r17_72_8_copyload238, r17_61_8_copyload235;
+    uint64_t r14_4, r11_5_0, r11_9_0, r17_94_8_copyload245, r17_72_8_copyload239, r17_61_8_copyload236, r12_26_0, r12_13_0, r12_15_0, r12_19_0, r17_61_0, r17_72_0;
+    uint64_t r17_94_0;
     uint32_t r5_18_0_copyload, r5_5_6_0, r13_10_8_0, r17_10_6_0, r9_27_8_copyload28, r9_25_8_copyload27, r9_28_0, r9_31_0, r17_111_8_copyload250, r17_101_8_copyload247, r17_111_8_copyload251, r17_101_8_copyload248;
     uint32_t r12_29_0, r12_21_0, r17_101_0, r17_111_0, common_ret_op;
     uint8_t common_ret_op_2;
@@ -7780,14 +7431,11 @@ int32_t dfuse_take(struct dfuse_session *session, const uint8_t *map, size_t map
             uint8_t r14 = r8[40];
             if (r14 == 0) {
                 r5_0_0_copyload = r8[48];
-                v3 = r11 + 57;
                 r5_6_0_copyload = load64(r8 + 56);
                 r5_8_0_copyload = load64(r8 + 64);
                 r5_10_0_copyload = r8[72];
-                v4 = r11 + 81;
                 r5_13_0_copyload = load64(r8 + 80);
                 r5_14_0_copyload = r8[88];
-                v5 = r11 + 97;
                 r5_18_0_copyload = load32(r8 + 92);
                 r18 = (size_t)r5_0_0_copyload;
                 switch (r3_9_0_0) {
@@ -7800,7 +7448,7 @@ int32_t dfuse_take(struct dfuse_session *session, const uint8_t *map, size_t map
                     break;
                 case 1:
                     r23 = (unsigned char *)(uintptr_t)r3_16_0_0;
-                    store64(r1, r18);
+                    store_size(r1, r18);
                     store64(r1 + 8, r5_6_0_copyload);
                     store64(r1 + 16, r5_8_0_copyload);
                     switch (r5_14_0_copyload) {
@@ -7816,12 +7464,12 @@ int32_t dfuse_take(struct dfuse_session *session, const uint8_t *map, size_t map
                         }
                         else {
                             uint8_t r27 = *r23;
-                            uint8_t v6 = r27 < 11;
+                            uint8_t v3 = r27 < 11;
                             r13_10_3_0 = 0;
                             r13_10_8_0 = 0;
                             r13_10_9_0 = 0;
-                            r13_0_0 = (uint8_t)(v6 ? 2 : 5);
-                            r13_6_0 = (uint8_t)(v6 ? r27 : 0);
+                            r13_0_0 = (uint8_t)(v3 ? 2 : 5);
+                            r13_6_0 = (uint8_t)(v3 ? r27 : 0);
                         }
                         break;
                     case 2:
@@ -7863,10 +7511,8 @@ int32_t dfuse_take(struct dfuse_session *session, const uint8_t *map, size_t map
                             r13_6_0 = 0;
                         }
                         else {
-                            store64(r5, r3_16_0_0);
-                            store64(r5 + 8, r3_16_8_0);
-                            store64(r5 + 16, (size_t)(uintptr_t)r23_2);
-                            store64(r5 + 24, r3_16_8_0);
+                            store_size(r5, r3_16_0_0);
+                            store_size(r5 + 16, (size_t)(uintptr_t)r23_2);
                             if (r3_16_8_0 < 4) {
                                 uint8_t r60 = core_slice_scan_any_by_one(r5, r3_16_8_0);
                                 common_ret_op_2 = !r60;
@@ -7875,7 +7521,7 @@ int32_t dfuse_take(struct dfuse_session *session, const uint8_t *map, size_t map
                                 uint8_t r70 = core_slice_scan_any_in_run(r5, 0, 4);
                                 if (r70) common_ret_op_2 = 0;
                                 else {
-                                    uint8_t r83 = core_cmp_slices_groups_equal_i8_core_cmp_numbers_U8PartialEq(r23, r3_16_8_0, r23_2, r3_16_8_0);
+                                    uint8_t r83 = core_cmp_slices_groups_equal_i8_core_cmp_numbers_U8PartialEq(r23, r3_16_8_0, r23_2);
                                     common_ret_op_2 = r83;
                                 }
                             }
@@ -7945,15 +7591,11 @@ int32_t dfuse_take(struct dfuse_session *session, const uint8_t *map, size_t map
                 r8_5_0_copyload = load16(r11 + 110);
                 if (r17_0_0 == 7) {
                     *r2 = r5_0_0_copyload;
-                    memcpy(r2 + 1, v3, 7);
                     store64(r2 + 8, r5_6_0_copyload);
                     store64(r2 + 16, r5_8_0_copyload);
                     r2[24] = r5_10_0_copyload;
-                    memcpy(r2 + 25, v4, 7);
                     store64(r2 + 32, r5_13_0_copyload);
                     r2[40] = r5_14_0_copyload;
-                    memcpy(r2 + 41, v5, 3);
-                    store32(r2 + 44, r5_18_0_copyload);
                     if (r5_0_0_copyload != 6) {
                         memcpy(r5_2, r31, 100);
                         store16(r5_2 + 100, r8_3_0_copyload);
@@ -7962,30 +7604,24 @@ int32_t dfuse_take(struct dfuse_session *session, const uint8_t *map, size_t map
                     }
                     else {
                         *r2_2 = 6;
-                        memcpy(r2_2 + 1, v3, 7);
                         store64(r2_2 + 8, r5_6_0_copyload);
                         store64(r2_2 + 16, r5_8_0_copyload);
                         r2_2[24] = r5_10_0_copyload;
-                        memcpy(r2_2 + 25, v4, 7);
                         store64(r2_2 + 32, r5_13_0_copyload);
                         r2_2[40] = r5_14_0_copyload;
-                        memcpy(r2_2 + 41, v5, 3);
-                        store32(r2_2 + 44, r5_18_0_copyload);
                         memset(r3, 0, 104);
                         memset(r7_2, 0, 56);
-                        if ((uint8_t)(r5_14_0_copyload + 244) >= 3) {
+                        if ((uint8_t)(r5_14_0_copyload + 244) < 3) {
+                            memcpy(r4_2, r31, 100);
+                            *r7_2 = 1;
+                            r7_2[2] = 2;
+                            dfuse_host_session_Session_spent(r3, r4_2, r7_2, r8_3_0_copyload);
+                        }
+                        else {
                             memcpy(r9_2, r31, 100);
                             store16(r9_2 + 100, r8_3_0_copyload);
                             store16(r9_2 + 102, r8_5_0_copyload);
                             dfuse_host_session_Session_restarted_once(r3, r9_2, r2_2);
-                        }
-                        else {
-                            memcpy(r4_2, r31, 100);
-                            store16(r4_2 + 100, r8_3_0_copyload);
-                            store16(r4_2 + 102, r8_5_0_copyload);
-                            *r7_2 = 1;
-                            r7_2[2] = 2;
-                            dfuse_host_session_Session_spent(r3, r4_2, r7_2, r8_3_0_copyload);
                         }
                     }
                     memcpy(r10_2, r3, 104);
@@ -8030,7 +7666,7 @@ int32_t dfuse_take(struct dfuse_session *session, const uint8_t *map, size_t map
                     case 1:
                         switch (r17_0_0) {
                         case 2:
-                            store64(r1_2, r18);
+                            store_size(r1_2, r18);
                             store64(r1_2 + 8, r5_6_0_copyload);
                             store64(r1_2 + 16, r5_8_0_copyload);
                             memset(r9_3, 0, 56);
@@ -8044,19 +7680,19 @@ int32_t dfuse_take(struct dfuse_session *session, const uint8_t *map, size_t map
                                 r9_19_8_copyload24 = 0;
                                 r9_17_8_copyload23 = 0;
                                 r9_1321_8_copyload22 = 0;
-                                v10 = 0;
-                                v11 = 6;
-                                v12 = 1;
+                                v7 = 0;
+                                v8 = 6;
+                                v9 = 1;
                                 break;
                             case 2: {
                                 dfuse_host_plan_Plan_settle(r9_3, r31, r1_2, 0, 0);
                                 uint8_t pre = *r9_3;
                                 uint8_t pre6 = r9_3[1];
                                 uint8_t pre7 = r9_3[2];
-                                uint64_t r9_1321_8_copyload22_pre = load64(r9_3 + 8);
+                                size_t r9_1321_8_copyload22_pre = load_size(r9_3 + 8);
                                 uint64_t r9_17_8_copyload23_pre = load64(r9_3 + 16);
                                 uint64_t r9_19_8_copyload24_pre = load64(r9_3 + 24);
-                                uint64_t r9_21_8_copyload25_pre = load64(r9_3 + 32);
+                                size_t r9_21_8_copyload25_pre = load_size(r9_3 + 32);
                                 uint64_t r9_23_8_copyload26_pre = load64(r9_3 + 40);
                                 uint32_t r9_25_8_copyload27_pre = load32(r9_3 + 48);
                                 uint32_t r9_27_8_copyload28_pre = load32(r9_3 + 52);
@@ -8067,9 +7703,9 @@ int32_t dfuse_take(struct dfuse_session *session, const uint8_t *map, size_t map
                                 r9_19_8_copyload24 = r9_19_8_copyload24_pre;
                                 r9_17_8_copyload23 = r9_17_8_copyload23_pre;
                                 r9_1321_8_copyload22 = r9_1321_8_copyload22_pre;
-                                v10 = pre7;
-                                v11 = pre6;
-                                v12 = pre;
+                                v7 = pre7;
+                                v8 = pre6;
+                                v9 = pre;
                                 break;
                             }
                             case 3:
@@ -8083,9 +7719,9 @@ int32_t dfuse_take(struct dfuse_session *session, const uint8_t *map, size_t map
                                 r9_19_8_copyload24 = r5_8_0_copyload;
                                 r9_17_8_copyload23 = r5_6_0_copyload;
                                 r9_1321_8_copyload22 = r18;
-                                v10 = 0;
-                                v11 = 0;
-                                v12 = 0;
+                                v7 = 0;
+                                v8 = 0;
+                                v9 = 0;
                                 break;
                             case 4:
                             case 7:
@@ -8098,15 +7734,15 @@ int32_t dfuse_take(struct dfuse_session *session, const uint8_t *map, size_t map
                                 r9_19_8_copyload24 = r5_8_0_copyload;
                                 r9_17_8_copyload23 = r5_6_0_copyload;
                                 r9_1321_8_copyload22 = r18;
-                                v10 = 0;
-                                v11 = 0;
-                                v12 = 0;
+                                v7 = 0;
+                                v8 = 0;
+                                v9 = 0;
                                 break;
                             default: never();
                             }
-                            r17_0_0_2 = v12;
-                            r17_16_0 = v11;
-                            r17_31_0 = v10;
+                            r17_0_0_2 = v9;
+                            r17_16_0 = v8;
+                            r17_31_0 = v7;
                             r17_46230_0 = r9_1321_8_copyload22;
                             r17_61_0 = r9_17_8_copyload23;
                             r17_72_0 = r9_19_8_copyload24;
@@ -8303,7 +7939,7 @@ dfuse_host_clearing_on_ask_status_exit:
                         r17_111_0 = r9_31_0;
                         break;
                     case 3: {
-                        uint8_t v14 = r17_0_0 == 6;
+                        uint8_t v11 = r17_0_0 == 6;
                         r17_0_0_2 = 0;
                         r17_16_0 = 0;
                         r17_31_0 = 0;
@@ -8312,8 +7948,8 @@ dfuse_host_clearing_on_ask_status_exit:
                         r17_72_0 = r5_8_0_copyload;
                         r17_83_0 = 0;
                         r17_94_0 = 0;
-                        r17_101_0 = (uint32_t)(v14 ? 1 : 3);
-                        r17_111_0 = (uint32_t)(v14 ? 0 : r5_18_0_copyload);
+                        r17_101_0 = (uint32_t)(v11 ? 1 : 3);
+                        r17_111_0 = (uint32_t)(v11 ? 0 : r5_18_0_copyload);
                         break;
                     }
                     case 4:
@@ -8341,48 +7977,48 @@ dfuse_host_clearing_on_ask_status_exit:
                         r17_111_0 = 0;
                         break;
                     case 6: {
-                        store64(r1_3, r18);
+                        store_size(r1_3, r18);
                         store64(r1_3 + 8, r5_6_0_copyload);
                         store64(r1_3 + 16, r5_8_0_copyload);
                         memset(r12_2, 0, 56);
                         switch (r17_0_0) {
                         case 2:
-                            store64(r1_4, r18);
+                            store_size(r1_4, r18);
                             store64(r1_4 + 8, r5_6_0_copyload);
                             store64(r1_4 + 16, r5_8_0_copyload);
                             memset(r12_3, 0, 56);
                             switch (r17_8_0) {
                             case 3:
-                                store64(r12_3 + 8, r18);
+                                store_size(r12_3 + 8, r18);
                                 store64(r12_3 + 16, r5_6_0_copyload);
                                 store64(r12_3 + 24, r5_8_0_copyload);
-                                store64(r12_3 + 32, (size_t)r5_10_0_copyload);
+                                store_size(r12_3 + 32, (size_t)r5_10_0_copyload);
                                 store64(r12_3 + 40, r5_13_0_copyload);
                                 store32(r12_3 + 48, 7);
-                                v16 = 0;
-                                v17 = 0;
-                                v18 = 0;
+                                v13 = 0;
+                                v14 = 0;
+                                v15 = 0;
                                 break;
                             case 2:
                             case 5:
-                                store64(r12_3 + 8, r18);
+                                store_size(r12_3 + 8, r18);
                                 store64(r12_3 + 16, r5_6_0_copyload);
                                 store64(r12_3 + 24, r5_8_0_copyload);
-                                store64(r12_3 + 32, (size_t)r5_10_0_copyload);
+                                store_size(r12_3 + 32, (size_t)r5_10_0_copyload);
                                 store64(r12_3 + 40, r5_13_0_copyload);
                                 store32(r12_3 + 48, 5);
-                                v16 = 0;
-                                v17 = 0;
-                                v18 = 0;
+                                v13 = 0;
+                                v14 = 0;
+                                v15 = 0;
                                 break;
                             case 10:
-                                store64(r12_3 + 8, r18);
+                                store_size(r12_3 + 8, r18);
                                 store64(r12_3 + 16, r5_6_0_copyload);
                                 store64(r12_3 + 24, r5_8_0_copyload);
                                 memset(r12_3 + 32, 0, 24);
-                                v16 = 0;
-                                v17 = 0;
-                                v18 = 0;
+                                v13 = 0;
+                                v14 = 0;
+                                v15 = 0;
                                 break;
                             case 0:
                             case 1:
@@ -8395,26 +8031,26 @@ dfuse_host_clearing_on_ask_status_exit:
                                 uint8_t pre_2 = *r12_3;
                                 uint8_t pre26 = r12_3[1];
                                 uint8_t pre27 = r12_3[2];
-                                v16 = pre27;
-                                v17 = pre26;
-                                v18 = pre_2;
+                                v13 = pre27;
+                                v14 = pre26;
+                                v15 = pre_2;
                                 break;
                             }
                             default: never();
                             }
                             memcpy(r12_2 + 8, r12_3 + 8, 48);
-                            v19 = v16;
-                            v20 = v17;
-                            v21 = v18;
+                            v16 = v13;
+                            v17 = v14;
+                            v18 = v15;
                             break;
                         case 4: {
                             dfuse_host_plan_Plan_unsure_of(r12_2, r31, r1_3, r5_10_0_copyload, r5_13_0_copyload);
                             uint8_t pre_3 = *r12_2;
                             uint8_t pre10 = r12_2[1];
                             uint8_t pre11 = r12_2[2];
-                            v19 = pre11;
-                            v20 = pre10;
-                            v21 = pre_3;
+                            v16 = pre11;
+                            v17 = pre10;
+                            v18 = pre_3;
                             break;
                         }
                         case 0:
@@ -8422,28 +8058,28 @@ dfuse_host_clearing_on_ask_status_exit:
                         case 3:
                         case 5:
                         case 6:
-                            store64(r12_2 + 8, r18);
+                            store_size(r12_2 + 8, r18);
                             store64(r12_2 + 16, r5_6_0_copyload);
                             store64(r12_2 + 24, r5_8_0_copyload);
-                            store64(r12_2 + 32, (size_t)r5_10_0_copyload);
+                            store_size(r12_2 + 32, (size_t)r5_10_0_copyload);
                             store64(r12_2 + 40, r5_13_0_copyload);
                             store32(r12_2 + 48, 6);
-                            v19 = 0;
-                            v20 = 0;
-                            v21 = 0;
+                            v16 = 0;
+                            v17 = 0;
+                            v18 = 0;
                             break;
                         default: never();
                         }
-                        uint64_t r17_46230_8_copyload231 = load64(r12_2 + 8);
+                        size_t r17_46230_8_copyload231 = load_size(r12_2 + 8);
                         uint64_t r17_61_8_copyload234 = load64(r12_2 + 16);
                         uint64_t r17_72_8_copyload237 = load64(r12_2 + 24);
-                        uint64_t r17_83_8_copyload240 = load64(r12_2 + 32);
+                        size_t r17_83_8_copyload240 = load_size(r12_2 + 32);
                         uint64_t r17_94_8_copyload243 = load64(r12_2 + 40);
                         uint32_t r17_101_8_copyload246 = load32(r12_2 + 48);
                         uint32_t r17_111_8_copyload249 = load32(r12_2 + 52);
-                        r17_0_0_2 = v21;
-                        r17_16_0 = v20;
-                        r17_31_0 = v19;
+                        r17_0_0_2 = v18;
+                        r17_16_0 = v17;
+                        r17_31_0 = v16;
                         r17_46230_0 = r17_46230_8_copyload231;
                         r17_61_0 = r17_61_8_copyload234;
                         r17_72_0 = r17_72_8_copyload237;
@@ -8456,28 +8092,28 @@ dfuse_host_clearing_on_ask_status_exit:
                     case 7:
                         switch (r17_0_0) {
                         case 1: {
-                            store64(r1_5, r18);
+                            store_size(r1_5, r18);
                             store64(r1_5 + 8, r5_6_0_copyload);
                             store64(r1_5 + 16, r5_8_0_copyload);
                             memset(r12_4, 0, 56);
                             switch (r17_10_7_0) {
                             case 3:
                             case 4:
-                                store64(r12_4 + 8, r18);
+                                store_size(r12_4 + 8, r18);
                                 store64(r12_4 + 16, r5_6_0_copyload);
                                 store64(r12_4 + 24, r5_8_0_copyload);
-                                store64(r12_4 + 32, (size_t)r5_10_0_copyload);
+                                store_size(r12_4 + 32, (size_t)r5_10_0_copyload);
                                 store64(r12_4 + 40, r5_13_0_copyload);
                                 store32(r12_4 + 48, 8);
                                 store32(r12_4 + 52, r17_10_6_0);
-                                v36 = 0;
-                                v37 = 0;
-                                v38 = 0;
+                                v33 = 0;
+                                v34 = 0;
+                                v35 = 0;
                                 break;
                             case 5: {
                                 struct i8_i64 r31_2 = dfuse_host_plan_Plan_command_of(r31, r1_5, r5_10_0_copyload, r5_13_0_copyload);
                                 r33 = r31_2.b;
-                                store64(r1_6, r18);
+                                store_size(r1_6, r18);
                                 store64(r1_6 + 8, r5_6_0_copyload);
                                 store64(r1_6 + 16, r5_8_0_copyload);
                                 memset(r14_2, 0, 56);
@@ -8487,9 +8123,9 @@ dfuse_host_clearing_on_ask_status_exit:
                                     uint8_t pre_4 = *r14_2;
                                     uint8_t pre15 = r14_2[1];
                                     uint8_t pre16 = r14_2[2];
-                                    v30 = pre16;
-                                    v31 = pre15;
-                                    v32 = pre_4;
+                                    v27 = pre16;
+                                    v28 = pre15;
+                                    v29 = pre_4;
                                     break;
                                 }
                                 case 1: {
@@ -8502,13 +8138,13 @@ dfuse_host_clearing_on_ask_status_exit:
                                         uint64_t r30_2 = dfuse_host_plan_Plan_page_end(r31, r33);
                                         dfuse_host_plan_Plan_to_erase(r10_3, r31, 0, 0, r30_2);
                                     }
-                                    uint8_t v23 = *r10_3;
-                                    uint8_t v24 = r10_3[1];
-                                    uint8_t v25 = r10_3[2];
+                                    uint8_t v20 = *r10_3;
+                                    uint8_t v21 = r10_3[1];
+                                    uint8_t v22 = r10_3[2];
                                     memcpy(r14_2 + 8, r10_3 + 8, 48);
-                                    v30 = v25;
-                                    v31 = v24;
-                                    v32 = v23;
+                                    v27 = v22;
+                                    v28 = v21;
+                                    v29 = v20;
                                     break;
                                 }
                                 case 2: {
@@ -8522,25 +8158,25 @@ dfuse_host_clearing_on_ask_status_exit:
                                         uint64_t r34 = dfuse_host_plan_Plan_write_end(r31, r33, r32);
                                         dfuse_host_plan_Plan_to_write_front(r10_4, r31, 0, 0, r34);
                                     }
-                                    uint8_t v27 = *r10_4;
-                                    uint8_t v28 = r10_4[1];
-                                    uint8_t v29 = r10_4[2];
+                                    uint8_t v24 = *r10_4;
+                                    uint8_t v25 = r10_4[1];
+                                    uint8_t v26 = r10_4[2];
                                     memcpy(r14_2 + 8, r10_4 + 8, 48);
-                                    v30 = v29;
-                                    v31 = v28;
-                                    v32 = v27;
+                                    v27 = v26;
+                                    v28 = v25;
+                                    v29 = v24;
                                     break;
                                 }
                                 default: never();
                                 }
                                 memcpy(r12_4 + 8, r14_2 + 8, 48);
-                                v36 = v30;
-                                v37 = v31;
-                                v38 = v32;
+                                v33 = v27;
+                                v34 = v28;
+                                v35 = v29;
                                 break;
                             }
                             case 10:
-                                store64(r1_7, r18);
+                                store_size(r1_7, r18);
                                 store64(r1_7 + 8, r5_6_0_copyload);
                                 store64(r1_7 + 16, r5_8_0_copyload);
                                 memset(r12_5, 0, 56);
@@ -8550,15 +8186,15 @@ dfuse_host_clearing_on_ask_status_exit:
                                     uint8_t pre_5 = *r12_5;
                                     uint8_t pre4 = r12_5[1];
                                     uint8_t pre5 = r12_5[2];
-                                    v33 = pre5;
-                                    v34 = pre4;
-                                    v35 = pre_5;
+                                    v30 = pre5;
+                                    v31 = pre4;
+                                    v32 = pre_5;
                                     break;
                                 }
                                 case 11:
-                                    v33 = 0;
-                                    v34 = 3;
-                                    v35 = 1;
+                                    v30 = 0;
+                                    v31 = 3;
+                                    v32 = 1;
                                     break;
                                 case 0:
                                 case 1:
@@ -8574,16 +8210,16 @@ dfuse_host_clearing_on_ask_status_exit:
                                 case 12:
                                 case 13:
                                 case 14:
-                                    v33 = r17_10_3_0;
-                                    v34 = 2;
-                                    v35 = 1;
+                                    v30 = r17_10_3_0;
+                                    v31 = 2;
+                                    v32 = 1;
                                     break;
                                 default: never();
                                 }
                                 memcpy(r12_4 + 8, r12_5 + 8, 48);
-                                v36 = v33;
-                                v37 = v34;
-                                v38 = v35;
+                                v33 = v30;
+                                v34 = v31;
+                                v35 = v32;
                                 break;
                             case 0:
                             case 1:
@@ -8596,23 +8232,23 @@ dfuse_host_clearing_on_ask_status_exit:
                                 uint8_t pre_6 = *r12_4;
                                 uint8_t pre30 = r12_4[1];
                                 uint8_t pre31 = r12_4[2];
-                                v36 = pre31;
-                                v37 = pre30;
-                                v38 = pre_6;
+                                v33 = pre31;
+                                v34 = pre30;
+                                v35 = pre_6;
                                 break;
                             }
                             default: never();
                             }
-                            uint64_t r12_1327_8_copyload28 = load64(r12_4 + 8);
+                            size_t r12_1327_8_copyload28 = load_size(r12_4 + 8);
                             uint64_t r12_17_8_copyload29 = load64(r12_4 + 16);
                             uint64_t r12_19_8_copyload30 = load64(r12_4 + 24);
-                            uint64_t r12_21_8_copyload31 = load64(r12_4 + 32);
+                            size_t r12_21_8_copyload31 = load_size(r12_4 + 32);
                             uint64_t r12_23_8_copyload32 = load64(r12_4 + 40);
                             uint32_t r12_25_8_copyload33 = load32(r12_4 + 48);
                             uint32_t r12_27_8_copyload34 = load32(r12_4 + 52);
-                            r17_0_0_2 = v38;
-                            r17_16_0 = v37;
-                            r17_31_0 = v36;
+                            r17_0_0_2 = v35;
+                            r17_16_0 = v34;
+                            r17_31_0 = v33;
                             r17_46230_0 = r12_1327_8_copyload28;
                             r17_61_0 = r12_17_8_copyload29;
                             r17_72_0 = r12_19_8_copyload30;
@@ -8667,7 +8303,7 @@ dfuse_host_clearing_on_ask_status_exit:
                         break;
                     case 9:
                     case 10:
-                        store64(r1_8, r18);
+                        store_size(r1_8, r18);
                         store64(r1_8 + 8, r5_6_0_copyload);
                         store64(r1_8 + 16, r5_8_0_copyload);
                         memset(r14_3, 0, 56);
@@ -8677,10 +8313,10 @@ dfuse_host_clearing_on_ask_status_exit:
                             uint8_t pre_7 = *r14_3;
                             uint8_t pre10_2 = r14_3[1];
                             uint8_t pre11_2 = r14_3[2];
-                            uint64_t r17_46230_8_copyload232_pre = load64(r14_3 + 8);
+                            size_t r17_46230_8_copyload232_pre = load_size(r14_3 + 8);
                             uint64_t r17_61_8_copyload235_pre = load64(r14_3 + 16);
                             uint64_t r17_72_8_copyload238_pre = load64(r14_3 + 24);
-                            uint64_t r17_83_8_copyload241_pre = load64(r14_3 + 32);
+                            size_t r17_83_8_copyload241_pre = load_size(r14_3 + 32);
                             uint64_t r17_94_8_copyload244_pre = load64(r14_3 + 40);
                             uint32_t r17_101_8_copyload247_pre = load32(r14_3 + 48);
                             uint32_t r17_111_8_copyload250_pre = load32(r14_3 + 52);
@@ -8691,9 +8327,9 @@ dfuse_host_clearing_on_ask_status_exit:
                             r17_72_8_copyload238 = r17_72_8_copyload238_pre;
                             r17_61_8_copyload235 = r17_61_8_copyload235_pre;
                             r17_46230_8_copyload232 = r17_46230_8_copyload232_pre;
-                            v43 = pre11_2;
-                            v44 = pre10_2;
-                            v45 = pre_7;
+                            v40 = pre11_2;
+                            v41 = pre10_2;
+                            v42 = pre_7;
                             break;
                         }
                         case 4:
@@ -8704,9 +8340,9 @@ dfuse_host_clearing_on_ask_status_exit:
                             r17_72_8_copyload238 = r5_8_0_copyload;
                             r17_61_8_copyload235 = r5_6_0_copyload;
                             r17_46230_8_copyload232 = r18;
-                            v43 = 0;
-                            v44 = 0;
-                            v45 = 0;
+                            v40 = 0;
+                            v41 = 0;
+                            v42 = 0;
                             break;
                         case 1:
                         case 2:
@@ -8720,15 +8356,15 @@ dfuse_host_clearing_on_ask_status_exit:
                             r17_72_8_copyload238 = r5_8_0_copyload;
                             r17_61_8_copyload235 = r5_6_0_copyload;
                             r17_46230_8_copyload232 = r18;
-                            v43 = 0;
-                            v44 = 0;
-                            v45 = 0;
+                            v40 = 0;
+                            v41 = 0;
+                            v42 = 0;
                             break;
                         default: never();
                         }
-                        r17_0_0_2 = v45;
-                        r17_16_0 = v44;
-                        r17_31_0 = v43;
+                        r17_0_0_2 = v42;
+                        r17_16_0 = v41;
+                        r17_31_0 = v40;
                         r17_46230_0 = r17_46230_8_copyload232;
                         r17_61_0 = r17_61_8_copyload235;
                         r17_72_0 = r17_72_8_copyload238;
@@ -8749,13 +8385,12 @@ dfuse_host_clearing_on_ask_status_exit:
                                 r17_72_8_copyload239 = 0;
                                 r17_61_8_copyload236 = 0;
                                 r17_46230_8_copyload233 = 0;
-                                v46 = 0;
-                                v47 = 1;
-                                v48 = 1;
+                                v43 = 0;
+                                v44 = 1;
+                                v45 = 1;
                             }
                             else {
-                                store64(r1_9, r18);
-                                store64(r1_9 + 8, r5_6_0_copyload);
+                                store_size(r1_9, r18);
                                 store64(r1_9 + 16, r5_8_0_copyload);
                                 r14_4 = dfuse_host_plan_Plan_end_of_work(r31, r1_9);
                                 switch (r5_0_0_copyload) {
@@ -8781,17 +8416,17 @@ dfuse_host_clearing_on_ask_status_exit:
                                     break;
                                 default: never();
                                 }
-                                store64(r13_2, r18);
+                                store_size(r13_2, r18);
                                 store64(r13_2 + 8, r11_5_0);
                                 store64(r13_2 + 16, r11_9_0);
                                 dfuse_host_plan_Plan_settle(r11_3, r31, r13_2, r5_10_0_copyload, r5_13_0_copyload);
                                 uint8_t pre_8 = *r11_3;
                                 uint8_t pre20 = r11_3[1];
                                 uint8_t pre21 = r11_3[2];
-                                uint64_t r17_46230_8_copyload233_pre = load64(r11_3 + 8);
+                                size_t r17_46230_8_copyload233_pre = load_size(r11_3 + 8);
                                 uint64_t r17_61_8_copyload236_pre = load64(r11_3 + 16);
                                 uint64_t r17_72_8_copyload239_pre = load64(r11_3 + 24);
-                                uint64_t r17_83_8_copyload242_pre = load64(r11_3 + 32);
+                                size_t r17_83_8_copyload242_pre = load_size(r11_3 + 32);
                                 uint64_t r17_94_8_copyload245_pre = load64(r11_3 + 40);
                                 uint32_t r17_101_8_copyload248_pre = load32(r11_3 + 48);
                                 uint32_t r17_111_8_copyload251_pre = load32(r11_3 + 52);
@@ -8802,9 +8437,9 @@ dfuse_host_clearing_on_ask_status_exit:
                                 r17_72_8_copyload239 = r17_72_8_copyload239_pre;
                                 r17_61_8_copyload236 = r17_61_8_copyload236_pre;
                                 r17_46230_8_copyload233 = r17_46230_8_copyload233_pre;
-                                v46 = pre21;
-                                v47 = pre20;
-                                v48 = pre_8;
+                                v43 = pre21;
+                                v44 = pre20;
+                                v45 = pre_8;
                             }
                             break;
                         case 4:
@@ -8815,9 +8450,9 @@ dfuse_host_clearing_on_ask_status_exit:
                             r17_72_8_copyload239 = r5_8_0_copyload;
                             r17_61_8_copyload236 = r5_6_0_copyload;
                             r17_46230_8_copyload233 = r18;
-                            v46 = 0;
-                            v47 = 0;
-                            v48 = 0;
+                            v43 = 0;
+                            v44 = 0;
+                            v45 = 0;
                             break;
                         case 0:
                         case 1:
@@ -8831,15 +8466,15 @@ dfuse_host_clearing_on_ask_status_exit:
                             r17_72_8_copyload239 = r5_8_0_copyload;
                             r17_61_8_copyload236 = r5_6_0_copyload;
                             r17_46230_8_copyload233 = r18;
-                            v46 = 0;
-                            v47 = 0;
-                            v48 = 0;
+                            v43 = 0;
+                            v44 = 0;
+                            v45 = 0;
                             break;
                         default: never();
                         }
-                        r17_0_0_2 = v48;
-                        r17_16_0 = v47;
-                        r17_31_0 = v46;
+                        r17_0_0_2 = v45;
+                        r17_16_0 = v44;
+                        r17_31_0 = v43;
                         r17_46230_0 = r17_46230_8_copyload233;
                         r17_61_0 = r17_61_8_copyload236;
                         r17_72_0 = r17_72_8_copyload239;
@@ -8994,10 +8629,10 @@ dfuse_host_closing_on_close_poll_exit:
                     *r13 = r17_0_0_2;
                     r13[1] = r17_16_0;
                     r13[2] = r17_31_0;
-                    store64(r13 + 8, r17_46230_0);
+                    store_size(r13 + 8, r17_46230_0);
                     store64(r13 + 16, r17_61_0);
                     store64(r13 + 24, r17_72_0);
-                    store64(r13 + 32, r17_83_0);
+                    store_size(r13 + 32, r17_83_0);
                     store64(r13 + 40, r17_94_0);
                     store32(r13 + 48, r17_101_0);
                     store32(r13 + 52, r17_111_0);

@@ -25,6 +25,6 @@ pub use decision::{Decision, Reply};
 pub use device::Device;
 pub use device_state::{DeviceState, status_in};
 pub use filled::{PutSoFar, is_filled};
-pub use objection::Objection;
-pub use table::{asked_length, decide, goes_with, is_close};
+pub use objection::{Objection, is_close};
+pub use table::{asked_row, decide};
 pub use time_table::{decide_time, poll_ms};

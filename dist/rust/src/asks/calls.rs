@@ -4,8 +4,8 @@
 
 use crate::asks::noted::{View, look};
 use crate::asks::{Asking, Mapped, Refusal, Reply};
-use crate::device::{Answer, asked_length, decide, decide_time, goes_with};
-use crate::wire::{Code, Request, Setup, State};
+use crate::device::{asked_row, decide_time};
+use crate::wire::{Code, State};
 
 /// The setup as a device takes it whose interface has this number (bInterfaceNumber): with wIndex 0 if that is its wIndex (USB DFU 1.1,
 /// section 3), and else with another one, of which a device stalls each request and stays as it is. A program whose interface is not
@@ -52,19 +52,9 @@ impl Asking {
         body: &[u8],
         out: &mut [u8],
     ) -> Reply {
-        let setup = Setup::decode(setup);
-        match setup.request() {
-            Request::NotDfu => Reply::Answered(Answer::Stall, 0),
-            request => {
-                if !goes_with(&setup, body) {
-                    return Reply::Answered(Answer::Stall, 0);
-                }
-                let profile = self.config.profile(u64::from(view.room));
-                let decision = decide(&profile, self.mode, request);
-                let asked = Some(asked_length(request));
-                self.carry_out(decision, asked, body, block, held, medium, view, out)
-            }
-        }
+        let profile = self.config.profile(u64::from(view.room));
+        let (decision, asked) = asked_row(&profile, self.mode, setup, body);
+        self.carry_out(decision, Some(asked), body, block, held, medium, view, out)
     }
 
     /// Answers a setup with its body, as `Device::handle`; or the row writes, and its writes are asked for now.

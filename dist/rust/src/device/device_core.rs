@@ -6,12 +6,11 @@ use crate::device::answer::{PendingAnswer, pending_answer_of};
 use crate::device::config::Profile;
 use crate::device::decision::Decision;
 use crate::device::device_state::DeviceState;
-use crate::device::table::{asked_length, decide, goes_with};
+use crate::device::table::asked_row;
 use crate::device::time_table::decide_time;
 use crate::device::Config;
 use arrayvec::ArrayVec;
 use crate::slots::{Medium, Slots};
-use crate::wire::{Request, Setup};
 
 // Replaces the bytes of the block.
 fn hold(block: &mut ArrayVec<u8, 4096>, bytes: &[u8]) {
@@ -49,23 +48,8 @@ impl<M: Medium> DeviceCore<M> {
 
     /// What a setup with its body comes to: the three rules before the table, then the table.
     pub(crate) fn pending_answer(&mut self, setup: &[u8; 8], body: &[u8]) -> PendingAnswer {
-        let setup = Setup::decode(setup);
-        let request = setup.request();
-        match request {
-            Request::NotDfu => PendingAnswer::Stall,
-            request => {
-                if !goes_with(&setup, body) {
-                    return PendingAnswer::Stall;
-                }
-                self.serve(request, body)
-            }
-        }
-    }
-
-    /// A request of the class whose body fits: its row of the table.
-    fn serve(&mut self, request: Request, body: &[u8]) -> PendingAnswer {
-        let decision = decide(&self.profile(), self.mode, request);
-        self.carry_out(decision, asked_length(request), body)
+        let (decision, asked) = asked_row(&self.profile(), self.mode, setup, body);
+        self.carry_out(decision, asked, body)
     }
 
     /// Carries a decision out, with the body of its request, which asks for so many bytes of a status or of a state.

@@ -3,10 +3,22 @@
 //! The program of a device refuses an image.
 
 use crate::device::device_state::DeviceState;
-use crate::device::table::is_close;
 use crate::device::Device;
 use crate::slots::Medium;
-use crate::wire::Code;
+use crate::wire::{Code, Request, Setup};
+
+// Whether a request is a DNLOAD of no bytes.
+fn closes(request: Request) -> bool {
+    match request {
+        Request::Dnload { length, .. } => length == 0,
+        _ => false,
+    }
+}
+
+/// Whether a setup is a DNLOAD with wLength 0, which closes a download in dfuDNLOAD-IDLE.
+pub fn is_close(setup: &[u8; 8]) -> bool {
+    closes(Setup::decode(setup).request())
+}
 
 /// Why the program of a device refuses an image (USB DFU 1.1, section 6.1.2, bStatus).
 #[derive(Clone, Copy, Debug, PartialEq, Eq)]

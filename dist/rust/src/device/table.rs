@@ -10,16 +10,16 @@ use crate::device::device_state::DeviceState;
 use crate::device::plans::{ack, error, first, further, report, stall, tell, upload};
 use crate::wire::{Code, Request, Setup};
 
-/// How many bytes of a status or of a state a request asks for: wLength.
-pub fn asked_length(request: Request) -> u16 {
+// How many bytes of a status or of a state a request asks for: wLength.
+fn asked_length(request: Request) -> u16 {
     match request {
         Request::GetStatus { length } | Request::GetState { length } => length,
         _ => 0,
     }
 }
 
-/// Whether a body goes with its setup: it has wLength bytes if the host sends, and none if it reads.
-pub fn goes_with(setup: &Setup, body: &[u8]) -> bool {
+// Whether a body goes with its setup: it has wLength bytes if the host sends, and none if it reads.
+fn goes_with(setup: &Setup, body: &[u8]) -> bool {
     let len = if setup.kind == 0x21 {
         setup.length as usize
     } else {
@@ -28,17 +28,12 @@ pub fn goes_with(setup: &Setup, body: &[u8]) -> bool {
     body.len() == len
 }
 
-// Whether a request is a DNLOAD of no bytes.
-fn closes(request: Request) -> bool {
+// Whether a request goes by the table: it is one of the class, and its body goes with its setup.
+fn is_served(setup: &Setup, request: Request, body: &[u8]) -> bool {
     match request {
-        Request::Dnload { length, .. } => length == 0,
-        _ => false,
+        Request::NotDfu => false,
+        _ => goes_with(setup, body),
     }
-}
-
-/// Whether a setup is a DNLOAD with wLength 0, which closes a download in dfuDNLOAD-IDLE.
-pub fn is_close(setup: &[u8; 8]) -> bool {
-    closes(Setup::decode(setup).request())
 }
 
 // appIDLE. The timer of appDETACH is the smaller of the host's timeout and the device's.
@@ -181,4 +176,22 @@ pub fn decide(profile: &Profile, mode: DeviceState, request: Request) -> Decisio
         DeviceState::UploadIdle { place, number } => in_upload_idle(profile, place, number, request),
         DeviceState::Error { code } => in_error(code, request),
     }
+}
+
+/// What a setup with its body comes to in a mode, and how many bytes of a status or of a state it asks for. A request that is not one of
+/// the class for interface 0, or whose body does not go with it, is stalled and changes nothing; any other one goes by the table (USB DFU
+/// 1.1, section 3 and appendix A).
+pub fn asked_row(
+    profile: &Profile,
+    mode: DeviceState,
+    setup: &[u8; 8],
+    body: &[u8],
+) -> (Decision, u16) {
+    let setup = Setup::decode(setup);
+    let request = setup.request();
+    let asked = asked_length(request);
+    if !is_served(&setup, request, body) {
+        return (stall(mode), asked);
+    }
+    (decide(profile, mode, request), asked)
 }

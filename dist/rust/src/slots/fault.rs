@@ -1,6 +1,7 @@
 // Of crates/dfu_slots/src/fault.rt, whose contracts are taken away.
 
 //! Why a call of the store was refused.
+use core::fmt;
 use thiserror::Error;
 
 /// Why `format` gave the medium back. It looks for them in this order.
@@ -9,14 +10,21 @@ pub enum FormatFault {
     /// The medium's length is not 2 * (2 * G + C) with C from 1 to 16,777,216 and whole in the unit and the sector, G being
     /// the most of 16, the unit's size and the sector's; or its sector is not 0, nor a multiple of 256 up to 131,072.
     /// Nothing was written.
-    #[error("the medium has no length that two slots can have")]
     WrongSize,
     /// The image has more bytes than the data of a slot. Nothing was written.
-    #[error("the image is longer than a slot's data")]
     TooLarge,
     /// A write to the medium failed, or other bytes were read back. The medium may have an active image or none.
-    #[error("a write to the medium failed")]
     Failed,
+}
+
+impl fmt::Display for FormatFault {
+    fn fmt(&self, f: &mut fmt::Formatter<'_>) -> fmt::Result {
+        f.write_str(match self {
+            FormatFault::WrongSize => "the medium has no length that two slots can have",
+            FormatFault::TooLarge => "the image is longer than a slot's data",
+            FormatFault::Failed => "a write to the medium failed",
+        })
+    }
 }
 
 /// Why `open` gave the medium back, unchanged. It looks for them in this order.
@@ -27,18 +35,26 @@ pub enum FormatFault {
 pub enum OpenFault {
     /// The medium's length is not 2 * (2 * G + C) with C from 1 to 16,777,216 and whole in the unit and the sector, G being
     /// the most of 16, the unit's size and the sector's; or its sector is not 0, nor a multiple of 256 up to 131,072.
-    #[error("the medium has no length that two slots can have")]
     WrongSize,
     /// Neither slot counts.
-    #[error("no slot of the medium has an image")]
     NoImage,
     /// Both slots count, and neither generation is the other's plus 1 modulo 256.
-    #[error("two slots of the medium have an image, and neither follows the other")]
     TwoImages,
     /// The active slot's header is neither of version 1 nor of version 2; or it is of version 1 and has a byte other
     /// than 0 where a zero belongs, or a length over C.
-    #[error("the header of the active slot is not well formed")]
     BadHeader,
+}
+
+impl fmt::Display for OpenFault {
+    fn fmt(&self, f: &mut fmt::Formatter<'_>) -> fmt::Result {
+        f.write_str(match self {
+            OpenFault::WrongSize => "the medium has no length that two slots can have",
+            OpenFault::NoImage => "no slot of the medium has an image",
+            OpenFault::TwoImages =>
+                "two slots of the medium have an image, and neither follows the other",
+            OpenFault::BadHeader => "the header of the active slot is not well formed",
+        })
+    }
 }
 
 /// How a write of the store went wrong.
@@ -55,18 +71,25 @@ pub enum WriteFault {
 pub enum PutFault {
     /// What was to be put ends past the capacity, and the spare's gate is closed.
     /// Nothing was written. Only `put` returns it: what was put lies within the capacity.
-    #[error("the image is longer than a slot's data")]
     TooLarge,
     /// A write to the medium failed. The active image is as it was; after `commit`
     /// it is that one or the whole new one. What was put is forgotten, and `put_end` is 0.
-    #[error("a write to the medium failed")]
     Failed,
     /// The medium reported success of a write, and other bytes were read back. The medium's count of failures rose.
     /// All else is as after `Failed`.
-    #[error("a write to the medium is not there")]
     NotVerified,
     /// The spare's gate reads open, so it may hold the image before this one: `begin` comes first.
     /// Nothing was written. It is looked for before `TooLarge`, and `begin` never returns it.
-    #[error("the spare slot was not begun")]
     NotBegun,
+}
+
+impl fmt::Display for PutFault {
+    fn fmt(&self, f: &mut fmt::Formatter<'_>) -> fmt::Result {
+        f.write_str(match self {
+            PutFault::TooLarge => "the image is longer than a slot's data",
+            PutFault::Failed => "a write to the medium failed",
+            PutFault::NotVerified => "a write to the medium is not there",
+            PutFault::NotBegun => "the spare slot was not begun",
+        })
+    }
 }

@@ -2,6 +2,7 @@
 
 //! Why bytes or numbers are not a value of the wire.
 
+use core::fmt;
 use thiserror::Error;
 
 /// Why bytes or numbers are not a value of the wire. Each reader says in which order it looks.
@@ -9,27 +10,34 @@ use thiserror::Error;
 pub enum WireFault {
     /// There are fewer bytes than the value has: no bytes of a functional descriptor, or fewer than its
     /// first byte says (if that is 7 or 9), and under 6 of a status.
-    #[error("too few bytes")]
     Short,
     /// There are more bytes than the value has: more than the first byte of a functional descriptor
     /// says (if that is 7 or 9), and over 6 of a status.
-    #[error("too many bytes")]
     Long,
     /// The first byte of a functional descriptor, bLength, is neither 7 nor 9.
-    #[error("the length byte is wrong")]
     WrongLength,
     /// The second byte of a functional descriptor, bDescriptorType, is not 21h.
-    #[error("the type byte is wrong")]
     WrongType,
     /// A byte is over 10, so no state has it as its number.
-    #[error("no such state")]
     UnknownState,
     /// A byte is over 15, so no status code has it as its number.
-    #[error("no such status code")]
     UnknownCode,
     /// A poll time is over 16,777,215 milliseconds, so three bytes do not hold it.
-    #[error("the poll time does not fit 24 bits")]
     PollTooLong,
+}
+
+impl fmt::Display for WireFault {
+    fn fmt(&self, f: &mut fmt::Formatter<'_>) -> fmt::Result {
+        f.write_str(match self {
+            WireFault::Short => "too few bytes",
+            WireFault::Long => "too many bytes",
+            WireFault::WrongLength => "the length byte is wrong",
+            WireFault::WrongType => "the type byte is wrong",
+            WireFault::UnknownState => "no such state",
+            WireFault::UnknownCode => "no such status code",
+            WireFault::PollTooLong => "the poll time does not fit 24 bits",
+        })
+    }
 }
 
 impl WireFault {

@@ -6,7 +6,7 @@ use crate::boot::trial::look;
 use crate::slots::{Medium, OpenFault};
 
 /// Looks what starts, carries out what is asked before, and returns where the slot begins that runs. Whatever became of the operation, some
-/// image is active afterwards, and one of the two runs.
+/// image is active afterwards, and one of the two runs: on a medium that works, that on trial as long as a start is left.
 ///
 /// # Errors
 ///

@@ -1,0 +1,110 @@
+// Of crates/dfu_home/src/copying.rt, whose contracts are taken away.
+
+//! The copy of the image in the second slot: its bytes, its header, and then the gate is opened.
+
+use crate::home::Due;
+use crate::home::bytes::{are_blank, are_same, fill_up};
+use crate::boot::install;
+use crate::slots::{Medium, OPEN_GATE, VERSION, gate_of, header_of, length_in, make_header};
+use crate::suffix::Crc;
+
+// Where the last operation went in the data of the first slot, if it went there.
+fn last_in_data(gates: u32, last: Option<u32>) -> Option<u32> {
+    match last {
+        None => None,
+        Some(at) => { if at < gates { None } else { Some(at - gates) } }
+    }
+}
+
+// The header of the copy of an image that has this one: one generation on.
+fn copy_header(found: &[u8; 16], image: &[u8]) -> [u8; 16] {
+    let mut crc = Crc::new();
+    crc.update_small(image);
+    make_header(
+        VERSION,
+        found[0].wrapping_add(1),
+        length_in(found),
+        crc.value(),
+    )
+}
+
+// The data of the first slot.
+fn first_data<'f, M: Medium>(medium: &M, flash: &'f [u8]) -> &'f [u8] {
+    let half = medium.len() / 2;
+    let gates = 2 * gate_of(medium);
+    &flash[gates as usize..half as usize]
+}
+
+// The image in the second slot.
+fn away_image<'f, M: Medium>(medium: &M, flash: &'f [u8]) -> &'f [u8] {
+    let half = medium.len() / 2;
+    let from = half + 2 * gate_of(medium);
+    let data = &flash[from as usize..(half + half) as usize];
+    &data[..length_in(&header_of(medium, half)) as usize]
+}
+
+// How many bytes a gate unit has, and a header unit as many.
+fn gate_size<M: Medium>(medium: &M) -> u32 {
+    16.max(medium.unit().size())
+}
+
+// What is due of a gate unit that begins there, which is to have these bytes, and zeros after them: it is programmed if the last operation
+// erased it, and else erased.
+fn unit_due<M: Medium>(
+    medium: &M,
+    flash: &[u8],
+    at: u32,
+    last: Option<u32>,
+    front: &[u8],
+    out: &mut [u8; 256],
+) -> Due {
+    let len = gate_size(medium);
+    if last != Some(at) {
+        return Due::Erase { at };
+    }
+    if !are_blank(flash, at, at + len) {
+        return Due::Erase { at };
+    }
+    fill_up(front, out);
+    Due::Program { at, len }
+}
+
+// What is due once the bytes are there: the header, or behind it the gate.
+fn head<M: Medium>(
+    medium: &M,
+    flash: &[u8],
+    image: &[u8],
+    last: Option<u32>,
+    out: &mut [u8; 256],
+) -> Due {
+    let header = copy_header(&header_of(medium, medium.len() / 2), image);
+    if are_same(&header_of(medium, 0), &header) {
+        return unit_due(medium, flash, 0, last, &[OPEN_GATE], out);
+    }
+    unit_due(medium, flash, gate_of(medium), last, &header, out)
+}
+
+/// What is due of a copy.
+pub(crate) fn copy<M: Medium>(
+    medium: &M,
+    flash: &[u8],
+    last: Option<u32>,
+    out: &mut [u8; 256],
+) -> Due {
+    let gates = 2 * gate_of(medium);
+    let run = first_data(medium, flash);
+    let image = away_image(medium, flash);
+    match install::next(image, run, medium.sector(), last_in_data(gates, last)) {
+        install::Due::Erase(at) => Due::Erase { at: gates + at },
+        install::Due::Program(at) => {
+            install::piece(image, at, out);
+            Due::Program {
+                at: gates + at,
+                len: 256,
+            }
+        }
+        install::Due::Start => head(medium, flash, image, last, out),
+        install::Due::Refuse(install::Refusal::NoImage) => head(medium, flash, image, last, out),
+        install::Due::Refuse(_) => unreachable!(),
+    }
+}

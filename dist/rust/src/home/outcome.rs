@@ -1,0 +1,48 @@
+// Of crates/dfu_home/src/outcome.rt, whose contracts are taken away.
+
+//! How an operation went.
+
+use crate::home::bytes::{are_blank, are_same};
+use crate::home::{Due, Progress};
+
+// Whether an operation worked, as it reads.
+fn worked(flash: &[u8], sector: u32, due: Due, bytes: &[u8; 256]) -> bool {
+    match due {
+        Due::Erase { at } => {
+            sector > 0
+                && at as u64 + sector as u64 <= flash.len() as u64
+                && are_blank(flash, at, at + sector)
+        }
+        Due::Program { at, len } => {
+            if len == 0 || len > 256 || at as u64 + len as u64 > flash.len() as u64 {
+                return false;
+            }
+            let (from, len) = (at as usize, len as usize);
+            are_same(&flash[from..from + len], &bytes[..len])
+        }
+        _ => false,
+    }
+}
+
+/// How far the work is once an operation was carried out, or `failed`: what `next` takes.
+///
+/// `due` is what `next` returned, and `bytes` what it put into its buffer. The flash is read back: after an erase the whole sector has to
+/// read FFh, after a program its bytes. The count goes up by 1, whatever became of it.
+pub fn took(
+    flash: &[u8],
+    sector: u32,
+    due: Due,
+    bytes: &[u8; 256],
+    failed: bool,
+    progress: Progress,
+) -> Progress {
+    let worked = !failed && flash.len() <= 0xffff_ffff && worked(flash, sector, due, bytes);
+    Progress {
+        last: match due {
+            Due::Erase { at } if worked => Some(at),
+            Due::Program { at, len: _ } if worked => Some(at),
+            _ => None,
+        },
+        count: progress.count.saturating_add(1),
+    }
+}
