@@ -25,7 +25,9 @@ def records():
                 for field in names.split(','):
                     array = re.fullmatch(r'(\w+)\[(\w+)\]', field.strip())
                     fields.append(f'{TYPES[kind]}[{array[2]}] {array[1]}' if array else f'{TYPES[kind]} {field.strip()}')
-            found[name] = ', '.join(fields)
+            # (the inline calls alone know the other two)
+            if name not in ('dfu_device', 'dfu_driver'):
+                found[name] = ', '.join(fields)
     return found
 
 
