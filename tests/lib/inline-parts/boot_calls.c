@@ -1,4 +1,4 @@
-/* Stand-ins for the calls of dfu_trial_core.h and dfu_install_core.h. Each checks that it comes now, and with what the program handed in;
+/* Stand-ins for the calls of dfu_trial_core.h, dfu_install_core.h and dfu_home_core.h. Each checks that it comes now, and with what the program handed in;
  * then it answers anything. */
 #include <string.h>
 
@@ -138,4 +138,43 @@ int32_t dfu_core_install_took(struct dfu_run_area *area, const uint8_t *image, s
     with_area(area, image, length, run, size);
     with_ask(ask);
     return say(INSTALL_TOOK);
+}
+
+/* The record of a copy: the first call of a path begins one, and each operation that was told counts. */
+static void with_home(const struct dfu_home_record *record)
+{
+    if (given.home == NULL) {
+        holds(record->last == DFU_NOWHERE, "a copy that begins has a last operation");
+        given.home = record;
+    }
+    holds(record == given.home && record->count == given.home_count, "another record of a copy");
+}
+
+int32_t dfu_core_home_next(const struct dfu_config *config, const struct dfu_home_record *record, const uint8_t *flash, size_t size,
+                           struct dfu_ask *ask)
+{
+    comes(HOME_NEXT);
+    holds(config == given.config, "another configuration");
+    with_home(record);
+    with_flash(flash, size);
+    return say_or_ask(HOME_NEXT, ask);
+}
+
+int32_t dfu_core_home_took(struct dfu_home_record *record, const uint8_t *flash, size_t size, const struct dfu_ask *ask, uint32_t failed)
+{
+    comes(HOME_TOOK);
+    hears(failed);
+    with_home(record);
+    with_flash(flash, size);
+    with_ask(ask);
+    record->count = ++given.home_count;
+    return say(HOME_TOOK);
+}
+
+int32_t dfu_core_home_may_download(const struct dfu_config *config, const uint8_t *flash, size_t size)
+{
+    comes(HOME_MAY_DOWNLOAD);
+    holds(config == given.config, "another configuration");
+    with_flash(flash, size);
+    return say(HOME_MAY_DOWNLOAD);
 }

@@ -51,6 +51,9 @@ static int32_t forward(enum call call)
     case TRIAL_UPLOAD: return dfu_trial_upload(&trial, &ask);
     case INSTALL_NEXT: return dfu_install_next(&install, image, sizeof image, &ask);
     case INSTALL_TOOK: return dfu_install_took(&install, image, sizeof image, &ask, given.failed);
+    case HOME_NEXT: return dfu_home_next(&device, &home, &ask);
+    case HOME_TOOK: return dfu_home_took(&device, &home, &ask, given.failed);
+    case HOME_MAY_DOWNLOAD: return dfu_home_may_download(&device);
     default: return question(call);
     }
 }

@@ -1,10 +1,11 @@
-/* Arguments of the paths: a device, images on trial and a run area, over flash that no stand-in reads. */
+/* Arguments of the paths: a device, images on trial, a run area and two areas, over flash that no stand-in reads. */
 #ifndef HANDED_IN_H
 #define HANDED_IN_H
 #include <stdio.h>
 #include <string.h>
 
 #include "dfu_device_memory.h"
+#include "dfu_home.h"
 #include "dfu_install.h"
 #include "dfu_trial.h"
 #include "monitor.h"
@@ -15,6 +16,7 @@ static struct dfu_driver driver = {block, erase, program};
 static struct dfu_device device;
 static struct dfu_trial trial;
 static struct dfu_install install;
+static struct dfu_home_record home;
 static struct dfu_ask ask;
 static struct dfu_place place;
 static struct dfu_standing standing;
@@ -65,6 +67,9 @@ static void hand_in(int has_driver)
     install.area.sector = 256;
     install.area.last = DFU_NOWHERE;
     given.area = &install.area;
+    home.last = 5, home.count = 7;
+    given.home = &home;
+    given.home_count = home.count;
     memory = NULL;
     memset(&ask, 0x44, sizeof ask);
     handed = ask;

@@ -14,7 +14,7 @@ static int32_t ends;
 static enum call owed, asking;
 
 /* The calls that hand out what a call asked for, and that learn how it went. Those of a trial hand it out themselves, and read it back
- * when they are made again; those of a run area hand it out themselves. */
+ * when they are made again; those of a run area and of two areas hand it out themselves. */
 static const struct {
     enum call next, took;
 } loop[CALLS] = {[HANDLE] = {NEXT, TOOK},
@@ -27,7 +27,8 @@ static const struct {
                  [TRIAL_CONFIRM] = {OPERATION, NO_CALL},
                  [TRIAL_END] = {OPERATION, NO_CALL},
                  [TRIAL_UPLOAD] = {OPERATION, NO_CALL},
-                 [INSTALL_NEXT] = {OPERATION, INSTALL_TOOK}};
+                 [INSTALL_NEXT] = {OPERATION, INSTALL_TOOK},
+                 [HOME_NEXT] = {OPERATION, HOME_TOOK}};
 
 void over(int32_t number)
 {
@@ -54,7 +55,10 @@ static void go_on(int32_t n)
     const enum end end = stage->end;
     stage++;
     if (stage->call == NO_CALL || !may_come(stage->when, n))
-        over(end == ALWAYS_NO_MEDIUM ? (int32_t)DFU_NO_MEDIUM : end == OR_SERVED && n == 1 ? 0 : n);
+        over(end == ALWAYS_NO_MEDIUM                          ? (int32_t)DFU_NO_MEDIUM
+             : end == IF_HOME && n == 0                       ? (int32_t)DFU_NOT_HOME
+             : (end == OR_SERVED || end == IF_HOME) && n == 1 ? 0
+                                                              : n);
 }
 
 /* Returns whether the setup begins a download or an upload. */
@@ -168,6 +172,8 @@ int32_t answers(enum call call, int32_t n)
         over(n);
     else if (call == INSTALL_TOOK)
         owed = INSTALL_NEXT;
+    else if (call == HOME_TOOK)
+        owed = HOME_NEXT;
     else
         go_on(n);
     return n;

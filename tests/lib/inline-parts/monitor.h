@@ -5,6 +5,7 @@
 #include <stddef.h>
 #include <stdint.h>
 
+#include "dfu_home_core.h"
 #include "dfu_install_core.h"
 #include "dfu_trial_core.h"
 
@@ -42,6 +43,9 @@ enum call {
     TRIAL_UPLOAD,
     INSTALL_NEXT,
     INSTALL_TOOK,
+    HOME_NEXT,
+    HOME_TOOK,
+    HOME_MAY_DOWNLOAD,
     OPERATION,
     CALLS
 };
@@ -64,6 +68,7 @@ enum end {
     AS_ANSWERED,
     OR_NOT_WRITTEN,  /* DFU_NOT_WRITTEN for DFU_ASKS, which is no more carried out */
     OR_SERVED,       /* 0 for 1: the request may be served, and is stalled then */
+    IF_HOME,         /* 0 for 1: the request may be served; DFU_NOT_HOME for 0 */
     ALWAYS_NO_MEDIUM /* DFU_NO_MEDIUM whatever it is */
 };
 
@@ -84,6 +89,8 @@ struct given {
     uint32_t ms, failed, at, status;
     struct dfu_tries tries;
     const struct dfu_run_area *area;
+    const struct dfu_home_record *home; /* NULL: the record of the path's first call, which begins a copy */
+    uint32_t home_count;
     const struct dfu_driver *driver;
     struct dfu_place run, otherwise;
     const struct dfu_standing *standing;

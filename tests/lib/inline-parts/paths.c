@@ -125,6 +125,50 @@ static void try_install(void)
     }
 }
 
+/* dfu_home_settle: the place is that of the first slot's data, with the length in its header, whichever of 16 bytes, the unit and the
+ * sector is the most. */
+static void try_home(void)
+{
+    static const struct {
+        uint32_t unit, sector, gate;
+    } parts[] = {{16, 0, 16}, {64, 0, 64}, {1, 16, 16}, {16, 64, 64}};
+    static const uint8_t length[] = {1, 2, 3, 4};
+    static struct dfu_config part;
+    while (next_path("dfu_home_settle")) {
+        const unsigned which = pick(sizeof parts / sizeof parts[0]);
+        hand_in(pick(2) == 0);
+        part = config;
+        part.unit = parts[which].unit;
+        part.sector = parts[which].sector;
+        device.config = given.config = &part;
+        memset(flash, 0, sizeof flash);
+        memcpy(flash + parts[which].gate + 4, length, sizeof length);
+        given.home = NULL;
+        given.home_count = 0;
+        most_asks = which == 0 ? most_asks : 1;
+        follow(bringing_home, device.driver != NULL);
+        const int32_t n = dfu_home_settle(&device, &place);
+        returned(n);
+        holds(n == 0 ? place.at == 2 * parts[which].gate && place.length == 0x04030201 : place.at == 77 && place.length == 77,
+              "another image is started");
+    }
+}
+
+/* dfu_home_transfer: the work comes first; then the question, if the setup begins a download. */
+static void try_home_transfer(void)
+{
+    while (next_path("dfu_home_transfer")) {
+        hand_in(pick(2) == 0);
+        pick_state();
+        pick_setup();
+        const int is_download = setup[0] == 0x21 && setup[1] == DFU_DNLOAD;
+        follow(is_download && state_now == DFU_STATE_IDLE ? asking_home : the_work, device.driver != NULL);
+        if (!is_download)
+            over(0);
+        returned(dfu_home_transfer(&device, setup));
+    }
+}
+
 int main(int count, char **words)
 {
     most = count > 1 ? (unsigned)atoi(words[1]) : 5;
@@ -137,6 +181,8 @@ int main(int count, char **words)
     try_memory();
     try_runtime(most > 2 ? 4 : 3);
     try_install();
+    try_home();
+    try_home_transfer();
     printf("%lu paths of at most %u operations, %lu checks\n", paths, most, checks);
     return 0;
 }

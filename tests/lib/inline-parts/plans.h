@@ -42,6 +42,8 @@ static const struct stage uploading[] = {{WOULD_STALL, TRANSFER_BEGINS, OR_SERVE
                                          {TRIAL_END, CARRIED, OR_NOT_WRITTEN},
                                          {BEGIN, ZERO, AS_ANSWERED},
                                          NO_MORE};
+static const struct stage bringing_home[] = {{HOME_NEXT, ALWAYS, AS_ANSWERED}, NO_MORE};
+static const struct stage asking_home[] = {{HOME_MAY_DOWNLOAD, ALWAYS, IF_HOME}, NO_MORE};
 static const struct stage installing[] = {{INSTALL_NEXT, ALWAYS, AS_ANSWERED}, NO_MORE};
 
 static int32_t answered(void)

@@ -37,7 +37,10 @@ static const struct {
                     [TRIAL_END] = {4, {0, DFU_NO_MEDIUM, DFU_MANY_TRIES, DFU_ASKS}},
                     [TRIAL_UPLOAD] = {4, {0, DFU_NO_MEDIUM, DFU_MANY_TRIES, DFU_ASKS}},
                     [INSTALL_NEXT] = {5, {0, DFU_WRONG_SIZE, DFU_NO_IMAGE, DFU_TOO_LARGE, DFU_ASKS}},
-                    [INSTALL_TOOK] = {1, {0}}};
+                    [INSTALL_TOOK] = {1, {0}},
+                    [HOME_NEXT] = {6, {0, DFU_NO_CONFIG, DFU_NO_MEDIUM, DFU_NO_SECTORS, DFU_NOT_WRITTEN, DFU_ASKS}},
+                    [HOME_TOOK] = {1, {0}},
+                    [HOME_MAY_DOWNLOAD] = {4, {0, 1, DFU_NO_CONFIG, DFU_NO_MEDIUM}}};
 /* The driver: 0 is done, any other number is a failure. A path's first operation has all of them, the others the first three. */
 static const int driver_says[] = {0, 1, -1, 256, 65536, INT_MIN};
 

@@ -7,11 +7,42 @@
 
 #define LONGEST 200
 
-static const char *const names[CALLS] = {
-    "",          "power_on",     "begin",        "handle",       "elapse",      "usb_reset",  "next",        "took",       "would_stall",
-    "closes",    "too_long",     "refuse_close", "refuse",       "candidate",   "due",        "state",       "code",       "image",
-    "is_blank",  "functional",   "format_start", "format_next",  "format_took", "trial_look", "trial_start", "trial_start_from",
-    "trial_runs", "trial_confirm", "trial_end", "trial_upload", "install_next", "install_took", "operation"};
+static const char *const names[CALLS] = {"",
+                                         "power_on",
+                                         "begin",
+                                         "handle",
+                                         "elapse",
+                                         "usb_reset",
+                                         "next",
+                                         "took",
+                                         "would_stall",
+                                         "closes",
+                                         "too_long",
+                                         "refuse_close",
+                                         "refuse",
+                                         "candidate",
+                                         "due",
+                                         "state",
+                                         "code",
+                                         "image",
+                                         "is_blank",
+                                         "functional",
+                                         "format_start",
+                                         "format_next",
+                                         "format_took",
+                                         "trial_look",
+                                         "trial_start",
+                                         "trial_start_from",
+                                         "trial_runs",
+                                         "trial_confirm",
+                                         "trial_end",
+                                         "trial_upload",
+                                         "install_next",
+                                         "install_took",
+                                         "home_next",
+                                         "home_took",
+                                         "home_may_download",
+                                         "operation"};
 unsigned long paths, checks;
 static unsigned tape[LONGEST], width[LONGEST], length, at, events;
 static const char *of;
