@@ -22,7 +22,7 @@ while IFS='	' read -r option text; do
     has zsh "$(cat "$top/share/completions/_dfu-flash")" "[$(low "$text")]"
     has fish "$(sed "s/\\\\'/'/g" "$top/share/completions/dfu-flash.fish")" "-l ${option#--} -d '$text'"
 done < lines
-expect 'options' test "$(wc -l < lines)" -eq "$(grep -o '_argument' "$top/apps/flash/options.c" | wc -l)"
+expect 'options' test "$(wc -l < lines)" -eq "$(grep -oE '", [a-z]+_argument,' "$top/apps/flash/options.c" | wc -l)"
 sed -n 's/.*STATUS_[A-Z_]* = \([0-9]*\),* *\/\* \(.*\) \*\//\1 \2/p' "$top/apps/flash/status.h" > lines
 expect 'statuses' test "$(wc -l < lines)" -eq 17
 while read -r line; do
