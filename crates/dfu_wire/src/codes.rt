@@ -42,6 +42,13 @@ pub enum Code {
     StalledPkt,
 }
 
+/// The names, in the order of the enum.
+#[rattlefmt::skip]
+static NAMES: [&str; 16] = [
+    "OK", "errTARGET", "errFILE", "errWRITE", "errERASE", "errCHECK_ERASED", "errPROG", "errVERIFY", "errADDRESS",
+    "errNOTDONE", "errFIRMWARE", "errVENDOR", "errUSBR", "errPOR", "errUNKNOWN", "errSTALLEDPKT",
+];
+
 impl Code {
     /// The code of this number; `UnknownCode` if it is over 15.
     pub fn from_byte(byte: u8) -> Result<Code, WireFault>
@@ -66,11 +73,6 @@ impl Code {
     pub fn name(self) -> &'static str
         ensures { result.now ≡ code_name self }
     {
-        variant_name!(self, Code:
-            Ok "OK", Target "errTARGET", File "errFILE", Write "errWRITE", Erase "errERASE",
-            CheckErased "errCHECK_ERASED", Prog "errPROG", Verify "errVERIFY", Address "errADDRESS",
-            NotDone "errNOTDONE", Firmware "errFIRMWARE", Vendor "errVENDOR", Usbr "errUSBR", Por "errPOR",
-            Unknown "errUNKNOWN", StalledPkt "errSTALLEDPKT"
-        )
+        NAMES[self as usize]
     }
 }

@@ -27,27 +27,34 @@ pub enum WireFault {
     PollTooLong,
 }
 
+/// The texts, in the order of the enum.
+static TEXTS: [&str; 7] = [
+    "too few bytes",
+    "too many bytes",
+    "the length byte is wrong",
+    "the type byte is wrong",
+    "no such state",
+    "no such status code",
+    "the poll time does not fit 24 bits",
+];
+
 impl fmt::Display for WireFault {
     fn fmt<W: fmt::Write>(&self, f: &mut fmt::Formatter<W>) -> fmt::Result {
-        f.write_str(match self {
-            WireFault::Short => "too few bytes",
-            WireFault::Long => "too many bytes",
-            WireFault::WrongLength => "the length byte is wrong",
-            WireFault::WrongType => "the type byte is wrong",
-            WireFault::UnknownState => "no such state",
-            WireFault::UnknownCode => "no such status code",
-            WireFault::PollTooLong => "the poll time does not fit 24 bits",
-        })
+        f.write_str(TEXTS[*self as usize])
     }
 }
+
+/// The names, in the order of the enum.
+#[rattlefmt::skip]
+static NAMES: [&str; 7] = [
+    "Short", "Long", "WrongLength", "WrongType", "UnknownState", "UnknownCode", "PollTooLong",
+];
 
 impl WireFault {
     /// The name of the fault, that of its variant, as `Short`.
     pub fn name(self) -> &'static str
         ensures { result.now ≡ wire_fault_name self }
     {
-        variant_name!(self, WireFault:
-            Short, Long, WrongLength, WrongType, UnknownState, UnknownCode, PollTooLong
-        )
+        NAMES[self as usize]
     }
 }
