@@ -1,4 +1,4 @@
-"""Takes away what is written in the language of the proofs: ghost items, contracts, and impls of Model."""
+"""Takes away what is written in the language of the proofs: ghost items, contracts, impls of Model, and those of Debug."""
 from duties import duties_of
 from refusal import Refusal
 from tokens import Token, code_before, end_of_group, next_code, tokens_of
@@ -10,7 +10,7 @@ def without_proofs(path, tokens):
     made, at, asked = [], 0, []
     while at < len(tokens):
         token = tokens[at]
-        end = end_of_model(path, tokens, at) if token.text == "impl" else None
+        end = end_of_left_out(path, tokens, at) if token.text == "impl" else None
         if end is not None:
             drop_space(made, with_comments=True)
             at = end
@@ -61,16 +61,18 @@ def drop_ghost(path, made, token):
     drop_space(made, with_comments=not is_use)
 
 
-def end_of_model(path, tokens, at):
-    """Where an `impl Model for ..` that begins at `at` ends, or None if it is another impl. It has ghost items alone."""
+def end_of_left_out(path, tokens, at):
+    """Where an `impl Model for ..` or an `impl fmt::Debug for ..` that begins at `at` ends, or None if it is another impl. One of Model has
+    ghost items alone. One of Debug writes what rustc's derive writes, which each type has, and is there because it is proved sooner."""
     brace = at
     while brace < len(tokens) and tokens[brace].text not in ("{", ";"):
         brace += 1
     words = [it.text for it in tokens[at:brace] if it.is_code()]
-    if "for" not in words or words[words.index("for") - 1] != "Model":
+    before = words[words.index("for") - 1] if "for" in words else None
+    if before not in ("Model", "Debug"):
         return None
     end = end_of_group(path, tokens, brace)
-    for token in tokens[brace + 1:end]:
+    for token in tokens[brace + 1:end] if before == "Model" else ():
         if token.is_code() and token.kind != "ghost":
             raise Refusal(path, token.line, "an impl of Model with code")
     return end

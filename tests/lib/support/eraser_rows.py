@@ -95,6 +95,8 @@ ITEMS_BECOME = [
     ("#[tactic(auto, using(a::b))]\nfn f() {}", "fn f() {}"),
     ("struct S {\n    // Why.\n    ghost few: { a { b } = c },\n    x: u8,\n}", "struct S {\n    x: u8,\n}"),
     ("// Why.\nimpl Model for S {\n    ghost view = { a };\n}\n\nstruct S;", "struct S;"),
+    ("// Why.\nimpl fmt::Debug for S {\n    fn fmt<W: fmt::Write>(&self, f: &mut fmt::Formatter<W>) -> fmt::Result {\n"
+     "        static A: [u8; 1] = [1];\n        Ok(())\n    }\n}\n\nstruct S;", "struct S;"),
     ("fn f(x: u8) -> u8\n    requires a { x ≤ 1 }\n    // Why.\n    ensures * { result ≡ x }\n{\n    x\n}",
      "fn f(x: u8) -> u8 {\n    x\n}"),
     ("trait T {\n    fn f(x: u8)\n        requires { x ≤ 1 };\n}", "trait T {\n    fn f(x: u8);\n}"),

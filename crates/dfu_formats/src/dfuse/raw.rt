@@ -28,16 +28,19 @@ pub enum RawFault {
     AddressPastTheEnd,
 }
 
+/// The texts, in the order of the enum.
+static TEXTS: [&str; 6] = [
+    "the file has over 16777216 bytes",
+    "the suffix's length is under 16 or over the file's",
+    "the file's CRC differs from the one in its suffix",
+    "the file is a DfuSe file, which has addresses of its own",
+    "the file is empty",
+    "the file ends behind the last address",
+];
+
 impl fmt::Display for RawFault {
     fn fmt<W: fmt::Write>(&self, f: &mut fmt::Formatter<W>) -> fmt::Result {
-        f.write_str(match self {
-            RawFault::TooLarge => "the file has over 16777216 bytes",
-            RawFault::BadLength => "the suffix's length is under 16 or over the file's",
-            RawFault::BadCrc => "the file's CRC differs from the one in its suffix",
-            RawFault::HasAddresses => "the file is a DfuSe file, which has addresses of its own",
-            RawFault::Empty => "the file is empty",
-            RawFault::AddressPastTheEnd => "the file ends behind the last address",
-        })
+        f.write_str(TEXTS[*self as usize])
     }
 }
 

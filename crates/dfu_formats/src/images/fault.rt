@@ -1,10 +1,12 @@
 //! Why a file is refused.
 
+ghost use Rattle.std.specs.Prelude.{◌<◌};
+
 use std::fmt;
 use thiserror::Error;
 
 /// Why a file has no image. Lines are counted from 1, and blocks and segments from 0.
-#[derive(Clone, Copy, Debug, Error)]
+#[derive(Clone, Copy, Error)]
 pub enum ImageFault {
     /// An allocation was refused.
     NoMemory,
@@ -54,71 +56,99 @@ pub enum ImageFault {
     Overlaps(u32),
 }
 
+/// The row of Overlaps, whose number is an address.
+const OVERLAPS: usize = 22;
+
+/// The words of each fault, without a place or an address, in the order of the enum.
+static WORDS: [&str; 23] = [
+    "an allocation was refused",
+    "no record begins so",
+    "not all is pairs of hexadecimal digits",
+    "the record has a wrong length",
+    "the checksum is wrong",
+    "the record has an unknown type",
+    "the count of records is wrong",
+    "the data ends behind its segment, or behind the last address",
+    "something stands behind the end record",
+    "the end record is missing",
+    "the file isn't blocks of 512 bytes",
+    "no block begins and ends so",
+    "it can't have so much data",
+    "it has another number, or another count",
+    "it is for a file, and not for flash",
+    "it is for another family of boards than the first",
+    "the file isn't an ELF file of 32 bits, little endian",
+    "the program headers are cut off, or have another size",
+    "it is cut off",
+    "the data ends behind address FFFFFFFF",
+    "the image has over 16,777,216 bytes",
+    "the image has over 1,024 parts",
+    "two records have a byte at address ",
+];
+
+/// The kind of place that the number of each fault counts, if it counts one, in the order of the enum.
+#[rattlefmt::skip]
+static PLACES: [&str; 23] = [
+    "", "line", "line", "line", "line", "line", "line", "line", "line", "", "", "block", "block", "block", "block", "block", "",
+    "", "segment", "at", "at", "at", "",
+];
+
 impl ImageFault {
-    /// The place that the fault names, by its kind and number, if it names one.
-    fn place(self) -> Option<(&'static str, usize)> {
+    /// The fault's row in the tables, and its number or address, if it has one.
+    fn row(self) -> (usize, Option<usize>)
+        ensures { result.0 < 23 }
+    {
         match self {
-            ImageFault::NoMark(number)
-            | ImageFault::BadDigit(number)
-            | ImageFault::BadLength(number)
-            | ImageFault::BadChecksum(number)
-            | ImageFault::BadType(number)
-            | ImageFault::BadCount(number)
-            | ImageFault::PastSegment(number)
-            | ImageFault::Trailing(number) => Some(("line", number)),
-            ImageFault::BadMagic(number)
-            | ImageFault::BadBlock(number)
-            | ImageFault::BadNumber(number)
-            | ImageFault::FileContainer(number)
-            | ImageFault::OtherFamily(number) => Some(("block", number)),
-            ImageFault::CutSegment(number) => Some(("segment", number)),
-            ImageFault::PastTheEnd(number)
-            | ImageFault::TooLarge(number)
-            | ImageFault::TooManyElements(number) => Some(("at", number)),
-            _ => None,
+            ImageFault::NoMemory => (0, None),
+            ImageFault::NoMark(number) => (1, Some(number)),
+            ImageFault::BadDigit(number) => (2, Some(number)),
+            ImageFault::BadLength(number) => (3, Some(number)),
+            ImageFault::BadChecksum(number) => (4, Some(number)),
+            ImageFault::BadType(number) => (5, Some(number)),
+            ImageFault::BadCount(number) => (6, Some(number)),
+            ImageFault::PastSegment(number) => (7, Some(number)),
+            ImageFault::Trailing(number) => (8, Some(number)),
+            ImageFault::NoEnd => (9, None),
+            ImageFault::BadSize => (10, None),
+            ImageFault::BadMagic(number) => (11, Some(number)),
+            ImageFault::BadBlock(number) => (12, Some(number)),
+            ImageFault::BadNumber(number) => (13, Some(number)),
+            ImageFault::FileContainer(number) => (14, Some(number)),
+            ImageFault::OtherFamily(number) => (15, Some(number)),
+            ImageFault::NotElf => (16, None),
+            ImageFault::CutHeader => (17, None),
+            ImageFault::CutSegment(number) => (18, Some(number)),
+            ImageFault::PastTheEnd(number) => (19, Some(number)),
+            ImageFault::TooLarge(number) => (20, Some(number)),
+            ImageFault::TooManyElements(number) => (21, Some(number)),
+            ImageFault::Overlaps(address) => (OVERLAPS, Some(address as usize)),
         }
     }
+}
 
-    /// The fault in words, without a place or an address.
-    fn words(self) -> &'static str {
-        match self {
-            ImageFault::NoMemory => "an allocation was refused",
-            ImageFault::NoMark(_) => "no record begins so",
-            ImageFault::BadDigit(_) => "not all is pairs of hexadecimal digits",
-            ImageFault::BadLength(_) => "the record has a wrong length",
-            ImageFault::BadChecksum(_) => "the checksum is wrong",
-            ImageFault::BadType(_) => "the record has an unknown type",
-            ImageFault::BadCount(_) => "the count of records is wrong",
-            ImageFault::PastSegment(_) =>
-                "the data ends behind its segment, or behind the last address",
-            ImageFault::Trailing(_) => "something stands behind the end record",
-            ImageFault::NoEnd => "the end record is missing",
-            ImageFault::BadSize => "the file isn't blocks of 512 bytes",
-            ImageFault::BadMagic(_) => "no block begins and ends so",
-            ImageFault::BadBlock(_) => "it can't have so much data",
-            ImageFault::BadNumber(_) => "it has another number, or another count",
-            ImageFault::FileContainer(_) => "it is for a file, and not for flash",
-            ImageFault::OtherFamily(_) => "it is for another family of boards than the first",
-            ImageFault::NotElf => "the file isn't an ELF file of 32 bits, little endian",
-            ImageFault::CutHeader => "the program headers are cut off, or have another size",
-            ImageFault::CutSegment(_) => "it is cut off",
-            ImageFault::PastTheEnd(_) => "the data ends behind address FFFFFFFF",
-            ImageFault::TooLarge(_) => "the image has over 16,777,216 bytes",
-            ImageFault::TooManyElements(_) => "the image has over 1,024 parts",
-            ImageFault::Overlaps(_) => "two records have a byte at address ",
+impl fmt::Debug for ImageFault {
+    fn fmt<W: fmt::Write>(&self, f: &mut fmt::Formatter<W>) -> fmt::Result {
+        #[rattlefmt::skip]
+        static NAMES: [&str; 23] = [
+            "NoMemory", "NoMark", "BadDigit", "BadLength", "BadChecksum", "BadType", "BadCount", "PastSegment", "Trailing",
+            "NoEnd", "BadSize", "BadMagic", "BadBlock", "BadNumber", "FileContainer", "OtherFamily", "NotElf", "CutHeader",
+            "CutSegment", "PastTheEnd", "TooLarge", "TooManyElements", "Overlaps",
+        ];
+        let (row, number) = self.row();
+        match number {
+            Some(number) => write!(f, "{}({number})", NAMES[row]),
+            None => f.write_str(NAMES[row]),
         }
     }
 }
 
 impl fmt::Display for ImageFault {
     fn fmt<W: fmt::Write>(&self, f: &mut fmt::Formatter<W>) -> fmt::Result {
-        if let Some((kind, number)) = self.place() {
-            write!(f, "{kind} {number}: ")?;
-        }
-        f.write_str(self.words())?;
-        match self {
-            ImageFault::Overlaps(address) => write!(f, "{address:08x}"),
-            _ => Ok(()),
+        let (row, number) = self.row();
+        match number {
+            Some(address) if row == OVERLAPS => write!(f, "{}{address:08x}", WORDS[row]),
+            Some(number) => write!(f, "{} {number}: {}", PLACES[row], WORDS[row]),
+            None => f.write_str(WORDS[row]),
         }
     }
 }

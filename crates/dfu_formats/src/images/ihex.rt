@@ -144,8 +144,14 @@ impl TextFormat for IntelHex {
 
     #[tactic(auto, using(std::proofs::lemmas::Bool::Decides::nat_tests), unfolding(crate::specs::images::IntelHex::hex_record_read))]
     fn step(alloc: Global, at: usize, state: State, line: &[u8]) -> Result<State, ImageFault> {
-        let bytes = spelled(at, line)?;
-        let said = framed(at, &bytes)?;
+        let bytes = match spelled(at, line) {
+            Ok(bytes) => bytes,
+            Err(fault) => return Err(fault),
+        };
+        let said = match framed(at, &bytes) {
+            Ok(said) => said,
+            Err(fault) => return Err(fault),
+        };
         meant(alloc, at, state, &said)
     }
 }

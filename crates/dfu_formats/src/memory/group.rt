@@ -138,9 +138,18 @@ pub(crate) fn take_group(start: u64, text: &[u8]) -> Result<Group<'_>, MapFault>
     ensures value { result ≡ group_at start text.now }
     ensures sound { IfOk result (λ g. IsRange g.pages) }
 {
-    let count = take_count(text)?;
-    let size = take_size(count.rest)?;
-    let allowed = take_access(size.rest)?;
+    let count = match take_count(text) {
+        Ok(count) => count,
+        Err(fault) => return Err(fault),
+    };
+    let size = match take_size(count.rest) {
+        Ok(size) => size,
+        Err(fault) => return Err(fault),
+    };
+    let allowed = match take_access(size.rest) {
+        Ok(allowed) => allowed,
+        Err(fault) => return Err(fault),
+    };
     if start + count.value * size.value > ADDRESSES {
         return Err(MapFault::PastTheEnd);
     }

@@ -44,9 +44,18 @@ impl<'t> Model for Map<'t> {
 fn read_map(text: &[u8]) -> Result<Map<'_>, MapFault>
     ensures { result ≡ map_at text.now }
 {
-    let named = take_name(text)?;
-    let place = take_address(named.rest)?;
-    let ranges = take_ranges(place.value, place.rest)?;
+    let named = match take_name(text) {
+        Ok(named) => named,
+        Err(fault) => return Err(fault),
+    };
+    let place = match take_address(named.rest) {
+        Ok(place) => place,
+        Err(fault) => return Err(fault),
+    };
+    let ranges = match take_ranges(place.value, place.rest) {
+        Ok(ranges) => ranges,
+        Err(fault) => return Err(fault),
+    };
     if !are_apart(&ranges) {
         return Err(MapFault::Overlaps);
     }
