@@ -98,8 +98,14 @@ impl Status {
         if bytes.len() > 6 {
             return Err(WireFault::Long);
         }
-        let code = Code::from_byte(bytes[0])?;
-        let state = State::from_byte(bytes[4])?;
+        let code = match Code::from_byte(bytes[0]) {
+            Ok(code) => code,
+            Err(fault) => return Err(fault),
+        };
+        let state = match State::from_byte(bytes[4]) {
+            Ok(state) => state,
+            Err(fault) => return Err(fault),
+        };
         let poll = LittleEndian::read_u24(&bytes[1..]);
         Ok(Status { code, poll, state })
     }
