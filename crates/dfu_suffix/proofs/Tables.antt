@@ -61,6 +61,10 @@ chained_at k (suc i) earlier (xs ∷ tables) start h p =
     subst (λ (n : ℕ). Holds n (slice_index_or tables i [])) more
     (chained_at (k + 8) i (λ j. get_or xs j 0) tables (holds_more k earlier xs start here.0) here.1 (omega arith))
 
+-- The same entry of the same table.
+pub same_entry : (n : ℕ) (xs ys : List ℕ) → xs ≡ ys → get_or xs n 0 ≡ get_or ys n 0
+same_entry n xs ys e = ap (λ (zs : List ℕ). get_or zs n 0) e
+
 -- The entry for the low byte of a number.
 pub entry_at : (k : ℕ) (xs : List ℕ) (x : ℕ) → Holds k xs → get_or xs (bit_and x 255) 0 ≡ shifts k (x % 256)
 entry_at k xs x h = ap (λ (i : ℕ). get_or xs i 0) (and_mask x 8) ∙ h (x % 256) (omega arith)

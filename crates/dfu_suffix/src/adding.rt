@@ -75,9 +75,11 @@ pub fn add<R: Read + Drop, W: Write>(
     // After a fault other than Write nothing is written.
     ensures kept { KeepsAtFault (W.contents writer.old) (W.contents writer.new) result }
 {
-    let text = file_of(alloc, reader, ids)?;
-    match write_whole(writer, &text) {
-        Ok(()) => Ok(text.len() as u32),
-        Err(_) => Err(SuffixFault::Write),
+    match file_of(alloc, reader, ids) {
+        Ok(text) => match write_whole(writer, &text) {
+            Ok(()) => Ok(text.len() as u32),
+            Err(_) => Err(SuffixFault::Write),
+        },
+        Err(fault) => Err(fault),
     }
 }

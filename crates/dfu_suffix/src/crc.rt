@@ -1,6 +1,6 @@
 //! The register of USB DFU 1.1, appendix B, eight bytes at a time.
 
-ghost use Rattle.std.specs.Prelude.{◌≡◌, ℕ, List, ◌++◌, [], length, slice_index, bit_and};
+ghost use Rattle.std.specs.Prelude.{◌≡◌, ℕ, List, ◌++◌, ◌<◌, [], length, slice_index, slice_index_or, bit_and};
 
 use crate::table::TABLES;
 use crate::{folding, small};
@@ -79,6 +79,16 @@ impl Crc {
 
 ghost use Rattle.byteorder.specs.Endian.{little_number};
 ghost use Rattle.dfu_suffix.specs.Register.{after_bits, bits_of, low_bits, shifts};
+ghost use Rattle.dfu_suffix.specs.declared.table.TheConstants.{TABLES};
+
+// One of the tables, by its place. A function has it, because each proof that names all tables is dear.
+#[inline(always)]
+fn table(place: usize) -> &'static [u32; 256]
+    requires { place < 8 }
+    ensures { result.now ≡ slice_index_or TABLES place [] }
+{
+    &TABLES[place]
+}
 
 // The entry of a table for the lowest byte of a number.
 #[inline(always)]
@@ -93,7 +103,7 @@ fn entry(table: &[u32; 256], number: u32) -> u32
 fn after_byte(register: u32, byte: u8) -> u32
     ensures { result ≡ after_bits register (low_bits 8 byte) }
 {
-    (register >> 8) ^ entry(&TABLES[7], register ^ u32::from(byte))
+    (register >> 8) ^ entry(table(7), register ^ u32::from(byte))
 }
 
 // The entry of a table for a byte.
@@ -110,10 +120,10 @@ fn after_32_zeros(bytes: &[u8]) -> u32
     requires { length bytes.now ≡ 4 }
     ensures { result ≡ shifts 32 (little_number 4 bytes.now) }
 {
-    byte_entry(&TABLES[4], bytes[0])
-        ^ byte_entry(&TABLES[5], bytes[1])
-        ^ byte_entry(&TABLES[6], bytes[2])
-        ^ byte_entry(&TABLES[7], bytes[3])
+    byte_entry(table(4), bytes[0])
+        ^ byte_entry(table(5), bytes[1])
+        ^ byte_entry(table(6), bytes[2])
+        ^ byte_entry(table(7), bytes[3])
 }
 
 // What 64 bits 0 make of a number.
@@ -121,10 +131,10 @@ fn after_32_zeros(bytes: &[u8]) -> u32
 fn after_64_zeros(number: u32) -> u32
     ensures { result ≡ shifts 64 number }
 {
-    entry(&TABLES[0], number)
-        ^ entry(&TABLES[1], number >> 8)
-        ^ entry(&TABLES[2], number >> 16)
-        ^ entry(&TABLES[3], number >> 24)
+    entry(table(0), number)
+        ^ entry(table(1), number >> 8)
+        ^ entry(table(2), number >> 16)
+        ^ entry(table(3), number >> 24)
 }
 
 // The register after eight more bytes. Only the first four bytes wait for the register, as one number;

@@ -53,8 +53,10 @@ pub(crate) fn append_suffix(text: &mut Vec<u8>, ids: Ids) -> Result<(), AllocErr
 {
     let fields = fields_of(ids);
     let crc = crc_over(text, &fields);
-    text.extend_from_slice(&fields)?;
-    text.extend_from_slice(&crc.to_le_bytes())
+    match text.extend_from_slice(&fields) {
+        Ok(()) => text.extend_from_slice(&crc.to_le_bytes()),
+        Err(refused) => Err(refused),
+    }
 }
 
 /// Whether the fault is that of a DfuSe file.
