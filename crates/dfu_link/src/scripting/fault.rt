@@ -103,7 +103,7 @@ pub enum Reason {
     Setup(SetupFault, u32),
 }
 
-/// What a run of a script notes of where it stops: nothing at first.
+/// What a run of a script notes of where it stops: nothing at first. It has no way to change the run, or what is printed of it.
 #[derive(Drop)]
 pub struct Stopped {
     reason: Cell<Option<Reason>>,

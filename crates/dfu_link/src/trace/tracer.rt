@@ -1,4 +1,4 @@
-//! A trace of a script: a line for each action of the host. What writes it has no way to change the run, or what is printed of it.
+//! A trace of a script: a line for each action of the host. Its writer has no way to change the run, or what is printed of it.
 
 use crate::trace::words::Words;
 use dfu_device::Answer;
