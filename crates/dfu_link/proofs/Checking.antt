@@ -1,12 +1,19 @@
 -- The bytes with which an image begins, compared one by one.
-use Rattle.std.proofs.Common.{◌≡◌, ℕ, ◌+◌, ◌-◌, ◌==◌, ◌<◌, ◌≤◌, Bool, true, false, cond, List, [], ◌∷◌, length, drop, get_or, refl, sym, ap, ◌∙◌, arith, length-append}
+use Rattle.std.proofs.Common.{◌≡◌, ℕ, ◌+◌, ◌-◌, ◌==◌, ◌<◌, ◌≤◌, Bool, true, false, cond, List, [], ◌∷◌, Option, Some, None, length, drop, get_or, refl, sym, ap, ◌∙◌, arith, length-append}
 use Rattle.std.proofs.lemmas.List.{drop_more, drop_all, drop-drop, get_or_append_left, get_or-append_right}
 use Rattle.std.proofs.lemmas.List.Edits.{length-between, get_or-between}
 use Rattle.std.specs.Prelude.{slice_range}
 use Rattle.dfu_slots.specs.Seen.{SlotsState}
 use Rattle.dfu_device.specs.declared.candidate.Candidate.{Candidate}
-use Rattle.dfu_link.specs.ScriptRun.{begins_with}
+use Rattle.dfu_link.specs.ScriptRun.{begins_with, is_accepted}
 use Rattle.dfu_link.specs.inside.Taken.{taken_at}
+
+-- No bytes.
+
+-- A program that checks none takes every image.
+pub accepts_all : (check : List ℕ) (taken : Option (List ℕ)) → check ≡ [] → true ≡ is_accepted check taken
+accepts_all check None e = refl
+accepts_all check (Some bytes) e = sym (ap (λ (l : List ℕ). begins_with l bytes) e)
 
 -- One byte.
 

@@ -17,7 +17,7 @@ use Rattle.dfu_link.specs.Expecting.{Expectation, Meets, still}
 use Rattle.dfu_link.specs.inside.Expected.{point_at, Prints, PrintsNext}
 use Rattle.dfu_link.specs.declared.scripting.fault.ScriptFault.{ScriptFault}
 use Rattle.dfu_link.specs.Falls.{in_passes}
-use Rattle.dfu_link.specs.inside.Moving.{SilentPasses, HasDoneLine, HasStopped}
+use Rattle.dfu_link.specs.inside.Moving.{SilentPasses, HasDoneLine, HasStopped, DoesLine}
 use Rattle.dfu_link.proofs.WriteLaws.{broke_after}
 use Rattle.dfu_link.proofs.ExpectLaws.{prints_none, prints_more, fails_after}
 use Rattle.dfu_link.proofs.ToldLines.{told_line_is}
@@ -36,11 +36,10 @@ silent_none z b e old = record {
 }
 
 -- It passed once more, and again nothing is printed.
-pub silent_more : {check : List ℕ} {b : LinkView} {c c' : WorldView} (r : Result (Option Report) LinkFault) {old mid new : Option (List ℕ)}
-    {x y z : Option Expectation} → SilentPasses check b x old c.bench y mid → HasCome c (checked check c.bench passes) c' r
-    → ShowsActive c'.bench → r ≡ Ok None
-    → Prints y mid (told_line r c'.up) z new → SilentPasses check b x old c'.bench z new
-silent_more {check = check} {b = b} {c = c} {c' = c'} r {mid = mid} {new = new} {y = y} {z = z} before come active e prints =
+pub silent_more : {check : List ℕ} {b : LinkView} {c c' : WorldView} (r : Result (Option Report) LinkFault) {old new : Option (List ℕ)}
+    {x y : Option Expectation} → SilentPasses check b x old c.bench y new → HasCome c (checked check c.bench passes) c' r
+    → ShowsActive c'.bench → r ≡ Ok None → SilentPasses check b x old c'.bench y new
+silent_more {check = check} {b = b} {c = c} {c' = c'} r before come active e =
     let n = before.times in
     let more : AllCome check b (replicate n passes ++ passes ∷ []) (told_line r c'.up) c'.bench =
     plays_one check b c c' (replicate n passes) passes [] r
@@ -50,7 +49,7 @@ silent_more {check = check} {b = b} {c = c} {c' = c'} r {mid = mid} {new = new} 
       times = n + 1;
       plays = subst (λ (hs : List Happening). AllCome check b hs [] c'.bench) (sym (replicate_more n passes))
           (subst (λ (out : List ℕ). AllCome check b (replicate n passes ++ passes ∷ []) out c'.bench) text more);
-      prints = prints_more before.prints (subst (λ (out : List ℕ). Prints y mid out z new) text prints);
+      prints = before.prints;
     }
 
 -- Of a report and of a refusal something is printed.
@@ -94,7 +93,7 @@ goes_on_by {b = b} {c = c} {c' = c'} g check limits r k next meets silent come a
     (goes_on silent.times silent.plays come.comes active (λ e. some (same ∙ e)) (subst (λ (text : List ℕ). Meets next text) same meets))
 
 -- It is out.
-pub passed_on : {b : LinkView} {c c' : WorldView} (g : Option (List ℕ)) (check : List ℕ) (limits : Limits)
+passed_on : {b : LinkView} {c c' : WorldView} (g : Option (List ℕ)) (check : List ℕ) (limits : Limits)
     (r : Result (Option Report) LinkFault)
     {old mid new : Option (List ℕ)} {x y z : Option Expectation} → SilentPasses check b x old c.bench y mid
     → HasCome c (checked check c.bench passes) c' r → ShowsActive c'.bench → r ≢ Ok None
@@ -111,7 +110,7 @@ passed_on {b = b} {c' = c'} g check limits r {x = x} silent come active other pr
     }
 
 -- Or it stopped in it.
-pub stopped_on : {b : LinkView} {c c' : WorldView} (g : Option (List ℕ)) (check : List ℕ) (limits : Limits)
+stopped_on : {b : LinkView} {c c' : WorldView} (g : Option (List ℕ)) (check : List ℕ) (limits : Limits)
     (r : Result (Option Report) LinkFault)
     {old mid new : Option (List ℕ)} {x y z : Option Expectation} {f : ScriptFault} → SilentPasses check b x old c.bench y mid
     → HasCome c (checked check c.bench passes) c' r → ShowsActive c'.bench → PrintsNext y mid (told_line r c'.up) z new (Err f)
@@ -122,3 +121,14 @@ stopped_on {b = b} {c' = c'} g check limits r {old = old} {mid = mid} {new = new
     (in_passes e (goes_on_by g check limits r 0 None tt silent come active (part_some prints.err))
     (broke_after old mid new [] (told_line r c'.up) before.told prints.err)
     (fails_after (told_line r c'.up) new f before prints.fault))
+
+-- So it is done, as the writing of what is printed went.
+pub passed_by : {b : LinkView} {c c' : WorldView} (g : Option (List ℕ)) (check : List ℕ) (limits : Limits)
+    (r : Result (Option Report) LinkFault) {old mid new : Option (List ℕ)} {x y z : Option Expectation} (done : Result Unit ScriptFault)
+    → SilentPasses check b x old c.bench y mid → HasCome c (checked check c.bench passes) c' r → ShowsActive c'.bench → r ≢ Ok None
+    → PrintsNext y mid (told_line r c'.up) z new done
+    → DoesLine (point_at g check limits x b) GoesOn old (point_at g check limits z c'.bench) new done
+passed_by g check limits r (Ok u) silent come active other prints =
+    record { ok = passed_on g check limits r silent come active other prints.ok; fault = tt }
+passed_by g check limits r (Err f) silent come active other prints =
+    record { ok = tt; fault = stopped_on g check limits r silent come active prints }

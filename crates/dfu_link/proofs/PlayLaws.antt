@@ -1,5 +1,5 @@
 -- Events that are played, and what is printed of them.
-use Rattle.std.proofs.Common.{◌≡◌, ℕ, zero, suc, ◌+◌, List, [], ◌∷◌, ◌++◌, Option, refl, sym, ap, ◌∙◌, subst, add-one, arith, ◌<◌}
+use Rattle.std.proofs.Common.{◌≡◌, ℕ, zero, suc, ◌+◌, List, [], ◌∷◌, ◌++◌, Option, None, refl, sym, ap, ◌∙◌, subst, add-one, arith, ◌<◌}
 use Rattle.std.proofs.lemmas.List.{append_assoc, append-nil}
 use Rattle.std.specs.Prelude.{replicate, Result, Ok, Err}
 use Rattle.dfu_host.specs.declared.limits.Limits.{Limits}
@@ -83,6 +83,17 @@ pub plays_next : (e : Happening) {check : List ℕ} {b : LinkView} {c c' : World
 plays_next e {c = c} {c' = c'} r {y = y} {z = z} {mid = mid} {new = new} {done = done} before come active prints =
     played_then done e before come.comes active
     (subst (λ (text : List ℕ). PrintsNext y mid text z new done) (told_line_is c c' r come) prints)
+
+-- One more comes of which nothing is printed, and nothing is written.
+pub plays_silent : (e : Happening) {check : List ℕ} {b : LinkView} {c c' : WorldView} {events : List Happening}
+    (r : Result (Option Report) LinkFault) {x y : Option Expectation} {old new : Option (List ℕ)}
+    → HasPlayed check b x events old c.bench y new → HasCome c (checked check c.bench e) c' r → ShowsActive c'.bench → r ≡ Ok None
+    → HasPlayed check b x (events ++ e ∷ []) old c'.bench y new
+plays_silent e {c' = c'} r {y = y} {new = new} before come active none =
+    let prints : PrintsNext y new (told_line r c'.up) y new (Ok tt) =
+    subst (λ (x : Result (Option Report) LinkFault). PrintsNext y new (told_line x c'.up) y new (Ok tt)) (sym none)
+    (record { ok = prints_none y new; err = tt; fault = tt }) in
+    (plays_next e r before come active prints).ok
 
 -- An offer while a session is live.
 busy_offer : (b : LinkView) (purpose : Purpose) (file : List ℕ) (limits : Limits) → IsLive b.session

@@ -5,13 +5,11 @@
 //! calls and definitions this crate passes on.
 #![tactic(auto)]
 
-mod notes;
 mod scripting;
 mod trace;
 
 pub use dfu_sim::{Event, Fate, LinkFault, OfferFault, Purpose, Stop, World, laws, run};
-pub use notes::{Reason, Stopped};
 pub use scripting::{
-    Field, LineFault, ScriptFault, SetupFault, script, script_traced, script_traced_with,
-    script_with,
+    Field, LineFault, Reason, ScriptFault, SetupFault, Stopped, script, script_traced,
+    script_traced_with, script_with,
 };

@@ -21,6 +21,6 @@ mod source;
 mod starting;
 mod words;
 
-pub use fault::{Field, LineFault, ScriptFault};
+pub use fault::{Field, LineFault, Reason, ScriptFault, Stopped};
 pub use run_script::{script, script_traced, script_traced_with, script_with};
 pub use setup_fault::SetupFault;

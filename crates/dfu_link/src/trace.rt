@@ -1,6 +1,6 @@
-//! The line of an action of the host in a trace. No clause speaks of its text; tests and pictures show it.
+//! The trace of a script: a line for each action of the host. No clause speaks of its text; tests and pictures show it.
 
-mod line;
+mod tracer;
 mod words;
 
-pub use line::{Count, Snapshot, step_line, time_of};
+pub(crate) use tracer::{NoTrace, TraceWriter, Tracer};

@@ -14,7 +14,6 @@ ghost use Rattle.dfu_sim.specs.Giving.{GivesOrKeeps};
 use crate::delivery::{Answered, Response};
 use crate::event::Event;
 use crate::fault::LinkFault;
-use crate::laws::image_shown;
 use crate::play::apply_event;
 use arrayvec::ArrayVec;
 use dfu_device::{Answer, Device};
@@ -95,8 +94,6 @@ impl<'f, M: Faulty> World<'f, M> {
         ensures gives { GivesOrKeeps self.old self.new result }
         ensures active { ShowsActive self.new.bench }
     {
-        // Called for its law, which `legal` needs: no image but the one that is shown is active.
-        image_shown();
         let told = apply_event(
             self.alloc,
             &mut self.device,

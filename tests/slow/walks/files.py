@@ -1,5 +1,5 @@
 #!/usr/bin/env python3
-"""files.py TOP DUMP..: the source files of TOP/crates of which a function ran, by what valgrind's callgrind dumped, one a line. A
+"""files.py TOP DUMP..: the source files of TOP/crates of which code ran, by what valgrind's callgrind dumped, one a line. A
 function's name is its path, as dfu_host::session::Session::phase: the file is the longest that such a path begins with, or, if no function
 of this name is there, the one with an `impl` of the type that has it."""
 import functools
@@ -57,15 +57,23 @@ def file_of(top, name):
 
 
 def names_in(dump):
-    """The functions to which a dump gives a cost; a callee's name stands in its own part too."""
-    known = {}
+    """The functions of which an instruction ran. A function that waits for one that it called has a part too, with the cost of that call
+    alone; and a callee's name stands in its own part."""
+    known, name, is_call = {}, None, False
     with open(dump, encoding="utf-8", errors="replace") as lines:
         for line in lines:
             found = re.match(r"c?fn=\((\d+)\)(?: (.*))?$", line)
             if found and found[2]:
                 known[found[1]] = found[2]
             if found and line.startswith("fn="):
-                yield known[found[1]]
+                name = known[found[1]]
+            elif line.startswith("calls="):
+                is_call = True
+            elif re.match(r"[-+*\d]", line):
+                # (the line behind a call has what the callee costs)
+                if name and not is_call and any(int(cost) for cost in line.split()[1:]):
+                    yield name
+                is_call = False
 
 
 top, *dumps = sys.argv[1:]

@@ -3,8 +3,7 @@
 ghost use Rattle.std.specs.Prelude.{◌≡◌, ◌≢◌, ◌<◌, ◌++◌, ◌∷◌, [], Some, None, true, false, length, OnOk, IfErr};
 ghost use Rattle.dfu_link.specs.inside.Expected.{expectation_of, PrintsNext, CannotExpect};
 
-use crate::notes::Stopped;
-use crate::scripting::fault::ScriptFault;
+use crate::scripting::fault::{ScriptFault, Stopped};
 use crate::scripting::output::write_out;
 use dfu_host::Limits;
 use std::alloc::Global;

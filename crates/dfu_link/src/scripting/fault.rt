@@ -1,5 +1,7 @@
-//! How a script ends before its last line is out, and why a line is not one of the language.
+//! How a script ends before its last line is out, why a line is not one of the language, and what a run notes of it.
 
+use crate::scripting::setup_fault::SetupFault;
+use std::cell::Cell;
 use thiserror::Error;
 
 /// How a script ends before its last line is out. Lines are counted from 1, and skipped lines count
@@ -88,4 +90,40 @@ pub enum LineFault {
     Count(usize),
     /// A comment follows its last word.
     Comment,
+}
+
+/// What is wrong with a script that stopped, beside its fault.
+#[derive(Clone, Copy)]
+pub enum Reason {
+    /// Of BadLine: the line has a byte that isn't 20h to 7Eh. It begins with a byte order mark, ends in a carriage return, or neither.
+    Unprintable { begins: bool, ends: bool },
+    /// Of BadLine: what is wrong with the line, and how many words it has.
+    Line(LineFault, usize),
+    /// Of BadConfig: why no device can be set up, and the number of the line that says it.
+    Setup(SetupFault, u32),
+}
+
+/// What a run of a script notes of where it stops: nothing at first. It has no way to change the run, or what is printed of it.
+#[derive(Drop)]
+pub struct Stopped {
+    reason: Cell<Option<Reason>>,
+}
+
+impl Stopped {
+    /// Nothing was noted yet.
+    pub fn new() -> Stopped {
+        Stopped {
+            reason: Cell::new(None),
+        }
+    }
+
+    /// What is wrong with the script, once it stopped at BadLine or BadConfig. Of a line over 65,536 bytes nothing is noted.
+    pub fn reason(&self) -> Option<Reason> {
+        self.reason.get()
+    }
+
+    /// This is wrong with the script.
+    pub(crate) fn note_reason(&self, reason: Reason) {
+        self.reason.set(Some(reason));
+    }
 }

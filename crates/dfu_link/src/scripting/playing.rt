@@ -1,6 +1,6 @@
 //! The events of an event line, played.
 
-ghost use Rattle.std.specs.Prelude.{◌≡◌, ℕ, List, Option, [], ◌∷◌, replicate};
+ghost use Rattle.std.specs.Prelude.{◌≡◌, ◌≢◌, ℕ, List, Option, None, Ok, true, false, [], ◌∷◌, replicate};
 ghost use Rattle.dfu_device.specs.Candidate.{candidate_in};
 ghost use Rattle.dfu_sim.specs.LinkView.{ShowsActive};
 ghost use Rattle.dfu_sim.specs.Comes.{HasCome};
@@ -11,13 +11,13 @@ ghost use Rattle.dfu_link.specs.Said.{Does, GoesOn, Offer, said_by, harmed_line}
 ghost use Rattle.dfu_link.specs.inside.Expected.{expectation_of, point_at, at_point};
 ghost use Rattle.dfu_link.specs.inside.Moving.{PlaysEvents, DoesLine, file_bytes};
 
-use crate::notes::Tracer;
 use crate::scripting::event_parts::{begins, harmed, offered};
 use crate::scripting::expectation::{Expectation, ScriptContext};
 use crate::scripting::fault::ScriptFault;
 use crate::scripting::line::{EventLine, HarmKind, HexText};
-use crate::scripting::saying::{is_silent, say_next};
+use crate::scripting::saying::say_next;
 use crate::scripting::starting::bytes_of;
+use crate::trace::Tracer;
 use dfu_device::{Device, Objection};
 use dfu_host::{Limits, Report};
 use dfu_sim::{Event, Fate, LinkFault, Purpose, World};
@@ -40,10 +40,14 @@ fn play<'f, M: Faulty, W: Write>(
     say_next(writer, next, answer, world.uploaded())
 }
 
-/// Whether a program that takes only images that begin with these bytes has nothing against the image that was taken, or none was.
+/// Whether a program that takes only images that begin with these bytes has nothing against the image that was taken, or none was. If it
+/// checks no bytes, it doesn't look for one.
 fn is_accepted<M: Medium>(device: &Device<M>, check: &[u8]) -> bool
     ensures { result ≡ is_accepted check.now (candidate_in device.now.stage) }
 {
+    if check.is_empty() {
+        return true;
+    }
     match device.candidate() {
         None => true,
         Some(candidate) => begins::<M>(device.slots(), candidate, check),
@@ -84,6 +88,17 @@ fn take<'f, T: Tracer<M>, M: Faulty>(
     answer
 }
 
+/// Whether nothing is printed of an event.
+fn is_silent(answer: Result<Option<Report>, LinkFault>) -> bool
+    ensures silent { result ≡ true → answer ≡ Ok None }
+    ensures told { result ≡ false → answer ≢ Ok None }
+{
+    match answer {
+        Ok(None) => true,
+        Ok(Some(_)) | Err(_) => false,
+    }
+}
+
 /// Lets the host take so many actions of one fate, and writes what is printed of each.
 fn play_actions<'f, T: Tracer<M>, M: Faulty, W: Write>(
     world: &mut World<'f, M>,
@@ -100,6 +115,9 @@ fn play_actions<'f, T: Tracer<M>, M: Faulty, W: Write>(
 {
     for turn in 0..times {
         let answer = take::<T, M>(world, fate, check, tracer);
+        if is_silent(answer) {
+            continue;
+        }
         say_next(writer, next, answer, world.uploaded())?;
     }
     Ok(())
@@ -120,9 +138,8 @@ fn pass_on<'f, T: Tracer<M>, M: Faulty, W: Write>(
 {
     'passes: loop {
         let answer = take::<T, M>(world, Fate::Pass, check, tracer);
-        say_next(writer, next, answer, world.uploaded())?;
         if !is_silent(answer) {
-            return Ok(());
+            return say_next(writer, next, answer, world.uploaded());
         }
     }
 }

@@ -5,8 +5,7 @@ ghost use Rattle.dfu_sim.specs.Happening.{fate_of, harm_in};
 ghost use Rattle.dfu_link.specs.Said.{given_bytes, said_of, Go, Does, harm_fate};
 ghost use Rattle.dfu_link.specs.Lines.{Tells, ends, pass_of, slip_of, harmed_of, until_of, by_fate, go_of, by_keyword, read_line, line_of};
 
-use crate::notes::{Reason, Stopped};
-use crate::scripting::fault::{Field, LineFault};
+use crate::scripting::fault::{Field, LineFault, Reason, Stopped};
 use crate::scripting::fields::{field, hex_at, number_at};
 use crate::scripting::line::{EventLine, HarmKind, Line};
 use crate::scripting::line_forms::{

@@ -12,7 +12,6 @@ ghost use Rattle.dfu_link.specs.inside.Expected.{at_point};
 ghost use Rattle.dfu_link.specs.inside.Source.{Next, GivesLine, SourceState};
 ghost use Rattle.dfu_link.specs.inside.Moving.{LineEnds, IsDoneOrLeft, LinkDone, IsFileOf, Ends, IsUnarmed, Plainly, PlainlyFalls, MovesAndFalls};
 
-use crate::notes::Tracer;
 use crate::scripting::event_parts::file_of;
 use crate::scripting::expectation::{ScriptContext, expect};
 use crate::scripting::fault::ScriptFault;
@@ -21,6 +20,7 @@ use crate::scripting::playing::{play_events, refuse_offer};
 use crate::scripting::reading::{note_line, parse};
 use crate::scripting::showing::{image_next, show_next};
 use crate::scripting::source::Source;
+use crate::trace::Tracer;
 use dfu_device::Device;
 use dfu_host::Limits;
 use dfu_sim::World;

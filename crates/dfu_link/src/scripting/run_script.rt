@@ -7,15 +7,15 @@ ghost use Rattle.dfu_link.specs.Printed.{HasPrinted};
 ghost use Rattle.dfu_link.specs.inside.Moving.{LinesConfigured, CannotConfigure};
 ghost use Rattle.dfu_link.specs.inside.SetupView.{settings_of};
 
-use crate::notes::{NoTrace, Stopped, TraceWriter, Tracer};
 use crate::scripting::expectation::ScriptContext;
-use crate::scripting::fault::ScriptFault;
+use crate::scripting::fault::{ScriptFault, Stopped};
 use crate::scripting::line::Line;
 use crate::scripting::reading::{note_line, parse};
 use crate::scripting::run_events::run_on;
 use crate::scripting::script_config::{ScriptConfig, beginning, check_in, set, set_limits};
 use crate::scripting::source::Source;
 use crate::scripting::starting::start;
+use crate::trace::{NoTrace, TraceWriter, Tracer};
 use dfu_host::Limits;
 use dfu_sim::laws::image_shown;
 use dfu_slots::SimMedium;

@@ -1,6 +1,6 @@
 //! The lines of reports and of refused events.
 
-ghost use Rattle.std.specs.Prelude.{◌≡◌, ◌≢◌, Ok, None, true, false};
+ghost use Rattle.std.specs.Prelude.{◌≡◌};
 ghost use Rattle.dfu_link.specs.inside.Expected.{expectation_of, Puts, PrintsNext};
 ghost use Rattle.dfu_link.specs.Texts.{offer_fault_name, uploaded_line, report_line, refusal_line, told_line};
 
@@ -93,15 +93,4 @@ pub(crate) fn say_next<W: Write>(
         return Err(ScriptFault::NoMemory);
     };
     write_next(writer, next, &line)
-}
-
-/// Whether nothing is printed of an event.
-pub(crate) fn is_silent(answer: Result<Option<Report>, LinkFault>) -> bool
-    ensures silent { result ≡ true → answer ≡ Ok None }
-    ensures told { result ≡ false → answer ≢ Ok None }
-{
-    match answer {
-        Ok(None) => true,
-        Ok(Some(_)) | Err(_) => false,
-    }
 }

@@ -10,8 +10,7 @@ ghost use Rattle.dfu_link.specs.inside.Moving.{IsUnarmed};
 ghost use Rattle.dfu_link.specs.inside.SetupView.{setting_of_device, settings_of, setup_grain, image_bytes, pace_of};
 ghost use Rattle.dfu_link.specs.inside.Forming.{Formed, FormFalls};
 
-use crate::notes::{Reason, Stopped};
-use crate::scripting::fault::ScriptFault;
+use crate::scripting::fault::{Reason, ScriptFault, Stopped};
 use crate::scripting::line::{HexText, Room, Sector};
 use crate::scripting::script_config::ScriptConfig;
 use crate::scripting::setup_fault::{line_of_fault, setup_fault};

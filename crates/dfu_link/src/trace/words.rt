@@ -3,7 +3,7 @@
 use dfu_host::{Action, Phase};
 use dfu_sim::Fate;
 use dfu_slots::{LastWrites, WriteEnd, WriteNote};
-use dfu_wire::{Request, Setup};
+use dfu_wire::{Request, Setup, State, Status};
 use std::alloc::{AllocError, Global};
 
 /// A request's name in the standard (USB DFU 1.1, section 3), or `other`.
@@ -92,11 +92,23 @@ fn fate_text(fate: Fate<'_>) -> &'static str {
     }
 }
 
-/// The words of a line of a trace, put together in a text.
+/// The state that these bytes are.
+fn state_in(bytes: &[u8]) -> Option<State> {
+    if bytes.len() != 1 {
+        return None;
+    }
+    match State::from_byte(bytes[0]) {
+        Ok(state) => Some(state),
+        Err(_) => None,
+    }
+}
+
+/// The words of a line of a trace, put together in a text. Once there was no memory for one, no further one is added.
 #[derive(Drop)]
 pub(crate) struct Words {
     text: String,
     alloc: Global,
+    is_whole: bool,
 }
 
 impl Words {
@@ -105,46 +117,58 @@ impl Words {
         Words {
             text: String::new(alloc),
             alloc,
+            is_whole: true,
         }
     }
 
-    /// The text of the words.
-    pub(crate) fn into_text(self) -> String {
-        self.text
+    /// The text of the words, if there was memory for all of them.
+    pub(crate) fn into_text(self) -> Option<String> {
+        if !self.is_whole {
+            return None;
+        }
+        Some(self.text)
     }
 
     /// Adds a text.
     #[inline(never)]
-    pub(crate) fn push(&mut self, text: &str) -> Result<(), AllocError> {
-        self.text.push_str(text)
+    pub(crate) fn push(&mut self, text: &str) {
+        if self.is_whole {
+            self.is_whole = self.text.push_str(text).is_ok();
+        }
+    }
+
+    /// Adds digits, or notes that there was no memory for them.
+    fn push_digits(&mut self, digits: Result<String, AllocError>) {
+        match digits {
+            Ok(digits) => self.push(&digits),
+            Err(_) => self.is_whole = false,
+        }
     }
 
     /// Adds a text, and a number after it.
     #[inline(never)]
-    pub(crate) fn push_number(&mut self, text: &str, number: u64) -> Result<(), AllocError> {
-        self.push(text)?;
-        let digits = number.to_string(self.alloc)?;
-        self.push(&digits)
+    pub(crate) fn push_number(&mut self, text: &str, number: u64) {
+        self.push(text);
+        self.push_digits(number.to_string(self.alloc));
     }
 
     /// Adds a phase, with the number of the block or part that it is at.
-    pub(crate) fn push_phase(&mut self, phase: Phase) -> Result<(), AllocError> {
-        self.push(phase_text(phase))?;
-        match part_of(phase) {
-            Some(number) => self.push_number(" ", number),
-            None => Ok(()),
+    pub(crate) fn push_phase(&mut self, phase: Phase) {
+        self.push(phase_text(phase));
+        if let Some(number) = part_of(phase) {
+            self.push_number(" ", number);
         }
     }
 
     /// Adds a request, with wValue and wLength.
-    fn push_request(&mut self, setup: &Setup) -> Result<(), AllocError> {
-        self.push(asked_text(setup.request()))?;
-        self.push_number(" ", u64::from(setup.value))?;
-        self.push_number(" ", u64::from(setup.length))
+    fn push_request(&mut self, setup: &Setup) {
+        self.push(asked_text(setup.request()));
+        self.push_number(" ", u64::from(setup.value));
+        self.push_number(" ", u64::from(setup.length));
     }
 
     /// Adds what a host asks for: a request, a wait with its milliseconds, or a reset.
-    pub(crate) fn push_action(&mut self, action: Action<'_>) -> Result<(), AllocError> {
+    pub(crate) fn push_action(&mut self, action: Action<'_>) {
         match action {
             Action::Send { setup, .. } => self.push_request(&Setup::decode(&setup)),
             Action::Wait(ms) => self.push_number("wait ", u64::from(ms)),
@@ -153,56 +177,80 @@ impl Words {
         }
     }
 
-    /// Adds bytes as a script has them.
-    fn push_hex(&mut self, bytes: &[u8]) -> Result<(), AllocError> {
-        if bytes.is_empty() {
-            return self.push("-");
+    /// Adds how many bytes there are.
+    pub(crate) fn push_count(&mut self, bytes: &[u8]) {
+        self.push_number("", bytes.len() as u64);
+        self.push(" bytes");
+    }
+
+    /// Adds the status that bytes are, or how many they are.
+    pub(crate) fn push_status(&mut self, bytes: &[u8]) {
+        let Ok(status) = Status::decode(bytes) else {
+            self.push_count(bytes);
+            return;
+        };
+        self.push(status.code().name());
+        self.push_number(" ", u64::from(status.poll_ms()));
+        self.push(" ");
+        self.push(status.state().name());
+    }
+
+    /// Adds the state that bytes are, or how many they are.
+    pub(crate) fn push_state(&mut self, bytes: &[u8]) {
+        match state_in(bytes) {
+            Some(state) => self.push(state.name()),
+            None => self.push_count(bytes),
         }
-        let digits = hex::encode(self.alloc, bytes)?;
-        self.push(&digits)
+    }
+
+    /// Adds bytes as a script has them.
+    fn push_hex(&mut self, bytes: &[u8]) {
+        if bytes.is_empty() {
+            self.push("-");
+            return;
+        }
+        self.push_digits(hex::encode(self.alloc, bytes));
     }
 
     /// Adds a harmed write: the writes that work before it, and the tear.
-    fn push_harm(&mut self, writes: u32, tear: &[u8]) -> Result<(), AllocError> {
-        self.push_number(" ", u64::from(writes))?;
-        self.push(" ")?;
-        self.push_hex(tear)
+    fn push_harm(&mut self, writes: u32, tear: &[u8]) {
+        self.push_number(" ", u64::from(writes));
+        self.push(" ");
+        self.push_hex(tear);
     }
 
     /// Adds a fate as a script has it.
-    pub(crate) fn push_fate(&mut self, fate: Fate<'_>) -> Result<(), AllocError> {
-        self.push(fate_text(fate))?;
+    pub(crate) fn push_fate(&mut self, fate: Fate<'_>) {
+        self.push(fate_text(fate));
         match fate {
             Fate::Slip(ms) => self.push_number(" ", u64::from(ms)),
             Fate::Cut { writes, tear } => self.push_harm(writes, tear),
             Fate::Fail { writes, tear } => self.push_harm(writes, tear),
             Fate::Lie { writes, tear } => self.push_harm(writes, tear),
-            Fate::Pass | Fate::LostOut | Fate::LostBack | Fate::Twice | Fate::TwiceLostBack => {
-                Ok(())
-            }
+            Fate::Pass | Fate::LostOut | Fate::LostBack | Fate::Twice | Fate::TwiceLostBack => {}
         }
     }
 
     /// Adds a write, after another one or not.
-    fn push_write(&mut self, is_behind: bool, note: WriteNote) -> Result<(), AllocError> {
-        self.push_number(before_write(is_behind, note.erases), u64::from(note.len))?;
-        self.push_number(" at ", u64::from(note.at))?;
-        self.push(end_text(note.end))
+    fn push_write(&mut self, is_behind: bool, note: WriteNote) {
+        self.push_number(before_write(is_behind, note.erases), u64::from(note.len));
+        self.push_number(" at ", u64::from(note.at));
+        self.push(end_text(note.end));
     }
 
     /// Adds the writes that a medium made since it had made so many: the last 16 of them.
-    pub(crate) fn push_writes(&mut self, noted: &LastWrites, since: u64) -> Result<(), AllocError> {
+    pub(crate) fn push_writes(&mut self, noted: &LastWrites, since: u64) {
         let made = noted.count.saturating_sub(since);
         if made == 0 {
-            return self.push("-");
+            self.push("-");
+            return;
         }
         let kept = noted.notes.len() as u64;
         let first = kept.saturating_sub(made) as usize;
         let mut is_behind = made > kept;
         for i in first..noted.notes.len() {
-            self.push_write(is_behind, noted.notes[i])?;
+            self.push_write(is_behind, noted.notes[i]);
             is_behind = true;
         }
-        Ok(())
     }
 }

@@ -1,6 +1,11 @@
-use Rattle.std.proofs.Common.{◌∙◌, ap, refl, List, ℕ}
+use Rattle.std.proofs.Common.{◌∙◌, ap, refl, sym, List, ℕ}
 use Rattle.dfu_link.specs.ScriptRun.{begins_with}
+use Rattle.dfu_link.proofs.Checking.{accepts_all}
+use Rattle.dfu_link.proofs.SourceLaws.{nil_of_length}
 use Rattle.dfu_link.proofs.scripting.playing.is_accepted.Goals as goal
+
+pub returns-then-is_empty : goal.returns-then-is_empty
+returns-then-is_empty g c = accepts_all c.args.check.now _ (nil_of_length c.args.check.now (sym c.is_empty.ensures ∙ c.if-is_empty.true))
 
 pub returns-in-None : goal.returns-in-None
 returns-in-None g c = rw c.in-None.ensures.none refl

@@ -1,11 +1,18 @@
 use Rattle.std.proofs.lemmas.Result.{err_from_is_err_and}
 use Rattle.dfu_sim.specs.Happening.{Goes, fate_of, harm_in}
 use Rattle.dfu_link.specs.inside.Expected.{expectation_of}
-use Rattle.dfu_link.proofs.PlayLaws.{replicate_more, played_none, plays_next, broken}
+use Rattle.dfu_link.proofs.PlayLaws.{replicate_more, played_none, plays_next, plays_silent, broken}
 use Rattle.dfu_link.proofs.scripting.playing.play_actions.Goals as goal
 
 pub loop-turn-init : goal.loop-turn-init
 loop-turn-init g c = played_none c.args.check.now c.args.world.now.bench (expectation_of c.args.next.now) (g.W.Write.contents c.args.writer.now)
+
+pub loop-turn-preserved-then-is_silent : goal.loop-turn-preserved-then-is_silent
+loop-turn-preserved-then-is_silent g c =
+    let more = plays_silent (Goes (fate_of c.args.fate) (harm_in c.args.fate)) {c = c.loop-turn.world} c.take-answer.result
+    c.loop-turn.invariant c.take-answer.ensures.play c.take-answer.ensures.active
+    (c.is_silent.ensures.silent c.if-is_silent.true) in
+    rw (replicate_more c.loop-turn.turn (Goes (fate_of c.args.fate) (harm_in c.args.fate))) more
 
 pub loop-turn-preserved : goal.loop-turn-preserved
 loop-turn-preserved g c =

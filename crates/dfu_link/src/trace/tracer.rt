@@ -1,0 +1,214 @@
+//! A trace of a script: a line for each action of the host. Its writer has no way to change the run, or what is printed of it.
+
+use crate::trace::words::Words;
+use dfu_device::Answer;
+use dfu_host::{Action, Phase};
+use dfu_sim::{Fate, World};
+use dfu_slots::{Faulty, SimMedium};
+use dfu_suffix::write_whole;
+use dfu_wire::{Request, Setup, State};
+use std::alloc::Global;
+use std::io::Write;
+
+/// How many milliseconds pass in an action.
+fn time_of(action: Action<'_>, fate: Fate<'_>) -> u32 {
+    match (action, fate) {
+        (_, Fate::Slip(ms)) => ms,
+        (Action::Wait(ms), _) => ms,
+        _ => 0,
+    }
+}
+
+/// What a line of the trace has beside the action: its number, and the milliseconds since the start.
+#[derive(Clone, Copy)]
+pub(crate) struct Count {
+    pub number: u64,
+    pub ms: u64,
+}
+
+/// What a link was before an action of its host.
+#[derive(Drop)]
+pub(crate) struct Snapshot<'f> {
+    pub phase: Phase,
+    pub action: Action<'f>,
+    pub state: State,
+    /// How many writes its medium had made.
+    pub writes: u64,
+}
+
+/// The request of an action.
+fn request_in(action: Action<'_>) -> Request {
+    match action {
+        Action::Send { setup, .. } => Setup::decode(&setup).request(),
+        Action::Wait(_) | Action::Reset | Action::Done(_) => Request::NotDfu,
+    }
+}
+
+/// Adds the bytes of an answer to a request.
+fn push_bytes(line: &mut Words, request: Request, out: &[u8]) {
+    match request {
+        Request::GetStatus { .. } => line.push_status(out),
+        Request::GetState { .. } => line.push_state(out),
+        Request::Detach { .. }
+        | Request::Dnload { .. }
+        | Request::Upload { .. }
+        | Request::ClrStatus
+        | Request::Abort
+        | Request::OtherClass
+        | Request::NotDfu => line.push_count(out),
+    }
+}
+
+/// Adds what came back.
+fn push_back(line: &mut Words, action: Action<'_>, answered: Option<(Answer, &[u8])>) {
+    match answered {
+        Some((Answer::Ack, _)) => line.push("ack"),
+        Some((Answer::Stall, _)) => line.push("stall"),
+        Some((Answer::Bytes, out)) => push_bytes(line, request_in(action), out),
+        None => line.push("-"),
+    }
+}
+
+/// Adds what the device answered.
+fn push_answer(
+    line: &mut Words,
+    action: Action<'_>,
+    fate: Fate<'_>,
+    answered: Option<(Answer, &[u8])>,
+) {
+    match fate {
+        Fate::Cut { .. } => line.push("-"),
+        _ => push_back(line, action, answered),
+    }
+}
+
+/// Adds the name of a state, after the text that precedes it.
+fn push_state_name(line: &mut Words, state: State) {
+    line.push("; ");
+    line.push(state.name());
+}
+
+/// Adds the action: its number, the phase of the host, what it asks for, and the fate.
+fn push_asked(line: &mut Words, number: u64, before: &Snapshot<'_>, fate: Fate<'_>) {
+    line.push_number("# ", number);
+    line.push(" ");
+    line.push_phase(before.phase);
+    line.push("; ");
+    line.push_action(before.action);
+    line.push("; ");
+    line.push_fate(fate);
+}
+
+/// Adds what came of it: the answer, the state of the device before and after, the writes of its medium, and the time.
+fn push_told(
+    line: &mut Words,
+    ms: u64,
+    before: &Snapshot<'_>,
+    fate: Fate<'_>,
+    world: &World<'_, SimMedium>,
+) {
+    let device = world.device();
+    line.push("; ");
+    push_answer(line, before.action, fate, world.answered());
+    push_state_name(line, before.state);
+    push_state_name(line, device.state());
+    line.push("; ");
+    line.push_writes(device.slots().medium().noted(), before.writes);
+    line.push_number("; ", ms);
+    line.push(" ms\n");
+}
+
+/// The line of an action, from its number to the time, if there was memory for it.
+fn step_line(
+    alloc: Global,
+    count: Count,
+    before: &Snapshot<'_>,
+    fate: Fate<'_>,
+    world: &World<'_, SimMedium>,
+) -> Option<String> {
+    let mut line = Words::new(alloc);
+    push_asked(&mut line, count.number, before, fate);
+    push_told(&mut line, count.ms, before, fate, world);
+    line.into_text()
+}
+
+/// A tracer of a run.
+pub(crate) trait Tracer<M: Faulty> {
+    /// A link before an action of its host, if a session is live.
+    fn snapshot<'f>(&self, world: &World<'f, M>) -> Option<Snapshot<'f>>;
+
+    /// Writes the action, which had this fate, and after which the link is this.
+    fn write_action(&mut self, before: &Snapshot<'_>, fate: Fate<'_>, world: &World<'_, M>);
+
+    /// So many milliseconds passed between two actions.
+    fn add_time(&mut self, ms: u32);
+}
+
+/// No trace is written.
+#[derive(Drop)]
+pub(crate) struct NoTrace;
+
+impl<M: Faulty> Tracer<M> for NoTrace {
+    fn snapshot<'f>(&self, _: &World<'f, M>) -> Option<Snapshot<'f>> {
+        None
+    }
+
+    fn write_action(&mut self, _: &Snapshot<'_>, _: Fate<'_>, _: &World<'_, M>) {}
+
+    fn add_time(&mut self, _: u32) {}
+}
+
+/// A trace: it writes a line for each action. Once one could not be written no further line is.
+#[derive(Drop)]
+pub(crate) struct TraceWriter<'n, N> {
+    pub writer: &'n mut N,
+    pub is_broken: bool,
+    pub count: Count,
+    pub alloc: Global,
+}
+
+impl<'n, N> TraceWriter<'n, N> {
+    /// A trace, with no line written yet.
+    pub(crate) fn new(alloc: Global, writer: &'n mut N) -> TraceWriter<'n, N> {
+        TraceWriter {
+            writer,
+            is_broken: false,
+            count: Count { number: 0, ms: 0 },
+            alloc,
+        }
+    }
+}
+
+impl<N: Write> Tracer<SimMedium> for TraceWriter<'_, N> {
+    fn snapshot<'f>(&self, world: &World<'f, SimMedium>) -> Option<Snapshot<'f>> {
+        let (phase, action) = world.asks()?;
+        let device = world.device();
+        Some(Snapshot {
+            phase,
+            action,
+            state: device.state(),
+            writes: device.slots().medium().noted().count,
+        })
+    }
+
+    fn write_action(
+        &mut self,
+        before: &Snapshot<'_>,
+        fate: Fate<'_>,
+        world: &World<'_, SimMedium>,
+    ) {
+        self.count.number = self.count.number.wrapping_add(1);
+        self.add_time(time_of(before.action, fate));
+        if self.is_broken {
+            return;
+        }
+        self.is_broken = match step_line(self.alloc, self.count, before, fate, world) {
+            Some(line) => write_whole(self.writer, line.as_bytes()).is_err(),
+            None => true,
+        };
+    }
+
+    fn add_time(&mut self, ms: u32) {
+        self.count.ms = self.count.ms.saturating_add(u64::from(ms));
+    }
+}
