@@ -27,7 +27,7 @@ mod Partly
 mod Shut
 mod FormatParts
 mod FormatInside
-mod FormatGoing
+pub mod FormatGoing
 mod FormatPieces
 pub mod StallPlans
 pub mod LongPlans

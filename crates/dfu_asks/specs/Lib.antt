@@ -14,6 +14,7 @@ pub mod Refused
 pub mod Calls
 pub mod Phases
 pub mod Formats
+pub mod FormatFurther
 pub mod Addressed
 pub mod InMode
 pub mod Verdict

@@ -11,6 +11,7 @@ ghost use Rattle.dfu_asks.specs.Jobs.{asked, IsFit};
 ghost use Rattle.dfu_asks.specs.Cuts.{step_of, IsCut};
 ghost use Rattle.dfu_asks.specs.Phases.{grain_within, part_left, steps_left, part_steps, steps_from};
 ghost use Rattle.dfu_asks.specs.Formats.{FormatUnderWay, AsksFormat, FormatComesTo, TookPiece, IsSameFormat};
+ghost use Rattle.dfu_asks.specs.FormatFurther.{IsFurtherBy, FormatAsksFurther};
 
 use crate::cut::{Cut, cut_at, fill, stands};
 use crate::format_piece::{filled_len, part_piece, stock_for};
@@ -169,6 +170,7 @@ impl Formatting {
         ensures outcome { IfSome result (λ r. (was before : List ℕ) → AsksFormat self.old image.now was before → (p : Step) →
             IsPiece (steps_left self.old (length was) image.now) self.old.done p → Torn before p.write.at p.write.bytes flash.now →
             TookPiece self.old self.new image.now was flash.now p.write failed r) }
+        ensures further { IfSome result (λ r. FormatAsksFurther self.old (length flash.now) image.now r self.new) }
         ensures same { IfSome result (λ r. IsSameFormat self.old self.new) }
         ensures ended { IfSome result (λ r. r ≢ FormatProgress.Asks → self.new.phase ≡ FormatStep.Ended) }
         ensures taken { IfNone result ((was before : List ℕ) → length before ≡ length flash.now
@@ -198,6 +200,8 @@ impl Formatting {
         ensures outcome { (was flash : List ℕ) → length was ≡ size → FormatUnderWay self.old image.now was flash →
             self.old.done ≤ total (step_writes (part_left self.old (length was) image.now)) →
             FormatComesTo (grain_within self.old) self.new image.now was flash result }
+        ensures further { result ≡ FormatProgress.Asks → self.old.done ≤ total (step_writes (part_left self.old size image.now)) →
+            IsFurtherBy self.old self.new size image.now 0 }
         ensures same { IsSameFormat self.old self.new }
         ensures ended { result ≢ FormatProgress.Asks → self.new.phase ≡ FormatStep.Ended }
     {
@@ -214,6 +218,8 @@ impl Formatting {
         ensures outcome { (was flash : List ℕ) → FormatUnderWay self.old image.now was flash →
             self.old.done ≡ total (step_writes (part_left self.old (length was) image.now)) →
             FormatComesTo (grain_within self.old) self.new image.now was flash result }
+        ensures further { (size : ℕ) → result ≡ FormatProgress.Asks →
+            self.old.done ≡ total (step_writes (part_left self.old size image.now)) → IsFurtherBy self.old self.new size image.now 0 }
         ensures same { IsSameFormat self.old self.new }
         ensures ended { result ≢ FormatProgress.Asks → self.new.phase ≡ FormatStep.Ended }
     {

@@ -3,3 +3,4 @@ pub mod Heard
 pub mod Settled
 pub mod Came
 pub mod Played
+pub mod Stays

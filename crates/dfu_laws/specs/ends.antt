@@ -1,3 +1,4 @@
 pub mod Sessions
 pub mod Comes
 pub mod Plays
+pub mod Stays

@@ -1,6 +1,6 @@
-/* The two states of run-time mode, dfu_runtime.h, beside the proved device in these states: requests, times and resets by dice, with the
- * same answers, bytes and states, and both leave for the bootloader together. It takes how many turns to make; with a second word
- * it prints a log that `dfu judge` reads. */
+/* The two states of run-time mode, dfu_runtime.h, beside the proved device in these states: every pair of bmRequestType and bRequest in
+ * both, and requests, times and resets by dice, with the same answers, bytes, states and times, and both leave for the bootloader together.
+ * It takes how many turns to make by dice; with a second word it makes only these, and prints a log that `dfu judge` reads. */
 #include <stdio.h>
 #include <stdlib.h>
 #include <string.h>
@@ -99,15 +99,73 @@ static int turn(void) {
     return dfu_device_state(&dfu) == (int32_t)runtime.state && (roll(100) != 0 || power());
 }
 
+/* As much time of appDETACH is left to both. */
+static int same_time(void) {
+    const uint32_t most = runtime.left ? runtime.left : 1;
+    if (runtime.state != DFU_STATE_APP_DETACH)
+        return 1;
+    if (most > 1 && (dfu_device_elapse(&dfu, most - 1) != 0 || dfu_runtime_elapse(&runtime, most - 1) != 0
+                     || dfu_device_state(&dfu) != DFU_STATE_APP_DETACH || runtime.state != DFU_STATE_APP_DETACH))
+        return 0;
+    return dfu_device_elapse(&dfu, 1) == 0 && dfu_runtime_elapse(&runtime, 1) == 0 && dfu_device_state(&dfu) == DFU_STATE_APP_IDLE
+        && runtime.state == DFU_STATE_APP_IDLE;
+}
+
+/* A setup from this state on: whether both do the same. */
+static int tried(const struct dfu_device *device, const struct dfu_runtime *application, const uint8_t setup[8]) {
+    static const uint8_t bytes[0x200];
+    uint8_t answer[6] = {0}, other[8] = {0};
+    dfu = *device, runtime = *application;
+    const int32_t n = dfu_runtime_handle(&runtime, setup, answer), wanted = dfu_device_serve(&dfu, setup, bytes, other, sizeof other);
+    return n == wanted && (n <= 0 || memcmp(answer, other, (size_t)n) == 0) && dfu_device_state(&dfu) == (int32_t)runtime.state
+        && same_time();
+}
+
+/* Every bmRequestType and bRequest in the state that both are in, for this interface and others, with a few lengths and times: how many
+ * setups they were, or 0 if one differs. */
+static long every_request(void) {
+    static const uint16_t values[] = {0, 1, 39, 40, 41, 0x100, 0xffff}, lengths[] = {0, 1, 5, 6, 7, 0x100, 0x106};
+    static const uint16_t interfaces[] = {1, 2, 0x101};
+    const struct dfu_device device = dfu;
+    const struct dfu_runtime application = runtime;
+    long all = 0;
+    for (uint32_t kind = 0; kind < 0x10000; kind++)
+        for (uint32_t i = 0; i < 3 * 7 * (kind == 0x21 ? 7 : 1); i++, all++) {
+            const uint16_t value = values[i / 21], length = lengths[i / 3 % 7], index = interfaces[i % 3];
+            const uint8_t setup[8] = {(uint8_t)kind, (uint8_t)(kind >> 8), (uint8_t)value, (uint8_t)(value >> 8), (uint8_t)index,
+                                      (uint8_t)(index >> 8), (uint8_t)length, (uint8_t)(length >> 8)};
+            if (!tried(&device, &application, setup))
+                return printf("runtime: bmRequestType %02x, bRequest %02x, wValue %u, wIndex %u, wLength %u differs in state %u\n",
+                              setup[0], setup[1], value, index, length, (unsigned)application.state), 0;
+        }
+    dfu = device, runtime = application;
+    return all;
+}
+
+/* The same in both states. */
+static long both_states(void) {
+    const uint8_t detach[8] = {0x21, DFU_DETACH, 30, 0, 1, 0, 0, 0};
+    config.attributes = runtime.attributes = 7, config.interface_number = runtime.interface_number = 1;
+    config.detach_ms = runtime.detach_ms = 40;
+    const long idle = dfu_device_power_on(&dfu) == 0 ? every_request() : 0;
+    if (idle == 0 || dfu_runtime_handle(&runtime, detach, out) != 0 || dfu_device_serve(&dfu, detach, body, out, sizeof out) != 0)
+        return 0;
+    const long leaving = every_request();
+    return leaving == 0 ? 0 : idle + leaving;
+}
+
 int main(int count, char **words) {
     long all = count > 1 ? atol(words[1]) : 1000;
     is_log = count > 2;
     if (!power())
         return 1;
+    const long setups = is_log ? 0 : both_states();
+    if (!is_log && (setups == 0 || !power()))
+        return 1;
     for (long at = 0; at < all; at++)
         if (!turn())
             return printf("runtime: turn %ld differs\n", at), 1;
-    printf("%s: %ld turns, %ld answers, %ld stalls, %ld times into the bootloader\n", is_log ? "# runtime" : "runtime", all, answers,
-           stalls, left);
+    printf("%s: %ld setups, %ld turns, %ld answers, %ld stalls, %ld times into the bootloader\n", is_log ? "# runtime" : "runtime", setups,
+           all, answers, stalls, left);
     return left == 0;
 }

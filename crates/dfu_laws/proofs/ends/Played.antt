@@ -116,14 +116,14 @@ module _ (begin : HostsBegin) (refine : HostsRefine) (tells : HostsTell) where
       record { session = o.session; is = o.is; plays = core_plays b steps past last l p o }
 
   -- What comes next comes to sessions of a host.
-  record NextSo (b : CoreBoard) (steps more : List CoreStep) (past : List (List ℕ)) (last : Option (List ℕ)) (l l' : CoreEnds)
+  pub record NextSo (b : CoreBoard) (steps more : List CoreStep) (past : List (List ℕ)) (last : Option (List ℕ)) (l l' : CoreEnds)
       (answer : Answered) : Type 0 where
-    session : Session
-    plays : CorePlays b steps past last (record { board = l.board; session = session })
-    later : Session
-    comes : CoreComes (record { board = l.board; session = session }) more answer (record { board = l'.board; session = later })
+    pub session : Session
+    pub plays : CorePlays b steps past last (record { board = l.board; session = session })
+    pub later : Session
+    pub comes : CoreComes (record { board = l.board; session = session }) more answer (record { board = l'.board; session = later })
 
-  next_so : (b : CoreBoard) (steps more : List CoreStep) (past : List (List ℕ)) (last : Option (List ℕ)) (l l' : CoreEnds)
+  pub next_so : (b : CoreBoard) (steps more : List CoreStep) (past : List (List ℕ)) (last : Option (List ℕ)) (l l' : CoreEnds)
       (answer : Answered) → CoreEndsPlay b steps past last l → CoreEndsCome l more answer l' → NextSo b steps more past last l l' answer
   next_so b steps more past last l l' answer p c =
       let o = plays_so p.first p.calls past last l.session p.now p.plays in

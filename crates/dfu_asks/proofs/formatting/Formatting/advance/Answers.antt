@@ -1,4 +1,4 @@
-use Rattle.std.proofs.Common.{length, sym, arith}
+use Rattle.std.proofs.Common.{[], length, refl, sym, arith}
 use Rattle.dfu_asks.specs.Cuts.{step_of}
 use Rattle.dfu_asks.specs.Phases.{part_left}
 use Rattle.dfu_asks.proofs.Calling.{is_off}
@@ -27,5 +27,21 @@ returns-clause-outcome c = λ was flash size way le.
       le,
       (part_none f c.args.size (length was) (sym size) image c.stock_for.result c.stock_for.ensures.block c.cut_at-cut.result
           c.cut_at-cut.ensures.stock c.cut_at-cut.ensures.rest (way_small f image was flash way).1
+          (λ small. c.part_piece.ensures.none (is_off c.part_piece.result c.if-part_piece.false))),
+    ))
+
+pub returns-then-part_piece-clause-further : goal.returns-then-part_piece-clause-further
+returns-then-part_piece-clause-further c = λ asks le. record { front = []; series = refl; place = omega arith }
+
+pub returns-clause-further : goal.returns-clause-further
+returns-clause-further c = λ asks le.
+    let f = c.args.self.now in
+    let image = c.args.image.now in
+    c.go_on.ensures.further c.args.size asks
+    (omega (
+      arith,
+      le,
+      (part_none f c.args.size c.args.size refl image c.stock_for.result c.stock_for.ensures.block c.cut_at-cut.result
+          c.cut_at-cut.ensures.stock c.cut_at-cut.ensures.rest c.requires.image
           (λ small. c.part_piece.ensures.none (is_off c.part_piece.result c.if-part_piece.false))),
     ))

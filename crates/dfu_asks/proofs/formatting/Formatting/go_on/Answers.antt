@@ -1,6 +1,6 @@
-use Rattle.std.proofs.Common.{◌/◌, length, refl, subst}
+use Rattle.std.proofs.Common.{◌/◌, length, refl, subst, arith}
 use Rattle.dfu_asks.specs.declared.formatting.FormatStep.{FormatStep}
-use Rattle.dfu_asks.specs.Phases.{grain_within}
+use Rattle.dfu_asks.specs.Phases.{grain_within, part_left}
 use Rattle.dfu_asks.proofs.FormatParts.{IsFollowed}
 use Rattle.dfu_asks.proofs.FormatGoing.{way_next, way_done}
 use Rattle.dfu_asks.proofs.formatting.Formatting.go_on.Goals as goal
@@ -21,4 +21,14 @@ returns-in_default-clause-outcome c = λ was flash way ended.
       way = way_next f image was flash way ended c.part_behind-behind.result
           (c.part_behind-behind.ensures.parts (grain_within f) (length was / 2) f.register image refl refl);
       left = c.part_behind-behind.ensures.some (grain_within f) (length was / 2) f.register image refl refl c.in_default.not-Ended;
+    }
+
+pub returns-in_default-clause-further : goal.returns-in_default-clause-further
+returns-in_default-clause-further c = λ size asks ended.
+    let f = c.args.self.now in
+    let image = c.args.image.now in
+    record {
+      front = part_left f size image;
+      series = c.part_behind-behind.ensures.parts (grain_within f) (size / 2) f.register image refl refl;
+      place = omega (arith, ended);
     }

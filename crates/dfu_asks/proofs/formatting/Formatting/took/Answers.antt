@@ -1,4 +1,4 @@
-use Rattle.std.proofs.Common.{◌≡◌, ◌+◌, ◌≤◌, length, slice_range, sym, ◌∙◌, ap, subst, arith}
+use Rattle.std.proofs.Common.{◌≡◌, ◌+◌, ◌≤◌, length, slice_range, refl, sym, ◌∙◌, ap, subst, arith}
 use Rattle.dfu_slots.specs.declared.fault.WriteFault.TheVariants.{Failed, NotVerified}
 use Rattle.dfu_asks.specs.Steps.{Step}
 use Rattle.dfu_asks.specs.Cuts.{step_of}
@@ -56,6 +56,24 @@ returns-clause-outcome c = λ was before asks p piece torn.
     (c.advance.ensures.outcome was flash (sym size)
     (way_further f image was before asks.way p piece flash torn fits there (f.done + n) (omega (arith, count)))
     (omega (arith, piece_end (part_left f (length was) image) f.done q part, (step_size _ c.due.new.cut (c.due.ensures.is yes)))))
+
+pub returns-clause-further : goal.returns-clause-further
+returns-clause-further c = λ asks p piece.
+    let f = c.args.self.now in
+    let image = c.args.image.now in
+    let size = length c.args.flash.now in
+    let q = step_of c.due.new.cut in
+    let part = part_found f size size refl image c.stock_for.result c.stock_for.ensures.block c.cut_at-cut.result
+    c.cut_at-cut.ensures.stock c.cut_at-cut.ensures.rest q (c.due.ensures.found (is_true c.due.result c.if-not-due.false)) in
+    let one : p ≡ q = piece_one (steps_left f size image) f.done p q piece (in_left f size image f.done q part) in
+    let count = step_size _ c.due.new.cut (c.due.ensures.is (is_true c.due.result c.if-not-due.false)) in
+    let end = piece_end (part_left f size image) f.done q part in
+    let on = c.advance.ensures.further asks (omega (arith, end, count)) in
+    record {
+      front = on.front;
+      series = on.series;
+      place = omega (arith, on.place, ap (λ (y : Step). length y.write.bytes) one, count);
+    }
 
 pub returns-then-not-due-clause-taken : goal.returns-then-not-due-clause-taken
 returns-then-not-due-clause-taken c = λ was before same asks.
