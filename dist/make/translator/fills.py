@@ -14,11 +14,12 @@ from zeros import Function
 def unread(module):
     """The numbers of the lines that may go."""
     functions, fills, read = {it.name: it for it in module.functions}, set(), set()
-    known = {}
+    known, calls_itself = {}, set()
 
     def known_of(name, callers=()):
         """What a function does to the places that it is handed; None of one that calls itself, and of what is not there."""
         if name in callers or name not in functions:
+            calls_itself.add(name)
             return None
         if name not in known:
             known[name] = Function(functions[name], lambda it: known_of(it, (*callers, name)))
@@ -28,6 +29,8 @@ def unread(module):
         found = known_of(name)
         fills |= found.fills
         read |= found.zeros_read
+    for name, found in known.items():
+        fills |= set() if name in calls_itself else found.handed
     return fills - read
 
 

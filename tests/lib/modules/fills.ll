@@ -94,7 +94,7 @@ start:
   call void @llvm.memset.p0.i64(ptr %kept.both, i8 0, i64 8, i1 false)
   call void @llvm.memcpy.p0.p0.i64(ptr %a0, ptr %kept.both, i64 8, i1 false)
   %x = load i64, ptr %a1, align 8
-  store i64 1, ptr %a0, align 8
+  store i64 %x, ptr %a0, align 8
   ret i64 %x
 }
 
@@ -106,7 +106,7 @@ start:
   store i8 1, ptr %gone.apart, align 8
   call void @llvm.memcpy.p0.p0.i64(ptr %a0, ptr %gone.apart, i64 8, i1 false)
   %x = load i64, ptr %a1, align 8
-  store i64 1, ptr %a0, align 8
+  store i64 %x, ptr %a0, align 8
   ret i64 %x
 }
 
@@ -343,13 +343,115 @@ start:
   ret i64 %y9
 }
 
+; A result of two cases, which the first byte tells apart: a number, or none, and then zeros are in its place.
+define internal fastcc void @"fills::some_or_none"(ptr noundef %a0, i64 noundef %a1) unnamed_addr #0 {
+start:
+  %is.none = icmp eq i64 %a1, 0
+  br i1 %is.none, label %none.1, label %some.2
+
+none.1:                                           ; preds = %start
+  %gone.none = getelementptr i8, ptr %a0, i64 8
+  store i8 1, ptr %a0, align 8
+  call void @llvm.memset.p0.i64(ptr %gone.none, i8 0, i64 8, i1 false)
+  ret void
+
+some.2:                                           ; preds = %start
+  %number = getelementptr i8, ptr %a0, i64 8
+  store i8 2, ptr %a0, align 8
+  store i64 %a1, ptr %number, align 8
+  ret void
+}
+
+; A number or zeros, and nothing tells which.
+define internal fastcc void @"fills::number_or_zero"(ptr noundef %a0, i64 noundef %a1) unnamed_addr #0 {
+start:
+  %is.none = icmp eq i64 %a1, 0
+  br i1 %is.none, label %none.1, label %some.2
+
+none.1:                                           ; preds = %start
+  %kept.none = getelementptr i8, ptr %a0, i64 8
+  call void @llvm.memset.p0.i64(ptr %kept.none, i8 0, i64 8, i1 false)
+  ret void
+
+some.2:                                           ; preds = %start
+  %number = getelementptr i8, ptr %a0, i64 8
+  store i64 %a1, ptr %number, align 8
+  ret void
+}
+
+; The number is read if there is one; if there is none; whichever the case is; and after the first byte was written anew.
+define internal fastcc i64 @"fills::cases"(i64 noundef %a0) unnamed_addr #0 {
+start:
+  %gone.case = alloca [16 x i8], align 8
+  %kept.other = alloca [16 x i8], align 8
+  %gone.unasked = alloca [16 x i8], align 8
+  %kept.anew = alloca [16 x i8], align 8
+  call void @llvm.memset.p0.i64(ptr %gone.case, i8 0, i64 16, i1 false)
+  call void @llvm.memset.p0.i64(ptr %kept.other, i8 0, i64 16, i1 false)
+  call void @llvm.memset.p0.i64(ptr %gone.unasked, i8 0, i64 16, i1 false)
+  call void @llvm.memset.p0.i64(ptr %kept.anew, i8 0, i64 16, i1 false)
+  call fastcc void @"fills::some_or_none"(ptr noundef %gone.case, i64 noundef %a0)
+  call fastcc void @"fills::number_or_zero"(ptr noundef %gone.unasked, i64 noundef %a0)
+  %p0 = getelementptr i8, ptr %gone.case, i64 8
+  %p1 = getelementptr i8, ptr %kept.other, i64 8
+  %p2 = getelementptr i8, ptr %gone.unasked, i64 8
+  %p3 = getelementptr i8, ptr %kept.anew, i64 8
+  %x2 = load i64, ptr %p2, align 8
+  %t0 = load i8, ptr %gone.case, align 8
+  %is.some = icmp eq i8 %t0, 2
+  br i1 %is.some, label %some.1, label %next.2
+
+some.1:                                           ; preds = %start
+  %x0 = load i64, ptr %p0, align 8
+  br label %next.2
+
+next.2:                                           ; preds = %some.1, %start
+  %y0 = phi i64 [ 5, %start ], [ %x0, %some.1 ]
+  %is.zero = icmp eq i64 %a0, 0
+  br i1 %is.zero, label %asked.4, label %put.3
+
+put.3:                                            ; preds = %next.2
+  store i8 2, ptr %kept.other, align 8
+  store i64 %a0, ptr %p1, align 8
+  store i8 2, ptr %kept.anew, align 8
+  store i64 %a0, ptr %p3, align 8
+  br label %asked.4
+
+asked.4:                                          ; preds = %put.3, %next.2
+  %t1 = load i8, ptr %kept.other, align 8
+  %is.other = icmp eq i8 %t1, 2
+  br i1 %is.other, label %anew.6, label %other.5
+
+other.5:                                          ; preds = %asked.4
+  %x1 = load i64, ptr %p1, align 8
+  br label %anew.6
+
+anew.6:                                           ; preds = %other.5, %asked.4
+  %y1 = phi i64 [ 7, %asked.4 ], [ %x1, %other.5 ]
+  %t3 = load i8, ptr %kept.anew, align 8
+  store i8 9, ptr %kept.anew, align 8
+  %is.anew = icmp eq i8 %t3, 2
+  br i1 %is.anew, label %end.8, label %read.7
+
+read.7:                                           ; preds = %anew.6
+  %x3 = load i64, ptr %p3, align 8
+  br label %end.8
+
+end.8:                                            ; preds = %read.7, %anew.6
+  %y3 = phi i64 [ 11, %anew.6 ], [ %x3, %read.7 ]
+  %s0 = add i64 %y0, %y1
+  %s1 = add i64 %s0, %x2
+  %s2 = add i64 %s1, %y3
+  ret i64 %s2
+}
+
 ; Everything above; and an array of its own, which no zero is read of either.
 define i64 @dfu_fills_all(ptr %a0, i64 %a1) #0 {
 start:
-  %kept.export = alloca [8 x i8], align 8
-  call void @llvm.memset.p0.i64(ptr %kept.export, i8 0, i64 8, i1 false)
-  store i64 1000, ptr %kept.export, align 8
-  %x0 = load i64, ptr %kept.export, align 8
+  %gone.export = alloca [8 x i8], align 8
+  call void @llvm.memset.p0.i64(ptr %gone.export, i8 0, i64 8, i1 false)
+  store i64 1000, ptr %gone.export, align 8
+  %x0 = load i64, ptr %gone.export, align 8
   call fastcc void @"fills::to_c"(ptr noundef %a0)
   %x1 = call fastcc i64 @"fills::bytes"()
   %x2 = call fastcc i64 @"fills::ways"(i64 noundef %a1)
@@ -361,5 +463,7 @@ start:
   %y2 = add i64 %y1, %x3
   %y3 = add i64 %y2, %x4
   %y4 = add i64 %y3, %x5
-  ret i64 %y4
+  %x6 = call fastcc i64 @"fills::cases"(i64 noundef %a1)
+  %y5 = add i64 %y4, %x6
+  ret i64 %y5
 }
