@@ -1,5 +1,6 @@
 mod ShownLaws
 mod Behind
+mod FieldLists
 mod LogLists
 mod LogPieces
 mod LogSaying

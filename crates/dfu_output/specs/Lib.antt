@@ -4,6 +4,7 @@ pub mod Asked
 pub mod CheckText
 pub mod Configuration
 pub mod Exits
+pub mod Fields
 pub mod ImageLines
 pub mod Output
 pub mod ReasonLines

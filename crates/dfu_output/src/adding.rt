@@ -5,7 +5,8 @@ ghost use Rattle.std.specs.String.{string_bytes};
 ghost use Rattle.dfu_output.specs.AddText.{HasAddFault, WritesAdd, wrote_line};
 
 use crate::exit::{Exit, fault_text, write_out};
-use crate::numbers::{number_field, push};
+use crate::fields::Value::Number;
+use crate::fields::line_of;
 use dfu_suffix::{SuffixFault, add};
 use dfu_wire::Ids;
 use std::alloc::{AllocError, Global};
@@ -20,10 +21,7 @@ use std::io::{Read, Write};
 pub fn wrote_line(alloc: Global, count: u32) -> Result<String, AllocError>
     ensures { IfOk result (λ t. string_bytes t ≡ wrote_line count) }
 {
-    let mut line = String::from_str(alloc, "wrote")?;
-    number_field(alloc, &mut line, " ", u64::from(count))?;
-    push(&mut line, "\n")?;
-    Ok(line)
+    line_of(alloc, "wrote", &[(" ", Number(count as u64))])
 }
 
 /// Writes to `file` what the reader gives and a suffix for it, and one line to `out`: `wrote N`

@@ -6,7 +6,8 @@ ghost use Rattle.dfu_output.specs.AnswerLines.{ok_line};
 ghost use Rattle.dfu_output.specs.CheckText.{HasCheckFault, HasFindings, WritesCheck};
 
 use crate::exit::{Exit, fault_text, write_out};
-use crate::numbers::{hex4, hex8, made_field, number_field, push};
+use crate::fields::Value::{Hex4, Hex8, Number};
+use crate::fields::line_of;
 use dfu_suffix::{Findings, SuffixFault, Summary, check_with};
 use std::alloc::{AllocError, Global};
 use std::io::{Read, Write};
@@ -15,16 +16,16 @@ use std::io::{Read, Write};
 fn ok_line(alloc: Global, summary: &Summary) -> Result<String, AllocError>
     ensures { IfOk result (λ t. string_bytes t ≡ ok_line summary.now) }
 {
-    let mut line = String::from_str(alloc, "ok")?;
-    number_field(alloc, &mut line, " payload ", u64::from(summary.payload))?;
-    number_field(alloc, &mut line, " suffix ", u64::from(summary.suffix))?;
-    made_field(&mut line, " device ", hex4(alloc, summary.ids.device)?)?;
-    made_field(&mut line, " product ", hex4(alloc, summary.ids.product)?)?;
-    made_field(&mut line, " vendor ", hex4(alloc, summary.ids.vendor)?)?;
-    made_field(&mut line, " dfu ", hex4(alloc, summary.dfu)?)?;
-    made_field(&mut line, " crc ", hex8(alloc, summary.crc)?)?;
-    push(&mut line, "\n")?;
-    Ok(line)
+    let fields = [
+        (" payload ", Number(summary.payload as u64)),
+        (" suffix ", Number(summary.suffix as u64)),
+        (" device ", Hex4(summary.ids.device)),
+        (" product ", Hex4(summary.ids.product)),
+        (" vendor ", Hex4(summary.ids.vendor)),
+        (" dfu ", Hex4(summary.dfu)),
+        (" crc ", Hex8(summary.crc as u64)),
+    ];
+    line_of(alloc, "ok", &fields)
 }
 
 /// Checks what the reader gives, and writes one line: `ok payload P suffix S device DDDD product

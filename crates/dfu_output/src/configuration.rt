@@ -4,7 +4,9 @@ ghost use Rattle.std.specs.Prelude.{◌≡◌, ◌++◌, ◌≤◌, IfOk, IfErr,
 ghost use Rattle.std.specs.String.{string_bytes};
 ghost use Rattle.dfu_output.specs.Configuration.{Added, Configured, Walked, configuration_line, interface_line, mode_name};
 
-use crate::numbers::{field, number_field, push};
+use crate::fields::Value::{Number, Text};
+use crate::fields::line_of;
+use crate::numbers::push;
 use crate::show_lines::functional_line;
 use dfu_wire::{Functional, WireFault};
 use std::alloc::{AllocError, Global};
@@ -35,13 +37,13 @@ fn interface_line(
 ) -> Result<String, AllocError>
     ensures { IfOk result (λ t. string_bytes t ≡ interface_line number alternate protocol string) }
 {
-    let mut line = String::from_str(alloc, "interface")?;
-    number_field(alloc, &mut line, " ", u64::from(number))?;
-    number_field(alloc, &mut line, " alternate ", u64::from(alternate))?;
-    field(&mut line, " mode ", mode_name(protocol))?;
-    number_field(alloc, &mut line, " string ", u64::from(string))?;
-    push(&mut line, "\n")?;
-    Ok(line)
+    let fields = [
+        (" ", Number(number as u64)),
+        (" alternate ", Number(alternate as u64)),
+        (" mode ", Text(mode_name(protocol))),
+        (" string ", Number(string as u64)),
+    ];
+    line_of(alloc, "interface", &fields)
 }
 
 // Adds what a descriptor gives, and returns whether the next one is within an interface for upgrades.
@@ -82,10 +84,7 @@ fn add(
 fn configuration_line(alloc: Global, value: u8) -> Result<String, AllocError>
     ensures { IfOk result (λ t. string_bytes t ≡ configuration_line value) }
 {
-    let mut line = String::from_str(alloc, "configuration ")?;
-    push(&mut line, &u32::from(value).to_string(alloc)?)?;
-    push(&mut line, "\n")?;
-    Ok(line)
+    line_of(alloc, "configuration ", &[("", Number(value as u64))])
 }
 
 // Adds what the descriptors in a row give.

@@ -3,7 +3,6 @@
 mod asked;
 mod faults;
 mod lines;
-mod numbers;
 mod reasons;
 
 pub use asked::{FormatChoice, fill_in, format_in};

@@ -26,6 +26,7 @@ mod adding;
 mod checking;
 mod configuration;
 mod exit;
+mod fields;
 mod image_output;
 mod judge;
 mod numbers;

@@ -21,8 +21,8 @@ pub(crate) fn hex4(alloc: Global, n: u16) -> Result<String, AllocError>
     format!(in alloc; "{n:04x}")
 }
 
-/// Eight lower-case hexadecimal digits.
-pub(crate) fn hex8(alloc: Global, n: u32) -> Result<String, AllocError>
+/// Eight lower-case hexadecimal digits, or nine for 2^32.
+pub(crate) fn hex8(alloc: Global, n: u64) -> Result<String, AllocError>
     ensures { IfOk result (λ t. string_bytes t ≡ hex 8 n) }
 {
     format!(in alloc; "{n:08x}")

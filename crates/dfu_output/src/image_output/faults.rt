@@ -1,44 +1,45 @@
 //! The lines for files that make no image.
 
-ghost use Rattle.std.specs.Prelude.{◌≡◌, IfOk};
+ghost use Rattle.std.specs.Prelude.{◌≡◌, ◌++◌, IfOk};
 ghost use Rattle.std.specs.String.{string_bytes};
+ghost use Rattle.dfu_output.specs.Fields.{value_text};
 ghost use Rattle.dfu_output.specs.ImageLines.{ending_name, fault_text, not_image_line, not_image_word, refused_line, unlaid_text, unread_text};
 
+use crate::fields::Value::{Hex8, Number, Text};
+use crate::fields::{Field, line_of, text_of};
 use crate::image_output::lines::format_name;
-use crate::image_output::numbers::{addressed, numbered};
-use crate::{made_field, push};
 use dfu_formats::images::{Ending, ImageFault, ImageFileFault, LayFault, NotImage};
 use std::alloc::{AllocError, Global};
 
 /// A fault of a file by its name, with its line, block, segment or address.
 #[tactic(auto, unfolding(crate::specs::ImageLines::unread_text))]
-fn unread_text(alloc: Global, fault: ImageFault) -> Result<String, AllocError>
-    ensures { IfOk result (λ t. string_bytes t ≡ unread_text fault) }
+fn unread_field(fault: ImageFault) -> Field<'static>
+    ensures { result.0.now ++ value_text result.1 ≡ unread_text fault }
 {
     match fault {
-        ImageFault::NoMemory => String::from_str(alloc, "NoMemory"),
-        ImageFault::NoMark(at) => numbered(alloc, "NoMark ", at),
-        ImageFault::BadDigit(at) => numbered(alloc, "BadDigit ", at),
-        ImageFault::BadLength(at) => numbered(alloc, "BadLength ", at),
-        ImageFault::BadChecksum(at) => numbered(alloc, "BadChecksum ", at),
-        ImageFault::BadType(at) => numbered(alloc, "BadType ", at),
-        ImageFault::BadCount(at) => numbered(alloc, "BadCount ", at),
-        ImageFault::PastSegment(at) => numbered(alloc, "PastSegment ", at),
-        ImageFault::Trailing(at) => numbered(alloc, "Trailing ", at),
-        ImageFault::NoEnd => String::from_str(alloc, "NoEnd"),
-        ImageFault::BadSize => String::from_str(alloc, "BadSize"),
-        ImageFault::BadMagic(at) => numbered(alloc, "BadMagic ", at),
-        ImageFault::BadBlock(at) => numbered(alloc, "BadBlock ", at),
-        ImageFault::BadNumber(at) => numbered(alloc, "BadNumber ", at),
-        ImageFault::FileContainer(at) => numbered(alloc, "FileContainer ", at),
-        ImageFault::OtherFamily(at) => numbered(alloc, "OtherFamily ", at),
-        ImageFault::NotElf => String::from_str(alloc, "NotElf"),
-        ImageFault::CutHeader => String::from_str(alloc, "CutHeader"),
-        ImageFault::CutSegment(at) => numbered(alloc, "CutSegment ", at),
-        ImageFault::PastTheEnd(at) => numbered(alloc, "PastTheEnd ", at),
-        ImageFault::TooLarge(at) => numbered(alloc, "TooLarge ", at),
-        ImageFault::TooManyElements(at) => numbered(alloc, "TooManyElements ", at),
-        ImageFault::Overlaps(address) => addressed(alloc, "Overlaps ", address as u64),
+        ImageFault::NoMemory => ("NoMemory", Text("")),
+        ImageFault::NoMark(at) => ("NoMark ", Number(at as u64)),
+        ImageFault::BadDigit(at) => ("BadDigit ", Number(at as u64)),
+        ImageFault::BadLength(at) => ("BadLength ", Number(at as u64)),
+        ImageFault::BadChecksum(at) => ("BadChecksum ", Number(at as u64)),
+        ImageFault::BadType(at) => ("BadType ", Number(at as u64)),
+        ImageFault::BadCount(at) => ("BadCount ", Number(at as u64)),
+        ImageFault::PastSegment(at) => ("PastSegment ", Number(at as u64)),
+        ImageFault::Trailing(at) => ("Trailing ", Number(at as u64)),
+        ImageFault::NoEnd => ("NoEnd", Text("")),
+        ImageFault::BadSize => ("BadSize", Text("")),
+        ImageFault::BadMagic(at) => ("BadMagic ", Number(at as u64)),
+        ImageFault::BadBlock(at) => ("BadBlock ", Number(at as u64)),
+        ImageFault::BadNumber(at) => ("BadNumber ", Number(at as u64)),
+        ImageFault::FileContainer(at) => ("FileContainer ", Number(at as u64)),
+        ImageFault::OtherFamily(at) => ("OtherFamily ", Number(at as u64)),
+        ImageFault::NotElf => ("NotElf", Text("")),
+        ImageFault::CutHeader => ("CutHeader", Text("")),
+        ImageFault::CutSegment(at) => ("CutSegment ", Number(at as u64)),
+        ImageFault::PastTheEnd(at) => ("PastTheEnd ", Number(at as u64)),
+        ImageFault::TooLarge(at) => ("TooLarge ", Number(at as u64)),
+        ImageFault::TooManyElements(at) => ("TooManyElements ", Number(at as u64)),
+        ImageFault::Overlaps(address) => ("Overlaps ", Hex8(address as u64)),
     }
 }
 
@@ -49,11 +50,7 @@ fn unlaid_text(alloc: Global, fault: LayFault) -> Result<String, AllocError>
 {
     match fault {
         LayFault::NoMemory => String::from_str(alloc, "NoMemory"),
-        LayFault::Gap(from, to) => {
-            let mut text = addressed(alloc, "Gap ", from)?;
-            made_field(&mut text, " ", format!(in alloc; "{to:08x}")?)?;
-            Ok(text)
-        }
+        LayFault::Gap(from, to) => text_of(alloc, &[("Gap ", Hex8(from)), (" ", Hex8(to as u64))]),
         LayFault::TooLarge => String::from_str(alloc, "TooLarge"),
     }
 }
@@ -63,7 +60,7 @@ fn fault_text(alloc: Global, fault: ImageFileFault) -> Result<String, AllocError
     ensures { IfOk result (λ t. string_bytes t ≡ fault_text fault) }
 {
     match fault {
-        ImageFileFault::Unread(fault) => unread_text(alloc, fault),
+        ImageFileFault::Unread(fault) => text_of(alloc, &[unread_field(fault)]),
         ImageFileFault::NoData => String::from_str(alloc, "NoData"),
         ImageFileFault::Unlaid(fault) => unlaid_text(alloc, fault),
     }
@@ -78,10 +75,8 @@ fn fault_text(alloc: Global, fault: ImageFileFault) -> Result<String, AllocError
 pub fn refused_line(alloc: Global, fault: ImageFileFault) -> Result<String, AllocError>
     ensures { IfOk result (λ t. string_bytes t ≡ refused_line fault) }
 {
-    let mut line = String::from_str(alloc, "refused ")?;
-    push(&mut line, &fault_text(alloc, fault)?)?;
-    push(&mut line, "\n")?;
-    Ok(line)
+    let text = fault_text(alloc, fault)?;
+    line_of(alloc, "refused ", &[("", Text(&text))])
 }
 
 /// The word for what a name says.
@@ -95,19 +90,15 @@ pub(crate) fn ending_name(ending: Ending) -> &'static str
 }
 
 /// The word for a file of which no image is taken.
-fn not_image_word(alloc: Global, other: NotImage) -> Result<String, AllocError>
-    ensures { IfOk result (λ t. string_bytes t ≡ not_image_word other) }
+fn not_image_field(other: NotImage) -> Field<'static>
+    ensures { result.0.now ++ value_text result.1 ≡ not_image_word other }
 {
     match other {
-        NotImage::DfuSe => String::from_str(alloc, "dfuse"),
-        NotImage::Zip => String::from_str(alloc, "zip"),
-        NotImage::Gzip => String::from_str(alloc, "gzip"),
-        NotImage::Text => String::from_str(alloc, "text"),
-        NotImage::Named(ending) => {
-            let mut word = String::from_str(alloc, "named-")?;
-            push(&mut word, ending_name(ending))?;
-            Ok(word)
-        }
+        NotImage::DfuSe => ("dfuse", Text("")),
+        NotImage::Zip => ("zip", Text("")),
+        NotImage::Gzip => ("gzip", Text("")),
+        NotImage::Text => ("text", Text("")),
+        NotImage::Named(ending) => ("named-", Text(ending_name(ending))),
     }
 }
 
@@ -121,8 +112,5 @@ fn not_image_word(alloc: Global, other: NotImage) -> Result<String, AllocError>
 pub fn not_image_line(alloc: Global, other: NotImage) -> Result<String, AllocError>
     ensures { IfOk result (λ t. string_bytes t ≡ not_image_line other) }
 {
-    let mut line = String::from_str(alloc, "refused NotAnImage ")?;
-    push(&mut line, &not_image_word(alloc, other)?)?;
-    push(&mut line, "\n")?;
-    Ok(line)
+    line_of(alloc, "refused NotAnImage ", &[not_image_field(other)])
 }

@@ -4,7 +4,8 @@ ghost use Rattle.std.specs.Prelude.{◌≡◌, IfOk};
 ghost use Rattle.std.specs.String.{string_bytes};
 ghost use Rattle.dfu_output.specs.ImageLines.{format_name, image_format_line};
 
-use crate::{made_field, push};
+use crate::fields::Value::{Hex8, Text};
+use crate::fields::line_of;
 use dfu_formats::images::Format;
 use std::alloc::{AllocError, Global};
 
@@ -29,9 +30,9 @@ pub fn format_name(format: Format) -> &'static str
 pub fn image_line(alloc: Global, format: Format, address: u32) -> Result<String, AllocError>
     ensures { IfOk result (λ t. string_bytes t ≡ image_format_line format address) }
 {
-    let mut line = String::from_str(alloc, "format ")?;
-    push(&mut line, format_name(format))?;
-    made_field(&mut line, " address ", format!(in alloc; "{address:08x}")?)?;
-    push(&mut line, "\n")?;
-    Ok(line)
+    let fields = [
+        ("", Text(format_name(format))),
+        (" address ", Hex8(address as u64)),
+    ];
+    line_of(alloc, "format ", &fields)
 }

@@ -2,6 +2,9 @@
 
 ghost use Rattle.std.specs.Prelude.{◌≡◌, ◌++◌, IfOk, OnOk};
 ghost use Rattle.std.specs.String.{string_bytes};
+ghost use Rattle.dfu_conformance.specs.declared.standard.TheConstants.{STANDARD};
+ghost use Rattle.dfu_conformance.specs.declared.habits.TheConstants.{HABITS};
+ghost use Rattle.dfu_conformance.specs.declared.dfuse.rows.TheConstants.{DFUSE};
 ghost use Rattle.dfu_output.specs.judge.Dfuse.{dfuse_allowed_text, dfuse_departure_text, may_stall_text, event_request_name, stalled_text};
 ghost use Rattle.dfu_output.specs.judge.Texts.{each};
 
@@ -62,6 +65,19 @@ fn push_stalled(line: &mut String, event: &LogEvent) -> Result<(), AllocError>
     push_may_stall(line, event)
 }
 
+/// Adds all that a DfuSe device was allowed.
+fn push_dfuse(line: &mut String, departure: &Departure) -> Result<(), AllocError>
+    ensures { OnOk result (string_bytes line.new ≡ string_bytes line.old ++ each (dfuse_allowed_text departure.now) STANDARD
+        ++ each (dfuse_allowed_text departure.now) HABITS ++ each (dfuse_allowed_text departure.now) DFUSE
+        ++ stalled_text departure.now.event) }
+{
+    push_rows(line, departure, &STANDARD)?;
+    push_rows(line, departure, &HABITS)?;
+    push_rows(line, departure, &DFUSE)?;
+    push_stalled(line, &departure.event)?;
+    Ok(())
+}
+
 /// The lines of a departure from DfuSe at a line of a log.
 #[tactic(auto, unfolding(crate::specs::judge::Dfuse::dfuse_departure_text))]
 pub fn dfuse_departure_text(
@@ -72,9 +88,6 @@ pub fn dfuse_departure_text(
     ensures { IfOk result (λ t. string_bytes t ≡ dfuse_departure_text number departure.now) }
 {
     let mut line = departs_line(alloc, number, departure)?;
-    push_rows(&mut line, departure, &STANDARD)?;
-    push_rows(&mut line, departure, &HABITS)?;
-    push_rows(&mut line, departure, &DFUSE)?;
-    push_stalled(&mut line, &departure.event)?;
+    push_dfuse(&mut line, departure)?;
     Ok(line)
 }

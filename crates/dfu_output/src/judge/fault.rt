@@ -5,6 +5,8 @@ ghost use Rattle.std.specs.String.{string_bytes};
 ghost use Rattle.dfu_output.specs.judge.Judging.{WritesLogStop, bad_line};
 
 use crate::exit::{Exit, fault_text, write_out};
+use crate::fields::Value::Number;
+use crate::fields::line_of;
 use dfu_conformance::LineFault;
 use dfu_suffix::SuffixFault;
 use std::alloc::{AllocError, Global};
@@ -34,7 +36,7 @@ pub enum LogFault {
 fn bad_line(alloc: Global, number: u64) -> Result<String, AllocError>
     ensures { IfOk result (λ t. string_bytes t ≡ bad_line number) }
 {
-    format!(in alloc; "refused BadLine {number}\n")
+    line_of(alloc, "refused BadLine ", &[("", Number(number))])
 }
 
 /// Writes the line for a log that was judged no further. If the writer failed, nothing more is written.

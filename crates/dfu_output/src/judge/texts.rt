@@ -3,12 +3,15 @@
 ghost use Rattle.std.specs.Prelude.{◌≡◌, ◌<◌, ◌≤◌, ◌++◌, ◌∷◌, IfOk, OnOk, [], codes, cond};
 ghost use Rattle.std.specs.String.{string_bytes};
 ghost use Rattle.dfu_conformance.specs.Held.{reading_bit};
-ghost use Rattle.dfu_output.specs.judge.Texts.{allowed_text, counts_text, departs_text, departure_text, each, is_single, may_be_in, reading_text, readings_text, row_line, spaced_state, states_text, unchanged_text, verdict_text};
+ghost use Rattle.dfu_output.specs.Fields.{with_fields};
+ghost use Rattle.dfu_output.specs.judge.Texts.{allowed_text, departs_text, departure_text, each, is_single, may_be_in, reading_text, readings_text, row_line, spaced_state, states_text, unchanged_text, verdict_text};
 
+use crate::fields::Value::{Number, Text};
+use crate::fields::{Field, line_of, push_fields, text_of};
 use crate::judge::names::{
     READINGS, STATES, answer_name, asked_name, place_name, reading_name, source_name, when_name,
 };
-use crate::numbers::{field, number_field, push};
+use crate::numbers::{field, push};
 use dfu_conformance::{Departure, LogEvent, Reading, Row, STANDARD, StandardState, Verdict};
 use std::alloc::{AllocError, Global};
 
@@ -144,8 +147,17 @@ fn push_unchanged(line: &mut String, event: &LogEvent) -> Result<(), AllocError>
     push(line, "allowed any other stall unchanged open\n")
 }
 
+/// Adds a label and the states in which a device may be, and ends the line.
+fn end_states(line: &mut String, label: &str, at: &[bool; 12]) -> Result<(), AllocError>
+    ensures { OnOk result (string_bytes line.new ≡ string_bytes line.old ++ ((label.now ++ states_text at.now) ++ 10 ∷ [])) }
+{
+    push(line, label)?;
+    push_states(line, at)?;
+    push(line, "\n")
+}
+
 /// The first line of a departure at a line of a log.
-#[tactic(auto, unfolding(crate::specs::judge::Texts::departs_text))]
+#[tactic(auto, using(std::proofs::lemmas::List::append_assoc), unfolding(crate::specs::judge::Texts::departs_text))]
 pub(crate) fn departs_line(
     alloc: Global,
     number: u64,
@@ -153,12 +165,9 @@ pub(crate) fn departs_line(
 ) -> Result<String, AllocError>
     ensures { IfOk result (λ t. string_bytes t ≡ departs_text number departure.now) }
 {
-    let mut line = String::from_str(alloc, "departs ")?;
-    number_field(alloc, &mut line, "", number)?;
-    field(&mut line, " ", asked_name(departure.event.asked))?;
-    push(&mut line, " in")?;
-    push_states(&mut line, &departure.before)?;
-    push(&mut line, "\n")?;
+    let asked = asked_name(departure.event.asked);
+    let mut line = text_of(alloc, &[("departs ", Number(number)), (" ", Text(asked))])?;
+    end_states(&mut line, " in", &departure.before)?;
     Ok(line)
 }
 
@@ -177,25 +186,40 @@ pub(crate) fn departure_text(
     Ok(line)
 }
 
-/// Adds how many events came, and after how many of them one state was left.
-fn push_counts(alloc: Global, line: &mut String, events: u64, single: u64) -> Result<(), AllocError>
-    ensures { OnOk result (string_bytes line.new ≡ string_bytes line.old ++ counts_text events single) }
+/// Adds habits, counts and the states in which a device may be, and ends the line.
+fn end_kept(
+    alloc: Global,
+    line: &mut String,
+    readings: u8,
+    counts: &[Field<'_>],
+    at: &[bool; 12],
+) -> Result<(), AllocError>
+    ensures { OnOk result (string_bytes line.new
+        ≡ with_fields (string_bytes line.old ++ readings_text readings) counts.now ++ ((codes " states" ++ states_text at.now) ++ 10 ∷ [])) }
 {
-    number_field(alloc, line, " events ", events)?;
-    number_field(alloc, line, " single ", single)
+    push_readings(line, readings)?;
+    push_fields(alloc, line, counts)?;
+    end_states(line, " states", at)
 }
 
-/// Adds the states in which a device may be, and ends the line.
-fn end_states(line: &mut String, at: &[bool; 12]) -> Result<(), AllocError>
-    ensures { OnOk result (string_bytes line.new ≡ string_bytes line.old ++ ((codes " states" ++ states_text at.now) ++ 10 ∷ [])) }
+/// The line of a device that is kept, with these habits and counts.
+fn kept_line(
+    alloc: Global,
+    first: &str,
+    readings: u8,
+    counts: &[Field<'_>],
+    at: &[bool; 12],
+) -> Result<String, AllocError>
+    ensures { IfOk result (λ t. string_bytes t
+        ≡ with_fields (first.now ++ readings_text readings) counts.now ++ ((codes " states" ++ states_text at.now) ++ 10 ∷ [])) }
 {
-    push(line, " states")?;
-    push_states(line, at)?;
-    push(line, "\n")
+    let mut line = String::from_str(alloc, first)?;
+    end_kept(alloc, &mut line, readings, counts, at)?;
+    Ok(line)
 }
 
 /// The line of a verdict.
-#[tactic(auto, unfolding(crate::specs::judge::Texts::verdict_text))]
+#[tactic(auto, using(std::proofs::lemmas::List::append_assoc), unfolding(crate::specs::judge::Texts::verdict_text))]
 pub fn verdict_text(
     alloc: Global,
     verdict: Verdict,
@@ -205,25 +229,10 @@ pub fn verdict_text(
 ) -> Result<String, AllocError>
     ensures { IfOk result (λ t. string_bytes t ≡ verdict_text verdict at.now events single) }
 {
+    let counts = [(" events ", Number(events)), (" single ", Number(single))];
     match verdict {
-        Verdict::Kept => {
-            let mut line = String::from_str(alloc, "kept")?;
-            push_counts(alloc, &mut line, events, single)?;
-            end_states(&mut line, at)?;
-            Ok(line)
-        }
-        Verdict::KeptBy { readings } => {
-            let mut line = String::from_str(alloc, "kept by")?;
-            push_readings(&mut line, readings)?;
-            push_counts(alloc, &mut line, events, single)?;
-            end_states(&mut line, at)?;
-            Ok(line)
-        }
-        Verdict::NotKept => {
-            let mut line = String::from_str(alloc, "not kept")?;
-            push_counts(alloc, &mut line, events, single)?;
-            push(&mut line, "\n")?;
-            Ok(line)
-        }
+        Verdict::Kept => kept_line(alloc, "kept", 0, &counts, at),
+        Verdict::KeptBy { readings } => kept_line(alloc, "kept by", readings, &counts, at),
+        Verdict::NotKept => line_of(alloc, "not kept", &counts),
     }
 }

@@ -10,7 +10,6 @@ pub returns : goal.returns
 unfolding dfuse_departure_text
 returns c =
     let d = c.args.departure.now in
-    let standard = c.in_ok-push_rows.ensures ∙ ap (λ (t : List ℕ). t ++ each (dfuse_allowed_text d) STANDARD) c.in_ok-line.ensures in
-    let habits = c.in_ok-push_rows-2.ensures ∙ ap (λ (t : List ℕ). t ++ each (dfuse_allowed_text d) HABITS) standard in
-    let dfuse = c.in_ok-push_rows-3.ensures ∙ ap (λ (t : List ℕ). t ++ each (dfuse_allowed_text d) DFUSE) habits in
-    c.in_ok-push_stalled.ensures ∙ ap (λ (t : List ℕ). t ++ stalled_text d.event) dfuse
+    c.in_ok-push_dfuse.ensures
+    ∙ ap (λ (t : List ℕ). t ++ each (dfuse_allowed_text d) STANDARD ++ each (dfuse_allowed_text d) HABITS
+    ++ each (dfuse_allowed_text d) DFUSE ++ stalled_text d.event) c.in_ok-line.ensures

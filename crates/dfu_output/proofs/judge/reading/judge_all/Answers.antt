@@ -1,8 +1,7 @@
-use Rattle.std.proofs.Common.{◌≡◌, ◌++◌, ◌∷◌, [], List, ℕ, arith, eqb-true, refl, take}
-use Rattle.std.specs.Prelude.{IfErr, OnOk}
+use Rattle.std.proofs.Common.{◌≡◌, ◌++◌, ◌∷◌, [], List, ℕ, arith, take}
+use Rattle.std.specs.Prelude.{IfErr}
 use Rattle.std.proofs.KnownBytes.{Consumes-trans}
 use Rattle.dfu_output.specs.judge.Judging.{LogStops}
-use Rattle.dfu_output.specs.judge.inside.Going.{Going}
 use Rattle.dfu_output.proofs.LogPieces.{at_this, falls_behind, falls_read, read_end}
 use Rattle.dfu_output.proofs.judge.reading.judge_all.Goals as goal
 

@@ -1,4 +1,4 @@
-use Rattle.std.proofs.Common.{◌≡◌, ◌∙◌, ◌⊎◌, ap, sym, subst, inl, inr, Bool, Option, List, ℕ, length}
+use Rattle.std.proofs.Common.{◌≡◌, ◌∙◌, ◌⊎◌, subst, inl, inr, Bool, Option, List, ℕ, length}
 use Rattle.dfu_conformance.specs.declared.verdict.Verdict.{Verdict}
 use Rattle.dfu_conformance.specs.Verdict.{IsVerdict, ArePlacesAfter}
 use Rattle.dfu_suffix.specs.declared.fault.SuffixFault.TheVariants as suffix

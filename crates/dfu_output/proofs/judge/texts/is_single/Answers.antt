@@ -1,4 +1,4 @@
-use Rattle.std.proofs.Common.{◌≡◌, ◌==◌, ◌+◌, ℕ, List, arith, sym, ap, ◌∙◌, cond, length, take, get_or}
+use Rattle.std.proofs.Common.{◌==◌, ◌+◌, ℕ, List, arith, sym, ap, ◌∙◌, cond, length}
 use Rattle.std.specs.List.{filter}
 use Rattle.std.proofs.lemmas.List.{take_all}
 use Rattle.std.proofs.lemmas.List.Filters.{length-filter_more}

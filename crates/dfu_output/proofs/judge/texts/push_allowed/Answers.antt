@@ -1,6 +1,4 @@
 use Rattle.std.proofs.Common.{arith}
-use Rattle.std.specs.String.{string_bytes}
-use Rattle.dfu_conformance.specs.declared.standard.TheConstants.{STANDARD}
 use Rattle.dfu_output.specs.judge.Texts.{allowed_text}
 use Rattle.dfu_output.proofs.LogLists.{line_more, line_none}
 use Rattle.dfu_output.proofs.judge.texts.push_allowed.Goals as goal

@@ -1,6 +1,4 @@
 use Rattle.std.proofs.Common.{arith}
-use Rattle.std.specs.String.{string_bytes}
-use Rattle.dfu_output.specs.declared.judge.names.TheConstants.{READINGS}
 use Rattle.dfu_output.specs.judge.Texts.{reading_text}
 use Rattle.dfu_output.proofs.LogLists.{line_more, line_none}
 use Rattle.dfu_output.proofs.judge.texts.push_readings.Goals as goal

@@ -1,6 +1,4 @@
 use Rattle.std.proofs.Common.{arith}
-use Rattle.std.specs.String.{string_bytes}
-use Rattle.dfu_output.specs.declared.judge.names.TheConstants.{STATES}
 use Rattle.dfu_output.specs.judge.Texts.{spaced_state}
 use Rattle.dfu_output.proofs.LogLists.{line_more, line_none}
 use Rattle.dfu_output.proofs.judge.texts.push_states.Goals as goal

@@ -1,0 +1,22 @@
+-- Lines of fields.
+use Rattle.std.specs.Prelude.{ℕ, List, [], ◌∷◌, ◌++◌}
+use Rattle.std.specs.Borrow.{Bor}
+use Rattle.std.specs.Fmt.{decimal}
+use Rattle.dfu_output.specs.AnswerLines.{hex}
+use Rattle.dfu_output.specs.ShowLines.{yes_no}
+use Rattle.dfu_output.specs.declared.fields.Value.{Value}
+use Rattle.dfu_output.specs.declared.fields.Value.TheVariants as value
+
+-- The text of a value.
+abbrev pub value_text : Value → List ℕ
+value_text (value.Text text) = text.now
+value_text (value.Flag flag) = yes_no flag
+value_text (value.Number n) = decimal n
+value_text (value.Hex2 n) = hex 2 n
+value_text (value.Hex4 n) = hex 4 n
+value_text (value.Hex8 n) = hex 8 n
+
+-- A text, and after it each label and its value.
+abbrev pub with_fields : List ℕ → List (Bor (List ℕ) × Value) → List ℕ
+with_fields text [] = text
+with_fields text (f ∷ fs) = with_fields (text ++ (f.0.now ++ value_text f.1)) fs
