@@ -20,7 +20,7 @@ struct session;
 enum { DFUSE_UPLOADED = 101, DFUSE_NO_MEMORY = 102 };
 
 struct dfuse {
-    bool is;                                    /* the device speaks DfuSe */
+    bool is_active;                             /* the device speaks DfuSe */
     bool has_address, stays;                    /* what was asked for: an address, and not to leave, */
     uint32_t address, length;                   /* and how many bytes an upload is to have; the first address of a DfuSe file is its own */
     const struct dfuse_file *file;              /* what FILE says, if it is a DfuSe file; else NULL */

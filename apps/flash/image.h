@@ -12,17 +12,17 @@
 struct image {
     uint8_t *bytes; /* the file, with a suffix */
     size_t length;
-    size_t payload;           /* how many of its bytes, from the first on, are sent */
-    uint16_t vendor, product; /* for which device it is, as its suffix says; FFFFh is any */
-    bool is_dfuse;            /* it is a DfuSe file, */
-    struct dfuse_file says;   /* which says this */
-    size_t stamp_at;          /* with --stamp: the offset of its place in the file */
+    size_t payload;               /* how many of its bytes, from the first on, are sent */
+    uint16_t vendor, product;     /* for which device it is, as its suffix says; FFFFh is any */
+    bool is_dfuse;                /* the file is a DfuSe file, */
+    struct dfuse_file dfuse_info; /* with these fields in its prefix and suffix */
+    size_t stamp_at;              /* with --stamp: the offset of its place in the file */
 };
 
 /* Reads FILE of the words. A raw image, which has no suffix, gets one for the device that --device names. 0; a refusal of the host
    (dfu_host.h), of dfuse_file.h or of session.h; one of those from IMAGE_FORMAT on, which are of files that are no image; IMAGE_UNREAD if
-   the file can't be read; or IMAGE_WORDS if the words don't go with it. The last two, and what else is to know, are said on standard
-   error. */
+   the file can't be read; or IMAGE_WORDS if the words don't go with it. The last two are printed on standard error, and
+   so is a warning. */
 int32_t image_read(struct image *image, const struct words *words);
 
 /* The CRC-32 of the payload, as zlib and gzip have it; with a DfuSe file of the whole file. */

@@ -23,7 +23,7 @@ struct stamp_list {
 
 extern struct stamp_list stamp_list;
 
-/* Reads the file. False if it can't be used, which is then said. */
+/* Reads the file. Returns false, after printing why, if it can't be used. */
 bool stamp_list_read(void);
 
 /* Puts the entries in the order of their names, if no two are the same: neither what is written, nor the name. If two are, that is said. */

@@ -47,7 +47,7 @@ struct words {
     const struct bay *bay;      /* of one of several devices: where it is; else NULL */
 };
 
-/* Reads the words into `words`. False if they aren't understood, which is then said on standard error. */
+/* Reads the command line into `words`. Returns false, after printing why, if it isn't understood. */
 bool words_read(struct words *words, int count, char **texts);
 
 /* Returns whether the options go together and with the job; if not, says why. */

@@ -133,8 +133,8 @@ static const char *fault_of(int status)
     size_t kept = read_file("saved", saved, SIZE);
     memset(&second, 0, sizeof second);
     second.answer = read_again(file, length, (uint8_t)(alternate < 0 ? 0 : alternate), &second);
-    if (second.answer == 0 && alternate < 0 && second.says.setting < 256) {
-        uint8_t setting = (uint8_t)second.says.setting;
+    if (second.answer == 0 && alternate < 0 && second.fields.setting < 256) {
+        uint8_t setting = (uint8_t)second.fields.setting;
         memset(&second, 0, sizeof second);
         second.answer = read_again(file, length, setting, &second);
     }

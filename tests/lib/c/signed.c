@@ -70,9 +70,9 @@ static void lies(void) {
         for (size_t v = 0; v < sizeof values / sizeof values[0] + 2; v++) {
             make(LEAST, HARDWARE, 0);
             const unsigned count = places[i] == 12 ? 4 : 2;
-            const uint32_t is = made[places[i]] | (uint32_t)made[places[i] + 1] << 8;
+            const uint32_t value = made[places[i]] | (uint32_t)made[places[i] + 1] << 8;
             const uint32_t to = v < sizeof values / sizeof values[0] ? values[v] : v % 2 ? is + 1 : is - 1;
-            if (is == (count == 2 ? to & 0xffff : to))
+            if (value == (count == 2 ? to & 0xffff : to))
                 continue;
             put(places[i], to, count);
             if (places[i] < protect)
