@@ -13,7 +13,7 @@ pub(crate) fn end_of(element: &Element<'_>) -> u64
     element.address as u64 + element.bytes.len() as u64
 }
 
-/// Whether an element has a byte for this address.
+/// Returns whether an element has a byte for this address.
 fn holds(at: u64, element: &Element<'_>) -> bool
     ensures { result ≡ holds at element.now }
 {
