@@ -73,7 +73,7 @@ page_by plan a page (Some q) e all h =
       fits = omega (arith, there.high, range.ends);
     })
 
--- What the map says of an address.
+-- Page of an address by the map.
 pub on_page : (plan : Plan) (a : ℕ) (page : Page) → All IsRange plan.map.now.ranges → page_at a plan.map.now.ranges ≡ Some page →
     IsOnPage plan a page
 on_page plan a page all h = page_by plan a page (range_at a plan.map.now.ranges) refl all h
