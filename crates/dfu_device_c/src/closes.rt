@@ -1,4 +1,4 @@
-//! Answer to whether a setup closes a download, said before it is handed in: the program's own check of the image comes then.
+//! Tells before a setup is handed in whether it closes a download, because the program's own check of the image comes then.
 ghost use Rattle.std.specs.Prelude.{◌≡◌, ◌⊎◌, pos};
 ghost use Rattle.dfu_asks.specs.Addressed.{addressed};
 ghost use Rattle.dfu_core.specs.Closes.{ToldClose};

@@ -1,4 +1,4 @@
-//! Facts of its configuration and of the library that a program gets to know.
+//! Tells a program about its configuration and the library.
 ghost use Rattle.std.specs.Prelude.{◌≡◌, ◌⊎◌, ◌<◌, IsTrue, not, pos, slice_index};
 ghost use Rattle.dfu_wire.specs.Functional.{IsFunctional};
 ghost use Rattle.dfu_core.specs.Config.{version, setting_of, IsConfig};

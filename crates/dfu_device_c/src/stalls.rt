@@ -1,4 +1,4 @@
-//! Answer to whether a device will stall a setup, said before its body is there.
+//! Tells before the body of a setup is there whether a device will stall it.
 ghost use Rattle.std.specs.Prelude.{◌≡◌, ◌⊎◌, pos};
 ghost use Rattle.dfu_asks.specs.Addressed.{addressed};
 ghost use Rattle.dfu_core.specs.Stalls.{ToldStall};

@@ -62,7 +62,7 @@ CanRead plan w place.Lost = ⊥
 CanRead plan w (place.At p) = ⊥
 CanRead plan w (place.Reading base) = can_read plan base (stands_at w) ≡ true
 
--- Facts at each step.
+-- The device has the order of the step, and its pointer is as the session knows it.
 abbrev pub Stands : Chip → Plan → Work → Place → Step → Device → Type 0
 Stands chip plan w p step.Send d = MayHave (command_of plan w p) d.doing × Knows p d.pointer
 Stands chip plan w p step.Probe d = MayHave (command_of plan w p) d.doing × Knows p d.pointer
@@ -73,7 +73,7 @@ Stands chip plan w p step.EndReading d = IsQuiet d.doing × Knows p d.pointer
 Stands chip plan w p step.Read d = IsQuiet d.doing × Knows p d.pointer × CanRead plan w p
 Stands chip plan w p s d = Unit {0}
 
--- Facts in a phase.
+-- The device stands so in a phase; once the session is over nothing is claimed.
 abbrev pub StandsIn : Chip → Plan → Phase → Device → Type 0
 StandsIn chip plan (On s) d = Stands chip plan s.work s.place s.step d
 StandsIn chip plan (Over r) d = Unit {0}

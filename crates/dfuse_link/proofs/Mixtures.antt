@@ -50,7 +50,7 @@ Mix chip plan first p d =
     (InPhase (Erasing plan) p × Old chip plan first p d)
     ⊎ ((InPhase (Before plan) p × Blank chip plan d) ⊎ (InPhase (Behind plan) p × New chip plan p d))
 
--- Facts at each moment.
+-- The front is blank, or all that is not on its page is old, or all new.
 pub record IsMix (chip : Chip) (first : Device) (l : Paired) : Type 0 where
   pub so : IsSo chip l
   pub mixable : Mixable chip l.session.plan
