@@ -7,9 +7,9 @@ static const struct fate well = {WELL, 0, 0, 0};
 static struct board board;
 static int wrong, closed, others, asked;
 
-static void expect(const char *what, int is)
+static void expect(const char *what, int holds)
 {
-    if (!is && wrong++ < 9)
+    if (!holds && wrong++ < 9)
         printf("closes: %s\n", what);
 }
 
