@@ -36,10 +36,10 @@ struct device {
    `patience` it waits until one is there. */
 int device_choose(struct device *device, const struct wanted *wanted);
 
-/* Opens it and claims its interface. 0, or an error of libusb. */
+/* Opens the device and claims its interface. Returns 0, or an error of libusb. */
 int device_open(struct device *device);
 
-/* Puts its interface into its alternate setting. 0, or an error of libusb. */
+/* Puts its interface into its alternate setting. Returns 0, or an error of libusb. */
 int device_set(struct device *device);
 
 void device_close(struct device *device);

@@ -38,8 +38,8 @@ struct dfuse {
     struct dfuse_action done;  /* the report */
 };
 
-/* Begins the session of the device that was found, which speaks DfuSe. 0, or a refusal of dfuse_host.h, dfu_host.h or session.h. Nothing
-   is sent. */
+/* Begins the session of the device that was found, which speaks DfuSe. Sends nothing. Returns 0, or a refusal of dfuse_host.h,
+   dfu_host.h or session.h. */
 int32_t dfuse_begin_session(struct session *session);
 
 /* Takes the elements of FILE, a DfuSe file, for the device's setting: 0, or a refusal of dfuse_file.h or dfu_host.h. */

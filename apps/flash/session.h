@@ -89,7 +89,7 @@ struct session {
 /* Returns the name of a goal, in a word. */
 const char *goal_name(enum goal goal);
 
-/* Begins the session of the device that was found. 0, or a refusal: the host's, or one of these. Nothing is sent. */
+/* Begins the session of the device that was found. Sends nothing. Returns 0, or a refusal: the host's, or one of these. */
 int32_t session_begin(struct session *session);
 
 /* Carries out what the host asks for, up to its report or to another end. */

@@ -46,7 +46,7 @@ const char *stamp_next(void);
 /* Finds the place of --stamp-at in the file. Returns 0, or a refusal if there is no room for an entry. */
 int32_t stamp_place(struct image *image, const struct words *words);
 
-/* Writes the entry of this process's board into the image, whose suffix is made anew. 0, or a refusal. */
+/* Writes the entry of this process's board into the image, whose suffix is made anew. Returns 0, or a refusal. */
 int32_t stamp_image(struct image *image, const struct words *words);
 
 /* The bytes of this process's entry, as many as the place has. */
