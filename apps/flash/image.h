@@ -21,7 +21,8 @@ struct image {
 
 /* Reads FILE of the words. A raw image, which has no suffix, gets one for the device that --device names. Returns 0; a refusal of the host
    (dfu_host.h), of dfuse_file.h or of session.h; one of those from IMAGE_FORMAT on, which are of files that are no image; IMAGE_UNREAD if
-   the file can't be read; or IMAGE_WORDS if the words don't go with it. Prints the reason for the last two on standard error. */
+   the file can't be read; or IMAGE_WORDS if the words don't go with it. Prints the reason for the last two, and
+   warnings, on standard error. */
 int32_t image_read(struct image *image, const struct words *words);
 
 /* Returns the CRC-32 of the payload, as zlib and gzip have it; with a DfuSe file of the whole file. */
