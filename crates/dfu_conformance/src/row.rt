@@ -168,7 +168,7 @@ pub struct Row {
 pub struct Drift {
     /// Place of the device.
     pub from: StandardState,
-    /// Which devices make the move.
+    /// Devices that make the move.
     pub when: When,
     /// Place of the device then.
     pub next: StandardState,

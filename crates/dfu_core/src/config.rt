@@ -55,9 +55,9 @@ pub struct DfuConfig {
 pub struct Settings {
     /// The configuration of the device.
     pub config: Config,
-    /// In which unit the flash is written.
+    /// Unit in which the flash is written.
     pub unit: Unit,
-    /// In which sectors it is erased before, if in any.
+    /// Sectors in which it is erased before, if in any.
     pub sector: Sector,
 }
 

@@ -34,7 +34,7 @@ pub struct DfuRecord {
     pub second: u32,
     /// Place at which the puts end in the spare slot.
     pub put_end: u32,
-    /// Which slot was found to be the active one: 0 the first, 1 the second.
+    /// Slot that was found to be the active one: 0 the first, 1 the second.
     pub slot: u32,
     /// The number of the next block, or the status code.
     pub number: u16,

@@ -23,7 +23,7 @@ pub trait Flash: Drop {
     fn size(&self) -> u32
         ensures { result ≡ length (cells self.now) };
 
-    /// In which units it is programmed.
+    /// Unit in which it is programmed.
     fn unit(&self) -> Unit
         ensures { result ≡ (grain self.now).unit };
 

@@ -34,7 +34,7 @@ IsHeaderDue m = HasBytes m × (¬ HasCopyHeader m)
 abbrev pub IsGateDue : MediumState → Type 0
 IsGateDue m = HasBytes m × HasCopyHeader m
 
--- Which sector is erased for a copy: one of the data, the header's, or the gate's.
+-- Sector that is erased for a copy: one of the data, the header's, or the gate's.
 abbrev pub ErasesForCopy : MediumState → Option ℕ → ℕ → Type 0
 ErasesForCopy m last at = ((d : ℕ) × (at ≡ 2 * gate_of m + d) × CopiesBytes m last (fill.Erase d))
     ⊎ (IsHeaderDue m × (at ≡ gate_of m) × (¬ IsErasedAt m last at)

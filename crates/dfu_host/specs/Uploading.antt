@@ -1,4 +1,4 @@
--- When an upload is refused, and what it keeps.
+-- Refusals of an upload, and the bytes that it keeps.
 use Rattle.std.specs.Prelude.{◌≡◌, ◌⊎◌, ℕ, ◌==◌, not, Bool, false, List, [], ◌∷◌, length, find, Option}
 use Rattle.dfu_wire.specs.declared.functionals.Functional.{Functional}
 use Rattle.dfu_host.specs.declared.fault.HostFault.{HostFault}

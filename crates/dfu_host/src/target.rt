@@ -1,4 +1,4 @@
-//! Which files are for a device.
+//! Files that are for a device.
 
 ghost use Rattle.std.specs.Prelude.{◌≡◌};
 ghost use Rattle.dfu_host.specs.Download as download;

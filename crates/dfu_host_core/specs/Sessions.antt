@@ -1,4 +1,4 @@
--- Which session a record holds.
+-- Session that a record holds.
 use Rattle.std.specs.Prelude.{◌≡◌, ℕ, ◌==◌, ◌≤◌, not, if◌then◌else◌, List, length, take, Option, Some, None, option_and_then, option_map}
 use Rattle.std.specs.Borrow.{Bor}
 use Rattle.dfu_host.specs.declared.goal.Goal.{Goal}

@@ -12,7 +12,7 @@ pub struct DfuSession {
     pub number: u64,
     /// Bytes that an upload keeps.
     pub kept: u64,
-    /// Which phase, 0 to 24.
+    /// Phase of the session, 0 to 24.
     pub phase: u32,
     /// A poll time in milliseconds, or the code of a report.
     pub more: u32,

@@ -1,4 +1,4 @@
--- When a link of values agrees with a session machine, that some machine does, and that it goes on from one world to the next.
+-- Agreement of a link of values with a session machine: some machine agrees, and it goes on from one world to the next.
 use Rattle.std.specs.Prelude.{◌≡◌, ℕ, List, [], Option}
 use Rattle.dfu_slots.specs.Medium.Fuse.{Whole}
 use Rattle.dfu_device.specs.Stage.{Stage}

@@ -1,4 +1,4 @@
--- When an event is refused, and as what.
+-- Refusals of events, with their faults.
 use Rattle.std.specs.Prelude.{◌≡◌, ℕ, ◌+◌, List, length, Option, Some, None}
 use Rattle.dfu_wire.specs.declared.ids.Ids.{Ids}
 use Rattle.dfu_suffix.specs.Grammar.{Content, IsFile, First}

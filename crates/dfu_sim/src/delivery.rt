@@ -22,7 +22,7 @@ pub enum Handled {
     Late(u32),
 }
 
-/// Which write of an action is harmed.
+/// Write of an action that is harmed.
 #[derive(Clone, Copy)]
 pub(crate) enum MediumFault {
     /// None.

@@ -17,7 +17,7 @@ use Rattle.dfu_slots.proofs.Series.{Ends, all_count, broken_count, broken_rose}
 use Rattle.dfu_slots.proofs.Seeing.{image_active, shaped, room_capacity, puts_room, fresh_is, fresh_leaves}
 use Rattle.dfu_slots.proofs.Seeing.{begun_closed, closed_begun, open_not_begun, not_begun_open}
 
--- Which calls are refused.
+-- Calls that are refused.
 
 never_refuses : {T : Type 0} (s : SlotsState) (result : Result T PutFault) → ¬ IsErrOf result NotBegun → ¬ IsErrOf result TooLarge
     → Refuses s Begin result

@@ -17,14 +17,14 @@ pub struct Places {
     pub spare: u32,
 }
 
-/// Which of the two slots count.
+/// Slots that count, of the two.
 #[derive(Clone, Copy, Drop)]
 pub struct Counted {
     pub first: bool,
     pub second: bool,
 }
 
-/// Which of the two slots count. The whole image of an open slot of version 2 is read once, for its register.
+/// Finds the slots that count, of the two. The whole image of an open slot of version 2 is read once, for its register.
 pub(crate) fn count_slots<M: Medium>(medium: &M) -> Counted
     requires { IsSized (M.state medium.now) }
     ensures first { result.first ≡ counts (slot_of (M.state medium.now) 0) }

@@ -1,4 +1,4 @@
--- When a plan is refused.
+-- Refusals of a plan.
 use Rattle.std.specs.Prelude.{◌≡◌, ℕ, ◌==◌, ◌&&◌, ◌||◌, nat_le, Bool, true, false, List, [], ◌∷◌, length}
 use Rattle.dfu_formats.specs.declared.memory.pages.Access.{Access}
 use Rattle.dfu_formats.specs.declared.memory.pages.Pages.{Pages}

@@ -1,4 +1,4 @@
-//! Which bytes an image has, by their addresses.
+//! Bytes of an image, by their addresses.
 
 ghost use Rattle.std.specs.Prelude.{◌≡◌, ◌≤◌, ◌<◌, ◌+◌, ◌^◌, length, IfSome};
 ghost use Rattle.dfuse_host.specs.Images.{end_of, holds, element_at, next_byte, image_start, image_end};

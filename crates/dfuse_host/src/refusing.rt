@@ -1,4 +1,4 @@
-//! When a plan is refused.
+//! Refusals of a plan.
 
 ghost use Rattle.std.specs.Prelude.{◌≡◌, ◌↔◌, IsTrue, IfErr, OnOk};
 ghost use Rattle.dfu_formats.specs.dfuse.Images.{ascends_from};

@@ -1,4 +1,4 @@
--- Which bytes an order may change, that others stay, and what is so after a stall.
+-- Bytes that an order may change; the others stay; and the facts after a stall.
 use Rattle.std.proofs.Common.{◌≡◌, ◌⊎◌, inl, inr, ℕ, ◌+◌, ◌<◌, ◌≤◌, true, sym, subst}
 use Rattle.dfu_wire.specs.declared.states.State.{State}
 use Rattle.dfu_wire.specs.declared.states.State.TheVariants as state

@@ -2,7 +2,7 @@
 
 use crate::captures::address::Address;
 
-/// Which part of a transfer a packet is.
+/// Part of a transfer that a packet is.
 #[derive(Clone, Copy)]
 pub enum PacketKind {
     /// It submits the transfer.
@@ -31,7 +31,7 @@ pub enum Ending {
 /// An event of a control transfer to endpoint 0.
 #[derive(Clone, Copy)]
 pub struct UsbEvent<'c> {
-    /// Which part of the transfer it is.
+    /// Part of the transfer.
     pub kind: PacketKind,
     /// The id of the transfer: no two that are pending on a bus have the same, and the next transfer of any device may have it again.
     pub id: [u8; 8],

@@ -12,7 +12,7 @@ use crate::captures::numbers::{byte_at, eight, four, from, front, two};
 /// Fewest bytes of the head of a control transfer.
 const HEAD: usize = 28;
 
-/// Which part of a transfer a packet is, by its stage (byte 27) and its direction (bit 0 of byte 16).
+/// Returns the part of a transfer that a packet is, by its stage (byte 27) and its direction (bit 0 of byte 16).
 fn kind_of(bytes: &[u8]) -> PacketKind
     ensures { result ≡ recorded_kind bytes.now }
 {

@@ -18,7 +18,7 @@ pub struct DfuseSession {
     pub pointer: u64,
     /// Knowledge of the pointer, 0 to 2.
     pub place: u32,
-    /// Which step, 0 to 14.
+    /// Step of the work, 0 to 14.
     pub step: u32,
     /// The milliseconds of a step; of a report its code, or how the device left.
     pub more: u32,

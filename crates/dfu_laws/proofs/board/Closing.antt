@@ -1,4 +1,4 @@
--- Which rows lead to an image: only a closing DNLOAD begins the wait for it, and only a wait ends in it.
+-- Rows that lead to an image: only a closing DNLOAD begins the wait for it, and only a wait ends in it.
 use Rattle.std.specs.Prelude.{◌≡◌, ◌⊎◌, ℕ, ◌+◌, ◌==◌, ◌&&◌, nat_lt, nat_le, max, not, true, List, [], ◌∷◌, length, take, drop, slice_index}
 use Rattle.std.proofs.Common.{inl, inr, refl, sym, ap, ◌∙◌, subst}
 use Rattle.dfu_wire.specs.declared.setups.Setup.{Setup}

@@ -1,4 +1,4 @@
--- Which image a board keeps at each step of what comes over the link.
+-- Image that a board keeps at each step of what comes over the link.
 use Rattle.std.specs.Prelude.{◌≡◌, ◌⊎◌, ℕ, List, [], ◌∷◌, ◌++◌}
 use Rattle.std.proofs.Common.{inl, inr, refl, sym, ap, ◌∙◌, subst}
 use Rattle.std.proofs.lemmas.List.{append-nil}
