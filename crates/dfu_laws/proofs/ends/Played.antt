@@ -115,7 +115,7 @@ module _ (begin : HostsBegin) (refine : HostsRefine) (tells : HostsTell) where
       let o = plays_so p.first p.calls past last l.session p.now p.plays in
       record { session = o.session; is = o.is; plays = core_plays b steps past last l p o }
 
-  -- The next event comes to sessions of a host.
+  -- What comes next comes to sessions of a host.
   record NextSo (b : CoreBoard) (steps more : List CoreStep) (past : List (List ℕ)) (last : Option (List ℕ)) (l l' : CoreEnds)
       (answer : Answered) : Type 0 where
     session : Session
