@@ -38,7 +38,7 @@ static void spell(const char *digits, uint8_t *out)
 static int is_same_image(const struct second *second, const struct dfuse_element *image, uint64_t count)
 {
     int is_equal = count == second->count;
-    for (uint64_t at = 0; is && at < count; at++)
+    for (uint64_t at = 0; is_equal && at < count; at++)
         is_equal = image[at].bytes == second->elements[at].bytes && image[at].address == second->elements[at].address
             && image[at].length == second->elements[at].length;
     return is_equal;
