@@ -116,9 +116,9 @@ static int start(void) {
     memset(programmed, 1, sizeof programmed); /* what was erased before is not known to be */
     expect("an image is active", dfu_device_image(&dfu, &before) == 0);
     image = which(&before);
-    expect("it is whole", is >= 0);
+    expect("it is whole", image >= 0);
     expect("it settles", dfu_home_settle(&dfu, &place) == 0);
-    expect("the same image is in the first slot", place.at == DFU_HOME_AT(config.unit, config.sector) && which(&place) == is);
+    expect("the same image is in the first slot", place.at == DFU_HOME_AT(config.unit, config.sector) && which(&place) == image);
     expect("a download may come", dfu_home_may_download(&dfu) == 1);
     if (operations > first)
         copied++, most_copied = operations - first > most_copied ? operations - first : most_copied;
