@@ -81,13 +81,13 @@ static void say_outside(const struct session *session)
 
 void advise_refused(const struct session *session, int32_t refusal)
 {
-    const struct found *is = &session->wire.device->is;
+    const struct found *info = &session->wire.device->info;
     char more[80];
-    bool has_none = refusal == DFU_SHORT && facts_lacks_descriptor(is);
+    bool has_none = refusal == DFU_SHORT && facts_lacks_descriptor(info);
     if ((refusal == DFU_BAD_DESCRIPTOR || has_none) && session->transfer == 0) {
         snprintf(more, sizeof more, "--transfer-size %d", SMALLEST_BLOCK);
         advice_run(more);
-    } else if (refusal == REFUSED_NO_ADDRESS && name_memory(is, session->is_upload, more, sizeof more))
+    } else if (refusal == REFUSED_NO_ADDRESS && name_memory(info, session->is_upload, more, sizeof more))
         advice_run(more);
     else if (refusal == DFUSE_OUTSIDE)
         say_outside(session);
@@ -96,25 +96,27 @@ void advise_refused(const struct session *session, int32_t refusal)
 /* Names the place of the first byte that differs from the image. */
 static void say_odd(const struct session *session)
 {
-    const struct odd *odd = &session->odd_byte;
+    const struct difference *difference = &session->difference;
     char place[40], seen[160];
-    if (!odd->is)
+    if (!difference->exists)
         return;
-    snprintf(place, sizeof place, session->dfuse.is ? "%08" PRIx64 : "byte %" PRIu64, odd->at);
-    if (odd->wanted >= 0 && odd->found >= 0)
-        snprintf(seen, sizeof seen, "at %s is %02x, and %02x in the file", place, (unsigned)odd->found, (unsigned)odd->wanted);
-    else if (odd->wanted >= 0)
-        snprintf(seen, sizeof seen, "at %s what the device gave ends, and the file has %02x", place, (unsigned)odd->wanted);
+    snprintf(place, sizeof place, session->dfuse.is_active ? "%08" PRIx64 : "byte %" PRIu64, difference->at);
+    if (difference->wanted >= 0 && difference->found >= 0)
+        snprintf(seen, sizeof seen, "at %s is %02x, and %02x in the file", place, (unsigned)difference->found,
+                 (unsigned)difference->wanted);
+    else if (difference->wanted >= 0)
+        snprintf(seen, sizeof seen, "at %s what the device gave ends, and the file has %02x", place, (unsigned)difference->wanted);
     else
-        snprintf(seen, sizeof seen, "at %s is %02x, and the image in the file has ended", place, (unsigned)odd->found);
+        snprintf(seen, sizeof seen, "at %s is %02x, and the image in the file has ended", place, (unsigned)difference->found);
     advice_first(seen);
 }
 
 /* Returns whether larger blocks were asked for than the device says that it takes. */
 static bool is_too_large(const struct session *session)
 {
-    const struct found *is = &session->wire.device->is;
-    return session->transfer != 0 && is->descriptor_size > AT_TRANSFER + 1 && session->transfer > two_bytes(is->descriptor + AT_TRANSFER);
+    const struct found *info = &session->wire.device->info;
+    return session->transfer != 0 && info->descriptor_size > AT_TRANSFER + 1
+           && session->transfer > two_bytes(info->descriptor + AT_TRANSFER);
 }
 
 void advise_ended(const struct session *session, const char *name)
@@ -123,7 +125,7 @@ void advise_ended(const struct session *session, const char *name)
         say_odd(session);
     else if (strcmp(name, "gave-up") == 0 && is_too_large(session))
         advice_is("run it again without --transfer-size: its blocks are larger than those that the device takes");
-    else if (strcmp(name, "gave-up") == 0 && !session->wire.device->is.is_upgrade)
+    else if (strcmp(name, "gave-up") == 0 && !session->wire.device->info.is_upgrade)
         advice_is("it stays in run-time mode: bring it to DFU mode by its button, and run it again");
 }
 

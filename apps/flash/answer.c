@@ -90,7 +90,7 @@ static int transfer(struct wire *wire, const uint8_t setup[8], uint16_t length)
 {
     uint16_t value = setup_value(setup);
     wire->transfers++;
-    return transport->transfer(wire->device->handle, setup[0], setup[1], value, wire->device->is.interface, wire->bytes, length,
+    return transport->transfer(wire->device->handle, setup[0], setup[1], value, wire->device->info.interface, wire->bytes, length,
                                *wire->device->is_stop ? STOPPED_MS : TRANSFER_MS);
 }
 
@@ -151,7 +151,7 @@ struct answer answer_send(struct wire *wire, const struct dfu_action *action, co
     struct answer answer = send_to(wire, action, body);
     trace_request(&wire->trace, action->setup, &answer, clock_ms() - began_ms);
     if (wire->transfers != before)
-        log_request(&wire->trace.log, action->setup, wire->device->is.interface, wire->bytes, &answer);
+        log_request(&wire->trace.log, action->setup, wire->device->info.interface, wire->bytes, &answer);
     return answer;
 }
 
@@ -171,13 +171,13 @@ struct answer answer_wait(struct wire *wire, uint32_t ms)
 static int reset(struct device *device)
 {
     int error = transport->reset(device->handle);
-    return error == 0 && device->is.alternate != 0 ? device_set(device) : error;
+    return error == 0 && device->info.alternate != 0 ? device_set(device) : error;
 }
 
 /* The place of a reset on a system that makes none. */
 static struct answer pulled(struct wire *wire)
 {
-    if (!wire->device->is.is_upgrade || !present_is_pulled(wire->device)) {
+    if (!wire->device->info.is_upgrade || !present_is_pulled(wire->device)) {
         wire->is_unreset = !*wire->device->is_stop;
         return reported(wire, DFU_SEEN_NOTHING);
     }
@@ -190,7 +190,7 @@ static struct answer pulled(struct wire *wire)
 static bool is_changed(const struct wire *wire, int error)
 {
     return error == LIBUSB_ERROR_NOT_FOUND || error == LIBUSB_ERROR_NO_DEVICE
-           || (error == 0 && !platform_tells_new() && !wire->device->is.is_upgrade);
+           || (error == 0 && !platform_tells_new() && !wire->device->info.is_upgrade);
 }
 
 static struct answer reset_reported(struct wire *wire)

@@ -82,21 +82,21 @@ bool bay_is_early(const struct bay *bay)
 }
 
 /* Returns whether the device in a bay is the one that was flashed before, or counts as it. */
-static bool is_same_as_before(const struct bay *bay, const struct found *is)
+static bool is_same_as_before(const struct bay *bay, const struct found *info)
 {
-    const char *before = bay->serial[is->is_upgrade];
+    const char *before = bay->serial[info->is_upgrade];
     if (bay->state == BAY_FREE)
         return false;
-    if (!bay->has_serial[is->is_upgrade] || before[0] == '\0' || is->serial[0] == '\0')
+    if (!bay->has_serial[info->is_upgrade] || before[0] == '\0' || info->serial[0] == '\0')
         return !bay->is_late;
-    return strcmp(before, is->serial) == 0;
+    return strcmp(before, info->serial) == 0;
 }
 
-int bay_verdict(const struct bay *bay, const struct found *is)
+int bay_verdict(const struct bay *bay, const struct found *info)
 {
-    if (!is_same_as_before(bay, is))
+    if (!is_same_as_before(bay, info))
         return 0;
-    return is->serial[0] == '\0' ? BAY_TAKEN : BAY_SAME;
+    return info->serial[0] == '\0' ? BAY_TAKEN : BAY_SAME;
 }
 
 void bay_end(struct bay *bay, bool is_same, int64_t now_ms)

@@ -48,7 +48,7 @@ void bays_miss(struct bays *bays, const struct port *ports, int count, int64_t n
 bool bay_is_early(const struct bay *bay);
 
 /* BAY_SAME or BAY_TAKEN if the device in a bay is, or counts as, the one of before; else 0. */
-int bay_verdict(const struct bay *bay, const struct found *is);
+int bay_verdict(const struct bay *bay, const struct found *info);
 
 /* Notes that the process at work with the bay's device has ended; with `is_same` it has done nothing. */
 void bay_end(struct bay *bay, bool is_same, int64_t now_ms);

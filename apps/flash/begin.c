@@ -43,16 +43,16 @@ static void take_limits(struct session *session, const uint8_t descriptor[9])
 }
 
 /* On a system that makes no reset a device comes to DFU mode only if it leaves for it by itself. */
-static bool may_detach(const struct found *is)
+static bool may_detach(const struct found *info)
 {
-    return platform_resets() || has_attribute(is->descriptor, is->descriptor_size, WILL_DETACH);
+    return platform_resets() || has_attribute(info->descriptor, info->descriptor_size, WILL_DETACH);
 }
 
 /* A download is verified if that is asked for and the device can upload, which takes it to DFU mode a second time. */
 static enum goal goal_of(const struct session *session)
 {
-    const struct found *is = &session->wire.device->is;
-    bool can_upload = has_attribute(is->descriptor, is->descriptor_size, CAN_UPLOAD) && may_detach(is);
+    const struct found *info = &session->wire.device->info;
+    bool can_upload = has_attribute(info->descriptor, info->descriptor_size, CAN_UPLOAD) && may_detach(info);
     return session->is_upload ? GOAL_UPLOAD : session->wants_verified && can_upload ? GOAL_VERIFIED : GOAL_DOWNLOAD;
 }
 
@@ -83,50 +83,50 @@ static int32_t begin_by_another(struct session *session, int32_t refusal)
     static const uint8_t another[FUNCTIONAL_BYTES] = {
         FUNCTIONAL_BYTES, FUNCTIONAL_TYPE, CAN_DOWNLOAD | CAN_UPLOAD, 1000 & 0xff, 1000 >> 8, 64, 0, VERSION_1_1 & 0xff, VERSION_1_1 >> 8,
     };
-    const struct found *is = &session->wire.device->is;
-    if (!is->says_runtime || !is_odd(refusal))
+    const struct found *info = &session->wire.device->info;
+    if (!info->says_runtime || !is_odd(refusal))
         return refusal;
-    session->odd = refusal;
+    session->runtime_refusal = refusal;
     /* With wTransferSize 0 the rest counts: bmAttributes and wDetachTimeOut. */
-    memcpy(session->another, another, sizeof another);
+    memcpy(session->substitute, another, sizeof another);
     if (refusal == DFU_BAD_DESCRIPTOR)
-        memcpy(session->another + AT_ATTRIBUTES, is->descriptor + AT_ATTRIBUTES, AT_TRANSFER - AT_ATTRIBUTES);
-    return begin(session, session->another, sizeof session->another);
+        memcpy(session->substitute + AT_ATTRIBUTES, info->descriptor + AT_ATTRIBUTES, AT_TRANSFER - AT_ATTRIBUTES);
+    return begin(session, session->substitute, sizeof session->substitute);
 }
 
 /* A device in DFU mode that has no functional descriptor: who says how large its blocks are has it taken for one that does what is asked,
    and nothing else, so that a download is neither compared nor known to be in place. */
 static size_t stand_in(const struct session *session, uint8_t descriptor[9])
 {
-    const struct found *is = &session->wire.device->is;
+    const struct found *info = &session->wire.device->info;
     const uint8_t other[FUNCTIONAL_BYTES] = {
         FUNCTIONAL_BYTES, FUNCTIONAL_TYPE, session->is_upload ? CAN_UPLOAD : CAN_DOWNLOAD, 0, 0, 0, 0, VERSION_1_1 & 0xff, VERSION_1_1 >> 8,
     };
-    if (session->transfer == 0 || !facts_lacks_descriptor(is))
-        return is->descriptor_size;
+    if (session->transfer == 0 || !facts_lacks_descriptor(info))
+        return info->descriptor_size;
     memcpy(descriptor, other, sizeof other);
     return sizeof other;
 }
 
 int32_t session_begin(struct session *session)
 {
-    const struct found *is = &session->wire.device->is;
+    const struct found *info = &session->wire.device->info;
     uint8_t descriptor[9];
     size_t size;
     int32_t refusal;
     session->goal = goal_of(session);
-    session->odd = 0;
+    session->runtime_refusal = 0;
     facts_note(session);
     /* A device of DfuSe would take the blocks for commands. */
-    if (is_dfuse(is))
+    if (is_dfuse(info))
         return dfuse_begin_session(session);
     if (session->dfuse.has_address || session->dfuse.file != NULL)
         return REFUSED_NOT_DFUSE;
-    if (!is->is_upgrade && !may_detach(is))
+    if (!info->is_upgrade && !may_detach(info))
         return REFUSED_NO_RESET;
-    memcpy(session->known, is->descriptor, sizeof session->known);
-    memcpy(descriptor, is->descriptor, sizeof descriptor);
-    session->known_size = is->descriptor_size;
+    memcpy(session->begin_descriptor, info->descriptor, sizeof session->begin_descriptor);
+    memcpy(descriptor, info->descriptor, sizeof descriptor);
+    session->begin_descriptor_size = info->descriptor_size;
     size = stand_in(session, descriptor);
     cut(descriptor, size, session->transfer);
     refusal = begin(session, descriptor, size);

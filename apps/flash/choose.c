@@ -65,14 +65,14 @@ static int drop_unread(const struct wanted *wanted, struct found *list, int coun
 /* Returns whether a device can be opened, and found again if it leaves. */
 static bool is_usable(const struct device *device)
 {
-    return device->is.access == 0 && (has_ports(device->path) || device->serial != NULL);
+    return device->info.access == 0 && (has_ports(device->path) || device->serial != NULL);
 }
 
 static int say_unusable(struct device *device)
 {
     device_drop(device);
-    if (device->is.access != 0)
-        return say_no_access(&device->is);
+    if (device->info.access != 0)
+        return say_no_access(&device->info);
     fprintf(stderr, "dfu-flash: the system names no ports, and without --serial a device that left isn't found again\n");
     return STATUS_NO_DEVICE;
 }
@@ -144,7 +144,7 @@ int device_choose(struct device *device, const struct wanted *wanted)
         found_drop(list, count);
         return STATUS_SEVERAL;
     }
-    device->is = list[0];
+    device->info = list[0];
     found_drop(list + 1, count - 1);
     device->place = wanted->place;
     memcpy(device->path, list[0].path, sizeof device->path);

@@ -9,7 +9,7 @@
 /* Milliseconds since some moment, by a clock that nobody sets. */
 int64_t clock_ms(void);
 
-/* Waits for so many milliseconds, or longer. False if a stop (stop.h) came before they had passed. */
+/* Waits for so many milliseconds, or longer. Returns false if a stop (stop.h) came before they had passed. */
 bool clock_wait(uint32_t ms);
 
 #endif

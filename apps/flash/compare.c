@@ -10,8 +10,8 @@ static void compare(struct session *session, uint64_t at, const uint8_t *wanted,
     size_t both = left < answer->count ? left : answer->count, same = 0;
     while (same < both && wanted[same] == answer->bytes[same])
         same++;
-    session->odd_byte = (struct odd){
-        .is = same < both || answer->count > left || (answer->count < asked && left > answer->count),
+    session->difference = (struct difference){
+        .exists = same < both || answer->count > left || (answer->count < asked && left > answer->count),
         .at = at + same,
         .wanted = same < left ? wanted[same] : -1,
         .found = same < answer->count ? answer->bytes[same] : -1,

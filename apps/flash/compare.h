@@ -6,7 +6,7 @@
 
 #include "session.h"
 
-/* Notes the first odd byte of a block that a device gave back, in session->odd_byte. */
+/* Notes the first byte of a block that differs from the image, in session->difference. */
 void compare_blocks(struct session *session, const struct dfu_action *action, const struct answer *answer);
 
 /* Notes the first odd byte of a block that was read from an address, with DfuSe. The host still works at that address. */

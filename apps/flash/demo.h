@@ -7,7 +7,7 @@
 #include "words.h"
 
 /* Shows what the program does with FILE, or with an image of its own if there is none: the list, downloads, an answer that is lost, a plug
-   that is pulled. 0 if all went as it has to; else an exit status. */
+   that is pulled. Returns 0 if all went as it has to; else an exit status. */
 int demo_run(const struct words *words);
 
 #endif

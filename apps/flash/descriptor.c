@@ -8,7 +8,8 @@
 
 #include <string.h>
 
-/* Descriptors come one after the other, each with its length first. False if none of the type is there, whole. */
+/* Finds a descriptor of this type. Descriptors come one after the other, each with its length first. Returns false if no whole one of the
+   type is there. */
 static bool is_in(const unsigned char *bytes, int length, struct found *found)
 {
     int at = 0;

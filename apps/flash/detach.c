@@ -11,21 +11,21 @@
 #define LOOK_MS 200
 
 /* wDetachTimeOut, as the device wants it. */
-static uint16_t time_of(const struct found *is)
+static uint16_t time_of(const struct found *info)
 {
-    return is->descriptor_size < FUNCTIONAL_BYTES_1_0 ? NO_DESCRIPTOR_MS : two_bytes(is->descriptor + AT_DETACH_MS);
+    return info->descriptor_size < FUNCTIONAL_BYTES_1_0 ? NO_DESCRIPTOR_MS : two_bytes(info->descriptor + AT_DETACH_MS);
 }
 
 /* It leaves and comes back by itself, within that time. */
-static bool leaves_by_itself(const struct found *is)
+static bool leaves_by_itself(const struct found *info)
 {
-    return has_attribute(is->descriptor, is->descriptor_size, WILL_DETACH);
+    return has_attribute(info->descriptor, info->descriptor_size, WILL_DETACH);
 }
 
 struct answer detach_send(struct wire *wire)
 {
-    uint16_t ms = time_of(&wire->device->is);
-    bool leaves = leaves_by_itself(&wire->device->is);
+    uint16_t ms = time_of(&wire->device->info);
+    bool leaves = leaves_by_itself(&wire->device->info);
     const struct dfu_action action = {.what = DFU_SEND, .setup = {KIND_OUT, REQUEST_DETACH, (uint8_t)ms, (uint8_t)(ms >> 8)}};
     struct answer answer;
     wire->trace.is_own = true;
@@ -41,8 +41,8 @@ bool detach_await(struct wire *wire)
     const struct device *device = wire->device;
     int64_t end = clock_ms() + ARRIVAL_MS;
     while (device_reopen(wire->device)) {
-        if (device->is.is_upgrade || *device->is_stop || clock_ms() >= end)
-            return device->is.is_upgrade;
+        if (device->info.is_upgrade || *device->is_stop || clock_ms() >= end)
+            return device->info.is_upgrade;
         clock_wait(LOOK_MS);
     }
     return false;
@@ -55,7 +55,7 @@ bool detach(struct wire *wire)
         return false;
     wire->trace.is_own = true;
     /* If the system makes no reset it may still leave by itself. */
-    if (!wire->device->is.is_upgrade && platform_resets())
+    if (!wire->device->info.is_upgrade && platform_resets())
         answer_reset(wire);
     wire->trace.is_own = false;
     return detach_await(wire);

@@ -17,19 +17,19 @@
 
 int device_set(struct device *device)
 {
-    int error = transport->set(device->handle, device->is.interface, device->is.alternate);
+    int error = transport->set(device->handle, device->info.interface, device->info.alternate);
     /* If there is one setting a device may stall the request, and is in it all the same. */
-    return error == LIBUSB_ERROR_PIPE && device->is.alternate == 0 ? 0 : error;
+    return error == LIBUSB_ERROR_PIPE && device->info.alternate == 0 ? 0 : error;
 }
 
 int device_open(struct device *device)
 {
-    int error = transport->open(device->is.device, &device->handle);
+    int error = transport->open(device->info.device, &device->handle);
     if (error != 0) {
         device->handle = NULL;
         return error;
     }
-    error = transport->claim(device->handle, device->is.interface);
+    error = transport->claim(device->handle, device->info.interface);
     if (error != 0) {
         transport->close(device->handle);
         device->handle = NULL;
@@ -47,7 +47,7 @@ void device_close(struct device *device)
 {
     if (device->handle == NULL)
         return;
-    transport->release(device->handle, device->is.interface);
+    transport->release(device->handle, device->info.interface);
     transport->close(device->handle);
     device->handle = NULL;
 }
@@ -55,9 +55,9 @@ void device_close(struct device *device)
 void device_drop(struct device *device)
 {
     device_close(device);
-    if (device->is.device != NULL)
-        transport->drop(device->is.device);
-    device->is.device = NULL;
+    if (device->info.device != NULL)
+        transport->drop(device->info.device);
+    device->info.device = NULL;
 }
 
 /* Counts the wanted devices that can be opened, and keeps one of them. */
@@ -70,8 +70,8 @@ static int keep_one(struct device *device, const struct wanted *wanted)
             continue;
         open++;
         device_drop(device);
-        device->is = list[at];
-        transport->hold(device->is.device);
+        device->info = list[at];
+        transport->hold(device->info.device);
     }
     found_drop(list, count);
     return open;
@@ -147,11 +147,11 @@ static bool is_elsewhere(const struct device *device)
     const struct wanted named = {.path = device->bus, .serial = device->serial, .dfu_serial = device->dfu_serial, .place = ANYWHERE};
     struct found list[FOUND_ROOM];
     int count = device->serial == NULL ? 0 : find_all(device->usb, &named, list, FOUND_ROOM);
-    bool is = false;
+    bool may_be_opened = false;
     for (int at = 0; at < count; at++)
-        is = is || list[at].access == 0;
+        may_be_opened = may_be_opened || list[at].access == 0;
     found_drop(list, count);
-    return is;
+    return may_be_opened;
 }
 
 static bool is_back(const struct device *device)

@@ -21,7 +21,7 @@ struct device {
     libusb_context *usb;
     libusb_device_handle *handle;         /* NULL while it is away */
     uint64_t opened;                      /* how often it was opened */
-    struct found is;                      /* as it was found last */
+    struct found info;                    /* as it was found last */
     char path[PATH_ROOM];                 /* by this it is found again, */
     const char *serial;                   /* or by the serial number that was asked for; NULL if none was, */
     const char *dfu_serial;               /* or, in DFU mode, this one, NULL if it is the same, */
@@ -32,14 +32,14 @@ struct device {
     struct patience patience;             /* by --wait and --quiet */
 };
 
-/* Which of the devices that are wanted is opened, or why none is, in a status; the reason is said on standard error. With
+/* Chooses one of the wanted devices and opens it. Returns a status; if none is opened, the reason is printed on standard error. With
    `patience` it waits until one is there. */
 int device_choose(struct device *device, const struct wanted *wanted);
 
-/* Opens it and claims its interface. 0, or an error of libusb. */
+/* Opens the device and claims its interface. Returns 0, or an error of libusb. */
 int device_open(struct device *device);
 
-/* Puts its interface into its alternate setting. 0, or an error of libusb. */
+/* Puts its interface into its alternate setting. Returns 0, or an error of libusb. */
 int device_set(struct device *device);
 
 void device_close(struct device *device);
@@ -51,8 +51,8 @@ void device_drop(struct device *device);
    set. */
 void device_await(struct device *device, uint32_t ms);
 
-/* Waits until it is back with DFU, and opens it. False after as long, if `is_stop` is set, or if it has more than one
-   setting that may be meant. If it is back and can't be had, why is said on standard error. */
+/* Waits until the device is back with DFU, and opens it. Returns false if it stays away for `patience`, if `is_stop` is set, or if more
+   than one of its settings may be meant. If it is back and can't be opened, the reason is printed on standard error. */
 bool device_reopen(struct device *device);
 
 #endif

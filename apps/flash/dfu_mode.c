@@ -23,7 +23,7 @@ static const struct outcome outcomes[] = {
 /* A device that came back with several settings is in DFU mode too: in run-time mode there is one. */
 static const struct outcome *outcome_of(const struct device *device, bool is_detached)
 {
-    if (is_detached || device->is.is_upgrade)
+    if (is_detached || device->info.is_upgrade)
         return &outcomes[0];
     if (*device->is_stop == STOP_TIME)
         return &outcomes[4];
@@ -35,7 +35,7 @@ static const struct outcome *outcome_of(const struct device *device, bool is_det
 struct verdict dfu_mode(struct session *session)
 {
     struct device *device = session->wire.device;
-    bool is_detached = device->is.is_upgrade || detach(&session->wire);
+    bool is_detached = device->info.is_upgrade || detach(&session->wire);
     const struct outcome *outcome = outcome_of(device, is_detached);
     struct verdict verdict = {.status = outcome->status};
     snprintf(verdict.name, sizeof verdict.name, "%s", outcome->name);

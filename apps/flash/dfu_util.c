@@ -75,7 +75,7 @@ static bool is_number(const char *value)
     return value[base] != '\0' && value[base + strspn(value + base, base > 0 ? "0123456789abcdefABCDEF" : "0123456789")] == '\0';
 }
 
-/* Notes an option that isn't needed. True if it is none of these. */
+/* Notes an option that isn't needed. Returns true if the option is none of these. */
 static bool is_passed(int option, const char *value)
 {
     for (size_t at = 0; at < COUNT(notes); at++) {

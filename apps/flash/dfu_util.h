@@ -21,7 +21,7 @@ bool dfu_util_is_same(int option, const char *value);
 /* Says which options were given that aren't needed here. */
 void dfu_util_notes(void);
 
-/* The values of -d, -S and -s, read as dfu-util reads them. False if they aren't understood, or aren't taken, which is then said. */
+/* Reads the values of -d, -S and -s as dfu-util does. Each returns false, after printing why, if it isn't understood, or isn't taken. */
 bool dfu_util_device(const char *text, struct words *words);
 
 /* Reads VENDOR:PRODUCT as -d does, but prints nothing if the text is neither. */

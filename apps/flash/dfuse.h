@@ -20,7 +20,7 @@ struct session;
 enum { DFUSE_UPLOADED = 101, DFUSE_NO_MEMORY = 102 };
 
 struct dfuse {
-    bool is;                                    /* the device speaks DfuSe */
+    bool is_active;                             /* the device speaks DfuSe */
     bool has_address, stays;                    /* what was asked for: an address, and not to leave, */
     uint32_t address, length;                   /* and how many bytes an upload is to have; the first address of a DfuSe file is its own */
     const struct dfuse_file *file;              /* what FILE says, if it is a DfuSe file; else NULL */
@@ -38,8 +38,8 @@ struct dfuse {
     struct dfuse_action done;  /* the report */
 };
 
-/* Begins the session of the device that was found, which speaks DfuSe. 0, or a refusal of dfuse_host.h, dfu_host.h or session.h. Nothing
-   is sent. */
+/* Begins the session of the device that was found, which speaks DfuSe. Sends nothing. Returns 0, or a refusal of dfuse_host.h,
+   dfu_host.h or session.h. */
 int32_t dfuse_begin_session(struct session *session);
 
 /* Takes the elements of FILE, a DfuSe file, for the device's setting: 0, or a refusal of dfuse_file.h or dfu_host.h. */

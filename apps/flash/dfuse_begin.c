@@ -85,26 +85,26 @@ static int32_t begin_download(struct session *session)
 
 int32_t dfuse_begin_session(struct session *session)
 {
-    const struct found *is = &session->wire.device->is;
+    const struct found *info = &session->wire.device->info;
     struct dfuse *dfuse = &session->dfuse;
     int32_t refusal = session->is_upload ? 0 : file_refusal(session);
     session->goal = session->is_upload ? GOAL_UPLOAD : GOAL_VERIFIED;
-    dfuse->is = true;
-    if (!is->is_upgrade)
+    dfuse->is_active = true;
+    if (!info->is_upgrade)
         return REFUSED_RUN_TIME;
     if (!dfuse->has_address && dfuse->file == NULL)
         return REFUSED_NO_ADDRESS;
     if (refusal != 0)
         return refusal;
-    if (!session->is_upload && !has_attribute(is->descriptor, is->descriptor_size, CAN_DOWNLOAD))
+    if (!session->is_upload && !has_attribute(info->descriptor, info->descriptor_size, CAN_DOWNLOAD))
         return DFU_CANNOT_DOWNLOAD;
-    if (!has_attribute(is->descriptor, is->descriptor_size, CAN_UPLOAD))
+    if (!has_attribute(info->descriptor, info->descriptor_size, CAN_UPLOAD))
         return DFU_CANNOT_UPLOAD;
-    memcpy(session->known, is->descriptor, sizeof session->known);
-    session->known_size = is->descriptor_size;
+    memcpy(session->begin_descriptor, info->descriptor, sizeof session->begin_descriptor);
+    session->begin_descriptor_size = info->descriptor_size;
     dfuse->map = (const uint8_t *)session->first[1].name;
     dfuse->map_length = strlen(session->first[1].name);
-    dfuse->plan.transfer = session->host.transfer = two_bytes(is->descriptor + AT_TRANSFER);
+    dfuse->plan.transfer = session->host.transfer = two_bytes(info->descriptor + AT_TRANSFER);
     if (dfuse->plan.transfer > MOST_BYTES)
         return REFUSED_LARGE_BLOCKS;
     return session->is_upload ? begin_upload(session) : begin_download(session);

@@ -33,7 +33,7 @@ int32_t dfuse_take_file(struct session *session)
     for (size_t at = 0; at < DFUSE_ELEMENTS; at++)
         dfuse->image[at] = (struct dfuse_element){.bytes = session->file};
     dfuse->elements = 0;
-    refusal = dfuse_file_image(session->file, session->file_length, session->wire.device->is.alternate, dfuse->image, DFUSE_ELEMENTS,
+    refusal = dfuse_file_image(session->file, session->file_length, session->wire.device->info.alternate, dfuse->image, DFUSE_ELEMENTS,
                                &dfuse->elements);
     if (refusal != 0)
         return refusal;

@@ -13,9 +13,6 @@
 #define FIRST_BLOCK 2 /* of those that have the memory at the pointer */
 #define LAST_BLOCK 65535
 #define SET_ADDRESS 0x21
-enum { REQUEST_CLRSTATUS = 4, REQUEST_ABORT = 6 };
-enum { STATE_IDLE = 2, STATE_SYNC = 3, STATE_BUSY = 4, STATE_DNLOAD_IDLE = 5, STATE_ERROR = 10 };
-enum { CODE_OK = 0, CODE_VENDOR = 11, CODE_STALLED = 15 };
 
 /* Ways for the upload to go on after a request: with the next one, from its beginning, or not at all, with a report or another end. */
 enum next { NEXT_ON, NEXT_ANEW, NEXT_OVER };

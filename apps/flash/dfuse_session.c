@@ -19,9 +19,10 @@ static bool end(struct session *session, enum end end)
 
 bool dfuse_is_same(const struct session *session)
 {
-    const struct found *first = &session->first[1], *is = &session->wire.device->is;
-    return is->is_upgrade && is_again(first, is) && strcmp(first->name, is->name) == 0 && is->descriptor_size == session->known_size
-           && memcmp(is->descriptor, session->known, sizeof is->descriptor) == 0;
+    const struct found *first = &session->first[1], *info = &session->wire.device->info;
+    return info->is_upgrade && is_again(first, info) && strcmp(first->name, info->name) == 0
+           && info->descriptor_size == session->begin_descriptor_size
+           && memcmp(info->descriptor, session->begin_descriptor, sizeof info->descriptor) == 0;
 }
 
 /* Notes the string in which a device in dfuERROR may give its reason. */
@@ -153,12 +154,12 @@ static bool step(struct session *session, const struct dfuse_action *action, con
 /* A stop ends it: what was brought and not started is dropped. Once all was read back that is what is reported. */
 static void stop(struct session *session)
 {
-    static const struct dfuse_action abort_it = {.what = DFU_SEND, .setup = {KIND_OUT, 6}};
+    static const struct dfuse_action abort_it = {.what = DFU_SEND, .setup = {KIND_OUT, REQUEST_ABORT}};
     static const uint8_t nothing[1];
     struct dfuse *dfuse = &session->dfuse;
     bool is_reached;
     if (dfuse->host.work == DFUSE_LEAVE) {
-        dfuse->done = (struct dfuse_action){.what = DFU_DONE, .value = DFUSE_VERIFIED, .more = DFUSE_STAYED};
+        dfuse->done = (struct dfuse_action){.what = DFU_DONE, .value = DFUSE_VERIFIED};
         dfuse->done.more = dfuse_watch_closes(&dfuse->host) ? DFUSE_UNKNOWN : DFUSE_STAYED;
         end(session, END_REPORT);
         return;

@@ -7,24 +7,25 @@
 /* Returns whether the device still has the functional descriptor with which the session began. */
 static bool is_as_begun(const struct session *session)
 {
-    const struct found *is = &session->wire.device->is;
-    return is->descriptor_size == session->known_size && memcmp(is->descriptor, session->known, sizeof is->descriptor) == 0;
+    const struct found *info = &session->wire.device->info;
+    return info->descriptor_size == session->begin_descriptor_size
+           && memcmp(info->descriptor, session->begin_descriptor, sizeof info->descriptor) == 0;
 }
 
 /* Returns whether the device is the one that was found first in this mode. */
 static bool is_first_again(const struct session *session)
 {
-    const struct found *is = &session->wire.device->is;
-    return !session->has_first[is->is_upgrade] || is_again(&session->first[is->is_upgrade], is);
+    const struct found *info = &session->wire.device->info;
+    return !session->has_first[info->is_upgrade] || is_again(&session->first[info->is_upgrade], info);
 }
 
 void facts_note(struct session *session)
 {
-    const struct found *is = &session->wire.device->is;
-    if (session->has_first[is->is_upgrade] || (session->watch.sent && !is->is_upgrade))
+    const struct found *info = &session->wire.device->info;
+    if (session->has_first[info->is_upgrade] || (session->watch.sent && !info->is_upgrade))
         return;
-    session->first[is->is_upgrade] = *is;
-    session->has_first[is->is_upgrade] = true;
+    session->first[info->is_upgrade] = *info;
+    session->has_first[info->is_upgrade] = true;
 }
 
 struct dfu_facts facts_of(const struct session *session, bool is_reached, bool is_gone)
@@ -36,13 +37,13 @@ struct dfu_facts facts_of(const struct session *session, bool is_reached, bool i
         .many = device->is_many,
         .stopped = *device->is_stop != 0,
         .open = device->handle != NULL,
-        .upgrade = device->is.is_upgrade,
+        .upgrade = device->info.is_upgrade,
         .again = is_first_again(session),
         .same = is_as_begun(session),
     };
 }
 
-bool facts_lacks_descriptor(const struct found *is)
+bool facts_lacks_descriptor(const struct found *info)
 {
-    return is->is_upgrade && is->descriptor_size == 0 && is->name[0] != '@';
+    return info->is_upgrade && info->descriptor_size == 0 && info->name[0] != '@';
 }

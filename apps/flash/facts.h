@@ -14,6 +14,6 @@ struct dfu_facts facts_of(const struct session *session, bool is_reached, bool i
 
 /* Returns whether the device is in DFU mode without a functional descriptor, so that nothing says how large its blocks are. A device with a
    memory map is none of these: it may speak DfuSe. */
-bool facts_lacks_descriptor(const struct found *is);
+bool facts_lacks_descriptor(const struct found *info);
 
 #endif

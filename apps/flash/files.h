@@ -10,8 +10,8 @@
 
 #define FILE_SPARE 16 /* bytes for which there is room after those of a file that was read */
 
-/* Reads a file, or standard input if the name is `-`, up to one byte over what a DFU file has at most. False if it can't be read,
-   which is then said on standard error. `bytes` is to be freed, and is never NULL after true. */
+/* Reads a file, or standard input if the name is `-`, up to one byte over the largest DFU file. Returns false, after printing why,
+   if it can't be read. After true `bytes` is not NULL, and the caller frees it. */
 bool file_read(const char *name, uint8_t **bytes, size_t *length);
 
 /* Opens a file to be read, as bytes; NULL for the reason in errno. */
@@ -20,7 +20,7 @@ FILE *file_open(const char *name);
 /* Returns whether OUT may be made, before anything is sent. If it may not, prints why on standard error. */
 bool file_may_make(const char *name, bool is_forced);
 
-/* Makes OUT with these bytes, whole or not at all. False if that failed, which is then said on standard error. */
+/* Makes OUT with these bytes, whole or not at all. Returns false, after printing why, if that failed. */
 bool file_make(const char *name, bool is_forced, const uint8_t *bytes, size_t length);
 
 #endif

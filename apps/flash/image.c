@@ -107,7 +107,7 @@ static int32_t take_suffix(struct image *image)
 int32_t image_seal(struct image *image)
 {
     put_crc(image->bytes + image->length - 4, crc_of(image->bytes, image->length - 4));
-    return image->is_dfuse ? dfuse_read_file(image->bytes, image->length, &image->says) : take_suffix(image);
+    return image->is_dfuse ? dfuse_read_file(image->bytes, image->length, &image->dfuse_info) : take_suffix(image);
 }
 
 uint32_t image_crc(const struct image *image)
@@ -154,12 +154,12 @@ static int32_t read_dfuse(struct image *image, const struct words *words)
     int32_t refusal;
     if (words->has_address)
         return REFUSED_OWN_ADDRESS;
-    refusal = dfuse_read_file(image->bytes, image->length, &image->says);
+    refusal = dfuse_read_file(image->bytes, image->length, &image->dfuse_info);
     if (refusal != 0)
         return refusal;
-    image->vendor = image->says.vendor;
-    image->product = image->says.product;
-    return image->says.setting == DFUSE_SEVERAL && words->alternate < 0 && words->setting == NULL ? REFUSED_MIXED : 0;
+    image->vendor = image->dfuse_info.vendor;
+    image->product = image->dfuse_info.product;
+    return image->dfuse_info.setting == DFUSE_SEVERAL && words->alternate < 0 && words->setting == NULL ? REFUSED_MIXED : 0;
 }
 
 /* A file without a suffix: all of it is the image, if it looks like nothing else or the words say so. It gets a suffix. */

@@ -41,9 +41,9 @@ void json_number(const char *name, uint64_t number)
     printf(",\"%s\":%" PRIu64, name, number);
 }
 
-void json_truth(const char *name, bool is)
+void json_truth(const char *name, bool value)
 {
-    printf(",\"%s\":%s", name, is ? "true" : "false");
+    printf(",\"%s\":%s", name, value ? "true" : "false");
 }
 
 /* Prints a name that begins with a version as two fields: the version, and the text after it, as `on trial, 2 starts left`. */
@@ -78,26 +78,26 @@ void json_address(uint32_t address)
     json_hex("address", address, 8);
 }
 
-void json_odd(const struct odd *odd, bool is_address)
+void json_difference(const struct difference *difference, bool is_address)
 {
     if (is_address)
-        json_hex("place", (uint32_t)odd->at, 8);
+        json_hex("place", (uint32_t)difference->at, 8);
     else
-        json_number("place", odd->at);
-    if (odd->wanted >= 0)
-        json_hex("wanted", (uint32_t)odd->wanted, 2);
-    if (odd->found >= 0)
-        json_hex("found", (uint32_t)odd->found, 2);
+        json_number("place", difference->at);
+    if (difference->wanted >= 0)
+        json_hex("wanted", (uint32_t)difference->wanted, 2);
+    if (difference->found >= 0)
+        json_hex("found", (uint32_t)difference->found, 2);
 }
 
 void json_session(const struct session *session)
 {
-    const struct found *is = &session->wire.device->is;
+    const struct found *info = &session->wire.device->info;
     json_text("goal", goal_name(session->goal));
     printf(",\"vendor\":\"%04x\",\"product\":\"%04x\",\"release\":\"%04x\"", session->ids.vendor, session->ids.product,
            session->ids.device);
     json_text("path", session->wire.device->path);
-    if (is->serial[0] != '\0')
-        json_text("serial", is->serial);
-    json_setting(is);
+    if (info->serial[0] != '\0')
+        json_text("serial", info->serial);
+    json_setting(info);
 }

@@ -11,7 +11,7 @@
 /* A field after another one: its name, and a text, a number or a truth. A text that is NULL isn't known: there is no field. */
 void json_text(const char *name, const char *text);
 void json_number(const char *name, uint64_t number);
-void json_truth(const char *name, bool is);
+void json_truth(const char *name, bool value);
 
 /* A number as so many hexadecimal digits, in quotes. */
 void json_hex(const char *name, uint32_t number, int digits);
@@ -24,8 +24,8 @@ struct session;
 void json_session(const struct session *session);
 
 /* Place where the device gave back another byte than the image's: by its number, or by its address. */
-struct odd;
-void json_odd(const struct odd *odd, bool is_address);
+struct difference;
+void json_difference(const struct difference *difference, bool is_address);
 
 /* The address that a session with DfuSe begins at. */
 void json_address(uint32_t address);

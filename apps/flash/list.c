@@ -83,15 +83,15 @@ int list_devices(libusb_context *usb, const struct wanted *wanted, bool is_json)
 static void print_plan_record(const struct session *session)
 {
     record_begin(session, STATUS_DONE, "dry-run",
-                 session->odd != 0 ? "bring it to DFU mode, and look there how large blocks are" : "nothing was sent");
-    if (session->dfuse.is)
+                 session->runtime_refusal != 0 ? "bring it to DFU mode, and look there how large blocks are" : "nothing was sent");
+    if (session->dfuse.is_active)
         json_address(session->dfuse.address);
-    if (session->goal != GOAL_UPLOAD || session->dfuse.is)
+    if (session->goal != GOAL_UPLOAD || session->dfuse.is_active)
         json_number("bytes", session->payload_length);
-    if (session->dfuse.is && session->dfuse.file != NULL)
+    if (session->dfuse.is_active && session->dfuse.file != NULL)
         dfuse_elements_json(session);
     json_text("stamp", stamp_next());
-    if (session->odd == 0) {
+    if (session->runtime_refusal == 0) {
         json_number("transfer", session->host.transfer);
         json_number("most_actions", session->actions);
         json_number("most_restarts", session->restarts);
@@ -106,18 +106,18 @@ void list_plan(const struct session *session, bool is_json)
         print_plan_record(session);
         return;
     }
-    if (session->odd != 0)
+    if (session->runtime_refusal != 0)
         fputs("dry-run: bring it to DFU mode, and look there how large blocks are: ", stdout);
     else {
-        if (session->dfuse.is && session->dfuse.file != NULL)
+        if (session->dfuse.is_active && session->dfuse.file != NULL)
             dfuse_print_elements(&session->dfuse);
         printf("dry-run: %s", goals[session->goal]);
-        if (session->goal != GOAL_UPLOAD || session->dfuse.is)
+        if (session->goal != GOAL_UPLOAD || session->dfuse.is_active)
             printf(" %zu bytes", session->payload_length);
-        if (session->dfuse.is)
+        if (session->dfuse.is_active)
             printf(" at %08lx", (unsigned long)session->dfuse.address);
         printf(" in blocks of %u, within %lu actions and %u restarts: ", session->host.transfer, (unsigned long)session->actions,
                session->restarts);
     }
-    say_found(stdout, &session->wire.device->is);
+    say_found(stdout, &session->wire.device->info);
 }

@@ -19,7 +19,8 @@ struct log {
     bool is_cut;     /* it was closed, and something could not be written */
 };
 
-/* Makes the file, which must not be there yet; a pipe or a terminal may be. False if it can't be made, which is then said. */
+/* Makes the file, which must not be there yet; a pipe or a terminal may be. Returns false, after printing why, if it
+   can't be made. */
 bool log_open(struct log *log, const char *name);
 
 /* Writes a reset before the request that is about to be sent, if the device was found again since the last one. */
@@ -34,7 +35,7 @@ void log_reset(struct log *log);
 /* Writes the last line: the report, the exit status and the time (station.h). */
 void log_end(struct log *log, const char *report, int status, const char *time);
 
-/* Closes the log. Returns false if something could not be written, which is then said. */
+/* Closes the log. Returns false, after printing why, if something could not be written. */
 bool log_close(struct log *log);
 
 #endif

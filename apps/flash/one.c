@@ -65,10 +65,10 @@ static int take_file(const struct words *words, struct image *image, struct want
         return work_refused(&session, words, refusal);
     session.file_length = image->length;
     session.payload_length = image->payload;
-    session.dfuse.file = image->is_dfuse ? &image->says : NULL;
+    session.dfuse.file = image->is_dfuse ? &image->dfuse_info : NULL;
     station_image(words, image);
     if (image->is_dfuse && wanted->place.alternate < 0 && wanted->place.name == NULL)
-        wanted->place.alternate = (int)image->says.setting;
+        wanted->place.alternate = (int)image->dfuse_info.setting;
     if (!words->has_ids && words->path == NULL && words->serial == NULL) {
         wanted->has_ids = wanted->is_of_file = true;
         wanted->vendor = image->vendor;
@@ -86,7 +86,7 @@ static int run_detach(const struct words *words, const struct wanted *wanted)
     work_ask(&session, words);
     session.goal = GOAL_DETACH;
     session.began_ms = clock_ms();
-    status = device.is.is_upgrade ? STATUS_DONE : work_begin(&session, words);
+    status = device.info.is_upgrade ? STATUS_DONE : work_begin(&session, words);
     if (status != STATUS_DONE)
         return status;
     verdict = dfu_mode(&session);
@@ -119,7 +119,7 @@ static int prepare(const struct words *words, struct image *image, struct wanted
         return say_none(words, STATUS_FILE);
     status = device_choose(&device, wanted);
     if (words->bay != NULL && session.tries == 0)
-        same = status == STATUS_DONE ? bay_verdict(words->bay, &device.is) : bay_is_early(words->bay) ? BAY_SAME : 0;
+        same = status == STATUS_DONE ? bay_verdict(words->bay, &device.info) : bay_is_early(words->bay) ? BAY_SAME : 0;
     if (same != 0)
         return same;
     if (status != STATUS_DONE)
@@ -189,9 +189,9 @@ int one_run(const struct words *words, struct image *image, enum progress_style 
     memset(&session, 0, sizeof session);
     forget();
     error = transport->begin(&device.usb);
-    record_of(&device.is, &session.wire.trace.log);
+    record_of(&device.info, &session.wire.trace.log);
     if (words->bay != NULL)
-        record_each(words->path, &device.is, &session.wire.trace.log);
+        record_each(words->path, &device.info, &session.wire.trace.log);
     if (error != 0) {
         fprintf(stderr, "dfu-flash: USB can't be had: %s\n", libusb_error_name(error));
         return say_none(words, STATUS_NO_DEVICE);

@@ -109,7 +109,7 @@ static const char *nearest(const char *word)
 void advise_word(const char *word)
 {
     char name[LONGEST + 1], step[80];
-    const char *is;
+    const char *meant;
     size_t length;
     word += strspn(word, "-");
     length = strcspn(word, "=");
@@ -126,10 +126,10 @@ void advise_word(const char *word)
         advice_is(option_of(name)->has_arg == no_argument ? "leave out what is behind its =" : "give it its value, as --help has it");
         return;
     }
-    is = nearest(name);
-    if (is == NULL)
+    meant = nearest(name);
+    if (meant == NULL)
         return;
-    snprintf(step, sizeof step, "did you mean --%s?", is);
+    snprintf(step, sizeof step, "did you mean --%s?", meant);
     advice_is(step);
 }
 

@@ -8,7 +8,7 @@
 
 #include <stdbool.h>
 
-/* Before all else: the words of the command line in UTF-8. False if there is no memory for them. */
+/* Turns the words of the command line into UTF-8; this must be called first. Returns false if there is no memory for them. */
 bool platform_words(int *count, char ***texts);
 
 /* Returns the reason why a device may be listed, and be gone once it is opened. */

@@ -5,7 +5,7 @@
 
 #include <stdbool.h>
 
-/* Reads the file. False if it can't be read, or a line isn't understood, which is then said. */
+/* Reads the file. Returns false, after printing why, if it can't be read, or if a line isn't understood. */
 bool ports_file_read(const char *file);
 
 /* The name of a path; NULL if the file has none. */

@@ -15,15 +15,17 @@
 
 bool present_is(const struct device *device)
 {
-    libusb_device *opened = device->is.device, **devices;
-    bool is = false;
+    libusb_device *opened = device->info.device, **devices;
+    bool is_listed = false;
     ssize_t count = opened == NULL ? 0 : transport->list(device->usb, &devices);
     if (opened == NULL || count < 0)
         return opened != NULL;
     for (ssize_t at = 0; at < count; at++)
-        is = is || (transport->bus(devices[at]) == transport->bus(opened) && transport->address(devices[at]) == transport->address(opened));
+        is_listed =
+            is_listed
+            || (transport->bus(devices[at]) == transport->bus(opened) && transport->address(devices[at]) == transport->address(opened));
     transport->free_list(devices, 1);
-    return is;
+    return is_listed;
 }
 
 bool present_is_lost(const struct device *device, int answer)

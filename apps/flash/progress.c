@@ -61,9 +61,9 @@ static void draw(struct progress *progress, uint64_t bytes)
 static void tell(struct progress *progress, uint64_t bytes)
 {
     uint64_t tenths = progress->total > 0 ? 10 * bytes / progress->total : bytes / LINE_BYTES;
-    if (tenths <= progress->told)
+    if (tenths <= progress->told_mark)
         return;
-    progress->told = tenths;
+    progress->told_mark = tenths;
     if (progress->total > 0)
         fprintf(stderr, "%s%s: %" PRIu64 "%%, %" PRIu64 " of %" PRIu64 " bytes\n", say_mark, names[progress->part], 10 * tenths, bytes,
                 progress->total);
@@ -77,7 +77,7 @@ static void begin_part(struct progress *progress, enum progress_part part)
     progress->part = part;
     progress->began_ms = clock_ms();
     progress->shown_ms = 0;
-    progress->told = 0;
+    progress->told_mark = 0;
 }
 
 void progress_at(struct progress *progress, enum progress_part part, uint64_t bytes)

@@ -17,10 +17,10 @@ struct progress {
     uint64_t total;          /* bytes of the payload; of an upload nobody knows them, and this is 0 */
     enum progress_part part; /* what goes on, and since when */
     int64_t began_ms, shown_ms;
-    uint64_t told;    /* tenths that were printed; of an upload the bytes after which the next line comes */
-    bool is_open;     /* a bar is on the terminal's line, */
-    int shown;        /* of so many characters */
-    uint32_t said_ms; /* the longest wait that was said */
+    uint64_t told_mark; /* tenths that were printed; of an upload the bytes after which the next line comes */
+    bool is_open;       /* a bar is on the terminal's line, */
+    int shown;          /* of so many characters */
+    uint32_t said_ms;   /* the longest wait that was said */
 };
 
 /* Chooses a bar if standard error is a terminal, unless `is_lines`: then other lines are printed on it too. */

@@ -16,15 +16,15 @@
 /* Of several devices, the one that records are of; the path is NULL if there is only one. */
 static struct {
     const char *path;
-    const struct found *is;
+    const struct found *info;
     struct log *log;
     int64_t began_ms;
 } each;
 
-void record_each(const char *path, const struct found *is, struct log *log)
+void record_each(const char *path, const struct found *info, struct log *log)
 {
     each.path = path;
-    each.is = is;
+    each.info = info;
     each.log = log;
     each.began_ms = clock_ms();
 }
@@ -34,9 +34,9 @@ void record_since(int64_t ms)
     each.began_ms = ms;
 }
 
-void record_of(const struct found *is, struct log *log)
+void record_of(const struct found *info, struct log *log)
 {
-    each.is = is;
+    each.info = info;
     each.log = log;
     each.began_ms = each.path == NULL ? clock_ms() : each.began_ms;
 }
@@ -61,12 +61,12 @@ int record_status(int status)
 /* Returns whether the device and its path are known. */
 static bool is_known(void)
 {
-    return each.is != NULL && (each.is->vendor != 0 || each.is->product != 0);
+    return each.info != NULL && (each.info->vendor != 0 || each.info->product != 0);
 }
 
 static const char *path_known(void)
 {
-    return each.path != NULL ? each.path : is_known() && each.is->path[0] != '\0' ? each.is->path : NULL;
+    return each.path != NULL ? each.path : is_known() && each.info->path[0] != '\0' ? each.info->path : NULL;
 }
 
 static double each_seconds(void)
@@ -107,8 +107,8 @@ static void begin_line(void)
     printf("%s ", each.path);
     if (station_port(each.path) != NULL)
         say_text(stdout, "", station_port(each.path), " ");
-    if (each.is->serial[0] != '\0')
-        say_text(stdout, "serial ", each.is->serial, " ");
+    if (each.info->serial[0] != '\0')
+        say_text(stdout, "serial ", each.info->serial, " ");
     if (stamp_taken() != NULL)
         say_text(stdout, "stamp ", stamp_taken(), " ");
     printf("%.1f s ", each_seconds());
@@ -139,7 +139,7 @@ static void print_record(const struct session *session, const struct verdict *ve
     if (verdict->code != 0)
         json_text("meaning", code_words(verdict->code));
     json_session(session);
-    if (session->dfuse.is)
+    if (session->dfuse.is_active)
         json_address(session->dfuse.address);
     json_number("bytes", session->goal == GOAL_UPLOAD ? session->host.kept : session->payload_length);
     if (session->made != NULL)
@@ -148,8 +148,8 @@ static void print_record(const struct session *session, const struct verdict *ve
     json_number("transfers", session->wire.transfers);
     json_number("restarts", session->restarted);
     json_number("milliseconds", (uint64_t)(clock_ms() - session->began_ms));
-    if (verdict->status == STATUS_DIFFERENT && session->odd_byte.is)
-        json_odd(&session->odd_byte, session->dfuse.is);
+    if (verdict->status == STATUS_DIFFERENT && session->difference.exists)
+        json_difference(&session->difference, session->dfuse.is_active);
     end(session->wire.device->path, step);
 }
 
@@ -159,7 +159,7 @@ bool record_print(const struct session *session, const struct verdict *verdict, 
     bool is_added;
     end_log(verdict->status, verdict->name);
     is_added = station_add(record_status(verdict->status), verdict->name, verdict->words, session->wire.device->path,
-                           &session->wire.device->is, each_seconds());
+                           &session->wire.device->info, each_seconds());
     advise_ended(session, verdict->name);
     step = next_of_end(verdict->name);
     if (is_json) {
@@ -177,11 +177,11 @@ static void print_short(int status, const char *name, const char *words, const c
     json_text("words", words);
     json_text("reason", status == STATUS_FILE ? say_reason() : NULL);
     if (is_known())
-        printf(",\"vendor\":\"%04x\",\"product\":\"%04x\",\"release\":\"%04x\"", each.is->vendor, each.is->product, each.is->release);
+        printf(",\"vendor\":\"%04x\",\"product\":\"%04x\",\"release\":\"%04x\"", each.info->vendor, each.info->product, each.info->release);
     if (path_known() != NULL)
         json_text("path", path_known());
-    if (is_known() && each.is->serial[0] != '\0')
-        json_text("serial", each.is->serial);
+    if (is_known() && each.info->serial[0] != '\0')
+        json_text("serial", each.info->serial);
     end(path_known(), step);
 }
 
@@ -190,7 +190,7 @@ static bool end_short(int status, const char *report, const char *words, const c
 {
     bool is_out;
     end_log(status, report);
-    is_out = station_add(status, report, words, path_known(), each.is, each_seconds());
+    is_out = station_add(status, report, words, path_known(), each.info, each_seconds());
     if (is_json)
         print_short(status, report, words, step);
     else {
@@ -232,7 +232,7 @@ int record_none(int status, bool is_json)
         if (nones[at].status != status)
             continue;
         end_log(status, nones[at].name);
-        if (is_silent && !station_add(status, nones[at].name, nones[at].words, path_known(), each.is, each_seconds()))
+        if (is_silent && !station_add(status, nones[at].name, nones[at].words, path_known(), each.info, each_seconds()))
             return STATUS_FILE;
         if (is_silent)
             next_say(next_of_end(nones[at].name));

@@ -10,10 +10,10 @@
 
 /* Of several devices: from here on each record has the path, the serial number, the log and the seconds since now, and what is no JSON
    begins with them. */
-void record_each(const char *path, const struct found *is, struct log *log);
+void record_each(const char *path, const struct found *info, struct log *log);
 
 /* Of one device: records of no session have what is known of it. A record closes its log, before it is printed. */
-void record_of(const struct found *is, struct log *log);
+void record_of(const struct found *info, struct log *log);
 
 /* The exit status of a session: this one; STATUS_FILE in place of 0 and 8 if its log could not be written whole. */
 int record_status(int status);
@@ -24,7 +24,7 @@ void record_since(int64_t ms);
 /* The front of a record in JSON: status, report, words, what the session is for, and the device. */
 void record_begin(const struct session *session, int status, const char *report, const char *words);
 
-/* The report's name and what it means, in one line; or, with `is_json`, one record. False if standard output failed. */
+/* Prints the report's name and its meaning in one line, or with `is_json` one record. Returns false if standard output failed. */
 bool record_print(const struct session *session, const struct verdict *verdict, bool is_json);
 
 /* Prints an outcome that has no more fields than these. */

@@ -18,7 +18,7 @@ void say_found(FILE *out, const struct found *found);
 /* A text that others chose, as a name of a file, between two of this program's. */
 void say_text(FILE *out, const char *before, const char *text, const char *after);
 
-/* A line about a file that failed: its name, what can't be done with it, and why. Always false. */
+/* Prints a line about a file that failed: its name, what can't be done with it, and why. Returns false. */
 bool say_failed(const char *name, const char *what, const char *why);
 
 /* The last of these, for a record; NULL if there was none. */

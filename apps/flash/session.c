@@ -112,18 +112,18 @@ static bool tell(struct session *session, const struct answer *answer)
 /* With what the host has begun: its descriptor may be used in place of the device's, and its identifiers be those of run-time mode. */
 static void trace_session(const struct session *session)
 {
-    struct found is = session->wire.device->is;
-    is.vendor = session->ids.vendor;
-    is.product = session->ids.product;
-    is.release = session->ids.device;
-    if (session->odd != 0) {
-        memcpy(is.descriptor, session->another, sizeof is.descriptor);
-        is.descriptor_size = sizeof is.descriptor;
+    struct found info = session->wire.device->info;
+    info.vendor = session->ids.vendor;
+    info.product = session->ids.product;
+    info.release = session->ids.device;
+    if (session->runtime_refusal != 0) {
+        memcpy(info.descriptor, session->substitute, sizeof info.descriptor);
+        info.descriptor_size = sizeof info.descriptor;
     }
     if (session->refusal == 0)
-        trace_begin(&session->wire.trace, goal_name(session->goal), &is, session->host.transfer,
-                    session->dfuse.is ? session->actions : session->host.actions,
-                    session->dfuse.is ? session->restarts : session->host.restarts);
+        trace_begin(&session->wire.trace, goal_name(session->goal), &info, session->host.transfer,
+                    session->dfuse.is_active ? session->actions : session->host.actions,
+                    session->dfuse.is_active ? session->restarts : session->host.restarts);
 }
 
 /* In DFU mode a device may have another functional descriptor than in run-time mode: then the session that brought it there, which
@@ -160,12 +160,12 @@ static bool follow(struct session *session, uint32_t course, const struct answer
 /* One action. */
 static bool step(struct session *session, const struct dfu_action *action)
 {
-    uint32_t course = dfu_watch_before(&session->watch, action, session->odd != 0);
+    uint32_t course = dfu_watch_before(&session->watch, action, session->runtime_refusal != 0);
     bool is_reached = false;
     struct dfu_facts facts;
     struct answer answer;
     if (course != DFU_GOES_ON) {
-        session->refusal = session->odd;
+        session->refusal = session->runtime_refusal;
         return follow(session, course, NULL);
     }
     answer = perform(session, action, &is_reached);
@@ -207,7 +207,7 @@ void session_run(struct session *session)
 {
     struct dfu_action action;
     trace_session(session);
-    if (session->dfuse.is) {
+    if (session->dfuse.is_active) {
         (session->is_upload ? dfuse_read : dfuse_run)(session);
         return;
     }

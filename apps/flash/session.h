@@ -30,8 +30,8 @@ enum end {
 };
 
 /* The first byte that came back and isn't the image's. */
-struct odd {
-    bool is;
+struct difference {
+    bool exists;
     uint64_t at;       /* its place in the image, from 0 on; with DfuSe its address */
     int wanted, found; /* the image's byte and the device's; -1 if the image, or what the device gave, has ended there */
 };
@@ -51,13 +51,13 @@ struct session {
     bool has_limits;
     uint32_t actions; /* the limits: those that were asked for, or by the file's size */
     uint16_t restarts;
-    uint16_t transfer;       /* bytes of a block that were asked for; 0: as the device takes */
-    struct dfu_session host; /* the host's record */
-    uint8_t known[9];        /* the device's functional descriptor when it was begun */
-    size_t known_size;
-    int32_t odd;         /* why the host refuses the functional descriptor of the run-time mode, or 0; */
-    uint8_t another[9];  /* then another one in its place */
-    struct odd odd_byte; /* of what was compared last */
+    uint16_t transfer;           /* bytes of a block that were asked for; 0: as the device takes */
+    struct dfu_session host;     /* the host's record */
+    uint8_t begin_descriptor[9]; /* the device's functional descriptor when it was begun */
+    size_t begin_descriptor_size;
+    int32_t runtime_refusal;      /* why the host refuses the functional descriptor of the run-time mode, or 0; */
+    uint8_t substitute[9];        /* then another one in its place */
+    struct difference difference; /* of what was compared last */
     bool is_aborted;
     bool is_whole;          /* the device acknowledged the image's last block and its end, and no block was sent since */
     bool is_fetched;        /* the last part of an upload came, and none was asked for since */
@@ -89,7 +89,7 @@ struct session {
 /* Returns the name of a goal, in a word. */
 const char *goal_name(enum goal goal);
 
-/* Begins the session of the device that was found. 0, or a refusal: the host's, or one of these. Nothing is sent. */
+/* Begins the session of the device that was found. Sends nothing. Returns 0, or a refusal: the host's, or one of these. */
 int32_t session_begin(struct session *session);
 
 /* Carries out what the host asks for, up to its report or to another end. */

@@ -9,7 +9,7 @@
 /* If the device left after that DETACH it is reset already. */
 struct answer stalls_reset(const struct dfu_watch *watch, struct wire *wire)
 {
-    bool is_first = dfu_watch_detaches(watch) && wire->device->is.says_runtime;
+    bool is_first = dfu_watch_detaches(watch) && wire->device->info.says_runtime;
     struct answer answer = {0};
     if (is_first)
         answer = detach_send(wire);

@@ -83,7 +83,7 @@ bool stamp_begin(const struct words *words)
     struct stamp **sorted;
     const char *why;
     char *text;
-    bool is;
+    bool is_begun;
     if (words->stamp == NULL)
         return true;
     stamp_list.file = words->stamp;
@@ -94,12 +94,12 @@ bool stamp_begin(const struct words *words)
     sorted = malloc(stamp_list.count * sizeof(struct stamp *));
     if (sorted == NULL)
         return stamp_list_fail("", 0, "there is no memory");
-    is = stamp_list_sort(sorted) && (used_open(stamp_list.file, words->dry_run, &text, &why) || stamp_list_fail(".used", 0, why))
-         && stamp_list_lines(text, sorted, take_record);
+    is_begun = stamp_list_sort(sorted) && (used_open(stamp_list.file, words->dry_run, &text, &why) || stamp_list_fail(".used", 0, why))
+               && stamp_list_lines(text, sorted, take_record);
     free(sorted);
-    if (is && !words->quiet && !words->dry_run)
+    if (is_begun && !words->quiet && !words->dry_run)
         say_lost();
-    return is;
+    return is_begun;
 }
 
 struct stamp *stamp_hold(void)

@@ -16,7 +16,7 @@
 /* An entry of the list. */
 struct stamp;
 
-/* Reads the list and the record of what is used. False if one can't be used, which is then said. */
+/* Reads the list, and the record of its used entries. Returns false, after printing why, if one of both can't be used. */
 bool stamp_begin(const struct words *words);
 
 /* Holds the next entry that no board has for a board. Returns NULL if there is none. */
@@ -32,7 +32,8 @@ size_t stamp_free(void);
 /* Gives this entry to the board of this process; NULL for none. With a path, the board there has taken it already. */
 void stamp_is(struct stamp *stamp, const char *taken_at);
 
-/* Records that the board has the entry. Returns false if that can't be recorded, which is then said; then nothing may be sent. */
+/* Records that the board has the entry. Returns false, after printing why, if that can't be recorded; then nothing may be
+   sent. */
 bool stamp_take(const char *path);
 
 /* Records how the board's session ended. */
@@ -45,7 +46,7 @@ const char *stamp_next(void);
 /* Finds the place of --stamp-at in the file. Returns 0, or a refusal if there is no room for an entry. */
 int32_t stamp_place(struct image *image, const struct words *words);
 
-/* Writes the entry of this process's board into the image, whose suffix is made anew. 0, or a refusal. */
+/* Writes the entry of this process's board into the image, whose suffix is made anew. Returns 0, or a refusal. */
 int32_t stamp_image(struct image *image, const struct words *words);
 
 /* The bytes of this process's entry, as many as the place has. */

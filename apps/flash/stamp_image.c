@@ -18,7 +18,7 @@ struct parts {
 
 static int32_t parts_of(struct parts *parts, const struct image *image, const struct words *words)
 {
-    uint32_t setting = words->alternate >= 0 ? (uint32_t)words->alternate : image->says.setting;
+    uint32_t setting = words->alternate >= 0 ? (uint32_t)words->alternate : image->dfuse_info.setting;
     parts->count = 1;
     for (size_t at = 0; at < DFUSE_ELEMENTS; at++)
         parts->list[at] = (struct dfuse_element){.bytes = image->bytes};

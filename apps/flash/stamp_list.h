@@ -23,7 +23,7 @@ struct stamp_list {
 
 extern struct stamp_list stamp_list;
 
-/* Reads the file. False if it can't be used, which is then said. */
+/* Reads the file. Returns false, after printing why, if it can't be used. */
 bool stamp_list_read(void);
 
 /* Puts the entries in the order of their names, if no two are the same: neither what is written, nor the name. If two are, that is said. */
@@ -32,10 +32,10 @@ bool stamp_list_sort(struct stamp **sorted);
 /* Compares two places of that order by the names there. */
 int stamp_list_by_name(const void *one, const void *other);
 
-/* The bytes of an entry, and 00 behind them up to the end of the place. NULL, or why it has none. */
+/* Writes the bytes of an entry, and 00 behind them up to the end of the place. Returns NULL, or the reason for which it has none. */
 const char *stamp_list_bytes(const char *value, uint8_t bytes[STAMP_BYTES]);
 
-/* Says what is wrong with the list, or with LIST.used; line 0 is none. Always false. */
+/* Prints what is wrong with the list, or with LIST.used; line 0 is none. Returns false. */
 bool stamp_list_fail(const char *ending, size_t line, const char *why);
 
 /* Hands each line to `take`, from number 1 on, as long as that is true. */

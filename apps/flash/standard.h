@@ -15,12 +15,30 @@ enum {
     KIND_IS_IN = 0x80 /* the bit that says that the device answers */
 };
 
-enum { REQUEST_DETACH = 0, REQUEST_DNLOAD = 1, REQUEST_UPLOAD = 2, REQUEST_GETSTATUS = 3, REQUEST_GETSTATE = 5 };
+enum {
+    REQUEST_DETACH = 0,
+    REQUEST_DNLOAD = 1,
+    REQUEST_UPLOAD = 2,
+    REQUEST_GETSTATUS = 3,
+    REQUEST_CLRSTATUS = 4,
+    REQUEST_GETSTATE = 5,
+    REQUEST_ABORT = 6
+};
 
 /* Of the answers: how many bytes, and where bState is in a status. */
 enum { GETSTATUS_BYTES = 6, GETSTATUS_STATE = 4, GETSTATE_BYTES = 1 };
 
-enum { STATE_MANIFEST_SYNC = 6, STATE_MANIFEST = 7 };
+/* The states and status codes that this program decides by. */
+enum {
+    STATE_IDLE = 2,
+    STATE_SYNC = 3,
+    STATE_BUSY = 4,
+    STATE_DNLOAD_IDLE = 5,
+    STATE_MANIFEST_SYNC = 6,
+    STATE_MANIFEST = 7,
+    STATE_ERROR = 10
+};
+enum { CODE_OK = 0, CODE_VENDOR = 11, CODE_STALLED = 15 };
 
 /* A functional descriptor: its type, where its fields begin, and the bits of bmAttributes. */
 enum {
@@ -45,9 +63,7 @@ enum { INTERFACE_CLASS = 0xfe, INTERFACE_SUBCLASS = 1, PROTOCOL_RUNTIME = 1, PRO
 /* A vendor or a product of a file that is for any (appendix B). */
 enum { ANY_ID = 0xffff };
 
-/* The names by number, or "?". */
-const char *request_name(uint8_t request);
-const char *state_name(uint8_t state);
+/* Returns the name of a status code, or "?" if no code has the number. ../common/names.h has the names of requests and states. */
 const char *code_name(uint32_t code);
 
 /* Returns the meaning of a status code, in words. */

@@ -148,11 +148,11 @@ void station_json(const char *path)
     json_hex("crc32", station.crc, 8);
 }
 
-bool station_add(int status, const char *report, const char *words, const char *path, const struct found *is, double seconds)
+bool station_add(int status, const char *report, const char *words, const char *path, const struct found *info, double seconds)
 {
     struct line line = {.length = 0};
     char time[32], number[16], crc[9], ids[3][8] = {"", "", ""}, took[32];
-    bool is_known = is != NULL && (is->vendor != 0 || is->product != 0);
+    bool is_known = info != NULL && (info->vendor != 0 || info->product != 0);
     stamp_end(status, report);
     if (!station.is_open)
         return true;
@@ -161,7 +161,7 @@ bool station_add(int status, const char *report, const char *words, const char *
     snprintf(crc, sizeof crc, "%08" PRIx32, station.crc);
     snprintf(took, sizeof took, "%.3f", seconds);
     for (int at = 0; is_known && at < 3; at++)
-        snprintf(ids[at], sizeof ids[at], "%04x", at == 0 ? is->vendor : at == 1 ? is->product : is->release);
+        snprintf(ids[at], sizeof ids[at], "%04x", at == 0 ? info->vendor : at == 1 ? info->product : info->release);
     if (!station.is_csv)
         put(&line, "{", 1);
     put_member(&line, "time", time, false);
@@ -173,7 +173,7 @@ bool station_add(int status, const char *report, const char *words, const char *
     put_member(&line, "vendor", is_known ? ids[0] : NULL, false);
     put_member(&line, "product", is_known ? ids[1] : NULL, false);
     put_member(&line, "release", is_known ? ids[2] : NULL, false);
-    put_member(&line, "serial", is != NULL && is->serial[0] != '\0' ? is->serial : NULL, false);
+    put_member(&line, "serial", info != NULL && info->serial[0] != '\0' ? info->serial : NULL, false);
     put_member(&line, "path", path, false);
     put_member(&line, "port", station_port(path), false);
     put_member(&line, "seconds", took, true);

@@ -11,7 +11,7 @@
 #include <stdbool.h>
 #include <stdint.h>
 
-/* Opens what --report and --ports name. False if one can't be used, which is then said. */
+/* Opens the files that --report and --ports name. Returns false, after printing why, if one can't be used. */
 bool station_begin(const struct words *words);
 
 /* The image of the records from here on. */
@@ -26,7 +26,8 @@ void station_time(char text[32]);
 /* Prints these as members of a record in JSON. */
 void station_json(const char *path);
 
-/* A line of the report: how a board ended. A path or a device that isn't known is NULL. False if it can't be written, which is said. */
-bool station_add(int status, const char *report, const char *words, const char *path, const struct found *is, double seconds);
+/* Adds a line to the report: how a board ended. A path or a device that isn't known is NULL. Returns false, after printing why, if the line
+   can't be written. */
+bool station_add(int status, const char *report, const char *words, const char *path, const struct found *info, double seconds);
 
 #endif

@@ -9,7 +9,7 @@
 /* Returns whether the stream is a terminal, where a person sees what is printed, or types what is read. */
 bool terminal_is(FILE *stream);
 
-/* The columns and the lines of the terminal that standard error is. False if nobody says. */
+/* Finds the columns and lines of the terminal that standard error is. Returns false if the system doesn't say them. */
 bool terminal_size(int *columns, int *lines);
 
 /* The key that ends what is typed there. */

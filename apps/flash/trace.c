@@ -5,6 +5,7 @@
 #include "trace.h"
 #include "answer.h"
 #include "standard.h"
+#include "../common/names.h"
 #include "../common/text.h"
 
 #include <inttypes.h>
@@ -101,17 +102,17 @@ void trace_reset(struct trace *trace, const struct answer *answer, int64_t ms)
     fprintf(out, " - %" PRId64 "\n", ms);
 }
 
-void trace_begin(const struct trace *trace, const char *goal, const struct found *is, unsigned transfer, uint32_t actions,
+void trace_begin(const struct trace *trace, const char *goal, const struct found *info, unsigned transfer, uint32_t actions,
                  uint16_t restarts)
 {
     FILE *out;
     if (!trace->is_on)
         return;
     out = begin_line(trace);
-    fprintf(out, "begin %s %04x:%04x:%04x %s %u %u %s ", goal, is->vendor, is->product, is->release, is->path, is->interface, is->alternate,
-            is->is_upgrade ? "DFU" : "run-time");
-    text_hex(out, is->descriptor, is->descriptor_size);
-    fprintf(out, "%s %u %" PRIu32 " %u\n", is->descriptor_size == 0 ? "-" : "", transfer, actions, restarts);
+    fprintf(out, "begin %s %04x:%04x:%04x %s %u %u %s ", goal, info->vendor, info->product, info->release, info->path, info->interface,
+            info->alternate, info->is_upgrade ? "DFU" : "run-time");
+    text_hex(out, info->descriptor, info->descriptor_size);
+    fprintf(out, "%s %u %" PRIu32 " %u\n", info->descriptor_size == 0 ? "-" : "", transfer, actions, restarts);
 }
 
 void trace_abort(const struct trace *trace)

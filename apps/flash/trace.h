@@ -25,7 +25,7 @@ void trace_wait(struct trace *trace, uint32_t asked, const struct answer *answer
 void trace_reset(struct trace *trace, const struct answer *answer, int64_t ms);
 
 /* Writes the begin of a session: its goal, the device and its functional descriptor, the bytes of a block, and the limits. */
-void trace_begin(const struct trace *trace, const char *goal, const struct found *is, unsigned transfer, uint32_t actions,
+void trace_begin(const struct trace *trace, const char *goal, const struct found *info, unsigned transfer, uint32_t actions,
                  uint16_t restarts);
 
 /* Writes that the session is given up. */

@@ -11,7 +11,7 @@
    line is removed. With `only_looks` nothing is made, locked or changed. Returns false for the reason in `why`. */
 bool used_open(const char *list, bool only_looks, char **text, const char **why);
 
-/* Adds a line, and waits until the disk has it. False unless it is there whole. */
+/* Adds a line, and waits until the disk has it. Returns false unless the whole line is there. */
 bool used_add(const char *line, size_t length);
 
 #endif

@@ -146,9 +146,9 @@ bool value_verbose(const char *text, struct words *words)
 bool value_transfer(const char *text, struct words *words)
 {
     uint32_t bytes = 0;
-    bool is = is_count("--transfer-size takes bytes, from 1 to 4096", text, MOST_TRANSFER, &bytes);
+    bool is_read = is_count("--transfer-size takes bytes, from 1 to 4096", text, MOST_TRANSFER, &bytes);
     words->transfer = (uint16_t)bytes;
-    return is;
+    return is_read;
 }
 
 bool value_is_hexadecimal(const char *text, uint32_t *number, const char **rest)
@@ -208,8 +208,8 @@ bool value_stamp_at(const char *text, struct words *words)
     const char *rest = text + strspn(text, "0");
     uint32_t place = 0;
     bool is_zero = rest != text && *rest == ':';
-    bool is = (is_zero || value_is_length(text, &place, &rest)) && *rest == ':' && value_is_length(rest + 1, &words->stamp_bytes, &rest)
-              && *rest == '\0' && words->stamp_bytes <= STAMP_BYTES;
+    bool is_read = (is_zero || value_is_length(text, &place, &rest)) && *rest == ':'
+                   && value_is_length(rest + 1, &words->stamp_bytes, &rest) && *rest == '\0' && words->stamp_bytes <= STAMP_BYTES;
     words->stamp_place = place;
-    return is || words_refuse("--stamp-at takes a place and from 1 to 256 bytes, as 0x40:16", text);
+    return is_read || words_refuse("--stamp-at takes a place and from 1 to 256 bytes, as 0x40:16", text);
 }

@@ -1,5 +1,5 @@
 /* SPDX-License-Identifier: MIT OR Apache-2.0 */
-/* The values of options: each is read into `words`. False if it isn't understood, which is then said. */
+/* Reads the values of options into `words`. Each call returns false, after printing why, if it doesn't understand the value. */
 #ifndef DFU_FLASH_VALUES_H
 #define DFU_FLASH_VALUES_H
 

@@ -59,7 +59,7 @@ static const struct meaning fetched = {STATUS_UNRESET,
 /* Adds which image the device may have only if a block was sent. */
 void verdict_words(struct verdict *verdict, const struct session *session, const struct meaning *meaning)
 {
-    bool has_sent = (session->dfuse.is ? session->dfuse.watch.sent : session->watch.sent) != 0;
+    bool has_sent = (session->dfuse.is_active ? session->dfuse.watch.sent : session->watch.sent) != 0;
     verdict->status = meaning->status;
     if (meaning->device == NULL)
         snprintf(verdict->words, sizeof verdict->words, "%s", meaning->words);
@@ -87,7 +87,7 @@ static void take_end(struct verdict *verdict, const struct session *session)
     verdict_words(verdict, session, is_fetched ? &fetched : is_uncompared ? &uncompared[end] : &ends[end].meaning);
 }
 
-/* The report of a session with DFU 1.1. False if its number is none. */
+/* Finds the verdict on a session with DFU 1.1 by the number of its report. Returns false if dfu_host.h has no report of this number. */
 static bool take_report(struct verdict *verdict, const struct session *session)
 {
     uint32_t report = session->done.value;
@@ -105,7 +105,7 @@ struct verdict verdict_of(const struct session *session)
 {
     struct verdict verdict;
     memset(&verdict, 0, sizeof verdict);
-    if (session->end == END_REPORT && (session->dfuse.is ? dfuse_verdict(session, &verdict) : take_report(&verdict, session)))
+    if (session->end == END_REPORT && (session->dfuse.is_active ? dfuse_verdict(session, &verdict) : take_report(&verdict, session)))
         return verdict;
     take_end(&verdict, session);
     return verdict;

@@ -32,9 +32,9 @@ static bool is_job(struct words *words, enum job job)
 
 static bool is_upload(struct words *words, const char *out)
 {
-    bool is = is_job(words, JOB_UPLOAD);
+    bool is_taken = is_job(words, JOB_UPLOAD);
     words->file = out;
-    return is;
+    return is_taken;
 }
 
 /* -D FILE is FILE. */

@@ -47,13 +47,13 @@ struct words {
     const struct bay *bay;      /* of one of several devices: where it is; else NULL */
 };
 
-/* Reads the words into `words`. False if they aren't understood, which is then said on standard error. */
+/* Reads the command line into `words`. Returns false, after printing why, if it isn't understood. */
 bool words_read(struct words *words, int count, char **texts);
 
 /* Returns whether the options go together and with the job; if not, says why. */
 bool words_fit(const struct words *words);
 
-/* Says what isn't understood, and the word that it is about, which may be empty. Always false. */
+/* Prints what isn't understood, and the word that it is about, which may be empty. Returns false. */
 bool words_refuse(const char *what, const char *word);
 
 /* Print the help, and the version, on standard output. */

@@ -26,7 +26,7 @@ int work_refused(const struct session *session, const struct words *words, int32
    mode. */
 static struct dfu_ids target(const struct session *session, const struct words *words)
 {
-    struct dfu_ids ids = {session->wire.device->is.release, session->wire.device->is.product, session->wire.device->is.vendor};
+    struct dfu_ids ids = {session->wire.device->info.release, session->wire.device->info.product, session->wire.device->info.vendor};
     if (words->has_dfu_ids && words->vendor != ANY_ID)
         ids.vendor = words->vendor;
     if (words->has_dfu_ids && words->product != ANY_ID)
@@ -66,8 +66,8 @@ int work_begin(struct session *session, const struct words *words)
         return record_none(STATUS_FILE, words->json);
     error = device_open(session->wire.device);
     if (error != 0) {
-        session->wire.device->is.access = error;
-        return record_none(say_no_access(&session->wire.device->is), words->json);
+        session->wire.device->info.access = error;
+        return record_none(say_no_access(&session->wire.device->info), words->json);
     }
     if (words->job == JOB_DOWNLOAD && !take_entry(session, words))
         return record_none(STATUS_FILE, words->json);

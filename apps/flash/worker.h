@@ -26,8 +26,8 @@ struct worker {
     bool is_early;       /* it looks whether the device is another one than before, and as a rule it isn't */
 };
 
-/* Begins a process that flashes the device in the bay, with the image that was read. With `has_rows` it says how far it is. False if
-   the system has no more processes, which is then said. */
+/* Begins a process that flashes the device in the bay, with the image that was read. With `has_rows` it says how far it is.
+   Returns false, after printing why, if the system has no more processes. */
 bool worker_begin(struct worker *worker, const struct words *words, struct image *image, struct bay *bay, bool has_rows);
 
 /* Reads what has come. Each line of standard error is handed to `say`, with the worker. */

@@ -3,6 +3,7 @@
 #include "bus.h"
 #include "clock.h"
 #include "say.h"
+#include "../common/names.h"
 
 #include <string.h>
 
@@ -20,8 +21,8 @@ static void look(struct bus *bus)
 void bus_pass(struct bus *bus)
 {
     int32_t before = machine_state(&bus->machine);
-    int64_t now = clock_ms(), ms = before == DFU_STATE_APP_DETACH ? now - bus->told : machine_due(&bus->machine);
-    bus->told = now;
+    int64_t now = clock_ms(), ms = before == DFU_STATE_APP_DETACH ? now - bus->last_tick_ms : machine_due(&bus->machine);
+    bus->last_tick_ms = now;
     if (ms <= 0)
         return;
     machine_pass(&bus->machine, ms);
@@ -148,7 +149,7 @@ void bus_serve(struct bus *bus, const uint8_t setup[8])
 
 int bus_pause(struct bus *bus)
 {
-    int64_t left = bus->told + machine_due(&bus->machine) - clock_ms();
+    int64_t left = bus->last_tick_ms + machine_due(&bus->machine) - clock_ms();
     if (machine_state(&bus->machine) != DFU_STATE_APP_DETACH)
         return -1;
     return left < 0 ? 0 : (int)left;

@@ -17,8 +17,8 @@ struct bus {
     struct function functions[MODES];
     struct check check;
     struct installed installed;
-    int mode;     /* whose gadget is on the bus, or NOWHERE */
-    int64_t told; /* up to when the time was passed on to the machine, ms */
+    int mode;             /* whose gadget is on the bus, or NOWHERE */
+    int64_t last_tick_ms; /* up to when the time was passed on to the machine, ms */
 };
 
 /* Does the work that is due, and in appDETACH passes the time on. To be called once an answer is out, before a request, and before a

@@ -11,18 +11,18 @@ struct controller {
     int state;        /* its file `state`, which poll reports once it was written; -1 if there is none */
 };
 
-/* Opens the controller. Returns false if there is none of this name, which is said. */
+/* Opens the controller. Returns false, after printing why, if there is none of this name. */
 bool controller_open(struct controller *controller, const char *name);
 void controller_close(struct controller *controller);
 
 /* Returns whether the state was written since the last call; true if that can't be known. */
 bool controller_is_new_state(struct controller *controller);
 
-/* Put a gadget on the bus, and take it off. Return false if that failed, which is said. */
+/* Put a gadget on the bus, and take it off. Return false, after printing why, if that failed. */
 bool controller_join(const struct controller *controller, const char *gadget);
 bool controller_leave(const char *gadget);
 
-/* Reads a number of a gadget's device descriptor, as idVendor. Returns false if it can't be read, which is said. */
+/* Reads a number of a gadget's device descriptor, for example idVendor. Returns false, after printing why, if it can't be read. */
 bool controller_number(const char *gadget, const char *attribute, uint16_t *number);
 
 #endif

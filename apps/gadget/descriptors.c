@@ -38,12 +38,12 @@ static bool write_all(int ep0, const void *bytes, size_t length)
 
 bool descriptors_write(int ep0, int signals, uint8_t protocol, const uint8_t functional[9], const char *name)
 {
-    struct interface is = {.interface = {.bLength = sizeof is.interface,
-                                         .bDescriptorType = USB_DT_INTERFACE,
-                                         .bInterfaceClass = USB_CLASS_APP_SPEC,
-                                         .bInterfaceSubClass = 1,
-                                         .bInterfaceProtocol = protocol,
-                                         .iInterface = 1}};
+    struct interface dfu = {.interface = {.bLength = sizeof dfu.interface,
+                                          .bDescriptorType = USB_DT_INTERFACE,
+                                          .bInterfaceClass = USB_CLASS_APP_SPEC,
+                                          .bInterfaceSubClass = 1,
+                                          .bInterfaceProtocol = protocol,
+                                          .iInterface = 1}};
     size_t count = strlen(name) + 1, length = offsetof(struct named, name) + count;
     struct named named = {.head = {htole32(FUNCTIONFS_STRINGS_MAGIC), htole32((uint32_t)length), htole32(1), htole32(1)},
                           .language = htole16(0x0409)};
@@ -59,7 +59,7 @@ bool descriptors_write(int ep0, int signals, uint8_t protocol, const uint8_t fun
         return false;
     }
     memcpy(named.name, name, count);
-    memcpy(is.functional, functional, sizeof is.functional);
-    all.full = all.high = all.super = is;
+    memcpy(dfu.functional, functional, sizeof dfu.functional);
+    all.full = all.high = all.super = dfu;
     return write_all(ep0, &all, sizeof all) && write_all(ep0, &named, length);
 }

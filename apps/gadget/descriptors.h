@@ -7,7 +7,7 @@
 #include <stdint.h>
 
 /* Hands them in at endpoint 0, for each speed, with the interface's name, of up to DESCRIPTORS_NAME - 1 bytes, and the eventfd that is to
-   count the events. False, with errno. */
+   count the events. Returns false, with errno, if FunctionFS doesn't take them. */
 #define DESCRIPTORS_NAME 64
 bool descriptors_write(int ep0, int signals, uint8_t protocol, const uint8_t functional[9], const char *name);
 

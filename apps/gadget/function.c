@@ -48,7 +48,7 @@ void function_close(struct function *function)
 {
     if (function->ep0 >= 0)
         close(function->ep0);
-    if (function->signals > 0)
+    if (function->signals >= 0)
         close(function->signals);
     function->ep0 = function->signals = -1;
 }

@@ -28,18 +28,18 @@ struct events {
 
 enum { PROTOCOL_RUN_TIME = 1, PROTOCOL_DFU = 2 };
 
-/* Opens endpoint 0 and hands in the descriptors. False if FunctionFS takes none of them, which is said. */
+/* Opens endpoint 0 and hands in the descriptors. Returns false, after printing why, if FunctionFS takes none of them. */
 bool function_open(struct function *function, const char *gadget, uint8_t protocol, const uint8_t functional[9], const char *name);
 void function_close(struct function *function);
 
-/* Its interface has this name from here on: if it had another one, it is opened anew, while its gadget isn't on the bus. False if
-   FunctionFS failed, which is said. */
+/* Gives its interface this name. If it had another one, it is opened anew, while its gadget isn't on the bus. Returns false, after printing
+   why, if FunctionFS failed. */
 bool function_rename(struct function *function, const char *name);
 
-/* Its gadget is about to come to the bus: what is unread is of the time before, and is dropped. */
+/* Drops the unread events, which are of the time before; the caller must do so before its gadget comes to the bus. */
 void function_begin(struct function *function);
 
-/* To be called before each wait for events. */
+/* Prepares a wait for events; the caller must call it before each. */
 void function_rest(struct function *function);
 
 /* Reads the events that are there. `is_new_state`: the controller's state was written since the last call, as each reset does. Returns

@@ -94,7 +94,7 @@ void machine_again(struct machine *machine)
 }
 
 /* A download ends a trial first: it would write over the image that was confirmed. So does an upload if no start is left: a host would
-   verify an image that starts no more. False if the setup is to be stalled. */
+   verify an image that starts no more. Returns false if the setup must be stalled. */
 static bool make_room(struct machine *machine, const uint8_t setup[8])
 {
     int32_t answer = dfu_trial_transfer(&machine->trial, &machine->device, setup);

@@ -17,7 +17,7 @@
 #define NEW_SECTOR 4096 /* of a new file */
 #define PIECE 65536
 
-/* The bytes of a file, up to `most` and one more. NULL, which is said. */
+/* Reads up to `most` bytes of a file, and one more. Returns NULL, after printing why, if that failed. */
 static uint8_t *read_image(const char *name, size_t most, size_t *length)
 {
     FILE *file = fopen(name, "rbe");
@@ -36,7 +36,7 @@ static uint8_t *read_image(const char *name, size_t most, size_t *length)
     return is_read ? bytes : NULL;
 }
 
-/* Makes the content of a new medium, in memory. Returns NULL if that failed, which is said, with the status. */
+/* Makes the content of a new medium, in memory. Returns NULL with the status, after printing why, if that failed. */
 static uint8_t *make_content(const struct words *words, size_t size, int *status)
 {
     size_t length = 0;
@@ -97,9 +97,11 @@ static int overwrite(const struct words *words)
     else if ((content = make_content(words, size, &status)) != NULL) {
         is_done = (medium.is_device || ftruncate(medium.file, (off_t)size) == 0) && medium_write(&medium, 0, content, size)
                   && fsync(medium.file) == 0;
-        status = is_done || say_failed(words->medium, "can't be written") ? STATUS_DONE : STATUS_FILE;
-        if (!is_done)
+        status = is_done ? STATUS_DONE : STATUS_FILE;
+        if (!is_done) {
+            say_failed(words->medium, "can't be written");
             medium_forget(&medium, 0, size);
+        }
         free(content);
     }
     medium_close(&medium);
@@ -161,8 +163,8 @@ static int make_new(const struct words *words)
 
 int make_medium(const struct words *words)
 {
-    struct stat is;
-    if (lstat(words->medium, &is) == 0)
+    struct stat found;
+    if (lstat(words->medium, &found) == 0)
         return overwrite(words);
     if (errno == ENOENT)
         return make_new(words);

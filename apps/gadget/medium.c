@@ -44,11 +44,11 @@ size_t medium_head(uint32_t tries)
 static int open_there(const char *name, int flags)
 {
     int file = open(name, flags | O_CLOEXEC | O_NOFOLLOW | O_NONBLOCK);
-    struct stat is;
+    struct stat found;
     if (file >= 0 || errno != ELOOP)
         return file;
     file = open(name, flags | O_CLOEXEC | O_NONBLOCK);
-    if (file >= 0 && (fstat(file, &is) != 0 || !S_ISBLK(is.st_mode))) {
+    if (file >= 0 && (fstat(file, &found) != 0 || !S_ISBLK(found.st_mode))) {
         close(file);
         errno = ELOOP;
         return -1;
@@ -56,11 +56,11 @@ static int open_there(const char *name, int flags)
     return file;
 }
 
-static bool take_size(struct medium *medium, const struct stat *is)
+static bool take_size(struct medium *medium, const struct stat *found)
 {
     unsigned physical = 0;
     off_t end = lseek(medium->file, 0, SEEK_END);
-    medium->is_device = S_ISBLK(is->st_mode);
+    medium->is_device = S_ISBLK(found->st_mode);
     medium->sector = SECTOR;
     if (medium->is_device && ioctl(medium->file, BLKPBSZGET, &physical) == 0 && physical > SECTOR && physical <= 65536)
         medium->sector = physical;
@@ -77,21 +77,21 @@ static bool take_alone(const struct medium *medium, enum medium_use use)
 }
 
 /* Who may write it can also make it shorter, which ends a program that has it mapped. */
-static bool is_shared(const struct stat *is)
+static bool is_shared(const struct stat *found)
 {
-    return S_ISREG(is->st_mode) && ((is->st_mode & 022) != 0 || (is->st_uid != geteuid() && is->st_uid != 0));
+    return S_ISREG(found->st_mode) && ((found->st_mode & 022) != 0 || (found->st_uid != geteuid() && found->st_uid != 0));
 }
 
 static bool look(struct medium *medium, enum medium_use use)
 {
-    struct stat is;
-    if (fstat(medium->file, &is) != 0)
+    struct stat found;
+    if (fstat(medium->file, &found) != 0)
         return say_failed(medium->name, "can't be looked at");
-    if (!S_ISREG(is.st_mode) && !S_ISBLK(is.st_mode))
+    if (!S_ISREG(found.st_mode) && !S_ISBLK(found.st_mode))
         return say_wrong(medium->name, "it is neither a regular file nor a block device");
-    if (use != MEDIUM_READ && is_shared(&is))
+    if (use != MEDIUM_READ && is_shared(&found))
         say_wrong(medium->name, "warning: other users may write it");
-    return take_size(medium, &is) && take_alone(medium, use);
+    return take_size(medium, &found) && take_alone(medium, use);
 }
 
 bool medium_open(struct medium *medium, const char *name, enum medium_use use, size_t head)
@@ -181,10 +181,10 @@ static bool is_kept(const struct medium *medium, size_t at, size_t length)
 {
     size_t page = (size_t)sysconf(_SC_PAGESIZE), from = at / page * page;
     unsigned char kept[MEDIUM_MOST_WRITE / 4096 + 2] = {0};
-    bool is = mincore((void *)(uintptr_t)(medium->bytes + from), at + length - from, kept) != 0;
+    bool has_page = mincore((void *)(uintptr_t)(medium->bytes + from), at + length - from, kept) != 0;
     for (size_t each = 0; each < sizeof kept; each++)
-        is = is || (kept[each] & 1) != 0;
-    return is;
+        has_page = has_page || (kept[each] & 1) != 0;
+    return has_page;
 }
 
 /* Linux drops no page that is mapped, so these bytes are not mapped meanwhile. */

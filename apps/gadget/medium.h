@@ -27,15 +27,15 @@ enum { MEDIUM_HEAD = 32, MEDIUM_TRIAL_SECTOR = 4096, MEDIUM_TRIAL_HEAD = 2 * MED
 size_t medium_head(uint32_t tries);
 
 /* Opens what is there: a regular file that is no link, or a block device. For writing, nobody else may have it: no other
-   dfu-gadget, and of a device no file system that is mounted. False, which is said. */
+   dfu-gadget, and of a device no file system that is mounted. Returns false, after printing why, if that fails. */
 bool medium_open(struct medium *medium, const char *name, enum medium_use use, size_t head);
 
 /* Opens a medium as medium_open does, and maps it. */
 bool medium_map(struct medium *medium, const char *name, enum medium_use use, size_t head);
 void medium_close(struct medium *medium);
 
-/* With images on trial several programs write the medium in turn. Waits for the turn, and gives it back, as its end does too. False, which
-   is said. */
+/* With images on trial several programs write the medium in turn. medium_turn waits for the turn, and medium_give_turn gives
+   it back, as the end of the program does too. Returns false, after printing why, if there is no turn. */
 bool medium_turn(const struct medium *medium);
 void medium_give_turn(const struct medium *medium);
 
@@ -48,12 +48,11 @@ size_t medium_wanted(size_t most, size_t sector, size_t head);
 /* The most bytes of an image of a medium with `size` bytes. */
 size_t medium_most(size_t size, size_t head);
 
-/* Puts bytes at their place, and on the disk. False if that failed, with errno. */
+/* Puts bytes at their place, and on the disk. Returns false, with errno, if that failed. */
 bool medium_write(const struct medium *medium, size_t at, const uint8_t *bytes, size_t length);
 
-/* After a write that failed: Linux keeps the bytes in its memory, and gives them to whoever reads, though the disk hasn't got them. They
-   are dropped, so that what is read comes from the disk. False if they stay; of a medium that is mapped, `length` is at most
-   MEDIUM_MOST_WRITE. */
+/* Drops the bytes of a write that failed from Linux's memory, because Linux would give them to readers though the disk hasn't got them.
+   Returns false if they stay. Of a medium that is mapped, `length` must be at most MEDIUM_MOST_WRITE. */
 #define MEDIUM_MOST_WRITE 4096
 bool medium_forget(const struct medium *medium, size_t at, size_t length);
 

@@ -11,8 +11,8 @@
 /* The folder in front of all of these: "" but in tests (--root). */
 extern const char *paths_root;
 
-/* /sys/kernel/config/usb_gadget/GADGET/ATTRIBUTE, /dev/usb-ffs/GADGET/ep0, /sys/class/udc/CONTROLLER/ATTRIBUTE. False if the path
-   is too long. */
+/* Make /sys/kernel/config/usb_gadget/GADGET/ATTRIBUTE, /dev/usb-ffs/GADGET/ep0 and /sys/class/udc/CONTROLLER/ATTRIBUTE. Return false if
+   the path is too long. */
 bool path_of_gadget(char path[MOST_PATH], const char *gadget, const char *attribute);
 bool path_of_function(char path[MOST_PATH], const char *gadget);
 bool path_of_controller(char path[MOST_PATH], const char *controller, const char *attribute);
@@ -20,7 +20,7 @@ bool path_of_controller(char path[MOST_PATH], const char *controller, const char
 /* Below /proc: sys/kernel/osrelease and filesystems. */
 bool path_of_kernel(char path[MOST_PATH], const char *name);
 
-/* The first line of a file, without its end. False, with errno, if it can't be read. */
+/* Reads the first line of a file, without its end. Returns false, with errno, if it can't be read. */
 bool path_line(const char *path, char *line, size_t room);
 
 /* A name that may be part of a path: no slash, not empty, and no dot in front. */

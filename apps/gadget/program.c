@@ -13,18 +13,27 @@
 #include <sys/wait.h>
 #include <unistd.h>
 
+/* Gives the program /dev/null as its standard input. If that descriptor was closed, open returns its number, and the program keeps it. */
+static bool take_no_input(void)
+{
+    int nothing = open("/dev/null", O_RDONLY);
+    bool is_input = nothing >= 0 && dup2(nothing, STDIN_FILENO) >= 0;
+    if (nothing > STDIN_FILENO)
+        close(nothing);
+    return is_input;
+}
+
 static void become(const char *program, const char *medium, uint32_t at, uint32_t length)
 {
     char begin[16], count[16], own[4096], named[4096];
     char *words[] = {own, named, begin, count, NULL};
-    int nothing = open("/dev/null", O_RDONLY);
     bool fits =
         snprintf(own, sizeof own, "%s", program) < (int)sizeof own && snprintf(named, sizeof named, "%s", medium) < (int)sizeof named;
     snprintf(begin, sizeof begin, "%" PRIu32, at);
     snprintf(count, sizeof count, "%" PRIu32, length);
     setpgid(0, 0);
     stop_forget();
-    if (fits && nothing >= 0 && dup2(nothing, STDIN_FILENO) >= 0 && dup2(STDERR_FILENO, STDOUT_FILENO) >= 0)
+    if (fits && take_no_input() && dup2(STDERR_FILENO, STDOUT_FILENO) >= 0)
         execvp(own, words);
     say_failed(program, "can't be run");
     _exit(127);

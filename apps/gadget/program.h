@@ -5,11 +5,12 @@
 
 #include <stdint.h>
 
-/* Starts PROGRAM MEDIUM AT LENGTH by itself, not by a shell, in a group of processes of its own; what it prints goes to the log. Its
-   process, or -1, which is said. *child is then a descriptor that poll reports once it ended, or -1 if there can be none. */
+/* Starts PROGRAM MEDIUM AT LENGTH by itself, not by a shell, in a group of processes of its own; what it prints goes to the log. 
+   Returns its process, or -1 after printing why. *child is then a descriptor that poll reports once the process ended, or -1 if the system
+   gives none. */
 int program_start(const char *program, const char *medium, uint32_t at, uint32_t length, int *child);
 
-/* Waits for it, and says how it ended: its status, or -1 if a signal ended it. */
+/* Waits for the process. Returns its status, or -1 if a signal ended it. */
 int program_end(int process);
 
 #endif

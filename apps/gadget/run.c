@@ -145,7 +145,9 @@ int run_device(const struct words *words)
     struct medium medium = {.file = -1};
     int status;
     bus.mode = NOWHERE;
-    bus.controller.state = bus.functions[APPLICATION].ep0 = bus.functions[UPGRADE].ep0 = -1;
+    bus.controller.state = -1;
+    for (int mode = 0; mode < MODES; mode++)
+        bus.functions[mode].ep0 = bus.functions[mode].signals = -1;
     bus.check = (struct check){.program = words->check, .medium = words->medium};
     bus.installed = (struct installed){.command = words->command, .medium = words->medium, .child = -1};
     say_is_verbose = words->verbose;

@@ -2,6 +2,7 @@
 /* The lines on standard error. A request has seven words with one space between, as an action of dfu-flash has. */
 #include "say.h"
 #include "../common/fresh.h"
+#include "../common/names.h"
 #include "../common/text.h"
 
 #include <errno.h>
@@ -13,16 +14,6 @@
 #define SHORT_BYTES 8 /* an answer of up to so many is shown byte by byte */
 
 bool say_is_verbose;
-
-static const char *const requests[] = {"DETACH", "DNLOAD", "UPLOAD", "GETSTATUS", "CLRSTATUS", "GETSTATE", "ABORT"};
-static const char *const states[] = {"appIDLE",        "appDETACH",        "dfuIDLE",     "dfuDNLOAD-SYNC",         "dfuDNBUSY",
-                                     "dfuDNLOAD-IDLE", "dfuMANIFEST-SYNC", "dfuMANIFEST", "dfuMANIFEST-WAIT-RESET", "dfuUPLOAD-IDLE",
-                                     "dfuERROR"};
-
-const char *state_name(int32_t state)
-{
-    return state >= 0 && (size_t)state < sizeof states / sizeof *states ? states[state] : "?";
-}
 
 bool say_wrong(const char *name, const char *why)
 {
@@ -89,14 +80,13 @@ static void print_answer(FILE *file, const uint8_t setup[8], int32_t answer, con
 void say_request(const uint8_t setup[8], int32_t answer, const uint8_t *out, int32_t state, int64_t ms)
 {
     static uint64_t number;
-    size_t request = setup[1];
     FILE *file;
     number++;
     if (!say_is_verbose)
         return;
     file = begin_line();
-    fprintf(file, "%" PRIu64 " %s %u %u ", number, request < sizeof requests / sizeof *requests ? requests[request] : "?",
-            (unsigned)(setup[2] | setup[3] << 8), (unsigned)(setup[6] | setup[7] << 8));
+    fprintf(file, "%" PRIu64 " %s %u %u ", number, request_name(setup[1]), (unsigned)(setup[2] | setup[3] << 8),
+            (unsigned)(setup[6] | setup[7] << 8));
     print_answer(file, setup, answer, out);
     fprintf(file, " %s %" PRId64 "\n", state_name(state), ms);
 }

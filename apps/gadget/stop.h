@@ -17,8 +17,8 @@ int stop_descriptor(void);
 /* Sets the signals back, in a child before its program. */
 void stop_forget(void);
 
-/* Ends the program with STATUS_MEDIUM, which is said, because the medium can't be read any more. Endpoint 0 is closed with it, and so the
-   gadget leaves the bus. */
+/* Prints that the medium can't be read any more, and ends the program with STATUS_MEDIUM. Endpoint 0 is closed with it, and so the gadget
+   leaves the bus. */
 _Noreturn void stop_lost(void);
 
 /* Has a page of the mapping that can't be read end the program so. */

@@ -39,7 +39,7 @@ static int say_result(const char *name, int32_t result)
     }
 }
 
-/* Has the medium in its turn. False, which is said. */
+/* Maps the medium and waits for its turn. Returns false, after printing why, if one of both fails. */
 static bool take_medium(struct medium *medium, const char *name)
 {
     stop_at_lost_medium();

@@ -30,14 +30,15 @@ struct words {
     uint32_t busy_ms, manifest_ms, least;
 };
 
-/* Reads the words into `words`, and the file of --config before them, so that the words win. STATUS_DONE; or STATUS_WORDS if they
-   aren't understood, or STATUS_FILE if the file can't be read, which is said. */
+/* Reads the words into `words`, and the file of --config before them, so that the words win. Returns STATUS_DONE; or, after
+   printing why, STATUS_WORDS if they aren't understood, or STATUS_FILE if the file can't be read. */
 int words_read(struct words *words, int count, char **texts);
 
-/* Takes an option by its name, as the command line or the file has it; `value` is NULL if there is none. False, which is said. */
+/* Takes an option by its name, as the command line or the file has it; `value` is NULL if there is none. Returns false,
+   after printing why, if the option isn't taken. */
 bool words_option(struct words *words, const char *name, const char *value);
 
-/* Reads the file of --config. STATUS_DONE, or as words_read. */
+/* Reads the file of --config. Returns as words_read. */
 int config_read(struct words *words);
 
 /* Print the help, and the version, on standard output. */

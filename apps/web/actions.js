@@ -23,7 +23,7 @@ export function actionOf({ what, value, setup }) {
   return parts.request === REQUEST.DETACH ? `${name}, within ${parts.value} ms` : name
 }
 
-// What an answer means: the code, the state and the wait of a status, a state, or nothing.
+// Returns the meaning of an answer in words: code, state and wait of a status, a state, or nothing.
 function meaningOf({ setup }, bytes) {
   const { request } = partsOf(setup)
   const state = stateOf(request, bytes)
@@ -33,7 +33,7 @@ function meaningOf({ setup }, bytes) {
   return `${CODES[bytes[0]] ?? '?'}, ${name}${pollOf(bytes) > 0 ? `, wait ${pollOf(bytes)} ms` : ''}`
 }
 
-// What the host hears, and the bytes of it.
+// Returns the words for what the host is told of an action, and the bytes of the answer.
 export function hearsOf({ action, seen, bytes }) {
   if (seen !== SEEN.BYTES) return [HEARS[seen], '']
   if (bytes.length === 0) return ['no bytes', '']

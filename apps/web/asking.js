@@ -37,7 +37,7 @@ export class Asking {
       'Choose the device', 'It does not come back', pick)
   }
 
-  // Whether the device was unplugged: what counts is that it left, and not what is clicked.
+  // Asks a person to unplug the device. Returns whether it left; a click alone doesn't count.
   async replug(isGone) {
     this.show('This system could not reset the device. Pull its plug now, and put it in again.', '', 'It can\'t be unplugged')
     let isGivenUp = false

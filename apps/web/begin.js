@@ -17,12 +17,12 @@ export const canUpload = ({ descriptor }) => hasAttribute(descriptor, ATTRIBUTE.
 export const isDfuse = ({ descriptor }) => speaksDfuse(descriptor)
 
 // A device that is to be reset, and neither leaves by itself nor can be reset here, doesn't come to DFU mode.
-export const cannotDetach = is => !is.isUpgrade && !canReset() && !willDetach(is)
+export const cannotDetach = info => !info.isUpgrade && !canReset() && !willDetach(info)
 
 // To compare, a device is brought to DFU mode again after its last reset.
-export const canCompare = is => canUpload(is) && (canReset() || willDetach(is))
+export const canCompare = info => canUpload(info) && (canReset() || willDetach(info))
 
-export const goalOf = (is, wantsVerified) => (wantsVerified && canCompare(is) ? 'verified' : 'download')
+export const goalOf = (info, wantsVerified) => (wantsVerified && canCompare(info) ? 'verified' : 'download')
 
 // A descriptor with no more bytes of a block than are carried.
 export function cut(descriptor) {
@@ -49,11 +49,11 @@ const isOdd = refusal => ODD.includes(refusal)
 // In run-time mode the functional descriptor says no more than how the device is brought to DFU mode, and there it has one that counts
 // (USB DFU 1.1, section 4.2.4, has them alike). So if that of an interface of run-time mode is odd another one is taken in its place.
 // session.js sees to it that no block is sent by that. Null if none does.
-export function standIn(is, refusal) {
-  if (!is.saysRuntime || !isOdd(refusal)) return null
-  const another = new Uint8Array([FUNCTIONAL.BYTES, FUNCTIONAL.TYPE, ATTRIBUTE.CAN_DOWNLOAD | ATTRIBUTE.CAN_UPLOAD,
+export function standIn(info, refusal) {
+  if (!info.saysRuntime || !isOdd(refusal)) return null
+  const substitute = new Uint8Array([FUNCTIONAL.BYTES, FUNCTIONAL.TYPE, ATTRIBUTE.CAN_DOWNLOAD | ATTRIBUTE.CAN_UPLOAD,
     1000 & 0xff, 1000 >> 8, 64, 0, FUNCTIONAL.VERSION_1_1 & 0xff, FUNCTIONAL.VERSION_1_1 >> 8])
   // With wTransferSize 0 the rest counts: bmAttributes and wDetachTimeOut.
-  if (refusal === REFUSAL.BAD_DESCRIPTOR) another.set(is.descriptor.slice(2, 5), 2)
-  return another
+  if (refusal === REFUSAL.BAD_DESCRIPTOR) substitute.set(info.descriptor.slice(2, 5), 2)
+  return substitute
 }

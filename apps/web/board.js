@@ -1,8 +1,8 @@
 // SPDX-License-Identifier: MIT OR Apache-2.0
 // The device of a session: opened, let go, and found again after it left. WebUSB doesn't say to which port a device is plugged in. So it
-// is found again as one that was not there before, of which there is no second: with the same serial number, if both have one.
-// One that the page may not see a person has to choose. That it is no other board session.js sees, by what it was before in the
-// same mode.
+// is found again as one that was not there before, of which there is no second: with the same serial number, if both have one. One that
+// the page may not see a person has to choose. session.js sees to it that the device is no other board, because it compares it with what
+// was there before in the same mode.
 import { LATE } from './clock.js'
 import { releaseOf, saidOf, settingsOf } from './descriptors.js'
 import { INTERFACE } from './names.js'
@@ -31,7 +31,7 @@ async function within(clock, promise) {
   return result
 }
 
-// What a device says of each of these settings, before one is chosen; it is closed again.
+// Reads what a device says of each of these settings, before one is chosen, and closes it again.
 export async function peek(device, clock, settings) {
   await within(clock, device.open())
   try {
@@ -64,7 +64,7 @@ export class Board {
   async choose(device) {
     for (const one of await this.usb.getDevices()) if (one !== device) this.bystanders.add(one)
     await this.open(device)
-    this.serial = this.is.serial
+    this.serial = this.info.serial
   }
 
   // Opens it and claims its interface, and reads what it is.
@@ -77,7 +77,7 @@ export class Board {
       if (isSet || setting.alternate !== 0 || !closesUnheard()) await this.set(device, setting)
       const said = await saidOf(device, this.clock, setting)
       const ids = { vendor: device.vendorId, product: device.productId, release: releaseOf(device) }
-      this.is = { ...setting, ...ids, serial: device.serialNumber ?? '', title: device.productName ?? '', ...said }
+      this.info = { ...setting, ...ids, serial: device.serialNumber ?? '', title: device.productName ?? '', ...said }
     } catch (error) {
       await this.clock.limit(device.close(), OPEN_MS).catch(() => {})
       throw error
@@ -100,7 +100,7 @@ export class Board {
     }
   }
 
-  // Lets it go. Whether that is done: a device that can't be closed may still be at a transfer.
+  // Lets it go. Returns false if the device can't be closed, because it may still be at a transfer then.
   async close() {
     const device = this.handle
     Object.assign(this, { handle: null, hasLeft: false })
@@ -128,7 +128,7 @@ export class Board {
       const isThere = error.name !== 'NotFoundError' && (await this.usb.getDevices()).includes(device)
       return isThere ? 'stuck' : 'left'
     }
-    return this.is.alternate === 0 && closesUnheard() ? 'same' : 'anew'
+    return this.info.alternate === 0 && closesUnheard() ? 'same' : 'anew'
   }
 
   // Those that may be it.
@@ -149,7 +149,8 @@ export class Board {
     }
   }
 
-  // Whether it is back and open. A person is asked for it once it is overdue, and may say that it doesn't come.
+  // Waits for the device, and returns true once it is back and open. A person is asked for it once it is overdue, and may say that it
+  // doesn't come.
   async reopen() {
     await this.close()
     this.isMany = false

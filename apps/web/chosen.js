@@ -26,7 +26,7 @@ export class ChosenFile {
     Object.assign(this, { onChange, bytes: null, said: null, look: null, isDfuse: false, isAdded: false, name: '' })
     Object.assign(this, { choices: 0, isLocked: false, isForDfuse: false, setting: null })
     this.raw = new RawImage(bytes => this.take(bytes, this.name, true), ids)
-    // The same file may be chosen again, as one that was built anew.
+    // A file may be chosen a second time, because it may have been built anew.
     by('file').onclick = event => { event.target.value = '' }
     by('file').onchange = event => event.target.files[0] && this.read(event.target.files[0])
     by('fill').onchange = () => { this.convert(by('fill').checked ? FILL : FILL_NONE); this.render(); this.onChange() }
@@ -54,7 +54,7 @@ export class ChosenFile {
     return this.isForDfuse && mayBeRaw(this, this.bytes)
   }
 
-  // What a session takes of it.
+  // Returns the part of the file that a session takes.
   forSession() {
     const { bytes, isDfuse, said, look } = this
     return { bytes, isDfuse, isRaw: this.isRaw(), said, look }
@@ -66,7 +66,7 @@ export class ChosenFile {
     this.raw.refresh(isLocked)
   }
 
-  // What it is shown for: whether the device that is connected speaks DfuSe, and the setting of it that a person chose, or null.
+  // Sets for which device the file is shown: whether it speaks DfuSe, and the setting that a person chose, or null.
   fit(isForDfuse, setting) {
     if (isForDfuse === this.isForDfuse && setting === this.setting) return
     Object.assign(this, { isForDfuse, setting })

@@ -30,7 +30,7 @@ export class Clock {
     return !this.isStopped
   }
 
-  // What the promise comes to within so many milliseconds, or LATE. One that fails later is heard by nobody.
+  // Returns the promise's value if it has one within so many milliseconds, else LATE. One that fails later is heard by nobody.
   async limit(promise, ms) {
     let timer
     const late = new Promise(done => { timer = setTimeout(done, ms, LATE) })

@@ -6,14 +6,14 @@ import { FUNCTIONAL, digits, transferOf } from './names.js'
 
 const idsOf = ({ vendor, product }) => `${digits(vendor, 4)}:${digits(product, 4)}`
 
-export function describe(is) {
-  const serial = is.serial === '' ? '' : `serial number ${is.serial}`
-  const mode = is.isUpgrade ? 'in DFU mode' : 'in run-time mode'
-  const words = [is.title, idsOf(is), serial, mode, isDfuse(is) ? 'DfuSe' : '']
+export function describe(info) {
+  const serial = info.serial === '' ? '' : `serial number ${info.serial}`
+  const mode = info.isUpgrade ? 'in DFU mode' : 'in run-time mode'
+  const words = [info.title, idsOf(info), serial, mode, isDfuse(info) ? 'DfuSe' : '']
   by('device').textContent = words.filter(word => word !== '').map(plain).join(', ')
-  const transfer = is.descriptor.length >= FUNCTIONAL.BYTES_1_0 ? `, in blocks of ${transferOf(is.descriptor)} bytes` : ''
-  by('device').title = `interface ${is.interface}, setting ${is.alternate}${transfer}`
-  say('no-verify', canCompare(is) || isDfuse(is) ? '' : canUpload(is)
+  const transfer = info.descriptor.length >= FUNCTIONAL.BYTES_1_0 ? `, in blocks of ${transferOf(info.descriptor)} bytes` : ''
+  by('device').title = `interface ${info.interface}, setting ${info.alternate}${transfer}`
+  say('no-verify', canCompare(info) || isDfuse(info) ? '' : canUpload(info)
     ? 'On this system the image of this device can\'t be read back: that takes a reset of the bus.'
     : 'This device can\'t give its image back, so it can\'t be compared.')
 }

@@ -83,8 +83,8 @@ export async function nameAt(device, clock, index) {
   return String.fromCharCode(...units).split('\0')[0]
 }
 
-// What an open device says of a setting: its functional descriptor, from its configuration, or asked for; and its name. With DfuSe that is
-// a memory map, which a browser need not show.
+// Reads what an open device says of a setting: its functional descriptor, from its configuration, or asked for; and its name. With DfuSe
+// that is a memory map, which a browser need not show.
 export async function saidOf(device, clock, setting) {
   const bytes = await configurationBytes(device, clock)
   const found = functionalIn(bytes, setting.interface, setting.alternate)

@@ -151,7 +151,7 @@ export class Device extends Library {
     return taken(this.calls.dfu_core_code(BigInt(this.kept)))
   }
 
-  // Where the active image is on the medium.
+  // Returns the place of the active image on the medium.
   imagePlace() {
     taken(this.calls.dfu_core_image(...[this.config, this.medium, this.size, this.place].map(BigInt)))
     return this.read('dfu_place', this.place)

@@ -24,13 +24,13 @@ const ANY_DESCRIPTOR = new Uint8Array([FUNCTIONAL.BYTES, FUNCTIONAL.TYPE, ATTRIB
 const goesWith = (ofFile, ofDevice) => ofFile === ANY_ID || ofFile === ofDevice
 export const totalOf = elements => elements.reduce((sum, { length }) => sum + length, 0)
 
-// What doesn't fit together in what a person asks for, or null. A setting was chosen, or it is the one that the file names.
+// Returns the refusal of words of a person that don't go together, or null. A setting was chosen, or it is the one that the file names.
 export function wordsRefusal({ file, address, isChosen }) {
   if (!file.isDfuse) return address !== null && file.look.looks === LOOKS.DFUSE ? 'OwnAddress' : null
   return file.said.setting === FILE.SEVERAL && !isChosen ? 'Mixed' : null
 }
 
-// What makes a device none for a session, or null.
+// Returns the refusal of a device with which no session can begin, or null.
 export function deviceRefusal({ descriptor }) {
   if (!hasAttribute(descriptor, ATTRIBUTE.CAN_DOWNLOAD)) return REFUSAL.CANNOT_DOWNLOAD
   if (!canUpload({ descriptor })) return REFUSAL.CANNOT_UPLOAD

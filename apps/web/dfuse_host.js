@@ -26,7 +26,7 @@ export class DfuseHost extends Library {
     this.answer = this.reserve(MOST_ANSWER)
   }
 
-  // What a DfuSe file says, or { refusal }, a negative number.
+  // Returns the fields of a DfuSe file, or { refusal }, a negative number.
   readFile() {
     const at = this.record('dfuse_file')
     const refusal = this.calls.dfuse_read_file(...this.fileWords, BigInt(at))
@@ -83,7 +83,7 @@ export class DfuseHost extends Library {
     return this.calls.dfuse_begin(BigInt(this.session), ...this.words, BigInt(this.record('dfuse_plan', plan)))
   }
 
-  // What is to be done, with its setup and its body; null if the library refuses the record.
+  // Returns the next action, with its setup and its body; null if the library refuses the record.
   next() {
     const words = [BigInt(this.session), ...this.words, BigInt(this.body), BigInt(MOST_BODY), BigInt(this.action)]
     if (this.calls.dfuse_next(...words) !== 0) return null
@@ -93,7 +93,7 @@ export class DfuseHost extends Library {
     return action
   }
 
-  // What came of the action; `bytes` is what came with BYTES. Whether the library took it.
+  // Reports the result of the action to the library; `bytes` is the answer of BYTES. Returns whether the library took it.
   take(seen, bytes = new Uint8Array(0)) {
     this.bytes(this.answer, bytes.length).set(bytes)
     return this.calls.dfuse_take(BigInt(this.session), ...this.words, seen, BigInt(this.answer), BigInt(bytes.length)) === 0

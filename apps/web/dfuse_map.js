@@ -19,7 +19,7 @@ export function rangeText(range) {
 // As 08000000 4 bytes.
 export const elementText = ({ address, length }) => `${digits(address, 8)} ${counted(length, 'byte')}`
 
-// How many pages have an address of a part of the memory, up to the first that is on none.
+// Counts the pages that have an address of a part of the memory, up to the first address that is on none.
 export function pagesOf(ranges, start, end) {
   let pages = 0
   for (let at = start; at < end;) {
@@ -33,6 +33,6 @@ export function pagesOf(ranges, start, end) {
   return pages
 }
 
-// How many bytes of the elements have an address below this one.
+// Counts the bytes of the elements that have an address below this one.
 export const bytesBelow = (elements, address) =>
   elements.reduce((sum, one) => sum + Math.max(0, Math.min(one.length, address - one.address)), 0)

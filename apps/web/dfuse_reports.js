@@ -31,7 +31,7 @@ const REPORTS = {
     'In its application', 'The device is in its application, and no longer in DFU mode.', MAYBE],
 }
 
-// How the device left, after what Verified means; and the same for a person.
+// Words for how the device left, which follow those for Verified; and words for a person.
 const LEAVINGS = {
   [LEAVING.STAYED]: ['; the device stays in DFU mode', ' The device stays in DFU mode.'],
   [LEAVING.LEFT]: ['; the device starts its application', ' The device starts its application.'],
@@ -40,10 +40,10 @@ const LEAVINGS = {
 
 // ended: what DfuseSession.run answers, and no refusal.
 export function dfuseVerdictOf(ended, session) {
-  if (ended.end !== 'report') return { ...verdictOf(ended, session), says: '' }
+  if (ended.end !== 'report') return { ...verdictOf(ended, session), deviceText: '' }
   const [name, ...row] = REPORTS[ended.report]
   const [status, words, title, means, not] = rowOf(row, session.hasSent)
   const [leaving, meant] = ended.report === OUTCOME.VERIFIED ? LEAVINGS[ended.more] : ['', '']
   const code = ended.report === OUTCOME.REFUSED && ended.more !== 0 ? CODES[ended.more] : ''
-  return { name, status, words: words + leaving, title, means: means + meant, not, code, says: ended.says }
+  return { name, status, words: words + leaving, title, means: means + meant, not, code, deviceText: ended.deviceText }
 }

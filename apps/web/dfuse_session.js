@@ -29,30 +29,30 @@ export class DfuseSession {
 
   // 0, a refusal of dfuse_host.h, dfuse_file.h or dfu_host.h, or the name of one of dfu-flash's own. Nothing is sent.
   begin() {
-    const { is } = this.board
-    this.first = is
-    const early = wordsRefusal(this) ?? (is.isUpgrade ? null : 'RunTimeMode')
+    const { info } = this.board
+    this.first = info
+    const early = wordsRefusal(this) ?? (info.isUpgrade ? null : 'RunTimeMode')
       ?? (this.address === null && !this.file.isDfuse ? 'NoAddress' : null)
     if (early !== null) return early
-    const { refusal, elements } = imageOf(this.host, this.module, this.file, this.ids, { setting: is.alternate, address: this.address })
-    return refusal ?? deviceRefusal(is) ?? this.beginWith(elements)
+    const { refusal, elements } = imageOf(this.host, this.module, this.file, this.ids, { setting: info.alternate, address: this.address })
+    return refusal ?? deviceRefusal(info) ?? this.beginWith(elements)
   }
 
   beginWith(elements) {
-    const { name, descriptor } = this.board.is
+    const { name, descriptor } = this.board.info
     this.transfer = transferOf(descriptor)
     Object.assign(this, { elements, total: totalOf(elements) })
     this.limits ??= limitsOf(this.host.readMap(name).ranges ?? [], elements, this.transfer)
     return this.host.begin(name, elements, planOf(elements, this.limits, this.transfer, this.leaves))
   }
 
-  // Whether the device that is open is the one that the session was begun with, in the same setting, with the same map.
+  // Returns whether the open device is the one with which the session began, in the same setting, with the same map.
   isSame() {
-    const { is } = this.board
-    return is.isUpgrade && isAgain(this.first, is) && is.name === this.first.name && sameBytes(this.first.descriptor, is.descriptor)
+    const { info } = this.board
+    return info.isUpgrade && isAgain(this.first, info) && info.name === this.first.name && sameBytes(this.first.descriptor, info.descriptor)
   }
 
-  // Why the device is in dfuERROR it may say in a string of its own.
+  // A device may say in a string of its own why it is in dfuERROR.
   noteString(setup, { seen, bytes }) {
     if (!isStatus(setup) || seen !== SEEN.BYTES || bytes.length <= STRING_AT) return
     this.string = STATES[stateOf(REQUEST.GETSTATUS, bytes)] === 'dfuERROR' ? bytes[STRING_AT] : 0
@@ -75,7 +75,7 @@ export class DfuseSession {
     return answer
   }
 
-  // How the session goes on after an action, by dfuse_watch.h.
+  // Returns the course of the session after an action, by dfuse_watch.h.
   course({ body }, { seen, isReached = false, isGone = false }) {
     const { board, clock } = this
     const facts = { reached: isReached, gone: isGone, many: board.isMany, stopped: clock.isStopped, open: board.isOpen(),
@@ -105,27 +105,27 @@ export class DfuseSession {
   // A stop ends it: what was brought and not started is dropped. Once all was read back that is what is reported.
   async stop() {
     if (this.host.state().work === WORK.LEAVE)
-      return { end: 'report', report: OUTCOME.VERIFIED, more: this.watch.closes() ? LEAVING.UNKNOWN : LEAVING.STAYED, says: '' }
+      return { end: 'report', report: OUTCOME.VERIFIED, more: this.watch.closes() ? LEAVING.UNKNOWN : LEAVING.STAYED, deviceText: '' }
     this.trace.abort()
     if (this.board.isOpen()) await this.send(ABORT, NONE)
     return { end: 'aborted' }
   }
 
-  // Why the device refused, in its own words.
-  async saysOf(report) {
+  // Returns the device's own words for its refusal.
+  async deviceTextOf(report) {
     if (report !== OUTCOME.REFUSED || this.string === 0 || !this.board.isOpen()) return ''
     return nameAt(this.board.handle, this.clock, this.string).catch(() => '')
   }
 
   // { end: 'report', report, more, says }, or an end without a report.
   async run() {
-    this.trace.begin(this.goal, { ...this.board.is, ...this.ids }, { transfer: this.transfer, ...this.limits })
+    this.trace.begin(this.goal, { ...this.board.info, ...this.ids }, { transfer: this.transfer, ...this.limits })
     for (;;) {
       if (this.clock.isStopped && this.host.state().work !== WORK.OVER) return this.stop()
       const action = this.host.next()
       if (action === null) return { end: 'broken' }
       if (action.what === WHAT.DONE)
-        return { end: 'report', report: action.value, more: action.more, says: await this.saysOf(action.value) }
+        return { end: 'report', report: action.value, more: action.more, deviceText: await this.deviceTextOf(action.value) }
       const ended = await this.step(action)
       if (ended !== null) return ended
     }

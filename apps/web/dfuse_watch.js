@@ -11,17 +11,17 @@ export class DfuseWatch {
     Object.assign(this, { host, calls: host.calls, record: host.record('dfuse_watch'), facts: host.record('dfu_facts') })
   }
 
-  // Whether the device was asked to leave: then it may be gone with any request.
+  // Returns whether the device was asked to leave, because it may be gone with any request after that.
   closes() {
     return this.calls.dfuse_watch_closes(BigInt(this.host.session)) === 1
   }
 
-  // How many milliseconds a wait takes.
+  // Returns how many milliseconds a wait takes.
   wait(ms) {
     return this.calls.dfuse_watch_wait(BigInt(this.record), ms) >>> 0
   }
 
-  // What follows the action, whose body begins with `command`.
+  // Returns the course after the action, whose body begins with `command`.
   after(command, seen, facts) {
     writeRecord(this.host.view(), 'dfu_facts', this.facts, facts)
     return this.calls.dfuse_watch_after(BigInt(this.record), BigInt(this.host.session), BigInt(this.host.action), command, seen,

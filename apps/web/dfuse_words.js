@@ -24,7 +24,7 @@ export class DfuseWords {
     return by('leave').checked
   }
 
-  // isDfuse: the device speaks DfuSe. What is written there is always compared.
+  // isDfuse: the device speaks DfuSe. An image that is written at an address is always compared.
   show(isDfuse, needsAddress) {
     by('verify-row').hidden = isDfuse
     by('leave-row').hidden = !isDfuse

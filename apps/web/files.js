@@ -5,8 +5,8 @@ import { Host, LOOKS, REFUSAL } from './host.js'
 
 const NO_SUFFIX = [REFUSAL.FILE_TOO_SHORT, REFUSAL.FILE_NO_SIGNATURE]
 
-// { isDfuse, said, look }: said is what the library says of the file, or { refusal }; look is what it looks to be. What begins as a DfuSe
-// file is none without addresses, whatever is wrong with it; but a sound file of DFU 1.1 may have any image.
+// { isDfuse, said, look }: said is what the library says of the file, or { refusal }; look is what it looks to be. A file that begins as a
+// DfuSe file is none without addresses, whatever is wrong with it; but a sound file of DFU 1.1 may have any image.
 export function readFile(module, bytes, name = '') {
   const host = new Host(module, bytes)
   const [said, look] = [host.readFile(), host.look(name)]
@@ -14,8 +14,8 @@ export function readFile(module, bytes, name = '') {
   return { isDfuse, said: isDfuse ? new DfuseHost(module, bytes).readFile() : said, look }
 }
 
-// Whether it has no suffix, and any bytes.
+// Returns whether the file has bytes, and no suffix.
 export const lacksSuffix = ({ isDfuse, said }, bytes) => !isDfuse && NO_SUFFIX.includes(said.refusal) && bytes.length > 0
 
-// Whether it is a raw image, as far as anybody can see.
+// Returns whether the file may be a raw image, because nothing else is seen in it.
 export const mayBeRaw = (file, bytes) => lacksSuffix(file, bytes) && file.look.looks === LOOKS.RAW

@@ -28,8 +28,8 @@ export class FlashView {
   // own: navigator.usb, or undefined where a browser has none. usb: that, or a simulated board's.
   constructor(modules, own) {
     Object.assign(this, { modules, own, usb: own, board: null, clock: null, isGoing: false, simulated: 0, opening: Promise.resolve() })
-    this.outcome = new Outcome()
-    this.file = new ChosenFile(modules, () => this.lookAnew(), () => (this.board?.isOpen() ? this.board.is : null))
+    Object.assign(this, { refused: false, outcome: new Outcome() })
+    this.file = new ChosenFile(modules, () => this.lookAnew(), () => (this.board?.isOpen() ? this.board.info : null))
     this.memories = new Memories(modules.host, place => this.open(this.memories.device, place).catch(error => this.sayNoAccess(error)))
     this.words = new DfuseWords(() => this.look())
     this.listen()
@@ -59,16 +59,21 @@ export class FlashView {
     by('stop').disabled = !this.isGoing || this.clock.isStopped
     by('connect').disabled = this.isGoing || this.own === undefined
     by('simulate').disabled = by('next').disabled = this.isGoing
-    by('hint').textContent = this.isGoing ? this.clock.isStopped ? CANCELLING : 'Leave the device plugged in, and this page open.'
-      : isReady || this.outcome.isShown() ? '' : this.file.bytes === null ? 'A file is missing.'
-      : this.board === null ? 'A device is missing.' : this.file.isGood() ? '' : 'The file is refused.'
+    by('hint').textContent = this.hint(isReady)
     for (const id of ['verify', 'sure', 'settings']) by(id).disabled = this.isGoing
-    this.file.lock(this.isGoing)
-    this.words.lock(this.isGoing)
+    for (const view of [this.file, this.words]) view.lock(this.isGoing)
     this.words.show(this.file.isForDfuse, this.file.isForDfuse && this.file.isGood() && !this.file.isDfuse)
   }
 
-  // Lets the device go that was connected. That it is the right board, a person says of this one alone.
+  // The line below the buttons: a session that goes on, or a thing that is missing before one can begin.
+  hint(isReady) {
+    if (this.isGoing) return this.clock.isStopped ? CANCELLING : 'Leave the device plugged in, and this page open.'
+    if (isReady || this.outcome.isShown()) return ''
+    if (this.file.bytes === null || this.board === null) return this.file.bytes === null ? 'A file is missing.' : 'A device is missing.'
+    return this.file.isGood() ? '' : 'The file is refused.'
+  }
+
+  // Lets the device go that was connected. A person says anew of each device that it is the right board.
   forget(text = NOBODY) {
     this.board?.done()
     Object.assign(this, { board: null, refused: false })
@@ -94,7 +99,7 @@ export class FlashView {
     return usb
   }
 
-  // The same file onto another board, which is chosen and flashed at once if nothing is left to say.
+  // Flashes the same file onto another board, which is chosen, and begins at once if no question is open.
   async next() {
     await this.connect(this.usb === this.own ? this.own : this.newSimulated())
     if (!by('begin').disabled) await this.flash()
@@ -124,8 +129,8 @@ export class FlashView {
       by('device').textContent = plain(device.productName ?? '')
     } else {
       await this.open(device, {})
-      const is = this.board?.is
-      if (is?.isUpgrade && isDfuse(is)) this.memories.show(device, [is])
+      const info = this.board?.info
+      if (info?.isUpgrade && isDfuse(info)) this.memories.show(device, [info])
     }
     await this.settle()
   }
@@ -136,8 +141,8 @@ export class FlashView {
     if (!memories.isDfuse || memories.isChosen) return
     const meant = memories.meant(this.file)
     memories.mark(meant)
-    const place = meant ?? (this.board === null ? memories.settings[0] : this.board.is)
-    if (!this.board?.isOpen() || place.interface !== this.board.is.interface || place.alternate !== this.board.is.alternate)
+    const place = meant ?? (this.board === null ? memories.settings[0] : this.board.info)
+    if (!this.board?.isOpen() || place.interface !== this.board.info.interface || place.alternate !== this.board.info.alternate)
       await this.open(memories.device, place)
   }
 
@@ -162,17 +167,17 @@ export class FlashView {
     const board = new Board(this.usb, clock, asking, { interface: place.interface, alternate: place.alternate })
     await board.choose(device).catch(error => { board.done(); throw error })
     this.board = board
-    describe(board.is)
+    describe(board.info)
     this.look()
   }
 
   // A session of this file and this device, which has begun, or was refused. Nothing is sent.
   prepare() {
     const { board, clock, file, words } = this
-    const isSure = by('sure').checked && board.is.isUpgrade
+    const isSure = by('sure').checked && board.info.isUpgrade
     const named = (ofFile = ANY, ofDevice) => (isSure && ofFile !== ANY ? ofFile : ofDevice)
-    const ids = { device: board.is.release, product: named(file.said.product, board.is.product),
-      vendor: named(file.said.vendor, board.is.vendor) }
+    const ids = { device: board.info.release, product: named(file.said.product, board.info.product),
+      vendor: named(file.said.vendor, board.info.vendor) }
     const trace = new Trace()
     const wire = new Wire(board, clock, this.asking, trace)
     const made = prepare(this.modules.host, wire, file.forSession(),
@@ -190,7 +195,7 @@ export class FlashView {
     this.look(true)
   }
 
-  // Looks whether file and device belong together, before anything is sent. That it is the right board was said of the file before.
+  // Looks whether file and device belong together, before anything is sent. A person said of the file before that it is the right board.
   look(isOther = false) {
     this.refused = false
     if (isOther) {
@@ -199,11 +204,11 @@ export class FlashView {
     }
     say('device-refused', '')
     by('sure-row').hidden = !by('sure').checked
-    if (this.board?.isOpen()) this.file.fit(isDfuse(this.board.is), this.memories.isChosen ? this.board.is.alternate : null)
+    if (this.board?.isOpen()) this.file.fit(isDfuse(this.board.info), this.memories.isChosen ? this.board.info.alternate : null)
     if (this.file.isGood() && this.board?.isOpen()) {
       const { refusal } = this.prepare()
       if (refusal !== 0) this.refuse(refusal)
-      else if (cannotDetach(this.board.is)) this.refuseHere()
+      else if (cannotDetach(this.board.info)) this.refuseHere()
     }
     this.refresh()
   }
@@ -212,7 +217,7 @@ export class FlashView {
     const { name, words, advice } = refusalOf(number)
     this.refused = true
     say('device-refused', `${name}: ${words}. ${advice}`)
-    by('sure-row').hidden = number !== REFUSAL.WRONG_TARGET || !this.board.is.isUpgrade
+    by('sure-row').hidden = number !== REFUSAL.WRONG_TARGET || !this.board.info.isUpgrade
   }
 
   refuseHere() {
@@ -238,9 +243,8 @@ export class FlashView {
     this.isGoing = false
     by('going').hidden = true
     this.asking.end()
-    const isReal = this.usb === this.own
     this.forget('Connect it again for another session.')
-    this.outcome.show(ended.end === 'refusal' ? refusalOf(ended.refusal) : verdictOf(ended, session), trace, isReal)
+    this.outcome.show(ended.end === 'refusal' ? refusalOf(ended.refusal) : verdictOf(ended, session), trace, this.usb === this.own)
     return this.refresh()
   }
 }

@@ -31,7 +31,7 @@ export class Host extends Library {
     this.isUpload = false
   }
 
-  // What the file says, or { refusal }, a negative number.
+  // Returns the fields of the file, or { refusal }, a negative number.
   readFile() {
     const at = this.record('dfu_file')
     const refusal = this.calls.dfu_host_file(BigInt(this.file), BigInt(this.fileLength), BigInt(at))
@@ -41,7 +41,8 @@ export class Host extends Library {
     return said
   }
 
-  // What the file looks to be under a name: one of LOOKS, what the name says, and where the first byte is that no record has there.
+  // Returns what the file looks to be under a name: one of LOOKS, the format of its name, and the place of the first byte that no record
+  // has there.
   look(name) {
     const bytes = new TextEncoder().encode(name)
     const at = this.record('dfu_look')
@@ -60,7 +61,7 @@ export class Host extends Library {
     return call(BigInt(this.session), ...file, ...words, BigInt(this.record('dfu_ids', ids)), actions, restarts)
   }
 
-  // What is to be done, with its setup and its body; null if the library refuses the record.
+  // Returns the next action, with its setup and its body; null if the library refuses the record.
   next() {
     const words = [this.session, this.file, this.payload, this.action].map(BigInt)
     if (this.calls.dfu_host_next(...words) !== 0) return null
@@ -70,7 +71,7 @@ export class Host extends Library {
     return action
   }
 
-  // What came of the action; `bytes` is what came with BYTES. Whether the library took it.
+  // Reports the result of the action to the library; `bytes` is the answer of BYTES. Returns whether the library took it.
   take(seen, bytes = new Uint8Array(0)) {
     this.growKept()
     this.bytes(this.answer, bytes.length).set(bytes)
@@ -78,7 +79,7 @@ export class Host extends Library {
       BigInt(this.room), seen, BigInt(this.answer), BigInt(bytes.length)) === 0
   }
 
-  // The session is given up: what it wants next is ABORT. Whether the library took that.
+  // The session is given up: what it wants next is ABORT. Returns whether the library took that.
   abort() {
     return this.calls.dfu_host_abort(BigInt(this.session), BigInt(this.file), BigInt(this.payload)) === 0
   }
@@ -95,7 +96,7 @@ export class Host extends Library {
     return this.read('dfu_session', this.session)
   }
 
-  // What came of an upload.
+  // Returns the bytes of an upload.
   uploaded() {
     return this.copy(this.kept, this.state().kept)
   }

@@ -62,7 +62,7 @@ export class Library {
   }
 }
 
-// Whether this browser runs wasm64: it takes a module that has nothing but a memory with addresses of 64 bits.
+// Returns whether this browser runs wasm64: it takes a module that has nothing but a memory with addresses of 64 bits.
 export function runsWasm64() {
   return WebAssembly.validate(new Uint8Array([0, 0x61, 0x73, 0x6d, 1, 0, 0, 0, 5, 3, 1, 4, 0]))
 }

@@ -27,7 +27,7 @@ function byteAt(bytes, line, column) {
   return byte > 0x20 && byte < 0x7f ? `'${String.fromCharCode(byte)}'` : `the byte ${digits(byte, 2)}`
 }
 
-// Whether a DFU file was cut, or changed at its end: it has the name of one.
+// Returns whether a DFU file was cut, or changed at its end: its name is that of one.
 export const isCut = ({ looks, named }) => looks === LOOKS.NAMED && named === NAMED.DFU
 
 // { words, advice } of a file that is neither raw nor of a format.
@@ -38,6 +38,6 @@ export function otherThanRaw(look) {
   return { words: WORDS[words], advice: `It looks like ${name}. ${advice}` }
 }
 
-// What is seen of the first byte that no record has there; nothing without one.
+// Returns the sentence about the first byte that no record has there, or nothing if there is none.
 export const badByte = ({ line, column }, bytes) =>
   (line === 0 ? '' : `The first wrong character is at line ${line}, column ${column}: ${byteAt(bytes, line, column)}.`)

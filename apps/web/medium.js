@@ -10,13 +10,13 @@ const ACROSS = 8 // bytes of a row; style.css sets two rows side by side if ther
 
 const number4 = (bytes, at) => new DataView(bytes.buffer, bytes.byteOffset).getUint32(at, true)
 
-// What a slot says of itself. Its gate and its header have `gate` bytes each.
+// Returns the words for a slot. Its gate and its header have `gate` bytes each.
 function wordsOf(bytes, gate, isActive) {
   const header = bytes.subarray(gate)
   const isOpen = bytes[0] === OPEN ? 'gate open' : 'gate closed'
-  const says = header[1] === 2
+  const content = header[1] === 2
     ? `generation ${header[0]}, length ${number4(header, 4)}, register ${digits(number4(header, 8), 8)}` : 'no header'
-  return `${isActive ? 'active, ' : ''}${isOpen}, ${says}`
+  return `${isActive ? 'active, ' : ''}${isOpen}, ${content}`
 }
 
 // The row of bytes from there on, with each part of the slot in a class of its own, and what changed marked.

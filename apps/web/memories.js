@@ -52,7 +52,7 @@ export class Memories {
     this.onChoice(one)
   }
 
-  // That of a DfuSe file; else the first one, which is that of programs. Null if there is none.
+  // Returns the setting that a DfuSe file names; else the first one, which is that of programs. Null if there is none.
   meant(file) {
     const wanted = file.isDfuse && file.isGood() ? file.said.setting : 0
     return this.settings.find(one => one.alternate === wanted) ?? null

@@ -29,7 +29,7 @@ export class Outcome {
     this.mark('')
   }
 
-  // How far a session is; part is of 1, or null.
+  // Shows the progress of a session; part is of 1, or null.
   going({ phase, part, left }) {
     by('phase').textContent = phase
     by('left').textContent = left
@@ -40,10 +40,11 @@ export class Outcome {
 
   // The report. isReal: it is of a board, and not of a simulated one.
   show(verdict, trace, isReal) {
-    const { title = 'Refused', means = '', not = '', words, advice = '', status, code, name, says = '' } = verdict
+    const { title = 'Refused', means = '', not = '', words, advice = '', status, code, name, deviceText = '' } = verdict
     const kind = status === 0 ? 'good' : name === 'unconfirmed' ? 'unsure' : 'bad'
     const parts = [means === '' ? `${words}. ${advice}` : means, code === '' ? '' : `It says ${code}.`,
-      says === '' ? '' : `In its own words: ${plain(says)}`, not, isReal ? '' : 'This was a simulated board: no hardware was touched.']
+      deviceText === '' ? '' : `In its own words: ${plain(deviceText)}`, not,
+      isReal ? '' : 'This was a simulated board: no hardware was touched.']
     const rows = parts.filter(text => text !== '').map(text => make('p', {}, text))
     by('report').className = kind
     by('report').replaceChildren(make('h3', { className: kind }, title), ...rows,

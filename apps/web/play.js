@@ -69,7 +69,7 @@ export class PlayView {
     this.refresh()
   }
 
-  // Plays the next line of the example. Whether there is one more.
+  // Plays the next line of the example. Returns whether there is one more.
   next() {
     if (this.lines.length === 0 || this.isOver) return false
     this.play(this.lines.shift())
@@ -145,7 +145,7 @@ export class PlayView {
     by('script').textContent = this.text()
     if (world.device !== null) this.showDevice()
     const last = by('transfers').tBodies[0].lastElementChild
-    last?.parentElement.parentElement.parentElement.scrollTo(0, last.offsetTop)
+    if (last !== null) by('transfers').parentElement.scrollTo(0, last.offsetTop)
   }
 
   showDevice() {

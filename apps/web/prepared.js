@@ -19,7 +19,7 @@ function prepareDfuse(module, wire, file, words) {
 // The session, whether it has begun, as a refusal or 0, and what shows how far it is and what it came to. Nothing is sent.
 // file: { bytes, isDfuse, isRaw, said, look }. words: what a session of either kind takes.
 export function prepare(module, wire, file, words) {
-  if (isDfuse(wire.board.is)) return prepareDfuse(module, wire, file, words)
+  if (isDfuse(wire.board.info)) return prepareDfuse(module, wire, file, words)
   if (file.isDfuse) return { session: null, refusal: 'NotDfuSe' }
   const host = new Host(module, file.bytes)
   host.readFile()

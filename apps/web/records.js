@@ -1,8 +1,9 @@
 // SPDX-License-Identifier: MIT OR Apache-2.0
 // The records of dfu_host.h, dfu_image.h, dfu_image_take.h, dfu_watch.h, dfuse_host.h, dfuse_watch.h, dfuse_file.h and dfu_core.h of
-// include/, as they lie in the memory of the libraries. This is the one place that knows them: the fields in their order, with their types,
-// a pointer as u64. Where each field is follows by the rules of C: a number is at a multiple of its size, and a record ends at one of its
-// largest. tests/lib/headers/layout holds that against a compiler's, and tests/apps/web the fields against the headers.
+// include/, as they lie in the memory of the libraries. This is the one place that knows them: the fields in their order, with their
+// types, a pointer as u64. The place of each field follows by the rules of C: a number is at a multiple of its size, and a record ends
+// at a multiple of its largest. tests/lib/headers/layout compares the places with those of a compiler, and tests/apps/web the fields
+// with the headers.
 export const RECORDS = {
   dfu_ids: 'u16 device, u16 product, u16 vendor',
   dfu_look: 'u32 looks, u32 named, u64 line, u64 column',

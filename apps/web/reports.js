@@ -51,7 +51,7 @@ const REPORTS = {
     'The page lost track of the session.', MAYBE],
 }
 
-// The same, if the device took the whole image and was to give it back.
+// Words for the same ends, if the device took the whole image and was to give it back.
 const UNCOMPARED = {
   'gone': [10, 'the device took the whole image, left, and did not come back to be compared; see --no-verify and --wait',
     'Sent, not compared', 'The device took the whole image, left, and did not come back to be compared.',

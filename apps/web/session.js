@@ -1,6 +1,6 @@
 // SPDX-License-Identifier: MIT OR Apache-2.0
 // The loop: what the host asks for is carried out, and what came of that is reported to it. Nothing else is sent, but for the DETACH of
-// stalls.js. As apps/flash/session.c. What speaks DfuSe has its own loop in dfuse_session.js.
+// stalls.js. As apps/flash/session.c. A device that speaks DfuSe has its own loop in dfuse_session.js.
 import { cut, goalOf, isDfuse, limitsOf, standIn } from './begin.js'
 import { SEEN, WHAT } from './host.js'
 import { isDownload } from './names.js'
@@ -11,10 +11,10 @@ const NONE = new Uint8Array(0)
 
 export const nothing = () => ({ seen: SEEN.NOTHING, bytes: NONE, isGone: false, error: '' })
 const sameText = (first, now) => first === '' || now === '' || first === now
-const modeOf = is => (is.isUpgrade ? 'dfu' : 'app')
+const modeOf = info => (info.isUpgrade ? 'dfu' : 'app')
 export const sameBytes = (first, now) => first.length === now.length && first.every((byte, at) => byte === now[at])
 
-// Whether two looks at a device in one mode saw the same.
+// Returns whether two looks at a device in one mode saw the same device.
 export const isAgain = (first, now) => first.vendor === now.vendor && first.product === now.product && first.interface === now.interface
   && first.alternate === now.alternate && sameText(first.serial, now.serial) && sameText(first.name, now.name)
 
@@ -24,34 +24,34 @@ export class Session {
   constructor(host, wire, { wantsVerified, ids, limits = null, onStep = () => {} }) {
     Object.assign(this, { host, wire, board: wire.board, clock: wire.clock, trace: wire.trace, wantsVerified, ids, limits, onStep })
     this.watch = new Watch(host)
-    Object.assign(this, { first: {}, stalls: new Stalls(this.watch, wire), odd: 0 })
+    Object.assign(this, { first: {}, stalls: new Stalls(this.watch, wire), runtimeRefusal: 0 })
     Object.assign(this, { isWhole: false, isAborted: false, taken: 0, restarted: 0 })
   }
 
   // 0, a refusal of dfu_host.h, or 'DfuSeDevice'. Nothing is sent.
   begin() {
-    const { is } = this.board
-    this.goal = goalOf(is, this.wantsVerified)
-    this.odd = 0
+    const { info } = this.board
+    this.goal = goalOf(info, this.wantsVerified)
+    this.runtimeRefusal = 0
     this.note()
-    if (isDfuse(is)) return 'DfuSeDevice'
-    this.known = is.descriptor
-    const refusal = this.beginBy(cut(is.descriptor))
-    const another = refusal === 0 ? null : standIn(is, refusal)
-    if (another === null) return refusal
-    this.odd = refusal
-    return this.beginBy(another)
+    if (isDfuse(info)) return 'DfuSeDevice'
+    this.beginDescriptor = info.descriptor
+    const refusal = this.beginBy(cut(info.descriptor))
+    const substitute = refusal === 0 ? null : standIn(info, refusal)
+    if (substitute === null) return refusal
+    this.runtimeRefusal = refusal
+    return this.beginBy(substitute)
   }
 
   beginBy(descriptor) {
     const { actions, restarts } = this.limits ?? limitsOf(this.host.payload, descriptor)
-    this.begun = descriptor
+    this.hostDescriptor = descriptor
     return this.host.begin(this.goal, descriptor, this.ids, actions, restarts)
   }
 
   traceBegin() {
-    const descriptor = this.odd === 0 ? this.board.is.descriptor : this.begun
-    this.trace.begin(this.goal, { ...this.board.is, ...this.ids, descriptor }, this.host.state())
+    const descriptor = this.runtimeRefusal === 0 ? this.board.info.descriptor : this.hostDescriptor
+    this.trace.begin(this.goal, { ...this.board.info, ...this.ids, descriptor }, this.host.state())
   }
 
   get hasSent() {
@@ -60,15 +60,16 @@ export class Session {
 
   // Once a block was sent, a device in run-time mode may be that of another image: it isn't noted.
   note() {
-    const { is } = this.board
-    if (is.isUpgrade || !this.watch.hasSent()) this.first[modeOf(is)] ??= is
+    const { info } = this.board
+    if (info.isUpgrade || !this.watch.hasSent()) this.first[modeOf(info)] ??= info
   }
 
-  // What is seen of the device after an action, for dfu_watch.h.
+  // Returns the facts of the device after an action, for dfu_watch.h.
   facts(isReached, isGone) {
-    const { is } = this.board
+    const { info } = this.board
     return { reached: isReached, gone: isGone, many: this.board.isMany, stopped: this.clock.isStopped, open: this.board.isOpen(),
-      upgrade: is.isUpgrade, again: isAgain(this.first[modeOf(is)] ?? is, is), same: sameBytes(is.descriptor, this.known) }
+      upgrade: info.isUpgrade, again: isAgain(this.first[modeOf(info)] ?? info, info),
+      same: sameBytes(info.descriptor, this.beginDescriptor) }
   }
 
   // A device that left is found again before it is asked anything; and if it is another one then, nothing is sent to it. An aborted
@@ -91,8 +92,8 @@ export class Session {
 
   // One action: null, or how the session ended.
   async step(action) {
-    const before = this.watch.before(this.odd !== 0)
-    if (before !== COURSE.GOES_ON) return { ...endOf(before), refusal: this.odd }
+    const before = this.watch.before(this.runtimeRefusal !== 0)
+    if (before !== COURSE.GOES_ON) return { ...endOf(before), refusal: this.runtimeRefusal }
     this.onStep(action, null)
     const answer = await this.perform(action)
     this.onStep(action, answer)

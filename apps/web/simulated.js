@@ -73,7 +73,7 @@ class SimulatedDevice {
 export class SimulatedUsb extends EventTarget {
   constructor(module, number) {
     super()
-    Object.assign(this, { serial: `SIMULATED-${number}`, told: performance.now(), device: new Device(module, CONFIG, CAPACITY, OLD) })
+    Object.assign(this, { serial: `SIMULATED-${number}`, lastTick: performance.now(), device: new Device(module, CONFIG, CAPACITY, OLD) })
     this.device.handle(DETACH)
     this.device.elapse(1)
     this.current = new SimulatedDevice(this)
@@ -84,9 +84,9 @@ export class SimulatedUsb extends EventTarget {
 
   // The time that passed.
   catchUp() {
-    const ms = Math.floor(performance.now() - this.told)
+    const ms = Math.floor(performance.now() - this.lastTick)
     if (ms <= 0) return
-    this.told += ms
+    this.lastTick += ms
     this.device.elapse(ms)
     this.look()
   }

@@ -25,10 +25,10 @@ export class Stalls {
 
   async detach() {
     const { wire } = this
-    const ms = detachTime(wire.board.is)
+    const ms = detachTime(wire.board.info)
     wire.trace.isOwn = true
     const answer = await wire.send(new Uint8Array([KIND.OUT, REQUEST.DETACH, ms & 0xff, ms >> 8, 0, 0, 0, 0]), NONE)
-    if (answer.seen === SEEN.ACK && willDetach(wire.board.is)) await wire.wait(Math.max(ms, 1))
+    if (answer.seen === SEEN.ACK && willDetach(wire.board.info)) await wire.wait(Math.max(ms, 1))
     wire.trace.isOwn = false
     return answer
   }
@@ -38,7 +38,7 @@ export class Stalls {
     const { board, clock } = this.wire
     const end = clock.now() + ARRIVAL_MS
     while (board.isOpen() || await board.reopen()) {
-      if (board.is.isUpgrade || clock.isStopped || clock.now() >= end) return
+      if (board.info.isUpgrade || clock.isStopped || clock.now() >= end) return
       await clock.wait(LOOK_MS)
     }
   }
@@ -46,7 +46,7 @@ export class Stalls {
   // Resets the bus, as the host asks for it. If the device left after that DETACH it is reset already.
   async reset() {
     const { wire } = this
-    const isFirst = this.watch.detaches() && wire.board.is.saysRuntime
+    const isFirst = this.watch.detaches() && wire.board.info.saysRuntime
     const own = isFirst ? await this.detach() : null
     if (own !== null && (own.isGone || own.seen === SEEN.RESTART)) {
       wire.trace.reset(own, 0)

@@ -50,7 +50,7 @@ const ADVICE = {
   [TAKE.TOO_LARGE_FILLED]: 'Take a file for one part of the memory.',
 }
 
-// Whether a look finds a file of such a format.
+// Returns whether a look finds a file of such a format.
 export const isFormat = ({ looks }) => FORMATS[looks] !== undefined
 
 // The image of a file of a format: { format, fill, address, bytes }; or { format, refusal, from, to }. fill is a byte or FILL_NONE.

@@ -60,11 +60,11 @@ export class Trace {
     if (answer.seen === SEEN.RESET && isOpen) this.lines.push('reset')
   }
 
-  begin(goal, is, { transfer, actions, restarts }) {
-    const ids = [is.vendor, is.product, is.device ?? is.release].map(number => digits(number, 4)).join(':')
-    const mode = is.isUpgrade ? 'DFU' : 'run-time'
-    const descriptor = is.descriptor.length === 0 ? '-' : hexOf(is.descriptor)
-    this.say(`begin ${goal} ${ids} 0 ${is.interface} ${is.alternate} ${mode} ${descriptor} ${transfer} ${actions} ${restarts}`)
+  begin(goal, info, { transfer, actions, restarts }) {
+    const ids = [info.vendor, info.product, info.device ?? info.release].map(number => digits(number, 4)).join(':')
+    const mode = info.isUpgrade ? 'DFU' : 'run-time'
+    const descriptor = info.descriptor.length === 0 ? '-' : hexOf(info.descriptor)
+    this.say(`begin ${goal} ${ids} 0 ${info.interface} ${info.alternate} ${mode} ${descriptor} ${transfer} ${actions} ${restarts}`)
   }
 
   abort() {

@@ -16,22 +16,22 @@ export class Watch {
     Object.assign(this, { host, calls: host.calls, record: host.record('dfu_watch'), facts: host.record('dfu_facts') })
   }
 
-  // What comes of the next action before it is done.
+  // Returns the course before the next action is done.
   before(isByAnother) {
     return this.calls.dfu_watch_before(BigInt(this.record), BigInt(this.host.action), isByAnother ? 1 : 0)
   }
 
-  // Whether a DETACH precedes the reset that the host asks for.
+  // Returns whether a DETACH precedes the reset that the host asks for.
   detaches() {
     return this.calls.dfu_watch_detaches(BigInt(this.record)) === 1
   }
 
-  // Whether the device that is open is another one than the session's.
+  // Returns whether the open device is another one than the session's.
   isOther(facts) {
     return this.calls.dfu_watch_is_other(BigInt(this.record), this.put(facts)) === 1
   }
 
-  // What follows the action.
+  // Returns the course after the action.
   after(seen, facts) {
     return this.calls.dfu_watch_after(BigInt(this.record), BigInt(this.host.action), seen, this.put(facts))
   }

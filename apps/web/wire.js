@@ -55,7 +55,7 @@ export class Wire {
     Object.assign(this, { board, clock, ask, trace, transfers: 0, isLeaving: false, isClosed: false, isManifesting: false })
   }
 
-  // Whether a request goes out at once, or has the device waited for first.
+  // Returns whether a request goes out at once; if not, the device is waited for first.
   isReady() {
     return this.board.isOpen() || (this.board.hasLeft && !this.isLeaving)
   }
@@ -76,7 +76,7 @@ export class Wire {
     return answerOf(SEEN.LEFT)
   }
 
-  // How a download ends: its last request, and what the device reports after it.
+  // Notes the end of a download: its last request, and the state that the device reports after it.
   noteEnd(setup, length, answer) {
     if (!isStatus(setup)) {
       this.isClosed = isDownload(setup) && length === 0 && answer.seen === SEEN.ACK
@@ -90,7 +90,7 @@ export class Wire {
     const { transfers } = this
     const answer = await this.sent(setup, body)
     this.trace.request(setup, answer, this.clock.now() - began)
-    if (this.transfers > transfers) this.trace.exchange(setup, this.board.is.interface, body, answer)
+    if (this.transfers > transfers) this.trace.exchange(setup, this.board.info.interface, body, answer)
     return answer
   }
 
@@ -112,8 +112,8 @@ export class Wire {
   // The host's setups have wIndex 0; USB wants the number of the interface there. Nothing else is changed.
   transfer(setup, body) {
     const { kind, request, value, length } = partsOf(setup)
-    const { handle, is } = this.board
-    const fields = { requestType: 'class', recipient: 'interface', request, value, index: is.interface }
+    const { handle, info } = this.board
+    const fields = { requestType: 'class', recipient: 'interface', request, value, index: info.interface }
     this.transfers++
     return (kind & KIND.IS_IN) !== 0 ? handle.controlTransferIn(fields, length) : handle.controlTransferOut(fields, body)
   }
@@ -186,12 +186,12 @@ export class Wire {
     const { board } = this
     try {
       if (await this.clock.limit(device.reset(), TRANSFER_MS) === LATE) return await this.lateReset()
-      if (!await this.hasLeft(GRACE_MS) && board.is.alternate !== 0) await board.set(device, board.is)
+      if (!await this.hasLeft(GRACE_MS) && board.info.alternate !== 0) await board.set(device, board.info)
       return null
     } catch (error) {
       if (error.name === 'NotFoundError') board.letGo()
       if (await this.hasLeft(LEAVE_MS)) return null
-      if (await this.ask.replug(() => !board.isOpen())) return board.is.isUpgrade ? null : PULLED
+      if (await this.ask.replug(() => !board.isOpen())) return board.info.isUpgrade ? null : PULLED
       return ERRORS[error.name] ?? 'OTHER'
     }
   }
@@ -202,7 +202,7 @@ export class Wire {
     return how === 'left' ? null : 'TIMEOUT'
   }
 
-  // Whether the device leaves within so many milliseconds.
+  // Waits for the device to leave, and returns whether it did so within so many milliseconds.
   async hasLeft(ms) {
     const end = this.clock.now() + ms
     while (this.board.isOpen() && !this.clock.isStopped && this.clock.now() < end) await this.clock.wait(LOOK_MS)

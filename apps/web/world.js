@@ -89,7 +89,7 @@ export class World {
     else this.host.abort()
   }
 
-  // What comes from outside, a reset of the bus or a cut of the power, is reported to the host.
+  // Reports an event from outside, a reset of the bus or a cut of the power, to the host.
   outside(call) {
     call()
     this.host?.take(SEEN.RESTART)
@@ -154,7 +154,7 @@ export class World {
     return setup[0] === KIND.OUT ? { seen: SEEN.ACK } : { seen: SEEN.BYTES, bytes }
   }
 
-  // What the host wants next; null if there is none.
+  // Returns the action that the host wants next; null if there is none.
   wanted() {
     const action = this.host?.next() ?? null
     return action === null || action.what === WHAT.DONE ? null : action

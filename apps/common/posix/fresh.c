@@ -9,11 +9,11 @@
 
 static int make(const char *name)
 {
-    struct stat is;
+    struct stat found;
     int file = open(name, O_WRONLY | O_CREAT | O_EXCL | O_CLOEXEC, 0666);
     if (file >= 0 || errno != EEXIST)
         return file;
-    if (stat(name, &is) == 0 && (S_ISFIFO(is.st_mode) || S_ISCHR(is.st_mode)))
+    if (stat(name, &found) == 0 && (S_ISFIFO(found.st_mode) || S_ISCHR(found.st_mode)))
         return open(name, O_WRONLY | O_NOCTTY | O_CLOEXEC);
     errno = EEXIST;
     return -1;

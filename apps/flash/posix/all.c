@@ -42,8 +42,8 @@ static int say_file(void)
 static bool has_folder(void)
 {
     const char *folder = all.words->folder;
-    struct stat is;
-    if (folder == NULL || (stat(folder, &is) == 0 && S_ISDIR(is.st_mode) && access(folder, W_OK | X_OK) == 0))
+    struct stat found;
+    if (folder == NULL || (stat(folder, &found) == 0 && S_ISDIR(found.st_mode) && access(folder, W_OK | X_OK) == 0))
         return true;
     return say_failed(folder, " can't have the logs", "it has to be a folder that is there, in which files can be made");
 }
@@ -83,7 +83,7 @@ static bool is_enough(void)
     return all.words->boards != 0 && all.crew.flashed + (unsigned)all.crew.count >= all.words->boards;
 }
 
-/* Looks at the bus, and begins with those that are another device than before. 0, or an error of libusb, which is then said. */
+/* Lists the bus, and begins with each device that is another one than before. Returns 0, or an error of libusb after printing it. */
 static int look(void)
 {
     static struct port ports[PORTS_ROOM];

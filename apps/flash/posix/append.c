@@ -18,13 +18,13 @@ static bool end_last(int file, off_t size)
 
 int append_open(const char *name, char *front, size_t room, const char **why)
 {
-    struct stat is;
+    struct stat found;
     int file = open(name, O_RDWR | O_APPEND | O_CREAT | O_NOFOLLOW | O_NOCTTY | O_NONBLOCK, 0666);
     ssize_t count = -1;
     *why = strerror(errno);
     if (file < 0)
         return -1;
-    if (fstat(file, &is) == 0 && !S_ISREG(is.st_mode))
+    if (fstat(file, &found) == 0 && !S_ISREG(found.st_mode))
         *why = "what is there is no regular file";
     else {
         count = pread(file, front, room - 1, 0);
@@ -40,8 +40,8 @@ int append_open(const char *name, char *front, size_t room, const char **why)
 
 bool append_line(int file, const char *line, size_t length)
 {
-    struct stat is;
-    if (length > 1 && (fstat(file, &is) != 0 || !end_last(file, is.st_size)))
+    struct stat found;
+    if (length > 1 && (fstat(file, &found) != 0 || !end_last(file, found.st_size)))
         return false;
     return write(file, line, length) == (ssize_t)length;
 }

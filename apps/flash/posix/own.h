@@ -3,8 +3,8 @@
 #ifndef DFU_FLASH_OWN_H
 #define DFU_FLASH_OWN_H
 
-/* Renames a file, but not over another one. 0, or -1 for the reason in errno: ENOSYS or EINVAL if the system or the file system has no such
-   call. */
+/* Renames a file, but not over another one. Returns 0, or -1 for the reason in errno: ENOSYS or EINVAL if the system or
+   the file system has no such call. */
 int own_rename(const char *from, const char *to);
 
 /* SIGTERM comes to this process when the one that began it ends, if the system has that. */

@@ -41,16 +41,16 @@ static bool keep_name(char *name)
 
 static bool read_all(int file, char **text, const char **why)
 {
-    struct stat is;
+    struct stat found;
     ssize_t count;
-    if (fstat(file, &is) != 0 || !S_ISREG(is.st_mode)) {
+    if (fstat(file, &found) != 0 || !S_ISREG(found.st_mode)) {
         *why = "what is there is no regular file";
         return false;
     }
-    *text = malloc((size_t)is.st_size + 1);
-    count = *text == NULL ? -1 : pread(file, *text, (size_t)is.st_size, 0);
+    *text = malloc((size_t)found.st_size + 1);
+    count = *text == NULL ? -1 : pread(file, *text, (size_t)found.st_size, 0);
     *why = strerror(errno);
-    if (count != is.st_size)
+    if (count != found.st_size)
         return false;
     (*text)[count] = '\0';
     *why = "there is a NUL in it";

@@ -21,8 +21,8 @@ static bool fail(const char *name, const char *why)
     return say_failed(name, " can't be made", why);
 }
 
-/* Looks at the name OUT: 0 if nothing has it, 1 if a file that may be replaced has it, and -1, which is said, if something has it that must
-   stay. */
+/* Looks at the name OUT. Returns 0 if nothing has it, 1 if a file that may be replaced has it, and -1, after printing why, if something
+   has it that must stay. */
 static int look(const char *name, bool is_forced, struct stat *there)
 {
     bool is_there = lstat(name, there) == 0;

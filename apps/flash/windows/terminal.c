@@ -18,11 +18,11 @@ bool terminal_is(FILE *stream)
 
 bool terminal_size(int *columns, int *lines)
 {
-    CONSOLE_SCREEN_BUFFER_INFO is;
-    if (!GetConsoleScreenBufferInfo(handle_of(stderr), &is))
+    CONSOLE_SCREEN_BUFFER_INFO screen;
+    if (!GetConsoleScreenBufferInfo(handle_of(stderr), &screen))
         return false;
-    *columns = is.srWindow.Right - is.srWindow.Left + 1;
-    *lines = is.srWindow.Bottom - is.srWindow.Top + 1;
+    *columns = screen.srWindow.Right - screen.srWindow.Left + 1;
+    *lines = screen.srWindow.Bottom - screen.srWindow.Top + 1;
     return *columns > 0 && *lines > 0;
 }
 

@@ -31,8 +31,9 @@ static bool fail_by_windows(const char *name)
 static bool is_regular(HANDLE file)
 {
     static const DWORD others = FILE_ATTRIBUTE_DIRECTORY | FILE_ATTRIBUTE_REPARSE_POINT | FILE_ATTRIBUTE_DEVICE;
-    BY_HANDLE_FILE_INFORMATION is;
-    return GetFileType(file) == FILE_TYPE_DISK && GetFileInformationByHandle(file, &is) && (is.dwFileAttributes & others) == 0;
+    BY_HANDLE_FILE_INFORMATION information;
+    return GetFileType(file) == FILE_TYPE_DISK && GetFileInformationByHandle(file, &information)
+           && (information.dwFileAttributes & others) == 0;
 }
 
 /* Returns whether the user may write the file, and take its name away. */
@@ -45,8 +46,8 @@ static bool may_replace(const wchar_t *wide)
     return true;
 }
 
-/* Looks at the name OUT: 0 if nothing has it, 1 if a file that may be replaced has it, and -1, which is said, if something has it that must
-   stay. */
+/* Looks at the name OUT. Returns 0 if nothing has it, 1 if a file that may be replaced has it, and -1, after printing why, if something
+   has it that must stay. */
 static int look(const char *name, const wchar_t *wide, bool is_forced)
 {
     HANDLE file = CreateFileW(wide, 0, SHARED, NULL, OPEN_EXISTING, FILE_FLAG_OPEN_REPARSE_POINT | FILE_FLAG_BACKUP_SEMANTICS, NULL);
@@ -130,12 +131,12 @@ static bool write_all(HANDLE out, const uint8_t *bytes, size_t length)
 static void keep_rights(const wchar_t *from, const wchar_t *to)
 {
     static union {
-        SECURITY_DESCRIPTOR is;
+        SECURITY_DESCRIPTOR descriptor;
         BYTE bytes[65536];
     } rights;
     DWORD needed;
-    if (GetFileSecurityW(from, DACL_SECURITY_INFORMATION, &rights.is, sizeof rights, &needed))
-        SetFileSecurityW(to, DACL_SECURITY_INFORMATION, &rights.is);
+    if (GetFileSecurityW(from, DACL_SECURITY_INFORMATION, &rights.descriptor, sizeof rights, &needed))
+        SetFileSecurityW(to, DACL_SECURITY_INFORMATION, &rights.descriptor);
 }
 
 /* Writes the new file, and gives it the name. */

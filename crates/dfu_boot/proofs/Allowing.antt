@@ -1,4 +1,4 @@
--- What is due is allowed.
+-- A due operation is allowed.
 use Rattle.std.proofs.Common.{◌≡◌, ◌<◌, ◌+◌, ◌%◌, ℕ, List, length, Option, Some, None, sym, subst, arith}
 use Rattle.dfu_boot.specs.declared.install.due.Due.TheVariants.{Refuse, Erase, Program, Start}
 use Rattle.dfu_boot.specs.install.Allowed.{Differs, IsInLastSector, DoesOnlyAllowed}

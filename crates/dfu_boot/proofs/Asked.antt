@@ -1,4 +1,4 @@
--- What the medium takes of what the calls ask.
+-- The medium takes the operations that the calls ask for.
 use Rattle.std.proofs.Common.{◌≡◌, ℕ, ◌+◌, ◌≤◌, false, length, sym, ◌∙◌, ap, subst, arith}
 use Rattle.dfu_slots.specs.Medium.{MediumState}
 use Rattle.dfu_slots.specs.Image.{Active, gate_of}

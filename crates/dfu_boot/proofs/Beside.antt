@@ -1,4 +1,4 @@
--- What lies outside the image is left as it was.
+-- Bytes outside the image are left as they were.
 use Rattle.std.proofs.Common.{◌≡◌, inl, inr, ◌≤◌, ◌%◌, ℕ, List, [], ◌∷◌, length, Option, slice_index, ◌∙◌, ap, refl, arith}
 use Rattle.std.proofs.Math.Nat.{mod-le}
 use Rattle.dfu_boot.specs.install.Area.{start_of}

@@ -63,7 +63,7 @@ module _ (m now : MediumState) (tries : ℕ) (are : AreTries m.grain tries) (s :
   image_still : image_at n s.slot ≡ image_at m s.slot
   image_still = image_kept _ _ active_is
 
-  -- Where the image was not put in place, the confirmed one is the active one.
+  -- The confirmed image is the active one if the new image was not put in place.
   old_stays : IsNewest (slot_of n s.slot) (slot_of n spare) → AreTrusted n tries (Alone (image_at m s.slot))
   old_stays newest =
       let found = places_newest g now.bytes s.slot spare places_still newest in
@@ -77,7 +77,7 @@ module _ (m now : MediumState) (tries : ℕ) (are : AreTries m.grain tries) (s :
         image_still,
       )
 
-  -- Where it was, it is on trial, and no start is recorded.
+  -- The new image is on trial if it was put in place, and no start is recorded.
   new_tried : (image : List ℕ) → IsNewest (slot_of n spare) (slot_of n s.slot) → IsFilled (slot_of n spare) → image_at n spare ≡ image
       → ((i : ℕ) → i ≤ tries → is_set n spare i ≡ false) → AreTrusted n tries (Tried (image_at m s.slot) image 0)
   new_tried image newest mine is unset = (

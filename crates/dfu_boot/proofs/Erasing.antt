@@ -113,7 +113,7 @@ tidy_is_done image run sector begins at other (Some last) some next is apart (in
     by_order (inr le) =
         next_is_elsewhere image run sector last begins at other some next is apart in_other off.at le off.before off.inside
 
--- What is off after an erase of another sector was off before.
+-- A sector that is off after an erase of another sector was off before.
 off_was : (image run run' : List ℕ) (sector begins other : ℕ) → begins % sector ≡ 0 → other % sector ≡ 0 → ¬ (other ≡ begins)
     → LeavesOthers run run' begins (begins + sector) → Differs image run' other (other + sector) → Differs image run other (other + sector)
 off_was image run run' sector begins other whole whole_other apart leaves off = record {

@@ -1,4 +1,4 @@
--- How many operations there are on a medium that works.
+-- Number of operations on a medium that works.
 use Rattle.std.proofs.Common.{◌≡◌, inl, ◌<◌, ◌≤◌, ◌+◌, ◌*◌, ◌-◌, ℕ, suc, false, List, [], ◌∷◌, length, slice_index, Option, Some, None, sym, ◌∙◌, ap, refl, subst, arith}
 use Rattle.dfu_boot.specs.declared.install.due.Due.{Due}
 use Rattle.dfu_boot.specs.declared.install.due.Due.TheVariants.{Refuse, Erase, Program, Start}

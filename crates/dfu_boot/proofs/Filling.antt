@@ -9,11 +9,11 @@ pub filled_up : (bytes copied : List ℕ) (most : ℕ) → copied ≡ bytes
     → copied ++ drop (length bytes) (replicate most 255) ≡ bytes ++ replicate (most - length bytes) 255
 filled_up bytes copied most is = λ i. is i ++ drop-replicate (length bytes) most 255 i
 
--- The same number of bytes, whichever of two numbers is the smaller.
+-- The bytes are equally many, whichever of two numbers is the smaller.
 front_of : (xs : List ℕ) (n : ℕ) → take (min (length xs) n) xs ≡ take n xs
 front_of xs n = let e : min (length xs) n ≡ min n (length xs) = omega arith in ap (λ (k : ℕ). take k xs) e ∙ take_min n xs
 
--- What is left of the image from a place on.
+-- Rest of the image from a place on.
 rest_of : (image : List ℕ) (at : ℕ) → take (length image - min at (length image)) (drop (min at (length image)) image) ≡ drop at image
 rest_of image at = take_rest image (min at (length image)) ∙ drop_min at image
 

@@ -1,4 +1,4 @@
--- What the medium takes of a start, whatever images its slots have.
+-- The medium takes the operation of a start, whatever images its slots have.
 use Rattle.std.proofs.Common.{◌≡◌, inl, inr, ⊎_elim, ℕ, ◌+◌, ◌≤◌, ◌<◌, false, length, sym, ◌∙◌, ap, subst, arith}
 use Rattle.dfu_slots.specs.Medium.{MediumState}
 use Rattle.dfu_slots.specs.Image.{Active, gate_of, slot_of}

@@ -16,7 +16,7 @@ pub record IsFreshFrom (run : List ℕ) (sector last : ℕ) (since : List Due) :
   pub after : (piece : ℕ) → last < piece → start_of sector last ≡ start_of sector piece → IsFresh sector piece since
   pub here : AreBlank run last (last + 256) → IsFresh sector last since
 
--- That is kept, as long as the place of the last operation is known.
+-- Freshness is kept, as long as the place of the last operation is known.
 abbrev pub KeepsFresh : ℕ → List ℕ → Option ℕ → List Due → Type 0
 KeepsFresh sector run None since = Unit {0}
 KeepsFresh sector run (Some last) since = IsFreshFrom run sector last since
@@ -72,7 +72,7 @@ program_keeps image run run' sector at (Some last) (Some x) failed since keeps (
       (subst (λ (n : ℕ). AreBlank run' n (n + 256)) (sym is) blank));
 }
 
--- What is carried out keeps it.
+-- An operation that is carried out keeps it.
 carried_keeps : (image run run' : List ℕ) (sector : ℕ) (last last' : Option ℕ) (failed : Bool) (since : List Due) (due : Due)
     → KeepsFresh sector run last since → Does image run sector last due → TookDue image run' sector due failed last'
     → KeepsFresh sector run' last' (due ∷ since)

@@ -1,4 +1,4 @@
--- What an operation leaves of a trial.
+-- Trial after an operation.
 use Rattle.std.proofs.Common.{◌≡◌, ◌⊎◌, inl, inr, ⊎_elim, ℕ, ◌+◌, ◌*◌, ◌≤◌, ◌<◌, true, false, length, take, slice_index, refl, sym, ◌∙◌, ap, subst, arith}
 use Rattle.std.proofs.Math.Nat.{mul-le-mul_right}
 use Rattle.std.proofs.lemmas.Bool.{cases_eq, cases_lt}
@@ -106,7 +106,7 @@ module _ (m now : MediumState) (tries : ℕ) (t : Trial) (are : AreTries m.grain
         product : (i + 1) * u ≡ i * u + u
         product = grind arith
 
-    -- Where the mark of a start is not set afterwards, nothing changed for the trial.
+    -- Nothing changed for the trial if the mark of a start is not set afterwards.
     pub mark_goes_on : is_set n at i ≡ is_set m at i → GoesOn m tries t n
     mark_goes_on same = record {
       stands = (
@@ -121,7 +121,7 @@ module _ (m now : MediumState) (tries : ℕ) (t : Trial) (are : AreTries m.grain
             (λ ge. ⊎_elim (λ gt. own_marks k (inr gt)) (λ lei. let e : k ≡ i = omega (arith, ge, lei) in
             subst (λ (x : ℕ). is_set n at x ≡ is_set m at x) (sym e) same) (cases_lt i k)) (cases_lt k i)
 
-    -- Where it is, and it was the next one, more starts are recorded.
+    -- More starts are recorded if it is set, and it was the next one.
     pub mark_starts : i ≡ t.starts + 1 → is_set n at i ≡ true → HasStarted m tries t n
     mark_starts next set = record {
       starts = starts n tries at;
@@ -142,7 +142,7 @@ module _ (m now : MediumState) (tries : ℕ) (t : Trial) (are : AreTries m.grain
         least : i ≤ starts n tries at
         least = count_least n at 1 tries i le each
 
-    -- Where the confirmation is set, that image is the active one, and confirmed.
+    -- The image is the active one, and confirmed, if its confirmation is set.
     pub mark_confirms : is_set n at 0 ≡ true → IsConfirmed m t n
     mark_confirms set =
         let newest : IsNewest (slot_of n at) (slot_of n base) = subst (λ (s : Slot). IsNewest s (slot g now.bytes base)) (sym mine_is)
@@ -176,7 +176,7 @@ module _ (m now : MediumState) (tries : ℕ) (t : Trial) (are : AreTries m.grain
         (⊎_elim (λ p. inr (omega (arith, p.0, p.1, trial.sized.room))) (λ p. inl (omega (arith, p.0, p.1, trial.sized.room, room j le)))
         trial.places)
 
-    -- Where the gate reads open, the trial goes on.
+    -- The trial goes on if the gate reads open.
     pub gate_open : slice_index now.bytes at ≡ OPEN → GoesOn m tries t n
     gate_open reads =
         let gate : slice_index now.bytes at ≡ slice_index m.bytes at = reads ∙ sym trial.mine.counts.is_open in

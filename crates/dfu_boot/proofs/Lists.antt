@@ -1,4 +1,4 @@
--- What comes one after another leaves the images that are trusted.
+-- Events one after another leave the images that are trusted.
 use Rattle.std.proofs.Common.{◌≡◌, ◌⊎◌, inl, inr, ⊎_elim, ℕ, ◌+◌, ◌≤◌, ◌==◌, nat_lt, Bool, true, false, List, [], ◌∷◌, Option, Some, None, refl, sym, ◌∙◌, ap, subst, arith, if◌then◌else◌}
 use Rattle.std.proofs.lemmas.Bool.{true≢false, ltb-true}
 use Rattle.dfu_slots.specs.Units.{Grain}
@@ -37,7 +37,7 @@ pub trusted_first : (m : MediumState) (tries : ℕ) (s : Settled) → IsStanding
     → AreTrusted m tries (Alone (image_at m s.slot))
 trusted_first m tries s stands confirmed = (s, stands, confirmed, refl)
 
--- What an upload gives is what is trusted.
+-- The image that an upload gives is trusted.
 given_trusted : (now : MediumState) (tries : ℕ) (next : Trust) (given : Option (List ℕ)) → AreTrusted now tries next
     → GivenBy now tries given → MayGive tries given next
 given_trusted now tries next None has by = tt
@@ -51,7 +51,7 @@ given_trusted now tries (Tried base new runs) (Some image) has by =
       omega (arith, has.4, ltb-true has.0.starts tries left),
     )
 
--- What comes of a step: the images that are trusted afterwards, and how they came to be.
+-- Result of a step: the images that are trusted afterwards, and how they came to be.
 abbrev Next : MediumState → ℕ → Trust → TrialEvent → MediumState → Type 0
 Next m tries trust event now = (next : Trust) × MayBecome tries trust event now next × AreTrusted now tries next
 
@@ -217,7 +217,7 @@ module _ (m now : MediumState) (tries : ℕ) (are : AreTries m.grain tries) wher
     tried_downloads : (new : List ℕ) → IsDownload m tries new now → ⊥
     tried_downloads new d = d.stands.none (record { at = t.slot; base = t.base; trial = has.1.0 })
 
-  -- What comes of each thing.
+  -- Result of each event.
   pub steps_on : (trust : Trust) (event : TrialEvent) → AreTrusted m tries trust → TrialGoes tries m event now
       → Next m tries trust event now
   steps_on (Alone base) (Starts ran) has came =

@@ -1,4 +1,4 @@
--- How far bytes were looked at.
+-- Place up to which bytes were looked at.
 use Rattle.std.specs.Prelude.{ℕ, ◌≤◌, List}
 use Rattle.dfu_boot.specs.install.Area.{AreSame, AreBlank}
 

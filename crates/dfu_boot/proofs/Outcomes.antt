@@ -1,4 +1,4 @@
--- What comes of an operation that a trial asks for.
+-- Result of an operation that a trial asks for.
 use Rattle.std.proofs.Common.{◌≡◌, ◌⊎◌, inl, inr, ℕ, ◌+◌, ◌<◌, Bool, true, false, Some, refl, sym, ◌∙◌, ap, subst, arith, if◌then◌else◌}
 use Rattle.std.proofs.lemmas.Bool.{cases_Bool}
 use Rattle.dfu_slots.specs.Units.{Grain}
@@ -15,7 +15,7 @@ use Rattle.dfu_boot.specs.declared.trial.standing.Standing.TheVariants.{OnTrial}
 use Rattle.dfu_boot.proofs.Counting.{next_unset}
 use Rattle.dfu_boot.proofs.Keeping.{mark_goes_on, mark_starts, mark_confirms, gate_either}
 
--- What runs after the mark of a start.
+-- Image that runs after the mark of a start.
 module _ (m now : MediumState) (tries : ℕ) (t : Trial) (are : AreTries m.grain tries) (stands : IsStanding m tries (OnTrial t))
     (lt : t.starts < tries) (grain : now.grain ≡ m.grain)
     (keeps : KeepsOutside (mark_at m.grain t.slot (t.starts + 1)) (mark_at m.grain t.slot (t.starts + 1) + mark_size m.grain) m.bytes
@@ -65,7 +65,7 @@ module _ (m now : MediumState) (tries : ℕ) (t : Trial) (are : AreTries m.grain
     | inr same ↦ inr (same.0, same.1)
   ]
 
--- What comes of a confirmation, and of an end.
+-- Result of a confirmation, and of an end.
 module _ (m now : MediumState) (tries : ℕ) (t : Trial) (are : AreTries m.grain tries) (stands : IsStanding m tries (OnTrial t)) where
   pub confirms_or_goes_on : Carried m (sets m.grain t.slot 0) now → IsConfirmed m t now ⊎ GoesOn m tries t now
   confirms_or_goes_on carried =

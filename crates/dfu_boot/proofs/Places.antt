@@ -57,7 +57,7 @@ pub mark_in : (m : MediumState) (tries at i : ℕ) → IsSized m → AreTries m.
     → at + slot_size m.bytes ≤ length m.bytes → mark_at m.grain at i + mark_size m.grain ≤ length m.bytes
 mark_in m tries at i sized t le within = omega (arith, mark_room m.grain tries i t le, sized.room, within)
 
--- Where the next mark is set, one more is.
+-- One more mark is set if the next one is.
 pub set_more : (m : MediumState) (at done tries : ℕ) → done < tries → is_set m at (done + 1) ≡ true
     → starts m tries at ≡ done + set_from m at (done + 1) (tries - done)
     → starts m tries at ≡ done + 1 + set_from m at (done + 1 + 1) (tries - (done + 1))
@@ -68,7 +68,7 @@ set_more m at done tries lt set so_far =
     set
     ∙ omega arith
 
--- Where it is not, no further one counts.
+-- No further mark counts if the next one is not set.
 pub set_no_more : (m : MediumState) (at done tries : ℕ) → done < tries → is_set m at (done + 1) ≡ false
     → starts m tries at ≡ done + set_from m at (done + 1) (tries - done) → done ≡ starts m tries at
 set_no_more m at done tries lt unset so_far =

@@ -8,7 +8,7 @@ use Rattle.dfu_boot.specs.install.Operations.{LeavesOthers}
 use Rattle.dfu_boot.proofs.WholeStarts.{whole_in, start_is_whole, start_is_near, start_keeps, part_fits, edge_is_whole}
 use Rattle.dfu_boot.proofs.Tidy.{IsTidy, IsToErase, HasLeft, Costs}
 
--- What is known when a piece is programmed: it is in the sector of the last operation, and all between is done.
+-- Facts when a piece is programmed: it is in the sector of the last operation, and all between is done.
 pub record IsInside (image run : List ℕ) (sector last piece at : ℕ) : Type 0 where
   pub ready : IsReady image run sector
   pub after : last ≤ piece

@@ -1,4 +1,4 @@
--- What a start leaves.
+-- Medium after a start.
 use Rattle.std.proofs.Common.{◌≡◌, inl, inr, ⊎_elim, ℕ, ◌+◌, Bool, true, false, nat_lt, Some, refl, sym, ap, subst, arith, if◌then◌else◌}
 use Rattle.std.proofs.lemmas.Bool.{ltb-true, ltb-false}
 use Rattle.dfu_slots.specs.Medium.{MediumState}
@@ -34,7 +34,7 @@ module _ (m now : MediumState) (tries : ℕ) (are : AreTries m.grain tries) wher
       subst (λ (s : Starting). CarriedIf m s.operation now → Starts m tries (OnTrial t) now (runs_in now s s.operation)) (sym so)
       (λ carried. inr (ltb-false t.starts tries is, refl, ends_or_goes_on m now tries t are stands carried))
 
-  -- What comes of a start, whatever becomes of what it asks for.
+  -- Result of a start, whatever becomes of the operation that it asks for.
   pub starts_so : (s : Standing) → IsStanding m tries s → CarriedIf m (trial_start m.grain tries s).operation now
       → Starts m tries s now (runs_in now (trial_start m.grain tries s) (trial_start m.grain tries s).operation)
   starts_so (standing.Settled s) stands carried = (carried, refl)

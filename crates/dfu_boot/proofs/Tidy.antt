@@ -1,4 +1,4 @@
--- What is left to do of a run area, as long as the medium works.
+-- Work that is left of a run area, as long as the medium works.
 use Rattle.std.proofs.Common.{◌≡◌, ◌⊎◌, ◌≤◌, ◌+◌, ◌*◌, ◌%◌, ℕ, suc, List, length, Option, Some, None}
 use Rattle.dfu_boot.specs.install.Allowed.{Differs}
 use Rattle.dfu_boot.specs.install.Area.{AreSame, AreBlank, start_of}

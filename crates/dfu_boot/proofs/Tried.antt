@@ -23,7 +23,7 @@ zeros_marked : (n : ℕ) → 0 < n → is_marked (replicate n 0) ≡ true
 zeros_marked zero some = absurd (omega (arith, some))
 zeros_marked (suc n) some = refl
 
--- What fails on a medium that works is nothing.
+-- Nothing fails on a medium that works.
 none_fails : (fault : WriteFault) (m now : MediumState) (at : ℕ) (bytes : List ℕ) → m.fuse ≡ Whole → FailedWrite fault m at bytes now → ⊥
 none_fails fault m now at bytes whole f =
     subst (λ (x : Fuse). MayFail x fault m.bytes at bytes now.bytes now.fuse) whole f.fuse

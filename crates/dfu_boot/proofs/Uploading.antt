@@ -1,4 +1,4 @@
--- What an upload gives is what the next start runs.
+-- The image that an upload gives is the one that the next start runs.
 use Rattle.std.proofs.Common.{◌≡◌, inl, inr, ⊎_elim, ℕ, ◌+◌, nat_lt, Bool, true, false, List, Option, Some, None, refl, sym, ◌∙◌, ap, subst, if◌then◌else◌}
 use Rattle.std.proofs.lemmas.Bool.{ltb-true, ltb-false}
 use Rattle.dfu_slots.specs.Medium.{MediumState}
@@ -53,7 +53,7 @@ module _ (m now : MediumState) (tries : ℕ) (are : AreTries m.grain tries) wher
             (ends_or_goes_on m now tries t are stands ends),
       )
 
-  -- What comes of an upload, whatever becomes of what it asks for.
+  -- Result of an upload, whatever becomes of the operation that it asks for.
   pub uploads_so : (s : Standing) → IsStanding m tries s → CarriedIf m (upload_of tries s) now → Uploads m tries s now
   uploads_so (standing.Settled s) stands same =
       subst (λ (x : MediumState). RunsNext x tries (image_at m s.slot)) (sym same)

@@ -1,11 +1,11 @@
--- Where sectors and pieces begin.
+-- Places at which sectors and pieces begin.
 use Rattle.std.proofs.Common.{◌≡◌, ◌⊎◌, inl, inr, ℕ, ◌+◌, ◌-◌, ◌*◌, ◌/◌, ◌%◌, ◌≤◌, ◌<◌, ap, ◌∙◌, arith}
 use Rattle.std.proofs.Math.Nat.{dvd-sub_iff_left, dvd-add, mod_self, div-add-mod, mul-mod_right, mod-lt, mod-le}
 use Rattle.std.proofs.lemmas.Nat.Gcd.{dvd_trans, dvd_of_mod-eq-zero, mod-eq-zero_of_dvd, le_of_dvd}
 use Rattle.std.proofs.lemmas.Bool.{cases_lt}
 use Rattle.dfu_boot.specs.install.Area.{start_of}
 
--- What is whole in sectors is whole in pieces.
+-- A length that is whole in sectors is whole in pieces.
 pub whole_in : (part sector n : ℕ) → sector % part ≡ 0 → n % sector ≡ 0 → n % part ≡ 0
 whole_in part sector n x y = mod-eq-zero_of_dvd part (dvd_trans part (dvd_of_mod-eq-zero part x) (dvd_of_mod-eq-zero sector y))
 

@@ -10,7 +10,8 @@ use crate::install::{Due, next};
 use dfu_slots::laws::active_image_is_one;
 use dfu_slots::{Medium, Slots};
 
-/// What is due next, so that the run area comes to hold the active image of the store: `install::next`, with that image.
+/// Returns the operation that is due next, so that the run area comes to hold the active image of the store: `install::next`, with that
+/// image.
 ///
 /// `memory` has the bytes of the store's medium, as it is mapped for reading. The store is not changed.
 pub fn next_active<M: Medium>(

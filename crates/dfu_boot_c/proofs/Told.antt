@@ -1,4 +1,4 @@
--- What is due of two areas is told.
+-- The operation that is due of two areas is told.
 use Rattle.std.proofs.Common.{◌≡◌, ◌⊎◌, inl, ℕ, ℤ, List, subst}
 use Rattle.dfu_slots.specs.Medium.{MediumState}
 use Rattle.dfu_home.specs.declared.due.Due.{Due}

@@ -1,4 +1,4 @@
-//! What starts an image, for programs in C, as a static library.
+//! Starts of an image, for programs in C, as a static library.
 #![tactic(auto)]
 
 mod home;

@@ -22,7 +22,7 @@ led_of s m h d at e n =
     ((((rests e && may_stand at n) || list_any (leads_to at e n) s) || list_any (leads_to at e n) m) || list_any (leads_to at e n) h)
     || list_any (leads_to at e n) d
 
--- What may be answered by four lists of rows.
+-- Answers that four lists of rows allow.
 abbrev MayBy : (s m h d : List Row) → StandardState → LogEvent → StandardState → Type 0
 MayBy s m h d p e n =
     GoesByDfuse s p e n ⊎ GoesByDfuse m p e n ⊎ GoesByDfuse h p e n

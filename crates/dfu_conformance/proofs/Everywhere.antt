@@ -23,6 +23,6 @@ everywhere p a r below within =
 pub held_first : IsHeld EVERY []
 held_first a r p below within = (λ x. (p, inl refl), λ x. everywhere p a r below within)
 
--- The same for the devices without habits.
+-- The devices without habits are held so too.
 pub held_first_plain : IsHeldPlain EVERY []
 held_first_plain a p below = (λ x. (p, inl refl), λ x. everywhere p a 0 below (omega arith))

@@ -22,7 +22,7 @@ led_of s m h held e n a r =
     (((stays e && stands held n a r) || list_any (leads held e n a r) s) || list_any (leads held e n a r) m) || list_any
     (leads held e n a r) h
 
--- What may be answered by three lists of rows.
+-- Answers that three lists of rows allow.
 abbrev MayBy : (s m h : List Row) (a r : ℕ) → StandardState → LogEvent → StandardState → Type 0
 MayBy s m h a r p e n = GoesBy s a r p e n ⊎ GoesBy m a r p e n ⊎ GoesBy h a r p e n ⊎ ((n ≡ p) × (stays e ≡ true))
 

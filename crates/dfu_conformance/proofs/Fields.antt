@@ -1,4 +1,4 @@
--- Where a field ends.
+-- End of a field.
 use Rattle.std.specs.Prelude.{◌≡◌, ℕ, nat_lt, not, Bool, Some, None, List, length}
 use Rattle.std.specs.List.{position, position_or_len}
 use Rattle.std.proofs.Common.{arith, sym, ◌∙◌}

@@ -1,4 +1,4 @@
--- What proofs of other crates cite: a row is found by its fields, and two moves are one.
+-- Facts that proofs of other crates cite: a row is found by its fields, and two moves are one.
 use Rattle.std.specs.Prelude.{◌≡◌, ℕ, ◌+◌, ◌==◌, ◌&&◌, ◌||◌, not, Bool, true, List, [], ◌∷◌, Contains, if◌then◌else◌}
 use Rattle.std.specs.List.{list_any, list_all}
 use Rattle.std.proofs.Common.{refl, sym, ap, subst, ◌∙◌, inl, inr}
@@ -20,7 +20,7 @@ use Rattle.dfu_conformance.specs.Held.{meets, reading_bit}
 use Rattle.dfu_conformance.specs.MayAnswer.{GoesBy, MovesBy, MayMove, Run}
 use Rattle.dfu_conformance.proofs.Places.{same_place}
 
--- What a row gives, by number.
+-- Answer that a row gives, by number.
 abbrev pub gives_number : Gives → ℕ
 gives_number gives.Ack = 0
 gives_number gives.Stall = 1

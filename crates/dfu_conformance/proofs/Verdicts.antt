@@ -16,7 +16,7 @@ use Rattle.dfu_conformance.proofs.Least.{LeastTo, least_to}
 use Rattle.dfu_conformance.proofs.Places.{number_below}
 use Rattle.dfu_conformance.proofs.Somewhere.{HeldWith, held_can, held_place}
 
--- What is held for every set of readings is held for one.
+-- Places that are held for every set of readings are held for one.
 pub held_with : (held : List (List ℕ)) (events : List LogEvent) (r : ℕ) → r < 64 → IsHeld held events → HeldWith held events r
 held_with held events r within so = λ a p below. so a r p below within
 
@@ -63,7 +63,7 @@ pub held_next : (before after : List (List ℕ)) (events : List LogEvent) (e : L
 held_next before after events e says so a r p below within =
     held_more before after events e a r (λ q. so a r q below within) (λ n. says n a r below within) p
 
--- The same for the devices without habits.
+-- The devices without habits are held so too.
 pub held_next_plain : (before after : List (List ℕ)) (events : List LogEvent) (e : LogEvent) → IsStep before e after
     → IsHeldPlain before events
     → IsHeldPlain after (events ++ e ∷ [])
@@ -85,7 +85,7 @@ are_places before at events so places = λ p.
     places (place_number p) (number_below p) in
     (λ here. is.0 (sym same ∙ here), λ x. same ∙ is.1 x)
 
--- What a returned departure says: what came, that no device without habits is left, and where one might be before it.
+-- A departure that is returned says: what came, that no device without habits is left, and where one might be before it.
 abbrev pub Told : (before after : List (List ℕ)) → LogEvent → Departure → Type 0
 Told before after e d = (d.event ≡ e) × (anywhere after 0 ≡ false)
     × ((n : ℕ) → n < 12 → slice_index_or d.before n false ≡ some_held (slice_index_or before n []) 0)

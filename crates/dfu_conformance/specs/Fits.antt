@@ -1,4 +1,4 @@
--- Whether a row of the table fits an event.
+-- Tests whether a row of the table fits an event.
 use Rattle.std.specs.Prelude.{ℕ, ◌==◌, ◌&&◌, ◌||◌, nat_lt, min, Bool, true, false, not}
 use Rattle.dfu_conformance.specs.declared.row.StandardState.{StandardState}
 use Rattle.dfu_conformance.specs.declared.row.StandardState.TheVariants.{AppIdle, AppDetach, DfuIdle, DownloadSync, DownloadBusy, DownloadIdle, ManifestSync, Manifest, ManifestWaitReset, UploadIdle, Error, Fresh}
@@ -74,7 +74,7 @@ gives_stall gives.Stall = true
 gives_stall gives.Silent = true
 gives_stall g = false
 
--- What was seen of the answer is what a row gives; if nothing was seen, it may have been anything.
+-- The answer that was seen is what a row gives; if nothing was seen, it may have been anything.
 abbrev pub row_shows : Gives → (from next : StandardState) → ℕ → Response → Bool
 row_shows g from next len answer.Nothing = true
 row_shows g from next len answer.Stall = gives_stall g

@@ -1,4 +1,4 @@
--- Which devices are held.
+-- Devices that are held.
 use Rattle.std.specs.Prelude.{ℕ, ◌==◌, Bool, true, false, List, [], slice_index, slice_index_or}
 use Rattle.std.specs.Int.{bit_at}
 use Rattle.dfu_conformance.specs.declared.row.StandardState.{StandardState}

@@ -22,7 +22,7 @@ is_space byte = byte == 32
 abbrev pub field_of : List ℕ → List ℕ
 field_of line = take (position_or_len is_space line) line
 
--- What follows the first space.
+-- Bytes after the first space.
 abbrev pub rest_of : List ℕ → List ℕ
 rest_of line = drop (position_or_len is_space line + 1) line
 
@@ -60,7 +60,7 @@ setup_in text =
       length = pair_byte text 6 + 256 * pair_byte text 7;
     }) else None
 
--- How many bytes a body has: half as many as its text has digits, or 0 if its text is a dash.
+-- Bytes of a body: half as many as its text has digits, or 0 if its text is a dash.
 unfoldable pub body_in : List ℕ → Option ℕ
 body_in text =
     if bytes_eq text (codes "-") then Some 0
@@ -88,7 +88,7 @@ why_unread text =
     else if is_none (body_in (field_of (rest_of text))) then fault.Body
     else fault.Answer
 
--- What a request is read as that a setup asks for: one that is not of the class, or for another interface, is passed over.
+-- A request that a setup asks for is read as this: one that is not of the class, or for another interface, is passed over.
 abbrev pub IsRead : Request → Setup → (body : ℕ) → Response → Option Line → Type 0
 IsRead request.NotDfu s body a read = read ≡ Some Elsewhere
 IsRead q s body a read = read ≡ Some (Came (event_of s q body a))
@@ -101,7 +101,7 @@ SaysRequest interface (Some s) (Some body) (Some a) read =
     (read ≡ Some Elsewhere)
 SaysRequest interface s body a read = read ≡ None
 
--- What a line is read as, for this interface; nothing if it is not a line of a log.
+-- A line is read as this, for this interface; nothing if it is not a line of a log.
 abbrev pub LineSays : (interface : ℕ) → List ℕ → Option Line → Type 0
 LineSays interface text read =
     MatchBool (is_blank text) (read ≡ Some Blank)

@@ -1,4 +1,4 @@
--- What a device that keeps the standard may answer, with every freedom that the standard leaves: the rows are in the tables of
+-- Answers that a device that keeps the standard may give, with every freedom that the standard leaves: the rows are in the tables of
 -- `src/standard.rt`, `src/marks.rt`, `src/habits.rt` and `src/drifts.rt`, a line each or, in `marks.rt`, a line for each place.
 use Rattle.std.specs.Prelude.{◌≡◌, ◌⊎◌, ◌↔◌, ℕ, ◌<◌, true, List, [], ◌∷◌, Contains}
 use Rattle.dfu_conformance.specs.declared.row.StandardState.{StandardState}
@@ -57,6 +57,6 @@ CanAnswer r events = (a : ℕ) × (a < 16) × (last : StandardState) × ComesTo 
 abbrev pub IsHeld : List (List ℕ) → List LogEvent → Type 0
 IsHeld held events = (a r : ℕ) (p : StandardState) → a < 16 → r < 64 → (stands held p a r ≡ true) ↔ ComesTo a r events p
 
--- The same, of the devices that have no habit.
+-- Places of the devices that have no habit.
 abbrev pub IsHeldPlain : List (List ℕ) → List LogEvent → Type 0
 IsHeldPlain held events = (a : ℕ) (p : StandardState) → a < 16 → (stands held p a 0 ≡ true) ↔ ComesTo a 0 events p

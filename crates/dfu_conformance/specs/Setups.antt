@@ -1,4 +1,4 @@
--- What a setup asks for, as the table has it, and whether it is as section 3 of USB DFU 1.1 has it.
+-- Request that a setup brings, as the table has it, and whether it is as section 3 of USB DFU 1.1 has it.
 use Rattle.std.specs.Prelude.{ℕ, ◌==◌, ◌&&◌, Bool, true, not, if◌then◌else◌}
 use Rattle.dfu_wire.specs.declared.setups.Setup.{Setup}
 use Rattle.dfu_wire.specs.declared.requests.Request.{Request}
@@ -34,7 +34,7 @@ has_its_numbers q value = true
 abbrev pub is_plain : Setup → Request → (body : ℕ) → Bool
 is_plain s q body = (body == (if s.kind == 0x21 then s.length else 0)) && has_its_numbers q s.value
 
--- What came to a device by a setup that asks for this, with a body of this many bytes, and what was seen of the answer.
+-- Event of a setup that asks for this, with a body of this many bytes, and the answer that was seen.
 abbrev pub event_of : Setup → Request → (body : ℕ) → Response → LogEvent
 event_of s q body a = record { asked = asked_by q; is_plain = is_plain s q body; length = s.length; answer = a }
 

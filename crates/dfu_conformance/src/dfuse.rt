@@ -1,4 +1,4 @@
-//! Could a DfuSe device have answered so? What DfuSe adds to the table of USB DFU 1.1, and a judge that follows each device that keeps
+//! Could a DfuSe device have answered so? Rows that DfuSe adds to the table of USB DFU 1.1, and a judge that follows each device that keeps
 //! both.
 
 mod judge;

@@ -1,4 +1,4 @@
-//! What a device does by itself, between two events (USB DFU 1.1, appendix A).
+//! Moves that a device makes by itself, between two events (USB DFU 1.1, appendix A).
 
 use crate::Drift;
 use crate::Reading::SelfReset;
@@ -9,8 +9,8 @@ use crate::StandardState::{
 use crate::row::Source::{A, Habit};
 use crate::row::When::{Always, By, NotTolerant, Tolerant, WillDetach};
 
-/// What a device does by itself: an enumeration ends, a timer ends, a device detaches, a block or an image is in place, or could not be
-/// put there. Two such moves one after the other are one too.
+/// Moves that a device makes by itself: an enumeration ends, a timer ends, a device detaches, a block or an image is in place, or could not
+/// be put there. Two such moves one after the other are one too.
 #[rattlefmt::skip]
 pub static DRIFTS: [Drift; 12] = [
     drift!(Fresh, Always, DfuIdle, A),

@@ -1,4 +1,4 @@
-//! What comes to a device, and what is seen of its answer.
+//! Events that come to a device, and the answers that are seen.
 
 ghost use Rattle.std.specs.Prelude.{◌≡◌, ◌↔◌, IfSome, IsNone};
 ghost use Rattle.dfu_conformance.specs.Fits.{fits, stays, asks, row_shows, has_code, number_of_state};
@@ -7,7 +7,7 @@ ghost use Rattle.dfu_conformance.specs.Setups.{asked_by, has_its_numbers, is_pla
 use crate::{EventKind, Gives, Row, StandardState};
 use dfu_wire::{Request, Setup};
 
-/// What was seen of an answer.
+/// Answer that was seen.
 #[derive(Clone, Copy)]
 pub enum Response {
     /// A stall.
@@ -16,7 +16,7 @@ pub enum Response {
     Nothing,
     /// So many bytes; 0 if the request was acknowledged.
     Bytes {
-        /// How many they are.
+        /// Number of bytes.
         count: u32,
         /// The first of them, or 0.
         first: u8,
@@ -25,16 +25,16 @@ pub enum Response {
     },
 }
 
-/// What came to a device, and what was seen of its answer. Of a reset and of power nothing is seen.
+/// Event that came to a device, and the answer that was seen. Of a reset and of power nothing is seen.
 #[derive(Clone, Copy)]
 pub struct LogEvent {
     /// What came.
     pub asked: EventKind,
-    /// Whether the request is as section 3 has it: wValue and wLength, and a body of wLength bytes.
+    /// Tells whether the request is as section 3 has it: wValue and wLength, and a body of wLength bytes.
     pub is_plain: bool,
     /// wLength.
     pub length: u16,
-    /// What was seen of the answer.
+    /// Answer that was seen.
     pub answer: Response,
 }
 
@@ -79,7 +79,7 @@ fn asked_for(request: &Request) -> EventKind
     }
 }
 
-/// Whether a request is as section 3 has it.
+/// Returns whether a request is as section 3 has it.
 fn is_told(setup: &Setup, request: &Request, body: usize) -> bool
     ensures { result ≡ is_plain setup.now request.now body }
 {
@@ -93,7 +93,7 @@ fn is_told(setup: &Setup, request: &Request, body: usize) -> bool
     body == wanted && has_numbers(request, value)
 }
 
-/// Whether a request has the wValue and the wLength of section 3.
+/// Returns whether a request has the wValue and the wLength of section 3.
 fn has_numbers(request: &Request, value: u16) -> bool
     ensures { result ≡ has_its_numbers request.now value }
 {
@@ -106,14 +106,14 @@ fn has_numbers(request: &Request, value: u16) -> bool
     }
 }
 
-/// Whether a row speaks of an event: of what was asked, and of what was seen.
+/// Returns whether a row speaks of an event: of what was asked, and of what was seen.
 pub fn speaks_of(row: &Row, event: &LogEvent) -> bool
     ensures { result ≡ fits row.now event.now }
 {
     is_asked(row.asked, event) && is_shown(row, event)
 }
 
-/// Whether a row is about what was asked. A request that is not as section 3 has it may be taken as any other, too.
+/// Returns whether a row is about what was asked. A request that is not as section 3 has it may be taken as any other, too.
 pub(crate) fn is_asked(asked: EventKind, event: &LogEvent) -> bool
     ensures { result ≡ asks asked event.now }
 {
@@ -121,7 +121,7 @@ pub(crate) fn is_asked(asked: EventKind, event: &LogEvent) -> bool
         || !event.is_plain && asked.number() == EventKind::Other.number()
 }
 
-/// Whether what was seen is what a row gives.
+/// Returns whether the answer that was seen is what a row gives.
 fn is_shown(row: &Row, event: &LogEvent) -> bool
     ensures { result ≡ row_shows row.now.gives row.now.from row.now.next event.now.length event.now.answer }
 {
@@ -166,7 +166,7 @@ fn state_of(place: StandardState) -> usize
     }
 }
 
-/// Whether a status that enters this place may have this code.
+/// Returns whether a status that enters this place may have this code.
 fn is_code_of(place: StandardState, code: u8) -> bool
     ensures { result ≡ has_code place code }
 {
@@ -176,7 +176,7 @@ fn is_code_of(place: StandardState, code: u8) -> bool
     }
 }
 
-/// Whether a device may stay where it was.
+/// Returns whether a device may stay where it was.
 pub(crate) fn may_stay(event: &LogEvent) -> bool
     ensures { result ≡ stays event.now }
 {

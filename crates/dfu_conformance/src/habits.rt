@@ -1,4 +1,4 @@
-//! What devices are known to do that is not in the standard.
+//! Habits of devices that are not in the standard.
 
 use crate::EventKind::{Detach, GetState, GetStatus, Power, Reset};
 use crate::Reading::{Bootloader, DetachAtOnce, DetachLeaves, ErrorWithoutCode, RuntimeMute};

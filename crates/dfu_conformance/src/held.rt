@@ -1,4 +1,4 @@
-//! Which devices are held at each place.
+//! Devices that are held at each place.
 
 ghost use Rattle.std.specs.Prelude.{◌≡◌, ◌<◌, ◌≤◌, ℕ, ◌||◌, ◌&&◌, slice_index, length, ◌==◌, List, [], false, true, slice_index_or};
 ghost use Rattle.std.specs.Int.{bit_at};
@@ -90,7 +90,7 @@ fn readings_of(devices: &Devices) -> u64
     all
 }
 
-/// Whether there is no device.
+/// Returns whether there is no device.
 #[tactic(auto, using(crate::proofs::Untaken::none_held))]
 fn is_empty(devices: &Devices) -> bool
     ensures { result ≡ true → (a r : ℕ) → a < 16 → r < 64 → word_has_bit devices.now a r ≡ false }
@@ -206,7 +206,7 @@ pub(crate) fn step(before: &Places, event: &LogEvent) -> Places
     drift(&DRIFTS, &after)
 }
 
-/// Whether this bit is 1.
+/// Returns whether this bit is 1.
 fn has_bit(word: u64, bit: u8) -> bool
     requires { bit < 64 }
     ensures { result ≡ (bit_at word bit == 1) }
@@ -214,7 +214,7 @@ fn has_bit(word: u64, bit: u8) -> bool
     word >> bit & 1 == 1
 }
 
-/// Whether a device with this set of readings is held, with any bmAttributes.
+/// Returns whether a device with this set of readings is held, with any bmAttributes.
 fn is_held(devices: &Devices, readings: u8) -> bool
     requires { readings < 64 }
     ensures { result ≡ some_held devices.now readings }
@@ -234,7 +234,7 @@ pub(crate) fn places_of(places: &Places, readings: u8) -> [bool; 12]
     at
 }
 
-/// Whether a device with this set of readings may be anywhere.
+/// Returns whether a device with this set of readings may be anywhere.
 pub(crate) fn is_any_held(places: &Places, readings: u8) -> bool
     requires { readings < 64 }
     ensures { result ≡ anywhere places.now readings }

@@ -3,7 +3,7 @@
 ghost use Rattle.std.specs.Prelude.{◌≡◌};
 ghost use Rattle.dfu_conformance.specs.Fits.{asked_number, place_number};
 
-/// Where a device may be: a state of the standard (USB DFU 1.1, section 6.1.2), or dfuIDLE that a reset of the bus just entered.
+/// Place at which a device may be: a state of the standard (USB DFU 1.1, section 6.1.2), or dfuIDLE that a reset of the bus just entered.
 #[derive(Clone, Copy)]
 pub enum StandardState {
     /// 0.
@@ -41,7 +41,7 @@ impl StandardState {
     }
 }
 
-/// What came to a device: one of the requests of the class (USB DFU 1.1, section 3), or what happened to its bus or its power.
+/// Event that came to a device: one of the requests of the class (USB DFU 1.1, section 3), or what happened to its bus or its power.
 #[derive(Clone, Copy)]
 pub enum EventKind {
     /// DETACH.
@@ -113,7 +113,7 @@ pub enum When {
     By(Reading),
 }
 
-/// What a device answers by a row.
+/// Answer that a device gives by a row.
 #[derive(Clone, Copy)]
 pub enum Gives {
     /// It acknowledges, or sends no bytes.
@@ -135,7 +135,7 @@ pub enum Gives {
     Silent,
 }
 
-/// Where the standard has a row.
+/// Source of a row in the standard.
 #[derive(Clone, Copy)]
 pub enum Source {
     /// Appendix A, in the table of the state where the row begins; section 6.1.2 has the bytes of an answer.
@@ -149,29 +149,29 @@ pub enum Source {
 /// A row of the table: what a device may answer at a place, and where it is then.
 #[derive(Clone, Copy)]
 pub struct Row {
-    /// Where the device is.
+    /// Place of the device.
     pub from: StandardState,
-    /// What comes to it.
+    /// Event that comes to it.
     pub asked: EventKind,
     /// For which devices the row is.
     pub when: When,
     /// What it answers.
     pub gives: Gives,
-    /// Where it is then.
+    /// Place of the device then.
     pub next: StandardState,
-    /// Where the standard has the row.
+    /// Source of the row in the standard.
     pub source: Source,
 }
 
 /// A move that a device makes by itself, between two events.
 #[derive(Clone, Copy)]
 pub struct Drift {
-    /// Where the device is.
+    /// Place of the device.
     pub from: StandardState,
-    /// Which devices make the move.
+    /// Devices that make the move.
     pub when: When,
-    /// Where it is then.
+    /// Place of the device then.
     pub next: StandardState,
-    /// Where the standard has the move.
+    /// Source of the move in the standard.
     pub source: Source,
 }

@@ -1,4 +1,4 @@
-//! What a judge says.
+//! Verdict of a judge.
 
 ghost use Rattle.std.specs.Prelude.{◌≡◌, ◌&&◌, slice_index_or, false};
 ghost use Rattle.dfu_conformance.specs.Fits.{place_number, asks};
@@ -6,7 +6,7 @@ ghost use Rattle.dfu_conformance.specs.Fits.{place_number, asks};
 use crate::event::is_asked;
 use crate::{LogEvent, Row};
 
-/// What a judge says of all that came.
+/// Verdict of a judge on all that came.
 #[derive(Clone, Copy)]
 pub enum Verdict {
     /// A device that keeps the standard may have answered so.
@@ -23,14 +23,14 @@ pub enum Verdict {
 /// An event after which no device of the standard is left.
 #[derive(Clone, Copy)]
 pub struct Departure {
-    /// Where the device might be before it: by place, in the order of [`crate::StandardState`].
+    /// Places at which the device might be before it, in the order of [`crate::StandardState`].
     pub before: [bool; 12],
     /// What came.
     pub event: LogEvent,
 }
 
 impl Departure {
-    /// Whether a row says what was allowed: it begins where the device might be, and is about what was asked.
+    /// Returns whether a row says what was allowed: it begins where the device might be, and is about what was asked.
     pub fn allows(&self, row: &Row) -> bool
         ensures { result ≡ (slice_index_or self.now.before (place_number row.now.from) false && asks row.now.asked self.now.event) }
     {

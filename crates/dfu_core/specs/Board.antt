@@ -28,7 +28,7 @@ pub record IsIn (b : CoreBoard) (state : State) : Type 0 where
   pub has_mode : HasMode b.kept mode
   pub state_is : state_of (stage_of mode [] []) ≡ state
 
--- What may happen to it. The bytes `out` are those of the call's buffer before the call.
+-- Events that may happen to it. The bytes `out` are those of the call's buffer before the call.
 pub data CoreEvent : Type 0 where
   -- The calls dfu_core_handle, dfu_core_elapse and dfu_core_usb_reset.
   CoreHandle : (setup body out : List ℕ) → CoreEvent

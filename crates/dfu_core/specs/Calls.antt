@@ -1,4 +1,4 @@
--- What a call returns to a program in C.
+-- Number that a call returns to a program in C.
 use Rattle.std.specs.Prelude.{◌≡◌, ◌≢◌, ◌⊎◌, ℕ, ℤ, Bool, ◌<◌, ◌≤◌, IsSome, List, length, replicate, None}
 use Rattle.dfu_slots.specs.Medium.{Torn}
 use Rattle.dfu_slots.specs.Seen.{SlotsState}
@@ -23,9 +23,9 @@ use Rattle.dfu_core.specs.Formatting.{FORMAT}
 use Rattle.dfu_core.specs.Further.{AsksFurther}
 use Rattle.dfu_core.specs.Numbers.{refusal_number, reply_number, passed_number, NO_ROOM}
 
--- Why there is no device that asks, if the memory of its block has so many bytes: a format is due; or else the
--- configuration is not allowed; or else the memory has less room than the transfer size and the unit together; or else the record is not
--- that of such a device with a block of at most the transfer size.
+-- There is no device that asks, if the memory of its block has so many bytes, for this reason: a format is due; or else the configuration
+-- is not allowed; or else the memory has less room than the transfer size and the unit together; or else the record is not that of such a
+-- device with a block of at most the transfer size.
 abbrev pub IsUnfound : Refusal → DfuConfig → DfuRecord → ℕ → Type 0
 IsUnfound refusal.Asked c r room = r.work ≡ FORMAT
 IsUnfound refusal.NoConfig c r room = (r.work ≢ FORMAT) × ¬ IsConfig c
@@ -38,15 +38,15 @@ IsUnfound e c r room = ⊥
 abbrev pub IsIntact : (memory flash : List ℕ) → Asking → Type 0
 IsIntact memory flash a = IsKeptOn a (block_in a memory) (held_back_in a memory) flash
 
--- Why a call for a device that asks is refused: writes are due; or else the noted header is not in an open slot of the flash; or else
--- the device is not as the last call left it.
+-- A call for a device that asks is refused for this reason: writes are due; or else the noted header is not in an open slot of the flash;
+-- or else the device is not as the last call left it.
 abbrev pub IsRefusedAsking : Refusal → (block flash : List ℕ) → Asking → Type 0
 IsRefusedAsking refusal.Asked block flash a = IsSome a.work
 IsRefusedAsking refusal.NoMedium block flash a = (a.work ≡ None) × ¬ IsThere a flash
 IsRefusedAsking refusal.NoDevice block flash a = (a.work ≡ None) × IsThere a flash × ¬ IsIntact block flash a
 IsRefusedAsking e block flash a = ⊥
 
--- Why a call is refused: there is no device that asks; or else a call for that device is refused.
+-- A call is refused for this reason: there is no device that asks; or else a call for that device is refused.
 abbrev pub IsRefusedByCore : Refusal → DfuConfig → DfuRecord → (block flash : List ℕ) → Type 0
 IsRefusedByCore e c r block flash = IsUnfound e c r (length block)
     ⊎ ((a : Asking) × IsConfig c × IsKept c r a × (block_memory_size c ≤ length block) × IsRefusedAsking e block flash a)
@@ -80,7 +80,7 @@ pub record Replied (Whole : Type 0) (a : LentAsking) (flash out : List ℕ) (Row
   pub number_is : result ≡ number reply
   pub called : Whole → DeviceCalled a flash out Row a' out' reply
 
--- The same for time that passed. The number is 0, or says that writes are asked for.
+-- No writes were due, and time that passed gave a row like that of a call. The number is 0, or says that writes are asked for.
 pub record TimePassed (Whole : Type 0) (a : LentAsking) (flash : List ℕ) (Row : DeviceView → Answer → List ℕ → DeviceView → Type 0)
     (result : ℤ) (a' : LentAsking) : Type 0 where
   pub idle : a.work ≡ None

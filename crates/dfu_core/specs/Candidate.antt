@@ -1,4 +1,4 @@
--- Where an image is that was taken and is not in place yet, for a program in C.
+-- Place of an image that was taken and is not in place yet, for a program in C.
 use Rattle.std.specs.Prelude.{◌≡◌, ◌⊎◌, ◌+◌, ◌≤◌, ℕ, ℤ, pos, List, length, None}
 use Rattle.dfu_device.specs.declared.candidate.Candidate.{Candidate}
 use Rattle.dfu_device.specs.Candidate.{candidate_in, IsCandidate}

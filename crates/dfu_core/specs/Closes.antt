@@ -1,4 +1,4 @@
--- Whether a setup closes a download, before it is handed in, for a program in C.
+-- The answer that says, before a setup is handed in, whether it closes a download, for a program in C.
 use Rattle.std.specs.Prelude.{◌≡◌, ℕ, ℤ, Bool, List}
 use Rattle.dfu_asks.specs.declared.asking.Asking.{Asking}
 use Rattle.dfu_asks.specs.Asks.{device_in, IsDevice}

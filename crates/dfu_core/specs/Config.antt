@@ -1,4 +1,4 @@
--- What a program in C sets a device up with.
+-- Configuration with which a program in C sets a device up.
 use Rattle.std.specs.Prelude.{◌≡◌, ◌==◌, ◌+◌, ◌%◌, ◌^◌, ◌≤◌, ℕ, if◌then◌else◌}
 use Rattle.dfu_wire.specs.Functional.{functional_of}
 use Rattle.dfu_slots.specs.declared.layout.Unit.{Unit as WriteUnit}

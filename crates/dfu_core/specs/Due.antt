@@ -1,4 +1,4 @@
--- When the time that passes changes the state of a device, for a program in C.
+-- Time after which the state of a device changes, for a program in C.
 use Rattle.std.specs.Prelude.{◌≡◌, ◌-◌, ◌^◌, min, ℕ, ℤ, pos, List}
 use Rattle.dfu_device.specs.Rows.{Elapses}
 use Rattle.dfu_device.specs.DeviceView.{DeviceView}

@@ -7,7 +7,7 @@ use Rattle.dfu_core.specs.declared.config.DfuConfig.{DfuConfig}
 use Rattle.dfu_core.specs.Config.{unit_of}
 use Rattle.dfu_core.specs.declared.record.DfuRecord.{DfuRecord}
 
--- What is due of a record if that is a format.
+-- Work of a record that is due if that is a format.
 abbrev pub FORMAT : ℕ
 FORMAT = 3
 

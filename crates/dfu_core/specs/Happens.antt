@@ -1,4 +1,4 @@
--- What may come of a step of a board in C: what a call does, and what may become of its flash.
+-- Results of a step of a board in C: what a call does, and what may become of its flash.
 use Rattle.std.specs.Prelude.{◌≡◌, ◌⊎◌, ◌==◌, ◌≤◌, not, ℕ, ℤ, Bool, true, false, pos, List, [], length, None}
 use Rattle.dfu_slots.specs.Medium.{Torn}
 use Rattle.dfu_device.specs.declared.device_state.DeviceState.{DeviceState}
@@ -28,7 +28,7 @@ pub record IsCalled (b b' : CoreBoard) : Type 0 where
   pub config : b'.config ≡ b.config
   pub flash : b'.flash ≡ b.flash
 
--- What comes of dfu_core_handle, with this setup, body and buffer.
+-- Result of dfu_core_handle, with this setup, body and buffer.
 abbrev pub Handled : CoreBoard → (setup body out : List ℕ) → ℤ → List ℕ → CoreBoard → Type 0
 Handled b setup body out n out' b' =
     Goes b.config b.kept b.block b'.kept b'.block (λ a a'. let before = with_memory b.block a in
@@ -38,7 +38,7 @@ Handled b setup body out n out' b' =
     ⊎ (CoreRefuses b.config b.kept b.block b.flash n b'.kept b'.block × (out' ≡ out))
     ⊎ HasNoRoom (answer_room (setting_of b.config)) b.kept b.block out n b'.kept b'.block out'
 
--- What comes of dfu_core_elapse, with so many milliseconds.
+-- Result of dfu_core_elapse, with so many milliseconds.
 abbrev pub Elapsed : CoreBoard → (ms : ℕ) → ℤ → CoreBoard → Type 0
 Elapsed b ms n b' =
     Goes b.config b.kept b.block b'.kept b'.block (λ a a'. let before = with_memory b.block a in
@@ -46,7 +46,7 @@ Elapsed b ms n b' =
     (λ d x sent d'. (x ≡ answer.Ack) × (sent ≡ []) × Elapses ms d d') n (with_memory b'.block a'))
     ⊎ CoreRefuses b.config b.kept b.block b.flash n b'.kept b'.block
 
--- What comes of dfu_core_usb_reset.
+-- Result of dfu_core_usb_reset.
 abbrev pub Reset : CoreBoard → ℤ → CoreBoard → Type 0
 Reset b n b' =
     Goes b.config b.kept b.block b'.kept b'.block (λ a a'. let before = device_in (with_memory b.block a) b.flash in
@@ -55,7 +55,7 @@ Reset b n b' =
     × (IsIntact b.block b.flash a → IsIntact b'.block b.flash a'))
     ⊎ CoreRefuses b.config b.kept b.block b.flash n b'.kept b'.block
 
--- What comes of dfu_core_too_long, with this setup.
+-- Result of dfu_core_too_long, with this setup.
 abbrev pub TooLongCalled : CoreBoard → (setup : List ℕ) → ℤ → CoreBoard → Type 0
 TooLongCalled b setup n b' =
     let own = addressed b.config.interface setup in
@@ -63,7 +63,7 @@ TooLongCalled b setup n b' =
     ⊎ ((b'.kept ≡ b.kept) × (((n ≡ NOT_LONG) × IsIdleRecord b.config b.kept × ¬ IsLong (setting_of b.config) own)
     ⊎ RefusesSetup b.config b.kept n))
 
--- What comes of dfu_core_took, with this number for a failure and this buffer.
+-- Result of dfu_core_took, with this number for a failure and this buffer.
 abbrev pub Told : CoreBoard → (failed : ℕ) (out : List ℕ) → ℤ → List ℕ → CoreBoard → Type 0
 Told b failed out n out' b' =
     Goes b.config b.kept b.block b'.kept b'.block
@@ -87,7 +87,7 @@ abbrev pub start_mode : Bool → DeviceState
 start_mode true = DfuIdle
 start_mode false = AppIdle
 
--- What comes of an event. If the power goes, the flash stays as it is, and the memory of the block may hold anything.
+-- Result of an event. If the power goes, the flash stays as it is, and the memory of the block may hold anything.
 abbrev pub CoreHappens : CoreBoard → CoreEvent → ℤ → List ℕ → CoreBoard → Type 0
 CoreHappens b (CoreHandle setup body out) n out' b' = IsCalled b b' × Handled b setup body out n out' b'
 CoreHappens b (CoreElapse ms) n out' b' = IsCalled b b' × Elapsed b ms n b'

@@ -1,4 +1,4 @@
--- Why a question about a record is not answered.
+-- Refusals of a question about a record.
 use Rattle.std.specs.Prelude.{◌≡◌, ◌≢◌, ◌⊎◌, ℤ}
 use Rattle.dfu_device.specs.declared.device_state.DeviceState.{DeviceState}
 use Rattle.dfu_core.specs.declared.config.DfuConfig.{DfuConfig}

@@ -1,4 +1,4 @@
--- Where the image is that a program in C is to run.
+-- Place of the image that a program in C is to run.
 use Rattle.std.specs.Prelude.{◌≡◌, ℕ, ℤ, pos, List}
 use Rattle.dfu_core.specs.declared.records.DfuPlace.{DfuPlace}
 use Rattle.dfu_asks.specs.declared.image.ImagePlace.{ImagePlace}

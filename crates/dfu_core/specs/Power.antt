@@ -1,4 +1,4 @@
--- What becomes of a device that gets power, for a program in C.
+-- Device that gets power, for a program in C.
 use Rattle.std.specs.Prelude.{◌≡◌, ◌⊎◌, ◌≤◌, ◌^◌, ℕ, ℤ, pos, List, [], length, None}
 use Rattle.dfu_slots.specs.Units.{Grain}
 use Rattle.dfu_slots.specs.Image.{HasImage}

@@ -39,13 +39,13 @@ ClosesNone c r setup = (a : Asking) → IsKept c r a → (block flash : List ℕ
 abbrev pub RefusesStatus : DfuConfig → DfuRecord → ℕ → ℤ → Type 0
 RefusesStatus c r status result = ((result ≡ NO_STATUS) × IsIdleRecord c r × ¬ IsObjection status) ⊎ RefusesSetup c r result
 
--- What comes of dfu_core_refuse.
+-- Result of dfu_core_refuse.
 abbrev pub WasRefused : DfuConfig → DfuRecord → ℕ → ℤ → DfuRecord → Type 0
 WasRefused c r status result r' =
     ((result ≡ pos 0) × IsIdleRecord c r × IsObjection status × TakesCause c r (Refusing (objection_in status)) answer.Ack r')
     ⊎ ((r' ≡ r) × RefusesStatus c r status result)
 
--- What comes of dfu_core_refuse_close, with a setup as the table of the device knows it.
+-- Result of dfu_core_refuse_close, with a setup as the table of the device knows it.
 abbrev pub CloseRefused : DfuConfig → DfuRecord → List ℕ → ℕ → ℤ → DfuRecord → Type 0
 CloseRefused c r setup status result r' =
     ((result ≡ STALL) × IsIdleRecord c r × IsObjection status × TakesCause c r (RefusingClose setup (objection_in status)) answer.Stall r')

@@ -1,4 +1,4 @@
--- Whether a device will stall a setup, before the body of the setup is there, for a program in C.
+-- The answer that says, before the body of a setup is there, whether a device will stall it, for a program in C.
 use Rattle.std.specs.Prelude.{◌≡◌, ℕ, ℤ, Bool, List, length}
 use Rattle.dfu_asks.specs.declared.asking.Asking.{Asking}
 use Rattle.dfu_asks.specs.Asks.{device_in, IsDevice}

@@ -1,4 +1,4 @@
-//! What a program in C sets a device up with.
+//! Configuration with which a program in C sets a device up.
 ghost use Rattle.std.specs.Prelude.{◌≡◌, IfSome, IfNone, OnSome};
 ghost use Rattle.dfu_core.specs.Config.{setting_of, unit_of, IsConfig};
 
@@ -13,7 +13,7 @@ pub const VERSION: u32 = 300;
 /// bcdDFUVersion of every device.
 const BCD_VERSION: u16 = 0x0110;
 
-/// What a device is set up with: `struct dfu_config`. It is to stay the same between two calls for a device.
+/// Configuration of a device: `struct dfu_config`. It is to stay the same between two calls for a device.
 #[repr(C)]
 #[derive(Clone, Copy)]
 pub struct DfuConfig {
@@ -33,16 +33,16 @@ pub struct DfuConfig {
     pub attributes: u8,
     /// bInterfaceNumber: a setup whose wIndex is another number is stalled.
     pub interface: u8,
-    /// How long each block takes beside its erases and programs, in milliseconds, 0 to 16,777,215. With 0 it is written before its status is
+    /// Time of each block beside its erases and programs, in milliseconds, 0 to 16,777,215. With 0 it is written before its status is
     /// answered, and no time is said.
     pub busy_ms: u32,
-    /// The same for each image, 0 to 16,777,215; at least 1 without bitManifestationTolerant.
+    /// Time of each image beside them, 0 to 16,777,215; at least 1 without bitManifestationTolerant.
     pub manifest_ms: u32,
     /// The fewest bytes of an image, 1 to 16,777,216.
     pub least: u32,
-    /// How many bytes the flash is written at a time: 1, 16, 64 or 256.
+    /// Bytes that the flash is written at a time: 1, 16, 64 or 256.
     pub unit: u32,
-    /// How many bytes it is erased at a time: a multiple of 256 up to 131,072; or 0, and it is written over in place.
+    /// Bytes that it is erased at a time: a multiple of 256 up to 131,072; or 0, and it is written over in place.
     pub sector: u32,
     /// Milliseconds to erase a sector, which are said for each that a block or an image erases.
     pub erase_ms: u16,
@@ -50,14 +50,14 @@ pub struct DfuConfig {
     pub program_ms: u16,
 }
 
-/// What a configuration that is allowed sets up.
+/// Settings of a configuration that is allowed.
 #[derive(Drop)]
 pub struct Settings {
     /// The configuration of the device.
     pub config: Config,
-    /// In which unit the flash is written.
+    /// Unit in which the flash is written.
     pub unit: Unit,
-    /// In which sectors it is erased before, if in any.
+    /// Sectors in which it is erased before, if in any.
     pub sector: Sector,
 }
 
@@ -89,8 +89,8 @@ pub(crate) fn unit_of(config: &DfuConfig) -> Unit
     }
 }
 
-/// What the configuration sets up. None if it is of another version, `Config::new` refuses its numbers, no unit has that size, or
-/// there are no such sectors.
+/// Returns the settings of the configuration. None if it is of another version, `Config::new` refuses its numbers, no unit has that size,
+/// or there are no such sectors.
 #[inline(never)]
 pub fn settings_of(config: &DfuConfig) -> Option<Settings>
     ensures config { IfSome result (λ s. s.config ≡ setting_of config.now) }

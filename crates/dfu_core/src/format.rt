@@ -10,7 +10,7 @@ use crate::config::Settings;
 use crate::record::DfuRecord;
 use dfu_asks::{FormatStep, Formatting};
 
-/// What is due of a record if that is a format.
+/// Work of a record that is due if that is a format.
 pub(crate) const WORK: u32 = 3;
 
 // The part of a format by its number, and the place at which the image goes on.

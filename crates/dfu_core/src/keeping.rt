@@ -61,7 +61,7 @@ fn job_of(kept: &DfuRecord) -> Option<SlotWrite>
     }
 }
 
-// What is left to be written by a record, if anything is; none if its numbers say neither.
+// Returns the writes that are left by a record, if any are; none if its numbers say neither.
 fn work_of(kept: &DfuRecord) -> Option<Option<PendingWrites>>
     ensures some { IfSome result (λ work. HasWork kept.now work) }
     ensures only { (work : Option Due) → HasWork kept.now work → result ≡ Some work }
@@ -135,7 +135,7 @@ pub fn slot_of(second: bool) -> u32
     u32::from(second)
 }
 
-// What a record notes, if its slot is one of the two.
+// Returns the notes of a record, if its slot is one of the two.
 fn noted_in(kept: &DfuRecord) -> Option<Noted>
     ensures some { IfSome result (λ n. HasNote kept.now n) }
     ensures none { IfNone result ((n : Note) → ¬ HasNote kept.now n) }

@@ -1,5 +1,5 @@
-//! What the library of the device for C stands on: its configuration, its record, and which device or format these are. The records
-//! and numbers that the other libraries for C have too are here as well.
+//! Base of the library of the device for C: its configuration, its record, and which device or format these are. The records and numbers
+//! that the other libraries for C have too are here as well.
 #![tactic(auto)]
 
 mod config;

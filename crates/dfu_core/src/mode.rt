@@ -71,7 +71,7 @@ pub(crate) fn mode_of(kept: &DfuRecord) -> Option<DeviceState>
     Some(mode)
 }
 
-/// Whether a record has a mode.
+/// Returns whether a record has a mode.
 pub fn has_mode(kept: &DfuRecord) -> bool
     ensures one { IsTrue result → (m : DeviceState) × HasMode kept.now m }
     ensures none { IsTrue (not result) → (m : DeviceState) → ¬ HasMode kept.now m }
@@ -82,7 +82,7 @@ pub fn has_mode(kept: &DfuRecord) -> bool
     }
 }
 
-/// What the configuration sets up and the mode of a record, if the configuration is allowed and the record has a mode.
+/// Returns the settings of the configuration and the mode of a record, if the configuration is allowed and the record has a mode.
 pub fn mode_in(config: &DfuConfig, kept: &DfuRecord) -> Result<(Settings, DeviceState), Refusal>
     ensures set_up { IfOk result (λ r. IsSetUp config.now r.0.config r.0.unit r.0.sector) }
     ensures only { IfOk result (λ r. (x : KeptMode) → HasMode kept.now x → r.1 ≡ x) }
@@ -99,7 +99,7 @@ pub fn mode_in(config: &DfuConfig, kept: &DfuRecord) -> Result<(Settings, Device
     }
 }
 
-/// The same, if no writes are due either.
+/// Returns the settings and the mode as `mode_in`, if no writes are due either.
 pub fn idle_mode(config: &DfuConfig, kept: &DfuRecord) -> Result<(Settings, DeviceState), Refusal>
     ensures idle { OnOk result (IsIdleRecord config.now kept.now) }
     ensures err { IfErr result (λ e. RefusesSetup config.now kept.now (refusal_number e)) }

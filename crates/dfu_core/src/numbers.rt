@@ -1,8 +1,8 @@
-//! Why a call of the device for C is refused, and the number of that.
+//! Refusals of a call of the device for C, and their numbers.
 ghost use Rattle.std.specs.Prelude.{◌≡◌};
 ghost use Rattle.dfu_core.specs.Numbers.{refusal_number};
 
-/// Why a call is refused. Nothing changed then.
+/// Reasons for which a call is refused. Nothing changed then.
 #[derive(Clone, Copy)]
 pub enum Refusal {
     /// The configuration is of another version, or not allowed.

@@ -1,10 +1,10 @@
-//! What a program in C keeps of a device, or of a format, between two calls.
+//! Record that a program in C keeps of a device, or of a format, between two calls.
 ghost use Rattle.std.specs.Prelude.{◌≡◌};
 ghost use Rattle.dfu_core.specs.Mode.{blank};
 
 use crate::config::VERSION;
 
-/// What is kept of a device that asks for its writes: `struct dfu_record`, as the last call left it.
+/// Record of a device that asks for its writes: `struct dfu_record`, as the last call left it.
 ///
 /// | `mode` | State | `first` | `second` | `number` |
 /// |---|---|---|---|---|
@@ -32,31 +32,31 @@ pub struct DfuRecord {
     pub first: u32,
     /// The milliseconds that passed in the state.
     pub second: u32,
-    /// Where the puts end in the spare slot.
+    /// Place at which the puts end in the spare slot.
     pub put_end: u32,
-    /// Which slot was found to be the active one: 0 the first, 1 the second.
+    /// Slot that was found to be the active one: 0 the first, 1 the second.
     pub slot: u32,
     /// The number of the next block, or the status code.
     pub number: u16,
-    /// How many bytes at the front of the block's memory are the block that is not written, 0 to 4,096.
+    /// Length of the block that is not written, at the front of the block's memory, 0 to 4,096.
     pub length: u16,
     /// The header of the active slot, as it was in the flash.
     pub header: [u8; 16],
-    /// What is due: 0 no writes, 1 a block, 2 an image is put in place, 3 a format.
+    /// Work that is due: 0 no writes, 1 a block, 2 an image is put in place, 3 a format.
     pub work: u32,
-    /// Where the spare slot begins; for a format the place at which the image goes on.
+    /// Place at which the spare slot begins; for a format the place at which the image goes on.
     pub spare: u32,
     /// The register over the image.
     pub sum: u32,
-    /// How many bytes of the writes are carried out.
+    /// Bytes of the writes that are carried out.
     pub done: u32,
     /// 0; or 1 more than wLength of the GETSTATUS that waits for its answer.
     pub asked: u32,
     /// The generation of the image that is put in place; of a format the number of its part.
     pub generation: u8,
-    /// Whether the gate of the spare slot is closed first: 1, or 0.
+    /// Tells whether the gate of the spare slot is closed first: 1, or 0.
     pub close: u8,
-    /// How many bytes after the block's in its memory are held back until a unit is whole: fewer than a unit has.
+    /// Bytes after the block's in its memory that are held back until a unit is whole: fewer than a unit has.
     pub held_length: u16,
 }
 

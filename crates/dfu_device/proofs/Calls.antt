@@ -50,7 +50,7 @@ pub begun_before : (n : ℕ) (s : SlotsState) → 0 < n → (n ≡ 0) ⊎ (is_pu
 begun_before n s some (inl none) = absurd (omega (arith, some, none))
 begun_before n s some (inr put) = (and_parts (is_begun s) (s.put_end == n) put).0
 
--- What is within the room of a store is within the data of its spare slot.
+-- Bytes within the room of a store are within the data of its spare slot.
 pub fits_spare : (s : SlotsState) (n : ℕ) → is_shaped s ≡ true → n ≤ room_of s → n ≤ length (spare_of s)
 fits_spare s n shape fits = grind (arith, common_steps)
 

@@ -1,4 +1,4 @@
--- What is decided is carried out, and is a row.
+-- A decision is carried out, and is a row.
 use Rattle.std.proofs.Common.{◌≡◌, ◌&&◌, Bool, inl, inr, IsTrue, true, if◌then◌else◌, ℕ, List, [], length, refl, sym, ◌∙◌, ap, subst, arith, Result, Ok, Err, OnOk, IfErr}
 use Rattle.std.proofs.lemmas.Grind.{common_steps}
 use Rattle.std.proofs.lemmas.List.{length-take-le}
@@ -34,14 +34,14 @@ as_drafted reply.Status asked w a out says = says
 as_drafted reply.State asked w a out says = says
 as_drafted reply.Stall asked w a out says = says
 
--- What was answered in the stage that was entered is the reply by the name of that stage.
+-- The answer in the stage that was entered is the reply by the name of that stage.
 as_entered : (r : ReplyRead) (asked : ℕ) (w w' : DeviceView) (stage : Stage) (a : Answer) (out : List ℕ) → w'.config ≡ w.config
     → room_of w'.slots ≡ room_of w.slots → w'.stage ≡ stage → AnswersPending (pending_answer_of asked r) w' a out
     → Answers asked (reply_in (profile w) stage r) a out
 as_entered r asked w w' stage a out config room is says =
     subst (λ (x : Reply). Answers asked x a out) (λ k. reply_in (profile_of (config k) (room k)) (is k) r) (as_drafted r asked w' a out says)
 
--- What follows from a call that worked, and from each fault of a write, follows.
+-- A consequence of a call that worked, and of each fault of a write, follows.
 either_way_ended : {T A C : Type 0} {B : WriteFault → Type 0} (r : Result T WriteFault) → OnOk r A → IfErr r B → (A → C)
     → ((fault : WriteFault) → B fault → C) → C
 either_way_ended (Ok x) a b f g = f a
@@ -93,7 +93,7 @@ still_sound m n b s sound fills = sound_of (is_shaped s) (is_filled m b s) (is_f
     sound_of : (p q r : Bool) → IsTrue (p && q) → r ≡ true → IsTrue (p && r)
     sound_of p q r t e = grind (arith, common_steps)
 
--- What is decided on a setup in a device is its row.
+-- The decision on a setup in a device is its row.
 pub decided_setup : (p : ProfileRead) (m : DeviceState) (setup block body : List ℕ) (d : Decision) (asked : ℕ) (w : DeviceView)
     → profile_in p ≡ profile w → IsTrue (is_sound m (length block) w.slots) → w.stage ≡ stage_of m (spare_of w.slots) block
     → (decides : DecidesSetup p m setup body d asked)
@@ -108,7 +108,7 @@ decided_setup p m setup block body d asked w same sound stage decides =
     (decides.row image spare block (holds_written m (length block) w.slots sound))
     ∙ ap (λ (st : Stage). if served then plan (profile w) image st r else Sure Stall st) (sym stage)
 
--- What is decided on a setup and carried out is its row.
+-- The decision on a setup, carried out, is its row.
 pub handled : (p : ProfileRead) (m : DeviceState) (setup block body : List ℕ) (d : Decision) (asked : ℕ) (w : DeviceView)
     → profile_in p ≡ profile w → IsTrue (is_sound m (length block) w.slots) → w.stage ≡ stage_of m (spare_of w.slots) block
     → DecidesSetup p m setup body d asked → (a : Answer) (out : List ℕ) (w' : DeviceView)
@@ -119,7 +119,7 @@ handled p m setup block body d asked w same sound stage decides a out w' done =
     (decided_setup p m setup block body d asked w same sound stage decides)
     (subst (λ (n : ℕ). Done (plan_of (profile w) (image_of w.slots) (spare_of w.slots) block body d) n w a out w') decides.asked_is done))
 
--- What is decided on a time and carried out is its row.
+-- The decision on a time, carried out, is its row.
 pub passed : (p : ProfileRead) (ms : ℕ) (m : DeviceState) (block body : List ℕ) (d : Decision) (w w' : DeviceView) (x : PendingAnswer)
     → profile_in p ≡ profile w → IsTrue (is_sound m (length block) w.slots) → w.stage ≡ stage_of m (spare_of w.slots) block
     → DecidesTime p m (length block) ms d → body ≡ []
@@ -138,7 +138,7 @@ passed p ms m block body d w w' x same sound stage decides none done silent =
     subst (λ (z : Plan). Done z 0 w answer.Ack [] w') here
     (subst (λ (l : List ℕ). Done (plan_of (profile w) image spare block l d) 0 w answer.Ack [] w') none (done answer.Ack [] says))
 
--- What can be carried out in a mode can be in one that is the same.
+-- A decision that can be carried out in a mode can be in an equal one.
 pub allowed : (p : ProfileRead) (q : Asked) (d : Decision) {m n : DeviceState} → m ≡ n → AllowsAsked p n q d → AllowsAsked p m q d
 allowed p q d is can = subst (λ (k : DeviceState). AllowsAsked p k q d) (sym is) can
 
@@ -146,7 +146,7 @@ allowed p q d is can = subst (λ (k : DeviceState). AllowsAsked p k q d) (sym is
 pub allowed_time : (p : ProfileRead) (d : Decision) {m n : DeviceState} → m ≡ n → Allows p n 0 d → Allows p m 0 d
 allowed_time p d is can = subst (λ (k : DeviceState). Allows p k 0 d) (sym is) can
 
--- What can be carried out with so many bytes can be with the body of a DNLOAD of that length.
+-- A decision that can be carried out with so many bytes can be with the body of a DNLOAD of that length.
 pub allowed_block : (p : ProfileRead) (m : DeviceState) (d : Decision) {q : Asked} {block len : ℕ} → q ≡ asked.Dnload block len
     → Allows p m len d
     → AllowsAsked p m q d

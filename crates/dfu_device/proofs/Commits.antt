@@ -13,7 +13,7 @@ use Rattle.dfu_device.specs.Table.{commit_code}
 use Rattle.dfu_device.specs.Rows.{Committed, FailedCommit}
 use Rattle.dfu_device.proofs.Calls.{called_one}
 
--- What is closed was put in the closed spare, within its room.
+-- The bytes that are closed were put in the closed spare, within its room.
 pub record IsReady (s : SlotsState) (n : ℕ) : Type 0 where
   pub begun : is_begun s ≡ true
   pub end : s.put_end ≡ n

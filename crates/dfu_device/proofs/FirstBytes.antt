@@ -1,4 +1,4 @@
--- Which request of the class a setup is, by its first two bytes.
+-- Request of the class that a setup is, by its first two bytes.
 use Rattle.std.specs.Prelude.{◌≡◌, ℕ, ◌==◌, ◌&&◌, Bool, true, false, List, slice_index}
 use Rattle.std.proofs.Common.{sym, ap, ◌∙◌}
 use Rattle.std.proofs.lemmas.Bool.{eqb-true, false≢true, and_parts}

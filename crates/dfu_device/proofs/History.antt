@@ -1,4 +1,4 @@
--- What a history gathers: one step more, any number of steps, and that it is fixed.
+-- Bytes that a history gathers: one step more, any number of steps, and that it is fixed.
 use Rattle.std.specs.Prelude.{◌≡◌, ℕ, Bool, true, false, List, [], ◌∷◌, ◌++◌}
 use Rattle.std.proofs.Common.{refl, sym, ap, ◌∙◌, subst}
 use Rattle.std.proofs.lemmas.List.{append_assoc, append-nil}

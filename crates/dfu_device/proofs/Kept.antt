@@ -1,4 +1,4 @@
--- What a row does to the slot store, and so to the image.
+-- Effect of a row on the slot store, and so on the image.
 use Rattle.std.specs.Prelude.{◌≡◌, ◌⊎◌, ℕ, List, [], ◌∷◌, length}
 use Rattle.std.proofs.Common.{sym, ap, ◌∙◌, inl, inr, subst}
 use Rattle.dfu_wire.specs.declared.setups.Setup.{Setup}
@@ -18,7 +18,7 @@ use Rattle.dfu_device.specs.RowForms.{CallsFor}
 use Rattle.dfu_device.proofs.Leads.{row_leads, time_leads}
 use Rattle.dfu_device.specs.Kept.{KeepsImage, RowKeeps, ErrorKeeps}
 
--- What broke a call off is one fault.
+-- The fault that broke a call off is one.
 ended_one : {f g : WriteFault} → BrokenBy f ≡ BrokenBy g → f ≡ g
 ended_one q = cc
 

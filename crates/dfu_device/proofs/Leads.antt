@@ -1,4 +1,4 @@
--- What every row of the table is like: for which bytes it calls the slot store, and in which error of the medium it ends.
+-- Facts of every row of the table: the bytes for which it calls the slot store, and the error of the medium in which it ends.
 use Rattle.std.specs.Prelude.{ℕ, List}
 use Rattle.dfu_device.specs.Stage.{Request, OtherRequest, Profile, Stage}
 use Rattle.dfu_device.specs.Table.{Plan, plan, time_plan}

@@ -8,6 +8,6 @@ next_bytes i place n len is =
     let e : (place + n) - place ≡ min len (length (drop place i)) = omega (arith, is, length-drop place i) in
     ap (λ (k : ℕ). take k (drop place i)) e ∙ take_min len (drop place i)
 
--- That is how many they are.
+-- The number is that of these bytes.
 pub next_counted : (i : List ℕ) (place n len : ℕ) → n ≡ min len (length i - place) → n ≡ length (take len (drop place i))
 next_counted i place n len is = omega (arith, is, length-drop place i, length-take len (drop place i))

@@ -1,4 +1,4 @@
--- What a history of rows of any cause gathers: the bytes taken and the bytes sent are two instances.
+-- Bytes that a history of rows of any cause gathers: the bytes taken and the bytes sent are two instances.
 use Rattle.std.specs.Prelude.{◌≡◌, ℕ, Bool, true, if◌then◌else◌, List, [], ◌∷◌, ◌++◌}
 use Rattle.std.proofs.Common.{sym, ap, ◌∙◌, subst}
 use Rattle.dfu_wire.specs.declared.setups.Setup.{Setup}
@@ -34,7 +34,7 @@ reply_fits q body len w a out w' x =
 -- In which states bytes are held, which they are by image and state, what a reply makes of them, and what a cause with its answer adds.
 module _ (inside : State → Bool) (held : List ℕ → Stage → List ℕ) (joined : List ℕ → Request → Reply → List ℕ)
     (own : Cause → Answer → List ℕ → List ℕ) where
-  -- What is left of these bytes in a state.
+  -- Bytes that are left of these in a state.
   abbrev left : State → List ℕ → List ℕ
   left state bytes = if inside state then bytes else []
 
@@ -45,12 +45,12 @@ module _ (inside : State → Bool) (held : List ℕ → Stage → List ℕ) (joi
   abbrev Joins : List ℕ → Request → Outcome → Type 0
   Joins before r o = held o.after.image o.after.stage ≡ left (state_of o.after.stage) (joined before r o.reply)
 
-  -- What has to be known of such bytes.
+  -- Facts of such bytes that must be known.
   pub record Gathers : Type 0 where
     -- A row of each form.
     pub form : (c : Profile) (i : List ℕ) (st : Stage) (r : Request) (p : Plan) → RowForm c i st r p → (luck : Luck)
         → Joins (held i st) r (outcome i p luck)
-    -- What a setup adds, by its answer.
+    -- Bytes that a setup adds, by its answer.
     pub answered : (p : Setup) (q : Asked) (setup body before : List ℕ) (most len : ℕ) (reply : Reply) (a : Answer) (out : List ℕ)
         → IsSetup p setup → Asks p q → is_served p q body ≡ true → ReplyFits most reply (meant q body) → Answers len reply a out
         → joined before (meant q body) reply ≡ before ++ own (Transfer setup body) a out
@@ -58,7 +58,7 @@ module _ (inside : State → Bool) (held : List ℕ → Stage → List ℕ) (joi
     pub stalled : (setup body out : List ℕ) → own (Transfer setup body) answer.Stall out ≡ []
     pub waits : (ms : ℕ) (before : List ℕ) (reply : Reply) (a : Answer) (out : List ℕ)
         → joined before OtherRequest reply ≡ before ++ own (Passing ms) a out
-    -- What stays the same adds nothing, and after a reset nothing is left.
+    -- A stage that stays the same adds nothing, and after a reset nothing is left.
     pub stays : (i : List ℕ) (st : Stage) → held i st ≡ left (state_of st) (held i st ++ [])
     pub resets : (i bytes : List ℕ) (st : Stage) → held i (reset_stage st) ≡ left (state_of (reset_stage st)) bytes
     -- Nothing is left in dfuERROR, and a program that refuses an image adds nothing.
@@ -121,7 +121,7 @@ module _ (inside : State → Bool) (held : List ℕ → Stage → List ℕ) (joi
     abbrev ends_inside : HistoryStep → Bool
     ends_inside s = inside (state_of s.after.stage)
 
-    -- What a step adds.
+    -- Bytes that a step adds.
     abbrev own_of : HistoryStep → List ℕ
     own_of s = own s.cause s.answer s.out
 

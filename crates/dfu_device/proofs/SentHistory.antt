@@ -19,7 +19,7 @@ use Rattle.dfu_device.proofs.SentRow.{form_sends}
 use Rattle.dfu_device.proofs.FirstBytes.{is_numbered, begins_as}
 use Rattle.dfu_device.proofs.RowGathers.{Gathers}
 
--- What a setup sends.
+-- Bytes that a setup sends.
 
 -- A setup that goes by the table is an UPLOAD by its bytes if it asks for one.
 pub upload_as : (p : Setup) (q : Asked) (setup body : List ℕ) → IsSetup p setup → Asks p q → is_served p q body ≡ true
@@ -59,11 +59,11 @@ refusal_sends why i (InManifestSync taken) a out = refl
 refusal_sends why i (InManifest taken passed) a out = refl
 refusal_sends why i st a out = sent_already i st
 
--- What was sent before, with what a reply sends.
+-- Bytes that were sent before, with those that a reply sends.
 abbrev pub joined : List ℕ → Request → Reply → List ℕ
 joined sent r reply = sent ++ upload_sent r reply
 
--- What is known of the bytes sent, from which the laws of a row and of a history follow.
+-- Facts of the bytes sent, from which the laws of a row and of a history follow.
 pub known : Gathers is_uploading sent_in joined piece
 known = record {
   form = form_sends;

@@ -46,7 +46,7 @@ pub time_took : TimeTook
 time_took ms w w' row = took_on (time_plan (profile w) w.stage ms) OtherRequest 0 w answer.Ack [] w'
     (time_form (profile w) (image_of w.slots) w.stage ms) (time_came ms w w' row)
 
--- What a setup adds.
+-- Bytes that a setup adds.
 
 -- A setup that goes by the table is a DNLOAD by its bytes if it asks for one.
 dnload_as : (p : Setup) (q : Asked) (setup body : List ℕ) → IsSetup p setup → Asks p q → is_served p q body ≡ true
@@ -96,7 +96,7 @@ refusal_takes why image st a out = held_already image st
 abbrev pub block_by : Cause → Answer → List ℕ → List ℕ
 block_by cause a out = acknowledged cause a
 
--- What is known of the bytes taken, from which the laws of a row and of a history follow.
+-- Facts of the bytes taken, from which the laws of a row and of a history follow.
 pub known : Gathers is_downloading taken_in dnload_added block_by
 known = record {
   form = form_keeps;

@@ -1,4 +1,4 @@
--- What a row tells a host: the status and the state that it answers.
+-- Facts that a row tells a host: the status and the state that it answers.
 use Rattle.std.specs.Prelude.{◌≡◌, ◌⊎◌, ℕ, ◌==◌, Bool, true, false, List, ◌++◌}
 use Rattle.std.proofs.Common.{refl, sym, ap, inl, inr, subst}
 use Rattle.std.proofs.lemmas.Bool.{false≢true}
@@ -82,7 +82,7 @@ state_tells c i (InError code) luck = inl (refl, refl)
 stalled_bytes : (len : ℕ) (reply : Reply) (a : Answer) (out : List ℕ) → reply ≡ Stall → Answers len reply a out → a ≡ answer.Stall
 stalled_bytes len reply a out e says = (subst (λ (r : Reply). Answers len r a out) e says).0
 
--- Whether an answer is a stall.
+-- True if an answer is a stall.
 abbrev pub is_stall : Answer → Bool
 is_stall answer.Stall = true
 is_stall a = false

@@ -1,4 +1,4 @@
--- What is decided on a setup with its body: the three rules before the table, then the table.
+-- Decision on a setup with its body: the three rules before the table, then the table.
 use Rattle.std.specs.Prelude.{◌≡◌, ℕ, List, if◌then◌else◌}
 use Rattle.dfu_wire.specs.declared.setups.Setup.{Setup}
 use Rattle.dfu_wire.specs.declared.requests.Request.{Request as Asked}
@@ -13,8 +13,8 @@ use Rattle.dfu_device.specs.Parts.{stage_of}
 use Rattle.dfu_device.specs.Rows.{meant, asked_length, is_served}
 use Rattle.dfu_device.specs.Decision.{profile_in, plan_of, HoldsWritten}
 
--- What is decided on a setup with its body in this mode is its row, as its eight bytes are read; and so many bytes of a status or of a
--- state are asked for.
+-- The decision on a setup with its body in this mode is its row, as its eight bytes are read; and so many bytes of a status or of a state
+-- are asked for.
 pub record DecidesSetup (p : ProfileRead) (m : DeviceState) (setup body : List ℕ) (d : Decision) (asked : ℕ) : Type 0 where
   pub read : Setup
   pub request : Asked

@@ -28,7 +28,7 @@ abbrev pub IsLuck : Luck → DeviceView → DeviceView → Type 0
 IsLuck Works w w' = Unit {0}
 IsLuck luck w w' = Rose w.slots.medium.failures w'.slots.medium.failures
 
--- What a plan led to is its outcome at some luck. A medium whose fuse is whole always works, and stays whole.
+-- A plan led to its outcome at some luck. A medium whose fuse is whole always works, and stays whole.
 pub record Came (p : Plan) (len : ℕ) (w : DeviceView) (a : Answer) (out : List ℕ) (w' : DeviceView) : Type 0 where
   pub luck : Luck
   pub reply : Reply
@@ -125,7 +125,7 @@ row_of p q setup body w a out w' reads asks (handled_as p2 q2 reads2 asks2 done)
     subst (λ (y : Asked). Done (setup_plan w p y body) (asked_length y) w a out w') one
     (subst (λ (x : Setup). Done (setup_plan w x q2 body) (asked_length q2) w a out w') same done)
 
--- What comes of a setup that goes by the table.
+-- Result of a setup that goes by the table.
 abbrev pub AskedCame : Type 0
 AskedCame = (p : Setup) (q : Asked) (setup body : List ℕ) (w : DeviceView) (a : Answer) (out : List ℕ) (w' : DeviceView) → IsSetup p setup
     → Asks p q
@@ -154,7 +154,7 @@ not_served p q setup body w a out w' reads asks off h =
     stalled : Done (Sure Stall w.stage) (asked_length q) w a out w' → (a ≡ answer.Stall) × (w' ≡ w)
     stalled x = (x.0.0, x.1)
 
--- What comes of a time that passes.
+-- Result of a time that passes.
 abbrev pub TimeCame : Type 0
 TimeCame = (ms : ℕ) (w w' : DeviceView) → Elapses ms w w' → Came (time_plan (profile w) w.stage ms) 0 w answer.Ack [] w'
 

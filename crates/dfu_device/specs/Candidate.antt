@@ -14,7 +14,7 @@ candidate_in (InManifestSync taken) = Some taken
 candidate_in (InManifest taken passed) = Some taken
 candidate_in stage = None
 
--- How many they are, by the mode.
+-- Number of these bytes, by the mode.
 abbrev pub candidate_length : DeviceState → Option ℕ
 candidate_length (device_state.DownloadIdle written number) = Some written
 candidate_length (device_state.ManifestSync written) = Some written

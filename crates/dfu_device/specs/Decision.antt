@@ -1,4 +1,4 @@
--- What the code decides on a row of the table, and the plan that it is.
+-- Decision of the code on a row of the table, and the plan that it is.
 use Rattle.std.specs.Prelude.{◌≡◌, ◌⊎◌, ℕ, ◌+◌, ◌≤◌, nat_lt, Bool, IsTrue, if◌then◌else◌, List, [], ◌++◌, length, take, drop}
 use Rattle.dfu_wire.specs.declared.requests.Request.{Request as Asked}
 use Rattle.dfu_wire.specs.declared.requests.Request.TheVariants as asked
@@ -20,7 +20,7 @@ use Rattle.dfu_device.specs.Rows.{meant}
 abbrev pub profile_in : ProfileRead → Profile
 profile_in p = profile_from p.functional p.least p.busy_ms p.manifest_ms p.pace p.capacity
 
--- What is answered by a device that has entered this stage.
+-- Answer of a device that has entered this stage.
 abbrev pub reply_in : Profile → Stage → ReplyRead → Reply
 reply_in c stage reply.Ack = Ack
 reply_in c stage reply.Status = status_of c stage
@@ -61,7 +61,7 @@ abbrev pub HoldsWritten : DeviceState → (spare : List ℕ) → Type 0
 HoldsWritten (device_state.DownloadIdle written number) spare = length (take written spare) ≡ written
 HoldsWritten m spare = Unit {0}
 
--- What a time depends on is there: the bytes that count as written are in the spare slot, and the block has so many bytes.
+-- The time of a decision depends on these facts: the bytes that count as written are in the spare slot, and the block has so many bytes.
 abbrev pub HoldsTime : DeviceState → ℕ → (spare block : List ℕ) → Type 0
 HoldsTime (device_state.DownloadBusy written number passed) n spare block = (length (take written spare) ≡ written) × (length block ≡ n)
 HoldsTime (device_state.Manifest written passed) n spare block = length (take written spare) ≡ written
@@ -72,12 +72,12 @@ abbrev pub HasLength : Asked → (body : List ℕ) → Type 0
 HasLength (asked.Dnload block len) body = length body ≡ len
 HasLength q body = Unit {0}
 
--- What is decided on a request in this mode is its row.
+-- The decision on a request in this mode is its row.
 abbrev pub Decides : ProfileRead → DeviceState → Asked → Decision → Type 0
 Decides p m q d = (image spare block body : List ℕ) → HoldsWritten m spare → HasLength q body
     → plan_of (profile_in p) image spare block body d ≡ plan (profile_in p) image (stage_of m spare block) (meant q body)
 
--- What is decided on so many milliseconds in this mode, with a block of n bytes, is their row.
+-- The decision on so many milliseconds in this mode, with a block of n bytes, is their row.
 abbrev pub DecidesTime : ProfileRead → DeviceState → (n ms : ℕ) → Decision → Type 0
 DecidesTime p m n ms d = (image spare block : List ℕ) → HoldsTime m n spare block
     → plan_of (profile_in p) image spare block [] d ≡ time_plan (profile_in p) (stage_of m spare block) ms
@@ -96,11 +96,11 @@ IsPossible transfer block body s (decision.Writes r written number late) =
 IsPossible transfer block body s (decision.Commits r written m) =
     IsTrue (is_filled (device_state.ManifestSync written) block s) × TakesNothing m
 
--- What is decided in this mode, on a body of so many bytes, can be carried out.
+-- The decision in this mode, on a body of so many bytes, can be carried out.
 abbrev pub Allows : ProfileRead → DeviceState → (body : ℕ) → Decision → Type 0
 Allows p m body d = (block : ℕ) (s : SlotsState) → room_of s ≡ p.capacity → IsTrue (is_filled m block s)
     → IsPossible p.functional.transfer block body s d
 
--- What is decided on a request in this mode can be carried out with each body of the right length.
+-- The decision on a request in this mode can be carried out with each body of the right length.
 abbrev pub AllowsAsked : ProfileRead → DeviceState → Asked → Decision → Type 0
 AllowsAsked p m q d = (body : List ℕ) → HasLength q body → Allows p m (length body) d

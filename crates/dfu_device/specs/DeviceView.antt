@@ -1,4 +1,4 @@
--- What a contract sees of a device.
+-- View that a contract has of a device.
 use Rattle.std.specs.Prelude.{◌≡◌, ℕ, List, [], length, take}
 use Rattle.dfu_wire.specs.declared.functionals.Functional.{Functional}
 use Rattle.dfu_slots.specs.Medium.{MediumState}

@@ -1,4 +1,4 @@
--- What a row does to the slot store, and so to the image.
+-- Effect of a row on the slot store, and so on the image.
 use Rattle.std.specs.Prelude.{◌≡◌, ◌⊎◌, ℕ, List, [], ◌∷◌, ◌++◌, length}
 use Rattle.dfu_wire.specs.declared.codes.Code.{Code}
 use Rattle.dfu_slots.specs.declared.fault.WriteFault.{WriteFault}

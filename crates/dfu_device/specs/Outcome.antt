@@ -1,4 +1,4 @@
--- What a row leads to, once it is said what the medium did.
+-- Outcome of a row, once it is said what the medium did.
 use Rattle.std.specs.Prelude.{ℕ, List}
 use Rattle.dfu_slots.specs.declared.fault.WriteFault.{WriteFault}
 use Rattle.dfu_device.specs.Stage.{Request, Reply, Profile, Stage, InAppIdle, InError}
@@ -9,13 +9,13 @@ pub record Situation : Type 0 where
   pub image : List ℕ
   pub stage : Stage
 
--- What the medium did: it worked, or a write had this fault, and the old image is active, or the new one.
+-- Luck of the medium: it worked, or a write had this fault, and the old image is active, or the new one.
 pub data Luck : Type 0 where
   Works : Luck
   FailsOld : WriteFault → Luck
   FailsNew : WriteFault → Luck
 
--- What was answered, and the situation after it.
+-- Outcome: the answer, and the situation after it.
 pub record Outcome : Type 0 where
   pub reply : Reply
   pub after : Situation
@@ -34,18 +34,18 @@ outcome image (Commits taken reply stage bad) (FailsOld fault) =
 outcome image (Commits taken reply stage bad) (FailsNew fault) =
     record { reply = bad fault; after = record { image = taken; stage = InError (commit_code fault) } }
 
--- What comes of a request.
+-- Outcome of a request.
 abbrev pub handled : Profile → Situation → Request → Luck → Outcome
 handled c s request luck = outcome s.image (plan c s.image s.stage request) luck
 
--- What comes of a time that passes.
+-- Situation after a time that passes.
 abbrev pub elapsed : Profile → Situation → ℕ → Luck → Situation
 elapsed c s ms luck = (outcome s.image (time_plan c s.stage ms) luck).after
 
--- What comes of a reset of the bus.
+-- Situation after a reset of the bus.
 abbrev pub was_reset : Situation → Situation
 was_reset s = record { image = s.image; stage = reset_stage s.stage }
 
--- What comes of power that goes and comes back.
+-- Situation after power that goes and comes back.
 abbrev pub powered : Situation → Situation
 powered s = record { image = s.image; stage = InAppIdle }

@@ -1,4 +1,4 @@
--- How long the flash of a device takes for a block and for an image.
+-- Time of the flash of a device for a block and for an image.
 use Rattle.std.specs.Prelude.{ℕ, ◌+◌, ◌-◌, ◌*◌, ◌/◌, ◌%◌, ◌^◌, ◌==◌, nat_le, min, if◌then◌else◌}
 use Rattle.dfu_slots.specs.declared.layout.Unit.TheVariants.{Byte}
 use Rattle.dfu_slots.specs.Units.{unit_size, whole_part}
@@ -8,7 +8,7 @@ use Rattle.dfu_device.specs.declared.config.Pace.{Pace}
 abbrev pub no_pace : Pace
 no_pace = record { erase_ms = 0; program_ms = 0; unit = Byte; sector = 0 }
 
--- How many sectors of this size begin in so many bytes from a place on.
+-- Number of sectors of this size that begin in so many bytes from a place on.
 abbrev pub edges : (sector at count : ℕ) → ℕ
 edges sector at count =
     let behind = at % sector in
@@ -23,8 +23,8 @@ erases_ms p count = if p.sector == 0 then 0 else count * p.erase_ms
 abbrev pub programs_ms : Pace → ℕ → ℕ
 programs_ms p count = (count * p.program_ms + 255) / 256
 
--- The time to write so many bytes from a place in a slot's data on, and so many gates and headers: each is erased by itself, and is
--- counted as 256 bytes. `base` is added. What does not fit in bwPollTimeout is said as the most that does.
+-- The time to write so many bytes from a place in a slot's data on, and so many gates and headers: each is erased by itself, and is counted
+-- as 256 bytes. `base` is added. A time that does not fit in bwPollTimeout is said as the most that does.
 abbrev pub writes_ms : Pace → (base at count others : ℕ) → ℕ
 writes_ms p base at count others =
     min (base + erases_ms p (edges p.sector at count + others) + programs_ms p (count + 256 * others)) (2 ^ 24 - 1)

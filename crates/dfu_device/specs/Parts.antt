@@ -49,7 +49,7 @@ is_filled m block s = true
 abbrev pub is_sound : DeviceState → ℕ → SlotsState → Bool
 is_sound m block s = is_shaped s && is_filled m block s
 
--- How long a host is to wait in a mode with a block of n bytes.
+-- Time that a host must wait in a mode with a block of n bytes.
 abbrev pub mode_ms : Setting → DeviceState → (n : ℕ) → ℕ
 mode_ms s (device_state.DownloadBusy written number passed) n = block_ms s.pace s.busy_ms written n
 mode_ms s (device_state.Manifest written passed) n = image_ms s.pace s.manifest_ms written

@@ -24,7 +24,7 @@ EachReply P (Sure reply stage) = P reply
 EachReply P (Writes before block reply stage bad) = P reply × ((fault : WriteFault) → P (bad fault))
 EachReply P (Commits taken reply stage bad) = P reply × ((fault : WriteFault) → P (bad fault))
 
--- What holds of each reply that a plan may give holds of the one that is given, also if the medium fails.
+-- A fact of each reply that a plan may give holds of the one that is given, also if the medium fails.
 pub reply_given : (P : Reply → Type 0) (image : List ℕ) (p : Plan) (luck : Luck) → EachReply P p → P (outcome image p luck).reply
 reply_given P image (Sure reply stage) luck each = each
 reply_given P image (Writes before block reply stage bad) Works each = each.0
@@ -61,7 +61,7 @@ pub quiet_given : (c : Profile) (image : List ℕ) (r : Request) (p : Plan) (luc
     → IsQuiet (outcome image p luck).reply r
 quiet_given c image r p luck each = (reply_given (FitsQuietly c.transfer r) image p luck each).1
 
--- What a plan does.
+-- Effects of a plan.
 
 -- A plan calls the slot store only for the bytes taken: it writes the last block of them, after those written, or commits them.
 abbrev pub CallsFor : (written taken : List ℕ) → Plan → Type 0
@@ -88,7 +88,7 @@ counted image st p luck on = (refl, refl)
 
 -- The forms.
 
--- What a row of the table can be, by its state, its request and its plan.
+-- Form that a row of the table can have, by its state, its request and its plan.
 pub data RowForm (c : Profile) (image : List ℕ) : Stage → Request → Plan → Type 0 where
   -- It takes no block and sends no piece; it may write the last block, or commit the bytes taken.
   quiet : {st : Stage} {r : Request} {p : Plan} → EachReply (FitsQuietly c.transfer r) p

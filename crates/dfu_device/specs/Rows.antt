@@ -30,7 +30,7 @@ Answers len (StatusOf code poll state) a out =
     (a ≡ answer.Bytes) × (bytes : List ℕ) × IsStatus (record { code = code; poll_ms = poll; state = state }) bytes
     × (slice_index bytes 5 ≡ 0) × (out ≡ take len bytes)
 
--- What becomes of the device, and of its medium.
+-- Effects on the device, and on its medium.
 
 -- A block is written by one `put` after the bytes written before; before the first block comes a `begin`.
 abbrev pub block_calls : List ℕ → List ℕ → List Call
@@ -94,13 +94,13 @@ meant asked.Abort body = Abort
 meant asked.OtherClass body = OtherRequest
 meant asked.NotDfu body = OtherRequest
 
--- How many bytes of a status or of a state are asked for: wLength.
+-- Bytes of a status or of a state that are asked for: wLength.
 abbrev pub asked_length : Asked → ℕ
 asked_length (asked.GetStatus len) = len
 asked_length (asked.GetState len) = len
 asked_length q = 0
 
--- How many bytes the body of a setup has: wLength if the host sends, and none if it reads.
+-- Bytes of the body of a setup: wLength if the host sends, and none if it reads.
 abbrev pub body_length : Setup → ℕ
 body_length p = if p.kind == 0x21 then p.length else 0
 
@@ -137,8 +137,8 @@ IsCloseSetup setup = (p : Setup) × (q : Asked) × IsSetup p setup × Asks p q �
 abbrev pub ClosesDownload : List ℕ → DeviceView → Type 0
 ClosesDownload setup w = IsCloseSetup setup × (may_close w.config.least w.stage ≡ true)
 
--- What happens to a device: a setup with its body, milliseconds, a reset of the bus, its program refuses the image that this setup closes,
--- or the image that was closed, or power goes and comes back.
+-- Cause that comes to a device: a setup with its body, milliseconds, a reset of the bus, its program refuses the image that this setup
+-- closes, or the image that was closed, or power goes and comes back.
 pub data Cause : Type 0 where
   Transfer : (setup body : List ℕ) → Cause
   Passing : (ms : ℕ) → Cause

@@ -1,4 +1,4 @@
--- What a device is set up with, and what is refused.
+-- Settings of a device, and the ones that are refused.
 use Rattle.std.specs.Prelude.{◌≡◌, ◌⊎◌, ℕ, ◌≤◌, ◌<◌, ◌^◌, false}
 use Rattle.dfu_wire.specs.declared.functionals.Functional.{Functional}
 use Rattle.dfu_wire.specs.declared.ids.Ids.{Ids}
@@ -6,8 +6,8 @@ use Rattle.dfu_device.specs.declared.config.Pace.{Pace}
 use Rattle.dfu_device.specs.declared.config.ConfigFault.{ConfigFault}
 use Rattle.dfu_device.specs.declared.config.ConfigFault.TheVariants as fault
 
--- What a device is set up with: who it is, its functional descriptor, the fewest bytes of an image, how many milliseconds each block and
--- each image take beside the erases and programs of its flash, and how long these take.
+-- Settings of a device: who it is, its functional descriptor, the fewest bytes of an image, how many milliseconds each block and each image
+-- take beside the erases and programs of its flash, and how long these take.
 pub record Setting : Type 0 where
   pub ids : Ids
   pub functional : Functional

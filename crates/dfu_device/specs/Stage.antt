@@ -8,7 +8,7 @@ use Rattle.dfu_wire.specs.declared.codes.Code.TheVariants.{Ok as NoFault}
 use Rattle.dfu_device.specs.declared.config.Pace.{Pace}
 use Rattle.dfu_device.specs.Pace.{block_ms, image_ms}
 
--- What a host asks: one of the seven requests of the class, with what the table reads of it, or another request of the class.
+-- Request of a host: one of the seven requests of the class, with what the table reads of it, or another request of the class.
 pub data Request : Type 0 where
   -- DETACH, with wTimeout in milliseconds.
   Detach : (timeout : ℕ) → Request
@@ -22,7 +22,7 @@ pub data Request : Type 0 where
   Abort : Request
   OtherRequest : Request
 
--- What a device answers: it acknowledges, reports a status or a state, sends bytes of its image, or stalls.
+-- Reply of a device: it acknowledges, reports a status or a state, sends bytes of its image, or stalls.
 pub data Reply : Type 0 where
   Ack : Reply
   StatusOf : Code → (poll : ℕ) → State → Reply
@@ -30,8 +30,8 @@ pub data Reply : Type 0 where
   Data : List ℕ → Reply
   Stall : Reply
 
--- What is fixed of a device and read by its table: what the table reads of the device's `Setting`, each value by its own name,
--- and the most bytes of an image, which the medium says. Times are in milliseconds, sizes in bytes.
+-- Fixed values of a device that its table reads: each value of the device's `Setting` that the table reads, by its own name, and the most
+-- bytes of an image, which the medium says. Times are in milliseconds, sizes in bytes.
 pub record Profile : Type 0 where
   -- bitCanDnload, bitCanUpload, bitManifestationTolerant, bitWillDetach.
   pub can_download : Bool
@@ -44,11 +44,11 @@ pub record Profile : Type 0 where
   pub transfer : ℕ
   -- The fewest bytes of an image.
   pub least : ℕ
-  -- How long each block and each image take beside the erases and programs of the flash; with 0 what is due is written before a status
-  -- is answered.
+  -- Time of each block and each image beside the erases and programs of the flash; with 0 what is due is written before a status is
+  -- answered.
   pub busy : ℕ
   pub manifest : ℕ
-  -- How long an erase and a program take.
+  -- Time of an erase and of a program.
   pub pace : Pace
   -- The most bytes of an image.
   pub capacity : ℕ

@@ -10,8 +10,8 @@ use Rattle.dfu_device.specs.declared.objection.Objection.TheVariants.{Target, Fi
 use Rattle.dfu_device.specs.Pace.{block_ms, image_ms}
 use Rattle.dfu_device.specs.Stage.{Request, Detach, Dnload, Upload, GetStatus, ClrStatus, GetState, Abort, Reply, Ack, StateOf, Data, Stall, Profile, Stage, InAppIdle, InAppDetach, InDfuIdle, InDownloadSync, InDownloadSyncWritten, InDownloadBusy, InDownloadIdle, InManifestSync, InManifestSyncComplete, InManifest, InManifestWaitReset, InUploadIdle, InError, state_of, status_of}
 
--- What a row does. Only the medium is left open: if it works the first reply and stage come, if a write has a fault the last reply
--- and dfuERROR.
+-- Plan of a row. Only the medium is left open: if it works the first reply and stage come, if a write has a fault the last reply and
+-- dfuERROR.
 pub data Plan : Type 0 where
   -- It answers and enters a stage, and calls nothing of the slot store.
   Sure : Reply → Stage → Plan

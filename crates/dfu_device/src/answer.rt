@@ -1,4 +1,4 @@
-//! How a device answers a setup: what is answered, and its bytes in the buffer of the caller.
+//! Answers of a device to a setup, and their bytes in the buffer of the caller.
 
 ghost use Rattle.std.specs.Prelude.{◌≡◌, ◌≤◌, ◌<◌, ◌+◌, ◌++◌, ◌∷◌, ◌^◌, max, ℕ, List, [], length, take, drop, slice_range, IfSome, IfNone};
 ghost use Rattle.dfu_wire.specs.State.{state_byte};
@@ -14,7 +14,7 @@ use crate::device_state::status_in;
 use arrayvec::ArrayVec;
 use dfu_slots::{Medium, Slots};
 
-/// How a device answers a setup. The bytes of an answer are in the buffer that the caller gave.
+/// Answer of a device to a setup. The bytes of an answer are in the buffer that the caller gave.
 #[derive(Clone, Copy)]
 pub enum Answer {
     /// The request is acknowledged; there are no bytes.
@@ -102,7 +102,7 @@ impl<M: Medium> DeviceCore<M> {
         }
     }
 
-    /// How many bytes the image has from `place` on, at most `len`.
+    /// Returns the bytes that the image has from `place` on, at most `len`.
     #[inline(never)]
     pub(crate) fn piece_len(&self, place: u32, len: u16) -> u16
         ensures count { result ≡ length (take len (drop place (image_of self.now.slots))) }

@@ -1,4 +1,4 @@
-//! Where an image is that was received and is not in place yet.
+//! Image that was received and is not in place yet.
 
 ghost use Rattle.std.specs.Prelude.{◌≡◌, IfSome, IfNone, None};
 ghost use Rattle.dfu_device.specs.Candidate.{candidate_in, IsCandidate};
@@ -8,19 +8,19 @@ use crate::Device;
 use crate::device_core::DeviceCore;
 use dfu_slots::Medium;
 
-/// Where an image is that was received and is not in place yet. Its first bytes are on the medium, in the spare slot. The others, fewer
-/// than a unit of the medium, are held back in memory (`Slots::held`).
+/// Image that was received and is not in place yet. Its first bytes are on the medium, in the spare slot. The others, fewer than a unit of
+/// the medium, are held back in memory (`Slots::held`).
 #[derive(Clone, Copy)]
 pub struct Candidate {
-    /// Where its first byte is on the medium.
+    /// Place of its first byte on the medium.
     pub at: u32,
-    /// How many of its bytes are there.
+    /// Number of its bytes that are there.
     pub stored: u32,
 }
 
 impl<M: Medium> Device<M> {
-    /// Where the received image is, for a program that checks it before it calls `refuse_close` or `refuse`, or neither. It is Some in
-    /// dfuDNLOAD-IDLE, in dfuMANIFEST-SYNC before it is complete, and in dfuMANIFEST, else None. It reads and writes no byte of the
+    /// Returns the place of the received image, for a program that checks it before it calls `refuse_close` or `refuse`, or neither. It is
+    /// Some in dfuDNLOAD-IDLE, in dfuMANIFEST-SYNC before it is complete, and in dfuMANIFEST, else None. It reads and writes no byte of the
     /// medium.
     pub fn candidate(&self) -> Option<Candidate>
         ensures some { IfSome result (λ c. IsCandidate self.now c) }
@@ -31,7 +31,7 @@ impl<M: Medium> Device<M> {
 }
 
 impl<M: Medium> DeviceCore<M> {
-    // Where the received image is.
+    // Returns the place of the received image.
     fn candidate(&self) -> Option<Candidate>
         ensures some { IfSome result (λ c. IsCandidate (shown self.now) c) }
         ensures none { IfNone result (candidate_in (shown self.now).stage ≡ None) }

@@ -1,4 +1,4 @@
-//! What a device is set up with.
+//! Settings of a device.
 
 ghost use Rattle.std.specs.Prelude.{◌≡◌, ◌≤◌, ◌<◌, ◌^◌, IfOk, IfErr};
 ghost use Rattle.dfu_device.specs.Pace.{no_pace};
@@ -11,7 +11,7 @@ use dfu_wire::{Functional, Ids};
 use std::marker::Model;
 use thiserror::Error;
 
-/// How long the flash of a device takes, and in which steps it is written. A status then says the time of the block or of the image that it
+/// Times of the flash of a device, and the steps in which it is written. A status then says the time of the block or of the image that it
 /// stands for: the erases and programs that are due for it, beside `busy_ms` or `manifest_ms`.
 #[derive(Clone, Copy, Drop)]
 pub struct Pace {
@@ -21,7 +21,7 @@ pub struct Pace {
     pub program_ms: u16,
     /// The unit in which it is written.
     pub unit: Unit,
-    /// How many bytes are erased at a time; 0 if it is written over in place.
+    /// Bytes that are erased at a time; 0 if it is written over in place.
     pub sector: u32,
 }
 
@@ -39,9 +39,9 @@ impl Pace {
     }
 }
 
-/// What a device is set up with: who it is, its functional descriptor, the fewest bytes of an image
-/// (1 to 16,777,216), how long it takes to write a block and to put an image in place (0 to
-/// 16,777,215 ms; at least 1 ms for an image if the device is not tolerant of manifestation), and the pace of its flash.
+/// Settings of a device: who it is, its functional descriptor, the fewest bytes of an image (1 to 16,777,216), how long it takes to write a
+/// block and to put an image in place (0 to 16,777,215 ms; at least 1 ms for an image if the device is not tolerant of manifestation), and
+/// the pace of its flash.
 ///
 /// Without a pace both times are to have room for the erases of a medium with sectors: a block takes at most one, and one more for each
 /// sector that begins in the transfer size and a unit; an image takes two or three.
@@ -74,7 +74,7 @@ impl Model for Config {
     } };
 }
 
-/// Why a device cannot be set up, in the order in which the faults are checked.
+/// Faults for which a device cannot be set up, in the order in which they are checked.
 #[derive(Clone, Copy, Debug, Drop, Error)]
 pub enum ConfigFault {
     /// The transfer size of the functional descriptor is 0 or over 4,096 bytes.
@@ -89,18 +89,18 @@ pub enum ConfigFault {
     BadLeast,
 }
 
-/// What the table reads of a device beside its mode: its fixed settings.
+/// Fixed settings of a device, which the table reads beside its mode.
 #[derive(Clone, Copy)]
 pub struct Profile {
     /// The functional descriptor.
     pub functional: Functional,
     /// The fewest bytes of an image.
     pub least: u32,
-    /// How long each block takes beside the erases and programs of the flash, in milliseconds.
+    /// Time of each block beside the erases and programs of the flash, in milliseconds.
     pub busy_ms: u32,
-    /// How long each image takes beside them, in milliseconds.
+    /// Time of each image beside them, in milliseconds.
     pub manifest_ms: u32,
-    /// How long the flash takes for an erase and for a program.
+    /// Time of the flash for an erase and for a program.
     pub pace: Pace,
     /// The most bytes of an image.
     pub capacity: u64,
@@ -163,7 +163,7 @@ impl Config {
         })
     }
 
-    /// The same, with the times of its flash.
+    /// Returns these settings with the times of the flash.
     pub fn with_pace(self, pace: Pace) -> Config
         ensures { result ≡ record self { pace = pace } }
     {
@@ -199,7 +199,7 @@ impl Config {
         self.least
     }
 
-    /// How long it takes to write a block, in milliseconds.
+    /// Returns the time to write a block, in milliseconds.
     pub fn busy_ms(&self) -> u32
         ensures value { result ≡ self.now.busy_ms }
         ensures fits { result < 2 ^ 24 }
@@ -207,7 +207,7 @@ impl Config {
         self.busy_ms
     }
 
-    /// How long it takes to put an image in place, in milliseconds.
+    /// Returns the time to put an image in place, in milliseconds.
     pub fn manifest_ms(&self) -> u32
         ensures value { result ≡ self.now.manifest_ms }
         ensures fits { result < 2 ^ 24 }
@@ -222,7 +222,7 @@ impl Config {
         self.pace
     }
 
-    /// What the table reads of a device that is set up like this, with room for images of so many bytes.
+    /// Returns the profile that the table reads of a device that is set up like this, with room for images of so many bytes.
     pub fn profile(&self, capacity: u64) -> Profile
         ensures profile { profile_in result ≡ profile_of self.now capacity }
         ensures capacity { result.capacity ≡ capacity }

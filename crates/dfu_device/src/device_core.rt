@@ -57,7 +57,7 @@ impl<M: Medium> DeviceCore<M> {
         }
     }
 
-    /// What the table reads of it.
+    /// Returns the settings that the table reads of it.
     fn profile(&self) -> Profile
         ensures profile { profile_in result ≡ profile (shown self.now) }
         ensures capacity { result.capacity ≡ room_of self.now.slots }
@@ -66,7 +66,7 @@ impl<M: Medium> DeviceCore<M> {
         self.config.profile(u64::from(self.slots.capacity()))
     }
 
-    /// What a setup with its body comes to: the three rules before the table, then the table.
+    /// Returns the answer to a setup with its body: the three rules before the table, then the table.
     pub(crate) fn pending_answer(&mut self, setup: &[u8; 8], body: &[u8]) -> PendingAnswer
         ensures row { HandledPending setup.now body.now (shown self.old) result (shown self.new) }
         ensures fits { (a : Answer) (sent : List ℕ) → AnswersPending result (shown self.new) a sent

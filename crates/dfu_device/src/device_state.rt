@@ -15,8 +15,8 @@ use crate::time_table::poll_ms;
 use crate::{Answer, Config};
 use dfu_wire::{Code, State, Status};
 
-/// The mode of a device: a state of the standard (USB DFU 1.1, section 6.1.2), with what the device keeps there beside its
-/// slot store and the block that is not written. What a variant does not name is forgotten when it is entered.
+/// The mode of a device: a state of the standard (USB DFU 1.1, section 6.1.2), with what the device keeps there beside its slot store and
+/// the block that is not written. A variant forgets, when it is entered, all that it does not name.
 ///
 /// `written` is how many bytes of a download were put in the spare slot of the store; `number` is that of the next
 /// block; `passed` is how many milliseconds passed in this state.
@@ -82,7 +82,7 @@ pub enum DeviceState {
     ManifestWaitReset,
     /// dfuUPLOAD-IDLE: a part of the image was sent.
     UploadIdle {
-        /// How many bytes of the image were sent.
+        /// Bytes of the image that were sent.
         place: u32,
         /// The next part's number.
         number: u16,
@@ -137,8 +137,8 @@ impl DeviceState {
         }
     }
 
-    /// How many bytes an image has that was taken and may be refused: in dfuDNLOAD-IDLE, in dfuMANIFEST-SYNC before it is complete, and in
-    /// dfuMANIFEST.
+    /// Returns the length of an image that was taken and may be refused: in dfuDNLOAD-IDLE, in dfuMANIFEST-SYNC before it is complete, and
+    /// in dfuMANIFEST.
     pub fn candidate_len(self) -> Option<u32>
         ensures { result ≡ candidate_length self }
     {
@@ -150,8 +150,8 @@ impl DeviceState {
         }
     }
 
-    /// Whether a DNLOAD of no bytes closes a download in this mode, if an image has so many bytes at least: in dfuDNLOAD-IDLE, once as
-    /// many were taken.
+    /// Returns whether a DNLOAD of no bytes closes a download in this mode, if an image has so many bytes at least: in dfuDNLOAD-IDLE, once
+    /// as many were taken.
     pub fn may_close(self, least: u32) -> bool
         ensures { (spare block : List ℕ) → HoldsWritten self spare → result ≡ may_close least (stage_of self spare block) }
     {

@@ -1,4 +1,4 @@
-//! What a device does to its slot store: it writes a block, or makes the bytes taken the active image.
+//! Effects of a device on its slot store: it writes a block, or makes the bytes taken the active image.
 
 ghost use Rattle.std.specs.Prelude.{◌≡◌, ◌<◌, ◌≤◌, ◌+◌, ◌++◌, ◌⊎◌, length, take, [], IsTrue, true, OnOk, OnErr, IfErr};
 ghost use Rattle.dfu_slots.specs.Medium.{Rose};

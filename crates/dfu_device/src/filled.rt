@@ -1,4 +1,4 @@
-//! Whether a mode goes with what was put in a slot store.
+//! Fit of a mode with what was put in a slot store.
 
 ghost use Rattle.std.specs.Prelude.{◌≡◌, ◌^◌, ◌<◌, ◌+◌, ◌==◌, ◌&&◌, ◌||◌, nat_lt, nat_le};
 ghost use Rattle.dfu_slots.specs.Seen.{SlotsState, room_of, is_begun};
@@ -6,32 +6,32 @@ ghost use Rattle.dfu_device.specs.Parts.{is_filled};
 
 use crate::device_state::DeviceState;
 
-/// What decides whether a mode goes with a slot store.
+/// Facts of a slot store that decide whether a mode goes with it.
 #[derive(Clone, Copy)]
 pub struct PutSoFar {
     /// The most bytes of an image.
     pub room: u32,
-    /// Whether the gate of the spare slot is closed.
+    /// Tells whether the gate of the spare slot is closed.
     pub begun: bool,
-    /// Where the puts end.
+    /// Place at which the puts end.
     pub end: u32,
 }
 
-// Whether so many bytes were put in the closed spare, and no more.
+// Returns whether so many bytes were put in the closed spare, and no more.
 fn is_put(seen: PutSoFar, written: u32) -> bool
     ensures { result ≡ (seen.begun && (seen.end == written)) }
 {
     seen.begun && seen.end == written
 }
 
-// Whether all is written, and some of it.
+// Returns whether all is written, and some of it.
 fn is_written(seen: PutSoFar, written: u32) -> bool
     ensures { result ≡ (nat_lt 0 written && (nat_le written seen.room && (seen.begun && (seen.end == written)))) }
 {
     0 < written && written <= seen.room && is_put(seen, written)
 }
 
-// Whether there is room for a block of so many bytes after what is written.
+// Returns whether there is room for a block of so many bytes after the bytes that are written.
 fn is_next(seen: PutSoFar, written: u32, block: usize) -> bool
     requires { block < 2 ^ 32 }
     ensures { result ≡ (nat_lt 0 block && (nat_le (written + block) seen.room && ((written == 0) || (seen.begun && (seen.end == written))))) }
@@ -41,7 +41,8 @@ fn is_next(seen: PutSoFar, written: u32, block: usize) -> bool
         && (written == 0 || is_put(seen, written))
 }
 
-/// Whether a mode, with a block of so many bytes that is not written, goes with what was put in each slot store that looks like this.
+/// Returns whether a mode, with a block of so many bytes that is not written, goes with what was put in each slot store that looks like
+/// this.
 pub fn is_filled(seen: PutSoFar, mode: DeviceState, block: usize) -> bool
     requires { block < 2 ^ 32 }
     ensures { (s : SlotsState) → seen.room ≡ room_of s → seen.begun ≡ is_begun s → seen.end ≡ s.put_end →

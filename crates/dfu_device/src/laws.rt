@@ -9,9 +9,8 @@ ghost use Rattle.dfu_device.specs.Told.{StatusTold, StateTold};
 ghost use Rattle.dfu_device.specs.Kept.{RowKeeps, ErrorKeeps};
 ghost use Rattle.dfu_device.specs.Errors.{ErrorsHaveCause};
 
-/// What a row leads to: the outcome of its plan, at some luck of the medium. A setup whose reading
-/// is known goes by that reading; one that does not go by the table is stalled and changes nothing.
-/// If six bytes are asked for, the answer to GETSTATUS is read back as the status.
+/// Each row leads to the outcome of its plan, at some luck of the medium. A setup whose reading is known goes by that reading; one that
+/// does not go by the table is stalled and changes nothing. If six bytes are asked for, the answer to GETSTATUS is read back as the status.
 pub fn rows_come_to_outcomes()
     ensures plan { PlanCame }
     ensures row_of { RowOf }

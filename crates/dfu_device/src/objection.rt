@@ -9,7 +9,7 @@ use crate::{Answer, Device};
 use dfu_slots::Medium;
 use dfu_wire::{Code, Request, Setup};
 
-// Whether a request is a DNLOAD of no bytes.
+// Returns whether a request is a DNLOAD of no bytes.
 fn closes(request: Request) -> bool
     ensures { result ≡ is_close request }
 {
@@ -19,14 +19,14 @@ fn closes(request: Request) -> bool
     }
 }
 
-/// Whether a setup is a DNLOAD with wLength 0, which closes a download in dfuDNLOAD-IDLE.
+/// Returns whether a setup is a DNLOAD with wLength 0, which closes a download in dfuDNLOAD-IDLE.
 pub fn is_close(setup: &[u8; 8]) -> bool
     ensures { IsTrue result ↔ IsCloseSetup setup.now }
 {
     closes(Setup::decode(setup).request())
 }
 
-/// Why the program of a device refuses an image (USB DFU 1.1, section 6.1.2, bStatus).
+/// Reasons for which the program of a device refuses an image (USB DFU 1.1, section 6.1.2, bStatus).
 #[derive(Clone, Copy, Drop)]
 pub enum Objection {
     /// The image is not for this device: errTARGET.

@@ -1,4 +1,4 @@
--- What becomes of a record by a setup with more bytes than a block has.
+-- Record after a setup with more bytes than a block has.
 use Rattle.std.proofs.Common.{◌≡◌, ℕ, List, [], refl}
 use Rattle.dfu_slots.specs.declared.layout.Unit.{Unit as WriteUnit}
 use Rattle.dfu_device.specs.declared.answer.Answer.TheVariants as answer

@@ -1,4 +1,4 @@
--- Why a call for a device that asks is refused.
+-- Refusals of a call for a device that asks.
 use Rattle.std.proofs.Common.{List, ℕ, ◌≤◌, arith}
 use Rattle.dfu_asks.specs.declared.asking.Asking.{Asking}
 use Rattle.dfu_asks.specs.declared.reply.Refusal.{Refusal as Why}
@@ -10,7 +10,7 @@ use Rattle.dfu_core.specs.Calls.{IsRefusedAsking}
 use Rattle.dfu_core.specs.Numbers.{refusal_of}
 use Rattle.dfu_core.specs.Writes.{AsksOnSomeFlash}
 
--- What a call for a device is refused for, if its buffer has room for the answer.
+-- Refusal of a call for a device, if its buffer has room for the answer.
 pub cause_of : (e : Why) (block flash : List ℕ) (a : Asking) (need room : ℕ) → need ≤ room
     → IsRefusedFor e a (block_in a block) (held_back_in a block) flash need room → IsRefusedAsking (refusal_of e) block flash a
 cause_of why.Asked block flash a need room fits is = is

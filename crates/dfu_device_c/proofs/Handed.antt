@@ -18,7 +18,7 @@ pub is_kind : (erases : Bool) (k : ℕ) → k ≡ (if erases then 1 else 2) → 
 is_kind true k e = inl e
 is_kind false k e = inr e
 
--- Where it is that of a program, the piece does not erase.
+-- The piece does not erase if it is that of a program.
 pub programs : (erases : Bool) (k : ℕ) → k ≡ (if erases then 1 else 2) → k ≡ 2 → erases ≡ false
 programs false k e is = refl
 programs true k e is = absurd (omega (arith, e, is))

@@ -35,7 +35,7 @@ module _ (c : DfuConfig) (r r' : DfuRecord) (m m' : DeviceState) (the_mode : (x 
       second = r'.second;
       number = r'.number;
     }) where
-  -- What is left to be written is in neither record.
+  -- The work that is left to be written is in neither record.
   moved_work : (a : Asking) → IsKept c r a → HasWork r' a.work
   moved_work a kept = subst (λ (w : Option PendingWrites). HasWork r' w) (sym (none_kept r a.work idle kept.work))
       (ap (λ (x : DfuRecord). x.work) rest ∙ idle)

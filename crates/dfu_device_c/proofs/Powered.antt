@@ -25,7 +25,7 @@ use Rattle.dfu_core.specs.Power.{Powers, RefusesPower}
 use Rattle.dfu_core.specs.Board.{CoreRestart, core_board}
 use Rattle.dfu_core.specs.Happens.{start_mode, CoreHappens, IsCoreOn}
 
--- What is kept of a device that gets power.
+-- Device that is kept when it gets power.
 abbrev fresh : Setting → WriteUnit → Sector → DeviceState → Noted → Asking
 fresh config unit sector m noted = record {
   config = config;
@@ -115,7 +115,7 @@ pub record IsRestart (c : DfuConfig) (begins : Bool) (flash : List ℕ) (n : ℤ
       → CoreHappens (core_board c kept before flash) (CoreRestart begins) n [] (core_board c r' block flash)
   pub on : n ≡ pos 0 → (block : List ℕ) → IsCoreOn (core_board c r' block flash)
 
--- That is so of a call whose number is this one, by what it says of its own.
+-- A call of this number does so, by what it says of its own.
 pub restarts : (c : DfuConfig) (begins : Bool) (flash : List ℕ) (n m : ℤ) (r r' : DfuRecord) → n ≡ m
     → Powers c (start_mode begins) flash m r' ⊎ (RefusesPower c flash m × (r' ≡ r)) → IsRestart c begins flash n r r'
 restarts c begins flash n m r r' same outcome =

@@ -1,4 +1,4 @@
--- What a refusal of the program makes of the device that a record is.
+-- Device of a record after a refusal of the program.
 use Rattle.std.proofs.Common.{◌≡◌, ℕ, true, IsTrue, List, [], length, refl, sym, ap, ◌∙◌, subst}
 use Rattle.dfu_slots.specs.Seen.{SlotsState, spare_of}
 use Rattle.dfu_device.specs.declared.answer.Answer.TheVariants as answer

@@ -51,13 +51,13 @@ module _ {a : Asking} {memory front held : List ℕ} (s : IsSplit a memory front
   intact flash is = subst (λ (f : List ℕ). IsKeptOn a f (held_back_in a memory) flash) (sym s.front_is)
       (subst (λ (h : List ℕ). IsKeptOn a front h flash) (sym s.held_is) is)
 
-  -- What a call with the two parts is refused for.
+  -- Refusal of a call with the two parts.
   refused_for : (e : Why) (flash : List ℕ) (need room : ℕ) → IsRefusedFor e a front held flash need room
       → IsRefusedFor e a (block_in a memory) (held_back_in a memory) flash need room
   refused_for e flash need room is = subst (λ (f : List ℕ). IsRefusedFor e a f (held_back_in a memory) flash need room) (sym s.front_is)
       (subst (λ (h : List ℕ). IsRefusedFor e a front h flash need room) (sym s.held_is) is)
 
--- What a call does with the two parts it does with the memory.
+-- A call does with the memory what it does with the two parts.
 pub in_memory : {a a' : Asking} {memory front held memory' front' held' : List ℕ} (Does : LentAsking → LentAsking → Type 0)
     → IsSplit a memory front held → IsSplit a' memory' front' held' → Does (lent a front held) (lent a' front' held')
     → Does (with_memory memory a) (with_memory memory' a')
@@ -109,7 +109,7 @@ module _ {k : DfuConfig} {r : DfuRecord} {a : Asking} {memory front held : List 
   split_after {a'} memory' front' held' same parts long = split a' memory' front' held' parts
       (long ∙ p.size ∙ sym (ap (λ (s : Setting). s.functional.transfer) (same.config ∙ p.kept.set_up.config_is)))
 
-  -- What fits in a first part that long fits in the transfer size.
+  -- Bytes that fit in a first part that long fit in the transfer size.
   pub fits_front : {a' : Asking} (front' : List ℕ) → length front' ≡ length front → Fits a' (length front') → Fits a' (transfer_of k)
   fits_front {a'} front' long fits = subst (λ (n : ℕ). Fits a' n) (long ∙ p.size) fits
 

@@ -1,4 +1,4 @@
--- What is said of the devices of a setting in a mode is said of each device that a record is.
+-- An answer about the devices of a setting in a mode is one about each device that a record is.
 use Rattle.std.proofs.Common.{◌≡◌, ◌⊎◌, inl, inr, min, Bool, true, false, ℕ, ℤ, pos, List, sym, ◌∙◌, refl, subst, length, arith}
 use Rattle.dfu_slots.specs.declared.layout.Unit.{Unit as WriteUnit}
 use Rattle.dfu_slots.specs.Seen.{spare_of}

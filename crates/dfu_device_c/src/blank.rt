@@ -1,4 +1,4 @@
-//! Whether the flash reads as if it was never written, so that a program can tell a new board from a damaged one.
+//! Look at a flash that may never have been written, by which a program can tell a new board from a damaged one.
 ghost use Rattle.std.specs.Prelude.{◌⊎◌};
 ghost use Rattle.dfu_core.specs.Blank.{ToldBlank, RefusesBlank};
 
@@ -6,8 +6,8 @@ use crate::tells::told_number;
 use dfu_asks::Mapped;
 use dfu_core::{DfuConfig, settings_of};
 
-/// Whether the flash reads as if it was never written: 1 if every byte that the gates and the headers of both slots take up is FFh, and
-/// then there is no active image; 0 if one is not.
+/// Returns whether the flash reads as if it was never written: 1 if every byte that the gates and the headers of both slots take up is FFh,
+/// and then there is no active image; 0 if one is not.
 ///
 /// Refused with -2 if the configuration is not allowed; -3 if the flash has 2^32 bytes or more; -6 if it has not as
 /// many as two slots can have.

@@ -1,4 +1,4 @@
-//! Whether a setup closes a download, said before it is handed in: the program's own check of the image comes then.
+//! Tells before a setup is handed in whether it closes a download, because the program's own check of the image comes then.
 ghost use Rattle.std.specs.Prelude.{◌≡◌, ◌⊎◌, pos};
 ghost use Rattle.dfu_asks.specs.Addressed.{addressed};
 ghost use Rattle.dfu_core.specs.Closes.{ToldClose};
@@ -8,8 +8,8 @@ use crate::tells::told_number;
 use dfu_asks::{addressed, mode_closes};
 use dfu_core::{DfuConfig, DfuRecord, idle_mode};
 
-/// Whether this setup closes a download: 1 or 0. With 1 `dfu_core_handle` would acknowledge it, and all bytes taken would wait to be put in
-/// place; with 0 it would do nothing of the kind.
+/// Returns whether this setup closes a download: 1 or 0. With 1 `dfu_core_handle` would acknowledge it, and all bytes taken would wait to
+/// be put in place; with 0 it would do nothing of the kind.
 ///
 /// Refused as `dfu_core_would_stall`.
 #[unsafe(no_mangle)]

@@ -1,4 +1,4 @@
-//! What a program gets to know of its configuration and of the library.
+//! Tells a program about its configuration and the library.
 ghost use Rattle.std.specs.Prelude.{◌≡◌, ◌⊎◌, ◌<◌, IsTrue, not, pos, slice_index};
 ghost use Rattle.dfu_wire.specs.Functional.{IsFunctional};
 ghost use Rattle.dfu_core.specs.Config.{version, setting_of, IsConfig};
@@ -6,7 +6,7 @@ ghost use Rattle.dfu_core.specs.Numbers.{NO_CONFIG};
 
 use dfu_core::{DfuConfig, VERSION, functional_of, settings_of};
 
-// Whether the configuration is of this version, `Config::new` takes its numbers, a unit has that size, and there are such sectors.
+// Returns whether the configuration is of this version, `Config::new` takes its numbers, a unit has that size, and there are such sectors.
 fn is_allowed(config: &DfuConfig) -> bool
     ensures yes { IsTrue result → IsConfig config.now }
     ensures no { IsTrue (not result) → ¬ IsConfig config.now }

@@ -1,4 +1,4 @@
-//! Where an image is: the active one, which a program is to run, and one that was taken and is not in place yet.
+//! Places of images: the active one, which a program is to run, and one that was taken and is not in place yet.
 ghost use Rattle.std.specs.Prelude.{◌≡◌, ◌⊎◌};
 ghost use Rattle.dfu_core.specs.Candidate.{HasCandidate, HasNone, RefusesCandidate};
 ghost use Rattle.dfu_core.specs.Power.{RefusesPower};
@@ -8,7 +8,7 @@ use crate::tells::refused;
 use dfu_asks::ImagePlace;
 use dfu_core::{DfuConfig, DfuPlace, DfuRecord, Refusal, found, settings_of};
 
-/// Where the active image is in its flash: 0, and `place` has it.
+/// Returns the place of the active image in its flash: 0, and `place` has it.
 ///
 /// Refused as `dfu_core_power_on`.
 #[unsafe(no_mangle)]
@@ -32,8 +32,8 @@ pub extern "C" fn dfu_core_image(config: &DfuConfig, flash: &[u8], place: &mut D
 // As much memory as any block needs, with those held back.
 const BLOCK_MEMORY: usize = 4096 + 256;
 
-/// Where the image is that was taken, as `Device::candidate`: 0, and `place` has its bytes in the flash, followed by the `held_length`
-/// ones that are held back, after the transfer size in the memory of the block.
+/// Returns the place of the image that was taken, as `Device::candidate`: 0, and `place` has its bytes in the flash, followed by the
+/// `held_length` ones that are held back, after the transfer size in the memory of the block.
 ///
 /// Refused as `dfu_core_elapse` with the most memory that a block needs; then with -20 if no image was taken that may be refused.
 #[unsafe(no_mangle)]

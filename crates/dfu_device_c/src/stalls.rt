@@ -1,4 +1,4 @@
-//! Whether a device will stall a setup, said before its body is there.
+//! Tells before the body of a setup is there whether a device will stall it.
 ghost use Rattle.std.specs.Prelude.{◌≡◌, ◌⊎◌, pos};
 ghost use Rattle.dfu_asks.specs.Addressed.{addressed};
 ghost use Rattle.dfu_core.specs.Stalls.{ToldStall};
@@ -8,8 +8,8 @@ use crate::tells::told_number;
 use dfu_asks::{addressed, mode_stalls};
 use dfu_core::{DfuConfig, DfuRecord, idle_mode};
 
-/// Whether `dfu_core_handle` will stall this setup, whatever body of wLength bytes comes with it: 1 or 0. `size` is how many
-/// bytes the flash has.
+/// Returns whether `dfu_core_handle` will stall this setup, whatever body of wLength bytes comes with it: 1 or 0. `size` is how many bytes
+/// the flash has.
 ///
 /// Refused with -2 if the configuration is not allowed; -4 if the record has no mode; -12 if writes are due.
 #[unsafe(no_mangle)]

@@ -1,4 +1,4 @@
-//! What a record by itself shows: the state, the code, and when time changes them; and the numbers that a program in C gets.
+//! Facts that a record by itself shows: the state, the code, and when time changes them; and the numbers that a program in C gets.
 ghost use Rattle.std.specs.Prelude.{◌≡◌, ◌⊎◌, min, pos, List, ℕ, IfSome, IfNone, ◌≤◌, if◌then◌else◌};
 ghost use Rattle.dfu_wire.specs.Code.{code_byte};
 ghost use Rattle.dfu_wire.specs.State.{state_byte};
@@ -61,7 +61,7 @@ pub(crate) fn told_number(said: bool) -> i32
     if said { 1 } else { 0 }
 }
 
-/// How many bytes of room an answer needs.
+/// Returns the bytes of room that an answer needs.
 pub(crate) fn room_for(config: &DfuConfig) -> usize
     ensures { result ≡ answer_room (setting_of config.now) }
 {

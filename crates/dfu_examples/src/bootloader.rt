@@ -18,7 +18,7 @@ use dfu_wire::State;
 /// DETACH with a wTimeout of 0 (USB DFU 1.1, section 5.1).
 const DETACH: [u8; 8] = [0x21, 0, 0, 0, 0, 0, 0, 0];
 
-/// What a USB stack reports.
+/// Events that a USB stack reports.
 #[derive(Clone, Copy, PartialEq, Eq)]
 pub enum Happened {
     /// The bus was reset.
@@ -52,12 +52,12 @@ pub trait UsbDevice {
     fn stall(&mut self);
 }
 
-/// What a bootloader returns.
+/// Result of a bootloader: the image that it starts, and the device.
 #[derive(Drop)]
 pub struct Start<M: Medium> {
     /// The device, whose slot store has the image to start. `load` copies it out.
     pub device: Device<M>,
-    /// How many bytes that image has.
+    /// Length of that image in bytes.
     pub len: u32,
 }
 

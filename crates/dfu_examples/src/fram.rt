@@ -5,7 +5,7 @@ ghost use Rattle.dfu_slots.specs.Medium.{KeepsOutside};
 
 use dfu_slots::{Failed, Medium, Unit};
 
-/// Why a driver's write failed. The store does the same for each.
+/// Reasons for which a driver's write failed. The store does the same for each.
 #[derive(Clone, Copy, Drop)]
 pub enum ChipFault {
     /// The chip is protected from writes.
@@ -23,7 +23,7 @@ pub trait Chip: Drop {
     /// The bytes in the chip.
     ghost cells: { Self → List ℕ };
 
-    /// How many bytes the chip has.
+    /// Returns the bytes of the chip.
     fn size(&self) -> u32
         ensures { result ≡ length (cells self.now) };
 

@@ -19,15 +19,15 @@ pub trait Flash: Drop {
     /// The unit in which it is programmed, and the size of the sectors in which it is erased.
     ghost grain: { Self → Grain };
 
-    /// How many bytes the flash has.
+    /// Returns the bytes of the flash.
     fn size(&self) -> u32
         ensures { result ≡ length (cells self.now) };
 
-    /// In which units it is programmed.
+    /// Unit in which it is programmed.
     fn unit(&self) -> Unit
         ensures { result ≡ (grain self.now).unit };
 
-    /// How many bytes a sector has. The store takes multiples of 256 up to 131,072.
+    /// Returns the bytes of a sector. The store takes multiples of 256 up to 131,072.
     fn sector(&self) -> u32
         ensures { result ≡ (grain self.now).sector };
 

@@ -1,4 +1,4 @@
--- What is due lies in the first slot, and leaves the image.
+-- A due operation lies in the first slot, and leaves the image.
 use Rattle.std.proofs.Common.{◌≡◌, inl, inr, ℕ, ◌+◌, ◌-◌, ◌*◌, ◌%◌, ◌≤◌, ◌<◌, List, length, get_or, drop, slice_index, Option, sym, ◌∙◌, ap, subst, arith}
 use Rattle.std.proofs.lemmas.List.{get_or-take, get_or-drop}
 use Rattle.dfu_slots.specs.Units.{gate_size}

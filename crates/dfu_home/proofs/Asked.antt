@@ -1,4 +1,4 @@
--- What is asked for.
+-- Operation that is asked for.
 use Rattle.std.proofs.Common.{◌≡◌, inr, Bool, false, not, IsTrue, arith}
 use Rattle.std.proofs.lemmas.Grind.{common_steps}
 use Rattle.dfu_slots.specs.Medium.{MediumState}
@@ -15,7 +15,7 @@ found_away m home is away = away (there home is)
     there : (b : Bool) → b ≡ false → IsTrue (not b)
     there b e = grind (arith, common_steps)
 
--- What is due of a copy is due.
+-- An operation that is due of a copy is due.
 pub copy_does : (m : MediumState) (p : Progress) (due : Due) → MayAsk m p → IsCopying m → IsCopyDue m p.last due → Does m p due
 copy_does m p (Refuse refusal) may c due = absurd due
 copy_does m p Home may c due = absurd due

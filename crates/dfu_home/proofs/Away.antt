@@ -70,7 +70,7 @@ is_away m at has is off = record {
   second = ⊎_elim (λ p. absurd (off (is ∙ p.0))) (λ p. p.0) (tested_places (gate_of m) m.bytes);
 }
 
--- Where the first slot is closed, and the second one has no image that fits, there is none.
+-- There is no image if the first slot is closed, and the second one has no image that fits.
 pub none_fits : (m : MediumState) → ¬ IsOpen (first_of m) → capacity_of m < header_length (second_of m) → ¬ HasImage m
 none_fits m shut past has =
     let s = away_shut m has.image has.active shut in

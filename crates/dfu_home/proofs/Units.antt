@@ -1,4 +1,4 @@
--- What a copy programs, and what is due of it.
+-- Bytes that a copy programs, and the operation that is due of it.
 use Rattle.std.proofs.Common.{◌≡◌, inl, inr, ℕ, ◌+◌, ◌-◌, ◌*◌, ◌≤◌, ◌==◌, List, [], ◌∷◌, ◌++◌, length, take, drop, replicate, Option, if◌then◌else◌, refl, sym, ◌∙◌, ap, subst, arith}
 use Rattle.std.proofs.lemmas.List.{drop-replicate, take-replicate, take_all}
 use Rattle.std.proofs.lemmas.Bool.{cond-false, ne_eqb}
@@ -52,7 +52,7 @@ module _ (m : MediumState) where
       ∙ cond-false (at == g) at_header (program_piece (away_image m) (at - 2 * g)) (ne_eqb at g (λ is. omega (arith, is, wide)))
       ∙ ap (λ (k : ℕ). program_piece (away_image m) k) e)
 
-  -- What a run area would be due is due of the data.
+  -- An operation that would be due of a run area is due of the data.
   pub copies : (image run : List ℕ) (sector : ℕ) (last shown : Option ℕ) (due : FillDue) → image ≡ away_image m
       → run ≡ (first_of m).data_bytes → sector ≡ m.grain.sector → shown ≡ last_in_data (2 * g) last → Fills image run sector shown due
       → CopiesBytes m last due

@@ -1,4 +1,4 @@
--- What holds of each operation, whatever becomes of it.
+-- Facts of each operation, whatever becomes of it.
 use Rattle.std.specs.Prelude.{◌≡◌, ℕ, ◌+◌, ◌%◌, ◌≤◌, List}
 use Rattle.dfu_slots.specs.Medium.{MediumState, KeepsOutside}
 use Rattle.dfu_slots.specs.Layout.{slot_size}
@@ -35,7 +35,7 @@ abbrev pub ImageStays : Type 0
 ImageStays = (m now : MediumState) (image : List ℕ) (p : Progress) (due : Due) → Active m image → Does m p due → IsCarried m due now →
     Active now image
 
--- What is due lies in the first slot. It erases a whole sector, or programs what is blank.
+-- An operation that is due lies in the first slot. It erases a whole sector, or programs what is blank.
 abbrev pub IsAllowed : MediumState → Due → Type 0
 IsAllowed m (Erase at) = (at + m.grain.sector ≤ slot_size m.bytes) × (at % m.grain.sector ≡ 0)
 IsAllowed m (Program at len) = (at + len ≤ slot_size m.bytes) × AreBlank m.bytes at (at + len)

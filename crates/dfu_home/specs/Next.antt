@@ -1,4 +1,4 @@
--- What is due next, so that the active image comes to the first slot.
+-- Operation that is due next, so that the active image comes to the first slot.
 use Rattle.std.specs.Prelude.{◌≡◌, ◌⊎◌, ℕ, ◌+◌, ◌-◌, ◌*◌, ◌≤◌, ◌<◌, ◌++◌, List, length, take, replicate, Option, ◌==◌, if◌then◌else◌}
 use Rattle.dfu_suffix.specs.Register.{register}
 use Rattle.dfu_slots.specs.Units.{gate_size}
@@ -34,13 +34,13 @@ IsHeaderDue m = HasBytes m × (¬ HasCopyHeader m)
 abbrev pub IsGateDue : MediumState → Type 0
 IsGateDue m = HasBytes m × HasCopyHeader m
 
--- Which sector is erased for a copy: one of the data, the header's, or the gate's.
+-- Sector that is erased for a copy: one of the data, the header's, or the gate's.
 abbrev pub ErasesForCopy : MediumState → Option ℕ → ℕ → Type 0
 ErasesForCopy m last at = ((d : ℕ) × (at ≡ 2 * gate_of m + d) × CopiesBytes m last (fill.Erase d))
     ⊎ (IsHeaderDue m × (at ≡ gate_of m) × (¬ IsErasedAt m last at)
     ⊎ IsGateDue m × (at ≡ 0) × (¬ IsErasedAt m last at))
 
--- What is programmed for it.
+-- Bytes that are programmed for it.
 abbrev pub ProgramsForCopy : MediumState → Option ℕ → ℕ → ℕ → Type 0
 ProgramsForCopy m last at len = ((d : ℕ) × (at ≡ 2 * gate_of m + d) × (len ≡ 256) × CopiesBytes m last (fill.Program d))
     ⊎ (IsHeaderDue m × (at ≡ gate_of m) × (len ≡ gate_size m.grain.unit) × IsErasedAt m last at
@@ -77,14 +77,14 @@ GivesBytes m (Refuse refusal) before after = after ≡ before
 GivesBytes m Home before after = after ≡ before
 GivesBytes m (Erase at) before after = after ≡ before
 
--- What is due of a copy.
+-- Operation that is due of a copy.
 abbrev pub IsCopyDue : MediumState → Option ℕ → Due → Type 0
 IsCopyDue m last (Erase at) = ErasesForCopy m last at
 IsCopyDue m last (Program at len) = ProgramsForCopy m last at len
 IsCopyDue m last (Refuse refusal) = ⊥
 IsCopyDue m last Home = ⊥
 
--- What is due once the bytes are there.
+-- Operation that is due once the bytes are there.
 abbrev pub IsHeadDue : MediumState → Option ℕ → Due → Type 0
 IsHeadDue m last (Erase at) = ((¬ HasCopyHeader m) × (at ≡ gate_of m) × (¬ IsErasedAt m last at))
     ⊎ (HasCopyHeader m × (at ≡ 0) × (¬ IsErasedAt m last at))
@@ -93,7 +93,7 @@ IsHeadDue m last (Program at len) = ((¬ HasCopyHeader m) × (at ≡ gate_of m) 
 IsHeadDue m last (Refuse refusal) = ⊥
 IsHeadDue m last Home = ⊥
 
--- What is due of a gate unit that begins at this place.
+-- Operation that is due of a gate unit that begins at this place.
 abbrev pub IsUnitDue : MediumState → Option ℕ → ℕ → Due → Type 0
 IsUnitDue m last place (Erase at) = (at ≡ place) × (¬ IsErasedAt m last place)
 IsUnitDue m last place (Program at len) = (at ≡ place) × (len ≡ gate_size m.grain.unit) × IsErasedAt m last place

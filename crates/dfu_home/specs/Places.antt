@@ -1,4 +1,4 @@
--- What the two slots of a medium hold while the image of the second is copied into the first.
+-- Content of the two slots of a medium while the image of the second is copied into the first.
 use Rattle.std.specs.Prelude.{◌≡◌, ℕ, ◌+◌, ◌-◌, ◌/◌, List, length, take, Option, Some, None, nat_lt, if◌then◌else◌}
 use Rattle.dfu_suffix.specs.Register.{register}
 use Rattle.dfu_slots.specs.Units.{gate_size}
@@ -45,7 +45,7 @@ HasCopyHeader m = (first_of m).header ≡ copy_header m
 abbrev pub IsErasedAt : MediumState → Option ℕ → ℕ → Type 0
 IsErasedAt m last at = (last ≡ Some at) × AreBlank m.bytes at (at + gate_size m.grain.unit)
 
--- Where the last operation went in the data of the first slot, if it went there.
+-- Place of the last operation in the data of the first slot, if it went there.
 abbrev pub last_in_data : ℕ → Option ℕ → Option ℕ
 last_in_data gates None = None
 last_in_data gates (Some at) = if nat_lt at gates then None else Some (at - gates)

@@ -1,4 +1,4 @@
--- How an operation went.
+-- Outcome of an operation.
 use Rattle.std.specs.Prelude.{◌≡◌, ℕ, ◌+◌, ◌≤◌, ◌<◌, ◌^◌, Bool, false, List, length, take, slice_range, Option, Some, None}
 use Rattle.dfu_boot.specs.install.Area.{AreBlank}
 use Rattle.dfu_home.specs.declared.due.Due.{Due}
@@ -13,7 +13,7 @@ Worked flash sector (Program at len) bytes =
 Worked flash sector (Refuse refusal) bytes = ⊥
 Worked flash sector Home bytes = ⊥
 
--- What is noted of it: its place, exactly if it did not fail and worked.
+-- The note of an operation is its place, exactly if it did not fail and worked.
 abbrev pub Noted : List ℕ → ℕ → Due → List ℕ → Bool → Option ℕ → Type 0
 Noted flash sector due bytes failed (Some at) = (failed ≡ false) × (at ≡ place_of due) × Worked flash sector due bytes
 Noted flash sector due bytes failed None = failed ≡ false → ¬ Worked flash sector due bytes

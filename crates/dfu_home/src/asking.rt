@@ -1,4 +1,4 @@
-//! Whether the active image is in the first slot.
+//! Look for the active image in the first slot.
 ghost use Rattle.std.specs.Prelude.{IfSome, IfNone, IsTrue, not};
 ghost use Rattle.dfu_slots.specs.Image.{HasImage};
 ghost use Rattle.dfu_home.specs.Places.{IsHome, IsAway};
@@ -6,8 +6,8 @@ ghost use Rattle.dfu_home.specs.Places.{IsHome, IsAway};
 use dfu_slots::laws::active_image_is_one;
 use dfu_slots::{Medium, check};
 
-/// Whether the active image is in the first slot: true if it is, false if it is in the second one, and None exactly if there is none. It
-/// reads the image of each open slot once.
+/// Returns whether the active image is in the first slot: true if it is, false if it is in the second one, and None exactly if there is
+/// none. It reads the image of each open slot once.
 ///
 /// A program that runs from the first slot takes a download only if this is true: then the second slot is the spare one, which a download
 /// writes. Once the download is in place this is false, and the next one would be written over the program that runs.

@@ -2,7 +2,7 @@
 ghost use Rattle.std.specs.Prelude.{◌≡◌, ◌↔◌, ◌≤◌, ◌-◌, ◌++◌, length, replicate, IsTrue};
 ghost use Rattle.dfu_boot.specs.install.Area.{AreBlank};
 
-/// Whether the bytes from one place to before another are all FFh.
+/// Returns whether the bytes from one place to before another are all FFh.
 pub(crate) fn are_blank(flash: &[u8], from: u32, to: u32) -> bool
     requires order { from ≤ to }
     requires inside { to ≤ length flash.now }
@@ -18,7 +18,7 @@ pub(crate) fn are_blank(flash: &[u8], from: u32, to: u32) -> bool
     true
 }
 
-/// Whether two slices of one length have the same bytes. (A loop is less code than `==`.)
+/// Returns whether two slices of one length have the same bytes. (A loop is less code than `==`.)
 pub(crate) fn are_same(one: &[u8], other: &[u8]) -> bool
     requires { length one.now ≡ length other.now }
     ensures { IsTrue result ↔ (one.now ≡ other.now) }

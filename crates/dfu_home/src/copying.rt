@@ -13,7 +13,7 @@ use dfu_boot::install;
 use dfu_slots::{Medium, OPEN_GATE, VERSION, gate_of, header_of, length_in, make_header};
 use dfu_suffix::Crc;
 
-// Where the last operation went in the data of the first slot, if it went there.
+// Returns the place of the last operation in the data of the first slot, if it went there.
 fn last_in_data(gates: u32, last: Option<u32>) -> Option<u32>
     ensures { result ≡ last_in_data gates last }
 {
@@ -60,7 +60,7 @@ fn away_image<'f, M: Medium>(medium: &M, flash: &'f [u8]) -> &'f [u8]
     &data[..length_in(&header_of(medium, half)) as usize]
 }
 
-// How many bytes a gate unit has, and a header unit as many.
+// Returns the bytes of a gate unit; a header unit has as many.
 fn gate_size<M: Medium>(medium: &M) -> u32
     ensures value { result ≡ gate_size (M.state medium.now).grain.unit }
     ensures least { 16 ≤ result }
@@ -69,8 +69,8 @@ fn gate_size<M: Medium>(medium: &M) -> u32
     16.max(medium.unit().size())
 }
 
-// What is due of a gate unit that begins there, which is to have these bytes, and zeros after them: it is programmed if the last operation
-// erased it, and else erased.
+// Returns the operation that is due of a gate unit that begins there, which is to have these bytes, and zeros after them: it is programmed
+// if the last operation erased it, and else erased.
 fn unit_due<M: Medium>(
     medium: &M,
     flash: &[u8],
@@ -97,7 +97,7 @@ fn unit_due<M: Medium>(
     Due::Program { at, len }
 }
 
-// What is due once the bytes are there: the header, or behind it the gate.
+// Returns the operation that is due once the bytes are there: the header, or behind it the gate.
 fn head<M: Medium>(
     medium: &M,
     flash: &[u8],
@@ -118,7 +118,7 @@ fn head<M: Medium>(
     unit_due(medium, flash, gate_of(medium), last, &header, out)
 }
 
-/// What is due of a copy.
+/// Returns the operation that is due of a copy.
 pub(crate) fn copy<M: Medium>(
     medium: &M,
     flash: &[u8],

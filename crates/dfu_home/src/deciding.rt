@@ -1,4 +1,4 @@
-//! What is due next.
+//! Operation that is due next.
 ghost use Rattle.std.specs.Prelude.{◌≡◌, ◌<◌, not, ℕ, List, IsTrue};
 ghost use Rattle.dfu_slots.specs.Layout.{IsOpen};
 ghost use Rattle.dfu_slots.specs.Image.{IsSized, HasImage};
@@ -10,14 +10,14 @@ use crate::copying::copy;
 use crate::{Due, Progress, Refusal};
 use dfu_slots::{Medium, capacity_of, header_of, is_open, is_sized, length_in};
 
-// How many operations may come on a medium: one for each 128 bytes. A medium that works needs fewer.
+// Returns the number of operations that may come on a medium: one for each 128 bytes. A medium that works needs fewer.
 fn most_operations<M: Medium>(medium: &M) -> u32
     ensures { result ≡ most_operations (M.state medium.now) }
 {
     medium.len() / 128
 }
 
-// Whether the second slot, of which alone the image can be, is open, and its image fits.
+// Returns whether the second slot, of which alone the image can be, is open, and its image fits.
 fn is_copying<M: Medium>(medium: &M) -> bool
     requires sized { IsSized (M.state medium.now) }
     requires sectors { 0 < (M.state medium.now).grain.sector }
@@ -35,7 +35,7 @@ fn is_copying<M: Medium>(medium: &M) -> bool
     true
 }
 
-// Whether the medium has an active image, unless so many operations came since it was looked at.
+// Returns whether the medium has an active image, unless so many operations came since it was looked at.
 fn is_looked<M: Medium>(medium: &M, count: u32) -> bool
     ensures looked { IsTrue result → count ≡ 0 → HasImage (M.state medium.now) }
     ensures none { IsTrue (not result) → ¬ HasImage (M.state medium.now) }
@@ -46,7 +46,7 @@ fn is_looked<M: Medium>(medium: &M, count: u32) -> bool
     is_home(medium).is_some()
 }
 
-// What is due while the gate of the first slot is open.
+// Returns the operation that is due while the gate of the first slot is open.
 fn opened<M: Medium>(medium: &M, progress: Progress) -> Due
     requires sectors { 0 < (M.state medium.now).grain.sector }
     requires open { IsOpen (first_of (M.state medium.now)) }
@@ -65,7 +65,7 @@ fn opened<M: Medium>(medium: &M, progress: Progress) -> Due
     }
 }
 
-// What is due while it is closed: the image can only be in the second slot.
+// Returns the operation that is due while it is closed: the image can only be in the second slot.
 fn shut<M: Medium>(medium: &M, flash: &[u8], progress: Progress, out: &mut [u8; 256]) -> Due
     requires mapped { flash.now ≡ (M.state medium.now).bytes }
     requires sized { IsSized (M.state medium.now) }
@@ -86,7 +86,7 @@ fn shut<M: Medium>(medium: &M, flash: &[u8], progress: Progress, out: &mut [u8; 
     copy(medium, flash, progress.last, out)
 }
 
-/// What is due next, so that the active image comes to the first slot.
+/// Returns the operation that is due next, so that the active image comes to the first slot.
 ///
 /// `flash` has the bytes of the medium, as it is mapped for reading. `progress` is no last operation and a count of 0 after each loss of
 /// power, and else what `took` returned. Whatever it is, `Home` comes only if the active image is in the first slot, each operation lies

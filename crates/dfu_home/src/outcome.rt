@@ -1,11 +1,11 @@
-//! How an operation went.
+//! Outcome of an operation.
 ghost use Rattle.std.specs.Prelude.{◌≡◌, ◌+◌, ◌-◌, ◌^◌, ◌<◌, ◌↔◌, min, IsTrue, length};
 ghost use Rattle.dfu_home.specs.Took.{Worked, Noted};
 
 use crate::bytes::{are_blank, are_same};
 use crate::{Due, Progress};
 
-// Whether an operation worked, as it reads.
+// Returns whether an operation worked, as it reads.
 fn worked(flash: &[u8], sector: u32, due: Due, bytes: &[u8; 256]) -> bool
     requires { length flash.now < 2 ^ 32 }
     ensures { IsTrue result ↔ Worked flash.now sector due bytes.now }
@@ -27,7 +27,7 @@ fn worked(flash: &[u8], sector: u32, due: Due, bytes: &[u8; 256]) -> bool
     }
 }
 
-/// How far the work is once an operation was carried out, or `failed`: what `next` takes.
+/// Returns the progress of the work once an operation was carried out, or `failed`: what `next` takes.
 ///
 /// `due` is what `next` returned, and `bytes` what it put into its buffer. The flash is read back: after an erase the whole sector has to
 /// read FFh, after a program its bytes. The count goes up by 1, whatever became of it.

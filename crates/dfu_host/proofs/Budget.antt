@@ -27,7 +27,7 @@ stays_done h h' (seen ∷ more) (sees {mid = mid} step rows) over =
     let e : mid ≡ h = row_over h mid seen step over in
     stays_done mid h' more rows (subst (λ (z : HostState). IsOver z.phase) (sym e) over) ∙ e
 
--- What one action leaves of the budget.
+-- Budget that one action leaves.
 takes_spent : (left : ℕ) (phase : Phase) → takes_in (budgeted left phase) left ≤ left
 takes_spent left (Over r) = omega arith
 takes_spent left (OverUploaded kept) = omega arith

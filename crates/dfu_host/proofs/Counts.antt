@@ -64,7 +64,7 @@ module _ (p : List ℕ) (t : ℕ) where
         e ∙ sym f
   ]
 
-  -- How many blocks there are.
+  -- Number of blocks.
   pub block_count : 0 < t → 0 < length p → (length p - 1) / t + 1 ≡ length (blocks p t)
   block_count ht h =
       let q = (length p - 1) / t in

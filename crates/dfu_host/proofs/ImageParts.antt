@@ -1,4 +1,4 @@
--- What a host makes of a part of an upload.
+-- Session after a part of an upload.
 use Rattle.std.proofs.Common.{◌≡◌, ◌⊎◌, ℕ, ◌%◌, ◌<◌, IsTrue, List, length, refl, sym, ap, subst, arith, inl, inr}
 use Rattle.std.proofs.Math.Nat.{mod-eq_of_lt}
 use Rattle.dfu_wire.specs.declared.requests.Request.TheVariants as request
@@ -27,7 +27,7 @@ fetches goal.Fetch is = refl
 fetches (goal.Verify payload) is = elim is [ ]
 fetches (goal.Compare payload) is = elim is [ ]
 
--- What is heard of a part answers the UPLOAD that asked for it.
+-- The meaning of a part answers the UPLOAD that asked for it.
 pub reads_part : (t : Task) (k : ℕ) (part : List ℕ) (word : Heard) → k < 65535 → (word ≡ heard.Part (length part)) ⊎ (word ≡ heard.NoRoom)
     → RefusedRoom t (phase.Fetch k) part word
     → ReadsAnswer (request.Upload (k % 65536) t.transfer) part (heard_of part word)

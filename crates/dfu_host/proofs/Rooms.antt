@@ -1,4 +1,4 @@
--- What a session makes of a part of an upload that is kept in a room.
+-- Session after a part of an upload that is kept in a room.
 use Rattle.std.proofs.Common.{◌≡◌, ◌∙◌, ◌↔◌, ℕ, zero, suc, pred, nat_lt, ◌==◌, ◌++◌, Bool, true, false, if◌then◌else◌, IsTrue, List, length, refl, sym, ap, subst}
 use Rattle.dfu_host.specs.declared.report.Report.TheVariants as report
 use Rattle.dfu_host.specs.declared.phase.Phase.{Phase}
@@ -17,7 +17,7 @@ use Rattle.dfu_host.specs.Rooms.{OnlyWhereFull, TakesPartIn, overflows}
 use Rattle.dfu_host.specs.inside.Refusing.{HearsBy, RefusesIn}
 use Rattle.dfu_host.specs.inside.View.{heard_of, part_of, state_with}
 
--- What is seen when a part is fetched is taken as its room has it, if it was refused as the room says.
+-- The result when a part is fetched is taken as its room has it, if it was refused as the room says.
 pub takes_part_in : (room : ℕ) (memory : List ℕ) (t : Task) (p : Progress) (what : Seen) (refused : Bool) (word : Heard) (h' : HostState)
     → HearsBy p.phase what refused word → RefusesIn room t.transfer p.phase memory what refused
     → h' ≡ after (state_with memory t p) (heard_of (part_of what) word)
@@ -42,7 +42,7 @@ takes_part_in room memory t p what refused word h' by full same = by_phase p.pha
 abbrev GoesOn : table.Phase → Type 0
 GoesOn next = (left : ℕ) → budgeted left next ≡ table.Over report.NoMemory → ⊥
 
--- What follows a part that is taken is not NoMemory.
+-- The phase after a part that is taken is not NoMemory.
 part_goes_on : (t k : ℕ) (kept bytes : List ℕ) → GoesOn (table.fetched t k kept bytes)
 part_goes_on t k kept bytes =
     after_choice GoesOn (length bytes == t) _ _

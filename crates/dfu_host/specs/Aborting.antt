@@ -1,4 +1,4 @@
--- What becomes of a session that its caller gives up.
+-- Effect on a session that its caller gives up.
 use Rattle.std.specs.Prelude.{◌≡◌}
 use Rattle.dfu_host.specs.declared.report.Report.TheVariants as report
 use Rattle.dfu_host.specs.declared.seen.Seen.{Seen}

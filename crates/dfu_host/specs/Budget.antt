@@ -6,14 +6,14 @@ use Rattle.dfu_host.specs.declared.seen.Seen.{Seen}
 use Rattle.dfu_host.specs.Phases.{Phase, Over, OverUploaded}
 use Rattle.dfu_host.specs.Host.{HostState, IsOver, HostRows}
 
--- How often a host in this phase takes what is seen, at most, until it is done: as often as it has actions left, and once at least, in
--- each phase that is not over.
+-- Number of times that a host in this phase takes what is seen, at most, until it is done: as often as it has actions left, and once at
+-- least, in each phase that is not over.
 abbrev pub takes_in : Phase → (actions : ℕ) → ℕ
 takes_in (Over r) actions = 0
 takes_in (OverUploaded kept) actions = 0
 takes_in phase actions = max 1 actions
 
--- How often a host takes what is seen, at most, until it is done.
+-- Number of times that a host takes what is seen, at most, until it is done.
 abbrev pub takes_left : HostState → ℕ
 takes_left h = takes_in h.phase h.actions
 

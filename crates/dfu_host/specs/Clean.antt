@@ -1,4 +1,4 @@
--- How long a clean download takes.
+-- Length of a clean download.
 use Rattle.std.specs.Prelude.{ℕ, ◌+◌, ◌*◌, nat_lt, if◌then◌else◌}
 
 -- The actions of a clean download to a tolerant device in appIDLE. Each block takes DNLOAD and GETSTATUS, with a busy time

@@ -1,5 +1,5 @@
--- How much an upload keeps: so many full parts as it counts, and at the end fewer than 65,535 of them and a shorter one. No other
--- session keeps anything, or ends as Uploaded.
+-- Size of an upload's bytes: so many full parts as it counts, and at the end fewer than 65,535 of them and a shorter one. No other session
+-- keeps anything, or ends as Uploaded.
 use Rattle.std.specs.Prelude.{◌≡◌, ◌*◌, ◌<◌, List, length}
 use Rattle.dfu_host.specs.declared.report.Report.{Report}
 use Rattle.dfu_host.specs.declared.report.Report.TheVariants as report
@@ -22,8 +22,8 @@ GivesNothing report.NoMemory = Unit {0}
 GivesNothing report.Verified = Unit {0}
 GivesNothing report.Different = Unit {0}
 
--- What is kept in a phase: k full parts of an upload while part k is fetched, and at the end fewer bytes than 65,535 full parts have.
--- A phase that keeps nothing ends in no Uploaded.
+-- The bytes that are kept in a phase are counted: k full parts of an upload while part k is fetched, and at the end fewer bytes than 65,535
+-- full parts have. A phase that keeps nothing ends in no Uploaded.
 abbrev pub IsCounted : Task → Phase → Type 0
 IsCounted task phase = elim (class_of phase) [
   | Common ↦ Unit {0}

@@ -86,11 +86,11 @@ rows_count = record {
   leaves = λ task phase behind c. (c.0, tt);
 }
 
--- What is kept is counted, whatever is heard.
+-- The bytes that are kept are counted, whatever is heard.
 pub after_stays : (h : HostState) (heard : Heard) → 0 < h.task.transfer → IsCounted h.task h.phase
     → IsCounted (after h heard).task (after h heard).phase
 after_stays h heard some c = (keeps_after CountsParts rows_count h heard (some, c)).1
 
--- What a host keeps stays counted.
+-- The bytes that a host keeps stay counted.
 pub stays_counted : StaysCounted
 stays_counted h h' seens some c rows = (keeps_rows CountsParts rows_count h h' seens rows (some, c)).1

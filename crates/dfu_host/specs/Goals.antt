@@ -1,4 +1,4 @@
--- What a session of the code is for.
+-- Goal of a session of the code.
 use Rattle.std.specs.Prelude.{◌≡◌, ℕ, List, [], length}
 use Rattle.dfu_host.specs.declared.goal.Goal.{Goal}
 use Rattle.dfu_host.specs.declared.goal.Goal.TheVariants as goal

@@ -88,7 +88,7 @@ abbrev pub left_by : HostState → Phase → (behind_close : Bool) → HostState
 left_by h phase true = by_row h (Last report.Unconfirmed) WasReset
 left_by h phase false = restarted h phase h.restarts
 
--- What is heard: a restart, or that the device left of itself, or else what the table's row takes.
+-- Host after something is heard: a restart, or that the device left of itself, or else what the table's row takes.
 abbrev pub host_heard : HostState → Phase → Heard → HostState
 host_heard h phase Restarted = restarted h phase h.restarts
 host_heard h phase Left = left_by h phase (is_behind_close h.task.goal phase)
@@ -114,7 +114,7 @@ aborted_in h phase = record h { phase = GiveUp }
 abbrev pub aborted : HostState → HostState
 aborted h = aborted_in h h.phase
 
--- What a host that is asked for its next action answers: the action of its phase, as setup and body.
+-- A host that is asked for its next action answers with the action of its phase, as setup and body.
 abbrev pub Act : HostState → Action → Type 0
 Act h action = Spells (deed h.task h.phase) action
 
@@ -123,8 +123,8 @@ abbrev pub wants_memory : Phase → Bool
 wants_memory (Fetch k kept) = true
 wants_memory phase = false
 
--- What a host becomes by what it sees: the bytes are understood as its action says, and the table gives the rest. Memory is wanting only
--- in a phase that wants some.
+-- A host becomes, by what it sees, the host of its row: the bytes are understood as its action says, and the table gives the rest. Memory
+-- is wanting only in a phase that wants some.
 pub record HostRow (h : HostState) (seen : Seen) (h' : HostState) : Type 0 where
   pub heard : Heard
   pub hears : Hears (deed h.task h.phase) seen heard

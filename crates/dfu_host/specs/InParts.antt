@@ -11,7 +11,7 @@ use Rattle.dfu_host.specs.PhaseClasses.{Common, Sending, Closing, Manifesting, F
 use Rattle.dfu_host.specs.Table as table
 use Rattle.dfu_host.specs.Host.{HostState}
 
--- What of the bytes in memory is kept when a part is asked for: before the first part nothing is.
+-- Bytes in memory that are kept when a part is asked for: before the first part none are.
 abbrev pub kept_at : ℕ → List ℕ → List ℕ
 kept_at zero memory = []
 kept_at (suc k) memory = memory
@@ -49,7 +49,7 @@ pub record IsPhase (is : table.Phase) (phase : Phase) : Type 0 where
   pub memory : List ℕ
   pub same : is ≡ phase_of memory phase
 
--- What a phase needs of a session: a block that there is, a payload to close, or an image to fetch, of which the parts 0 to 65,534 are
+-- A session has what its phase needs: a block that there is, a payload to close, or an image to fetch, of which the parts 0 to 65,534 are
 -- asked for, as they are of one that is compared, or nothing.
 abbrev pub IsWithin : Goal → (transfer : ℕ) → Phase → Type 0
 IsWithin goal t phase = elim (class_of (phase_of [] phase)) [
@@ -92,7 +92,7 @@ abbrev pub begins_at : (t : ℕ) → Phase → ℕ
 begins_at t (phase.Block n) = n * t
 begins_at t other = 0
 
--- What is sent by a session goes with a body that is the payload from there on, as far as the body goes.
+-- The body of a request of a session is the payload from there on, as far as the body goes.
 abbrev pub BodyIsCut : (payload : List ℕ) (from : ℕ) → Action → Type 0
 BodyIsCut payload from (action.Send setup body) = body.now ≡ take (length body.now) (drop from payload)
 BodyIsCut payload from (action.Wait ms) = Unit {0}

@@ -1,4 +1,4 @@
--- How a session comes to report Installed, and Verified.
+-- Ways of a session to the reports Installed and Verified.
 use Rattle.std.specs.Prelude.{◌≡◌, ◌⊎◌, ℕ, ◌<◌, true, List, [], length, slice_index_or}
 use Rattle.dfu_wire.specs.declared.codes.Code.TheVariants as code
 use Rattle.dfu_wire.specs.declared.states.State.TheVariants as state

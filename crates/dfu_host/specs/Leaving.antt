@@ -1,4 +1,4 @@
--- What a session makes of a device that left of itself.
+-- Effect on a session of a device that left of itself.
 use Rattle.std.specs.Prelude.{◌≡◌, ℕ, pred, false, IsTrue, List}
 use Rattle.dfu_host.specs.declared.report.Report.TheVariants as report
 use Rattle.dfu_host.specs.declared.seen.Seen.TheVariants as seen

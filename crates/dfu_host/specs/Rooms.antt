@@ -1,4 +1,4 @@
--- What becomes of a part of an upload that is kept in a room of a fixed size, so that no memory is asked for.
+-- Effect of a part of an upload that is kept in a room of a fixed size, so that no memory is asked for.
 use Rattle.std.specs.Prelude.{◌≡◌, ◌↔◌, ℕ, ◌+◌, nat_lt, ◌&&◌, Bool, if◌then◌else◌, IsTrue, List, length}
 use Rattle.std.specs.Borrow.{Bor}
 use Rattle.dfu_host.specs.declared.report.Report.TheVariants as report
@@ -13,7 +13,7 @@ use Rattle.dfu_host.specs.Host.{HostState, after}
 abbrev pub overflows : (room t k : ℕ) → (kept part : List ℕ) → Bool
 overflows room t k kept part = is_kept t k (length part) && nat_lt room (length kept + length part)
 
--- What is heard of part k: that there was no room for it, if it overflows, and else the part.
+-- Meaning of part k: that there was no room for it, if it overflows, and else the part.
 abbrev pub heard_in : (room t k : ℕ) → (kept part : List ℕ) → Heard
 heard_in room t k kept part = if overflows room t k kept part then NoRoom else Part part
 
@@ -29,8 +29,8 @@ TakesAsPartIn room h k kept seen.WasReset h' = Unit {0}
 TakesAsPartIn room h k kept seen.Restarted h' = Unit {0}
 TakesAsPartIn room h k kept seen.Left h' = Unit {0}
 
--- What is seen when a part is fetched is taken as that part, in a room of this many bytes.
--- Nothing is said here about phases that fetch no part.
+-- An answer that comes when a part is fetched is taken as that part, in a room of this many bytes. Nothing is said here about phases that
+-- fetch no part.
 abbrev pub TakesPartIn : (room : ℕ) → HostState → Phase → Seen → HostState → Type 0
 TakesPartIn room h phase seen h' = elim (class_of phase) [
   | Common ↦ Unit {0}

@@ -94,7 +94,7 @@ module _ (task : Task) (P : Phase → Type 0) (holds : DownloadHolds task P) whe
   common_downloads (OverUploaded kept) c = c
   common_downloads phase c = tt
 
-  -- What holds of a download's phases holds of the common ones.
+  -- A fact of a download's phases holds of the common ones.
   pub of_common : CommonHolds task P Any
   of_common = record {
     anywhere = λ phase c. holds.anywhere phase (common_downloads phase c);

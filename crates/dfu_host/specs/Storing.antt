@@ -1,4 +1,4 @@
--- What the room of a session's caller holds once the session got what was seen.
+-- Bytes in the room of a session's caller once the session got what was seen.
 use Rattle.std.specs.Prelude.{◌≡◌, ℕ, ◌+◌, nat_lt, ◌&&◌, not, Bool, true, false, List, ◌++◌, length, take, drop}
 use Rattle.dfu_host.specs.declared.phase.Phase.{Phase}
 use Rattle.dfu_host.specs.declared.phase.Phase.TheVariants as phase

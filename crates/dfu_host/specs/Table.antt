@@ -138,46 +138,46 @@ compared_phase t k block bytes =
     else if suc k == 65535 then Over report.TooManyBlocks else Compare (suc k))
     else Last report.Different
 
--- What follows the last reset: the report, or, if the payload is to be compared, a new beginning.
+-- Phase after the last reset: the report, or, if the payload is to be compared, a new beginning.
 abbrev pub after_last : Goal → Report → Phase
 after_last (ToVerify payload) report = Find
 after_last goal report = Over report
 
--- What follows GETSTATUS: by the status, by a stall, or by anything else that is heard.
+-- Phase after GETSTATUS: by the status, by a stall, or by anything else that is heard.
 abbrev pub on_status : Heard → (Code → ℕ → State → Phase) → (stalled nothing : Phase) → Phase
 on_status (Status c poll s) told stalled nothing = told c poll s
 on_status Stalled told stalled nothing = stalled
 on_status heard told stalled nothing = nothing
 
--- What follows GETSTATE: by the state, by a stall, or by anything else that is heard.
+-- Phase after GETSTATE: by the state, by a stall, or by anything else that is heard.
 abbrev pub on_state : Heard → (State → Phase) → (stalled nothing : Phase) → Phase
 on_state (StateIs s) told stalled nothing = told s
 on_state Stalled told stalled nothing = stalled
 on_state heard told stalled nothing = nothing
 
--- What follows a request without an answer of bytes: by its acknowledgement, by a stall, or by anything else that is heard.
+-- Phase after a request without an answer of bytes: by its acknowledgement, by a stall, or by anything else that is heard.
 abbrev pub on_ack : Heard → (acked stalled nothing : Phase) → Phase
 on_ack Acked acked stalled nothing = acked
 on_ack Stalled acked stalled nothing = stalled
 on_ack heard acked stalled nothing = nothing
 
--- What follows a wait: if anything else is heard, the session waits again.
+-- Phase after a wait: if anything else is heard, the session waits again.
 abbrev pub on_waited : Heard → (waited again : Phase) → Phase
 on_waited Waited waited again = waited
 on_waited heard waited again = again
 
--- What follows a reset: if anything else is heard, the session resets again.
+-- Phase after a reset: if anything else is heard, the session resets again.
 abbrev pub on_reset : Heard → (done again : Phase) → Phase
 on_reset WasReset done again = done
 on_reset heard done again = again
 
--- What follows UPLOAD: by the bytes of a part, or the end, if there was no memory for them. All else that is heard goes to Find.
+-- Phase after UPLOAD: by the bytes of a part, or the end, if there was no memory for them. All else that is heard goes to Find.
 abbrev pub on_part : (t k : ℕ) (kept : List ℕ) → Heard → Phase
 on_part t k kept (Part bytes) = fetched t k kept bytes
 on_part t k kept NoRoom = Over report.NoMemory
 on_part t k kept heard = Find
 
--- What follows UPLOAD when the image is compared: by the bytes. All else that is heard goes to Find.
+-- Phase after UPLOAD when the image is compared: by the bytes. All else that is heard goes to Find.
 abbrev pub on_compared : (t k : ℕ) → (block : List ℕ) → Heard → Phase
 on_compared t k block (Part bytes) = compared_phase t k block bytes
 on_compared t k block heard = Find

@@ -1,4 +1,4 @@
--- What a call of `take` does, whoever keeps what an upload fetched.
+-- Effect of a call of `take`, whoever keeps what an upload fetched.
 use Rattle.std.specs.Prelude.{◌≡◌, ◌-◌, ◌≤◌}
 use Rattle.dfu_host.specs.declared.seen.Seen.{Seen}
 use Rattle.dfu_host.specs.Host.{HostState, HostRow, IsOver}

@@ -1,4 +1,4 @@
--- When an upload is refused, and what it keeps.
+-- Refusals of an upload, and the bytes that it keeps.
 use Rattle.std.specs.Prelude.{◌≡◌, ◌⊎◌, ℕ, ◌==◌, not, Bool, false, List, [], ◌∷◌, length, find, Option}
 use Rattle.dfu_wire.specs.declared.functionals.Functional.{Functional}
 use Rattle.dfu_host.specs.declared.fault.HostFault.{HostFault}
@@ -39,7 +39,7 @@ TakesAsPart h k seen.WasReset h' = Unit {0}
 TakesAsPart h k seen.Restarted h' = Unit {0}
 TakesAsPart h k seen.Left h' = Unit {0}
 
--- What is seen when a part is fetched is taken as that part. Nothing is said here about phases that fetch no part.
+-- An answer that comes when a part is fetched is taken as that part. Nothing is said here about phases that fetch no part.
 abbrev pub TakesPart : HostState → Phase → Seen → HostState → Type 0
 TakesPart h phase seen h' = elim (class_of phase) [
   | Common ↦ Unit {0}
@@ -54,7 +54,7 @@ TakesPart h phase seen h' = elim (class_of phase) [
   | EndedUpload kept ↦ Unit {0}
 ]
 
--- What an upload keeps: the parts that came since it last began, until it goes back to find the device. In all other phases nothing
+-- Bytes that an upload keeps: the parts that came since it last began, until it goes back to find the device. In all other phases nothing
 -- is kept.
 abbrev pub kept_in : Phase → List ℕ
 kept_in phase = elim (class_of phase) [

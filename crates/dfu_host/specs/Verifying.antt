@@ -1,4 +1,4 @@
--- What a session that verifies what it installs may report.
+-- Reports of a session that verifies what it installs.
 use Rattle.std.specs.Prelude.{◌≡◌, ◌⊎◌, ℕ, List}
 use Rattle.dfu_host.specs.declared.report.Report.{Report}
 use Rattle.dfu_host.specs.declared.report.Report.TheVariants as report

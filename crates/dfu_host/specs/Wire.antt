@@ -1,4 +1,4 @@
--- How the host's table goes over the wire: its actions as setups, and what is seen as what is understood.
+-- Host's table over the wire: its actions as setups, and what is seen as what is understood.
 use Rattle.std.specs.Prelude.{◌≡◌, ◌≢◌, ◌⊎◌, ℕ, suc, ◌<◌, ◌==◌, nat_lt, ◌&&◌, ◌||◌, not, Bool, IsTrue, List, [], ◌∷◌, length}
 use Rattle.dfu_wire.specs.declared.setups.Setup.{Setup}
 use Rattle.dfu_wire.specs.declared.states.State.{State}
@@ -65,7 +65,7 @@ abbrev pub HearsBytes : Deed → List ℕ → Heard → Type 0
 HearsBytes (Send q body) bytes heard = ReadsAnswer q bytes heard
 HearsBytes deed bytes heard = heard ≡ Nothing
 
--- What is seen of an action, as it is understood. Whether it fits the action is the table's matter.
+-- The result of an action, as it is understood. The table decides whether it fits the action.
 abbrev pub Hears : Deed → Seen → Heard → Type 0
 Hears deed (seen.Bytes bytes) heard = HearsBytes deed bytes.now heard
 Hears deed seen.Ack heard = heard ≡ Acked

@@ -55,7 +55,7 @@ IsHeardOnce (Wait ms) = Unit {0}
 IsHeardOnce Reset = Unit {0}
 IsHeardOnce (Done report) = Unit {0}
 
--- What is seen of an action is understood in one way, but for a part of an upload.
+-- The result of an action is understood in one way, but for a part of an upload.
 abbrev pub OneMeaning : Type 0
 OneMeaning = (d : Deed) (what : Seen) (x y : Heard) → IsHeardOnce d → Hears d what x → Hears d what y → x ≡ y
 
@@ -84,7 +84,7 @@ bytes_once : (d : Deed) (bytes : List ℕ) (x y : Heard) → IsHeardOnce d → H
 bytes_once (Send q body) bytes x y o a b = reads_once q bytes x y o a b
 bytes_once d bytes x y o a b = a ∙ sym b
 
--- What is seen of an action has one meaning, but for a part of an upload.
+-- The result of an action has one meaning, but for a part of an upload.
 pub one_meaning : OneMeaning
 one_meaning d (seen.Bytes bytes) x y o a b = bytes_once d bytes.now x y o a b
 one_meaning d seen.Ack x y o a b = a ∙ sym b

@@ -1,8 +1,8 @@
-//! What a host asks its caller to do.
+//! Actions that a host asks its caller to do.
 
 use crate::report::Report;
 
-/// What a host asks its caller to do.
+/// Actions that a host asks its caller to do.
 #[derive(Clone, Copy)]
 pub enum Action<'f> {
     /// Send this request (USB DFU 1.1, section 3). `body` is what goes out with it: a block of

@@ -15,8 +15,8 @@ use crate::task::Task;
 use dfu_wire::{Code, State, Status};
 
 impl Task<'_> {
-    /// What follows the status after a refusal: dfuERROR with a code of its own ends the session,
-    /// and every other status goes by the list.
+    /// Returns the phase after the status that follows a refusal: dfuERROR with a code of its own ends the session, and every other status
+    /// goes by the list.
     pub(crate) fn troubled(&self, status: Status) -> Phase
         ensures next { (memory : List ℕ)
             → phase_of memory result ≡ table.troubled (table.work_start (goal_of self.now.goal)) status.code status.poll_ms status.state }
@@ -31,7 +31,7 @@ impl Task<'_> {
         }
     }
 
-    /// Whether the close precedes this phase of a session.
+    /// Returns whether the close precedes this phase of a session.
     pub(crate) fn is_behind_close(&self, phase: Phase) -> bool
         ensures { (memory : List ℕ) → result ≡ is_behind_close (goal_of self.now.goal) (phase_of memory phase) }
     {
@@ -57,7 +57,7 @@ impl Task<'_> {
         }
     }
 
-    /// What follows the status that was asked for after the close.
+    /// Returns the phase after the status that was asked for after the close.
     pub(crate) fn manifested(&self, status: Status) -> Phase
         ensures next { (memory : List ℕ)
             → phase_of memory result
@@ -71,7 +71,7 @@ impl Task<'_> {
         }
     }
 
-    /// What a tolerant device's status says about the new image: only dfuIDLE with OK is an install.
+    /// Returns the phase by which a tolerant device's status confirms the new image: only dfuIDLE with OK is an install.
     fn confirmed(&self, status: Status) -> Phase
         ensures next { (memory : List ℕ)
             → phase_of memory result
@@ -85,7 +85,7 @@ impl Task<'_> {
         }
     }
 
-    /// What the status of a device that isn't tolerant says about it: nothing confirms an install.
+    /// Returns the phase after the status of a device that isn't tolerant, which never confirms an install.
     fn unconfirmed(&self, status: Status) -> Phase
         ensures next { (memory : List ℕ)
             → phase_of memory result

@@ -21,8 +21,7 @@ use crate::task::Task;
 pub(crate) const MOST_PARTS: u16 = 65_535;
 
 impl Task<'_> {
-    /// What is heard of a part of the image: the part, or, if the caller refused it and it needs
-    /// room, that there was no room.
+    /// Returns the meaning of a part of the image: the part, or, if the caller refused it and it needs room, that there was no room.
     pub(crate) fn received(&self, number: u16, part: &[u8], refused: bool) -> Heard
         requires { IsWithin self.now.goal self.now.transfer (Phase.Fetch number) }
         ensures heard { (result ≡ Heard.Part (length part.now)) ⊎ (result ≡ Heard.NoRoom) }
@@ -68,8 +67,8 @@ impl Task<'_> {
         }
     }
 
-    /// Whether a part of this many bytes is kept: one that is shorter than a block, which is the
-    /// last, or a full one, except the full one that is one too many.
+    /// Returns whether a part of this many bytes is kept: one that is shorter than a block, which is the last, or a full one, except the
+    /// full one that is one too many.
     fn is_kept(&self, number: u16, len: usize) -> bool
         requires { number < 65535 }
         ensures { result ≡ is_kept self.now.transfer number len }
@@ -94,7 +93,7 @@ impl Task<'_> {
         }
     }
 
-    /// What follows a part of this many bytes.
+    /// Returns the phase after a part of this many bytes.
     fn fetched(&self, number: u16, len: usize) -> Phase
         requires { IsWithin self.now.goal self.now.transfer (Phase.Fetch number) }
         ensures next { (memory memory' part : List ℕ)

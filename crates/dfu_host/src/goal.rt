@@ -1,10 +1,10 @@
-//! What a session is for.
+//! Goals of a session.
 
 ghost use Rattle.std.specs.Prelude.{◌≡◌, IsTrue, false};
 ghost use Rattle.dfu_host.specs.BehindClose.{installs};
 ghost use Rattle.dfu_host.specs.Goals.{IsFetch, goal_of, payload_of};
 
-/// What a session is for. It takes no memory: the caller keeps what an upload fetches.
+/// Goal of a session. It takes no memory: the caller keeps what an upload fetches.
 #[derive(Clone, Copy)]
 pub enum Goal<'f> {
     /// To install a payload, which has at least one byte.
@@ -28,7 +28,7 @@ impl<'f> Goal<'f> {
         }
     }
 
-    /// Whether a payload is still to be installed.
+    /// Returns whether a payload is still to be installed.
     pub(crate) fn installs(&self) -> bool
         ensures { result ≡ installs (goal_of self.now) }
     {
@@ -38,7 +38,7 @@ impl<'f> Goal<'f> {
         }
     }
 
-    /// Whether the image is fetched.
+    /// Returns whether the image is fetched.
     pub(crate) fn is_fetch(&self) -> bool
         ensures yes { IsTrue result → IsFetch self.now }
         ensures no { result ≡ false → IsFetch self.now → ⊥ }

@@ -1,4 +1,4 @@
-//! How a host understands what it sees.
+//! Meaning that a host gives to what it sees.
 
 ghost use Rattle.std.specs.Prelude.{◌≡◌, List, ℕ, length};
 ghost use Rattle.dfu_host.specs.inside.Comparing.{Compares};
@@ -17,7 +17,7 @@ use crate::seen::Seen;
 use crate::task::Task;
 use dfu_wire::{State, Status};
 
-/// What a host understands of what came of its action.
+/// Meaning that a host gives to the result of its action.
 #[derive(Clone, Copy)]
 pub(crate) enum Heard {
     Acked,
@@ -38,9 +38,8 @@ pub(crate) enum Heard {
 }
 
 impl Task<'_> {
-    /// What a host understands of what it sees in a phase. Bytes are read as the answer to the
-    /// phase's request; if they are not an answer, it is as if nothing came. A part of an upload is
-    /// kept or refused by now; one of a comparison is compared.
+    /// Returns the meaning of what the host sees in a phase. Bytes are read as the answer to the phase's request; if they are not an
+    /// answer, it is as if nothing came. A part of an upload is kept or refused by now; one of a comparison is compared.
     pub(crate) fn hear(&self, phase: Phase, seen: Seen<'_>, refused: bool) -> Heard
         requires { IsWithin self.now.goal self.now.transfer phase }
         ensures hears { (memory : List ℕ) → Hears (deed (task_of self.now) (phase_of memory phase)) seen.entry
@@ -64,7 +63,7 @@ impl Task<'_> {
         }
     }
 
-    /// What bytes say that come in a phase.
+    /// Returns the meaning of bytes that come in a phase.
     fn answered(&self, phase: Phase, bytes: &[u8], refused: bool) -> Heard
         requires { IsWithin self.now.goal self.now.transfer phase }
         ensures hears { (memory : List ℕ) → HearsBytes (deed (task_of self.now) (phase_of memory phase)) bytes.now

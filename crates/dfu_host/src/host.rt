@@ -122,7 +122,7 @@ impl<'f> Host<'f> {
         Ok(Host { session, memory })
     }
 
-    /// What the host wants done next. It changes nothing, so it may be asked again.
+    /// Returns the action that the host wants next. It changes nothing, so it may be asked again.
     pub fn next(&self) -> Action<'f>
         ensures act { Act self.now result }
         ensures done { IsTrue (is_done result) ↔ (takes_left self.now ≡ 0) }
@@ -161,9 +161,9 @@ impl<'f> Host<'f> {
         self.session.abort();
     }
 
-    /// What an upload keeps: all that was fetched, once the host is done with `Uploaded`. Before
-    /// that, the parts that came since the fetching last began; and nothing in a download, or after
-    /// the session went back to find the device, was given up or ended in another way.
+    /// Returns the bytes that an upload keeps: all that were fetched, once the host is done with `Uploaded`. Before that, the parts that
+    /// came since the fetching last began; and nothing in a download, or after the session went back to find the device, was given up or
+    /// ended in another way.
     pub fn uploaded(&self) -> &[u8]
         ensures { result.now ≡ kept_in self.now.phase }
     {

@@ -11,7 +11,7 @@ use crate::phase::Phase;
 /// A session taken apart: plain values, which a caller may keep between two calls.
 #[derive(Clone, Copy)]
 pub struct Parts<'f> {
-    /// What the session is for.
+    /// Goal of the session.
     pub goal: Goal<'f>,
     /// The most bytes of a block, 1 to 65,535.
     pub transfer: u16,
@@ -25,12 +25,12 @@ pub struct Parts<'f> {
     pub phase: Phase,
     /// The actions that are left.
     pub actions: u32,
-    /// How many more restarts of the device are taken.
+    /// Further restarts of the device that are taken.
     pub restarts: u16,
 }
 
 impl Parts<'_> {
-    /// Whether these are the parts of a session.
+    /// Returns whether these are the parts of a session.
     pub(crate) fn is_session(&self) -> bool
         ensures yes { IsTrue result → IsSession self.now }
         ensures no { result ≡ false → IsSession self.now → ⊥ }
@@ -38,7 +38,7 @@ impl Parts<'_> {
         self.transfer > 0 && self.has_some() && self.is_within()
     }
 
-    /// Whether there is something to do.
+    /// Returns whether there is something to do.
     fn has_some(&self) -> bool
         ensures yes { IsTrue result → 0 < size_of self.now.goal }
         ensures no { result ≡ false → 0 < size_of self.now.goal → ⊥ }
@@ -51,7 +51,7 @@ impl Parts<'_> {
         }
     }
 
-    /// Whether the phase has what it needs.
+    /// Returns whether the phase has what it needs.
     fn is_within(&self) -> bool
         ensures yes { IsTrue result → IsWithin self.now.goal self.now.transfer self.now.phase }
         ensures no { result ≡ false → IsWithin self.now.goal self.now.transfer self.now.phase → ⊥ }
@@ -69,7 +69,7 @@ impl Parts<'_> {
         }
     }
 
-    /// Whether the payload has a block with this number.
+    /// Returns whether the payload has a block with this number.
     fn has_block(&self, number: usize) -> bool
         ensures yes { IsTrue result → number * self.now.transfer < length (payload_of self.now.goal) }
         ensures no { result ≡ false → number * self.now.transfer < length (payload_of self.now.goal) → ⊥ }

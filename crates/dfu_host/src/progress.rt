@@ -1,4 +1,4 @@
-//! How far a session has come: its phase, the budget of actions, and the count of restarts.
+//! Progress of a session: its phase, the budget of actions, and the count of restarts.
 
 ghost use Rattle.std.specs.Prelude.{◌≡◌, if◌then◌else◌, List, ℕ, max};
 ghost use Rattle.dfu_host.specs.Host as host;
@@ -18,13 +18,13 @@ use crate::phase::Phase;
 use crate::report::Report;
 use crate::task::Task;
 
-/// How far a session has come.
+/// Progress of a session.
 #[derive(Clone, Copy)]
 pub(crate) struct Progress {
     pub(crate) phase: Phase,
     /// The actions that are left.
     pub(crate) actions: u32,
-    /// How many more restarts of the device are taken.
+    /// Further restarts of the device that are taken.
     pub(crate) restarts: u16,
 }
 
@@ -126,7 +126,7 @@ impl Progress {
     }
 }
 
-/// Whether this was the last reset, and it was done.
+/// Returns whether this was the last reset, and it was done.
 fn is_last_done(phase: &Phase, heard: &Heard) -> bool
     ensures { (goal : table.Goal) (memory part : List ℕ)
         → table.goal_after goal (phase_of memory phase.now) (heard_of part heard.now)

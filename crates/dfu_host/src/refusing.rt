@@ -56,7 +56,7 @@ fn payload_for<'f>(
     }
 }
 
-/// Whether a device gives its image.
+/// Refuses a device that gives no image.
 pub(crate) fn gives_uploads(functional: &Functional) -> Result<(), HostFault>
     ensures err { IfErr result (λ fault. first_upload_fault functional.now ≡ Some fault) }
     ensures ok { IfOk result (λ nothing. (first_upload_fault functional.now ≡ None) × (0 < functional.now.transfer)) }

@@ -1,11 +1,11 @@
-//! How a session ends.
+//! Reports with which a session ends.
 
 ghost use Rattle.std.specs.Prelude.{◌≡◌};
 ghost use Rattle.dfu_host.specs.ReportName.{report_name};
 
 use dfu_wire::Code;
 
-/// How a session ended.
+/// Report with which a session ended.
 ///
 /// Only [`Report::Installed`] and [`Report::Verified`] say that the payload of this session is in
 /// place. [`Report::Different`] says that the device gave other bytes than those, and

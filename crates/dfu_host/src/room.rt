@@ -1,4 +1,4 @@
-//! What an upload keeps, in a caller's room.
+//! Bytes that an upload keeps, in a caller's room.
 
 ghost use Rattle.std.specs.Prelude.{◌≡◌, ◌+◌, ◌<◌, ◌≤◌, ◌++◌, nat_lt, IfSome, None, drop, false, length, take, true, List, ℕ};
 ghost use Rattle.dfu_host.specs.InParts.{host_of, kept_at};

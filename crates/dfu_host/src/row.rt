@@ -17,7 +17,7 @@ use crate::report::Report;
 use crate::task::Task;
 use dfu_wire::{State, Status};
 
-/// What follows a request without an answer of bytes: by its acknowledgement, by a stall, or by anything else.
+/// Returns the phase after a request without an answer of bytes: by its acknowledgement, by a stall, or by anything else.
 fn on_ack(heard: Heard, acked: Phase, stalled: Phase, nothing: Phase) -> Phase
     ensures next { (memory part : List ℕ) → phase_of memory result
         ≡ table.on_ack (heard_of part heard) (phase_of memory acked) (phase_of memory stalled) (phase_of memory nothing) }
@@ -31,7 +31,7 @@ fn on_ack(heard: Heard, acked: Phase, stalled: Phase, nothing: Phase) -> Phase
     }
 }
 
-/// What follows a wait: if anything else is heard, the session waits again.
+/// Returns the phase after a wait: if anything else is heard, the session waits again.
 fn on_waited(heard: Heard, waited: Phase, again: Phase) -> Phase
     ensures next { (memory part : List ℕ) → phase_of memory result
         ≡ table.on_waited (heard_of part heard) (phase_of memory waited) (phase_of memory again) }
@@ -81,7 +81,7 @@ impl Task<'_> {
         }
     }
 
-    /// What follows GETSTATUS in a phase: by the status, by a stall, or by anything else that is heard.
+    /// Returns the phase after GETSTATUS: by the status, by a stall, or by anything else that is heard.
     fn on_status(&self, phase: Phase, heard: Heard, stalled: Phase) -> Phase
         requires { IsWithin self.now.goal self.now.transfer phase }
         ensures next { (memory part : List ℕ) → phase_of memory result
@@ -95,7 +95,7 @@ impl Task<'_> {
         }
     }
 
-    /// What follows a status in a phase that asks for it.
+    /// Returns the phase after a status in a phase that asks for it.
     fn told(&self, phase: Phase, status: Status) -> Phase
         requires { IsWithin self.now.goal self.now.transfer phase }
         ensures next { (memory : List ℕ)
@@ -171,7 +171,7 @@ impl Task<'_> {
         }
     }
 
-    /// What follows the status that was asked for after a block.
+    /// Returns the phase after the status that was asked for after a block.
     pub(crate) fn polled(&self, number: usize, status: Status) -> Phase
         requires { number * self.now.transfer < length (payload_of self.now.goal) }
         ensures next { (memory : List ℕ)

@@ -1,6 +1,6 @@
-//! What a host sees.
+//! Result of an action.
 
-/// What came of an action. What doesn't fit the action is taken as [`Seen::Nothing`].
+/// Result of an action. One that doesn't fit the action is taken as [`Seen::Nothing`].
 #[derive(Clone, Copy)]
 pub enum Seen<'s> {
     /// A request that has no answer of bytes was acknowledged.

@@ -156,7 +156,7 @@ impl<'f> Session<'f> {
         })
     }
 
-    /// What the session wants done next. It changes nothing, so it may be asked again.
+    /// Returns the action that the session wants next. It changes nothing, so it may be asked again.
     pub fn next(&self) -> Action<'f>
         ensures act { (memory : List ℕ) → Act (host_of memory self.now) result }
         ensures done { (memory : List ℕ) → IsTrue (is_done result) ↔ (takes_left (host_of memory self.now) ≡ 0) }

@@ -1,4 +1,4 @@
-//! Which files are for a device.
+//! Files that are for a device.
 
 ghost use Rattle.std.specs.Prelude.{◌≡◌};
 ghost use Rattle.dfu_host.specs.Download as download;
@@ -8,7 +8,7 @@ use dfu_wire::Ids;
 /// A file's vendor or product that goes with every device.
 const ANY: u16 = 0xffff;
 
-/// Whether a file is for a device: its vendor and its product are the device's, or FFFFh.
+/// Returns whether a file is for a device: its vendor and its product are the device's, or FFFFh.
 pub(crate) fn is_for(file: Ids, device: Ids) -> bool
     ensures { result ≡ download.is_for file device }
 {

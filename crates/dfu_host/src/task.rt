@@ -1,4 +1,4 @@
-//! What a session is to do, and the action of each phase, as the caller gets it.
+//! Task of a session, and the action of each phase, as the caller gets it.
 
 ghost use Rattle.std.specs.Prelude.{◌≡◌, ℕ, suc, ◌+◌, ◌*◌, ◌<◌, ◌^◌, ◌==◌, drop, length, take, IsTrue, ◌↔◌, slice_index_or, if◌then◌else◌, [], List, ◌≤◌};
 ghost use Rattle.dfu_host.specs.Goals.{Carries, size_of};
@@ -14,7 +14,7 @@ use crate::phase::Phase;
 use crate::report::Report;
 use dfu_wire::Request;
 
-/// What a session is to do, and what its device's descriptor says.
+/// Task of a session, with the fields of its device's descriptor.
 #[derive(Drop)]
 pub(crate) struct Task<'f> {
     pub(crate) goal: Goal<'f>,
@@ -63,7 +63,7 @@ impl<'f> Task<'f> {
         number.saturating_mul(self.transfer as usize).min(all)
     }
 
-    /// Whether a block is the last one.
+    /// Returns whether a block is the last one.
     pub(crate) fn is_last(&self, number: usize) -> bool
         requires { number * self.now.transfer < length (payload_of self.now.goal) }
         ensures last { result ≡ (suc number == length (pieces (task_of self.now))) }
@@ -89,7 +89,7 @@ impl<'f> Task<'f> {
         }
     }
 
-    /// How many blocks there are.
+    /// Returns the number of blocks.
     pub(crate) fn count(&self) -> usize
         requires { 0 < length (payload_of self.now.goal) }
         ensures { result ≡ length (pieces (task_of self.now)) }

@@ -1,4 +1,4 @@
--- Where the body of an action lies in the payload.
+-- Place of the body of an action in the payload.
 use Rattle.std.proofs.Common.{◌≡◌, ℕ, ◌+◌, ◌≤◌, List, length, take, drop, ap, arith}
 use Rattle.std.proofs.lemmas.List.{length-take, length-drop}
 use Rattle.dfu_host.specs.declared.parts.Parts.{Parts}
@@ -7,7 +7,7 @@ use Rattle.dfu_host.specs.declared.phase.Phase.TheVariants as phase
 use Rattle.dfu_host.specs.Goals.{payload_of}
 use Rattle.dfu_host.specs.InParts.{IsSession, IsWithin, begins_at}
 
--- What is cut from a place within the payload ends within it.
+-- Bytes that are cut from a place within the payload end within it.
 pub cut_ends : (payload body : List ℕ) (from : ℕ) → body ≡ take (length body) (drop from payload) → from ≤ length payload
     → from + length body ≤ length payload
 cut_ends payload body from e within =

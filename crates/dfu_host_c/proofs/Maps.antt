@@ -1,4 +1,4 @@
--- What is read from the string of a map, and its ranges.
+-- Content that is read from the string of a map, and its ranges.
 use Rattle.std.proofs.Common.{◌≡◌, ◌≤◌, ℕ, ◌∙◌, Option, Some, None, IfSome, MatchOption, List, length, Result, Ok, Err, sym, ap, subst}
 use Rattle.std.specs.Prelude.{◌<◌, slice_index_or}
 use Rattle.std.specs.Borrow.{Bor}

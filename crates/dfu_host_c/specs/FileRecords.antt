@@ -1,4 +1,4 @@
--- What a file says, as a record for C.
+-- Fields of a file, as a record for C.
 use Rattle.std.specs.Prelude.{ℕ, ◌-◌, List, length, drop}
 use Rattle.byteorder.specs.Endian.{little_number}
 use Rattle.dfu_wire.specs.declared.ids.Ids.{Ids}

@@ -1,4 +1,4 @@
--- What a file without a DFU suffix is, as a record for C.
+-- Look of a file without a DFU suffix, as a record for C.
 use Rattle.std.specs.Prelude.{ℕ, Option, Some, None}
 use Rattle.dfu_formats.specs.declared.images.format.Format.{Format}
 use Rattle.dfu_formats.specs.declared.images.format.Format.TheVariants.{IntelHex, SRecord, Uf2, Elf}
@@ -18,7 +18,7 @@ image_format_number SRecord = 2
 image_format_number Uf2 = 3
 image_format_number Elf = 4
 
--- The number of what a file is, 0 to 9. That of a format is the format's.
+-- The number of what a file is, 0 to 9. A format has its own number.
 abbrev pub looks_number : Looks → ℕ
 looks_number looks.Raw = 0
 looks_number (looks.Of format) = image_format_number format
@@ -28,7 +28,7 @@ looks_number (looks.Other Gzip) = 7
 looks_number (looks.Other Text) = 8
 looks_number (looks.Other (Named ending)) = 9
 
--- The number of what a name says, 0 to 5. That of a format is the format's.
+-- The number of what a name says, 0 to 5. A format has its own number.
 abbrev pub ending_number : Option Ending → ℕ
 ending_number None = 0
 ending_number (Some (ending.Of format)) = image_format_number format

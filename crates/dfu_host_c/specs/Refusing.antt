@@ -1,4 +1,4 @@
--- When a session does not begin for a program in C, and why.
+-- Refusals of a session that does not begin for a program in C.
 use Rattle.std.specs.Prelude.{◌≡◌, ◌⊎◌, ℕ, ℤ, List, Option, Some}
 use Rattle.dfu_wire.specs.declared.functionals.Functional.{Functional}
 use Rattle.dfu_wire.specs.declared.ids.Ids.{Ids}

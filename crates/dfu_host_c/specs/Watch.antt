@@ -1,7 +1,7 @@
--- What a program does with a device that stalls, is silent, leaves, or comes back as another one. The numbers are those of dfu_host.h. An
--- action is 0 a request, 1 a wait, 2 a reset of the bus, 3 none, since the session is over. Of an action is seen: 0 the device
--- acknowledged the request, 1 it answered with bytes, 2 it stalled, 3 the action was not finished, 4 the wait is over, 5 the bus was reset,
--- 6 the device was restarted, 7 it left by itself.
+-- Course of a program with a device that stalls, is silent, leaves, or comes back as another one. The numbers are those of dfu_host.h. An
+-- action is 0 a request, 1 a wait, 2 a reset of the bus, 3 none, since the session is over. Of an action is seen: 0 the device acknowledged
+-- the request, 1 it answered with bytes, 2 it stalled, 3 the action was not finished, 4 the wait is over, 5 the bus was reset, 6 the device
+-- was restarted, 7 it left by itself.
 use Rattle.std.specs.Prelude.{ℕ, suc, ◌==◌, ◌&&◌, ◌||◌, not, nat_lt, nat_le, Bool, slice_index, if◌then◌else◌}
 use Rattle.dfu_host_core.specs.declared.action.DfuAction.{DfuAction}
 use Rattle.dfu_host_c.specs.declared.watch.DfuWatch.{DfuWatch}
@@ -31,15 +31,16 @@ is_of_image action = is_download action || is_request 161 2 action
 abbrev pub counted_to : (number most : ℕ) → ℕ
 counted_to number most = if nat_lt number most then suc number else number
 
--- What comes of the session's next action before it is done: 7 if it is a DNLOAD or an UPLOAD of a session that goes by a descriptor that
--- isn't the device's, 6 if it would be the fourth reset in a row after nothing but stalls, else 0.
+-- Course before the session's next action is done: 7 if it is a DNLOAD or an UPLOAD of a session that goes by a descriptor that isn't the
+-- device's, 6 if it would be the fourth reset in a row after nothing but stalls, else 0.
 abbrev pub course_before : DfuWatch → DfuAction → (by_another : ℕ) → ℕ
 course_before watch action by_another =
     if yes by_another && is_of_image action then 7
     else if (action.what == 2) && (yes watch.stalled && nat_le 3 watch.resets) then 6
     else 0
 
--- Whether the program sends a DETACH before a reset: 1 if it is the first one since the device stalled in run-time mode, else 0.
+-- Number that says if the program sends a DETACH before a reset: 1 if it is the first one since the device stalled in run-time mode, else
+-- 0.
 abbrev pub detaches : DfuWatch → ℕ
 detaches watch = as_number (yes watch.stalled && (watch.resets == 0))
 
@@ -47,15 +48,16 @@ detaches watch = as_number (yes watch.stalled && (watch.resets == 0))
 abbrev pub is_reached : DfuAction → DfuFacts → Bool
 is_reached action facts = (action.what == 0) && yes facts.reached
 
--- How many requests and resets in a row were not finished, after this action; 24 stands for any more. No wait counts or ends the row.
+-- Number of requests and resets in a row that were not finished, after this action; 24 stands for any more. No wait counts or ends the row.
 abbrev pub silent_after : DfuWatch → DfuAction → (seen : ℕ) → ℕ
 silent_after watch action seen =
     if not (action.what == 0) && not (action.what == 2) then watch.silent
     else if seen == 3 then counted_to watch.silent 24
     else 0
 
--- How many resets in a row followed nothing but stalls, after this action; 3 stands for any more. It is 0 once a request went out, and the
--- device is in DFU mode or acknowledged or answered it. A reset that was done counts if the request before it was stalled in run-time mode.
+-- Number of resets in a row that followed nothing but stalls, after this action; 3 stands for any more. It is 0 once a request went out,
+-- and the device is in DFU mode or acknowledged or answered it. A reset that was done counts if the request before it was stalled in
+-- run-time mode.
 abbrev pub resets_after : DfuWatch → DfuAction → (seen : ℕ) → DfuFacts → ℕ
 resets_after watch action seen facts =
     if is_reached action facts && (yes facts.upgrade || ((seen == 0) || (seen == 1))) then 0
@@ -67,7 +69,7 @@ abbrev pub stalled_after : DfuWatch → DfuAction → (seen : ℕ) → DfuFacts 
 stalled_after watch action seen facts =
     if is_reached action facts then (seen == 2) && not (yes facts.upgrade) else yes watch.stalled
 
--- What is kept after an action. A DNLOAD counts as sent once it went out.
+-- Record after an action. A DNLOAD counts as sent once it went out.
 abbrev pub watched : DfuWatch → DfuAction → (seen : ℕ) → DfuFacts → DfuWatch
 watched watch action seen facts = record {
   silent = silent_after watch action seen;
@@ -82,7 +84,7 @@ watched watch action seen facts = record {
 abbrev pub is_other : DfuWatch → DfuFacts → Bool
 is_other watch facts = yes facts.open && ((facts.again == 0) && (yes facts.upgrade || (watch.sent == 0)))
 
--- How the program goes on, by the first of these that holds. The device is gone and the user hasn't stopped the session: 3 if it came back
+-- Course of the program, by the first of these that holds. The device is gone and the user hasn't stopped the session: 3 if it came back
 -- with several settings, else 2. It is silent, 24 times in a row: 4. The one that is open is another one: 5. It is open in DFU mode with
 -- another functional descriptor than the session began with: 5 if a DNLOAD was sent or a session was begun anew already, else 1, to begin
 -- one anew. Else 0.
@@ -94,7 +96,7 @@ course_after watch facts =
     else if yes facts.open && (yes facts.upgrade && (facts.same == 0)) then (if yes watch.sent || yes watch.anew then 5 else 1)
     else 0
 
--- What is kept with this result: if it is 1, also that another session was begun.
+-- Record with this result: if it is 1, also that another session was begun.
 abbrev pub begun_anew : (result : ℕ) → DfuWatch → DfuWatch
 begun_anew result watch = if result == 1 then record {
   silent = watch.silent;

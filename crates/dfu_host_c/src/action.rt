@@ -1,4 +1,4 @@
-//! What is to be done next, written for C.
+//! Action that is to be done next, written for C.
 
 ghost use Rattle.std.specs.Prelude.{◌≤◌, List, length, ℕ};
 ghost use Rattle.dfu_host.specs.Phases.{Deed};

@@ -1,4 +1,4 @@
-//! What a file says, as a record for C.
+//! Fields of a file, as a record for C.
 
 ghost use Rattle.std.specs.Prelude.{◌≡◌, ℕ, ◌+◌, ◌-◌, ◌≤◌, List, length, drop, pos, ◌↔◌, IfOk, Ok, Err};
 ghost use Rattle.byteorder.specs.Endian.{little_number};
@@ -17,7 +17,7 @@ use dfu_suffix::{File, SuffixFault, read_small};
 #[repr(C)]
 #[derive(Drop)]
 pub struct DfuFile {
-    /// How many bytes the payload has, at most 16,777,200.
+    /// Length of the payload in bytes, at most 16,777,200.
     pub payload: u64,
     /// bLength: how many bytes the suffix has, 16 to 255.
     pub suffix: u32,

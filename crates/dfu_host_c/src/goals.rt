@@ -1,4 +1,4 @@
-//! What a session is for, as a number, both ways.
+//! Goals of a session, as numbers, both ways.
 
 ghost use Rattle.std.specs.Prelude.{◌≡◌, List, ℕ, IfSome, Some, None};
 ghost use Rattle.std.specs.Borrow.{Bor};
@@ -7,7 +7,7 @@ ghost use Rattle.dfu_host_core.specs.Sessions.{goal_at};
 
 use dfu_host::Goal;
 
-/// What a session of this number is for, over this payload; None if there is no such number.
+/// Returns the goal of this number, over this payload; None if there is no such number.
 pub(crate) fn goal_at<'f>(number: u32, payload: &'f [u8]) -> Option<Goal<'f>>
     ensures value { result ≡ goal_at number payload.entry }
     ensures carries { IfSome result (λ goal. Carries payload.entry goal) }

@@ -1,4 +1,4 @@
-//! What a file without a DFU suffix is, as a record for C: `include/dfu_image.h` describes this call.
+//! Look of a file without a DFU suffix, as a record for C: `include/dfu_image.h` describes this call.
 
 ghost use Rattle.std.specs.Prelude.{◌≡◌};
 ghost use Rattle.dfu_formats.specs.images.Looks.{look_of};
@@ -10,9 +10,9 @@ use dfu_formats::images::{Ending, Format, Look, Looks, NotImage, look_at};
 #[repr(C)]
 #[derive(Drop)]
 pub struct DfuLook {
-    /// What the file is, 0 to 9.
+    /// Kind of the file, 0 to 9.
     pub looks: u32,
-    /// What the ending of its name says, 0 to 5.
+    /// Format that the ending of its name says, 0 to 5.
     pub named: u32,
     /// The line of the first byte that no record has there, from 1; 0 if there is none.
     pub line: u64,

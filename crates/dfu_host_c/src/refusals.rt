@@ -1,4 +1,4 @@
-//! What C gets if a call is refused: negative numbers, in the order of the faults.
+//! Refusals of a call, for C: negative numbers, in the order of the faults.
 
 ghost use Rattle.std.specs.Prelude.{◌≡◌};
 ghost use Rattle.dfu_host_c.specs.Refusals.{refused_number};
@@ -22,7 +22,7 @@ pub(crate) const NO_ROOM: i32 = -43;
 /// The map has no range of this number.
 pub(crate) const NO_RANGE: i32 = -44;
 
-/// Why a call is refused.
+/// Reasons for which a call is refused.
 #[derive(Clone, Copy)]
 pub(crate) enum Refusal {
     /// The bytes are no file.

@@ -1,4 +1,4 @@
-//! What a program keeps and sees of a device beside the session, as records for C.
+//! Records of what a program keeps and sees of a device beside the session, for C.
 
 /// `struct dfu_watch`: what has come of a session's requests so far. All 0 before the first session.
 #[repr(C)]

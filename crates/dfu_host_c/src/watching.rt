@@ -21,7 +21,7 @@ ghost use Rattle.dfu_host_c.specs.Watch.{
 use crate::watch::{DfuFacts, DfuWatch};
 use dfu_host_core::DfuAction;
 
-/// What `dfu_watch_before` and `dfu_watch_after` return.
+/// Courses that `dfu_watch_before` and `dfu_watch_after` return.
 pub(crate) const GOES_ON: u32 = 0;
 
 const BEGINS_ANEW: u32 = 1;
@@ -38,26 +38,26 @@ const ENDS_STALLED: u32 = 6;
 
 const ENDS_REFUSED: u32 = 7;
 
-/// How many requests and resets in a row may have no answer: a dead device takes 5 seconds for each.
+/// Requests and resets in a row that may have no answer: a dead device takes 5 seconds for each.
 pub(crate) const MOST_SILENT: u32 = 24;
-/// How many resets in a row may follow nothing but stalls: what is reset is a running application.
+/// Resets in a row that may follow nothing but stalls, because a running application is reset then.
 const MOST_RESETS: u32 = 3;
 
-/// Whether an action sends a block or the end of a download (USB DFU 1.1, section 6.1.1).
+/// Returns whether an action sends a block or the end of a download (USB DFU 1.1, section 6.1.1).
 fn is_download(action: &DfuAction) -> bool
     ensures { result ≡ is_download action.now }
 {
     action.what == 0 && action.setup[0] == 0x21 && action.setup[1] == 1
 }
 
-/// Whether an action sends or fetches a part of an image (sections 6.1.1 and 6.2).
+/// Returns whether an action sends or fetches a part of an image (sections 6.1.1 and 6.2).
 fn is_of_image(action: &DfuAction) -> bool
     ensures { result ≡ is_of_image action.now }
 {
     is_download(action) || (action.what == 0 && action.setup[0] == 0xa1 && action.setup[1] == 2)
 }
 
-/// Whether a request went out to the device.
+/// Returns whether a request went out to the device.
 fn is_reached(action: &DfuAction, facts: &DfuFacts) -> bool
     ensures { result ≡ is_reached action.now facts.now }
 {
@@ -71,8 +71,8 @@ pub(crate) fn counted(number: u32, most: u32) -> u32
     if number < most { number + 1 } else { number }
 }
 
-/// Whether the session's next action may be done: 0, or how the session ends in place of it. `by_another` is not 0 if
-/// the session goes by a functional descriptor in place of the device's own.
+/// Returns whether the session's next action may be done: 0, or the end of the session in place of it. `by_another` is not 0 if the session
+/// goes by a functional descriptor in place of the device's own.
 #[unsafe(no_mangle)]
 pub extern "C" fn dfu_watch_before(watch: &DfuWatch, action: &DfuAction, by_another: u32) -> u32
     ensures { result ≡ course_before watch.now action.now by_another }
@@ -86,7 +86,7 @@ pub extern "C" fn dfu_watch_before(watch: &DfuWatch, action: &DfuAction, by_anot
     }
 }
 
-/// Whether the program sends a DETACH of its own before the reset that the session asks for: 1 if the device stalled the last
+/// Returns whether the program sends a DETACH of its own before the reset that the session asks for: 1 if the device stalled the last
 /// request in run-time mode and no reset followed a stall yet, else 0.
 #[unsafe(no_mangle)]
 pub extern "C" fn dfu_watch_detaches(watch: &DfuWatch) -> u32
@@ -95,7 +95,7 @@ pub extern "C" fn dfu_watch_detaches(watch: &DfuWatch) -> u32
     u32::from(watch.stalled != 0 && watch.resets == 0)
 }
 
-/// How many requests and resets in a row were not finished, after an action.
+/// Counts the requests and resets in a row that were not finished, after an action.
 fn silent_after(watch: &DfuWatch, action: &DfuAction, seen: u32) -> u32
     ensures { result ≡ silent_after watch.now action.now seen }
 {
@@ -108,8 +108,8 @@ fn silent_after(watch: &DfuWatch, action: &DfuAction, seen: u32) -> u32
     }
 }
 
-/// How many resets in a row followed nothing but stalls, after an action: 0 once a request went out, and the device is in DFU
-/// mode or acknowledged or answered it.
+/// Counts the resets in a row that followed nothing but stalls, after an action: 0 once a request went out, and the device is in DFU mode
+/// or acknowledged or answered it.
 fn resets_after(watch: &DfuWatch, action: &DfuAction, seen: u32, facts: &DfuFacts) -> u32
     ensures { result ≡ resets_after watch.now action.now seen facts.now }
 {
@@ -122,7 +122,7 @@ fn resets_after(watch: &DfuWatch, action: &DfuAction, seen: u32, facts: &DfuFact
     }
 }
 
-/// Whether the last request that went out was stalled, in run-time mode.
+/// Returns whether the last request that went out was stalled, in run-time mode.
 fn stalled_after(watch: &DfuWatch, action: &DfuAction, seen: u32, facts: &DfuFacts) -> bool
     ensures { result ≡ stalled_after watch.now action.now seen facts.now }
 {
@@ -133,7 +133,7 @@ fn stalled_after(watch: &DfuWatch, action: &DfuAction, seen: u32, facts: &DfuFac
     }
 }
 
-/// What is kept after an action.
+/// Returns the record after an action.
 fn watched(watch: &DfuWatch, action: &DfuAction, seen: u32, facts: &DfuFacts) -> DfuWatch
     ensures { result ≡ watched watch.now action.now seen facts.now }
 {
@@ -146,15 +146,15 @@ fn watched(watch: &DfuWatch, action: &DfuAction, seen: u32, facts: &DfuFacts) ->
     }
 }
 
-/// Whether the device that is open is another one than the session's. Once a DNLOAD was sent, a device in run-time mode may
-/// run another image, and is not compared.
+/// Returns whether the device that is open is another one than the session's. Once a DNLOAD was sent, a device in run-time mode may run
+/// another image, and is not compared.
 fn is_other(watch: &DfuWatch, facts: &DfuFacts) -> bool
     ensures { result ≡ is_other watch.now facts.now }
 {
     facts.open != 0 && facts.again == 0 && (facts.upgrade != 0 || watch.sent == 0)
 }
 
-/// Whether the device that is open gets no request, since it is another one than the session's: 1, or 0.
+/// Returns whether the device that is open gets no request, since it is another one than the session's: 1, or 0.
 #[unsafe(no_mangle)]
 pub extern "C" fn dfu_watch_is_other(watch: &DfuWatch, facts: &DfuFacts) -> u32
     ensures { result ≡ as_number (is_other watch.now facts.now) }
@@ -162,7 +162,7 @@ pub extern "C" fn dfu_watch_is_other(watch: &DfuWatch, facts: &DfuFacts) -> u32
     u32::from(is_other(watch, facts))
 }
 
-/// How the program goes on, by what is kept and what it sees of the device.
+/// Returns the course of the program, by the record and by what it sees of the device.
 fn course(watch: &DfuWatch, facts: &DfuFacts) -> u32
     ensures { result ≡ course_after watch.now facts.now }
 {
@@ -187,8 +187,8 @@ fn course(watch: &DfuWatch, facts: &DfuFacts) -> u32
     }
 }
 
-/// What follows an action of which this was seen, and of the device these facts: 0 to go on, 1 to begin another session in
-/// place of this one, 2 to 5 how the session ends. If it begins anew, the record has that.
+/// Returns the course after an action of which this was seen, and of the device these facts: 0 to go on, 1 to begin another session in
+/// place of this one, 2 to 5 for an end of the session. If it begins anew, the record has that.
 #[unsafe(no_mangle)]
 pub extern "C" fn dfu_watch_after(
     watch: &mut DfuWatch,

@@ -154,7 +154,7 @@ pub hosts_are_one : HostsAreOne
 hosts_are_one payload x h h' here other =
     sym other.is ∙ said_here payload x h here other.slice other.same other.parts other.held.stands
 
--- What an action that says that a session is over says of the host.
+-- An action that says that a session is over says so of the host.
 told : (payload : List ℕ) (from : ℕ) (d : Deed) (a : DfuAction) (report : Report) → TellsAction payload from d a → a.what ≡ 3
     → report_at a.value a.code ≡ Some report → d ≡ Done report
 told payload from (Send q body) a report t what is = absurd (omega (arith, t.what, what))

@@ -1,4 +1,4 @@
--- What the record of an action says.
+-- Content of the record of an action.
 use Rattle.std.specs.Prelude.{◌≡◌, ◌+◌, ◌≤◌, ℕ, List, Some, length, replicate, take, drop}
 use Rattle.dfu_wire.specs.declared.requests.Request.{Request}
 use Rattle.dfu_host.specs.declared.report.Report.{Report}

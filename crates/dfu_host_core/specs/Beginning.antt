@@ -1,4 +1,4 @@
--- How a session begins for a program in C.
+-- Beginning of a session for a program in C.
 use Rattle.std.specs.Prelude.{◌≡◌, ◌+◌, ℕ, ℤ, pos, List, length, Option, None}
 use Rattle.std.specs.Borrow.{Bor}
 use Rattle.dfu_wire.specs.declared.functionals.Functional.{Functional}

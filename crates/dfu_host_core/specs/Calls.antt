@@ -1,4 +1,4 @@
--- What came of a call.
+-- Result of a call.
 use Rattle.std.specs.Prelude.{◌≡◌, ◌⊎◌, ℕ, ℤ, pos, List, Some, None, length}
 use Rattle.std.specs.Borrow.{Bor}
 use Rattle.dfu_host.specs.declared.parts.Parts.{Parts}
@@ -61,19 +61,17 @@ pub record IsNextAction (r : DfuSession) (payload : Bor (List ℕ)) (a : DfuActi
       → TellsAction (payload_of parts.goal) (begins_at parts.transfer parts.phase)
       (deed (host_of memory parts).task (host_of memory parts).phase) a
 
--- What comes of dfu_host_take: the session took what was seen; or the record is no session's, or there is no such `seen`, and nothing
--- changes.
+-- Result of dfu_host_take: the session took what was seen; or the record is no session's, or there is no such `seen`, and nothing changes.
 abbrev pub TakeComes : DfuSession → Bor (List ℕ) → (buffer : List ℕ) → (seen : ℕ) → Bor (List ℕ) → ℤ → DfuSession → (buffer' : List ℕ)
     → Type 0
 TakeComes r payload buffer seen bytes n r' buffer' = ((n ≡ pos 0) × TookSeen r r' payload buffer buffer' seen bytes)
     ⊎ ((n ≡ no_session) × NotHeld r payload buffer × (r' ≡ r) × (buffer' ≡ buffer))
     ⊎ ((n ≡ no_seen) × SessionStands r payload buffer × (seen_at seen bytes ≡ None) × (r' ≡ r) × (buffer' ≡ buffer))
 
--- What comes of dfu_host_abort: the session was given up; or the record is no session's, and nothing changes.
+-- Result of dfu_host_abort: the session was given up; or the record is no session's, and nothing changes.
 abbrev pub AbortComes : DfuSession → Bor (List ℕ) → ℤ → DfuSession → Type 0
 AbortComes r payload n r' = ((n ≡ pos 0) × GivenUp r r' payload) ⊎ ((n ≡ no_session) × NoRecord r payload × (r' ≡ r))
 
--- What comes of dfu_host_next: the record of the action says what the session does next; or the record is no session's, and nothing
--- changes.
+-- Result of dfu_host_next: the record of the action says what the session does next; or the record is no session's, and nothing changes.
 abbrev pub NextComes : DfuSession → Bor (List ℕ) → ℤ → (a a' : DfuAction) → Type 0
 NextComes r payload n a a' = ((n ≡ pos 0) × IsNextAction r payload a') ⊎ ((n ≡ no_session) × NoRecord r payload × (a' ≡ a))

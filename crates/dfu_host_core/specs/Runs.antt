@@ -42,7 +42,7 @@ pub record HostStep : Type 0 where
   pub number : ℤ
   pub after : CoreHost
 
--- What comes of a call with a payload and bytes that are these, wherever they are in memory: what its clause says.
+-- Result of a call with a payload and bytes that are these, wherever they are in memory: what its clause says.
 abbrev pub HostCalled : (payload : List ℕ) → CoreHost → HostCall → ℤ → CoreHost → Type 0
 HostCalled payload x (CoreTake seen bytes) n x' = (slice : Bor (List ℕ)) × (given : Bor (List ℕ)) × (slice.now ≡ payload)
     × (given.now ≡ bytes) × TakeComes x.kept slice x.buffer seen given n x'.kept x'.buffer
@@ -67,12 +67,12 @@ pub record SeesSo (seen : ℕ) (bytes : List ℕ) (h h' : HostState) : Type 0 wh
 abbrev pub SeesNone : (seen : ℕ) → (bytes : List ℕ) → Type 0
 SeesNone seen bytes = (slice : Bor (List ℕ)) × (slice.now ≡ bytes) × (seen_at seen slice ≡ None)
 
--- What a call makes of a host. It is never refused as one of no session; and a number that says nothing changes nothing.
+-- Effect of a call on a host. It is never refused as one of no session; and a number that says nothing changes nothing.
 abbrev pub HostMoves : HostState → HostCall → ℤ → HostState → Type 0
 HostMoves h (CoreTake seen bytes) n h' = ((n ≡ pos 0) × SeesSo seen bytes h h') ⊎ ((n ≡ no_seen) × SeesNone seen bytes × (h' ≡ h))
 HostMoves h CoreAbort n h' = (n ≡ pos 0) × (h' ≡ aborted h)
 
--- What calls make of it, one after the other.
+-- Effect of calls on it, one after the other.
 pub data HostGoes : HostState → List HostStep → HostState → Type 0 where
   stays : {h : HostState} → HostGoes h [] h
   moves : {h mid h' : HostState} {s : HostStep} {rest : List HostStep} → HostMoves h s.call s.number mid → HostGoes mid rest h'
@@ -105,7 +105,7 @@ HostsBegin = (payload buffer : List ℕ) (r : DfuSession) (start : HostState) �
 abbrev pub HostsAreOne : Type 0
 HostsAreOne = (payload : List ℕ) (x : CoreHost) (h h' : HostState) → IsCoreHost payload x h → IsCoreHost payload x h' → h' ≡ h
 
--- What dfu_host_next says of a session in C: it is not refused, and the record of the action says what the host does. A body is cut from
+-- Answer of dfu_host_next for a session in C: it is not refused, and the record of the action says what the host does. A body is cut from
 -- the payload. If it says that the session is over with a report, the host is done with that report.
 pub record TellsOfHost (payload : List ℕ) (h : HostState) (n : ℤ) (a : DfuAction) : Type 0 where
   pub number : n ≡ pos 0

@@ -1,4 +1,4 @@
--- Which session a record holds.
+-- Session that a record holds.
 use Rattle.std.specs.Prelude.{◌≡◌, ℕ, ◌==◌, ◌≤◌, not, if◌then◌else◌, List, length, take, Option, Some, None, option_and_then, option_map}
 use Rattle.std.specs.Borrow.{Bor}
 use Rattle.dfu_host.specs.declared.goal.Goal.{Goal}
@@ -20,8 +20,8 @@ version = 300
 abbrev pub limits_of : (actions restarts : ℕ) → Limits
 limits_of actions restarts = record { actions = actions; restarts = restarts }
 
--- What a session of this number is for: 1 to install the payload, 2 to fetch the image, 3 to install the payload and then to compare it,
--- 4 to compare it.
+-- Goal of a session of this number: 1 to install the payload, 2 to fetch the image, 3 to install the payload and then to compare it, 4 to
+-- compare it.
 abbrev pub goal_at : ℕ → (payload : Bor (List ℕ)) → Option Goal
 goal_at number payload =
     if number == 1 then Some (goal.Load payload)

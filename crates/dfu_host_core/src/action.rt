@@ -1,4 +1,4 @@
-//! What is to be done next, as a record for C.
+//! Action that is to be done next, as a record for C.
 
 /// `struct dfu_action`: what is to be done next. The header says what each number means.
 #[repr(C)]
@@ -8,9 +8,9 @@ pub struct DfuAction {
     pub what: u32,
     /// The milliseconds of a wait, or the number of a report.
     pub value: u32,
-    /// Where the body begins in the payload.
+    /// Place at which the body begins in the payload.
     pub from: u64,
-    /// How many bytes the body has.
+    /// Length of the body in bytes.
     pub length: u64,
     /// The code of the report Refused.
     pub code: u32,

@@ -3,7 +3,7 @@
 /// A phase as numbers.
 #[derive(Clone, Copy)]
 pub struct EncodedPhase {
-    /// Which phase.
+    /// Number of the phase.
     pub which: u32,
     /// The block, the part or the report.
     pub number: u64,

@@ -4,8 +4,8 @@ ghost use Rattle.dfu_host_core.specs.Runs.{HostsRefine, HostsBegin, HostsAreOne,
 
 /// Whatever calls come to a session in C that a call has begun, each with the record and the buffer as the last one left them and a payload
 /// of the same bytes, wherever they are in memory: it goes through them as the host of dfu_host does, row by row. No call is refused, but
-/// one with a number of `seen` that there isn't, which changes nothing. A record is that of one host. What dfu_host_next says is what that
-/// host does; and if it says that the session is over with a report, so is the host, with that report.
+/// one with a number of `seen` that there isn't, which changes nothing. A record is that of one host. The answer of dfu_host_next is the
+/// action of that host; and if it is that the session is over with a report, so is the host, with that report.
 pub fn core_hosts_are_hosts()
     ensures begins { HostsBegin }
     ensures refines { HostsRefine }

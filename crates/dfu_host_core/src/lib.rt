@@ -1,5 +1,4 @@
-//! What the library of the host for C stands on: its records, which session these are, what its calls may do, and what holds of any list
-//! of them.
+//! Base of the library of the host for C: its records, the sessions that these are, the calls' effects, and the laws of any list of them.
 #![tactic(auto)]
 
 mod action;

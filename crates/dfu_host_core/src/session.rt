@@ -6,19 +6,19 @@
 pub struct DfuSession {
     /// The version of the library that wrote the record.
     pub version: u32,
-    /// What the session is for, 1 to 4.
+    /// Goal of the session, 1 to 4.
     pub goal: u32,
     /// The block, the part or the report of the phase.
     pub number: u64,
-    /// How many bytes an upload keeps.
+    /// Bytes that an upload keeps.
     pub kept: u64,
-    /// Which phase, 0 to 24.
+    /// Phase of the session, 0 to 24.
     pub phase: u32,
     /// A poll time in milliseconds, or the code of a report.
     pub more: u32,
     /// The actions that are left.
     pub actions: u32,
-    /// How many more restarts of the device are taken.
+    /// Further restarts of the device that are taken.
     pub restarts: u16,
     /// wTransferSize, 1 to 65,535.
     pub transfer: u16,

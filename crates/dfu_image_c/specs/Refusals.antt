@@ -1,4 +1,4 @@
--- What C gets if there is no image of a file: a number, and the places that the fault names.
+-- Refusals of the image of a file, for C: a number, and the places that the fault names.
 use Rattle.std.specs.Prelude.{ℕ, ℤ, negsuc}
 use Rattle.dfu_formats.specs.declared.images.fault.ImageFault.{ImageFault}
 use Rattle.dfu_formats.specs.declared.images.fault.ImageFault.TheVariants as file

@@ -1,4 +1,4 @@
--- What a call leaves of the image of a file.
+-- Record that a call leaves of the image of a file.
 use Rattle.std.specs.Prelude.{◌≡◌, ◌⊎◌, ◌≤◌, ◌<◌, ◌==◌, nat_lt, if◌then◌else◌, ℕ, ℤ, pos, List, ◌++◌, drop, length, Option, Some, None, Result, Ok, Err}
 use Rattle.dfu_formats.specs.declared.images.format.Format.{Format}
 use Rattle.dfu_formats.specs.declared.images.format.Format.TheVariants.{IntelHex, SRecord, Uf2, Elf}
@@ -27,7 +27,7 @@ LiesInFront bytes old new result =
     ((result ≡ pos 0) × (length bytes ≤ length old) × (new ≡ bytes ++ drop (length bytes) old))
     ⊎ ((result ≡ room_too_short) × (length old < length bytes) × (new ≡ old))
 
--- What a call leaves of what was read: the image in the room, and its address and length; or its refusal, and the room as it was.
+-- A call leaves this of what was read: the image in the room, and its address and length; or its refusal, and the room as it was.
 abbrev pub Leaves : Result Image ImageFileFault → (old new : List ℕ) → (taken : DfuTaken) → ℤ → Type 0
 Leaves (Ok image) old new taken result =
     (taken ≡ record { length = length image.bytes.items; from = 0; to = 0; address = image.address })

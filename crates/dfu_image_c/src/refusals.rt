@@ -1,4 +1,4 @@
-//! What C gets if there is no image of a file: a number, and the places that the fault names.
+//! Refusals of the image of a file, for C: a number, and the places that the fault names.
 
 ghost use Rattle.std.specs.Prelude.{◌≡◌};
 ghost use Rattle.dfu_image_c.specs.Refusals.{image_fault_number, image_fault_place, image_refusal};

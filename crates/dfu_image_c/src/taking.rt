@@ -11,7 +11,7 @@ use std::alloc::Global;
 #[repr(C)]
 #[derive(Drop)]
 pub struct DfuTaken {
-    /// How many bytes the image has.
+    /// Length of the image in bytes.
     pub length: u64,
     /// The line, block, segment or address that a refusal names, or the first address of a gap.
     pub from: u64,

@@ -22,7 +22,7 @@ use dfu_device::laws::rows_take;
 use dfu_sim::laws::{only_offered, simulation};
 use dfu_slots::laws::active_image_is_one;
 
-// What follows of a board from the rows that its steps make.
+// Laws of a board that follow from the rows that its steps make.
 fn boards_make_rows()
     ensures power { RunRefines }
     ensures idle { IdleRefines }
@@ -37,10 +37,10 @@ fn boards_make_rows()
     active_image_is_one();
 }
 
-/// All steps of a board after power on are a history of the device table: each answer ends a row of it, and a loss of power within a row
-/// is that row, broken off by a write that failed, and then the row of power. The board is in the state of the
-/// device to which the rows lead, and its flash has that device's active image, or while writes are due the bytes that it has taken.
-/// The same holds from any later time at which no writes are due.
+/// All steps of a board after power on are a history of the device table: each answer ends a row of it, and a loss of power within a row is
+/// that row, broken off by a write that failed, and then the row of power. The board is in the state of the device to which the rows lead,
+/// and its flash has that device's active image, or while writes are due the bytes that it has taken. From any later time at which no
+/// writes are due this holds too.
 pub fn boards_are_devices()
     ensures power { RunRefines }
     ensures idle { IdleRefines }
@@ -48,10 +48,10 @@ pub fn boards_are_devices()
     boards_make_rows();
 }
 
-/// After any steps of a board since power on, its flash has an active image: the one that it had then, or all bytes of a download that
-/// was closed since. The same holds from any later time on at which the state is neither dfuMANIFEST-SYNC nor dfuMANIFEST, of the
-/// image and the downloads from that time on. If a step leads from one of these two states to dfuIDLE or dfuMANIFEST-WAIT-RESET, all
-/// bytes taken are the active image.
+/// After any steps of a board since power on, its flash has an active image: the one that it had then, or all bytes of a download that was
+/// closed since. From any later time on at which the state is neither dfuMANIFEST-SYNC nor dfuMANIFEST this holds too, of the image and the
+/// downloads from that time on. If a step leads from one of these two states to dfuIDLE or dfuMANIFEST-WAIT-RESET, all bytes taken are the
+/// active image.
 pub fn boards_keep_an_image()
     ensures keeps { RunKeeps }
     ensures stays { RunStays }
@@ -120,9 +120,9 @@ pub fn core_boards_are_devices()
 }
 
 /// Whatever steps come to a board in C that just got power, its flash has an active image: the one that it had then, or all bytes of a
-/// download that was closed since. The same holds from any later time on at which its state is neither dfuMANIFEST-SYNC nor
-/// dfuMANIFEST. If a step leads from one of these two states to dfuIDLE or dfuMANIFEST-WAIT-RESET, all bytes taken are the active
-/// image. So power that comes back is never refused.
+/// download that was closed since. From any later time on at which its state is neither dfuMANIFEST-SYNC nor dfuMANIFEST this holds too. If
+/// a step leads from one of these two states to dfuIDLE or dfuMANIFEST-WAIT-RESET, all bytes taken are the active image. So power that
+/// comes back is never refused.
 pub fn core_boards_keep_an_image()
     ensures keeps { CoreKeeps }
     ensures stays { CoreStays }
@@ -168,7 +168,7 @@ pub fn core_formats_make_an_image()
     ensures anew { FormatsBeginAnew }
 {}
 
-/// What dfu_core_closes says of a setup is what dfu_core_refuse_close does with it: at 1 it returns DFU_STALL, and at 0 DFU_NO_CLOSE. So a
+/// The result of dfu_core_closes for a setup agrees with dfu_core_refuse_close: at 1 that returns DFU_STALL, and at 0 DFU_NO_CLOSE. So a
 /// program that checks the image where dfu_core_closes says 1 can refuse each image that would be put in place.
 pub fn core_closes_if_refused()
     ensures { ClosesIfRefused }

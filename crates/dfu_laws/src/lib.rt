@@ -1,6 +1,6 @@
-//! What holds of whole runs: of a board that runs a device of dfu_asks, through every call and a loss of power at any time; of what a
-//! host reports of it over a link that may lose any message; of the same board with the calls in C; and of the answers of a device,
-//! beside a table of the standard that was made apart. No program calls them.
+//! Laws of whole runs: of a board that runs a device of dfu_asks, through every call and a loss of power at any time; of what a host
+//! reports of it over a link that may lose any message; of the same board with the calls in C; and of the answers of a device, beside a
+//! table of the standard that was made apart. No program calls them.
 #![tactic(auto)]
 
 mod hosts;

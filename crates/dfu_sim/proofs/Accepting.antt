@@ -1,4 +1,4 @@
--- What a link keeps whose program heeds a check.
+-- Facts that a link keeps whose program heeds a check.
 use Rattle.std.proofs.Common.{◌≡◌, ◌⊎◌, inl, inr, ℕ, Bool, true, List, [], ◌∷◌, Result, refl, sym, ap, ◌∙◌, subst}
 use Rattle.dfu_slots.specs.Image.{Active}
 use Rattle.dfu_slots.specs.Seen.{SlotsState, image_of}

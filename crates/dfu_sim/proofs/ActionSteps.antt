@@ -51,7 +51,7 @@ moved {offers = offers} {p = p} {t = t} {i = i} {q = q} up (takes_block n more b
 moved {offers = offers} {p = p} {t = t} {i = i} {q = q} up (loses_block n more b f e) =
     record { mid = _; first_part = taken offers t i q up n more b f e; last_part = drops }
 
--- What is shown after an event.
+-- View after an event.
 pub record Simulated (c : Profile) (offers : List (List ℕ)) (w : Link) (up : List ℕ) (kind : Kind) (r : Played)
     (offers' : List (List ℕ)) : Type 0 where
   pub step : MachineStep c.tolerant c.transfer kind (shown offers w.device.image (pending_of w.device.stage) (live_of w.session) up)
@@ -63,7 +63,7 @@ pub record Simulated (c : Profile) (offers : List (List ℕ)) (w : Link) (up : L
   pub done : SaysInPlace r.answer.report → r.link.device.stage ≡ InAppIdle
 
 module _ (c : Profile) (sized : 0 < c.transfer) (offers : List (List ℕ)) where
-  -- What an action comes to by its fate: what is shown moves as it may, and what holds after what is heard.
+  -- Result of an action by its fate: the view moves as it may, and the facts hold after what is heard.
   record Comes (g : Goal) (phase : Phase) (s : Situation) (up : List ℕ) (d : Passed) : Type 0 where
     moves : Moved c.transfer (shown offers s.image (pending_of s.stage) (live_goal g) up)
         (shown offers d.device.image (pending_of d.device.stage) (live_goal g) up)

@@ -39,7 +39,7 @@ armed_profile w fuse = λ k. record (profile w) { capacity = (shows_same w.slots
 pub armed_situation : (w : DeviceView) (fuse : Fuse) → situation (armed w fuse) ≡ situation w
 armed_situation w fuse = λ k. record { image = (shows_same w.slots fuse w.slots.held w.slots.put_end).image k; stage = w.stage }
 
--- What a device went through is what its situation goes through by the table; with a medium that is not armed, at the luck that it works.
+-- The device went through what its situation goes through by the table; with a medium that is not armed, at the luck that it works.
 pub record Went (fuse : Fuse) (c : Profile) (s : Situation) (d : Deed) (delivery : Delivery) (w' : DeviceView) (heard : Heard)
     : Type 0 where
   pub first : Luck
@@ -50,7 +50,7 @@ pub record Went (fuse : Fuse) (c : Profile) (s : Situation) (d : Deed) (delivery
   pub fixed : profile w' ≡ c
   pub lucky : fuse ≡ Whole → (first ≡ Works) × (second ≡ Works)
 
--- What comes back is heard, or nothing, or the restart.
+-- The response is heard, or nothing, or the restart.
 heard_by_delivery : (d : Deed) (harming : MediumFault) (back : Bool) (came : Response) (out : List ℕ) (heard x : Heard)
     → ((h : Heard) → HearsBack d came out h → (room : Bool) × (h ≡ remembered x room))
     → HearsBack d (ended_back harming (came_back back came)) out heard
@@ -100,7 +100,7 @@ module _ (q : Asked) (setup body : List ℕ) (is : IsHosts q body) (asked : IsAs
       → Came (plan_on q body x w) (asked_length q) w a out w'
   takes_came x w w' a out h = came (plan_on q body x w) (asked_length q) w a out w' (takes_by x w w' a out h)
 
-  -- What was heard of a row.
+  -- Meaning that was heard of a row.
   heard_by : (x : Option Objection) (w w' : DeviceView) (a : Answer) (out : List ℕ) (heard : Heard)
       (y : Came (plan_on q body x w) (asked_length q) w a out w')
       → HearsAnswer (Send q body) a out heard
@@ -109,7 +109,7 @@ module _ (q : Asked) (setup body : List ℕ) (is : IsHosts q body) (asked : IsAs
       plan_heard x q body (profile w) (image_of w.slots) w.stage y.luck a out heard is
       (subst (λ (r : Reply). Answers (asked_length q) r a out) (sym (ap (λ (o : Outcome). o.reply) y.same)) y.answers) h
 
-  -- What a device makes of a request is what its situation makes of it.
+  -- The device treats a request as its situation does.
   record Arrives (x : Option Objection) (w w' : DeviceView) (how : Handled) (came : Response) (out : List ℕ) : Type 0 where
     first : Luck
     second : Luck

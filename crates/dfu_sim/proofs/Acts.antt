@@ -59,7 +59,7 @@ resets_by w w' delivery r e k d heard h = (
 
 -- A request, a wait and a reset that a host asks for.
 
--- What the code does as a request is a request of the table.
+-- The code's request is a request of the table.
 pub acts_send : (d : Deed) (delivery : Delivery) (setup : List ℕ) (given : Bor (List ℕ)) (heard : Heard) (b : Response) {out last : List ℕ}
     {w w' : DeviceView} → Spells d (action.Send setup given)
     → ((q : Asked) (heard : Heard) → HearsBack (Send q given.now) b out heard → Sends q setup given.now delivery w w' heard)
@@ -70,14 +70,14 @@ acts_send (Send q body) delivery setup given heard b {out = out} {w = w} {w' = w
     (setup, e.0, sent q heard (subst (λ (x : List ℕ). HearsBack (Send q body) b x heard) same h))
 acts_send d delivery setup given heard b e s same h = elim e [ ]
 
--- What the code does as a wait is a wait of the table.
+-- The code's wait is a wait of the table.
 pub acts_wait : (d : Deed) (f : Delivery) (given : ℕ) (w w' : DeviceView) (heard : Heard) → Spells d (action.Wait given)
     → Waits given f w w' heard
     → Acts d f w w' heard
 acts_wait (Wait ms) f given w w' heard e h = subst (λ (n : ℕ). Waits n f w w' heard) e h
 acts_wait d f given w w' heard e h = elim e [ ]
 
--- What the code does as a reset is a reset of the table.
+-- The code's reset is a reset of the table.
 pub acts_reset : (d : Deed) (f : Delivery) (w w' : DeviceView) (heard : Heard) → Spells d action.Reset → ResetsBus f w w' heard
     → Acts d f w w' heard
 acts_reset Reset f w w' heard e h = h

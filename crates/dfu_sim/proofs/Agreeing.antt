@@ -1,4 +1,4 @@
--- That some session machine agrees with each link, and when a bench agrees.
+-- Some session machine agrees with each link; and the cases in which a bench agrees.
 use Rattle.std.proofs.Common.{ℕ, List, [], ◌∷◌, ◌++◌, refl, sym, ap, ◌∙◌, subst, inl, inr}
 use Rattle.dfu_slots.specs.Medium.Fuse.{Whole}
 use Rattle.dfu_slots.specs.Image.{Active, active_fused}

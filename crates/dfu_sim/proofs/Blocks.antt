@@ -24,7 +24,7 @@ use Rattle.dfu_sim.proofs.Quiet.{Quiet, stays, forgets, quiet_on}
 use Rattle.dfu_sim.proofs.Closing.{by_table, block_closes, close_cases}
 use Rattle.dfu_sim.proofs.Fates.{IfHeard, if_some}
 
--- What an action does to the image and the pending bytes.
+-- Effect of an action on the image and the pending bytes.
 pub data ImageMoves (offers : List (List ℕ)) (p : List ℕ) (t : ℕ) : List ℕ → Option (List ℕ) → List ℕ → Option (List ℕ) → Type 0 where
   quietly : {i j : List ℕ} {q r : Option (List ℕ)} → Quiet offers i q j r → ImageMoves offers p t i q j r
   takes_block : {i : List ℕ} {q : Option (List ℕ)} (n : ℕ) (more : List ℕ) → n < length (blocks p t) → IsFirst p t n q
@@ -44,7 +44,7 @@ module _ (c : Profile) (offers : List (List ℕ)) (p : List ℕ) where
     pub sound : IsSound offers d.device.stage
     pub next : IfHeard d.heard (λ heard. Fact c p (host_row (task_for c (ToLoad p)) phase heard) d.device)
 
-  -- What a request of this phase comes to if its answer comes back, and if it is lost.
+  -- Result of a request of this phase if its answer comes back, and if it is lost.
   record Reached (phase : Phase) (s : Situation) (d : Passed) : Type 0 where
     moves : ImageMoves offers p c.transfer s.image (pending_of s.stage) d.device.image (pending_of d.device.stage)
     sound : IsSound offers d.device.stage

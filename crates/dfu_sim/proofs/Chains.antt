@@ -23,7 +23,7 @@ use Rattle.dfu_sim.specs.Sure.{IsSame, IsSureEvent}
 use Rattle.dfu_sim.specs.Running.{Runs, rests, comes, happenings, IsStop, StopsAt}
 use Rattle.dfu_sim.specs.FollowingRun.{AreOfKinds, IsFollowedRun}
 
--- What came of one event that was not refused.
+-- Result of one event that was not refused.
 pub record Stepped (w : WorldView) (h : Happening) (w' : WorldView) (report : Option Report) : Type 0 where
   pub play : HasCome w h w' (Ok report)
   pub legal : (m : Machine) → AgreesOn w.bench w.up m → IsFollowed w h w' report m
@@ -124,7 +124,7 @@ ran_on {b = b} {b' = b'} {reports = reports} {report = report} events n d h chai
     ∙ ap (λ (hs : List Happening). hs ++ happening (get_or events n d) ∷ []) (sym (take-map happening n events)) in
     subst (λ (hs : List Happening). Chain b hs (reports ++ said report) b') (sym next) (chain_on chain s)
 
--- What a run that stops ensures.
+-- Facts that a run ensures that stops.
 pub record Stopped (b : WorldView) (hs : List Happening) (why : LinkFault) (at : ℕ) (reports : List Report) (b' : WorldView) : Type 0 where
   pub runs : StopsAt b hs why at reports b'
   pub chain : Chain b (take at hs) reports b'

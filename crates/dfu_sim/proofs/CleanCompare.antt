@@ -66,7 +66,7 @@ module _ (c : Profile) (p : List ℕ) (again : ℕ) where
     fits k = let e : length (part k) ≤ c.transfer = omega (arith, length-take c.transfer (drop (k * c.transfer) p)) in
         grind (arith, nat_tests)
 
-    -- How long a part is.
+    -- Length of a part.
     size : (k : ℕ) → length (part k) ≡ min c.transfer (length p - k * c.transfer)
     size k = omega (arith, length-take c.transfer (drop (k * c.transfer) p), length-drop (k * c.transfer) p)
 

@@ -34,13 +34,13 @@ sure_chain (one_more s more) = one_step s.sure (sure_chain more)
 abbrev pub pass : Happening
 pass = Goes Pass unharmed
 
--- What is played of an event is played of what it is.
+-- Playing an event equals playing its meaning.
 is_played : (b mid : LinkView) (report : Option Report) (event now : Happening) → event ≡ now → IsHarmless now
     → (IsHarmless event → IsAsPlayed b event mid report) → IsAsPlayed b now mid report
 is_played b mid report event now e harmless w =
     subst (λ (x : Happening). IsAsPlayed b x mid report) e (w (subst IsHarmless (sym e) harmless))
 
--- Where it leads, and what it reports.
+-- Link to which it leads, and its report.
 record LeadsTo (mid : LinkView) (report : Option Report) (w : Link) (answer : Answered) : Type 0 where
   link : link_of mid ≡ w
   told : report ≡ answer.report

@@ -50,7 +50,7 @@ not_true : (b : Bool) → (b ≡ true → ⊥) → b ≡ false
 not_true true f = absurd (f refl)
 not_true false f = refl
 
--- What a host sends to close a download closes it, if it may be closed.
+-- The request that a host sends to close a download closes it, if it may be closed.
 pub host_closes : (q : Asked) (body : List ℕ) (least : ℕ) (stage : Stage) → IsHosts q body → is_close q ≡ true
     → may_close least stage ≡ true → closes least stage (meant q body) ≡ true
 host_closes (request.Dnload block len) [] least stage i e may = may

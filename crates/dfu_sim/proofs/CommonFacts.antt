@@ -1,4 +1,4 @@
--- What is known in the phases that each session has: nothing, for each goal; and in dfuIDLE the session's work may begin.
+-- Facts that are known in the phases that each session has: nothing, for each goal; and in dfuIDLE the session's work may begin.
 use Rattle.std.proofs.Common.{ℕ, List, [], refl, arith}
 use Rattle.dfu_wire.specs.declared.states.State.TheVariants.{DfuIdle}
 use Rattle.dfu_device.specs.Stage.{Profile, Stage, InDfuIdle}

@@ -1,4 +1,4 @@
--- What a live session keeps is counted after each event, and what it gives with Uploaded is short.
+-- The bytes that a live session keeps are counted after each event, and those that it gives with Uploaded are few enough.
 use Rattle.std.proofs.Common.{◌≡◌, ℕ, ◌*◌, ◌<◌, List, length, Option, Some, None, Ok, refl, sym, subst}
 use Rattle.dfu_host.specs.declared.report.Report.{Report}
 use Rattle.dfu_host.specs.declared.report.Report.TheVariants.{Uploaded}
@@ -88,7 +88,7 @@ pub took_whole : (h : HostState) (heard : Heard) → SendsBytes (Hosted h) → I
 took_whole h heard some c = let answer = (took h heard).answer in
     fits_whole h.task.transfer answer.report answer.gave (took_fits h heard some c)
 
--- What a session answers to a restart gives bytes only with Uploaded.
+-- The answer of a session to a restart gives bytes only with Uploaded.
 pub told_whole : (session : Session) → SendsBytes session → IsCountedIn session → GivesWithUploaded (Ok (notify_restart session).answer)
 told_whole Nobody some c = tt
 told_whole (Hosted h) some c = took_whole h Restarted some c
@@ -114,7 +114,7 @@ happens_counted Cuts b b' answer some c (e, f) = subst (λ (x : LinkView). IsCou
 happens_counted (Refuses why) b b' answer some c (e, f) = subst (λ (x : LinkView). IsCountedIn x.session) (sym e) c
 happens_counted event b b' answer some c h = subst (λ (x : LinkView). IsCountedIn x.session) (sym h.0) tt
 
--- What an answer gives, by the device's transfer size.
+-- Bytes that an answer gives, by the device's transfer size.
 pub happens_fits : (p : Profile) (s : Situation) (event : Happening) (b b' : LinkView) (answer : Answered)
     → SessionFact p s b.session → SendsBytes b.session → IsCountedIn b.session → HappensOnBench event b b' answer → Fits p.transfer answer
 happens_fits p s (Goes fate harm) b b' answer f some c g =

@@ -50,7 +50,7 @@ pub record DoneOnce (p : Plan) (len : ℕ) (w w' v' : DeviceView) (a b : Answer)
   pub second : Answers len (outcome (image_of w.slots) p luck).reply b other
   pub device : SameDevice w' v'
 
--- What a plan calls of the slot store.
+-- Calls of the slot store that a plan makes.
 abbrev calls_of : Plan → List Call
 calls_of (Sure reply stage) = []
 calls_of (Writes before block reply stage bad) = block_calls before block
@@ -61,7 +61,7 @@ abbrev luck_of : Ending → Luck
 luck_of AllWorked = Works
 luck_of (BrokenBy fault) = FailsOld fault
 
--- What was carried out, by how its calls ended.
+-- Result of a plan that was carried out, by how its calls ended.
 pub record Ended (p : Plan) (len : ℕ) (w : DeviceView) (a : Answer) (out : List ℕ) (w' : DeviceView) : Type 0 where
   pub ending : Ending
   pub answers : Answers len (outcome (image_of w.slots) p (luck_of ending)).reply a out

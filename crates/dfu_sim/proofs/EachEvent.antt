@@ -66,7 +66,7 @@ module _ (c : Profile) (offers : List (List ℕ)) where
   more_sound p (InManifest taken passed) h = inr h
   more_sound p stage h = tt
 
--- What is live of a session that was offered.
+-- Live goal of a session that was offered.
 goal_live : (purpose : Purpose) (payload : List ℕ) → live_goal (goal_of_purpose purpose payload) ≡ Loading payload
 goal_live Install payload = refl
 goal_live Verify payload = refl
@@ -76,7 +76,7 @@ abbrev offers_by : Happening → List (List ℕ) → List (List ℕ)
 offers_by (Offers purpose payload limits) offers = payload ∷ offers
 offers_by event offers = offers
 
--- What an event has to know of the transfer size: an offer, and an action of the host.
+-- Facts of the transfer size that an event needs: an offer, and an action of the host.
 abbrev pub Sizes : Profile → Session → Happening → Type 0
 Sizes c Nobody (Offers purpose payload limits) = 0 < c.transfer
 Sizes c (Hosted h) (Goes fate harm) = 0 < c.transfer

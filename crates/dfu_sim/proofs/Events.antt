@@ -31,7 +31,7 @@ use Rattle.dfu_sim.specs.Standing.{session_of, given_by, bench_of, link_state, S
 use Rattle.dfu_sim.specs.inside.Acting.{ended, HasBegun}
 use Rattle.dfu_sim.proofs.Counted.{took_whole, told_whole}
 
--- What may come with a session and without one may come.
+-- An event that may come with a session and without one may come.
 any_session : (s : Session) (h : Happening) → MayHappen Nobody h → ((k : HostState) → MayHappen (Hosted k) h) → MayHappen s h
 any_session Nobody h none live = none
 any_session (Hosted k) h none live = live k
@@ -116,7 +116,7 @@ is_true : (t : Bool) → not t ≡ false → t ≡ true
 is_true true e = refl
 is_true false e = absurd cc
 
--- What is known of a payload and of a device's descriptor, if a session that is offered has no fault.
+-- Facts of a payload and of a device's descriptor, if a session that is offered has no fault.
 record NoFault (purpose : Purpose) (payload : List ℕ) (f : Functional) : Type 0 where
   some : (length payload == 0) ≡ false
   loads : f.can_download ≡ true
@@ -195,7 +195,7 @@ pub same_fault : (purpose : Purpose) (c d : Content) (f : Functional) (ids : Ids
 same_fault Install c d f ids p q = λ i. first_download_fault (record { payload = p i; ids = q i; dfu = c.dfu; suffix = c.suffix }) f ids
 same_fault Verify c d f ids p q = λ i. first_verify_fault (record { payload = p i; ids = q i; dfu = c.dfu; suffix = c.suffix }) f ids
 
--- What was found of a file.
+-- Content that was found of a file.
 abbrev Found : List ℕ → Content → Type 0
 Found file content = (extra : List ℕ) × IsFile content.payload content.ids content.dfu extra file × (content.suffix ≡ 16 + length extra)
 

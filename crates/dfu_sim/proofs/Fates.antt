@@ -1,4 +1,4 @@
--- What an action that asks, waits or resets does to the device, whatever its fate.
+-- Effect on the device of an action that asks, waits or resets, whatever its fate.
 use Rattle.std.proofs.Common.{◌≡◌, ℕ, Bool, true, false, List, refl, sym, subst}
 use Rattle.dfu_device.specs.Stage.{Request, Profile}
 use Rattle.dfu_device.specs.Table.{Plan, plan, reset_stage}
@@ -22,23 +22,23 @@ abbrev pub IfHeard : Heard → (Heard → Type 0) → Type 0
 IfHeard Restarted P = Unit {0}
 IfHeard heard P = P heard
 
--- What holds of all that is heard holds if that is no restart.
+-- A fact of all that is heard holds if that is no restart.
 pub if_some : (heard : Heard) (P : Heard → Type 0) → P heard → IfHeard heard P
 if_some Restarted P h = tt
 if_some heard P h = h
 
--- What holds before the end of an action holds after it, if the host hears of no restart.
+-- A fact before the end of an action holds after it, if the host hears of no restart.
 pub if_ended : (harming : MediumFault) (d : Passed) (P : Heard → Situation → Type 0) → P d.heard d.device
     → IfHeard (ends_by harming d).heard (λ heard. P heard (ends_by harming d).device)
 if_ended CutsPower d P h = tt
 if_ended harming d P h = if_some d.heard (λ heard. P heard d.device) h
 
--- What holds of what is heard may be weakened.
+-- A fact of what is heard may be weakened.
 pub if_heard : {P Q : Heard → Type 0} (heard : Heard) → ((x : Heard) → P x → Q x) → IfHeard heard P → IfHeard heard Q
 if_heard Restarted f h = tt
 if_heard heard f h = f heard h
 
--- What holds of all that may be heard holds of what is heard.
+-- A fact of all that may be heard holds of what is heard.
 pub any_heard : (heard : Heard) (P : Heard → Type 0) → ((x : Heard) → P x) → IfHeard heard P
 any_heard Restarted P f = tt
 any_heard heard P f = f heard
@@ -94,7 +94,7 @@ module _ (c : Profile) (offers : List (List ℕ)) where
   pub bus_reset_quiet : (s : Situation) (delivery : Delivery) (l : Luck) → IsQuiet offers s (bus_reset c s delivery l).device
   bus_reset_quiet s delivery l = ended_quiet s _ delivery.harming (slipped_quiet s delivery.handling l)
 
-  -- What an asking phase knows of the device and of what was seen.
+  -- Facts of the device and of what was seen that an asking phase knows.
   pub record Knows (p : List ℕ) (phase : Phase) (d : Situation) (heard : Heard) : Type 0 where
     pub fact : Fact c p phase d
     pub told : ToldBy heard d.stage
@@ -127,7 +127,7 @@ module _ (c : Profile) (offers : List (List ℕ)) where
         told = told_time c o.after.image (heard_as o.reply) o.after.stage ms k (told_asked c s.image r phase s.stage a l);
       }
 
-  -- What a phase asks for keeps what is known, by each delivery.
+  -- The request that a phase asks for keeps what is known, by each delivery.
   pub asked_knows : (r : Request) (p : List ℕ) (phase : Phase) (s : Situation) (delivery : Delivery) (l k : Luck) → IsPolite r
       → Asks r phase → Fact c p phase s → KnowsIf p phase (sent c s r delivery l k)
   asked_knows r p phase s delivery l k polite a h =

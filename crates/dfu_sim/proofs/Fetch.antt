@@ -28,7 +28,7 @@ module _ (c : Profile) (offers : List (List ℕ)) (k : ℕ) (kept : List ℕ) wh
   abbrev pub Fetched : Situation → Passed → Type 0
   Fetched s d = GoesQuietly c offers ToFetch (on_part c.transfer k kept) s d
 
-  -- What such a request comes to if its answer comes back. If the answer is lost, the host looks for the device.
+  -- Result of such a request if its answer comes back. If the answer is lost, the host looks for the device.
   record Reached (s : Situation) (d : Passed) : Type 0 where
     moves : Quiet offers s.image (pending_of s.stage) d.device.image (pending_of d.device.stage)
     sound : IsSound offers d.device.stage

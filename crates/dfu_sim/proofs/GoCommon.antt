@@ -58,7 +58,7 @@ module _ (c : Profile) (offers : List (List ℕ)) (g : Goal) where
     abbrev Follows : Phase → Heard → Phase
     Follows phase = host_row (task_for c g) phase
 
-    -- A phase that asks for the status. What is known of the device is what is known in Find, which is nothing.
+    -- A phase that asks for the status. The facts of the device are those that are known in Find, which are none.
     seeks : (phase : Phase) (s : Situation) → IsCommon phase → IsSound offers s.stage → (delivery : Delivery) (l k : Luck)
         → GoesQuietly (Follows phase) s (sent c s GetStatus delivery l k)
     seeks phase s a q delivery l k = go_asking GetStatus [] Find (Follows phase) s tt tt tt q delivery l k

@@ -30,7 +30,7 @@ module _ (c : Profile) (offers : List (List ℕ)) (p : List ℕ) (some : 0 < len
   abbrev block : ℕ → List ℕ
   block k = slice_index_or (blocks p c.transfer) k []
 
-  -- What is known of a part that follows the first k blocks.
+  -- Facts of a part that follows the first k blocks.
   abbrev FetchedSo : ℕ → List ℕ → Situation → Type 0
   FetchedSo k part d = FetchFact (fetched c.transfer k (front k) part) d
 
@@ -55,7 +55,7 @@ module _ (c : Profile) (offers : List (List ℕ)) (p : List ℕ) (some : 0 < len
       let more : front k ++ part ≡ front (suc k) = ap (λ x. front k ++ x) same ∙ sym (first_next p c.transfer k long) in
       (f.0, subst (λ (x : List ℕ). Fetches (suc k) x d.image d.stage) more f.1)
 
-  -- What is known once a part was fetched after the first k blocks is known once it was compared with block k.
+  -- Facts that are known once a part was fetched after the first k blocks are known once it was compared with block k.
   compared_fact : (k : ℕ) (heard : Heard) (d : Situation) → FetchFact (on_part c.transfer k (front k) heard) d
       → CompareFact c p (on_compared c.transfer k (block k) heard) d
   compared_fact k (Part part) d h =

@@ -8,7 +8,7 @@ use Rattle.dfu_sim.specs.Opening.{task_for}
 use Rattle.dfu_sim.specs.Agreement.{live_goal}
 use Rattle.dfu_sim.specs.Fact.{Fact, GoalFact}
 
--- What holds of a goal and of the one after its last reset holds of the one that follows.
+-- A fact of a goal and of the one after its last reset holds of the one that follows.
 pub after_goal : (P : Goal → Type 0) (g : Goal) → P g → P (goal_after_reset g) → (phase : Phase) (heard : Heard) →
     P (goal_after g phase heard)
 after_goal P g x y (Last report) WasReset = y
@@ -19,7 +19,7 @@ live_checked : (g : Goal) → live_goal (goal_after_reset g) ≡ live_goal g
 live_checked (ToVerify p) = refl
 live_checked g = refl
 
--- What is live stays.
+-- The live goal stays.
 pub live_after : (g : Goal) (phase : Phase) (heard : Heard) → live_goal (goal_after g phase heard) ≡ live_goal g
 live_after g phase heard = after_goal (λ x. live_goal x ≡ live_goal g) g refl (live_checked g) phase heard
 

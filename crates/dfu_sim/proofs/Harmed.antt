@@ -32,7 +32,7 @@ use Rattle.dfu_sim.proofs.DoneOnce.{same_device, powered_same, disarmed_same, Do
 use Rattle.dfu_sim.proofs.Replies.{IsHosts, HostsDeed, hosts_deed, plan_heard}
 use Rattle.dfu_sim.proofs.Actions.{plan_on, takes_by}
 
--- What two results of an action have in common: the devices are the same, and one thing is heard, but for want of memory.
+-- Facts that two results of an action have in common: the devices are the same, and one thing is heard, but for want of memory.
 record ActedOnce (w' v' : DeviceView) (heard other : Heard) : Type 0 where
   device : SameDevice w' v'
   hears : Heard

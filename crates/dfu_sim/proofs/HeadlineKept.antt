@@ -1,4 +1,4 @@
--- That the headline holds after each event, from the session machines that follow it.
+-- The headline holds after each event, by the session machines that follow it.
 use Rattle.std.proofs.Common.{◌≡◌, ◌⊎◌, inl, inr, ℕ, List, [], ◌∷◌, ◌++◌, map, take, Option, Result, Ok, Err, refl, sym, ◌∙◌, subst}
 use Rattle.std.proofs.lemmas.List.{take-map}
 use Rattle.dfu_device.specs.Stage.{Stage, InAppIdle, InManifestSync, InManifest}
@@ -39,7 +39,7 @@ last_was [] x last = last
 last_was (WithOffer file ∷ past) x last = inl last
 last_was (AsUpload ∷ past) x last = absurd last
 
--- What a device and a session hold, as offers.
+-- Payloads that a device and a session hold, as offers.
 
 waits_in : (stage : Stage) (x : List ℕ) → IsOneOf x (closed_in stage) → IsWaiting stage x
 waits_in (InManifestSync taken) x one = the_one x taken one
@@ -121,7 +121,7 @@ abbrev pub holds_after : {factory : List ℕ} {past : List Begun} {m : Machine} 
     → IsOfPast factory past m → IsFollowed w h w' report m → HeadlineHolds factory (begun_by h past) report w'.bench
 holds_after h of_past f = holds_by f.agrees (past_on h of_past f) (λ e. ((f.in_place e).0, in_place_on h of_past f e))
 
--- What each session machine follows keeps the headline.
+-- Each event that a session machine follows keeps the headline.
 pub keeps_on : {factory : List ℕ} {past : List Begun} {before : Option Report} {w w' : WorldView} (h : Happening) {report : Option Report}
     → ((m : Machine) → AgreesOn w.bench w.up m → IsFollowed w h w' report m) → HeadlineHolds factory past before w.bench
     → HeadlineHolds factory (begun_by h past) report w'.bench

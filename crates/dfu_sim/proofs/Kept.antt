@@ -1,4 +1,4 @@
--- Which facts stay as the host polls and as time passes.
+-- Facts that stay as the host polls and as time passes.
 use Rattle.std.proofs.Common.{◌≡◌, ℕ, suc, ◌+◌, ◌==◌, nat_le, List, length}
 use Rattle.dfu_device.specs.Pace.{block_ms, image_ms}
 use Rattle.dfu_device.specs.Stage.{Request, GetStatus, GetState, Ack, Profile, Stage, InAppIdle, InDfuIdle, InDownloadSync, InDownloadBusy, InDownloadIdle, InManifestSync, InManifestSyncComplete, InManifest, InManifestWaitReset}
@@ -110,7 +110,7 @@ module _ (c : Profile) (i : List ℕ) where
   fact_time p (Over report) ms stage h luck = over_time p ms report stage h luck
   fact_time p phase ms stage h luck = h
 
-  -- What a phase asks for keeps its fact.
+  -- The request that a phase asks for keeps its fact.
   pub fact_asked : (r : Request) (p : List ℕ) (phase : Phase) (stage : Stage) → Asks r phase
       → Fact c p phase (record { image = i; stage = stage }) → Then (Fact c p phase) (plan c i stage r)
   fact_asked GetStatus p (Poll n) stage a h luck = (h.0, holds_status (first p c.transfer (suc n)) stage h.1 luck)

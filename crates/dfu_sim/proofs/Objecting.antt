@@ -16,7 +16,7 @@ use Rattle.dfu_sim.specs.Fact.{IsDfuIdle, EndsAs, Fact, FetchFact, CompareFact, 
 use Rattle.dfu_sim.proofs.Taking.{shown}
 
 module _ (why : Objection) (offers : List (List ℕ)) where
-  -- What is pending is dropped, or stays.
+  -- The pending bytes are dropped, or stay.
   pub refusal_ends : (i : List ℕ) (stage : Stage) (live : Live) (up : List ℕ)
       → MayDrop (shown offers i (pending_of stage) live up) (shown offers i (pending_of (refuse_stage why stage)) live up)
   refusal_ends i (InManifestSync taken) live up = drops
@@ -34,7 +34,7 @@ module _ (c : Profile) (why : Objection) (i : List ℕ) where
   abbrev At : Stage → Situation
   At stage = record { image = i; stage = stage }
 
-  -- What holds of a stage still holds after a refusal, if for the two stages that a refusal leaves it follows of dfuERROR.
+  -- A fact of a stage still holds after a refusal, if for the two stages that a refusal leaves it follows of dfuERROR.
   stage_refused : (F : Stage → Type 0) → ((taken : List ℕ) → F (InManifestSync taken) → F (InError (objection_code why)))
       → ((taken : List ℕ) (passed : ℕ) → F (InManifest taken passed) → F (InError (objection_code why))) → (stage : Stage) → F stage
       → F (refuse_stage why stage)
@@ -124,7 +124,7 @@ module _ (c : Profile) (why : Objection) (i : List ℕ) where
   goal_refused (ToCompare p) phase stage on f = stage_refused (λ st. CompareFact c p phase (At st))
       (λ taken h. compare_sync p phase taken on h) (λ taken passed h. compare_busy p phase taken passed on h) stage f
 
--- What holds of a link's session holds after a refusal.
+-- Facts of a link's session hold after a refusal.
 pub refusal_fact : (c : Profile) (why : Objection) (s : Situation) (session : Session) → SessionFact c s session
     → SessionFact c (image_refused why s) session
 refusal_fact c why s Nobody f = tt

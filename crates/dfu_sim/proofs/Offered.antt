@@ -1,4 +1,4 @@
--- What a session machine has was offered by the sessions that have begun.
+-- The payload that a session machine has was offered by the sessions that have begun.
 use Rattle.std.proofs.Common.{◌≡◌, ◌⊎◌, inl, inr, ℕ, Bool, List, [], ◌∷◌, ◌++◌, Option, sym, ◌∙◌, subst}
 use Rattle.dfu_host.specs.declared.report.Report.{Report}
 use Rattle.dfu_sim.specs.Session.{Machine, Loading, IsOneOf, SaysReport, says_not, Kind, AnOffer, AnUpload, SaysInPlace, MachineStep, offered, uploads, restarts, refuses, goes, stops, and_then, said}
@@ -10,7 +10,7 @@ use Rattle.dfu_sim.specs.BegunBy.{begun_by}
 use Rattle.dfu_sim.specs.Headline.{Begun, IsPayload, WasOffered, IsLastPayload}
 use Rattle.dfu_sim.proofs.Saying.{begins_live, ends_live, only_offered, step_live}
 
--- What is live after a step.
+-- Live goal after a step.
 
 says_live : {tolerant : Bool} {m m' : Machine} {report : Option Report} (x : List ℕ) → SaysReport tolerant m report m' → m'.live ≡ Loading x
     → m.live ≡ Loading x

@@ -16,7 +16,7 @@ use Rattle.dfu_sim.proofs.Kept.{fact_time}
 use Rattle.dfu_sim.proofs.Taking.{shown}
 
 module _ (c : Profile) (offers : List (List ℕ)) where
-  -- What comes of this plan of a time is a step of the session machine, and bytes that were closed stay an offer.
+  -- The result of this plan of a time is a step of the session machine, and bytes that were closed stay an offer.
   abbrev pub Steps : List ℕ → Stage → Live → List ℕ → Plan → Type 0
   Steps i stage live up p = let s = (outcome i p Works).after in
       MachineStep c.tolerant c.transfer ATime (shown offers i (pending_of stage) live up) None
@@ -77,7 +77,7 @@ module _ (c : Profile) (offers : List (List ℕ)) where
   goal_time s ms (ToVerify p) phase on f = fact_time c s.image p phase ms s.stage f Works
   goal_time s ms (ToCompare p) phase on f = compare_time s ms p phase on f
 
-  -- What holds of a link's session holds after a time.
+  -- Facts of a link's session hold after a time.
   pub time_fact : (s : Situation) (ms : ℕ) (session : Session) → SessionFact c s session → SessionFact c (elapsed c s ms Works) session
   time_fact s ms Nobody f = tt
   time_fact s ms (Hosted h) f = record {

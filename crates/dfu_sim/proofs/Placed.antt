@@ -23,8 +23,8 @@ use Rattle.dfu_sim.proofs.Placing.{IsFree, IsDone, IsDnload, IsSync, done_free, 
 abbrev pub Placed : Situation → Situation → Type 0
 Placed s s' = (s'.image ≡ s.image) ⊎ (IsWaiting s.stage s'.image × IsFree s'.stage)
 
--- What a request or a time does at first: the image stays, and what waits then waited, or the request is a DNLOAD; or what waited is put
--- in place.
+-- Effect of a request or a time at first: the image stays, and an image that waits then waited, or the request is a DNLOAD; or an image
+-- that waited is put in place.
 abbrev First : Request → Situation → Situation → Type 0
 First r s s' = ((s'.image ≡ s.image) × ((t : List ℕ) → IsWaiting s'.stage t → IsWaiting s.stage t ⊎ (IsDnload r × IsSync s'.stage)))
     ⊎ (IsWaiting s.stage s'.image × IsDone s'.stage × (IsDnload r → ⊥))
@@ -38,7 +38,7 @@ first_of s r (Commits taken reply next bad) Works h = inr h
 first_of s r (Commits taken reply next bad) (FailsOld fault) h = inl (refl, λ t m. absurd m)
 first_of s r (Commits taken reply next bad) (FailsNew fault) h = inr (h.0, tt, h.2)
 
--- What a time does.
+-- Effect of a time.
 abbrev ByTime : Situation → Situation → Type 0
 ByTime s s' = (s'.image ≡ s.image) ⊎ (IsWaiting s.stage s'.image × IsDone s'.stage × (IsSync s.stage → ⊥))
 
@@ -51,7 +51,7 @@ time_of s (Commits taken reply next bad) Works h = inr h
 time_of s (Commits taken reply next bad) (FailsOld fault) h = inl refl
 time_of s (Commits taken reply next bad) (FailsNew fault) h = inr (h.0, tt, h.2)
 
--- What is calm keeps the image, and none waits then.
+-- A calm step keeps the image, and none waits then.
 calm_of : (image : List ℕ) (p : Plan) (luck : Luck) → IsCalm p
     → ((outcome image p luck).after.image ≡ image) × IsFree (outcome image p luck).after.stage
 calm_of image (Sure reply next) luck h = (refl, h)

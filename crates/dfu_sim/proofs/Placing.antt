@@ -37,7 +37,8 @@ done_free st d = absurd d
 
 -- Plans.
 
--- What begins to wait by a request did so before, or the request is a DNLOAD; what is put in place waited, and the request is none.
+-- An image that begins to wait by a request did so before, or the request is a DNLOAD; an image that is put in place waited, and the
+-- request is none.
 abbrev pub Leads : Stage → Request → Plan → Type 0
 Leads st r (Sure reply next) = (t : List ℕ) → IsWaiting next t → IsWaiting st t ⊎ (IsDnload r × IsSync next)
 Leads st r (Writes before block reply next bad) = IsFree next
@@ -91,7 +92,7 @@ by_leads None c image st r = row_leads c image st r
 by_leads (Some why) c image st r =
     either_way (Leads st r) (closes c.least st r) (error (objection_code why)) (plan c image st r) (λ t m. absurd m) (row_leads c image st r)
 
--- What a time puts in place waited, and its download was not closed just now.
+-- An image that a time puts in place waited, and its download was not closed just now.
 abbrev pub TimeLeads : Stage → Plan → Type 0
 TimeLeads st (Sure reply next) = Unit {0}
 TimeLeads st (Writes before block reply next bad) = Unit {0}

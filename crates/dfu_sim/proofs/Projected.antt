@@ -53,7 +53,7 @@ abbrev pub fuse_in : Happening → Fuse
 fuse_in (Goes fate harm) = fuse_of (delivery_of fate).harming harm
 fuse_in event = Whole
 
--- What benches show of an event. If no write is harmed, it goes as when the medium works.
+-- View that benches show of an event. If no write is harmed, it goes as when the medium works.
 record Showed (b : LinkView) (event : Happening) (fuse : Fuse) (b' : LinkView) (answer : Answered) : Type 0 where
   shown : Shows b event b' answer
   sure : fuse ≡ Whole → (room : Bool) × (played (profile b.device) (link_of b) event Works Works room

@@ -1,4 +1,4 @@
--- What the device does when no block is sent to it.
+-- Behaviour of the device when no block is sent to it.
 use Rattle.std.proofs.Common.{◌≡◌, ℕ, ◌+◌, ◌==◌, nat_le, max, List, ◌++◌, Option, Some, None, refl, sym, ◌∙◌, subst, length}
 use Rattle.dfu_slots.specs.declared.fault.WriteFault.{WriteFault}
 use Rattle.dfu_device.specs.Pace.{block_ms, image_ms}
@@ -15,7 +15,7 @@ pub data Quiet (offers : List (List ℕ)) : List ℕ → Option (List ℕ) → L
   forgets : {i : List ℕ} {p : Option (List ℕ)} → Quiet offers i p i None
   commits : {i x : List ℕ} → IsOneOf x offers → Quiet offers i (Some x) x None
 
--- What is quiet twice is quiet.
+-- Two quiet steps make a quiet one.
 pub quiet_on : {offers : List (List ℕ)} {i j k : List ℕ} {p q r : Option (List ℕ)} → Quiet offers i p j q → Quiet offers j q k r
     → Quiet offers i p k r
 quiet_on stays b = b
@@ -24,7 +24,7 @@ quiet_on forgets forgets = forgets
 quiet_on (commits h) stays = commits h
 quiet_on (commits h) forgets = commits h
 
--- What leads from one situation to another is quiet, and bytes that were closed stay an offer.
+-- The way from one situation to another is quiet, and bytes that were closed stay an offer.
 pub record IsQuiet (offers : List (List ℕ)) (s s' : Situation) : Type 0 where
   pub moves : Quiet offers s.image (pending_of s.stage) s'.image (pending_of s'.stage)
   pub sound : IsSound offers s'.stage

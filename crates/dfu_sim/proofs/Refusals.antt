@@ -88,7 +88,7 @@ refused_no_play b h why event x m a = elim x [ ]
 
 -- One event.
 
--- What happens means one event.
+-- Each happening means one event.
 pub one_event : OneEvent
 one_event s (Offers purpose file limits) event other m n =
     let same : m.0 ≡ n.0 = (one_reading file m.0 n.0 _ _ _ _ _ _ m.1.reads n.1.reads).0 in

@@ -1,4 +1,4 @@
--- What a device answers fits the request, and is heard as it was meant.
+-- The answer of a device fits the request, and is heard as it was meant.
 use Rattle.std.proofs.Common.{◌≡◌, ℕ, ◌==◌, Bool, true, false, List, [], ◌∷◌, length, take, Option, Some, None, sym, ap, ◌∙◌, subst, arith, inl, inr}
 use Rattle.std.proofs.lemmas.Bool.Decides.{nat_tests}
 use Rattle.dfu_device.specs.declared.objection.Objection.{Objection}
@@ -41,7 +41,7 @@ abbrev pub HostsDeed : Deed → Type 0
 HostsDeed (Send q body) = IsHosts q body
 HostsDeed d = Unit {0}
 
--- What a host does in each phase is such an action.
+-- The deed of a host in each phase is such an action.
 pub hosts_deed : (task : Task) (phase : Phase) → HostsDeed (deed task phase)
 hosts_deed task Enter = either_way HostsDeed task.will_detach _ _ tt tt
 hosts_deed task phase = search
@@ -50,7 +50,7 @@ hosts_deed task phase = search
 pub hosts : (task : Task) (phase : Phase) (q : Asked) (body : List ℕ) → deed task phase ≡ Send q body → IsHosts q body
 hosts task phase q body e = subst HostsDeed e (hosts_deed task phase)
 
--- What is heard of an answer is heard of the same answer, by another name.
+-- The meaning of an answer is that of an equal answer, by another name.
 heard_same : (d : Deed) (a x : Answer) (out : List ℕ) (heard : Heard) → a ≡ x → HearsAnswer d a out heard → HearsAnswer d x out heard
 heard_same d a x out heard e h = subst (λ (y : Answer). HearsAnswer d y out heard) e h
 
@@ -92,14 +92,14 @@ reply_fits (Some why) c i st r luck =
     either_way (λ (p : Plan). ReplyFits c.transfer (outcome i p luck).reply r) (closes c.least st r) _ _ tt
     (reply_given (λ reply. ReplyFits c.transfer reply r) i (plan c i st r) luck (row_fits c i st r (plan c i st r) (row_form c i st r)))
 
--- What a plan answers, of the table or of a program that refuses an image.
+-- Answer of a plan, of the table or of a program that refuses an image.
 pub plan_heard : (x : Option Objection) (q : Asked) (body : List ℕ) (c : Profile) (i : List ℕ) (st : Stage) (luck : Luck) (a : Answer)
     (out : List ℕ) (heard : Heard) → IsHosts q body → let reply = (outcome i (plan_by x c i st (meant q body)) luck).reply in
     Answers (asked_length q) reply a out → HearsAnswer (Send q body) a out heard → HeardAs reply heard
 plan_heard x q body c i st luck a out heard is says h =
     reply_heard c.transfer q body _ a out heard is (reply_fits x c i st (meant q body) luck) says h
 
--- What a device answers is heard as what it meant.
+-- The answer of a device is heard as it was meant.
 pub understood : Understood
 understood task phase q body c image stage luck a out heard e says h =
     plan_heard None q body c image stage luck a out heard (hosts task phase q body e) says h
@@ -112,7 +112,7 @@ in_served : (p : Setup) (body : List ℕ) → p.kind ≡ 0xa1 → length body �
 in_served p body k e = let f : (p.kind == 0x21) ≡ false = grind (arith, nat_tests) in
     let g : (length body == 0) ≡ true = grind (arith, nat_tests) in rw f g
 
--- What a host sends goes by the device's table.
+-- The request that a host sends goes by the device's table.
 pub served : (p : Setup) (q : Asked) (body : List ℕ) → IsHosts q body → Asks p q → is_served p q body ≡ true
 served p (request.Dnload block len) body i a = out_served p body a.0.kind (sym i ∙ a.2)
 served p (request.Upload block len) body i a = in_served p body a.0.kind (ap length i)

@@ -1,4 +1,4 @@
--- What holds of a link between events is kept by each, and the session machine follows.
+-- Facts of a link between events are kept by each, and the session machine follows.
 use Rattle.std.proofs.Common.{◌≡◌, ◌⊎◌, ℕ, ◌<◌, List, [], Option, Some, None, Result, Ok, Err, refl, sym, ap, ◌∙◌, subst, inl, inr}
 use Rattle.dfu_slots.specs.Medium.Fuse.{Whole}
 use Rattle.dfu_device.specs.Stage.{Profile}
@@ -33,7 +33,7 @@ use Rattle.dfu_sim.proofs.Events.{has_transfer}
 use Rattle.dfu_sim.proofs.Uploads.{gives_transfer}
 use Rattle.dfu_sim.proofs.Agreeing.{machine_of, machine_agrees, agrees_on, link_agrees}
 
--- What happens is of the kind that its event is of.
+-- A happening is of the kind that its event is of.
 kind_is : (s : Setting) (h event : Happening) → Means s h event → IsOfKind h (kind_of event)
 kind_is s (Offers purpose file limits) event m = (m.0, m.1.ids, m.1.dfu, m.1.extra, m.1.reads, ap kind_of m.2)
 kind_is s (Uploads limits) event m = ap kind_of m.1
@@ -110,7 +110,7 @@ module _ {b b' : LinkView} {event : Happening} {answer : Answered} (steady : IsS
   play_fits : FitsIn b.device.config.functional.transfer answer.report answer.gave
   play_fits = happens_fits (profile b.device) (situation b.device) event b b' answer steady.fact steady.sized steady.counted play.happens
 
--- What holds of what comes of an event holds of what its caller gets.
+-- A fact of the result of an event holds of what its caller gets.
 told_so : {w w' : WorldView} {h : Happening} {result : Result (Option Report) LinkFault}
     (P : WorldView → Result (Option Report) LinkFault → Type 0) (x : HasCome w h w' result)
     → P (linked w'.bench (given (gave_of x.answer) w.up)) (shown_as x.answer) → P w' result
@@ -123,7 +123,7 @@ comes_steady steady (refuses why) = steady
 comes_steady {b = b} {h = h} steady (happens {event = event} means play) =
     play_steady steady (begins_sized b.device.config h event means) play
 
--- What holds of a link between events holds after each event that comes.
+-- Facts of a link between events hold after each event that comes.
 pub come_steady : {w w' : WorldView} {h : Happening} {result : Result (Option Report) LinkFault} → IsSteady w.bench → HasCome w h w' result
     → IsSteady w'.bench
 come_steady steady x = comes_steady steady x.comes
@@ -150,7 +150,7 @@ pub come_follow : ImageShown → {w w' : WorldView} {h : Happening} {result : Re
 come_follow shown {w = w} {h = h} steady shows x =
     told_so (λ v r. AllFollow w h v r) x (comes_follow shown w.up steady shows x.comes)
 
--- What an upload gives.
+-- Bytes that an upload gives.
 
 gives_in : (b' : LinkView) (up : List ℕ) (report : Option Report) (gave : Option (List ℕ)) (w : WorldView) → w.up ≡ up
     → FitsIn b'.device.config.functional.transfer report gave → (report ≡ Some Uploaded → given gave up ≡ (link_of b').device.image)
@@ -195,7 +195,7 @@ gives_then {b = b} {b' = b'} {h = h} steady (happens {event = event} {answer = a
 pub uploads_give : UploadsGive
 uploads_give b b' h answer steady comes = (comes_steady steady comes, gives_then steady comes)
 
--- What holds of a link between events holds of a device with no session that is not armed.
+-- Facts of a link between events hold of a device with no session that is not armed.
 pub rest_is_steady : RestIsSteady
 rest_is_steady device unarmed = record { fact = tt; unarmed = unarmed; sized = tt; counted = tt }
 
@@ -215,7 +215,7 @@ as_played b b' event answer play h =
     let s = bytes_sure b b' event answer play (harmless_whole event h) in
     record { room = s.0; answer = answer; same = s.1; told = refl }
 
--- What comes of an event goes as the table of fates says, if no write is harmed.
+-- The result of an event goes as the table of fates says, if no write is harmed.
 pub comes_sure : {b b' : LinkView} {h : Happening} {answer : Result Answered LinkFault} → Comes b h b' answer
     → AllSure b h b' (shown_as answer)
 comes_sure (refuses why) = tt

@@ -1,4 +1,4 @@
--- What a session's host makes of what it hears: the session goes on, or it is over with a report that is allowed.
+-- Session after its host hears something: it goes on, or it is over with a report that is allowed.
 use Rattle.std.proofs.Common.{◌≡◌, ◌≢◌, ℕ, zero, suc, pred, Bool, true, false, List, Option, Some, None, refl, sym, ap, subst}
 use Rattle.dfu_device.specs.Stage.{Profile, Stage, InAppIdle}
 use Rattle.dfu_device.specs.Outcome.{Situation}
@@ -45,7 +45,7 @@ task_by c task g = λ i. record {
 }
 
 module _ (c : Profile) (offers : List (List ℕ)) where
-  -- What a host took, over a device, if this session was live.
+  -- Session that a host took, over a device, if this session was live.
   pub record TookWell (s : Situation) (live : Live) (up : List ℕ) (t : Took) : Type 0 where
     pub says : SaysReport c.tolerant (shown offers s.image (pending_of s.stage) live up) t.answer.report
         (shown offers s.image (pending_of s.stage) (live_of t.session) (given t.answer.gave up))
@@ -105,7 +105,7 @@ module _ (c : Profile) (offers : List (List ℕ)) where
         done = λ x. elim x [ ];
       }
 
-  -- What a host that goes by this task, with a budget left, makes of a phase.
+  -- Result of a phase for a host that goes by this task, with a budget left.
   abbrev budget : Task → Phase → (left again : ℕ) → Took
   budget task phase left again = let next = budgeted left phase in
       settled (record { task = task; phase = next; actions = left; restarts = again }) next
@@ -198,7 +198,7 @@ module _ (c : Profile) (offers : List (List ℕ)) where
   restarted_plain h phase (suc again) = elim (pred h.actions) as (λ left. SaysNoPromise (budget h.task Find left again).answer.report)
       [ zero ↦ tt | suc left ↦ tt ]
 
-  -- What a host reports of a restart promises nothing.
+  -- The report of a host on a restart promises nothing.
   pub restart_plain : (h : HostState) → IsOn h.phase → SaysNoPromise (took h Restarted).answer.report
   restart_plain h on = subst (λ (q : HostState). SaysNoPromise (settled q q.phase).answer.report) (sym (after_on h h.phase Restarted on))
       (restarted_plain h h.phase h.restarts)

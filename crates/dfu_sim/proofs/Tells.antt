@@ -1,4 +1,4 @@
--- What a phase asks for, and what an answer says of the device.
+-- Request that a phase asks for, and the fact of the device that an answer says.
 use Rattle.std.proofs.Common.{ℕ, ◌==◌, List}
 use Rattle.dfu_wire.specs.declared.states.State.{State}
 use Rattle.dfu_wire.specs.declared.states.State.TheVariants.{DfuIdle, DownloadSync, DownloadIdle, ManifestSync}
@@ -34,14 +34,14 @@ Asks GetState (Ask n) = Unit {0}
 Asks GetState AskLast = Unit {0}
 Asks request phase = ⊥
 
--- What was heard names the state that the device is in.
+-- The meaning that was heard names the state that the device is in.
 abbrev pub ToldBy : Heard → Stage → Type 0
 ToldBy (Status code poll state) stage = Tells state stage
 ToldBy (StateIs state) stage = Tells state stage
 ToldBy heard stage = Unit {0}
 
 module _ (c : Profile) (i : List ℕ) where
-  -- What the state says still holds as time passes.
+  -- The fact that the state says still holds as time passes.
   pub tells_time : (state : State) (stage : Stage) (ms : ℕ) (luck : Luck) → Tells state stage
       → Tells state (outcome i (time_plan c stage ms) luck).after.stage
   tells_time DfuIdle InDfuIdle ms luck h = tt
@@ -54,14 +54,14 @@ module _ (c : Profile) (i : List ℕ) where
   tells_time ManifestSync stage ms luck h = search
   tells_time state stage ms luck h = tt
 
-  -- What was reported still holds as time passes.
+  -- The fact that was reported still holds as time passes.
   pub told_time : (heard : Heard) (stage : Stage) (ms : ℕ) (luck : Luck) → ToldBy heard stage
       → ToldBy heard (outcome i (time_plan c stage ms) luck).after.stage
   told_time (Status code poll state) stage ms luck h = tells_time state stage ms luck h
   told_time (StateIs state) stage ms luck h = tells_time state stage ms luck h
   told_time heard stage ms luck h = tt
 
-  -- What is answered by this plan is true of the device.
+  -- The answer by this plan is true of the device.
   abbrev Told : Plan → Type 0
   Told p = (luck : Luck) → ToldBy (heard_as (outcome i p luck).reply) (outcome i p luck).after.stage
 

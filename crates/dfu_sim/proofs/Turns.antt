@@ -28,7 +28,7 @@ module _ (c : Profile) (p : List ℕ) (again : ℕ) where
   pub find_idle : (i : List ℕ) → GoesWell i InDfuIdle Find 1 i InDfuIdle (Block 0)
   find_idle i = one c (ToLoad p) again (λ l k room. refl)
 
-  -- How long a host waits for a block after these bytes, and for an image.
+  -- Time that a host waits for a block after these bytes, and for an image.
   abbrev wait : (before body : List ℕ) → ℕ
   wait before body = block_ms c.pace c.busy (length before) (length body)
 
@@ -39,7 +39,7 @@ module _ (c : Profile) (p : List ℕ) (again : ℕ) where
   some_time : (base erases programs : ℕ) → (base == 0) ≡ false → (min (base + erases + programs) (2 ^ 24 - 1) == 0) ≡ false
   some_time base erases programs f = grind (arith, nat_tests)
 
-  -- What a wait comes to, by the plan of its time.
+  -- Result of a wait, by the plan of its time.
   waits : (i : List ℕ) {p q : Plan} → p ≡ q → ◌≡◌ {A = Passed} (record { device = (outcome i p Works).after; heard = Waited })
       (record { device = (outcome i q Works).after; heard = Waited })
   waits i e = ap (λ (q : Plan). record { device = (outcome i q Works).after; heard = Waited }) e

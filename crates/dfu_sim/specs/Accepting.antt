@@ -1,4 +1,4 @@
--- Which images a link keeps, whose device has a program that checks each one.
+-- Images that a link keeps, whose device has a program that checks each one.
 use Rattle.std.specs.Prelude.{◌≡◌, ◌⊎◌, ℕ, Bool, true, List, [], ◌∷◌, Option, Result}
 use Rattle.dfu_slots.specs.Image.{Active}
 use Rattle.dfu_slots.specs.Seen.{image_of}

@@ -1,4 +1,4 @@
--- What a link shows of the session machine.
+-- Facts of the session machine that a link shows.
 use Rattle.std.specs.Prelude.{◌≡◌, ℕ, List, ◌++◌, Option, Some, None}
 use Rattle.dfu_slots.specs.Image.{Active}
 use Rattle.dfu_device.specs.Stage.{Stage, InAppIdle, InAppDetach, InDfuIdle, InDownloadSync, InDownloadSyncWritten, InDownloadBusy, InDownloadIdle, InManifestSync, InManifestSyncComplete, InManifest, InManifestWaitReset, InUploadIdle, InError}
@@ -6,13 +6,14 @@ use Rattle.dfu_host.specs.Phases.{Goal, ToLoad, ToFetch, ToVerify, ToCompare}
 use Rattle.dfu_sim.specs.Session.{IsOneOf, Machine, Live, NoOne, Loading, Fetching}
 use Rattle.dfu_sim.specs.LinkView.{Session, Nobody, Hosted, LinkView}
 
--- How far a device has taken an image and not put it in place: nothing of it; bytes, and more may come; or all of it, which a host closed.
+-- Progress of an image that a device takes and has not put in place: nothing of it; bytes, and more may come; or all of it, which a host
+-- closed.
 pub data Intake : Type 0 where
   NothingTaken : Intake
   Open : (taken : List ℕ) → Intake
   Shut : (taken : List ℕ) → Intake
 
--- How far it has, by its state.
+-- Progress of a device's image, by its state.
 abbrev pub intake_of : Stage → Intake
 intake_of InAppIdle = NothingTaken
 intake_of (InAppDetach timer passed) = NothingTaken
@@ -28,20 +29,20 @@ intake_of InManifestWaitReset = NothingTaken
 intake_of (InUploadIdle place number) = NothingTaken
 intake_of (InError code) = NothingTaken
 
--- What is pending: the bytes taken.
+-- Bytes that are pending: the bytes taken.
 abbrev pub pending_in : Intake → Option (List ℕ)
 pending_in NothingTaken = None
 pending_in (Open taken) = Some taken
 pending_in (Shut taken) = Some taken
 
--- What a session is for is what is live.
+-- The goal of a session says what is live.
 abbrev pub live_goal : Goal → Live
 live_goal (ToLoad payload) = Loading payload
 live_goal ToFetch = Fetching
 live_goal (ToVerify payload) = Loading payload
 live_goal (ToCompare payload) = Loading payload
 
--- What is live on a link.
+-- Session that is live on a link.
 abbrev pub live_of : Session → Live
 live_of Nobody = NoOne
 live_of (Hosted h) = live_goal h.task.goal

@@ -1,4 +1,4 @@
--- Which sessions have begun, by what happened.
+-- Sessions that have begun, by what happened.
 use Rattle.std.specs.Prelude.{List, ◌∷◌}
 use Rattle.dfu_sim.specs.Happening.{Happening, Offers, Uploads}
 use Rattle.dfu_sim.specs.Headline.{Begun, WithOffer, AsUpload}

@@ -50,13 +50,13 @@ bus_was_reset w = record w { stage = reset_stage w.stage }
 abbrev pub was_refused : Objection → DeviceView → DeviceView
 was_refused why w = record w { stage = refuse_stage why w.stage }
 
--- What a host hears of an answer: bytes as its table reads them.
+-- The meaning that a host gives to an answer: bytes as its table reads them.
 abbrev pub HearsAnswer : Deed → Answer → List ℕ → Heard → Type 0
 HearsAnswer d answer.Ack out heard = heard ≡ Acked
 HearsAnswer d answer.Stall out heard = heard ≡ Stalled
 HearsAnswer d answer.Bytes out heard = HearsBytes d out heard
 
--- What a host hears of what comes back of a request.
+-- The meaning that a host gives to the response to a request.
 abbrev pub HearsBack : Deed → Response → List ℕ → Heard → Type 0
 HearsBack d (response.Answered a) out heard = HearsAnswer d a out heard
 HearsBack d response.Lost out heard = heard ≡ Nothing

@@ -16,7 +16,7 @@ use Rattle.dfu_sim.specs.Bytes.{link_of}
 use Rattle.dfu_sim.specs.CleanRun.{actions_of, report_of_purpose, HasParts, resting}
 use Rattle.dfu_sim.specs.Refusing.{IsOffered}
 
--- How many passes install a payload on a device of these settings, and verify it if that is the purpose.
+-- Number of passes that install a payload on a device of these settings, and verify it if that is the purpose.
 abbrev pub clean_passes : Purpose → Setting → List ℕ → ℕ
 clean_passes purpose s payload = actions_of purpose s.functional.transfer s.busy_ms s.manifest_ms payload
 
@@ -44,7 +44,7 @@ pub record InstallsCleanly (b : LinkView) (purpose : Purpose) (payload : List �
   pub reported : count ≡ clean_passes purpose b.device.config payload → reports ≡ report_of_purpose purpose ∷ []
   pub installed : count ≡ clean_passes purpose b.device.config payload → link_of b' ≡ resting payload
 
--- What a clean run answers; it stops only if there is no memory for a report, and nothing is reported then.
+-- The answer of a clean run; it stops only if there is no memory for a report, and nothing is reported then.
 abbrev pub EndsCleanly : LinkView → Purpose → List ℕ → ℕ → LinkView → Result (Vec Report Global) Stop → Type 0
 EndsCleanly b purpose payload count b' (Ok reports) = InstallsCleanly b purpose payload count reports.items b'
 EndsCleanly b purpose payload count b' (Err stop) = (stop.fault ≡ NoMemory) × (stop.reports.items ≡ [])

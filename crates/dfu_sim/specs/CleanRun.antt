@@ -28,7 +28,7 @@ pub data Quietly (c : Profile) : Link → ℕ → Link → Type 0 where
 abbrev pub resting : List ℕ → Link
 resting image = record { device = record { image = image; stage = InAppIdle }; session = Nobody }
 
--- How many actions a clean run takes: those of a clean download; and if it is verified, six more, and one for each full block of the
+-- Number of actions that a clean run takes: those of a clean download; and if it is verified, six more, and one for each full block of the
 -- payload.
 abbrev pub actions_of : Purpose → (t busy manifest : ℕ) → List ℕ → ℕ
 actions_of Install t busy manifest payload = clean (length (blocks payload t)) busy manifest

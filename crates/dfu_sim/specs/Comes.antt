@@ -1,4 +1,4 @@
--- What comes of an event: it is refused and nothing changes, or it is a play with its bytes; and what its caller gets.
+-- Result of an event: it is refused and nothing changes, or it is a play with its bytes; and the report that its caller gets.
 use Rattle.std.specs.Prelude.{◌≡◌, ℕ, List, Option, Some, None, Result, Ok, Err}
 use Rattle.dfu_host.specs.declared.report.Report.{Report}
 use Rattle.dfu_host.specs.declared.report.Report.TheVariants.{Uploaded}
@@ -11,7 +11,7 @@ use Rattle.dfu_sim.specs.LinkView.{LinkView, WorldView, linked}
 use Rattle.dfu_sim.specs.Bytes.{BytePlay}
 use Rattle.dfu_sim.specs.Refusing.{IsOffered, CanGive, IsRefused}
 
--- What happens, as the event of a device of these settings: an offer is that of the file's payload, and all else is what it is.
+-- The event of a device of these settings that something means: an offer is that of the file's payload, and all else is itself.
 abbrev pub Means : Setting → Happening → Happening → Type 0
 Means s (Offers purpose file limits) e = (payload : List ℕ) × IsOffered s purpose file payload × (e ≡ Offers purpose payload limits)
 Means s (Uploads limits) e = CanGive s × (e ≡ Uploads limits)
@@ -22,18 +22,18 @@ Means s Resets e = e ≡ Resets
 Means s Cuts e = e ≡ Cuts
 Means s (Refuses why) e = e ≡ Refuses why
 
--- What comes of an event: it is refused and nothing changes, or it is a play with its bytes.
+-- Result of an event: it is refused and nothing changes, or it is a play with its bytes.
 pub data Comes (b : LinkView) (h : Happening) : LinkView → Result Answered LinkFault → Type 0 where
   refuses : {fault : LinkFault} → IsRefused b h fault → Comes b h b (Err fault)
   happens : {event : Happening} {b' : LinkView} {answer : Answered} → Means b.device.config h event → BytePlay b event b' answer
       → Comes b h b' (Ok answer)
 
--- What a caller gets of it: the report.
+-- Report that a caller gets of it.
 abbrev pub shown_as : Result Answered LinkFault → Result (Option Report) LinkFault
 shown_as (Ok answer) = Ok answer.report
 shown_as (Err fault) = Err fault
 
--- What was uploaded, by what comes of an event: nothing if it is refused.
+-- Bytes that were uploaded, by the result of an event: nothing if it is refused.
 abbrev pub gave_of : Result Answered LinkFault → Option (List ℕ)
 gave_of (Ok answer) = answer.gave
 gave_of (Err fault) = None

@@ -1,4 +1,4 @@
--- What each fate comes to, as data: what is said of plays computes on it.
+-- Delivery of each fate, as data: what is said of plays computes on it.
 use Rattle.std.specs.Prelude.{Bool, true, false, Option, Some, None}
 use Rattle.dfu_device.specs.declared.objection.Objection.{Objection}
 use Rattle.dfu_sim.specs.declared.delivery.Handled.{Handled}

@@ -1,4 +1,4 @@
--- That an event of a link is a step of the session machine.
+-- Events of a link as steps of the session machine.
 use Rattle.std.specs.Prelude.{◌≡◌, ℕ, List, Option, Result, Ok, Err}
 use Rattle.dfu_wire.specs.declared.ids.Ids.{Ids}
 use Rattle.dfu_suffix.specs.Grammar.{IsFile}
@@ -10,7 +10,7 @@ use Rattle.dfu_sim.specs.Agreement.{AgreesOn}
 use Rattle.dfu_sim.specs.Happening.{Happening, Offers, Uploads, Aborts, Goes, Passes, Resets, Cuts, Refuses}
 use Rattle.dfu_sim.specs.LinkView.{WorldView}
 
--- What happens is of this kind for the session machine: a file that is offered is an offer of its payload.
+-- An event is of this kind for the session machine: a file that is offered is an offer of its payload.
 abbrev pub IsOfKind : Happening → Kind → Type 0
 IsOfKind (Offers purpose file limits) kind =
     (payload : List ℕ) × (ids : Ids) × (dfu : ℕ) × (extra : List ℕ) × IsFile payload ids dfu extra file × (kind ≡ AnOffer payload)

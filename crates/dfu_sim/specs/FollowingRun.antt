@@ -1,4 +1,4 @@
--- That a run of a link is a legal run of the session machine.
+-- Runs of a link as legal runs of the session machine.
 use Rattle.std.specs.Prelude.{◌⊎◌, List, [], ◌∷◌, take, Result, Ok, Err}
 use Rattle.std.specs.declared.vec.Vec.{Vec}
 use Rattle.std.specs.declared.alloc.Global.{Global}
@@ -11,14 +11,14 @@ use Rattle.dfu_sim.specs.Happening.{Happening}
 use Rattle.dfu_sim.specs.LinkView.{WorldView}
 use Rattle.dfu_sim.specs.Following.{IsOfKind}
 
--- What happens one after the other is of these kinds.
+-- Events one after the other are of these kinds.
 abbrev pub AreOfKinds : List Happening → List Kind → Type 0
 AreOfKinds [] [] = Unit {0}
 AreOfKinds (h ∷ hs) (kind ∷ kinds) = IsOfKind h kind × AreOfKinds hs kinds
 AreOfKinds hs kinds = ⊥
 
 -- The session machine follows all that happens: it makes a legal run that says the reports in order, and agrees again, so that its active
--- image is that of the medium's bytes. That image was theirs before, or is a whole payload that was offered so far.
+-- image is that of the medium's bytes. The active image was theirs before, or is a whole payload that was offered so far.
 pub record IsFollowedRun (w : WorldView) (hs : List Happening) (reports : List Report) (w' : WorldView) (m : Machine) : Type 0 where
   pub kinds : List Kind
   pub are : AreOfKinds hs kinds

@@ -1,4 +1,4 @@
--- What an upload gives.
+-- Bytes that an upload gives.
 use Rattle.std.specs.Prelude.{◌≡◌, ◌*◌, ◌<◌, length, Option, Some, Result, Ok}
 use Rattle.dfu_slots.specs.Medium.Fuse.{Whole}
 use Rattle.dfu_device.specs.DeviceView.{DeviceView}
@@ -12,7 +12,7 @@ use Rattle.dfu_sim.specs.Happening.{Happening}
 use Rattle.dfu_sim.specs.Comes.{Comes}
 use Rattle.dfu_sim.specs.Standing.{IsSteady}
 
--- What was uploaded is the active image of the device, and that has fewer bytes than 65,535 blocks.
+-- The uploaded bytes are the active image of the device, and that has fewer bytes than 65,535 blocks.
 pub record GivesImage (w : WorldView) : Type 0 where
   pub image : w.up ≡ (link_of w.bench).device.image
   pub short : length w.up < 65535 * w.bench.device.config.functional.transfer

@@ -1,4 +1,4 @@
--- What happens to a link, as its caller gives it.
+-- Events of a link, as its caller gives them.
 use Rattle.std.specs.Prelude.{ℕ, List, [], take, Option, Some, None}
 use Rattle.dfu_device.specs.declared.objection.Objection.{Objection}
 use Rattle.dfu_host.specs.declared.limits.Limits.{Limits}
@@ -9,9 +9,9 @@ use Rattle.dfu_sim.specs.declared.offering.Purpose.TheVariants.{Install, Verify}
 use Rattle.dfu_sim.specs.declared.event.Event.{Event as GivenEvent}
 use Rattle.dfu_sim.specs.declared.event.Event.TheVariants as event
 
--- What becomes of one action of the host: it passes; its request or its answer is lost; it is handled twice, and then perhaps its answer is
--- lost; or time passes after it. Or the power is cut in it, at any write of the medium; or in it a write of the medium fails, or lies. Or
--- it goes as one of these, and the program of the device refuses the image that its request closes, if it closes one.
+-- Fate of one action of the host: it passes; its request or its answer is lost; it is handled twice, and then perhaps its answer is lost;
+-- or time passes after it. Or the power is cut in it, at any write of the medium; or in it a write of the medium fails, or lies. Or it goes
+-- as one of these, and the program of the device refuses the image that its request closes, if it closes one.
 pub data Fate : Type 0 where
   Pass : Fate
   LostOut : Fate
@@ -24,7 +24,7 @@ pub data Fate : Type 0 where
   Lie : Fate
   Refusing : (why : Objection) → (fate : Fate) → Fate
 
--- How a write is harmed by a cut, a failure or a lie: after so many writes that work one leaves the first of these bytes.
+-- Harm of a write by a cut, a failure or a lie: after so many writes that work one leaves the first of these bytes.
 pub record Harm : Type 0 where
   pub writes : ℕ
   pub tear : List ℕ
@@ -61,7 +61,7 @@ fate_of (fate.Cut writes tear) = CutIn
 fate_of (fate.Fail writes tear) = Fail
 fate_of (fate.Lie writes tear) = Lie
 
--- How the fate that a caller names harms a write.
+-- Harm that the fate that a caller names does to a write.
 abbrev pub harm_in : GivenFate → Harm
 harm_in (fate.Cut writes tear) = harmed writes tear.now
 harm_in (fate.Fail writes tear) = harmed writes tear.now
@@ -73,7 +73,7 @@ abbrev pub refused_in : Option Objection → Fate → Fate
 refused_in None f = f
 refused_in (Some why) f = Refusing why f
 
--- What happens, of the event that a caller names.
+-- Meaning of the event that a caller names.
 abbrev pub happening : GivenEvent → Happening
 happening (event.Offer file limits) = Offers Install file.now limits
 happening (event.OfferVerified file limits) = Offers Verify file.now limits

@@ -15,7 +15,7 @@ use Rattle.dfu_sim.specs.declared.running.Stop.{Stop}
 use Rattle.dfu_sim.specs.Session.{SaysInPlace, said}
 use Rattle.dfu_sim.specs.LinkView.{Session, Nobody, Hosted, LinkView, WorldView}
 
--- How a session began: with the offer of a file, or as an upload of the active image.
+-- Beginning of a session: with the offer of a file, or as an upload of the active image.
 pub data Begun : Type 0 where
   WithOffer : (file : List ℕ) → Begun
   AsUpload : Begun
@@ -43,7 +43,7 @@ IsLastPayload [] x = ⊥
 IsLastPayload (WithOffer file ∷ past) x = IsPayload x file
 IsLastPayload (AsUpload ∷ past) x = ⊥
 
--- What the headline says of a link after an event that reported this, if these sessions have begun. The active image is the factory image
+-- The headline says this of a link after an event that reported this, if these sessions have begun. The active image is the factory image
 -- or a payload offered so far. If it reported Installed or Verified, the device is in appIDLE with the last session's payload active.
 pub record HeadlineSays (factory : List ℕ) (past : List Begun) (report : Option Report) (b : LinkView) : Type 0 where
   pub image : List ℕ
@@ -69,7 +69,8 @@ abbrev pub IsLivePayload : Session → List ℕ → Type 0
 IsLivePayload Nobody x = ⊥
 IsLivePayload (Hosted host) x = IsGoalPayload host.task.goal x
 
--- What keeps the headline: an image that waits to be put in place was offered, and a live session's payload is that of the last offer.
+-- These facts keep the headline: an image that waits to be put in place was offered, and a live session's payload is that of the last
+-- offer.
 pub record KeepsHeadline (past : List Begun) (b : LinkView) : Type 0 where
   pub waiting : (x : List ℕ) → IsWaiting b.device.stage x → WasOffered past x
   pub live : (x : List ℕ) → IsLivePayload b.session x → IsLastPayload past x

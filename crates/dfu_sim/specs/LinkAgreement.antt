@@ -1,4 +1,4 @@
--- When a link of values agrees with a session machine, that some machine does, and that it goes on from one world to the next.
+-- Agreement of a link of values with a session machine: some machine agrees, and it goes on from one world to the next.
 use Rattle.std.specs.Prelude.{◌≡◌, ℕ, List, [], Option}
 use Rattle.dfu_slots.specs.Medium.Fuse.{Whole}
 use Rattle.dfu_device.specs.Stage.{Stage}
@@ -8,7 +8,7 @@ use Rattle.dfu_sim.specs.LinkView.{LinkView, Nobody, WorldView, ShowsActive}
 use Rattle.dfu_sim.specs.Bytes.{link_of, armed}
 use Rattle.dfu_sim.specs.Agreement.{Intake, NothingTaken, Open, Shut, intake_of, pending_in, live_of, IsShutOffer, IsLiveOffer, AgreesOn}
 
--- What is pending on a device.
+-- Bytes that are pending on a device.
 abbrev pub pending_of : Stage → Option (List ℕ)
 pending_of stage = pending_in (intake_of stage)
 
@@ -25,7 +25,7 @@ pub record Agrees (w : Link) (up : List ℕ) (m : Machine) : Type 0 where
   pub sound : IsSound m.offers w.device.stage
   pub offered : IsLiveOffer m.offers (live_of w.session)
 
--- That some machine agrees, as statements.
+-- Statements that some machine agrees.
 
 -- No bytes are closed, which a host asked to be put in place.
 abbrev pub NothingShut : Intake → Type 0

@@ -1,4 +1,4 @@
--- What is seen of a link between events.
+-- View of a link between events.
 use Rattle.std.specs.Prelude.{ℕ, List}
 use Rattle.dfu_slots.specs.Image.{Active}
 use Rattle.dfu_slots.specs.Seen.{image_of}

@@ -1,4 +1,4 @@
--- That an event has one meaning, and an action in which a write is harmed one result, as statements.
+-- Statements that an event has one meaning, and an action in which a write is harmed one result.
 use Rattle.std.specs.Prelude.{◌≡◌, Bool, Ok}
 use Rattle.dfu_slots.specs.Determined.{SameStore}
 use Rattle.dfu_device.specs.DeviceView.{DeviceView}
@@ -23,7 +23,7 @@ RefusedIsNoPlay = (b : LinkView) (h : Happening) (fault : LinkFault) (event : Ha
     → Means b.device.config h event
     → MayHappen b.session event → ⊥
 
--- What happens means one event; so a file that is offered has one payload.
+-- Each event has one meaning; so a file that is offered has one payload.
 abbrev pub OneEvent : Type 0
 OneEvent = (s : Setting) (h event other : Happening) → Means s h event → Means s h other → event ≡ other
 

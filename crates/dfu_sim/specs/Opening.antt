@@ -1,4 +1,4 @@
--- How a session begins on a link: its host's task, by the device's profile and what the session is for.
+-- Beginning of a session on a link: its host's task, by the device's profile and the session's goal.
 use Rattle.std.specs.Prelude.{ℕ, List}
 use Rattle.dfu_wire.specs.declared.functionals.Functional.{Functional}
 use Rattle.dfu_device.specs.Stage.{Profile}
@@ -24,7 +24,7 @@ descriptor_of c = record {
 abbrev pub task_for : Profile → Goal → Task
 task_for c goal = host_task_for (descriptor_of c) goal
 
--- What a session is for with which a payload is offered.
+-- Goal of a session with which a payload is offered.
 abbrev pub goal_of_purpose : Purpose → (payload : List ℕ) → Goal
 goal_of_purpose Install payload = ToLoad payload
 goal_of_purpose Verify payload = ToVerify payload

@@ -22,7 +22,7 @@ use Rattle.dfu_sim.specs.LinkView.{Session, Nobody, Hosted}
 
 -- The events, in which the bytes of an offer are its payload.
 
--- What an event is to the session machine.
+-- Kind of an event for the session machine.
 abbrev pub kind_of : Happening → Kind
 kind_of (Offers purpose payload limits) = AnOffer payload
 kind_of (Uploads limits) = AnUpload
@@ -35,12 +35,12 @@ kind_of (Refuses why) = ARefusal
 
 -- The link.
 
--- The link: a device in its situation, and the session that is live. What was uploaded goes with the answer.
+-- The link: a device in its situation, and the session that is live. The uploaded bytes go with the answer.
 pub record Link : Type 0 where
   pub device : Situation
   pub session : Session
 
--- What an event answers: a report, or none, and with Uploaded the bytes that were uploaded.
+-- Answer of an event: a report, or none, and with Uploaded the bytes that were uploaded.
 pub record Answered : Type 0 where
   pub report : Option Report
   pub gave : Option (List ℕ)
@@ -49,7 +49,7 @@ pub record Answered : Type 0 where
 abbrev pub silent : Answered
 silent = record { report = None; gave = None }
 
--- What the last reported upload gave, after an answer.
+-- Bytes that the last reported upload gave, after an answer.
 abbrev pub given : Option (List ℕ) → List ℕ → List ℕ
 given None up = up
 given (Some bytes) up = bytes
@@ -59,7 +59,7 @@ pub record Played : Type 0 where
   pub link : Link
   pub answer : Answered
 
--- What becomes of a session by what its host takes: it stays live, or it is over with its report.
+-- Session after its host took something: it stays live, or it is over with its report.
 pub record Took : Type 0 where
   pub session : Session
   pub answer : Answered
@@ -86,7 +86,7 @@ session_aborted (Hosted h) = Hosted (host_aborted h)
 
 -- One action.
 
--- What a host hears of a device's reply. That the bytes of the reply are heard like this is a law.
+-- Meaning that a host gives to a device's reply. A law says that the bytes of the reply are heard like this.
 abbrev pub heard_as : Reply → Heard
 heard_as Ack = Acked
 heard_as (StatusOf code poll state) = Status code poll state
@@ -99,7 +99,7 @@ abbrev pub remembered : Heard → (room : Bool) → Heard
 remembered (Part bytes) false = NoRoom
 remembered heard room = heard
 
--- Whether there is memory for what a phase keeps: only one that fetches a part of an upload needs any.
+-- True if there is memory for what a phase keeps: only one that fetches a part of an upload needs any.
 abbrev pub has_room : Phase → (room : Bool) → Bool
 has_room (Fetch k kept) room = room
 has_room phase room = true
@@ -127,12 +127,12 @@ reached c s r p Once l k = let o = outcome s.image p l in record { device = o.af
 reached c s r p Again l k = let o = handled c (outcome s.image p l).after r k in record { device = o.after; heard = heard_as o.reply }
 reached c s r p (Late ms) l k = let o = outcome s.image p l in record { device = elapsed c o.after ms k; heard = heard_as o.reply }
 
--- What is heard, or nothing if it does not come back.
+-- Meaning that comes back, or nothing if it does not.
 abbrev pub heard_back : Bool → Heard → Heard
 heard_back true heard = heard
 heard_back false heard = Nothing
 
--- What is heard once an action is over: if the power was cut, only of the restart.
+-- Meaning of an action once it is over: if the power was cut, only the restart is heard.
 abbrev pub heard_over : MediumFault → Heard → Heard
 heard_over NoWrite heard = heard
 heard_over CutsPower heard = Restarted

@@ -1,4 +1,4 @@
--- When an event is refused, and as what.
+-- Refusals of events, with their faults.
 use Rattle.std.specs.Prelude.{◌≡◌, ℕ, ◌+◌, List, length, Option, Some, None}
 use Rattle.dfu_wire.specs.declared.ids.Ids.{Ids}
 use Rattle.dfu_suffix.specs.Grammar.{Content, IsFile, First}
@@ -30,13 +30,13 @@ pub record IsOffered (s : Setting) (purpose : Purpose) (file payload : List ℕ)
   pub taken : first_offer_fault purpose (record { payload = payload; ids = ids; dfu = dfu; suffix = 16 + length extra }) s.functional
       s.ids ≡ None
 
--- What the bytes say, as a file of the grammar with these contents.
+-- The bytes are a file of the grammar with these contents.
 pub record SaysContent (file : List ℕ) (content : Content) : Type 0 where
   pub extra : List ℕ
   pub reads : IsFile content.payload content.ids content.dfu extra file
   pub suffix : content.suffix ≡ 16 + length extra
 
--- Why an offer is refused: the first fault of the bytes, or the first fault of the session that would begin.
+-- An offer is refused for this: the first fault of the bytes, or the first fault of the session that would begin.
 abbrev pub IsBadOffer : Setting → Purpose → List ℕ → OfferFault → Type 0
 IsBadOffer s purpose file (offer_fault.Suffix fault) = First fault file
 IsBadOffer s purpose file (offer_fault.Host fault) = (content : Content) × SaysContent file content
@@ -46,7 +46,7 @@ IsBadOffer s purpose file (offer_fault.Host fault) = (content : Content) × Says
 abbrev pub CanGive : Setting → Type 0
 CanGive s = first_upload_fault s.functional ≡ None
 
--- Why an upload is refused: its first fault, by the device's descriptor.
+-- An upload is refused for this: its first fault, by the device's descriptor.
 abbrev pub IsBadUpload : Setting → OfferFault → Type 0
 IsBadUpload s (offer_fault.Suffix fault) = ⊥
 IsBadUpload s (offer_fault.Host fault) = first_upload_fault s.functional ≡ Some fault

@@ -14,18 +14,18 @@ use Rattle.dfu_sim.specs.Refusing.{IsRefused}
 use Rattle.dfu_sim.specs.Comes.{HasCome}
 use Rattle.dfu_sim.specs.Giving.{GivesOrKeeps}
 
--- What happens comes to a link one after the other, nothing of it is refused, these are the reports in their order, and with Uploaded the
+-- The events come to a link one after the other, none of them is refused, these are the reports in their order, and with Uploaded the
 -- active image is given.
 pub data Runs : WorldView → List Happening → List Report → WorldView → Type 0 where
   rests : {w : WorldView} → Runs w [] [] w
   comes : {w mid w' : WorldView} {h : Happening} {hs : List Happening} {report : Option Report} {reports : List Report}
       → HasCome w h mid (Ok report) → GivesOrKeeps w mid (Ok report) → Runs mid hs reports w' → Runs w (h ∷ hs) (said report ++ reports) w'
 
--- What happens, of the events that a caller names.
+-- Meaning of the events that a caller names.
 abbrev pub happenings : List GivenEvent → List Happening
 happenings events = map happening events
 
--- Why a run stops before what happens next: that is refused as this fault, or there is no memory for a report.
+-- A run stops before the next event for this: it is refused as this fault, or there is no memory for a report.
 abbrev pub IsStop : LinkView → Happening → LinkFault → Type 0
 IsStop b next NoMemory = Unit {0}
 IsStop b next fault = IsRefused b next fault
@@ -39,7 +39,7 @@ pub record StopsAt (w : WorldView) (hs : List Happening) (fault : LinkFault) (at
   pub before : Runs w (take at hs) reports w'
   pub why : IsStop w'.bench next fault
 
--- What a run answers: the reports of all that happens, or at which event it stopped.
+-- A run answers with the reports of all events, or with the event at which it stopped.
 abbrev pub RunAnswers : WorldView → List Happening → WorldView → Result (Vec Report Global) Stop → Type 0
 RunAnswers w hs w' (Ok reports) = Runs w hs reports.items w'
 RunAnswers w hs w' (Err stop) = StopsAt w hs stop.fault stop.at stop.reports.items w'

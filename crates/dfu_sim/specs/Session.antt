@@ -23,7 +23,7 @@ abbrev pub IsOneOf : List ℕ → List (List ℕ) → Type 0
 IsOneOf x [] = ⊥
 IsOneOf x (y ∷ ys) = (x ≡ y) ⊎ IsOneOf x ys
 
--- What is pending is the first n blocks of the payload joined, and nothing if n is 0.
+-- The pending bytes are the first n blocks of the payload joined, and none are pending if n is 0.
 abbrev pub IsFirst : List ℕ → (t n : ℕ) → Option (List ℕ) → Type 0
 IsFirst p t n None = n ≡ 0
 IsFirst p t n (Some taken) = (0 < n) × (taken ≡ first p t n)
@@ -70,7 +70,7 @@ pub data SaysReport (tolerant : Bool) : Machine → Option Report → Machine �
   says_other : {m : Machine} {report : Report} → PromisesNothing report → m.live ≢ NoOne
       → SaysReport tolerant m (Some report) (record m { live = NoOne })
 
--- What an event may do.
+-- Permissions of an event.
 
 -- The kinds of events: an offer of a payload, the begin of an upload, an abort, a time that passes, a restart of the device, a refusal by
 -- the device's program, and one action of the host.
@@ -94,9 +94,9 @@ abbrev pub SaysNoPromise : Option Report → Type 0
 SaysNoPromise None = Unit {0}
 SaysNoPromise (Some report) = PromisesNothing report
 
--- What an event of each kind does. An offer and an upload begin a session if none is live; an abort does nothing yet; time installs what is
--- pending, or nothing. A restart drops, then says at most a report that promises nothing. A refusal drops, or does nothing. An action of
--- the host takes or installs at most once, then drops or not, then says at most one report.
+-- Step of the session machine for an event of each kind. An offer and an upload begin a session if none is live; an abort does nothing yet;
+-- time installs what is pending, or nothing. A restart drops, then says at most a report that promises nothing. A refusal drops, or does
+-- nothing. An action of the host takes or installs at most once, then drops or not, then says at most one report.
 pub data MachineStep (tolerant : Bool) (t : ℕ) : Kind → Machine → Option Report → Machine → Type 0 where
   offered : {m : Machine} {p : List ℕ} → m.live ≡ NoOne
       → MachineStep tolerant t (AnOffer p) m None (record m { offers = p ∷ m.offers; live = Loading p })
@@ -111,7 +111,7 @@ pub data MachineStep (tolerant : Bool) (t : ℕ) : Kind → Machine → Option R
   goes : {m m1 m2 m' : Machine} {report : Option Report} → Begins t m m1 → MayDrop m1 m2 → SaysReport tolerant m2 report m'
       → MachineStep tolerant t AGo m report m'
 
--- What was reported, as a list.
+-- Report, as a list.
 abbrev pub said : Option Report → List Report
 said None = []
 said (Some report) = report ∷ []

@@ -1,4 +1,4 @@
--- That a play is a step of the session machine, and what a legal run leaves, as statements.
+-- Statements that a play is a step of the session machine, and of what a legal run leaves.
 use Rattle.std.specs.Prelude.{◌≡◌, ◌⊎◌, ℕ, ◌<◌, Bool, List, [], ◌∷◌, Option}
 use Rattle.dfu_device.specs.Stage.{Profile, InAppIdle}
 use Rattle.dfu_host.specs.declared.report.Report.{Report}

@@ -1,4 +1,4 @@
--- What a link is between events, as one value and as a fact.
+-- State of a link between events, as one value and as a fact.
 use Rattle.std.specs.Prelude.{◌≡◌, ℕ, ◌<◌, List, [], Option, Some, None}
 use Rattle.dfu_slots.specs.Medium.Fuse.{Whole}
 use Rattle.dfu_device.specs.DeviceView.{DeviceView, profile, situation}
@@ -13,7 +13,7 @@ abbrev pub session_of : Option HostState → Session
 session_of None = Nobody
 session_of (Some h) = Hosted h
 
--- What a host keeps whose upload was reported, or none.
+-- Bytes that a host keeps whose upload was reported, or none.
 abbrev pub given_by : Option HostState → List ℕ
 given_by None = []
 given_by (Some h) = kept_in h.phase
@@ -31,7 +31,7 @@ abbrev pub IsOnIn : Session → Type 0
 IsOnIn Nobody = Unit {0}
 IsOnIn (Hosted h) = IsOn h.phase
 
--- What a live session keeps is counted in full parts, and nothing is kept but in an upload.
+-- The bytes that a live session keeps are counted in full parts, and only an upload keeps any.
 abbrev pub IsCountedIn : Session → Type 0
 IsCountedIn Nobody = Unit {0}
 IsCountedIn (Hosted h) = IsCounted h.task h.phase
@@ -41,14 +41,14 @@ abbrev pub SendsBytes : Session → Type 0
 SendsBytes Nobody = Unit {0}
 SendsBytes (Hosted h) = 0 < h.task.transfer
 
--- What holds of a link between events: the phase fact, a medium that is not armed, blocks of at least one byte, and parts that are counted.
+-- Facts of a link between events: the phase fact, a medium that is not armed, blocks of at least one byte, and parts that are counted.
 pub record IsSteady (b : LinkView) : Type 0 where
   pub fact : SessionFact (profile b.device) (situation b.device) b.session
   pub unarmed : b.device.slots.medium.fuse ≡ Whole
   pub sized : SendsBytes b.session
   pub counted : IsCountedIn b.session
 
--- What holds of a world between events: its bench is steady, and shows the active image of its medium's bytes.
+-- Facts of a world between events: its bench is steady, and shows the active image of its medium's bytes.
 pub record LinkViewHolds (b : LinkView) : Type 0 where
   pub steady : IsSteady b
   pub active : ShowsActive b

@@ -1,4 +1,4 @@
--- What happens if nothing is cut, nothing fails and nothing lies.
+-- Events in which nothing is cut, nothing fails and nothing lies.
 use Rattle.std.specs.Prelude.{◌≡◌, Bool, Option, Result, Ok, Err}
 use Rattle.dfu_slots.specs.Seen.{room_of}
 use Rattle.dfu_device.specs.Outcome.{Works}
@@ -44,8 +44,8 @@ pub record IsAsPlayed (b : LinkView) (event : Happening) (b' : LinkView) (report
   pub same : played (profile b.device) (link_of b) event Works Works room ≡ record { link = link_of b'; answer = answer }
   pub told : report ≡ answer.report
 
--- What happened is an event of the device, which stays set up as it was. If the event does no harm, all goes as the table of fates
--- says of a medium that works.
+-- The event is one of the device, which stays set up as it was. If the event does no harm, all goes as the table of fates says of a medium
+-- that works.
 pub record IsSureEvent (b : LinkView) (h : Happening) (b' : LinkView) (report : Option Report) : Type 0 where
   pub event : Happening
   pub means : Means b.device.config h event

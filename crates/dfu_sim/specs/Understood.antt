@@ -1,4 +1,4 @@
--- What ties the bytes to the values, as statements.
+-- Statements that tie the bytes to the values.
 use Rattle.std.specs.Prelude.{◌≡◌, ℕ, List, Bool}
 use Rattle.dfu_slots.specs.Medium.Fuse.{Whole}
 use Rattle.dfu_slots.specs.Image.{Active, HasImage}
@@ -18,7 +18,7 @@ use Rattle.dfu_sim.specs.Bytes.{HearsAnswer, link_of, BytePlay}
 use Rattle.dfu_sim.specs.Happening.{Happening}
 use Rattle.dfu_sim.specs.LinkView.{LinkView, ShowsActive}
 
--- What a device answers to a request of a host, in bytes, is heard as what the device meant; a part of an upload may find no memory.
+-- The answer of a device to a request of a host, in bytes, is heard as the device meant it; a part of an upload may find no memory.
 abbrev pub Understood : Type 0
 Understood = (task : Task) (phase : Phase) (q : Asked) (body : List ℕ) (c : Profile) (image : List ℕ) (stage : Stage) (luck : Luck)
     (a : Answer) (out : List ℕ) (heard : Heard)

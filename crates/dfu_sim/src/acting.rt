@@ -69,7 +69,7 @@ fn reach<M: Medium>(
     }
 }
 
-/// What comes back of a request to the host.
+/// Returns the response that the host gets to a request.
 fn come_back(delivery: Delivery<'_>, back: Response) -> Response
     ensures { result ≡ ended_back delivery.entry.harming (came_back delivery.entry.back back) }
 {
@@ -91,7 +91,7 @@ fn time_of(handling: Handled, ms: u32) -> u32
     }
 }
 
-/// What the host sees of a wait or a reset: after a cut that the device was restarted.
+/// Returns what the host sees of a wait or a reset: after a cut that the device was restarted.
 fn seen_after(harming: MediumFault, seen: Seen<'static>) -> Seen<'static>
     ensures { result ≡ seen_over harming seen.entry }
 {
@@ -199,9 +199,8 @@ fn arm<M: Faulty>(device: &mut Device<M>, delivery: Delivery<'_>)
     }
 }
 
-/// A device's power goes and comes back: it starts anew, on its medium as the medium is then, and disarmed.
-/// That is never refused, since a device keeps an active image on its medium, whatever is cut or
-/// fails.
+/// A device's power goes and comes back: it starts anew, on its medium as the medium is then, and disarmed. A restart is never refused,
+/// because a device keeps an active image on its medium, whatever is cut or fails.
 pub(crate) fn power_cycle<M: Faulty>(device: &mut Device<M>)
     ensures { device.new ≡ powered_up device.old }
 {

@@ -1,4 +1,4 @@
-//! What each fate comes to, and what comes of an action, as data: all else goes by it.
+//! Delivery of each fate, and result of an action, as data: all else goes by it.
 
 ghost use Rattle.std.specs.Prelude.{◌≡◌};
 ghost use Rattle.dfu_sim.specs.Happening.{fate_of, harm_in, refused_in};
@@ -9,7 +9,7 @@ use crate::fate::Fate;
 use arrayvec::ArrayVec;
 use dfu_device::{Answer, Objection};
 
-/// What a device or a board makes of a request.
+/// Result of a request in a device or a board.
 #[derive(Clone, Copy)]
 pub enum Handled {
     /// It doesn't see it.
@@ -22,7 +22,7 @@ pub enum Handled {
     Late(u32),
 }
 
-/// Which write of an action is harmed.
+/// Write of an action that is harmed.
 #[derive(Clone, Copy)]
 pub(crate) enum MediumFault {
     /// None.
@@ -47,19 +47,19 @@ pub(crate) struct Delivery<'t> {
     pub(crate) tear: &'t [u8],
 }
 
-/// What comes back of a request.
+/// Response to a request.
 #[derive(Clone, Copy)]
 pub(crate) enum Response {
     /// The device's answer.
     Answered(Answer),
     /// Nothing.
     Lost,
-    /// That the device was restarted, and no answer.
+    /// Restart of the device, and no answer.
     Restarted,
 }
 
-/// What came of the last action, and room for the bytes of an answer. The room is kept, since to make it
-/// clears 4,096 bytes, which cost more than a pass.
+/// Result of the last action, and room for the bytes of an answer. The room is kept, since to make it clears 4,096 bytes, which cost more
+/// than a pass.
 #[derive(Drop)]
 pub(crate) struct Answered {
     pub came: Response,

@@ -1,10 +1,10 @@
-//! What happens to a link.
+//! Events of a link.
 
 use crate::fate::Fate;
 use dfu_device::Objection;
 use dfu_host::Limits;
 
-/// What happens to a link. A file lasts as long as its session, a tear as long as the event.
+/// Event of a link. A file lasts as long as its session, a tear as long as the event.
 #[derive(Clone, Copy)]
 pub enum Event<'f, 't> {
     /// A whole DFU file (USB DFU 1.1, appendix B) is offered to the device. The session that begins

@@ -1,7 +1,7 @@
-//! What becomes of an action.
+//! Fates of an action.
 
-/// What becomes of one action of the host: a request, a wait or a reset of the bus. Losses and
-/// doublings concern only requests: a wait and a reset pass with them, as with `Pass`.
+/// Fate of one action of the host: a request, a wait or a reset of the bus. Losses and doublings concern only requests: a wait and a reset
+/// pass with them, as with `Pass`.
 ///
 /// `Cut`, `Fail` and `Lie` harm a write of the medium in any action. After `writes` writes that work comes the one that is harmed.
 /// Of its range the first bytes become those of `tear`, as many as `tear` has and fit in, and the rest keeps the old bytes. It

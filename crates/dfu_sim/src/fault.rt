@@ -1,10 +1,10 @@
-//! Why an event is refused.
+//! Faults for which an event is refused.
 
 use dfu_host::HostFault;
 use dfu_suffix::SuffixFault;
 use thiserror::Error;
 
-/// Why an event is refused.
+/// Faults for which an event is refused.
 #[derive(Clone, Copy, Debug, Error)]
 pub enum LinkFault {
     /// A file is offered or an upload is to begin while a session is live. Looked for first.
@@ -23,7 +23,7 @@ pub enum LinkFault {
     NoMemory,
 }
 
-/// Why an offer or an upload is refused.
+/// Faults for which an offer or an upload is refused.
 #[derive(Clone, Copy, Debug, Error)]
 pub enum OfferFault {
     /// The bytes are no DFU file: this is the first fault of `dfu_suffix::read`. Only an offer has it.

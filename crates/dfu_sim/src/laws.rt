@@ -31,9 +31,8 @@ pub fn clean_run()
     ensures { CleanRun }
 {}
 
-/// The same by steps, with no premise on memory. The steps are an offer and at most the passes of a
-/// clean run, each as the clause `sure` of `World::step` says. Then the reports are those of a clean
-/// run, and no step is refused.
+/// A clean run by steps, with no premise on memory. The steps are an offer and at most the passes of a clean run, each as the clause `sure`
+/// of `World::step` says. Then the reports are those of a clean run, and no step is refused.
 pub fn clean_steps()
     ensures install { StepsInstall }
     ensures stand { StepsStand }
@@ -72,8 +71,8 @@ pub fn sessions_go_on()
     ensures { SessionsGoOn }
 {}
 
-/// What goes over the wire is understood: what a device answers to a request of a host, in bytes,
-/// is heard as what the device meant. A part of an upload may find no memory.
+/// Messages on the wire are understood: the answer of a device to a request of a host, in bytes, is heard as the device meant it. A part of
+/// an upload may find no memory.
 pub fn understood()
     ensures { Understood }
 {}

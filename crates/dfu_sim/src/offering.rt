@@ -18,7 +18,7 @@ use dfu_suffix::{File, read};
 use dfu_wire::{Functional, Ids};
 use std::alloc::Global;
 
-/// What a file is offered for: no call takes it, and the clause `clean` of `run` speaks of it.
+/// Purpose for which a file is offered: no call takes it, and the clause `clean` of `run` speaks of it.
 #[derive(Clone, Copy)]
 pub enum Purpose {
     /// To be installed.

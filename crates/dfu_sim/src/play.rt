@@ -1,4 +1,4 @@
-//! What each event makes of a device and a host.
+//! Effects of each event on a device and a host.
 
 ghost use Rattle.std.specs.Prelude.{◌≡◌};
 ghost use Rattle.dfu_sim.specs.Delivery.{delivery_of};

@@ -14,8 +14,8 @@ use dfu_host::Report;
 use dfu_slots::Faulty;
 use std::alloc::Global;
 
-/// Where a run stopped: before the event `at`, counted from 0, which was refused or for whose report
-/// there was no memory. `reports` are those of the events before it.
+/// Stop of a run: before the event `at`, counted from 0, which was refused or for whose report there was no memory. `reports` are those of
+/// the events before it.
 #[derive(Drop)]
 pub struct Stop {
     pub fault: LinkFault,

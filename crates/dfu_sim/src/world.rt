@@ -117,8 +117,8 @@ impl<'f, M: Faulty> World<'f, M> {
         }
     }
 
-    /// What the device answered to the host's last action, with the bytes of its answer, also if the answer was lost
-    /// on its way back. No clause speaks of it: it is for a trace.
+    /// Returns the answer of the device to the host's last action, with the bytes of its answer, also if the answer was lost on its way
+    /// back. No clause speaks of it: it is for a trace.
     pub fn answered(&self) -> Option<(Answer, &[u8])> {
         match self.out.came {
             Response::Answered(answer) => Some((answer, self.out.bytes.as_slice())),
@@ -126,8 +126,8 @@ impl<'f, M: Faulty> World<'f, M> {
         }
     }
 
-    /// What the last session gave that reported Uploaded: by `gives` of `step` the device's active
-    /// image at that time. At first it is empty.
+    /// Returns the bytes of the last session that reported Uploaded: by `gives` of `step` the device's active image at that time. At first
+    /// it is empty.
     pub fn uploaded(&self) -> &[u8]
         ensures { result.now ≡ self.now.up }
     {
@@ -158,7 +158,7 @@ impl<'f, M: Faulty> World<'f, M> {
         }
     }
 
-    /// Whether a session is live.
+    /// Returns whether a session is live.
     pub fn is_live(&self) -> bool
         ensures live { result ≡ true → IsLive self.now.bench.session }
         ensures none { result ≡ false → self.now.bench.session ≡ Nobody }
@@ -169,8 +169,8 @@ impl<'f, M: Faulty> World<'f, M> {
         }
     }
 
-    /// The device back, also while a session is live, which ends with the link and reports nothing. What was uploaded is dropped.
-    /// (A function of its own: within `into_device` the device would be moved piece by piece, in half a megabyte of code.)
+    /// The device back, also while a session is live, which ends with the link and reports nothing. The bytes of an upload are dropped. (A
+    /// function of its own: within `into_device` the device would be moved piece by piece, in half a megabyte of code.)
     #[inline(never)]
     pub fn release(self) -> Device<M>
         ensures device { result ≡ self.entry.bench.device }

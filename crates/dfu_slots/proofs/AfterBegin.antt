@@ -1,4 +1,4 @@
--- What a store is after `begin`.
+-- Store after `begin`.
 use Rattle.std.proofs.Common.{◌≡◌, ℕ, true, Result, Ok, Err, OnErr, sym, ◌∙◌, ap, subst}
 use Rattle.dfu_slots.specs.declared.fault.PutFault.{PutFault}
 use Rattle.dfu_slots.specs.Layout.{Slot, IsOpen}
@@ -48,7 +48,8 @@ begin_fresh : {T : Type 0} (s now : SlotsState) (result : Result T PutFault) →
 begin_fresh s now (Ok x) fault worked = fresh_is now.medium now.held now.put_end worked.held_is worked.end_is
 begin_fresh {T} s now (Err e) fault changes = failed_fresh {T = T} s now Begin (Err e) changes fault
 
--- What the private `begin` did to the inside of a store that is seen as `v` is what `begin` does to the store, and its places are kept.
+-- The effect of the private `begin` on the inside of a store that is seen as `v` is the effect of `begin` on the store, and its places are
+-- kept.
 pub begin_done : {T : Type 0} {s v : SlotsState} {active spare : ℕ} → s ≡ v → IsStoreAt s active spare → (now : SlotsState)
     (result : Result T PutFault) → OnErr result (IsBroken result) → Changes s Begin result now
     → IsStoreAt now active spare × BeginLeaves v result now

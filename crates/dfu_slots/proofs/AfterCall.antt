@@ -1,4 +1,4 @@
--- What every call that changes a store leaves.
+-- State that every call that changes a store leaves.
 use Rattle.std.proofs.Common.{◌≡◌, ◌⊎◌, inl, inr, ⊎_elim, true, false, ℕ, ◌+◌, ◌≤◌, ◌<◌, List, length, Result, Ok, Err, OnOk, OnErr, IsErrOf, ◌↔◌, refl, sym, ◌∙◌, subst, arith}
 use Rattle.std.proofs.lemmas.Bool.{cases_lt, true_from_ne_false, true≢false}
 use Rattle.dfu_slots.specs.declared.fault.PutFault.{PutFault}
@@ -17,7 +17,7 @@ use Rattle.dfu_slots.proofs.Series.{Ends, all_count, broken_count, broken_rose}
 use Rattle.dfu_slots.proofs.Seeing.{image_active, shaped, room_capacity, puts_room, fresh_is, fresh_leaves}
 use Rattle.dfu_slots.proofs.Seeing.{begun_closed, closed_begun, open_not_begun, not_begun_open}
 
--- Which calls are refused.
+-- Calls that are refused.
 
 never_refuses : {T : Type 0} (s : SlotsState) (result : Result T PutFault) → ¬ IsErrOf result NotBegun → ¬ IsErrOf result TooLarge
     → Refuses s Begin result
@@ -84,12 +84,12 @@ came_or_not {T} s now kind (Err NotVerified) refuses failed =
     inl (came {T = T} s now kind (Err NotVerified) refuses (λ e. cc) (λ e. cc) (inr (WriteNotVerified, failed.writes)))
 came_or_not s now kind (Err _) refuses same = inr same
 
--- What a call that was carried out leaves is left in all cases, if one that was refused leaves it too.
+-- The state that a call leaves that was carried out is left in all cases, if one that was refused leaves it too.
 pub after_call : {T P : Type 0} (s now : SlotsState) (kind : Call) (result : Result T PutFault) → Refuses s kind result
     → Changes s kind result now → (Came s now kind → P) → (now ≡ s → P) → P
 after_call s now kind result refuses changes coming refused = ⊎_elim coming refused (came_or_not s now kind result refuses changes)
 
--- What is left by a call whose writes all worked is left after Ok.
+-- The state that a call leaves whose writes all worked is left after Ok.
 pub after_ok : {T P : Type 0} (s now : SlotsState) (kind : Call) (result : Result T PutFault) → Refuses s kind result
     → Changes s kind result now → (Came s now kind → CallWorked s kind now → P) → OnOk result P
 after_ok {T} s now kind (Ok x) refuses worked leaves =
@@ -106,7 +106,7 @@ pub on_err_of : {T E P : Type 0} (result : Result T E) → P → OnErr result P
 on_err_of (Ok x) p = tt
 on_err_of (Err e) p = p
 
--- What is left whatever was returned.
+-- The state is left whatever was returned.
 
 did_all : (s now : SlotsState) (kind : Call) → CallWorked s kind now → DidCall s kind AllWorked now
 did_all s now kind worked = record {
@@ -160,7 +160,7 @@ call_store s now kind (Err NotVerified) failed store has after =
     (fresh_leaves has failed.held_is failed.end_is).store
 call_store s now kind (Err _) same store has after = subst IsStore (sym same) store
 
--- What the three calls have in common, if the store has the room that it had.
+-- Facts that the three calls have in common, if the store has the room that it had.
 pub call_leaves : {T : Type 0} (s now : SlotsState) (kind : Call) (result : Result T PutFault) → Refuses s kind result
     → Changes s kind result now → IsStore now → room_of now ≡ room_of s → CallLeaves s kind result now
 call_leaves s now kind result refuses changes store room = record {

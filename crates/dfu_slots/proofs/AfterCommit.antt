@@ -1,4 +1,4 @@
--- What a store is after `commit`.
+-- Store after `commit`.
 use Rattle.std.proofs.Common.{◌≡◌, ◌⊎◌, inl, inr, ⊎_elim, ℕ, ◌+◌, ◌≤◌, List, length, take, Result, IsErrOf, ◌↔◌, sym, ◌∙◌, ap, subst, arith}
 use Rattle.dfu_suffix.specs.Register.{register}
 use Rattle.dfu_slots.specs.declared.fault.PutFault.{PutFault}
@@ -109,7 +109,7 @@ module _ {T : Type 0} (s now : SlotsState) (store : IsStore s) (len : ℕ) (le :
         (λ came worked. fresh_is now.medium now.held now.put_end worked.held_is worked.end_is);
   }
 
--- What the private `commit` did to the inside of a store that is seen as `v` is what `commit` does to the store.
+-- The effect of the private `commit` on the inside of a store that is seen as `v` is the effect of `commit` on the store.
 pub commit_leaves : {T : Type 0} {s v : SlotsState} → s ≡ v → IsStore s → (now : SlotsState) (len : ℕ) → len ≤ v.put_end
     → (result : Result T PutFault) → (IsErrOf result NotBegun ↔ IsOpen (spare_slot s)) → ¬ IsErrOf result TooLarge
     → Changes s (Commit len) result now → CommitLeaves v len result now

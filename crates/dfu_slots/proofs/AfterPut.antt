@@ -1,4 +1,4 @@
--- What a store is after `put`.
+-- Store after `put`.
 use Rattle.std.proofs.Common.{◌≡◌, ℕ, ◌+◌, ◌-◌, ◌*◌, ◌/◌, ◌%◌, ◌≤◌, ◌<◌, List, ◌++◌, length, take, Result, IsErrOf, ◌↔◌, sym, ◌∙◌, ap, subst, arith, length-append, take-append-drop}
 use Rattle.std.proofs.lemmas.List.{length-take-le, append_assoc}
 use Rattle.dfu_slots.specs.declared.fault.PutFault.{PutFault}
@@ -91,7 +91,7 @@ module _ (s now : SlotsState) (store : IsStore s) (at : ℕ) (new : List ℕ) (h
         ∙ part_more s.medium.grain.unit s.put_end (length new)
         ∙ ap (λ (n : ℕ). n % unit_size s.medium.grain.unit) (ap (λ (n : ℕ). n + length new) (sym here) ∙ sym worked.end_is)
 
-    -- Where the bytes held back now belong.
+    -- Place at which the bytes held back now belong.
     held_now : held_at now ≡ held_at s + whole
     held_now = omega (
       arith,
@@ -234,7 +234,8 @@ module _ {T : Type 0} (s now : SlotsState) (store : IsStore s) (at : ℕ) (new :
     shut = on_ok_of result (begun_from_gate s now put_gate);
   }
 
--- What the private `put` did to the inside of a store that is seen as `v` is what `put` does to the store, and its places are kept.
+-- The effect of the private `put` on the inside of a store that is seen as `v` is the effect of `put` on the store, and its places are
+-- kept.
 pub put_done : {T : Type 0} {s v : SlotsState} {active spare : ℕ} → s ≡ v → IsStoreAt s active spare → (now : SlotsState) (at : ℕ)
     (new : List ℕ) → at ≡ v.put_end → (result : Result T PutFault) → (IsErrOf result NotBegun ↔ IsOpen (spare_slot s))
     → (IsErrOf result TooLarge ↔ ((¬ IsOpen (spare_slot s)) × (capacity_of s.medium < at + length new)))

@@ -56,7 +56,7 @@ module _ (sector : ℕ) (some : 0 < sector) where
       erased at (omega arith) fits
       (λ q from to. let e : at ≡ q = omega (arith, from, to) in subst (λ (k : ℕ). k % sector ≢ 0) e inner)
 
-  -- What the erase of a sector that begins there leaves, or nothing if none does.
+  -- Medium after the erase of a sector that begins there, or the same medium if none does.
   abbrev First : MediumState → ℕ → MediumState → Type 0
   First s at mid = (length mid.bytes ≡ length s.bytes) × (slice_index mid.bytes at ≡ 255) × IsErased sector mid.bytes (at + 1) (at + 1)
 

@@ -92,7 +92,7 @@ module _ (sector to at : ℕ) (bytes : List ℕ) (edge : IsEdge sector to) (high
             ∙ written_range w.left at bytes (omega (arith, w.erased.size, high, room)),
       )
 
-  -- The same for some bytes, or of none.
+  -- Some bytes leave this too, or none.
   pub some_leaves : AllWrites s (write_some sector at bytes) now → Left at to bytes s.bytes now.bytes
   some_leaves all = (
     all_keep at to (write_some sector at bytes) s now room (some_inside sector at to at bytes edge (omega arith) high) all,

@@ -82,7 +82,7 @@ module _ (w : Grain) (s now : MediumState) (mine other : ℕ) (image : List ℕ)
   inside = inside_if other (other + g) ((spare g old).gate == OPEN) closing []
       (omega (arith, place), omega (arith, place, closed_most w), tt) tt
 
-  -- Whether its write worked or failed.
+  -- Its write may have worked or failed.
   module _ (ends : Ends s (begin_writes w old) now) where
     -- A `begin` writes nothing outside the gate of the spare.
     begin_outside : KeepsOutside other (other + g) old now.bytes

@@ -10,7 +10,7 @@ use Rattle.dfu_slots.proofs.Written.{was_written, not_written}
 blanks : (n : ℕ) → length (replicate {A = ℕ} n 255) ≡ n
 blanks n = length-replicate {A = ℕ} n 255
 
--- What is blank has the bytes FFh, and the other way round.
+-- A blank range has the bytes FFh, and the other way round.
 pub blank_stand : (m : List ℕ) (at n : ℕ) → IsBlank m at n → Stand m at (replicate n 255)
 blank_stand m at n blank = ap (λ (k : ℕ). slice_range m at (at + k)) (blanks n) ∙ blank
 

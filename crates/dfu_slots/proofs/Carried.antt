@@ -20,7 +20,7 @@ front_op [] n o is = absurd (none-some o is)
 front_op (p ∷ os) zero o is = ap (λ (q : Op). q ∷ []) (same_Some _ _ is)
 front_op (p ∷ os) (suc n) o is = ap (λ (l : List Op). p ∷ l) (front_op os n o is)
 
--- That one, and the operations after it.
+-- The list has that one, and the operations after it.
 back_op : (os : List Op) (n : ℕ) (o : Op) → op_at os n ≡ Some o → drop n os ≡ o ∷ drop (suc n) os
 back_op [] n o is = absurd (none-some o is)
 back_op (p ∷ os) zero o is = ap (λ (q : Op). q ∷ os) (same_Some _ _ is)

@@ -1,4 +1,4 @@
--- What `commit` leaves: it writes the bytes that are held, and then installs the image.
+-- State after `commit`: it writes the bytes that are held, and then installs the image.
 use Rattle.std.proofs.Common.{◌≡◌, ◌⊎◌, inl, inr, ℕ, ◌+◌, ◌-◌, ◌*◌, ◌≤◌, List, ◌++◌, length, take, replicate, sym, ◌∙◌, ap, subst, arith, length-append}
 use Rattle.dfu_slots.specs.declared.layout.Unit.{Unit as WriteUnit}
 use Rattle.dfu_suffix.specs.Register.{register}

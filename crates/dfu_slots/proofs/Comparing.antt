@@ -1,4 +1,4 @@
--- What the code finds when it compares the header of a slot.
+-- Result of the code's comparison of the header of a slot.
 use Rattle.std.proofs.Common.{◌≡◌, ◌↔◌, Bool, true, false, ◌&&◌, nat_le, IsTrue, ℕ, ◌*◌, ◌+◌, ◌≤◌, ◌<◌, List, length, take, drop, refl, sym, ◌∙◌, ap, subst, arith}
 use Rattle.std.specs.Int.{w32, from_le_bytes}
 use Rattle.std.specs.Str.{bytes_eq}

@@ -1,4 +1,4 @@
--- Where sectors begin on a medium of two slots.
+-- Places at which sectors begin on a medium of two slots.
 use Rattle.std.proofs.Common.{◌≡◌, ⊎_elim, ℕ, ◌+◌, ◌*◌, List, length, sym, subst, arith}
 use Rattle.dfu_slots.specs.Units.{Grain, gate_room, IsWhole}
 use Rattle.dfu_slots.specs.Medium.{MediumState}

@@ -97,7 +97,7 @@ module _ (s : MediumState) (at n : ℕ) (sized : IsSized s) (some : 0 < s.grain.
         size = refl;
       }
 
-  -- The same, by what the code reads.
+  -- The sector is erased by what the code reads.
   pub erased_first : (size : ℕ) → size ≡ sector → (place : ℕ) → (at % size ≡ 0 → place ≡ at → ErasedTo s s sector at n place)
       × (at % size ≢ 0 → place ≡ at + (size - at % size) → ErasedTo s s sector at n place)
   erased_first size is place = (

@@ -3,7 +3,7 @@ use Rattle.std.proofs.Common.{◌≡◌, ℕ, ◌+◌, ◌-◌, ◌≤◌, List,
 use Rattle.std.proofs.lemmas.List.{drop-replicate, take-replicate}
 use Rattle.dfu_slots.proofs.Within.{take_past}
 
--- What was copied to the front of a buffer of zeros.
+-- Bytes that were copied to the front of a buffer of zeros.
 pub buffer_is : (bytes copied : List ℕ) (most : ℕ) → copied ≡ bytes
     → copied ++ drop (length bytes) (replicate most 0) ≡ bytes ++ replicate (most - length bytes) 0
 buffer_is bytes copied most is = λ i. is i ++ drop-replicate (length bytes) most 0 i

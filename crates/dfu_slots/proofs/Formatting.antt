@@ -142,7 +142,7 @@ module _ {s : MediumState} {image : List ℕ} (can : CanFormat s image) (mid : M
         (subst (λ (ws : List Write). Series filling (ws ++ open_writes w 0 0 (length image) (register image)) r now)
         (ap (λ (l : List ℕ). write_some w.sector (held_from w 0 0 0) l) (none_filled w.unit)) series))
 
--- What is tested before a `format` is what it needs.
+-- The test before a `format` gives what it needs.
 pub can_format : {s : MediumState} (image : List ℕ) {a b : ℕ} → IsSized s → length image ≤ b → b ≡ a → a ≡ capacity_of s → CanFormat s image
 can_format image sized le one two = record { sized = sized; fits = omega (arith, le, one, two) }
 

@@ -81,7 +81,7 @@ may_close m slot held block header sized within place edge = (by_sector (cases_e
         (sym (cond-false (m.grain.sector == 0) (Program slot Closed 0 (gate_size m.grain.unit)) (Erase slot) (ne_eqb _ _ some)))
         (omega (arith, within), edge (omega (arith, some)))
 
--- What is held may be written, and the slot opened.
+-- The bytes that are held may be written, and the slot opened.
 module _ (m : MediumState) (slot end : ℕ) (held header : List ℕ) (sized : IsSized m) (room : slot + slot_size m.bytes ≤ length m.bytes)
     (place : IsMultiple m.grain.unit slot) (edge : IsEdge m.grain.sector slot) (few : length held ≤ 256) where
   abbrev u : WriteUnit

@@ -36,7 +36,7 @@ multiple_add _ a b x y = omega (arith, x, y)
 
 -- Parts.
 
--- What makes no whole unit of a length is no more than the length.
+-- The part that makes no whole unit of a length is no more than the length.
 pub part_le : (u : WriteUnit) (n : ℕ) → n % unit_size u ≤ n
 part_le Byte n = omega arith
 part_le _ n = omega arith
@@ -50,7 +50,7 @@ multiple_part _ n = omega arith
 pub zero_part : (u : WriteUnit) → 0 % unit_size u ≡ 0
 zero_part u = multiple_zero u
 
--- What makes no whole unit does not depend on whole units before it.
+-- The part that makes no whole unit does not depend on whole units before it.
 pub part_more : (u : WriteUnit) (n k : ℕ) → (n % unit_size u + k) % unit_size u ≡ (n + k) % unit_size u
 part_more Byte n k = omega arith
 part_more _ n k = omega arith
@@ -83,7 +83,7 @@ filled_within u c bytes whole le = omega
 
 -- The places of a medium.
 
--- What is whole in the data of a slot is so on a medium of the same size.
+-- A length that is whole in the data of a slot is so on a medium of the same size.
 pub whole_after : {m n : MediumState} → SameSize m n → IsWhole m.grain (capacity_of m) → IsWhole n.grain (capacity_of n)
 whole_after {m} {n} same whole = subst (λ (w : Grain). IsWhole w (length n.bytes / 2 - 2 * gate_room w)) (sym same.grain)
     (subst (λ (k : ℕ). IsWhole m.grain (k / 2 - 2 * gate_of m)) (sym same.size) whole)
@@ -97,7 +97,7 @@ sized_after same sized = record {
   whole = whole_after same sized.whole;
 }
 
--- What a store holds back.
+-- Bytes that a store holds back.
 
 module _ (s : SlotsState) (puts : HasPuts s) where
   -- The bytes held back end where the puts end.

@@ -16,7 +16,7 @@ newest_test mine other a =
     (λ newer. or_right (not (counts other)) _ (eq-eqb _ _ newer))
     a.newer)
 
--- What the test takes for the newest slot is the newest.
+-- The slot that the test takes for the newest is the newest.
 pub newest_from : (mine other : Slot) → is_newest mine other ≡ true → IsNewest mine other
 newest_from mine other test =
     let parts = and_parts (counts mine) _ test in
@@ -37,7 +37,7 @@ other_test mine other a =
     (λ newer. and_right (counts other) _ (or_from _ _ (not_from_true _ (counts_true mine a.counts)) (ne_eqb _ _ (λ e. turns _ _ newer e))))
     a.newer
 
--- Where the active slot begins.
+-- Place at which the active slot begins.
 pub places_newest : (g : ℕ) (bytes : List ℕ) (mine other : ℕ) → ArePlaces bytes mine other
     → IsNewest (slot g bytes mine) (slot g bytes other) → (mine ≡ active_at g bytes) × (other ≡ spare_at g bytes)
 places_newest g bytes mine other places newest =

@@ -1,4 +1,4 @@
--- What the test of a medium finds.
+-- Result of the test of a medium.
 use Rattle.std.proofs.Common.{◌≡◌, inl, inr, Bool, true, false, ℕ, List, length, take, refl, sym, ◌∙◌, ap, subst}
 use Rattle.std.proofs.lemmas.Bool.{cases_Bool, both_ways, cond-true, cond-false}
 use Rattle.std.proofs.lemmas.List.{length-take-le}
@@ -73,7 +73,7 @@ module _ (m : MediumState) where
         };
       }
 
-  -- The same, at the places that were found.
+  -- Results of the test at the places that were found.
   module _ {p q : ℕ} (at_active : p ≡ active_at g m.bytes) (at_spare : q ≡ spare_at g m.bytes) where
     test_there : (b : Bool) → is_newest (slot_of m p) (slot_of m q) ≡ b → tested ≡ b
     test_there b test = sym (λ i. is_newest (slot_of m (at_active i)) (slot_of m (at_spare i))) ∙ test

@@ -101,11 +101,11 @@ module _ {m : List ℕ} {at : ℕ} {bytes : List ℕ} {ahead : ℕ} {rest : List
   piece_missing none s = none (front_stands m (length m - ahead) piece next fits
       (subst (λ (l : List ℕ). Stand m (length m - ahead) l) parts (far.same.0 s)))
 
--- What is cut in two is both parts, one after the other.
+-- A list that is cut in two is both parts, one after the other.
 pub cut_is : {rest front back : List ℕ} (n : ℕ) → front ≡ take n rest → back ≡ drop n rest → rest ≡ front ++ back
 cut_is {rest} n a b = sym ((λ i. a i ++ b i) ∙ take-append-drop n rest)
 
--- What was read is what is there.
+-- The bytes that were read are there.
 pub read_there : (m piece : List ℕ) {place from n : ℕ} {read : List ℕ} → from ≡ place → n ≡ length piece
     → read ≡ slice_range m from (from + n) → slice_range m place (place + length piece) ≡ read
 read_there m piece here size is = sym (is ∙ (λ i. slice_range m (here i) (here i + size i)))

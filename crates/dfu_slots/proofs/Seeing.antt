@@ -1,4 +1,4 @@
--- What the layers above see of a store with an active image.
+-- View that the layers above have of a store with an active image.
 use Rattle.std.proofs.Common.{◌≡◌, ◌==◌, not, true, false, ℕ, ◌+◌, ◌-◌, ◌*◌, ◌/◌, ◌^◌, ◌≤◌, nat_le, List, [], length, take, refl, sym, ◌∙◌, ap, subst, arith}
 use Rattle.std.proofs.lemmas.Bool.{and_from, le-leb, ne_eqb, eqb-true, eqb-false, not_from_false, not_from_true, not-true, not-false, eq-eqb}
 use Rattle.dfu_slots.specs.Units.{IsWhole, gate_room, Grain}
@@ -81,7 +81,7 @@ fresh_is m held put_end none zero_is = λ i. store_of m (none i) (zero_is i)
 
 -- The functions that the clauses cite.
 
--- What is the capacity of the medium is the room of the store.
+-- The capacity of the medium is the room of the store.
 pub room_is : (s : SlotsState) (n : ℕ) → n ≡ capacity_of s.medium → n ≡ room_of s
 unfolding room_of
 room_is s n same = same
@@ -163,7 +163,7 @@ pub not_begun_open : (s : SlotsState) → is_begun s ≡ false → IsOpen (spare
 unfolding is_begun
 not_begun_open s off = eqb-true _ _ (not-false _ off)
 
--- Whether a store was begun depends only on the gate of its spare.
+-- A store was begun or not only by the gate of its spare.
 pub begun_from_gate : (s now : SlotsState) → (spare_slot now).gate ≡ (spare_slot s).gate → is_begun now ≡ is_begun s
 unfolding is_begun
 begun_from_gate s now same = ap (λ (g : ℕ). not (g == OPEN)) same

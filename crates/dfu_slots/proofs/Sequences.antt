@@ -51,7 +51,7 @@ part_range u held few =
     zeroed_front held n (omega arith) most
     ∙ (let e : n - length held ≡ fill_size u (length held) = omega arith in ap (λ (k : ℕ). held ++ replicate k 0) e)
 
--- What a `put` writes first, and what it writes then.
+-- Bytes that a `put` writes first, and that it writes then.
 module _ (w : Grain) (held block : List ℕ) where
   abbrev all : List ℕ
   all = held ++ block
@@ -126,7 +126,7 @@ module _ (w : Grain) (held block head : List ℕ) where
       ++ (write_some w.sector (at + first i) (back_range w held block mine left first back i) ++ []))
       ∙ ap (λ (ws : List Write). write_some w.sector at (take (head_size w.unit held block) (held ++ block)) ++ ws) (append-nil _)
 
-  -- What is held is written, and the slot is opened.
+  -- The bytes that are held are written, and the slot is opened.
   pub commit_are : (slot end gen len crc : ℕ) → length held ≤ 256 → head ≡ header 2 gen len crc
       → ops_writes w.sector held block head (operations w (Commit slot end (length held)))
       ≡ part_writes w (held_from w slot end (length held)) held ++ open_writes w slot gen len crc

@@ -1,4 +1,4 @@
--- Where the writes are that open a slot.
+-- Places of the writes that open a slot.
 use Rattle.std.proofs.Common.{ℕ, ◌+◌, ◌*◌, ◌≤◌, arith}
 use Rattle.dfu_slots.specs.Units.{Grain, gate_size, gate_room}
 use Rattle.dfu_slots.specs.Layout.{OPEN, gate_unit, header_unit}

@@ -16,7 +16,7 @@ use Rattle.dfu_slots.proofs.Anew.{Left}
 use Rattle.dfu_slots.proofs.Within.{written_within}
 use Rattle.dfu_slots.proofs.Begun.{same_spare}
 
--- What writes in the spare's data leave: nothing changes elsewhere, and the active image, the spare and its gate are where they were.
+-- State after writes in the spare's data: nothing changes elsewhere, and the active image, the spare and its gate are where they were.
 pub record DataLeaves (g : ℕ) (s now : MediumState) (mine other : ℕ) (image : List ℕ) : Type 0 where
   pub kept : KeepsOutside (other + 2 * g) (other + slot_size s.bytes) s.bytes now.bytes
   pub same : SameSize s now

@@ -19,7 +19,7 @@ module _ (m : MediumState) (held : List ℕ) (end : ℕ) {place : ℕ} {shown : 
   abbrev s : SlotsState
   s = store_of m held end
 
-  -- What is held fits in the medium, filled up with zeros.
+  -- The bytes that are held fit in the medium, filled up with zeros.
   pub held_within : held_from m.grain place end (length shown) + length (filled m.grain.unit shown) ≤ length m.bytes
   held_within = subst (λ (p : ℕ). held_from m.grain p end (length shown) + length (filled m.grain.unit shown) ≤ length m.bytes) (sym here)
       (subst (λ (l : List ℕ). held_from m.grain (spare_at (gate_of m) m.bytes) end (length l) + length (filled m.grain.unit l)

@@ -1,4 +1,4 @@
--- What is on a medium, by its bytes and by how many bytes a gate unit has.
+-- Content of a medium, by its bytes and by how many bytes a gate unit has.
 use Rattle.std.proofs.Common.{◌≡◌, ℕ, ◌*◌, ◌^◌, ◌≤◌, ◌<◌, List, length, take}
 use Rattle.dfu_slots.specs.Units.{IsWhole}
 use Rattle.dfu_slots.specs.Medium.{MediumState}

@@ -1,4 +1,4 @@
--- What is outside the range of a write stays.
+-- Bytes outside the range of a write stay.
 use Rattle.std.proofs.Common.{◌≡◌, ◌⊎◌, inl, inr, ℕ, ◌+◌, ◌-◌, ◌≤◌, ◌<◌, List, ◌∷◌, ◌++◌, length, get_or, take, drop, slice_index, slice_range, sym, ◌∙◌, ap, subst, arith, length-append, length-drop}
 use Rattle.std.proofs.lemmas.List.{take-take, drop-drop, get_or-take, get_or-drop, take_at, drop_at, append_assoc, length-take-le, length-take}
 use Rattle.std.proofs.lemmas.Slice.{between_is}

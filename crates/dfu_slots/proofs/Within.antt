@@ -61,7 +61,7 @@ written_nil l k =
     let e : k + 0 ≡ k = omega arith in
     ap (λ (f : List ℕ). f ++ drop (k + 0) l) (append-nil (take k l)) ∙ ap (λ (j : ℕ). take k l ++ drop j l) e ∙ take-append-drop k l
 
--- What follows written bytes does not show before their end.
+-- Bytes after written bytes do not show before their end.
 pub front_of_written : (d : List ℕ) (k : ℕ) (xs zs : List ℕ) (len : ℕ) → k ≤ length d → len ≤ k + length xs
     → take len (written d k (xs ++ zs)) ≡ take len (written d k xs)
 front_of_written d k xs zs len fits le =
@@ -77,7 +77,7 @@ pub front_written : (d : List ℕ) (k : ℕ) (xs : List ℕ) → k ≤ length d 
 front_written d k xs fits =
     take_at (take k d ++ xs) (drop (k + length xs) d) (k + length xs) (omega (arith, length-append (take k d) xs, length-take-le k d fits))
 
--- What begins as written bytes and more after them do begins as those bytes do.
+-- A list that begins as written bytes and more after them do begins as those bytes do.
 pub front_shows : (d now : List ℕ) (k : ℕ) (xs zs : List ℕ) (len : ℕ) → k ≤ length d → len ≤ k + length xs
     → take (k + length (xs ++ zs)) now ≡ take k d ++ (xs ++ zs) → take len now ≡ take len (written d k xs)
 front_shows d now k xs zs len fits le is =

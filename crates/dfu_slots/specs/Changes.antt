@@ -1,4 +1,4 @@
--- What the calls return and leave.
+-- Results and effects of the calls.
 use Rattle.std.specs.Prelude.{◌≡◌, ◌≤◌, ◌<◌, ℕ, List, length, Result, Ok, Err}
 use Rattle.dfu_slots.specs.Medium.{MediumState}
 use Rattle.dfu_slots.specs.Layout.{slot_size, ArePlaces, HasHeader}
@@ -26,7 +26,7 @@ abbrev pub fault_of : PutFault → WriteFault
 fault_of NotVerified = WriteNotVerified
 fault_of fault = WriteFailed
 
--- How the writes of a call that was not refused ended.
+-- Ending of the writes of a call that was not refused.
 abbrev pub ending_of : {T : Type 0} → Result T PutFault → Ending
 ending_of (Ok _) = AllWorked
 ending_of (Err fault) = BrokenBy (fault_of fault)

@@ -17,7 +17,7 @@ pub all_known : (ws : List Write) (s x : MediumState) → IsKnown s.fuse → All
 all_known [] s x k same = subst IsKnown (sym (ap (λ (m : MediumState). m.fuse) same)) k
 all_known (w ∷ ws) s x k (p, a, more) = all_known ws p x (known_next w s p k a) more
 
--- The same writes from the same medium, if all work, leave the same medium.
+-- Equal writes from equal media, if all work, leave equal media.
 pub all_same_end : (ws : List Write) (s t x y : MediumState) → Same s t → AllWrites s ws x → AllWrites t ws y → Same x y
 all_same_end [] s t x y same a b = record {
   bytes = ap (λ (m : MediumState). m.bytes) a ∙ same.bytes ∙ sym (ap (λ (m : MediumState). m.bytes) b);
@@ -64,11 +64,11 @@ pub record SameStore (a b : SlotsState) : Type 0 where
   pub held : a.held ≡ b.held
   pub put_end : a.put_end ≡ b.put_end
 
--- The same holds the other way round.
+-- Stores that are the same are so the other way round.
 flip_store : (s t : SlotsState) → SameStore s t → SameStore t s
 flip_store s t same = record { medium = flip s.medium t.medium same.medium; held = sym same.held; put_end = sym same.put_end }
 
--- The same stores have the same bytes in the spare's data.
+-- Stores that are the same have equal bytes in the spare's data.
 spare_same : (s t : SlotsState) → SameStore s t → spare_of s ≡ spare_of t
 unfolding spare_of
 spare_same s t same =
@@ -76,7 +76,7 @@ spare_same s t same =
     written (spare (gate_room (same.medium.grain i)) (same.medium.bytes i)).data_bytes
     (same.put_end i - length (same.held i)) (same.held i)
 
--- The same stores have the same writes.
+-- Stores that are the same have equal writes.
 writes_same : (s t : SlotsState) (call : Call) → SameStore s t → writes_of s call ≡ writes_of t call
 writes_same s t Begin same = λ i. begin_writes (same.medium.grain i) (same.medium.bytes i)
 writes_same s t (Put at bytes) same =
@@ -137,7 +137,7 @@ call_known s x call k a = all_known (writes_of s call) s.medium x.medium k a.wri
 
 -- Lists of calls.
 
--- The same calls from the same store do not all work here and break off there.
+-- Equal calls from equal stores do not all work here and break off there.
 never_ends : (f : WriteFault) (calls : List Call) (s t x y : SlotsState) → SameStore s t → IsKnown s.medium.fuse
     → Called s calls AllWorked x
     → Called t calls (BrokenBy f) y → ⊥

@@ -1,4 +1,4 @@
--- Which image of a medium is the active one.
+-- Active image of a medium.
 use Rattle.std.specs.Prelude.{◌≡◌, ◌⊎◌, ◌&&◌, ◌||◌, not, ℕ, ◌+◌, ◌*◌, ◌%◌, ◌^◌, ◌<◌, ◌≤◌, Bool, List, length, take, if◌then◌else◌, ◌==◌, nat_le}
 use Rattle.std.specs.Str.{bytes_eq}
 use Rattle.dfu_suffix.specs.Register.{register}
@@ -6,7 +6,7 @@ use Rattle.dfu_slots.specs.Units.{gate_room, IsWhole}
 use Rattle.dfu_slots.specs.Medium.{MediumState, Fuse}
 use Rattle.dfu_slots.specs.Layout.{Slot, slot, slot_size, capacity, OPEN, generation, next_generation, header_version, header_length, header, HasHeader}
 
--- How many bytes the gate and the header of a slot take up each.
+-- Bytes that the gate and the header of a slot take up each.
 abbrev pub gate_of : MediumState → ℕ
 gate_of m = gate_room m.grain
 
@@ -14,7 +14,7 @@ gate_of m = gate_room m.grain
 abbrev pub slot_of : MediumState → ℕ → Slot
 slot_of m at = slot (gate_room m.grain) m.bytes at
 
--- How many bytes of data each slot of a medium has.
+-- Bytes of data of each slot of a medium.
 abbrev pub capacity_of : MediumState → ℕ
 capacity_of m = capacity (gate_of m) m.bytes
 
@@ -50,7 +50,7 @@ pub record HasImage (m : MediumState) : Type 0 where
   pub image : List ℕ
   pub active : Active m image
 
--- Which image is active does not depend on the fuse.
+-- The active image does not depend on the fuse.
 pub active_fused : (m : MediumState) (fuse : Fuse) (image : List ℕ) → Active m image → Active (record m { fuse = fuse }) image
 active_fused m fuse image active = record {
   sized = record { even = active.sized.even; room = active.sized.room; bound = active.sized.bound; whole = active.sized.whole };
@@ -66,34 +66,34 @@ active_fused m fuse image active = record {
 pub has_image_fused : (m : MediumState) (fuse : Fuse) → HasImage m → HasImage (record m { fuse = fuse })
 has_image_fused m fuse has = record { image = has.image; active = active_fused m fuse has.image has.active }
 
--- The same as tests, which find the places of the two slots.
+-- Tests of these facts, which find the places of the two slots.
 
--- Whether a slot has a well-formed header of version 2.
+-- True if a slot has a well-formed header of version 2.
 unfoldable pub is_intact : Slot → Bool
 is_intact s =
     let len = header_length s in
     nat_le len (length s.data_bytes) && bytes_eq s.header (header 2 (generation s) len (register (take len s.data_bytes)))
 
--- Whether a slot counts.
+-- True if a slot counts.
 abbrev pub counts : Slot → Bool
 counts s = (s.gate == OPEN) && (not (header_version s == 2) || is_intact s)
 
--- Whether the first of two slots counts, and the other one does not, or is one generation behind.
+-- True if the first of two slots counts, and the other one does not, or is one generation behind.
 abbrev pub is_newest : Slot → Slot → Bool
 is_newest mine other = counts mine && (not (counts other) || (generation mine == next_generation (generation other)))
 
--- Whether the first slot is the active one, on a medium that has an active image; else nothing follows of it, nor of the places below.
+-- True if the first slot is the active one, on a medium that has an active image; else nothing follows of it, nor of the places below.
 abbrev pub first_is_active : ℕ → List ℕ → Bool
 first_is_active g bytes = is_newest (slot g bytes 0) (slot g bytes (slot_size bytes))
 
--- Where the active slot begins, on a medium that has an active image.
+-- Place at which the active slot begins, on a medium that has an active image.
 abbrev pub active_at : ℕ → List ℕ → ℕ
 active_at g bytes = if first_is_active g bytes then 0 else slot_size bytes
 
--- Where the spare slot begins, on a medium that has an active image.
+-- Place at which the spare slot begins, on a medium that has an active image.
 abbrev pub spare_at : ℕ → List ℕ → ℕ
 spare_at g bytes = if first_is_active g bytes then slot_size bytes else 0
 
--- What is in the spare slot.
+-- Content of the spare slot.
 abbrev pub spare : ℕ → List ℕ → Slot
 spare g bytes = slot g bytes (spare_at g bytes)

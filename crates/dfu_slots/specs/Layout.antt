@@ -1,5 +1,4 @@
--- Where the two slots of a medium are, and what is in them.
--- The gate and the header take up `g` bytes each, at least 16.
+-- Places of the two slots of a medium, and their content. The gate and the header take up `g` bytes each, at least 16.
 use Rattle.std.specs.Prelude.{◌≡◌, ◌⊎◌, ℕ, ◌+◌, ◌-◌, ◌*◌, ◌/◌, ◌%◌, ◌≤◌, Bool, List, ◌∷◌, ◌++◌, length, take, drop, replicate, slice_index, slice_range, if◌then◌else◌}
 use Rattle.std.specs.Int.{w32, to_le_bytes, from_le_bytes}
 use Rattle.dfu_suffix.specs.Register.{register}
@@ -8,7 +7,7 @@ use Rattle.dfu_suffix.specs.Register.{register}
 abbrev pub slot_size : List ℕ → ℕ
 slot_size bytes = length bytes / 2
 
--- Where the first slot begins, or the second.
+-- Place at which the first slot begins, or the second.
 abbrev pub slot_place : Bool → List ℕ → ℕ
 slot_place first bytes = if first then 0 else slot_size bytes
 
@@ -20,7 +19,7 @@ capacity g bytes = slot_size bytes - 2 * g
 abbrev pub ArePlaces : List ℕ → ℕ → ℕ → Type 0
 ArePlaces bytes at other = ((at ≡ 0) × (other ≡ slot_size bytes)) ⊎ ((at ≡ slot_size bytes) × (other ≡ 0))
 
--- What is in a slot: the gate, the 16 bytes of the header, the data.
+-- Content of a slot: the gate, the 16 bytes of the header, the data.
 pub record Slot : Type 0 where
   pub gate : ℕ
   pub header : List ℕ

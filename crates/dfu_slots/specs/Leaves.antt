@@ -1,4 +1,4 @@
--- What each call that changes a store leaves, whatever it returns.
+-- State that each call that changes a store leaves, whatever it returns.
 use Rattle.std.specs.Prelude.{◌≡◌, ◌⊎◌, ◌↔◌, ℕ, ◌+◌, ◌≤◌, ◌<◌, Bool, true, false, List, ◌++◌, length, take, Result, OnOk, OnErr, IsErrOf}
 use Rattle.dfu_slots.specs.declared.fault.PutFault.{PutFault}
 use Rattle.dfu_slots.specs.declared.fault.PutFault.TheVariants.{TooLarge, NotBegun}
@@ -9,13 +9,13 @@ use Rattle.dfu_slots.specs.Seen.{Call, Begin, Put, Commit, DidCall}
 use Rattle.dfu_slots.specs.Store.{IsStore}
 use Rattle.dfu_slots.specs.Changes.{IsBroken, ending_of, Changes}
 
--- Whether the spare's gate is as a call needs it: `put` and `commit` need it closed.
+-- True if the spare's gate is as a call needs it: `put` and `commit` need it closed.
 abbrev pub is_ready : SlotsState → Call → Bool
 is_ready s Begin = true
 is_ready s (Put at bytes) = is_begun s
 is_ready s (Commit len) = is_begun s
 
--- How far into the spare's data a call goes.
+-- Bytes of the spare's data up to which a call goes.
 abbrev pub reach : Call → ℕ
 reach Begin = 0
 reach (Put at bytes) = at + length bytes
@@ -28,7 +28,7 @@ pub record Refuses {T : Type 0} (s : SlotsState) (kind : Call) (result : Result 
   -- TooLarge comes exactly if the gate is as it should be, and the call goes past the room.
   pub too_large : IsErrOf result TooLarge ↔ ((is_ready s kind ≡ true) × (room_of s < reach kind))
 
--- What `begin`, `put` and `commit` all leave.
+-- State that `begin`, `put` and `commit` all leave.
 pub record CallLeaves {T : Type 0} (old : SlotsState) (kind : Call) (result : Result T PutFault) (now : SlotsState) : Type 0 where
   pub refuses : Refuses old kind result
   -- A call that is not refused made all its writes, or was broken off by the fault that it returns.
@@ -59,7 +59,7 @@ pub record BeginLeaves {T : Type 0} (old : SlotsState) (result : Result T PutFau
   pub shut : OnOk result (is_begun now ≡ true)
   pub spare : OnOk result (spare_of now ≡ (spare_slot old).data_bytes)
 
--- What a `put` of these bytes there leaves.
+-- State that a `put` of these bytes there leaves.
 pub record PutLeaves {T : Type 0} (old : SlotsState) (at : ℕ) (bytes : List ℕ) (result : Result T PutFault)
     (now : SlotsState) : Type 0 where
   pub common : CallLeaves old (Put at bytes) result now
@@ -74,7 +74,7 @@ pub record PutLeaves {T : Type 0} (old : SlotsState) (at : ℕ) (bytes : List �
   pub gate : OnOk result ((spare_slot now).gate ≡ (spare_slot old).gate)
   pub shut : OnOk result (is_begun now ≡ is_begun old)
 
--- What a `commit` of so many bytes leaves.
+-- State that a `commit` of so many bytes leaves.
 pub record CommitLeaves {T : Type 0} (old : SlotsState) (len : ℕ) (result : Result T PutFault) (now : SlotsState) : Type 0 where
   pub common : CallLeaves old (Commit len) result now
   -- Ok makes the first `len` bytes of the spare's data the active image.
@@ -84,7 +84,7 @@ pub record CommitLeaves {T : Type 0} (old : SlotsState) (len : ℕ) (result : Re
   -- After Ok nothing is held back, and the puts end at 0.
   pub done : OnOk result (now ≡ store_on now.medium)
 
--- What `arm`, `arm_lie` and `disarm` leave: the same store over a medium with this fuse.
+-- State that `arm`, `arm_lie` and `disarm` leave: an equal store over a medium with this fuse.
 pub record FuseLeaves (old : SlotsState) (fuse : Fuse) (now : SlotsState) : Type 0 where
   pub medium : now ≡ fused old fuse
   pub store : IsStore now

@@ -1,10 +1,10 @@
--- What a medium is seen as, and what a write may do to it.
+-- View of a medium, and the effects that a write may have on it.
 use Rattle.std.specs.Prelude.{◌≡◌, ◌≢◌, ◌⊎◌, ℕ, ◌+◌, ◌-◌, ◌^◌, ◌%◌, ◌≤◌, ◌<◌, min, max, Bool, true, false, List, [], ◌∷◌, ◌++◌, length, take, drop, replicate, slice_index, slice_range}
 use Rattle.dfu_slots.specs.Units.{Grain}
 use Rattle.dfu_slots.specs.declared.fault.WriteFault.{WriteFault}
 use Rattle.dfu_slots.specs.declared.fault.WriteFault.TheVariants.{Failed, NotVerified}
 
--- What the next writes of a medium will do.
+-- Behaviour of the next writes of a medium.
 pub data Fuse : Type 0 where
   -- The fuse is unknown: any write may fail.
   Unknown : Fuse

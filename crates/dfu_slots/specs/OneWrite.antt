@@ -42,7 +42,7 @@ module _ (old : List ℕ) (at : ℕ) (new : List ℕ) where
   works_known (Lying n tear) g k (inr (e, same, a)) = subst IsKnown (sym a) tt
   works_known Stopped g k a = absurd a
 
-  -- What a write with a fault leaves is one, and so is the fuse after it.
+  -- The bytes that a write with a fault leaves are one, and so is the fuse after it.
   breaks_one : (f : Fuse) (w : WriteFault) (l r : List ℕ) (g h : Fuse) → IsKnown f → MayFail f w old at new l g
       → MayFail f w old at new r h → (l ≡ r) × (g ≡ h)
   breaks_one Unknown w l r g h k a b = absurd k
@@ -125,6 +125,6 @@ module _ (w : Write) (s t x y : MediumState) (same : Same s t) where
 pub known_next : (w : Write) (s x : MediumState) → IsKnown s.fuse → WroteBytes s w.at w.bytes x → IsKnown x.fuse
 known_next w s x k a = works_known s.bytes w.at w.bytes s.fuse x.fuse k a.fuse
 
--- The same holds the other way round.
+-- Media that are the same are so the other way round.
 pub flip : (s t : MediumState) → Same s t → Same t s
 flip s t same = record { bytes = sym same.bytes; fuse = sym same.fuse; grain = sym same.grain }

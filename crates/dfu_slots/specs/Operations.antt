@@ -40,7 +40,7 @@ op_at [] n = None
 op_at (o ∷ os) zero = Some o
 op_at (o ∷ os) (suc n) = op_at os n
 
--- Where an operation begins.
+-- Place at which an operation begins.
 abbrev pub op_place : Op → ℕ
 op_place (Erase at) = at
 op_place (Program at source skip len) = at
@@ -49,7 +49,7 @@ op_place (Program at source skip len) = at
 abbrev pub close_ops : Grain → ℕ → List Op
 close_ops grain slot = (if grain.sector == 0 then Program slot Closed 0 (gate_size grain.unit) else Erase slot) ∷ []
 
--- Where the bytes held back belong in a slot that begins there.
+-- Place at which the bytes held back belong in a slot that begins there.
 abbrev pub held_from : Grain → ℕ → ℕ → ℕ → ℕ
 held_from grain slot end held = slot + 2 * gate_room grain + (end - held)
 

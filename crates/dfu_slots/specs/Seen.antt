@@ -1,4 +1,4 @@
--- What the layers above see of a slot store.
+-- View that the layers above have of a slot store.
 use Rattle.std.specs.Prelude.{refl, ◌≡◌, ◌⊎◌, ℕ, ◌+◌, ◌-◌, ◌*◌, ◌^◌, ◌≤◌, Bool, not, ◌==◌, ◌&&◌, nat_le, List, [], ◌∷◌, ◌++◌, length, take}
 use Rattle.dfu_suffix.specs.Register.{register}
 use Rattle.dfu_slots.specs.declared.fault.WriteFault.{WriteFault}
@@ -29,11 +29,11 @@ fused s fuse = record s { medium = record s.medium { fuse = fuse } }
 abbrev pub store_restarted : SlotsState → Fuse → SlotsState
 store_restarted s fuse = store_on (record s.medium { fuse = fuse })
 
--- What is in the active slot, if the medium has an active image.
+-- Content of the active slot, if the medium has an active image.
 abbrev pub active_slot : SlotsState → Slot
 active_slot s = slot (gate_of s.medium) s.medium.bytes (active_at (gate_of s.medium) s.medium.bytes)
 
--- What is in the spare slot.
+-- Content of the spare slot.
 abbrev pub spare_slot : SlotsState → Slot
 spare_slot s = spare (gate_of s.medium) s.medium.bytes
 
@@ -41,11 +41,11 @@ spare_slot s = spare (gate_of s.medium) s.medium.bytes
 unfoldable pub image_of : SlotsState → List ℕ
 image_of s = take (header_length (active_slot s)) (active_slot s).data_bytes
 
--- Where the held bytes belong in the spare's data.
+-- Place at which the held bytes belong in the spare's data.
 abbrev pub held_at : SlotsState → ℕ
 held_at s = s.put_end - length s.held
 
--- Where this place of the spare's data is on the medium.
+-- Place on the medium of this place of the spare's data.
 abbrev pub data_place : SlotsState → ℕ → ℕ
 data_place s at = spare_at (gate_of s.medium) s.medium.bytes + 2 * gate_of s.medium + at
 
@@ -53,15 +53,15 @@ data_place s at = spare_at (gate_of s.medium) s.medium.bytes + 2 * gate_of s.med
 unfoldable pub spare_of : SlotsState → List ℕ
 spare_of s = written (spare_slot s).data_bytes (held_at s) s.held
 
--- Whether the spare's gate is closed, so that `put` and `commit` may write.
+-- True if the spare's gate is closed, so that `put` and `commit` may write.
 unfoldable pub is_begun : SlotsState → Bool
 is_begun s = not ((spare_slot s).gate == OPEN)
 
--- How many bytes an image may have.
+-- Most bytes of an image.
 unfoldable pub room_of : SlotsState → ℕ
 room_of s = capacity (gate_of s.medium) s.medium.bytes
 
--- Whether the spare's data fills the room, of at most 2^24 bytes, and the image fits in it.
+-- True if the spare's data fills the room, of at most 2^24 bytes, and the image fits in it.
 abbrev pub is_shaped : SlotsState → Bool
 is_shaped s = (length (spare_of s) == room_of s) && (nat_le (room_of s) (2 ^ 24) && nat_le (length (image_of s)) (room_of s))
 
@@ -78,13 +78,13 @@ writes_of s (Put at bytes) = put_writes s.medium.grain (data_place s (at - lengt
 writes_of s (Commit len) = part_writes s.medium.grain (data_place s (held_at s)) s.held ++ commit_writes
     s.medium.grain s.medium.bytes len (register (take len (spare_of s)))
 
--- What a store holds back after a call that is Ok.
+-- Bytes that a store holds back after a call that is Ok.
 abbrev pub next_held : SlotsState → Call → List ℕ
 next_held s Begin = []
 next_held s (Put at bytes) = put_rest s.medium.grain.unit s.held bytes
 next_held s (Commit len) = []
 
--- Where its puts end then.
+-- Place at which its puts end then.
 abbrev pub next_end : Call → ℕ
 next_end Begin = 0
 next_end (Put at bytes) = at + length bytes
@@ -106,7 +106,7 @@ pub record CallFailed (fault : WriteFault) (old : SlotsState) (call : Call) (now
   pub held_is : now.held ≡ []
   pub end_is : now.put_end ≡ 0
 
--- How a call ended: all its writes worked, or one had this fault and none came after it.
+-- Ending of a call: all its writes worked, or one had this fault and none came after it.
 pub data Ending : Type 0 where
   AllWorked : Ending
   BrokenBy : WriteFault → Ending

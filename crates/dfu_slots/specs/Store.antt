@@ -1,4 +1,4 @@
--- What is true of every slot store.
+-- Facts of every slot store.
 use Rattle.std.specs.Prelude.{◌≡◌, ◌≤◌, ◌%◌, length}
 use Rattle.dfu_slots.specs.Units.{unit_size}
 use Rattle.dfu_slots.specs.Medium.{IsAhead}

@@ -10,7 +10,7 @@ unit_size U16 = 16
 unit_size U64 = 64
 unit_size U256 = 256
 
--- How a medium is written: in this unit, and erased in sectors of so many bytes before; at 0 it is written over in place.
+-- Grain in which a medium is written: in this unit, and erased in sectors of so many bytes before; at 0 it is written over in place.
 pub record Grain : Type 0 where
   pub unit : WriteUnit
   pub sector : ℕ

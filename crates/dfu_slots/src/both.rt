@@ -1,4 +1,4 @@
-//! What one look at a medium shows of both its slots.
+//! Look at both slots of a medium at once.
 ghost use Rattle.std.specs.Prelude.{◌≡◌, ℕ, OnOk, IfOk, IfErr, IfSome, IfNone};
 ghost use Rattle.dfu_slots.specs.Layout.{slot_size, HasHeader};
 ghost use Rattle.dfu_slots.specs.Image.{gate_of, IsSized, slot_of, Counts, counts, active_at, spare_at, HasImage};
@@ -9,16 +9,16 @@ use crate::places::{Counted, count_slots, find_places, has_newest, is_none};
 use crate::read::header_len;
 use crate::{Medium, OpenFault, Places};
 
-/// Where the slots of a medium with an active image are, and whether the spare one has an image too.
+/// Places of the slots of a medium with an active image, and whether the spare one has an image too.
 #[derive(Clone, Copy, Drop)]
 pub struct Both {
-    /// Where the active slot and the spare one begin.
+    /// Places at which the active slot and the spare one begin.
     pub places: Places,
-    /// How long the image in the spare slot is, if that counts and its header is well formed.
+    /// Length of the image in the spare slot, if that counts and its header is well formed.
     pub spare_len: Option<u32>,
 }
 
-// How long the image in the spare slot is, if that counts and its header is well formed.
+// Returns the length of the image in the spare slot, if that counts and its header is well formed.
 fn spare_len<M: Medium>(medium: &M, spare: u32, counted: Counted) -> Option<u32>
     requires sized { IsSized (M.state medium.now) }
     requires spare { spare ≡ spare_at (gate_of (M.state medium.now)) (M.state medium.now).bytes }
@@ -40,8 +40,8 @@ fn spare_len<M: Medium>(medium: &M, spare: u32, counted: Counted) -> Option<u32>
     header_len(medium, spare)
 }
 
-/// Where the slots of a medium with an active image are, and how long the image in the spare slot is, if that has one; or else the first
-/// fault. It reads what `check` reads.
+/// Returns the places of the slots of a medium with an active image, and the length of the image in the spare slot, if that has one; or
+/// else the first fault. It reads what `check` reads.
 ///
 /// # Errors
 ///

@@ -9,7 +9,7 @@ use crate::layout::MAX_UNIT;
 use crate::read::stands_at;
 use crate::{Medium, WriteFault};
 
-/// Whether so many bytes from there on are FFh.
+/// Returns whether so many bytes from there on are FFh.
 pub(crate) fn is_blank<M: Medium>(medium: &M, at: u32, len: u32) -> bool
     requires { at + len ≤ length (M.state medium.now).bytes }
     ensures { IsTrue result ↔ IsBlank (M.state medium.now).bytes at len }

@@ -1,4 +1,4 @@
-//! How a medium is laid out: its unit, and of each slot the gate, the header, and the data.
+//! Layout of a medium: its unit, and of each slot the gate, the header, and the data.
 ghost use Rattle.std.specs.Prelude.{◌≡◌, ◌%◌, ◌^◌, ◌<◌, ◌≤◌, ◌↔◌, get_or, take, drop, IsTrue};
 ghost use Rattle.std.specs.Int.{w32, from_le_bytes};
 ghost use Rattle.dfu_slots.specs.Units.{unit_size, gate_size, gate_room, fill_size};
@@ -7,19 +7,19 @@ ghost use Rattle.dfu_slots.specs.Image.{gate_of, IsSized, capacity_of};
 
 use crate::Medium;
 
-/// How many bytes the header has, and how many the gate unit and the header unit have at least.
+/// Bytes of the header, and the fewest bytes of the gate unit and the header unit.
 const HEADER_SIZE: u32 = 16;
 
-/// How many bytes the largest unit has.
+/// Bytes of the largest unit.
 pub const MAX_UNIT: usize = 256;
 
-/// How many bytes a sector has at least, and of how many it is a multiple.
+/// Fewest bytes of a sector, whose size is a multiple of this.
 pub const PAGE: u32 = 256;
 
-/// How many bytes a sector may have at most.
+/// Most bytes of a sector.
 pub const MAX_SECTOR: u32 = 1 << 17;
 
-/// How many bytes of data a slot may have at most.
+/// Most bytes of data of a slot.
 pub const MAX_CAPACITY: u32 = 1 << 24;
 
 /// The first byte of an open gate unit; any other byte is a closed gate.
@@ -28,7 +28,7 @@ pub const OPEN_GATE: u8 = 0xa5;
 /// The first byte of a gate unit that is written to close it.
 pub const CLOSED_GATE: u8 = 0x00;
 
-/// How many bytes a medium writes at a time: the place and the length of a write are multiples of it.
+/// Bytes that a medium writes at a time: the place and the length of a write are multiples of it.
 #[derive(Clone, Copy, Drop)]
 pub enum Unit {
     /// One byte: any place and any length.
@@ -42,7 +42,7 @@ pub enum Unit {
 }
 
 impl Unit {
-    /// How many bytes it has: 1, 16, 64 or 256.
+    /// Returns the bytes of the unit: 1, 16, 64 or 256.
     pub fn size(self) -> u32
         ensures value { result ≡ unit_size self }
         ensures some { 0 < result }
@@ -57,7 +57,7 @@ impl Unit {
     }
 }
 
-/// How many bytes the gate unit has, and as many the header unit, from 16 to 256.
+/// Returns the bytes of the gate unit, from 16 to 256; the header unit has as many.
 pub(crate) fn gate_size(unit: Unit) -> u32
     ensures value { result ≡ gate_size unit }
     ensures least { 16 ≤ result }
@@ -66,14 +66,14 @@ pub(crate) fn gate_size(unit: Unit) -> u32
     HEADER_SIZE.max(unit.size())
 }
 
-/// How many bytes the gate of a slot takes up, and its header as many: 16, a unit or a sector, whichever is most.
+/// Returns the bytes that the gate of a slot takes up, and its header as many: 16, a unit or a sector, whichever is most.
 pub(crate) fn gate_room(unit: Unit, sector: u32) -> u32
     ensures { result ≡ gate_room (record { unit = unit; sector = sector }) }
 {
     gate_size(unit).max(sector)
 }
 
-/// How many zeros fill so many bytes up to the end of a unit, from 0 to 255.
+/// Returns the number of zeros that fill so many bytes up to the end of a unit, from 0 to 255.
 pub(crate) fn fill_size(unit: Unit, len: u32) -> u32
     ensures value { result ≡ fill_size unit len }
     ensures most { result < 256 }
@@ -82,14 +82,14 @@ pub(crate) fn fill_size(unit: Unit, len: u32) -> u32
     (size - len % size) % size
 }
 
-/// How many bytes the gate of a slot takes up, and its header as many: 16, a unit or a sector, whichever is most.
+/// Returns the bytes that the gate of a slot takes up, and its header as many: 16, a unit or a sector, whichever is most.
 pub fn gate_of<M: Medium>(medium: &M) -> u32
     ensures { result ≡ gate_of (M.state medium.now) }
 {
     gate_room(medium.unit(), medium.sector())
 }
 
-/// How many bytes of data each slot has.
+/// Returns the bytes of data of each slot.
 pub fn capacity_of<M: Medium>(medium: &M) -> u32
     requires { IsSized (M.state medium.now) }
     ensures { result ≡ capacity_of (M.state medium.now) }
@@ -97,21 +97,21 @@ pub fn capacity_of<M: Medium>(medium: &M) -> u32
     medium.len() / 2 - 2 * gate_of(medium)
 }
 
-// Whether the store takes sectors of so many bytes: 0, or a multiple of 256 up to 131,072.
+// Returns whether the store takes sectors of so many bytes: 0, or a multiple of 256 up to 131,072.
 fn is_sector(sector: u32) -> bool
     ensures { IsTrue result ↔ ((sector % 256 ≡ 0) × (sector ≤ 2 ^ 17)) }
 {
     sector % PAGE == 0 && sector <= MAX_SECTOR
 }
 
-// Whether a length is a multiple of the unit's size, and of the sector's.
+// Returns whether a length is a multiple of the unit's size, and of the sector's.
 fn is_whole(unit: Unit, sector: u32, len: u32) -> bool
     ensures { IsTrue result ↔ ((len % unit_size unit ≡ 0) × (0 < sector → len % sector ≡ 0)) }
 {
     len % unit.size() == 0 && (sector == 0 || len % sector == 0)
 }
 
-/// Whether the medium has a length that two slots can have, with whole units and sectors of data each.
+/// Returns whether the medium has a length that two slots can have, with whole units and sectors of data each.
 pub fn is_sized<M: Medium>(medium: &M) -> bool
     ensures { IsTrue result ↔ IsSized (M.state medium.now) }
 {
@@ -166,7 +166,7 @@ fn rest_in(header: &[u8; 16]) -> u32
     u32::from_le_bytes([header[12], header[13], header[14], header[15]])
 }
 
-/// Whether a header is of this version with this register, and well formed, whatever its generation and its length are.
+/// Returns whether a header is of this version with this register, and well formed, whatever its generation and its length are.
 pub(crate) fn is_header(found: &[u8; 16], version: u8, register: u32) -> bool
     ensures { IsTrue result ↔ (found.now ≡
         header version (get_or found.now 0 0) (from_le_bytes w32 (take 4 (drop 4 found.now))) register) }
@@ -186,7 +186,7 @@ pub(crate) fn is_header(found: &[u8; 16], version: u8, register: u32) -> bool
     rest_in(found) == 0
 }
 
-/// Whether a header is of this version with this register, and well formed, with a length up to the room.
+/// Returns whether a header is of this version with this register, and well formed, with a length up to the room.
 pub(crate) fn is_formed(found: &[u8; 16], room: u32, version: u8, register: u32) -> bool
     ensures { let len = from_le_bytes w32 (take 4 (drop 4 found.now)) in
         IsTrue result ↔ ((found.now ≡ header version (get_or found.now 0 0) len register) × (len ≤ room)) }

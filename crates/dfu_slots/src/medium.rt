@@ -24,7 +24,7 @@ pub trait Medium: Drop {
     /// that is always the same: what the tag says is for the implementer to choose.
     ghost state: { Self → MediumState };
 
-    /// How many bytes it has, always the same.
+    /// Returns the bytes of the medium, always the same number.
     fn len(&self) -> u32
         ensures { result ≡ length (state self.now).bytes };
 
@@ -32,14 +32,13 @@ pub trait Medium: Drop {
     fn unit(&self) -> Unit
         ensures { result ≡ (state self.now).grain.unit };
 
-    /// How many bytes are erased at a time, always the same. At 0 it is written over in place, and never erased. The store
+    /// Returns the bytes that are erased at a time, always the same number. At 0 it is written over in place, and never erased. The store
     /// takes 0 and the multiples of 256 up to 131,072. All sectors have this size: of a part with others show a run of equal ones.
     fn sector(&self) -> u32
         ensures { result ≡ (state self.now).grain.sector };
 
-    /// Whether the register over its images goes by a table of 64 bytes, in over four times as many instructions, and not
-    /// by those of 8,192 bytes. It is the same register. If all media of a program return the constant `true`, it links
-    /// without the large tables.
+    /// Returns whether the register over its images goes by a table of 64 bytes, in over four times as many instructions, and not by those
+    /// of 8,192 bytes. It is the same register. If all media of a program return the constant `true`, it links without the large tables.
     fn has_small_tables(&self) -> bool {
         false
     }

@@ -3,7 +3,7 @@
 use crate::Failed;
 use arrayvec::ArrayVec;
 
-/// How a write ended.
+/// End of a write.
 #[derive(Clone, Copy)]
 pub enum WriteEnd {
     Worked,
@@ -37,7 +37,7 @@ impl Default for WriteNote {
 pub struct LastWrites {
     /// The last 16 of them, in their order.
     pub notes: ArrayVec<WriteNote, 16>,
-    /// How many there were, at most 2^64 - 1.
+    /// Number of writes, at most 2^64 - 1.
     pub count: u64,
 }
 
@@ -60,7 +60,7 @@ impl LastWrites {
     }
 }
 
-/// How a write with this result ended, by whether it was set to lie.
+/// Returns the end of a write with this result, by whether it was set to lie.
 pub(crate) fn ended(lies: bool, answer: Result<(), Failed>) -> WriteEnd {
     match answer {
         Ok(()) if lies => WriteEnd::Lied,

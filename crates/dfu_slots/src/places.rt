@@ -1,4 +1,4 @@
-//! Where the active slot and the spare one are.
+//! Places of the active slot and the spare one.
 ghost use Rattle.std.specs.Prelude.{◌≡◌, ◌+◌, ◌≤◌, ◌&&◌, not, length, OnOk, IfOk, IfErr};
 ghost use Rattle.dfu_slots.specs.Layout.{slot_size, slot_place};
 ghost use Rattle.dfu_slots.specs.Image.{gate_of, IsSized, slot_of, counts, is_newest, active_at, spare_at, HasImage};
@@ -8,23 +8,23 @@ use crate::layout::is_sized;
 use crate::read::{counts, generation, header_len};
 use crate::{Medium, OpenFault};
 
-/// Where the active slot and the spare one begin.
+/// Places at which the active slot and the spare one begin.
 #[derive(Clone, Copy, Drop)]
 pub struct Places {
-    /// Where the active slot begins.
+    /// Place at which the active slot begins.
     pub active: u32,
-    /// Where the spare slot begins.
+    /// Place at which the spare slot begins.
     pub spare: u32,
 }
 
-/// Which of the two slots count.
+/// Slots that count, of the two.
 #[derive(Clone, Copy, Drop)]
 pub struct Counted {
     pub first: bool,
     pub second: bool,
 }
 
-/// Which of the two slots count. The whole image of an open slot of version 2 is read once, for its register.
+/// Finds the slots that count, of the two. The whole image of an open slot of version 2 is read once, for its register.
 pub(crate) fn count_slots<M: Medium>(medium: &M) -> Counted
     requires { IsSized (M.state medium.now) }
     ensures first { result.first ≡ counts (slot_of (M.state medium.now) 0) }
@@ -36,14 +36,14 @@ pub(crate) fn count_slots<M: Medium>(medium: &M) -> Counted
     }
 }
 
-/// Whether neither slot counts.
+/// Returns whether neither slot counts.
 pub(crate) fn is_none(counted: Counted) -> bool
     ensures { result ≡ (not counted.first && not counted.second) }
 {
     !counted.first && !counted.second
 }
 
-// Whether the first of two slots counts, and the other one does not, or is one generation behind.
+// Returns whether the first of two slots counts, and the other one does not, or is one generation behind.
 fn is_newest<M: Medium>(
     medium: &M,
     mine: u32,
@@ -62,7 +62,7 @@ fn is_newest<M: Medium>(
         && (!other_counts || generation(medium, mine) == generation(medium, other).wrapping_add(1))
 }
 
-/// Where the slots are, if the first one or else the second one is active.
+/// Returns the places of the slots, if the first one or else the second one is active.
 pub(crate) fn places_of<M: Medium>(medium: &M, first: bool) -> Places
     ensures active { result.active ≡ slot_place first (M.state medium.now).bytes }
     ensures spare { result.spare ≡ slot_place (not first) (M.state medium.now).bytes }
@@ -81,7 +81,7 @@ pub(crate) fn places_of<M: Medium>(medium: &M, first: bool) -> Places
     }
 }
 
-/// Where the two slots are; if neither is the newest, as if the second were.
+/// Returns the places of the two slots; if neither is the newest, as if the second were.
 pub(crate) fn find_places<M: Medium>(medium: &M, counted: Counted) -> Places
     requires sized { IsSized (M.state medium.now) }
     requires first { counted.first ≡ counts (slot_of (M.state medium.now) 0) }
@@ -94,7 +94,7 @@ pub(crate) fn find_places<M: Medium>(medium: &M, counted: Counted) -> Places
     places_of(medium, first)
 }
 
-/// Whether the slot that was found to be the active one is the newest.
+/// Returns whether the slot that was found to be the active one is the newest.
 pub(crate) fn has_newest<M: Medium>(medium: &M, places: Places, counted: Counted) -> bool
     requires sized { IsSized (M.state medium.now) }
     requires active { places.active ≡ active_at (gate_of (M.state medium.now)) (M.state medium.now).bytes }
@@ -120,7 +120,7 @@ pub(crate) fn look<M: Medium>(medium: &M) -> Places
     find_places(medium, count_slots(medium))
 }
 
-/// Where the slots of a medium with an active image are, or else its first fault.
+/// Returns the places of the slots of a medium with an active image, or else its first fault.
 pub fn check<M: Medium>(medium: &M) -> Result<Places, OpenFault>
     ensures ok { OnOk result (HasImage (M.state medium.now)) }
     ensures active { IfOk result (λ p. p.active ≡ active_at (gate_of (M.state medium.now)) (M.state medium.now).bytes) }

@@ -1,4 +1,4 @@
-//! What was put since `begin`: whole units go to the medium as they come, and the rest is held back.
+//! Bytes that were put since `begin`: whole units go to the medium as they come, and the rest is held back.
 ghost use Rattle.std.specs.Prelude.{◌≡◌, ◌+◌, ◌≤◌, ◌<◌, ◌++◌, [], length, OnOk};
 ghost use Rattle.dfu_slots.specs.Units.{IsMultiple, unit_size};
 ghost use Rattle.dfu_slots.specs.Medium.{IsAhead};
@@ -18,7 +18,7 @@ use arrayvec::ArrayVec;
 pub struct Puts {
     /// The bytes held back, fewer than a unit has.
     pub held: ArrayVec<u8, MAX_UNIT>,
-    /// Where the puts end in the spare's data.
+    /// Place at which the puts end in the spare's data.
     pub end: u32,
 }
 

@@ -1,4 +1,4 @@
-//! What is read of the slots of a medium.
+//! Readings of the slots of a medium.
 ghost use Rattle.std.specs.Prelude.{◌≡◌, ℕ, ◌+◌, ◌*◌, ◌≤◌, ◌<◌, length, take, slice_index, slice_range, ◌==◌, ◌↔◌, IfSome, IfNone, IsTrue};
 ghost use Rattle.std.specs.Int.{w32, from_le_bytes};
 ghost use Rattle.dfu_slots.specs.Layout.{OPEN, slot_size, generation, header_version, HasHeader};
@@ -18,7 +18,7 @@ use crate::layout::{
 };
 use crate::register::register_of;
 
-// How many bytes are read back at a time.
+// Bytes that are read back at a time.
 const READ_BACK_BYTES: usize = 256;
 
 /// The byte at this place.
@@ -31,7 +31,7 @@ pub(crate) fn byte_at<M: Medium>(medium: &M, at: u32) -> u8
     byte[0]
 }
 
-// Whether two pieces of one length have the same bytes. It is much less code than `==`.
+// Returns whether two pieces of one length have the same bytes. It is much less code than `==`.
 fn are_same(read: &[u8], piece: &[u8]) -> bool
     requires { length read.now ≡ length piece.now }
     ensures { IsTrue result ↔ (read.now ≡ piece.now) }
@@ -46,7 +46,7 @@ fn are_same(read: &[u8], piece: &[u8]) -> bool
     true
 }
 
-/// Whether exactly these bytes are there. It reads them in pieces.
+/// Returns whether exactly these bytes are there. It reads them in pieces.
 pub(crate) fn stands_at<M: Medium>(medium: &M, at: u32, bytes: &[u8]) -> bool
     requires within { at + length bytes.now ≤ length (M.state medium.now).bytes }
     ensures { IsTrue result ↔ (slice_range (M.state medium.now).bytes at (at + length bytes.now) ≡ bytes.now) }
@@ -68,7 +68,7 @@ pub(crate) fn stands_at<M: Medium>(medium: &M, at: u32, bytes: &[u8]) -> bool
     true
 }
 
-/// Whether the slot that begins there is open.
+/// Returns whether the slot that begins there is open.
 pub fn is_open<M: Medium>(medium: &M, at: u32) -> bool
     requires { at < length (M.state medium.now).bytes }
     ensures { result ≡ ((slot_of (M.state medium.now) at).gate == OPEN) }
@@ -87,7 +87,7 @@ pub fn header_of<M: Medium>(medium: &M, at: u32) -> [u8; 16]
     header
 }
 
-// Whether the slot that begins there has a well-formed header of version 2: its register is that of the image.
+// Returns whether the slot that begins there has a well-formed header of version 2: its register is that of the image.
 fn is_intact<M: Medium>(medium: &M, at: u32) -> bool
     requires sized { IsSized (M.state medium.now) }
     requires within { at + slot_size (M.state medium.now).bytes ≤ length (M.state medium.now).bytes }
@@ -101,7 +101,7 @@ fn is_intact<M: Medium>(medium: &M, at: u32) -> bool
     is_header(&header, VERSION, register_of(medium, at, len))
 }
 
-/// Whether the slot that begins there counts.
+/// Returns whether the slot that begins there counts.
 pub(crate) fn counts<M: Medium>(medium: &M, at: u32) -> bool
     requires sized { IsSized (M.state medium.now) }
     requires within { at + slot_size (M.state medium.now).bytes ≤ length (M.state medium.now).bytes }
@@ -140,7 +140,7 @@ pub(crate) fn header_len<M: Medium>(medium: &M, at: u32) -> Option<u32>
     }
 }
 
-/// Where the data of the slot that begins there begins.
+/// Returns the place at which the data of the slot begins.
 pub fn data_at<M: Medium>(medium: &M, slot_at: u32) -> u32
     requires sized { IsSized (M.state medium.now) }
     requires slot { slot_at + slot_size (M.state medium.now).bytes ≤ length (M.state medium.now).bytes }

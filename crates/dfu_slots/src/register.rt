@@ -9,7 +9,7 @@ use crate::Medium;
 use crate::read::read_data;
 use dfu_suffix::Crc;
 
-// How many bytes are read at a time.
+// Bytes that are read at a time.
 const REGISTER_BYTES: u32 = 64;
 
 // Takes more bytes of an image, by the tables that the medium has chosen.

@@ -22,7 +22,7 @@ impl From<AllocError> for NoMemory {
     }
 }
 
-/// What the next writes do.
+/// Behaviour of the next writes.
 #[derive(Clone, Copy, Drop)]
 pub enum Mode {
     /// They all work.
@@ -35,7 +35,7 @@ pub enum Mode {
     Stopped,
 }
 
-/// What the next writes do, and how often one has failed.
+/// Behaviour of the next writes, and the count of those that failed.
 #[derive(Drop)]
 pub struct SimFuse {
     failures: u64,
@@ -46,7 +46,7 @@ pub struct SimFuse {
 }
 
 impl SimFuse {
-    /// Whether the next write lies.
+    /// Returns whether the next write lies.
     fn lies(&self) -> bool {
         matches!(self.mode, Mode::Lying) && self.writes == 0
     }
@@ -59,7 +59,7 @@ pub struct SimMedium {
     fuse: SimFuse,
     unit: Unit,
     sector: u32,
-    // What an erase writes: FFh over a sector.
+    // Bytes that an erase writes: FFh over a sector.
     blank: Vec<u8>,
     noted: LastWrites,
 }
@@ -168,7 +168,7 @@ fn tear_front(bytes: &mut Vec<u8>, at: usize, tear: &[u8], len: usize)
     write_over(bytes, at, &tear[..len.min(tear.len())]);
 }
 
-// What the writes after a failed one do.
+// Returns the behaviour of the writes after a failed one.
 fn after_tear(stop: bool) -> Mode
     ensures { result ≡ (if stop then Mode.Stopped else Mode.Whole) }
 {

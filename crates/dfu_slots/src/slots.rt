@@ -114,7 +114,7 @@ impl<M: Medium> Slots<M> {
         }
     }
 
-    /// How many bytes an image may have: C, from 1 to 16,777,216.
+    /// Returns the most bytes of an image: C, from 1 to 16,777,216.
     pub fn capacity(&self) -> u32
         ensures value { result ≡ capacity_of self.now.medium }
         ensures room { result ≡ room_of self.now }
@@ -124,7 +124,7 @@ impl<M: Medium> Slots<M> {
         capacity_of(&self.medium)
     }
 
-    /// Where the puts since `begin` end: 0 if there are none, at most the capacity. Nothing is held back at 0.
+    /// Returns the place at which the puts since `begin` end: 0 if there are none, at most the capacity. Nothing is held back at 0.
     pub fn put_end(&self) -> u32
         ensures value { result ≡ self.now.put_end }
         ensures room { result ≤ room_of self.now }
@@ -141,7 +141,7 @@ impl<M: Medium> Slots<M> {
         self.puts.held.as_slice()
     }
 
-    /// Whether the gate of the spare slot is closed, so that `put` and `commit` are not refused with `NotBegun`.
+    /// Returns whether the gate of the spare slot is closed, so that `put` and `commit` are not refused with `NotBegun`.
     #[tactic(auto, unfolding(crate::specs::Seen::is_begun))]
     pub fn is_begun(&self) -> bool
         ensures { result ≡ is_begun self.now }
@@ -149,7 +149,7 @@ impl<M: Medium> Slots<M> {
         !is_open(&self.medium, self.places.spare)
     }
 
-    /// How many bytes the active image has, from 0 to the capacity.
+    /// Returns the length of the active image, from 0 to the capacity.
     pub fn active_len(&self) -> u32
         ensures image { result ≡ length (image_of self.now) }
         ensures active { Active self.now.medium (image_of self.now) }
@@ -161,7 +161,7 @@ impl<M: Medium> Slots<M> {
         }
     }
 
-    /// Where the first byte of the active image is on the medium: a program may run it there. It holds until the next `commit`.
+    /// Returns the place of the first byte of the active image on the medium: a program may run it there. It holds until the next `commit`.
     pub fn image_at(&self) -> u32
         ensures value { let m = self.now.medium in result ≡ active_at (gate_of m) m.bytes + 2 * gate_of m }
         ensures within { result + length (image_of self.now) ≤ length self.now.medium.bytes }

@@ -24,7 +24,7 @@ pub record IsFunctional (f : Functional) (b : List ℕ) : Type 0 where
   pub version : slice_index b 0 ≡ 9 → f.version ≡ slice_index b 7 + 256 * slice_index b 8
   pub no_version : slice_index b 0 ≡ 7 → f.version ≡ 0x0100
 
--- Whether a bit of a number is 1, bit 0 being the lowest.
+-- True if a bit of a number is 1, bit 0 being the lowest.
 abbrev pub has_bit : (number bit : ℕ) → Bool
 has_bit number bit = not (bit_and number (2 ^ bit) == 0)
 

@@ -1,4 +1,4 @@
--- What a setup asks for: the table of the requests (USB DFU 1.1, section 3).
+-- Request that a setup brings: the table of the requests (USB DFU 1.1, section 3).
 use Rattle.std.specs.Prelude.{◌≡◌, ℕ, ◌⊎◌, List, codes}
 use Rattle.dfu_wire.specs.declared.setups.Setup.{Setup}
 use Rattle.dfu_wire.specs.declared.requests.Request.{Request}

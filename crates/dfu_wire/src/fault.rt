@@ -1,4 +1,4 @@
-//! Why bytes or numbers are not a value of the wire.
+//! Faults of bytes or numbers that are not a value of the wire.
 
 ghost use Rattle.std.specs.Prelude.{◌≡◌};
 ghost use Rattle.dfu_wire.specs.FaultName.{wire_fault_name};
@@ -6,7 +6,7 @@ ghost use Rattle.dfu_wire.specs.FaultName.{wire_fault_name};
 use std::fmt;
 use thiserror::Error;
 
-/// Why bytes or numbers are not a value of the wire. Each reader says in which order it looks.
+/// Faults of bytes or numbers that are not a value of the wire. Each reader says in which order it looks.
 #[derive(Clone, Copy, Debug, Error)]
 pub enum WireFault {
     /// There are fewer bytes than the value has: no bytes of a functional descriptor, or fewer than its

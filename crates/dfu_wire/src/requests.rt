@@ -1,4 +1,4 @@
-//! What a setup asks for (USB DFU 1.1, section 3).
+//! Request that a setup brings (USB DFU 1.1, section 3).
 
 ghost use Rattle.std.specs.Prelude.{◌≡◌, ◌↔◌, ◌⊎◌, IfSome, IsNone, Some};
 ghost use Rattle.dfu_wire.specs.Request.{Asks, IsNamed, IsPlain, IsUnnamed, request_name};
@@ -7,7 +7,7 @@ ghost use Rattle.dfu_wire.specs.declared.setups.Setup.{Setup};
 use crate::Setup;
 use crate::setups::{IN, OUT};
 
-/// What a setup asks for: one of the seven requests, or another.
+/// Request that a setup brings: one of the seven requests, or another.
 ///
 /// | Request | Kind | Number | Value | Length |
 /// |---|---|---|---|---|

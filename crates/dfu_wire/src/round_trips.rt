@@ -1,4 +1,4 @@
-//! What was written is read back: each function writes its argument and reads the bytes again.
+//! Round trips: each function writes its argument, reads the bytes again, and gets what was written.
 
 ghost use Rattle.std.specs.Prelude.{◌≡◌, ◌↔◌, ◌⊎◌, Ok, IfSome, IsNone};
 ghost use Rattle.dfu_wire.specs.Request.{IsUnnamed};

@@ -66,7 +66,7 @@ impl Status {
         self.code
     }
 
-    /// How long the host is to wait before it asks again: 0 to 16,777,215 milliseconds.
+    /// Returns the time that the host must wait before it asks again: 0 to 16,777,215 milliseconds.
     pub fn poll_ms(&self) -> u32
         ensures value { result ≡ self.now.poll_ms }
         ensures fits { result < 2 ^ 24 }

@@ -30,14 +30,14 @@ compared_as same = heard.Compared same
 abbrev pub heard_nothing : Heard
 heard_nothing = heard.Nothing
 
--- What holds of each kind of command holds of a command.
+-- A fact of each kind of command holds of a command.
 abbrev pub by_command {ℓ} : (P : Command → Type ℓ) → ((at : ℕ) → P (command.SetAddress at)) → ((at : ℕ) → P (command.ErasePage at)) →
     ((at : ℕ) → P (command.Write at)) → (c : Command) → P c
 by_command P set erase write (command.SetAddress at) = set at
 by_command P set erase write (command.ErasePage at) = erase at
 by_command P set erase write (command.Write at) = write at
 
--- What holds of each thing that is heard holds of what is heard.
+-- A fact of each thing that is heard holds of what is heard.
 abbrev pub by_heard {ℓ} : (P : Heard → Type ℓ) → P heard.Acked → ((s : Status) → P (heard.Told s)) → ((s : State) → P (heard.StateIs s)) →
     ((same : Bool) → P (heard.Compared same)) → P heard.Stalled → P heard.Nothing → P heard.Waited → P heard.Restarted → (h : Heard) → P h
 by_heard P acked told state_is compared stalled nothing waited restarted heard.Acked = acked

@@ -1,4 +1,4 @@
--- Which bytes come next in an image whose elements are apart.
+-- Bytes that come next in an image whose elements are apart.
 use Rattle.std.proofs.Common.{◌≡◌, ℕ, ◌<◌, ◌≤◌, ◌&&◌, inl, inr, max, Bool, true, false, cond, ltb, leb, List, [], ◌∷◌, Option, Some, None, refl, sym, ap, ◌∙◌, arith}
 use Rattle.std.proofs.lemmas.Bool.{ltb-false, leb-true}
 use Rattle.dfu_formats.specs.declared.dfuse.element.Element.{Element}

@@ -1,4 +1,4 @@
--- What counts as read back after each thing that a session hears.
+-- Bytes that count as read back after each thing that a session hears.
 use Rattle.std.proofs.Common.{◌≡◌, ℕ, zero, suc, pred, ◌⊎◌, inl, true, refl, subst}
 use Rattle.dfuse_host.specs.declared.phase.Phase.{Phase}
 use Rattle.dfuse_host.specs.declared.phase.Phase.TheVariants.{On, Over}

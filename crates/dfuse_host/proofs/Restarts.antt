@@ -1,4 +1,4 @@
--- What holds of each session that is over, and of each that goes on after a restart, holds within the budget and after a restart.
+-- A fact of each session that is over, and of each that goes on after a restart, holds within the budget and after a restart.
 use Rattle.std.proofs.Common.{ℕ, zero, suc, pred}
 use Rattle.dfuse_host.specs.declared.plan.Plan.{Plan}
 use Rattle.dfuse_host.specs.declared.phase.Phase.{Phase}
@@ -19,7 +19,7 @@ module _ (P : Phase → Type 0) (over : (r : Report) → P (Over r)) where
   at_spent_at work.Leave s = over _
   at_spent_at w s = over _
 
-  -- What holds of a phase holds of it within the budget.
+  -- A fact of a phase holds of it within the budget.
   pub at_budgeted : (n : ℕ) (p : Phase) → P p → P (dfuse_budgeted n p)
   at_budgeted n (Over r) h = over r
   at_budgeted zero (On s) h = at_spent_at s.work s.step
@@ -36,7 +36,7 @@ module _ (P : Phase → Type 0) (over : (r : Report) → P (Over r)) where
     at_restarted_leaving s p step.ClosePoll = at_budgeted (pred s.actions) (Over (report.Verified leaving.Unknown)) (over _)
     at_restarted_leaving s p at = at_restarted s (resumed s.plan work.Leave p at) s.restarts (at_resumed s.plan work.Leave p at)
 
-    -- What holds of each phase in which a session goes on after a restart holds after a restart.
+    -- A fact of each phase in which a session goes on after a restart holds after a restart.
     pub at_restart : (s : Session) (w : Work) (p : Place) (at : Step) → P (restarted_in s w p at).phase
     at_restart s work.Leave p at = at_restarted_leaving s p at
     at_restart s w p at = at_restarted s (resumed s.plan w p at) s.restarts (at_resumed s.plan w p at)

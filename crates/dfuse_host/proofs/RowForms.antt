@@ -1,4 +1,4 @@
--- What the table's rows have in common.
+-- Facts that the table's rows have in common.
 use Rattle.std.proofs.Common.{◌≡◌, ℕ, true, false, refl, sym, subst}
 use Rattle.dfu_wire.specs.declared.codes.Code.{Code}
 use Rattle.dfu_wire.specs.declared.codes.Code.TheVariants as code

@@ -1,4 +1,4 @@
--- What counts as read back after each row of the table.
+-- Bytes that count as read back after each row of the table.
 use Rattle.std.proofs.Common.{◌≡◌, ℕ, zero, suc, ◌≤◌, ◌⊎◌, inl, inr, true, sym, subst}
 use Rattle.std.proofs.lemmas.Bool.{cases_lt}
 use Rattle.dfuse_host.specs.declared.plan.Plan.{Plan}

@@ -47,7 +47,7 @@ plan_after s (On at) h = plan_told s at.work at.place at.step h
 
 -- ---- a run
 
--- What a session has to be for its bytes to be counted.
+-- Facts of a session whose bytes are counted.
 record Counts (s : Session) (a : ℕ) : Type 0 where
   apart : apart_from 0 s.plan.image.now ≡ true
   has : HasByte a s.plan.image.now

@@ -1,4 +1,4 @@
--- What counts as read back once the device is ready for a command.
+-- Bytes that count as read back once the device is ready for a command.
 use Rattle.std.proofs.Common.{◌≡◌, ℕ, ◌<◌, ◌≤◌, ◌⊎◌, inl, inr, true, Option, Some, None, refl, arith}
 use Rattle.std.proofs.lemmas.Bool.{cases_lt}
 use Rattle.dfuse_host.specs.declared.plan.Plan.{Plan}
@@ -74,7 +74,7 @@ module _ (plan : Plan) (a : ℕ) (apart : apart_from 0 plan.image.now ≡ true) 
   unfolding to_erase
   at_erase p at h = erase_by p (byte_in plan at (image_end plan.image.now)) h
 
-  -- What counts as read back counted in the work that goes on.
+  -- A byte that counts as read back counted in the work that goes on.
   pub at_settle : (w : Work) (p : Place) → WasReadIn plan (settle plan w p) a → WasRead plan w a
   unfolding settle
   at_settle (work.Erase at) p h = at_erase p at h

@@ -1,4 +1,4 @@
--- Which bytes a session comes to.
+-- Bytes to which a session comes.
 use Rattle.std.proofs.Common.{◌≡◌, ℕ, ◌<◌, ◌≤◌, ◌||◌, inl, inr, max, Bool, true, false, cond, eqb, ltb, List, [], ◌∷◌, length, Option, Some, None, refl, ap, ◌∙◌, arith}
 use Rattle.std.proofs.lemmas.Bool.{ltb-true}
 use Rattle.std.proofs.lemmas.Bool.Decides.{nat_tests}
@@ -75,7 +75,7 @@ holder at [] b = absurd b
 holder at (e ∷ es) b = holder_by at e es (holds at e) refl (element_step at e es)
     (λ none. elim b [ inl w ↦ absurd (not_held at e none w.0 w.1) | inr w ↦ holder at es w ])
 
--- What is written at once is of the image, and on one page.
+-- The bytes that are written at once are of the image, and on one page.
 pub writes_only : (plan : Plan) (at end : ℕ) → HasByte at plan.image.now → ChangesOnly plan end (command.Write at)
 unfolding write_end
 writes_only plan at end b = λ a low high.

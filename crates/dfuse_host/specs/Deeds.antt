@@ -1,4 +1,4 @@
--- What a session does at each step.
+-- Deed of a session at each step.
 use Rattle.std.specs.Prelude.{ℕ, ◌+◌, ◌-◌, ◌/◌, ◌%◌, ◌^◌, List, [], ◌∷◌, length}
 use Rattle.std.specs.Int.{w32, to_le_bytes}
 use Rattle.dfu_wire.specs.declared.requests.Request.{Request}

@@ -1,4 +1,4 @@
--- What a session knows of the address pointer after a restart.
+-- Knowledge of a session of the address pointer after a restart.
 use Rattle.std.specs.Prelude.{◌≡◌}
 use Rattle.dfuse_host.specs.declared.phase.Phase.{Phase}
 use Rattle.dfuse_host.specs.declared.phase.Phase.TheVariants.{On, Over}

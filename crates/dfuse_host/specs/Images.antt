@@ -1,4 +1,4 @@
--- Which bytes an image has, by their addresses.
+-- Bytes of an image, by their addresses.
 use Rattle.std.specs.Prelude.{ℕ, ◌+◌, ◌&&◌, nat_lt, nat_le, max, Bool, List, [], ◌∷◌, length, Option, Some, None, if◌then◌else◌}
 use Rattle.dfu_formats.specs.declared.dfuse.element.Element.{Element}
 

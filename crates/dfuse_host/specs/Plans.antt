@@ -1,4 +1,4 @@
--- What a plan says of addresses.
+-- Addresses of a plan.
 use Rattle.std.specs.Prelude.{ℕ, ◌+◌, ◌^◌, nat_lt, min, max, Option, Some, None, if◌then◌else◌}
 use Rattle.dfu_formats.specs.declared.memory.pages.Page.{Page}
 use Rattle.dfu_formats.specs.memory.Lookups.{page_at}

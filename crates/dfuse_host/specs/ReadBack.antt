@@ -1,4 +1,4 @@
--- Which bytes of an image were read back since they were last written.
+-- Bytes of an image that were read back since they were last written.
 use Rattle.std.specs.Prelude.{◌≡◌, ℕ, ◌<◌, ◌≤◌, ◌⊎◌, true, List, [], ◌∷◌}
 use Rattle.dfu_formats.specs.declared.dfuse.element.Element.{Element}
 use Rattle.dfuse_host.specs.declared.plan.Plan.{Plan}
@@ -40,7 +40,7 @@ abbrev pub SaysRead : Report → Type 0
 SaysRead (report.Verified leaving) = Unit {0}
 SaysRead r = ⊥
 
--- The same, in a phase.
+-- A session in this phase has read the byte back.
 abbrev pub WasReadIn : Plan → Phase → ℕ → Type 0
 WasReadIn plan (On s) a = WasRead plan s.work a
 WasReadIn plan (Over r) a = SaysRead r
@@ -50,7 +50,7 @@ abbrev pub ReadsBack : Plan → Work → Step → Heard → ℕ → Type 0
 ReadsBack plan w step.Read (heard.Compared true) a = (stands_at w ≤ a) × (a < read_end plan (stands_at w) (end_of_work plan w))
 ReadsBack plan w s h a = ⊥
 
--- The same, in a phase.
+-- A session in this phase reads the byte back.
 abbrev pub ReadsBackIn : Plan → Phase → Heard → ℕ → Type 0
 ReadsBackIn plan (On s) h a = ReadsBack plan s.work s.step h a
 ReadsBackIn plan (Over r) h a = ⊥
@@ -62,7 +62,7 @@ Closes w step.CloseProbe = w ≡ work.Leave
 Closes w step.ClosePoll = w ≡ work.Leave
 Closes w s = Unit {0}
 
--- The same, in a phase.
+-- A session in this phase asks the device to leave only once all was compared.
 abbrev pub ClosesIn : Phase → Type 0
 ClosesIn (On s) = Closes s.work s.step
 ClosesIn (Over r) = Unit {0}

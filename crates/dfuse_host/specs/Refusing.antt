@@ -1,4 +1,4 @@
--- When a plan is refused.
+-- Refusals of a plan.
 use Rattle.std.specs.Prelude.{◌≡◌, ℕ, ◌==◌, ◌&&◌, ◌||◌, nat_le, Bool, true, false, List, [], ◌∷◌, length}
 use Rattle.dfu_formats.specs.declared.memory.pages.Access.{Access}
 use Rattle.dfu_formats.specs.declared.memory.pages.Pages.{Pages}
@@ -29,7 +29,7 @@ abbrev pub EachGranted : Access → List Pages → List Element → Type 0
 EachGranted wanted ranges [] = Unit {0}
 EachGranted wanted ranges (e ∷ es) = AllGranted wanted e.address (end_of e) ranges × EachGranted wanted ranges es
 
--- What may be wanted of pages.
+-- Access that may be wanted of pages.
 abbrev pub wants : (reads erases writes : Bool) → Access
 wants r e w = record { is_readable = r; is_erasable = e; is_writable = w }
 

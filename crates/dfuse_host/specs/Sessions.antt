@@ -32,7 +32,7 @@ dfuse_begun plan limits = record {
   restarts = limits.restarts;
 }
 
--- Whether the device was asked to leave by now, and what came of it is open.
+-- Tells whether the device was asked to leave by now, so that it is open if it left.
 abbrev pub left_at : Step → Leaving
 left_at step.Close = leaving.Unknown
 left_at step.CloseProbe = leaving.Unknown
@@ -81,7 +81,7 @@ abbrev pub restarted_in : Session → Work → Place → Step → Session
 restarted_in s work.Leave p at = restarted_leaving s p at
 restarted_in s w p at = dfuse_restarted s (resumed s.plan w p at) s.restarts
 
--- What is heard: a restart, or else what the table's row takes.
+-- Session after something is heard: a restart, or else what the table's row takes.
 abbrev pub dfuse_told : Session → Work → Place → Step → Heard → Session
 dfuse_told s w p at heard.Restarted = restarted_in s w p at
 dfuse_told s w p at h = dfuse_spent s (row s.plan w p at h) s.restarts
@@ -95,16 +95,16 @@ dfuse_after_phase s (On at) h = dfuse_told s at.work at.place at.step h
 abbrev pub dfuse_after : Session → Heard → Session
 dfuse_after s h = dfuse_after_phase s s.phase h
 
--- What a session that is asked for its next action answers: the action of its phase, as setup and body.
+-- A session that is asked for its next action answers with the action of its phase, as setup and body.
 abbrev pub DfuseAct : Session → Action → Type 0
 DfuseAct s action = DfuseSpells (dfuse_deed s.plan s.phase) action
 
--- What is seen in a phase, as it is understood; it doesn't matter if the session is over.
+-- The result of an action in a phase, as it is understood; it doesn't matter if the session is over.
 abbrev pub HearsIn : Plan → Phase → Seen → Heard → Type 0
 HearsIn plan (On s) seen h = DfuseHears plan s.work s.step seen h
 HearsIn plan (Over r) seen h = Unit {0}
 
--- What a session becomes by what it sees: the bytes are understood as its step says, and the table gives the rest.
+-- A session becomes, by what it sees, the session of its row: the bytes are understood as its step says, and the table gives the rest.
 pub record SessionRow (s : Session) (seen : Seen) (s' : Session) : Type 0 where
   pub heard : Heard
   pub hears : HearsIn s.plan s.phase seen heard
@@ -121,7 +121,7 @@ abbrev pub DfuseIsOver : Phase → Type 0
 DfuseIsOver (Over r) = Unit {0}
 DfuseIsOver (On s) = ⊥
 
--- How often a session in this phase takes what is seen, at most, until it is over.
+-- Number of times that a session in this phase takes what is seen, at most, until it is over.
 abbrev pub dfuse_takes_in : Phase → (actions : ℕ) → ℕ
 dfuse_takes_in (Over r) actions = 0
 dfuse_takes_in (On s) actions = max 1 actions

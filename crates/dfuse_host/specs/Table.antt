@@ -86,7 +86,7 @@ abbrev pub on_send : Work → Place → Heard → Phase
 on_send w p heard.Acked = stand w p (step.Poll 0)
 on_send w p h = stand w p step.Probe
 
--- Whether the command came: the question starts nothing. One that isn't there is sent again.
+-- Phase after the question if the command came: the question starts nothing. One that isn't there is sent again.
 abbrev pub probed : Plan → Work → Place → State → Phase
 probed plan w p state.DownloadSync = stand w p (step.Poll 0)
 probed plan w p state.DfuIdle = stand w p step.Send
@@ -112,7 +112,7 @@ polled plan w p c poll state.DownloadIdle = done plan w (command_of plan w p)
 polled plan w p c poll state.Error = refused plan w p c
 polled plan w p c poll s = unsure plan w (command_of plan w p)
 
--- How long is waited for a status that is stalled: as long as the device last said, or 100 milliseconds.
+-- Milliseconds to wait for a status that is stalled: as long as the device last said, or 100 milliseconds.
 abbrev pub stalled_ms : ℕ → ℕ
 stalled_ms last = if last == 0 then 100 else last
 

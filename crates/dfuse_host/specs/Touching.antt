@@ -1,4 +1,4 @@
--- Which parts of the memory a session changes.
+-- Parts of the memory that a session changes.
 use Rattle.std.specs.Prelude.{◌≡◌, ℕ, ◌<◌, ◌≤◌, false}
 use Rattle.dfuse_host.specs.declared.plan.Plan.{Plan}
 use Rattle.dfuse_host.specs.declared.phase.Phase.{Phase}
@@ -31,7 +31,7 @@ Touches plan (work.Write at end) = HasByte at plan.image.now × (front_end plan 
 Touches plan (work.WriteFront at) = HasByte at plan.image.now
 Touches plan w = Unit {0}
 
--- The same, in a phase.
+-- This holds of the work of a phase.
 abbrev pub TouchesIn : Plan → Phase → Type 0
 TouchesIn plan (On s) = Touches plan s.work
 TouchesIn plan (Over r) = Unit {0}

@@ -1,4 +1,4 @@
--- What of the table goes over the wire: actions as setups, and what is seen as what is understood.
+-- Parts of the table that go over the wire: actions as setups, and what is seen as what is understood.
 use Rattle.std.specs.Prelude.{◌≡◌, ◌≢◌, ℕ, ◌==◌, List, [], ◌∷◌, length, if◌then◌else◌}
 use Rattle.std.specs.Str.{bytes_eq}
 use Rattle.dfu_wire.specs.declared.setups.Setup.{Setup}
@@ -69,7 +69,7 @@ DfuseHearsBytes plan w step.BeginReading bytes h = h ≡ heard.Nothing
 DfuseHearsBytes plan w step.EndReading bytes h = h ≡ heard.Nothing
 DfuseHearsBytes plan w step.Close bytes h = h ≡ heard.Nothing
 
--- What is seen at a step, as it is understood. Whether it fits the step is the table's matter.
+-- The result at a step, as it is understood. The table decides whether it fits the step.
 abbrev pub DfuseHears : Plan → Work → Step → Seen → Heard → Type 0
 DfuseHears plan w s (seen.Bytes bytes) h = DfuseHearsBytes plan w s bytes.now h
 DfuseHears plan w s seen.Ack h = h ≡ heard.Acked

@@ -1,8 +1,8 @@
-//! What a session asks its caller to do.
+//! Actions that a session asks its caller to do.
 
 use crate::report::Report;
 
-/// What a session asks its caller to do.
+/// Actions that a session asks its caller to do.
 #[derive(Clone, Copy)]
 pub enum Action<'f> {
     /// Send this request with this body: bytes of the image with a DNLOAD, else nothing. The answer is asked for if the setup's

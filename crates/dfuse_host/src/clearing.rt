@@ -14,7 +14,7 @@ use crate::step::Step;
 use crate::work::Work;
 use dfu_wire::{Code, State, Status};
 
-/// How long is waited for a status that was asked for too early, in milliseconds.
+/// Milliseconds to wait for a status that was asked for too early.
 pub(crate) const TOO_EARLY_MS: u32 = 100;
 
 /// The device is in dfuERROR while bytes are read back.

@@ -11,7 +11,7 @@ use crate::settling::stand;
 use crate::step::Step;
 use crate::work::Work;
 
-/// What a DNLOAD asks for.
+/// Command that a DNLOAD brings.
 #[derive(Clone, Copy)]
 pub(crate) enum Command {
     /// Set the address pointer.

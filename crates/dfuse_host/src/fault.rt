@@ -1,9 +1,9 @@
-//! Why a plan is refused.
+//! Faults for which a plan is refused.
 
 use std::fmt;
 use thiserror::Error;
 
-/// Why a plan is refused, before anything is sent: the first of these that holds.
+/// Faults for which a plan is refused before anything is sent: the first of these that holds.
 #[derive(Clone, Copy, Debug, Error)]
 pub enum PlanFault {
     /// The transfer size is 0.

@@ -1,4 +1,4 @@
-//! What is understood of what is seen.
+//! Meaning of what is seen.
 
 ghost use Rattle.std.specs.Prelude.{◌≡◌};
 ghost use Rattle.dfuse_host.specs.Wire.{DfuseHears, DfuseHearsBytes, DfuseReadsState, DfuseReadsStatus, compared};
@@ -9,7 +9,7 @@ use crate::step::Step;
 use crate::work::Work;
 use dfu_wire::{State, Status};
 
-/// What is understood of what is seen of an action.
+/// Meaning of what is seen of an action.
 #[derive(Clone, Copy)]
 pub(crate) enum Heard {
     Acked,
@@ -59,7 +59,7 @@ fn compared(wanted: &[u8], bytes: &[u8]) -> Heard
 }
 
 impl Plan<'_> {
-    /// What bytes say that come at a step.
+    /// Returns the meaning of bytes that come at a step.
     fn answered(&self, work: Work, step: Step, bytes: &[u8]) -> Heard
         ensures { DfuseHearsBytes self.now work step bytes.now result }
     {
@@ -71,7 +71,7 @@ impl Plan<'_> {
         }
     }
 
-    /// What is understood of what is seen at a step.
+    /// Returns the meaning of what is seen at a step.
     pub(crate) fn hear(&self, work: Work, step: Step, seen: Seen<'_>) -> Heard
         ensures { DfuseHears self.now work step seen.entry result }
     {

@@ -1,4 +1,4 @@
-//! Which bytes an image has, by their addresses.
+//! Bytes of an image, by their addresses.
 
 ghost use Rattle.std.specs.Prelude.{◌≡◌, ◌≤◌, ◌<◌, ◌+◌, ◌^◌, length, IfSome};
 ghost use Rattle.dfuse_host.specs.Images.{end_of, holds, element_at, next_byte, image_start, image_end};
@@ -13,7 +13,7 @@ pub(crate) fn end_of(element: &Element<'_>) -> u64
     element.address as u64 + element.bytes.len() as u64
 }
 
-/// Whether an element has a byte for this address.
+/// Returns whether an element has a byte for this address.
 fn holds(at: u64, element: &Element<'_>) -> bool
     ensures { result ≡ holds at element.now }
 {

@@ -5,7 +5,7 @@ use crate::report::Report;
 use crate::step::Step;
 use crate::work::Work;
 
-/// What a session works at, what it knows of the device, and what it does next.
+/// Work of a session, with its knowledge of the device and its next step.
 #[derive(Clone, Copy)]
 pub struct Standing {
     pub work: Work,

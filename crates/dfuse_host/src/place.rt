@@ -1,6 +1,6 @@
-//! What is known of the device's address pointer.
+//! Knowledge of the device's address pointer.
 
-/// What is known of the device's address pointer, once the device is ready for a command.
+/// Knowledge of the device's address pointer, once the device is ready for a command.
 #[derive(Clone, Copy)]
 pub enum Place {
     /// Nothing.

@@ -1,4 +1,4 @@
-//! What a session is to do.
+//! Plan of a session.
 
 ghost use Rattle.std.specs.Prelude.{◌≡◌, ◌+◌, ◌≤◌, ◌<◌, ◌^◌, IfSome};
 ghost use Rattle.dfuse_host.specs.Plans.{page_of, page_start, page_end, element_end, front_end, block_size, write_end, read_end};
@@ -7,7 +7,7 @@ use crate::image::{element_at, end_of, image_start};
 use dfu_formats::dfuse::Element;
 use dfu_formats::memory::{Map, Page};
 
-/// What a session is to do.
+/// Plan of a session.
 #[derive(Clone, Copy)]
 pub struct Plan<'f> {
     /// The memory.
@@ -16,9 +16,9 @@ pub struct Plan<'f> {
     pub image: &'f [Element<'f>],
     /// The most bytes of a block.
     pub transfer: u16,
-    /// How many bytes of the image are written last of all, if its first element and its first page have that many.
+    /// Bytes of the image that are written last of all, if its first element and its first page have that many.
     pub front: u16,
-    /// Whether the device is to leave once all was compared.
+    /// Tells whether the device is to leave once all was compared.
     pub leaves: bool,
     /// The address at which it is to start its application.
     pub start: u32,

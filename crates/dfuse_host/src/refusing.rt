@@ -1,4 +1,4 @@
-//! When a plan is refused.
+//! Refusals of a plan.
 
 ghost use Rattle.std.specs.Prelude.{◌≡◌, ◌↔◌, IsTrue, IfErr, OnOk};
 ghost use Rattle.dfu_formats.specs.dfuse.Images.{ascends_from};
@@ -10,7 +10,7 @@ use crate::plan::Plan;
 use dfu_formats::dfuse::Element;
 use dfu_formats::memory::Access;
 
-/// Whether there is no element, or one without bytes.
+/// Returns whether there is no element, or one without bytes.
 #[tactic(auto, using(std::proofs::lemmas::Bool::Decides::nat_tests))]
 fn is_empty(image: &[Element<'_>]) -> bool
     ensures { result ≡ is_empty image.now }
@@ -18,7 +18,7 @@ fn is_empty(image: &[Element<'_>]) -> bool
     image.len() == 0 || has_empty(image)
 }
 
-/// Whether an element has no bytes.
+/// Returns whether an element has no bytes.
 #[tactic(auto, using(std::proofs::lemmas::Bool::Decides::nat_tests))]
 fn has_empty(image: &[Element<'_>]) -> bool
     ensures { result ≡ has_empty image.now }
@@ -31,7 +31,7 @@ fn has_empty(image: &[Element<'_>]) -> bool
     false
 }
 
-/// Whether no element begins before the one before it does.
+/// Returns whether no element begins before the one before it does.
 #[tactic(auto, using(std::proofs::lemmas::Bool::Decides::nat_tests))]
 fn ascends(image: &[Element<'_>]) -> bool
     ensures { result ≡ ascends_from 0 image.now }
@@ -46,7 +46,7 @@ fn ascends(image: &[Element<'_>]) -> bool
     true
 }
 
-/// Whether no element begins before the one before it ends.
+/// Returns whether no element begins before the one before it ends.
 #[tactic(auto, using(std::proofs::lemmas::Bool::Decides::nat_tests))]
 fn are_apart(image: &[Element<'_>]) -> bool
     ensures { result ≡ apart_from 0 image.now }
@@ -62,7 +62,7 @@ fn are_apart(image: &[Element<'_>]) -> bool
 }
 
 impl Plan<'_> {
-    /// Whether the pages of the image grant what is wanted.
+    /// Returns whether the pages of the image grant what is wanted.
     fn grants(&self, wanted: Access) -> bool
         ensures { IsTrue result ↔ Grants self.now wanted }
     {

@@ -1,8 +1,8 @@
-//! How a session ended.
+//! Reports with which a session ends.
 
 use dfu_wire::Code;
 
-/// Whether the device left for its application.
+/// Ways in which the device left for its application, or stayed.
 #[derive(Clone, Copy)]
 pub enum Leaving {
     /// It wasn't asked to.
@@ -13,7 +13,7 @@ pub enum Leaving {
     Unknown,
 }
 
-/// How a session ended.
+/// Report with which a session ended.
 #[derive(Clone, Copy)]
 pub enum Report {
     /// Each byte of the image was read back, and is the image's.

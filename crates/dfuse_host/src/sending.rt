@@ -36,7 +36,7 @@ pub(crate) fn on_poll_wait(work: Work, place: Place, ms: u32, heard: &Heard) -> 
     }
 }
 
-/// How long is waited for a status that is stalled.
+/// Returns the milliseconds to wait for a status that is stalled.
 #[tactic(auto, using(std::proofs::lemmas::Bool::Decides::nat_tests))]
 fn stalled_ms(last: u32) -> u32
     ensures { result ≡ stalled_ms last }

@@ -40,7 +40,7 @@ impl Plan<'_> {
         }
     }
 
-    /// Whether the bytes of an address can be asked for from the address to which the pointer was set.
+    /// Returns whether the bytes of an address can be asked for from the address to which the pointer was set.
     #[tactic(auto, using(std::proofs::lemmas::Bool::Decides::nat_tests), unfolding(crate::specs::Settling::can_read))]
     fn can_read(&self, base: u64, at: u64) -> bool
         ensures { result ≡ can_read self.now base at }

@@ -1,6 +1,6 @@
-//! What is done next of a work.
+//! Next step of a work.
 
-/// What is done next of a work. Times are in milliseconds.
+/// Next step of a work. Times are in milliseconds.
 #[derive(Clone, Copy)]
 pub enum Step {
     /// Drop with ABORT what was sent and not started, as by an earlier session. GETSTATUS would start it.

@@ -26,7 +26,7 @@ abbrev pub Spares : Chip → (a : ℕ) → Order → Type 0
 Spares chip a (Erases at) = Unit {0}
 Spares chip a order = MayChange chip order a → ⊥
 
--- What a device has to do writes nothing there.
+-- The work of a device writes nothing there.
 abbrev pub SparesIn : Chip → (a : ℕ) → Doing → Type 0
 SparesIn chip a (Rests s) = Unit {0}
 SparesIn chip a (Pending order) = Spares chip a order

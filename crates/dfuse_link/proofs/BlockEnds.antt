@@ -1,4 +1,4 @@
--- How far blocks go, and where a block can be read.
+-- Ends of blocks, and places at which a block can be read.
 use Rattle.std.proofs.Common.{◌≡◌, ℕ, ◌-◌, ◌/◌, ◌%◌, ◌<◌, ◌≤◌, max, Bool, true, false, eqb, leb, Option, Some, None, ap, refl, ◌∙◌, arith}
 use Rattle.std.proofs.lemmas.Bool.Decides.{nat_tests}
 use Rattle.std.proofs.lemmas.Bool.{and_from, le-leb, eq-eqb}

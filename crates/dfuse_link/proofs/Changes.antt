@@ -1,4 +1,4 @@
--- Which bytes an order may change, that others stay, and what is so after a stall.
+-- Bytes that an order may change; the others stay; and the facts after a stall.
 use Rattle.std.proofs.Common.{◌≡◌, ◌⊎◌, inl, inr, ℕ, ◌+◌, ◌<◌, ◌≤◌, true, sym, subst}
 use Rattle.dfu_wire.specs.declared.states.State.{State}
 use Rattle.dfu_wire.specs.declared.states.State.TheVariants as state
@@ -28,20 +28,20 @@ changed_stays chip a (Busy (Erases at)) memory memory' changed now = (changed a)
 changed_stays chip a (Busy (Programs at count)) memory memory' changed now = changed a now
 changed_stays chip a (Busy Other) memory memory' changed now = absurd (now tt)
 
--- What is so before a stall and in dfuERROR is so after it.
+-- A fact that holds before a stall and in dfuERROR holds after it.
 pub behind_stall : (P : Doing → Type 0) (before doing : Doing) → (doing ≡ before) ⊎ (doing ≡ Rests state.Error) → P before →
     P (Rests state.Error) → P doing
 behind_stall P before doing (inl e) same error = subst P (sym e) same
 behind_stall P before doing (inr e) same error = subst P (sym e) error
 
--- What is so of an order that waits stays so once it is set off.
+-- A fact of an order that waits stays so once it is set off.
 pub off_keeps : (P : Doing → Type 0) → ((order : Order) → P (Pending order) → P (Busy order)) → (doing : Doing) → P doing →
     P (set_off doing)
 off_keeps P sets (Rests s) h = h
 off_keeps P sets (Pending order) h = sets order h
 off_keeps P sets (Busy order) h = h
 
--- What is so in every state of a device at rest stays so once it reports its status.
+-- A fact of every state of a device at rest stays so once it reports its status.
 pub told_keeps : (P : Doing → Type 0) → ((s t : State) → P (Rests s) → P (Rests t)) → (doing : Doing) → P doing → P (told_of doing)
 told_keeps P rests (Rests state.DownloadSync) h = rests _ _ h
 told_keeps P rests (Rests state.DownloadBusy) h = rests _ _ h

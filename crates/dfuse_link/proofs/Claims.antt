@@ -1,4 +1,4 @@
--- What is so of a device at each step of a session.
+-- Facts of a device at each step of a session.
 use Rattle.std.proofs.Common.{◌≡◌, ℕ, ◌%◌, ◌^◌, true}
 use Rattle.dfu_wire.specs.declared.states.State.{State}
 use Rattle.dfu_wire.specs.declared.states.State.TheVariants as state
@@ -23,7 +23,7 @@ IsQuiet (Rests s) = Unit {0}
 IsQuiet (Pending order) = ⊥
 IsQuiet (Busy order) = ⊥
 
--- What the session knows of the pointer is so.
+-- The session's knowledge of the pointer is true.
 abbrev pub Knows : Place → (pointer : ℕ) → Type 0
 Knows place.Lost pointer = Unit {0}
 Knows (place.At p) pointer = pointer ≡ p % 2 ^ 32
@@ -34,7 +34,7 @@ abbrev pub IsOrderOf : AnyCommand → Order → Type 0
 IsOrderOf c order =
     by_command (λ _. Type 0) (λ at. order ≡ Points (at % 2 ^ 32)) (λ at. order ≡ Erases (at % 2 ^ 32)) (λ at. Unit {0}) c
 
--- What an order to erase reaches is blank.
+-- The bytes that an order to erase reaches are blank.
 abbrev pub IsBlanked : Chip → (at : ℕ) → (memory : ℕ → ℕ) → Type 0
 IsBlanked chip at memory = (a : ℕ) → chip.erases at a ≡ true → chip.blank (memory a) ≡ true
 
@@ -62,7 +62,7 @@ CanRead plan w place.Lost = ⊥
 CanRead plan w (place.At p) = ⊥
 CanRead plan w (place.Reading base) = can_read plan base (stands_at w) ≡ true
 
--- What is so at each step.
+-- The device has the order of the step, and its pointer is as the session knows it.
 abbrev pub Stands : Chip → Plan → Work → Place → Step → Device → Type 0
 Stands chip plan w p step.Send d = MayHave (command_of plan w p) d.doing × Knows p d.pointer
 Stands chip plan w p step.Probe d = MayHave (command_of plan w p) d.doing × Knows p d.pointer
@@ -73,7 +73,7 @@ Stands chip plan w p step.EndReading d = IsQuiet d.doing × Knows p d.pointer
 Stands chip plan w p step.Read d = IsQuiet d.doing × Knows p d.pointer × CanRead plan w p
 Stands chip plan w p s d = Unit {0}
 
--- The same, in a phase.
+-- The device stands so in a phase; once the session is over nothing is claimed.
 abbrev pub StandsIn : Chip → Plan → Phase → Device → Type 0
 StandsIn chip plan (On s) d = Stands chip plan s.work s.place s.step d
 StandsIn chip plan (Over r) d = Unit {0}

@@ -1,4 +1,4 @@
--- How long it takes to leave.
+-- Length of leaving.
 use Rattle.std.proofs.Common.{◌≡◌, ℕ, suc, ◌+◌, ◌*◌, Bool, true, false, cond, eqb, Option, Some, None, refl, ap, ◌∙◌, subst, arith}
 use Rattle.std.proofs.lemmas.Bool.{eq-eqb}
 use Rattle.dfuse_host.specs.declared.plan.Plan.{Plan}
@@ -28,7 +28,7 @@ settles_leave : (plan : Plan) (p : Place) → settle plan work.Leave p ≡ to_le
 unfolding settle
 settles_leave plan p = refl
 
--- How many requests and waits there are to leave, but for the ABORT that is owed.
+-- Number of requests and waits to leave, but for the ABORT that is owed.
 abbrev pub leave_takes : Plan → Option ℕ → Bool → ℕ
 leave_takes plan last t = cond t (4 * sets_to_start plan last + 2) 0
 

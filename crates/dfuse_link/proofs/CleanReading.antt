@@ -1,4 +1,4 @@
--- How long it takes to read back.
+-- Length of reading back.
 use Rattle.std.proofs.Common.{◌≡◌, ℕ, suc, ◌+◌, ◌*◌, ◌≤◌, Bool, true, false, cond, eqb, Option, Some, None, refl, sym, ap, ◌∙◌, subst, arith}
 use Rattle.std.proofs.lemmas.Bool.{eqb-true, eq-eqb}
 use Rattle.dfuse_host.specs.declared.plan.Plan.{Plan}
@@ -23,7 +23,7 @@ use Rattle.dfuse_link.proofs.NextBytes.{IsByteIn, byte_is}
 use Rattle.dfuse_link.proofs.BlockEnds.{reads_itself, read_goes}
 use Rattle.dfuse_link.proofs.CleanWriting.{place_of, owed}
 
--- How a work reads up to an end, and what is next.
+-- A work reads up to an end, and this is next.
 pub record IsReading (plan : Plan) (works : ℕ → Work) (here : Place → ℕ → Phase) (end : ℕ) (next : Place → Phase) : Type 0 where
   pub none : (p : Place) (at : ℕ) → byte_in plan at end ≡ None → here p at ≡ next p
   pub some : (p : Place) (at b : ℕ) → byte_in plan at end ≡ Some b → here p at ≡ stand (works b) p (comparing plan b p)

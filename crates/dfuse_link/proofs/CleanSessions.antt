@@ -1,4 +1,4 @@
--- How long a session lasts from which nothing gets lost.
+-- Length of a session from which nothing gets lost.
 use Rattle.std.proofs.Common.{◌≡◌, ℕ, suc, ◌+◌, ◌*◌, max, Bool, true, false, cond, Option, Some, None, refl, sym, ◌∙◌, arith}
 use Rattle.std.proofs.lemmas.Bool.{false_from_ne_true}
 use Rattle.dfuse_host.specs.declared.plan.Plan.{Plan}
@@ -24,7 +24,7 @@ is_filled plan ready = filled plan.image.now (false_from_ne_true (is_empty plan.
 not_both : (b : ℕ) → Some b ≡ None → ⊥
 not_both b e = cc
 
--- What was read in no blocks.
+-- Bytes that were read in no blocks.
 no_reads : (plan : Plan) (end : ℕ) (pointer : Option ℕ) (at sets k : ℕ) (last : Option ℕ) → BlocksRead plan end pointer at sets k last →
     byte_in plan at end ≡ None → (sets ≡ 0) × (k ≡ 0)
 no_reads plan end pointer at _ _ _ (no_read is) e = (refl, refl)

@@ -1,4 +1,4 @@
--- How long it takes to erase, and to write.
+-- Length of erasing, and of writing.
 use Rattle.std.proofs.Common.{◌≡◌, ℕ, suc, ◌+◌, ◌*◌, ◌<◌, ◌≤◌, Bool, false, cond, eqb, Option, Some, None, refl, ap, ◌∙◌, arith}
 use Rattle.std.proofs.lemmas.Bool.Decides.{nat_tests}
 use Rattle.std.proofs.lemmas.Bool.{eq-eqb}
@@ -56,7 +56,7 @@ erase_lasts plan n u at (suc k) (page byte is rest) l =
 
 -- ---- blocks that are written
 
--- How a work writes up to an end, and what is next.
+-- A work writes up to an end, and this is next.
 pub record IsWriting (plan : Plan) (works : ℕ → Work) (here : Place → ℕ → Phase) (end : ℕ) (next : Place → Phase) : Type 0 where
   pub none : (p : Place) (at : ℕ) → byte_in plan at end ≡ None → here p at ≡ next p
   pub some : (p : Place) (at b : ℕ) → byte_in plan at end ≡ Some b → here p at ≡ stand (works b) p (sending p)
@@ -98,7 +98,7 @@ module _ (plan : Plan) (filled : has_empty plan.image.now ≡ false) (works : �
       (omega arith)
       (block_lasts place.Lost at byte (8 * k + n) (2 * k + u) (byte_is plan at end byte filled is) refl more))
 
-  -- The same, if bytes were read before, from where nothing is written now.
+  -- Writing lasts as long if bytes were read before, from where nothing is written now.
   pub write_lasts_from : (pointer : Option ℕ) (n u at k : ℕ) → ((x : ℕ) → pointer ≡ Some x → end ≤ x) → BlocksWritten plan end at (suc k) →
       Lasts plan (next place.Lost) n u → Lasts plan (here (place_of pointer) at) (owed pointer + (8 * suc k + n)) (2 * suc k + u)
   write_lasts_from None n u at k apart blocks l =

@@ -1,4 +1,4 @@
--- What requests make of a device.
+-- Effect of requests on a device.
 use Rattle.std.proofs.Common.{◌≡◌, ℕ, List, [], Option, Some, ◌⊎◌, inl, inr, refl, sym, subst}
 use Rattle.dfu_wire.specs.declared.states.State.{State}
 use Rattle.dfu_wire.specs.declared.states.State.TheVariants as state
@@ -54,7 +54,7 @@ module _ (chip : Chip) where
       record { quiet = λ h. behind_reading s is; pointer = refl }
   upload_quiet d _ block n body _ (lists _ _ _ bytes may low) = record { quiet = λ h. tt; pointer = refl }
 
-  -- What each reaction keeps, all of them keep.
+  -- A fact that each reaction keeps is kept by all of them.
   pub kept : (P : Device → Type 0) (q : Request) (body : List ℕ) → ((d d' : Device) (r : Reaction) → Reacts chip d q body r d' → P d →
       P d') →
       (d d' : Device) (r : Option Reaction) → Arrives chip q body d r d' → P d → P d'

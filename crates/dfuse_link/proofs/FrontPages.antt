@@ -20,7 +20,7 @@ use Rattle.dfuse_link.proofs.OwnTurns.{is_filled}
 use Rattle.dfuse_link.proofs.Turns.{is_apart}
 use Rattle.dfuse_link.proofs.NextBytes.{some_bytes}
 
--- What the law of mixtures asks of a device and its plan.
+-- Facts of a device and its plan that the law of mixtures needs.
 pub record Mixable (chip : Chip) (plan : Plan) : Type 0 where
   pub for : IsFor chip plan
   pub apart : are_apart plan.map.now.ranges ≡ true
@@ -34,7 +34,7 @@ first_element e es h =
     let all = or_parts (eqb (length (e ∷ es)) 0) (has_empty (e ∷ es)) h in
     some_bytes e (or_parts (eqb (length e.bytes.now) 0) (has_empty es) all.1).0
 
--- What is so of the first byte.
+-- Facts of the first byte.
 record IsFirstByte (es : List Element) : Type 0 where
   has : HasByte (image_start es) es
   next : next_byte (image_start es) es ≡ Some (image_start es)
@@ -91,7 +91,7 @@ module _ (one : OnePage) (chip : Chip) (plan : Plan) (m : Mixable chip plan) whe
       page_start plan a ≡ page_start plan (image_start plan.image.now)
   of_front a has less = front_page a (from_start a plan.image.now (is_apart chip plan m.for) has, less)
 
-  -- What isn't on that page lies after the front.
+  -- A byte that isn't on that page lies after the front.
   pub behind_front : (a : ℕ) → HasByte a plan.image.now → IsElsewhere plan a → front_end plan ≤ a
   behind_front a has other = elim (cases_lt a (front_end plan)) [ inl w ↦ absurd (other (of_front a has w)) | inr w ↦ w ]
 

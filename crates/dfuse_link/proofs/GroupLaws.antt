@@ -1,4 +1,4 @@
--- How those works lead to each other.
+-- Steps from one of those works to another.
 use Rattle.std.proofs.Common.{◌≡◌, ℕ, ◌%◌, ◌^◌, inl, max, Bool, true, false, cond, eqb, refl, sym, ap, ◌∙◌, subst}
 use Rattle.dfuse_host.specs.declared.plan.Plan.{Plan}
 use Rattle.dfuse_host.specs.declared.phase.Phase.{Phase}

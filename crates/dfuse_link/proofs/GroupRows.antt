@@ -173,7 +173,7 @@ module _ (plan : Plan) (G : Work → Type 0) (B : Type 0) (r : IsGroup plan G B)
 
   -- ---- a row
 
-  -- What is so of the row if the step asks whether a command is done.
+  -- Fact of the row if the step asks whether a command is done.
   abbrev pub Asks : Step → AnyHeard → Type 0
   Asks (step.Poll last) h = GoesIn G B (on_poll plan w p last h)
   Asks s h = Unit {0}

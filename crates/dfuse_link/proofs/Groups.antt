@@ -88,7 +88,7 @@ module _ (one : OnePage) (chip : Chip) (plan : Plan) (m : Mixable chip plan) (G 
   unfolding to_write_front
   write_front_goes p at = write_front_by p at (byte_in plan at (front_end plan)) refl
 
-  -- The same of the works before.
+  -- The works before have these groups too.
   module _ (er : (at : ℕ) → G (work.Erase at)) (wr : (at end : ℕ) → G (work.Write at end)) (co : (at : ℕ) → G (work.Compare at)) where
     compare_by : (p : Place) (o : Option ℕ) → GoesIn G B (compare_or plan p o)
     compare_by p None = write_front_goes p (image_start plan.image.now)

@@ -1,4 +1,4 @@
--- What a session hears is what the device meant.
+-- A session hears what the device meant.
 use Rattle.std.proofs.Common.{◌≡◌, ℕ, List, [], ◌∷◌, Option, Some, None, slice_index_or, refl, sym, ap, ◌∙◌, subst}
 use Rattle.dfu_wire.specs.declared.states.State.{State}
 use Rattle.dfu_wire.specs.declared.requests.Request.TheVariants as request
@@ -74,7 +74,7 @@ status_heard bytes h d =
     (λ b r e. tt) (λ r e. tt) (λ r e. tt) (λ r e. tt) (λ r e. tt) h
 
 module _ (plan : Plan) (w : Work) (s : Step) (h : AnyHeard) (d : Device) where
-  -- What is heard of a request: with bytes this says what they show, and without them nothing is claimed.
+  -- Meaning of a request: with bytes this says what they show, and without them nothing is claimed.
   says_by : (P : Option Reaction → Type 0) → ((bytes given : List ℕ) → P (Some (Data bytes)) → given ≡ bytes →
       DfuseHearsBytes plan w s given h → SaysState h (state_in d.doing)) → (r : Option Reaction) (x : Seen) → IsSeenOf r x → P r →
       DfuseHears plan w s x h → SaysState h (state_in d.doing)
@@ -88,7 +88,7 @@ module _ (plan : Plan) (w : Work) (s : Step) (h : AnyHeard) (d : Device) where
   says_by P says (Some Stalls) (seen.Bytes given) is sent e = absurd is
   says_by P says None (seen.Bytes given) is sent e = absurd is
 
-  -- What is heard of GETSTATE.
+  -- Meaning of GETSTATE.
   pub says_state : ((bytes : List ℕ) → DfuseHearsBytes plan w s bytes h → DfuseReadsState bytes h) → (r : Option Reaction) (x : Seen) →
       IsSeenOf r x →
       StateSent r d → DfuseHears plan w s x h → SaysState h (state_in d.doing)
@@ -96,7 +96,7 @@ module _ (plan : Plan) (w : Work) (s : Step) (h : AnyHeard) (d : Device) where
       says_by (λ y. StateSent y d) (λ bytes given sends same heard.
       state_heard given h (state_in d.doing) (reads given heard) (same ∙ sends)) r x is sent e
 
-  -- What is heard of GETSTATUS.
+  -- Meaning of GETSTATUS.
   pub says_status : ((bytes : List ℕ) → DfuseHearsBytes plan w s bytes h → DfuseReadsStatus bytes h) → (r : Option Reaction) (x : Seen) →
       IsSeenOf r x →
       StatusSent r d → DfuseHears plan w s x h → SaysState h (state_in d.doing)

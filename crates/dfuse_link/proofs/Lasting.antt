@@ -1,4 +1,4 @@
--- How long clean runs last from a phase on.
+-- Length of clean runs from a phase on.
 use Rattle.std.proofs.Common.{◌≡◌, if◌then◌else◌, ℕ, zero, suc, pred, ◌+◌, ◌≤◌, List, [], ◌∷◌, refl, sym, ap, ◌∙◌, subst, arith}
 use Rattle.dfuse_host.specs.declared.plan.Plan.{Plan}
 use Rattle.dfuse_host.specs.declared.phase.Phase.{Phase}
@@ -32,7 +32,7 @@ waits_on x xs = omega arith
 abbrev pub leaving_of : Plan → Leaving
 leaving_of plan = if plan.leaves then leaving.Left else leaving.Stayed
 
--- What is seen in a phase of a clean run.
+-- Result that is seen in a phase of a clean run.
 abbrev IsCleanIn : Plan → Seen → Phase → Type 0
 IsCleanIn plan x (On at) = IsClean plan at.work at.step x
 IsCleanIn plan x (Over report) = ⊥
@@ -46,15 +46,15 @@ pub record Lasts (plan : Plan) (phase : Phase) (n u : ℕ) : Type 0 where
   pub runs : (actions restarts : ℕ) (seens : List Seen) (s : Session) → n ≤ actions →
       CleanSession (session_at plan phase actions restarts) seens s → EndsCounted plan n u seens s
 
--- The same, by other words for the numbers.
+-- Runs last as long by other words for the numbers.
 pub count_as : (plan : Plan) (phase : Phase) (n m u v : ℕ) → n ≡ m → u ≡ v → Lasts plan phase n u → Lasts plan phase m v
 count_as plan phase n m u v e f l = subst (λ (i : ℕ). Lasts plan phase i v) e (subst (λ (i : ℕ). Lasts plan phase n i) f l)
 
--- The same, of an equal phase.
+-- Runs last as long from an equal phase.
 pub phase_as : (plan : Plan) (p q : Phase) (n u : ℕ) → p ≡ q → Lasts plan q n u → Lasts plan p n u
 phase_as plan p q n u e l = subst (λ (x : Phase). Lasts plan x n u) (sym e) l
 
--- What a session hears leads to a phase from which on it lasts so long.
+-- Meaning that leads a session to a phase from which on it lasts so long.
 pub record Onward (plan : Plan) (w : Work) (p : Place) (s : Step) (h : AnyHeard) (n u : ℕ) : Type 0 where
   pub next : Phase
   pub lasts : Lasts plan next n u

@@ -1,4 +1,4 @@
--- What is so at each moment: the front is blank, or what isn't on its page is all old, or all new.
+-- Facts at each moment: the front is blank, or all that isn't on its page is old, or all new.
 use Rattle.std.proofs.Common.{◌≡◌, ℕ, ◌⊎◌, inl, inr, List, ◌∷◌, sym, ap, ◌∙◌, subst}
 use Rattle.dfu_formats.specs.memory.Lookups.{OnePage}
 use Rattle.dfuse_host.specs.declared.plan.Plan.{Plan}
@@ -50,7 +50,7 @@ Mix chip plan first p d =
     (InPhase (Erasing plan) p × Old chip plan first p d)
     ⊎ ((InPhase (Before plan) p × Blank chip plan d) ⊎ (InPhase (Behind plan) p × New chip plan p d))
 
--- What is so at each moment.
+-- The front is blank, or all that is not on its page is old, or all new.
 pub record IsMix (chip : Chip) (first : Device) (l : Paired) : Type 0 where
   pub so : IsSo chip l
   pub mixable : Mixable chip l.session.plan
@@ -59,7 +59,7 @@ pub record IsMix (chip : Chip) (first : Device) (l : Paired) : Type 0 where
   pub mix : Mix chip l.session.plan first l.session.phase l.device
 
 module _ (one : OnePage) (chip : Chip) (plan : Plan) (m : Mixable chip plan) (first : Device) where
-  -- What was read back is in the memory.
+  -- The bytes that were read back are in the memory.
   read_new : (p : Phase) (d : Device) → ((a : ℕ) → HasByte a plan.image.now → IsElsewhere plan a → WasReadIn plan p a) →
       ((a : ℕ) → HasByte a plan.image.now → WasReadIn plan p a → IsRight chip plan d a) → New chip plan p d
   read_new p d was right = λ a other has.
@@ -95,7 +95,7 @@ no_other : (A : Type 0) → A ⊎ ⊥ → A
 no_other A k = elim k [ inl a ↦ a | inr b ↦ absurd b ]
 
 module _ (one : OnePage) (read : OnlyReadBack) (closes : ClosesAlways) (always : TouchesAlways) (chip : Chip) (first : Device) where
-  -- What follows, of the plan as it was.
+  -- Consequences, of the plan as it was.
   module _ (l l' : Paired) (x : Seen) (turn : Turned chip l x l') (k : IsMix chip first l)
       (touches : TouchesIn l.session.plan l'.session.phase) (placed : InPhase (Placed l.session.plan) l'.session.phase)
       (right : (a : ℕ) → HasByte a l.session.plan.image.now → WasReadIn l.session.plan l'.session.phase a →

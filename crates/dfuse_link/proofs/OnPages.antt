@@ -1,4 +1,4 @@
--- Which page an address is on.
+-- Page on which an address is.
 use Rattle.std.proofs.Common.{◌≡◌, ℕ, suc, ◌+◌, ◌-◌, ◌*◌, ◌/◌, ◌<◌, ◌≤◌, ◌^◌, inl, inr, Bool, true, false, cond, List, [], ◌∷◌, Option, Some, None, refl, sym, ap, ◌∙◌, subst, arith}
 use Rattle.std.specs.List.{All}
 use Rattle.std.specs.Option.{option_map}
@@ -73,7 +73,7 @@ page_by plan a page (Some q) e all h =
       fits = omega (arith, there.high, range.ends);
     })
 
--- What the map says of an address.
+-- Page of an address by the map.
 pub on_page : (plan : Plan) (a : ℕ) (page : Page) → All IsRange plan.map.now.ranges → page_at a plan.map.now.ranges ≡ Some page →
     IsOnPage plan a page
 on_page plan a page all h = page_by plan a page (range_at a plan.map.now.ranges) refl all h

@@ -37,7 +37,7 @@ OwnAt chip a (step.ClearWait ms) doing = IsNow chip a doing
 OwnAt chip a step.ClearStatus doing = IsNow chip a doing
 OwnAt chip a s doing = SafeAt chip a doing
 
--- The same, in a phase.
+-- The byte is the session's own in a phase.
 abbrev pub OwnIn : Chip → (a : ℕ) → Phase → Doing → Type 0
 OwnIn chip a (On s) doing = OwnAt chip a s.step doing
 OwnIn chip a (Over r) doing = IsNow chip a doing

@@ -1,4 +1,4 @@
--- What is so of a device and its session stays so while the device goes on by itself.
+-- Facts of a device and its session stay while the device goes on by itself.
 use Rattle.std.proofs.Common.{◌≡◌, subst}
 use Rattle.dfuse_host.specs.declared.plan.Plan.{Plan}
 use Rattle.dfuse_host.specs.declared.phase.Phase.{Phase}

@@ -32,7 +32,7 @@ use Rattle.dfuse_link.proofs.Bytes.{byte_of, byte_at, found_at, same_element, by
 
 -- ---- where the bytes come from
 
--- What can be read from a base.
+-- Bytes that can be read from a base.
 record ReadsFrom (plan : Plan) (base at : ℕ) : Type 0 where
   low : base ≤ at
   whole : (at - base) % block_size plan ≡ 0

@@ -1,4 +1,4 @@
--- What is so of a device after each row of the table.
+-- Facts of a device after each row of the table.
 use Rattle.std.proofs.Common.{◌≡◌, ℕ, Bool, true, false}
 use Rattle.dfu_wire.specs.declared.codes.Code.{Code}
 use Rattle.dfu_wire.specs.declared.codes.Code.TheVariants as code

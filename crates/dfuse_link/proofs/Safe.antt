@@ -32,7 +32,7 @@ MayChangeIn chip (Rests s) a = ⊥
 MayChangeIn chip (Pending order) a = MayChange chip order a
 MayChangeIn chip (Busy order) a = MayChange chip order a
 
--- What a device has to do doesn't change the byte.
+-- The work of a device doesn't change the byte.
 abbrev pub SafeAt : Chip → (a : ℕ) → Doing → Type 0
 SafeAt chip a doing = MayChangeIn chip doing a → ⊥
 
@@ -173,7 +173,7 @@ module _ (chip : Chip) (plan : Plan) (a pointer : ℕ) where
   send_none (work.CompareFront at) p was k = sets_none (work.CompareFront at) at
   send_none work.Leave p was k = sets_none work.Leave plan.start
 
--- What a session sends may not change a byte that was read back.
+-- A request that a session sends may not change a byte that was read back.
 pub deed_none : (chip : Chip) (plan : Plan) (a : ℕ) (w : Work) (p : Place) (s : Step) (d : Device) → WasRead plan w a →
     Stands chip plan w p s d →
     DeedBringsNone chip a (deed_of plan w p s) d.pointer

@@ -19,7 +19,7 @@ use Rattle.dfuse_link.specs.Histories.{Arrives, IsSeenOf}
 use Rattle.dfuse_link.proofs.Claims.{Knows, MayHave, Has}
 use Rattle.dfuse_link.proofs.Deviced.{sent_have, acked_has}
 
--- What an action sends arrives.
+-- The request that an action sends arrives.
 abbrev pub ArrivesBy : Chip → DfuseDeed → Device → Option Reaction → Device → Type 0
 ArrivesBy chip (Send q body) d r d' = Arrives chip q body d r d'
 ArrivesBy chip (Wait ms) d r d' = ⊥
@@ -67,7 +67,7 @@ module _ (chip : Chip) (plan : Plan) (w : Work) (p : Place) (d d' : Device) wher
       (bytes_in plan at (write_end plan at (end_of_work plan w))) (λ pointer k. tt) (λ pointer memory e. tt) comes h)
       c
 
-  -- What is heard of a command that was sent.
+  -- Meaning of a command that was sent.
   pub ack_heard : (h : AnyHeard) (r : Option Reaction) (x : Seen) (c : AnyCommand) → IsSeenOf r x → ArrivesBy chip (sends plan w c) d r d' →
       MayHave c d.doing × Knows p d.pointer → DfuseHears plan w step.Send x h → AckHas chip c d' h
   ack_heard h (Some Acks) seen.Ack c is comes k e = subst (λ x. AckHas chip c d' x) (sym e) (acked_may c comes k)

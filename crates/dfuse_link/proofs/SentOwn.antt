@@ -1,4 +1,4 @@
--- What a session sends changes only pages of the image.
+-- A request that a session sends changes only pages of the image.
 use Rattle.std.proofs.Common.{◌≡◌, ℕ, ◌-◌, ◌%◌, ◌^◌, ◌<◌, ◌≤◌, Bool, true, false, cond, eqb, ltb, List, [], ◌∷◌, Option, Some, None, refl, sym, ap, ◌∙◌, subst, arith}
 use Rattle.std.specs.Option.{option_map}
 use Rattle.std.proofs.lemmas.Bool.{eqb-true}
@@ -81,7 +81,7 @@ points_for plan (work.WriteFront at) p pointer k = points_writing p at pointer k
 points_for plan (work.CompareFront at) p pointer k = tt
 points_for plan work.Leave p pointer k = tt
 
--- What holds of a byte that is to stay: its page has no byte of the image, and the map is true of those that have one.
+-- Facts of a byte that is to stay: its page has no byte of the image, and the map is true of those that have one.
 pub record Apart (chip : Chip) (plan : Plan) (a : ℕ) : Type 0 where
   pub untouched : IsTouched plan (page_start plan a) → ⊥
   pub map : IsTrueMap chip plan
@@ -113,7 +113,7 @@ module _ (chip : Chip) (plan : Plan) (a : ℕ) (apart : Apart chip plan a) (for 
       (λ at only k. sets_none chip plan a pointer w at) (λ page only k. erase_none w page only)
       (λ at only k. write_none w at (λ x low high. (only x low high).0) k) c
 
--- What a session sends at a step may not change the byte.
+-- A request that a session sends at a step may not change the byte.
 pub step_none : (only : OnlyTouched) (chip : Chip) (plan : Plan) (a : ℕ) → Apart chip plan a → IsFor chip plan →
     (w : Work) (p : Place) (s : Step)
     (d : Device) → Touches plan w → Stands chip plan w p s d → DeedBringsNone chip a (deed_of plan w p s) d.pointer

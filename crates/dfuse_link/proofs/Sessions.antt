@@ -1,4 +1,4 @@
--- What is so of a device and its session, whatever comes.
+-- Facts of a device and its session, whatever comes.
 use Rattle.std.proofs.Common.{◌≡◌, sym, subst}
 use Rattle.dfuse_host.specs.declared.work.Work.{Work}
 use Rattle.dfuse_host.specs.declared.place.Place.{Place}

@@ -1,4 +1,4 @@
--- What is so of a quiet device once a session goes on.
+-- Facts of a quiet device once a session goes on.
 use Rattle.std.proofs.Common.{◌≡◌, ℕ, Bool, true, false, cond, eqb, Option, Some, None, refl}
 use Rattle.dfuse_host.specs.declared.plan.Plan.{Plan}
 use Rattle.dfuse_host.specs.declared.phase.Phase.{Phase}

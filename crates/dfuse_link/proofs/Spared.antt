@@ -1,4 +1,5 @@
--- What a session sends changes nothing on other pages, before they are erased and once they hold the image. It leaves a blank front blank.
+-- A request that a session sends changes nothing on other pages, before they are erased and once they hold the image. It leaves a blank
+-- front blank.
 use Rattle.std.proofs.Common.{◌≡◌, ℕ, ◌%◌, ◌^◌, ◌<◌, ◌≤◌, inl, Bool, true, false, cond, eqb, refl, sym, ap, ◌∙◌, subst, arith}
 use Rattle.std.proofs.lemmas.Bool.{eqb-true}
 use Rattle.dfu_formats.specs.memory.Lookups.{OnePage}

@@ -27,7 +27,7 @@ use Rattle.dfuse_link.proofs.Own.{safe_now, OwnAt, OwnIn, phase_own, own_now, Ke
 use Rattle.dfuse_link.proofs.OwnPhases.{told_own}
 use Rattle.dfuse_link.proofs.Pairs.{Paired, Turned}
 
--- What holds of a work holds in a phase.
+-- A fact of a work holds in a phase.
 abbrev pub InPhase : (Q : Work → Type 0) → Phase → Type 0
 InPhase Q (On s) = Q s.work
 InPhase Q (Over r) = Unit {0}
@@ -68,7 +68,7 @@ module _ (chip : Chip) (s : Session) (a : ℕ) (Q : Work → Type 0)
   phase_stays (On at) d r d' touches k comes own = step_stays at.work at.place at.step d r d' touches k comes own
   phase_stays (Over rep) d r d' touches k comes own = absurd comes
 
-  -- What is so of the byte in the phase that follows.
+  -- Facts of the byte in the phase that follows.
   step_owns : (w : Work) (p : Place) (at : Step) (d : Device) (r : Option Reaction) (d' : Device) (h : AnyHeard) (x : Seen) →
       Q w →
       Stands chip s.plan w p at d → ArrivesBy chip (deed_of s.plan w p at) d r d' → IsSeenOf r x → DfuseHears s.plan w at x h →

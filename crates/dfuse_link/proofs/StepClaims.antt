@@ -1,4 +1,4 @@
--- What is so of a device after each action of a session.
+-- Facts of a device after each action of a session.
 use Rattle.std.proofs.Common.{◌≡◌, ℕ, Option}
 use Rattle.dfuse_host.specs.declared.plan.Plan.{Plan}
 use Rattle.dfuse_host.specs.declared.work.Work.{Work}

@@ -1,4 +1,4 @@
--- What holds of each session that is over, and of what a restart resumes, holds once a session knows what came of its step.
+-- Facts of each session that is over, and of the one that a restart resumes, hold once a session knows the result of its step.
 use Rattle.std.proofs.Common.{ℕ, zero, suc, pred}
 use Rattle.dfuse_host.specs.declared.phase.Phase.{Phase}
 use Rattle.dfuse_host.specs.declared.phase.Phase.TheVariants.{On, Over}

@@ -1,4 +1,4 @@
--- What is so of a device and its session stays so, whatever comes next.
+-- Facts of a device and its session stay, whatever comes next.
 use Rattle.std.proofs.Common.{◌≡◌, ℕ, ◌≤◌, ◌<◌, ◌^◌, inl, inr, true, false, Option, refl, sym, ap, ◌∙◌, subst, arith}
 use Rattle.std.proofs.lemmas.Bool.{true_from_ne_false}
 use Rattle.dfuse_host.specs.declared.plan.Plan.{Plan}
@@ -35,7 +35,7 @@ use Rattle.dfuse_link.proofs.Pairs.{Paired, Turned}
 abbrev pub IsRight : Chip → Plan → Device → ℕ → Type 0
 IsRight chip plan d a = (d.memory a ≡ byte_at a plan.image.now) × SafeAt chip a d.doing
 
--- What is so of a device and its session: each byte that counts as read back is right.
+-- Facts of a device and its session: each byte that counts as read back is right.
 pub record IsSo (chip : Chip) (l : Paired) : Type 0 where
   pub for : IsFor chip l.session.plan
   pub closes : ClosesIn l.session.phase

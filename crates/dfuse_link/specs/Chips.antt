@@ -3,22 +3,22 @@ use Rattle.std.specs.Prelude.{◌≡◌, ◌⊎◌, ℕ, ◌+◌, ◌<◌, ◌�
 use Rattle.dfu_wire.specs.declared.states.State.{State}
 use Rattle.dfu_wire.specs.declared.states.State.TheVariants as state
 
--- How a device was made: it counts addresses by blocks of so many bytes, and an erase at the first address may change the byte of the
--- second. These are the bytes that an erase leaves: one, as FFh, or any if its erases can't be relied on.
+-- Make of a device: it counts addresses by blocks of so many bytes, and an erase at the first address may change the byte of the second.
+-- These are the bytes that an erase leaves: one, as FFh, or any if its erases can't be relied on.
 pub record Chip : Type 0 where
   pub transfer : ℕ
   pub erases : (at a : ℕ) → Bool
   pub blank : (byte : ℕ) → Bool
 
--- What a DNLOAD asks for: to set the address pointer, to erase the page of an address, to write so many bytes from an address on, or any
--- other thing.
+-- Order that a DNLOAD brings: to set the address pointer, to erase the page of an address, to write so many bytes from an address on, or
+-- any other thing.
 pub data Order : Type 0 where
   Points : (at : ℕ) → Order
   Erases : (at : ℕ) → Order
   Programs : (at count : ℕ) → Order
   Other : Order
 
--- What a device does: it is in this state and has no order; or it has one that isn't started (dfuDNLOAD-SYNC); or it carries one out
+-- Work of a device: it is in this state and has no order; or it has one that isn't started (dfuDNLOAD-SYNC); or it carries one out
 -- (dfuDNBUSY).
 pub data Doing : Type 0 where
   Rests : State → Doing
@@ -37,8 +37,9 @@ pub record Device : Type 0 where
   pub pointer : ℕ
   pub doing : Doing
 
--- What a memory may become while a device does this, also if that is cut off. An erase leaves each byte that it doesn't reach as it was,
--- and each blank byte blank. A write leaves each byte out of its range as it was. An order of no known kind may change any. Else all stays.
+-- A memory may become this while a device does its work, also if that is cut off. An erase leaves each byte that it doesn't reach as it
+-- was, and each blank byte blank. A write leaves each byte out of its range as it was. An order of no known kind may change any. Else all
+-- stays.
 abbrev pub ChangedBy : Chip → Doing → (memory memory' : ℕ → ℕ) → Type 0
 ChangedBy chip (Busy (Erases at)) memory memory' = (a : ℕ) →
     ((chip.erases at a ≡ true → ⊥) → memory' a ≡ memory a) × (chip.blank (memory a) ≡ true → chip.blank (memory' a) ≡ true)

@@ -41,7 +41,7 @@ pub record TellsState (t : State) (s : Seen) : Type 0 where
   pub no_fault : status.code ≡ code.Ok
   pub is_there : status.state ≡ t
 
--- What is seen of an action if the device works, all that it gives back is the image's, and nothing gets lost. It is in dfuIDLE at first.
+-- The result of an action if the device works, all that it gives back is the image's, and nothing gets lost. It is in dfuIDLE at first.
 -- Each command is started by a GETSTATUS, which reports dfuDNBUSY, and is done by the next one, after a wait.
 abbrev pub IsClean : Plan → Work → Step → Seen → Type 0
 IsClean plan w step.Abort s = s ≡ seen.Ack

@@ -1,4 +1,4 @@
--- How many requests and waits a session takes, if the device works and nothing gets lost.
+-- Number of requests and waits that a session takes, if the device works and nothing gets lost.
 use Rattle.std.specs.Prelude.{◌≡◌, ℕ, zero, suc, ◌+◌, ◌*◌, ◌≤◌, ◌==◌, Bool, true, false, List, length, Option, Some, None, if◌then◌else◌}
 use Rattle.std.specs.List.{All}
 use Rattle.dfu_formats.specs.memory.Ranges.{IsRange, are_apart}
@@ -48,8 +48,8 @@ pub data BlocksRead (plan : Plan) (end : ℕ) : Option ℕ → (at sets n : ℕ)
   read_on : {pointer last : Option ℕ} {at sets n : ℕ} (byte : ℕ) → byte_in plan at end ≡ Some byte → reaches plan pointer byte ≡ true →
       BlocksRead plan end pointer (read_end plan byte end) sets n last → BlocksRead plan end pointer at sets (suc n) last
 
--- What of a plan is counted: its pages; the blocks that are written, and that are read, after the front and of the front; and how often
--- the pointer is set to read them.
+-- Counts of a plan: its pages; the blocks that are written, and that are read, after the front and of the front; and how often the pointer
+-- is set to read them.
 pub record PlanCounts (plan : Plan) : Type 0 where
   pub pages : ℕ
   pub are_pages : Pages plan (image_start plan.image.now) pages
@@ -66,12 +66,12 @@ pub record PlanCounts (plan : Plan) : Type 0 where
   pub front_pointer : Option ℕ
   pub reads_front : BlocksRead plan (front_end plan) None (image_start plan.image.now) front_sets front_reads front_pointer
 
--- Where the pointer is once all was read: where the front was read, if it has a block.
+-- Place of the pointer once all was read: where the front was read, if it has a block.
 abbrev pub pointer_at_last : (front : ℕ) → (of_rest of_front : Option ℕ) → Option ℕ
 pointer_at_last zero of_rest of_front = of_rest
 pointer_at_last (suc n) of_rest of_front = of_front
 
--- How often the pointer is set to where the application starts: once, unless it is there.
+-- Number of times that the pointer is set to the start of the application: once, unless it is there.
 abbrev pub sets_to_start : Plan → Option ℕ → ℕ
 sets_to_start plan None = 1
 sets_to_start plan (Some pointer) = if pointer == plan.start then 0 else 1

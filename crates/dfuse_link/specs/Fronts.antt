@@ -1,4 +1,4 @@
--- What is in a device's memory before a session has written its front.
+-- Bytes in a device's memory before a session has written its front.
 use Rattle.std.specs.Prelude.{◌≡◌, ℕ, ◌-◌, ◌<◌, ◌≤◌, ◌⊎◌, true, List, Some, slice_index}
 use Rattle.dfu_formats.specs.memory.Ranges.{are_apart}
 use Rattle.dfu_formats.specs.declared.dfuse.element.Element.{Element}

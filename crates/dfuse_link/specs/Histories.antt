@@ -16,7 +16,7 @@ pub data Arrives (chip : Chip) (q : Request) (body : List ℕ) (d : Device) : Op
   again : {before : Option Reaction} {mid d' : Device} {reaction : Reaction} → Arrives chip q body d before mid
       → Reacts chip mid q body reaction d' → Arrives chip q body d (Some reaction) d'
 
--- What is seen of the last reaction: it, or nothing if it is lost.
+-- The last reaction is seen, or nothing if it is lost.
 abbrev pub IsSeenOf : Option Reaction → Seen → Type 0
 IsSeenOf reaction seen.Nothing = Unit {0}
 IsSeenOf (Some Acks) seen.Ack = Unit {0}
@@ -24,7 +24,7 @@ IsSeenOf (Some (Data bytes)) (seen.Bytes given) = given.now ≡ bytes
 IsSeenOf (Some Stalls) seen.Stall = Unit {0}
 IsSeenOf reaction s = ⊥
 
--- What may have come to a device before it restarts: nothing, or the session's request.
+-- Requests that may have come to a device before it restarts: nothing, or the session's request.
 pub data UnderWay (chip : Chip) (s : Session) (d : Device) : Device → Type 0 where
   none : UnderWay chip s d d
   request : {mid : Device} {reaction : Option Reaction} (q : Request) (body : List ℕ) → dfuse_deed s.plan s.phase ≡ Send q body

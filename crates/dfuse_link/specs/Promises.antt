@@ -1,4 +1,4 @@
--- What a session's report says of the device. In each law a session begins with d, and later d' is the device and s the session.
+-- Facts of the device that a session's report says. In each law a session begins with d, and later d' is the device and s the session.
 use Rattle.std.specs.Prelude.{◌≡◌, ◌≤◌, max, List, length}
 use Rattle.std.specs.List.{All, AllByRecursion}
 use Rattle.dfu_formats.specs.memory.Ranges.{IsRange}
@@ -28,7 +28,7 @@ VerifiedIsTrue = (chip : Chip) (plan : Plan) (limits : Limits) (d d' : Device) (
     → IsFor chip plan → History chip d (dfuse_begun plan limits) seens d' s → s.phase ≡ Over (Verified leaving)
     → AllByRecursion (λ (e : Element). StandsAt d'.memory e.address e.bytes.now) plan.image.now
 
--- What the session sees are rows of it, one after the other.
+-- The results that the session sees are rows of it, one after the other.
 abbrev pub HistoriesAreRows : Type 0
 HistoriesAreRows = (chip : Chip) (d d' : Device) (s s' : Session) (seens : List Seen) → History chip d s seens d' s' →
     SessionRows s seens s'

@@ -1,4 +1,4 @@
--- What a device answers to a request, and what it does then.
+-- Answer of a device to a request, and its work then.
 use Rattle.std.specs.Prelude.{◌≡◌, ◌⊎◌, ℕ, ◌+◌, ◌-◌, ◌*◌, ◌<◌, ◌≤◌, ◌==◌, nat_le, List, [], ◌∷◌, length, slice_index, if◌then◌else◌}
 use Rattle.std.specs.Int.{w32, from_le_bytes}
 use Rattle.dfu_wire.specs.declared.states.State.{State}

@@ -1,4 +1,4 @@
--- What a session changes of the device's memory.
+-- Bytes of the device's memory that a session changes.
 use Rattle.std.specs.Prelude.{◌≡◌, ℕ, true, List}
 use Rattle.dfuse_host.specs.declared.plan.Plan.{Plan}
 use Rattle.dfuse_host.specs.declared.seen.Seen.{Seen}

@@ -105,12 +105,12 @@ static void in_each_mode(uint8_t attributes, uint32_t unit, uint32_t sector) {
         else
             expect("refuse changes nothing", is_same());
         board = before;
-        int32_t is = refuse_close(DFU_STATUS_ERR_TARGET);
+        int32_t result = refuse_close(DFU_STATUS_ERR_TARGET);
         if (mode == 6) {
-            expect("refuse_close", is == DFU_STALL);
+            expect("refuse_close", result == DFU_STALL);
             errs("to dfuERROR", DFU_STATUS_ERR_TARGET);
         } else
-            expect("refuse_close changes nothing", is == DFU_NO_CLOSE && is_same());
+            expect("refuse_close changes nothing", result == DFU_NO_CLOSE && is_same());
         board = before;
         for (unsigned at = 0; at < sizeof others / sizeof others[0]; at++)
             expect("another status", refuse(others[at]) == DFU_NO_STATUS && refuse_close(others[at]) == DFU_NO_STATUS && is_same());
@@ -119,9 +119,9 @@ static void in_each_mode(uint8_t attributes, uint32_t unit, uint32_t sector) {
                 uint8_t setup[8];
                 memcpy(setup, closing, sizeof setup);
                 setup[at] ^= (uint8_t)(1u << with);
-                is = dfu_core_refuse_close(&config, &board.record, setup, DFU_STATUS_ERR_FILE);
+                result = dfu_core_refuse_close(&config, &board.record, setup, DFU_STATUS_ERR_FILE);
                 int closes = mode == 6 && (at == 2 || at == 3);
-                expect("another setup: only wValue is not looked at", closes ? is == DFU_STALL : is == DFU_NO_CLOSE && is_same());
+                expect("another setup: only wValue is not looked at", closes ? result == DFU_STALL : result == DFU_NO_CLOSE && is_same());
                 board = before;
             }
         board.record.work = 1;

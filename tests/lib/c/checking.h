@@ -10,8 +10,8 @@ static struct board board;
 static int wrong;
 static const char *row;
 
-static void expect(const char *what, int is) {
-    if (!is) {
+static void expect(const char *what, int holds) {
+    if (!holds) {
         printf("check: %s: %s\n", row, what);
         wrong = 1;
     }

@@ -7,9 +7,9 @@ static const struct fate well = {WELL, 0, 0, 0};
 static struct board board;
 static int wrong, closed, others, asked;
 
-static void expect(const char *what, int is)
+static void expect(const char *what, int holds)
 {
-    if (!is && wrong++ < 9)
+    if (!holds && wrong++ < 9)
         printf("closes: %s\n", what);
 }
 
@@ -19,12 +19,12 @@ static int32_t closes(const uint8_t setup[8])
 }
 
 /* Before the setup is handed in: a refusal of the image is taken exactly if it closes, whichever of the two statuses it has. */
-static void before(const uint8_t setup[8], int32_t says)
+static void before(const uint8_t setup[8], int32_t result)
 {
     struct dfu_record copy = board.record;
     struct dfu_place place;
-    expect("refuse_close", dfu_core_refuse_close(&config, &copy, setup, 1 + roll(2)) == (says == 1 ? DFU_STALL : DFU_NO_CLOSE));
-    if (says == 1)
+    expect("refuse_close", dfu_core_refuse_close(&config, &copy, setup, 1 + roll(2)) == (result == 1 ? DFU_STALL : DFU_NO_CLOSE));
+    if (result == 1)
         expect("the candidate", dfu_core_candidate(&config, &board.record, board.flash, board.size, &place) == 0
                                     && place.length + board.record.held_length == board.record.first && board.record.first >= config.least);
 }
@@ -38,13 +38,13 @@ static void one(void)
         setup[4] = (uint8_t)roll(2), setup[5] = (uint8_t)roll(2);
     for (uint32_t i = 0; i < sizeof body; i++)
         body[i] = (uint8_t)roll(256);
-    const int32_t says = closes(setup);
-    before(setup, says);
+    const int32_t result = closes(setup);
+    before(setup, result);
     const uint32_t mode = board.record.mode;
     const int32_t n = transfer(&board, setup, body, &well);
     const int was_closed = setup[0] == 0x21 && n == 0 && mode != 7 && board.record.mode == 7;
-    expect("what handle does", says == was_closed);
-    *(says == 1 ? &closed : &others) += 1;
+    expect("what handle does", result == was_closed);
+    *(result == 1 ? &closed : &others) += 1;
 }
 
 /* While writes are due nothing is said of the next setup. */

@@ -10,8 +10,8 @@ static uint8_t old[70], fresh[300];
 static long downloads, cuts;
 static int wrong;
 
-static void expect(const char *what, int is, const struct fate *fate) {
-    if (!is) {
+static void expect(const char *what, int holds, const struct fate *fate) {
+    if (!holds) {
         printf("cuts: %s, unit %u, sector %u, busy %u, trouble %d at write %u behind %u\n", what, (unsigned)board.unit,
                (unsigned)board.sector, (unsigned)config.busy_ms, (int)fate->trouble, (unsigned)fate->write, (unsigned)fate->behind);
         wrong = 1;

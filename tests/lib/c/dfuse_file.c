@@ -37,11 +37,11 @@ static void spell(const char *digits, uint8_t *out)
 /* The elements are those of the second reader, in the order of the file. */
 static int is_same_image(const struct second *second, const struct dfuse_element *image, uint64_t count)
 {
-    int is = count == second->count;
-    for (uint64_t at = 0; is && at < count; at++)
-        is = image[at].bytes == second->elements[at].bytes && image[at].address == second->elements[at].address
+    int is_equal = count == second->count;
+    for (uint64_t at = 0; is_equal && at < count; at++)
+        is_equal = image[at].bytes == second->elements[at].bytes && image[at].address == second->elements[at].address
             && image[at].length == second->elements[at].length;
-    return is;
+    return is_equal;
 }
 
 static int32_t answer_for(const struct second *second)
@@ -54,18 +54,18 @@ static int32_t answer_for(const struct second *second)
 static void compare(const uint8_t *file, size_t length, uint8_t setting, const char *what)
 {
     static struct second second;
-    struct dfuse_file says = {7, 7, 7, 7, 7};
+    struct dfuse_file fields = {7, 7, 7, 7, 7};
     struct dfuse_element image[PLACES];
     uint64_t count = 77;
     int32_t answer;
     memset(&second, 0, sizeof second);
     second.answer = read_again(file, length, setting, &second);
-    is(dfuse_read_file(file, length, &says) == second.answer, what);
+    is(dfuse_read_file(file, length, &fields) == second.answer, what);
     if (second.answer == 0)
-        is(says.targets == second.says.targets && says.setting == second.says.setting && says.device == second.says.device
-               && says.product == second.says.product && says.vendor == second.says.vendor, what);
+        is(fields.targets == second.fields.targets && fields.setting == second.fields.setting && fields.device == second.fields.device
+               && fields.product == second.fields.product && fields.vendor == second.fields.vendor, what);
     else
-        is(says.targets == 7 && says.setting == 7 && says.device == 7 && says.product == 7 && says.vendor == 7, what);
+        is(fields.targets == 7 && fields.setting == 7 && fields.device == 7 && fields.product == 7 && fields.vendor == 7, what);
     for (int at = 0; at < PLACES; at++)
         image[at] = (struct dfuse_element){.bytes = file};
     answer = dfuse_file_image(file, length, setting, image, PLACES, &count);
@@ -90,34 +90,34 @@ static void try_changes(void)
 {
     for (size_t at = 0; at < sizeof changes / sizeof *changes; at++) {
         uint8_t file[SIZE];
-        struct dfuse_file says;
+        struct dfuse_file fields;
         char what[64];
         memcpy(file, sound, SIZE);
         file[changes[at].at] = changes[at].byte;
         sign(file, SIZE);
         snprintf(what, sizeof what, "byte %zu is %02x", changes[at].at, changes[at].byte);
-        is(dfuse_read_file(file, SIZE, &says) == changes[at].answer, what);
+        is(dfuse_read_file(file, SIZE, &fields) == changes[at].answer, what);
         compare(file, SIZE, 0, what);
         file[SIZE - 1] ^= 1;
-        is(changes[at].at > 300 || dfuse_read_file(file, SIZE, &says) == DFUSE_FILE_BAD_CRC, "a wrong CRC comes before the rest");
+        is(changes[at].at > 300 || dfuse_read_file(file, SIZE, &fields) == DFUSE_FILE_BAD_CRC, "a wrong CRC comes before the rest");
     }
 }
 
 static void try_sound(void)
 {
-    struct dfuse_file says;
+    struct dfuse_file fields;
     struct dfuse_element image[2] = {{.bytes = sound}, {.bytes = sound}};
     uint64_t count = 0;
     is(four(sound + SIZE - 4) == crc_of(sound, SIZE - 4), "the CRC worked out by hand");
-    is(dfuse_read_file(sound, SIZE, &says) == 0 && says.targets == 1 && says.setting == 0 && says.device == 0xffff
-           && says.product == 0xdf11 && says.vendor == 0x0483, "what it says");
+    is(dfuse_read_file(sound, SIZE, &fields) == 0 && fields.targets == 1 && fields.setting == 0 && fields.device == 0xffff
+           && fields.product == 0xdf11 && fields.vendor == 0x0483, "what it says");
     is(dfuse_file_image(sound, SIZE, 0, image, 2, &count) == 0 && count == 2, "its image");
     is(image[0].address == 0x08000000 && image[0].length == 4 && image[0].bytes == sound + 293, "the first element");
     is(image[1].address == 0x08004000 && image[1].length == 2 && image[1].bytes == sound + 305, "the second element");
     is(dfuse_file_image(sound, SIZE, 1, image, 2, &count) == DFUSE_FILE_NO_SETTING, "another setting");
     is(dfuse_file_image(sound, SIZE, 0, image, 1, &count) == DFUSE_FILE_TOO_MANY_ELEMENTS, "too few places");
     for (size_t length = 0; length < SIZE; length++)
-        is(dfuse_read_file(sound, length, &says) < 0, "a part of it");
+        is(dfuse_read_file(sound, length, &fields) < 0, "a part of it");
 }
 
 /* A file of up to three targets for two settings, each with up to three elements, with up to three bytes changed in most of them. It is

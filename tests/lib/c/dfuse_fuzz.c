@@ -80,12 +80,12 @@ static int has_sent(void)
 {
     char line[256];
     FILE *log = fopen("log", "r");
-    int is = 0;
+    int is_found = 0;
     while (log != NULL && fgets(line, sizeof line, log) != NULL)
-        is |= line[0] >= '0' && line[0] <= '9';
+        is_found |= line[0] >= '0' && line[0] <= '9';
     if (log != NULL)
         fclose(log);
-    return is;
+    return is_found;
 }
 
 /* Returns whether the device stalled GETSTATE before the first download, while a command of an earlier session wasn't started. */
@@ -93,12 +93,12 @@ static int has_hidden_command(void)
 {
     char line[256];
     FILE *log = fopen("log", "r");
-    int is = 0;
-    while (log != NULL && !is && fgets(line, sizeof line, log) != NULL && strstr(line, " DNLOAD ") == NULL)
-        is = strstr(line, " GETSTATE 0 1 stall -> stall, dfuDNLOAD-SYNC") != NULL;
+    int is_found = 0;
+    while (log != NULL && !is_found && fgets(line, sizeof line, log) != NULL && strstr(line, " DNLOAD ") == NULL)
+        is_found = strstr(line, " GETSTATE 0 1 stall -> stall, dfuDNLOAD-SYNC") != NULL;
     if (log != NULL)
         fclose(log);
-    return is;
+    return is_found;
 }
 
 /* Returns whether the memory has the elements; and whether each page without one is as it was. */
@@ -133,8 +133,8 @@ static const char *fault_of(int status)
     size_t kept = read_file("saved", saved, SIZE);
     memset(&second, 0, sizeof second);
     second.answer = read_again(file, length, (uint8_t)(alternate < 0 ? 0 : alternate), &second);
-    if (second.answer == 0 && alternate < 0 && second.says.setting < 256) {
-        uint8_t setting = (uint8_t)second.says.setting;
+    if (second.answer == 0 && alternate < 0 && second.fields.setting < 256) {
+        uint8_t setting = (uint8_t)second.fields.setting;
         memset(&second, 0, sizeof second);
         second.answer = read_again(file, length, setting, &second);
     }

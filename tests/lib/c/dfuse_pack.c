@@ -123,11 +123,11 @@ int main(int count, char **words)
     suffix[5] = (uint8_t)(vendor >> 8);
     put(suffix, sizeof suffix);
     for (int patch = 0; patch < patched; patch++) {
-        const char *is = strchr(patches[patch], '=');
+        const char *equals = strchr(patches[patch], '=');
         cut = strtoul(patches[patch], NULL, 16);
-        if (is == NULL || cut >= length)
+        if (equals == NULL || cut >= length)
             return 2;
-        bytes[cut] = (uint8_t)strtoul(is + 1, NULL, 16);
+        bytes[cut] = (uint8_t)strtoul(equals + 1, NULL, 16);
     }
     put_four(crc(length) ^ (uint32_t)is_spoilt);
     length = length < most ? length : most;

@@ -34,7 +34,7 @@ static inline void sign(uint8_t *file, size_t length)
 /* Findings of a second reader: the answer, what the file says, and the elements of a setting, in the order of the file. */
 struct second {
     int32_t answer;
-    struct dfuse_file says;
+    struct dfuse_file fields;
     int is_there;
     uint64_t count;
     struct dfuse_element elements[MOST];
@@ -65,7 +65,7 @@ static inline int32_t read_targets(const uint8_t *at, size_t size, uint8_t count
             return DFUSE_FILE_NO_TARGET;
         if (size - 274 < four(at + 266))
             return DFUSE_FILE_BAD_TARGET;
-        second->says.setting = target == 0 || second->says.setting == at[6] ? at[6] : DFUSE_SEVERAL;
+        second->fields.setting = target == 0 || second->fields.setting == at[6] ? at[6] : DFUSE_SEVERAL;
         second->is_there |= at[6] == setting;
         answer = read_elements(at + 274, four(at + 266), four(at + 270), at[6] == setting, second);
         if (answer != 0)
@@ -97,10 +97,10 @@ static inline int32_t read_again(const uint8_t *file, size_t length, uint8_t set
         return DFUSE_FILE_BAD_VERSION;
     if (four(file + 6) != body && four(file + 6) != length)
         return DFUSE_FILE_BAD_SIZE;
-    second->says.targets = file[10];
-    second->says.device = (uint16_t)four(last);
-    second->says.product = (uint16_t)four(last + 2);
-    second->says.vendor = (uint16_t)four(last + 4);
+    second->fields.targets = file[10];
+    second->fields.device = (uint16_t)four(last);
+    second->fields.product = (uint16_t)four(last + 2);
+    second->fields.vendor = (uint16_t)four(last + 4);
     return file[10] == 0 ? DFUSE_FILE_NO_TARGETS : read_targets(file + 11, body - 11, file[10], setting, second);
 }
 

@@ -12,8 +12,8 @@ static uint32_t unit, sector;
 static long formats, cuts;
 static int wrong;
 
-static void expect(const char *what, int is, uint32_t length, const struct fate *fate) {
-    if (!is) {
+static void expect(const char *what, int holds, uint32_t length, const struct fate *fate) {
+    if (!holds) {
         printf("format: %s, unit %u, sector %u, image of %u, trouble %d at write %u behind %u\n", what, (unsigned)unit,
                (unsigned)sector, (unsigned)length, (int)fate->trouble, (unsigned)fate->write, (unsigned)fate->behind);
         wrong = 1;

@@ -20,8 +20,8 @@ static void put(uint8_t byte) {
     line[sent++] = byte;
 }
 
-static void expect(int is, const char *what) {
-    if (!is) {
+static void expect(int holds, const char *what) {
+    if (!holds) {
         printf("frames: %s\n", what);
         exit(1);
     }

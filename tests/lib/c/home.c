@@ -25,11 +25,11 @@ static uint8_t draw(void) {
     seed = seed * 1664525u + 1013904223u;
     return (uint8_t)(seed >> 20);
 }
-static void expect(const char *what, int is) {
-    if (!is && wrong < 10)
+static void expect(const char *what, int holds) {
+    if (!holds && wrong < 10)
         printf("home: %s, unit %u, sector %u, cuts %ld and %ld, tears %d and %d\n", what, (unsigned)config.unit, (unsigned)config.sector,
                cut[0], cut[1], tear[0], tear[1]);
-    wrong += !is;
+    wrong += !holds;
 }
 /* How the next operation is torn; -1: it works. */
 static int next_tear(void) {
@@ -111,24 +111,24 @@ static int which(const struct dfu_place *place) {
 static int start(void) {
     struct dfu_place before, place;
     const long first = operations;
-    int is;
+    int image;
     guards = 0;
     memset(programmed, 1, sizeof programmed); /* what was erased before is not known to be */
     expect("an image is active", dfu_device_image(&dfu, &before) == 0);
-    is = which(&before);
-    expect("it is whole", is >= 0);
+    image = which(&before);
+    expect("it is whole", image >= 0);
     expect("it settles", dfu_home_settle(&dfu, &place) == 0);
-    expect("the same image is in the first slot", place.at == DFU_HOME_AT(config.unit, config.sector) && which(&place) == is);
+    expect("the same image is in the first slot", place.at == DFU_HOME_AT(config.unit, config.sector) && which(&place) == image);
     expect("a download may come", dfu_home_may_download(&dfu) == 1);
     if (operations > first)
         copied++, most_copied = operations - first > most_copied ? operations - first : most_copied;
     expect("within the bound", (uint32_t)(operations - first) <= size / 128);
-    return is;
+    return image;
 }
 /* Image 0 runs and takes image 1, with these cuts; then a later update has to work. Returns how many operations there were. */
 static long life(long first, int first_tear, long second, int second_tear, int from_home) {
     volatile int taken = 0;
-    int is;
+    int image;
     long all;
     lives++;
     cut[0] = cut[1] = -1;
@@ -143,10 +143,10 @@ static long life(long first, int first_tear, long second, int second_tear, int f
         expect("the first image starts", start() == 0);
         download(1, from_home);
     }
-    is = start();
+    image = start();
     all = operations;
-    expect("the old or the new image starts", is == 0 || is == 1);
-    expect("without a cut the new one", first > 0 || is == 1);
+    expect("the old or the new image starts", image == 0 || image == 1);
+    expect("without a cut the new one", first > 0 || image == 1);
     cut[0] = cut[1] = -1;
     download(2, 1), expect("a later update", start() == 2);
     download(0, 0), expect("and one more", start() == 0);
@@ -170,11 +170,11 @@ static void all_cuts(long step, int from_home) {
 }
 static void is_due(int32_t n, struct dfu_home_record *record, uint32_t kind, uint32_t at, uint32_t length) {
     struct dfu_ask ask = {9, 9, 9, {9}};
-    const int32_t is = dfu_home_next(&dfu, record, &ask);
+    const int32_t result = dfu_home_next(&dfu, record, &ask);
     lives++;
-    expect("a row", is == n && (n == DFU_ASKS ? ask.kind == kind && ask.at == at && ask.length == length
+    expect("a row", result == n && (n == DFU_ASKS ? ask.kind == kind && ask.at == at && ask.length == length
                                               : ask.kind == 9 && ask.at == 9 && ask.length == 9 && ask.bytes[0] == 9));
-    if (is == DFU_ASKS)
+    if (result == DFU_ASKS)
         dfu_home_took(&dfu, record, &ask, dfu_device_carry_out(&driver, &ask));
 }
 static int never(void *own, uint32_t at, uint32_t length) {

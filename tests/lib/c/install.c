@@ -20,11 +20,11 @@ static uint32_t draw(uint32_t below) {
     seed ^= seed << 13, seed ^= seed >> 17, seed ^= seed << 5;
     return seed % below;
 }
-static void expect(const char *what, int is) {
-    if (!is && wrong < 10)
+static void expect(const char *what, int holds) {
+    if (!holds && wrong < 10)
         printf("install: %s, sector %u, area %u, image %u, run %lu\n", what, (unsigned)install.area.sector, (unsigned)install.size,
                (unsigned)length, runs);
-    wrong += !is;
+    wrong += !holds;
 }
 static void power_comes(void) {
     install.area.last = DFU_NOWHERE;
@@ -115,10 +115,10 @@ static int never(void *own, uint32_t at, uint32_t count) {
 }
 static void is_due(int32_t n, uint32_t kind, uint32_t at) {
     struct dfu_ask ask = {9, 9, 9, {9}};
-    const int32_t is = dfu_install_next(&install, slots, length, &ask);
+    const int32_t result = dfu_install_next(&install, slots, length, &ask);
     runs++;
-    expect("a row", is == n && (n == DFU_ASKS ? ask.kind == kind && ask.at == at : ask.kind == 9 && ask.bytes[0] == 9));
-    if (is == DFU_ASKS) {
+    expect("a row", result == n && (n == DFU_ASKS ? ask.kind == kind && ask.at == at : ask.kind == 9 && ask.bytes[0] == 9));
+    if (result == DFU_ASKS) {
         carry_out(&ask, WELL);
         expect("took", dfu_install_took(&install, slots, length, &ask, 0) == 0);
     }

@@ -17,8 +17,8 @@ static size_t least, behind;
 static long refusals, held;
 static int wrong;
 
-static void expect(const char *what, int is) {
-    if (!is) {
+static void expect(const char *what, int holds) {
+    if (!holds) {
         printf("lent: %s; unit %u, sector %u, behind %u\n", what, (unsigned)config.unit, (unsigned)config.sector, (unsigned)behind);
         wrong = 1;
     }

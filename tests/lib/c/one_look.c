@@ -21,10 +21,10 @@ static uint8_t *part, *entered, run[CAPACITY], block[DFU_BLOCK_SIZE(TRANSFER, 16
 static long entries, checks;
 static int wrong;
 
-static void expect(const char *what, int is)
+static void expect(const char *what, int holds)
 {
     checks++;
-    if (!is && wrong++ < 10)
+    if (!holds && wrong++ < 10)
         printf("one_look: %s\n", what);
 }
 

@@ -5,8 +5,8 @@ static const struct fate well = {WELL, 0, 0, 0};
 static struct board board;
 static int wrong;
 
-static void expect(const char *what, int is) {
-    if (!is) {
+static void expect(const char *what, int holds) {
+    if (!holds) {
         printf("operations: %s\n", what);
         wrong = 1;
     }

@@ -16,8 +16,8 @@ static struct dfu_device device = {.config = &config, .flash = medium, .size = s
 static struct dfu_record stations[MODES];
 static int wrong, stalls, others, closed;
 
-static void expect(const char *what, int is) {
-    if (!is) {
+static void expect(const char *what, int holds) {
+    if (!holds) {
         printf("questions: %s\n", what);
         wrong = 1;
     }
@@ -88,11 +88,11 @@ static void too_long(int station, uint8_t kind, uint8_t request, uint8_t index, 
     device.record = stations[station];
     struct dfu_device other = device;
     memcpy(medium, mediums[station], sizeof medium);
-    int32_t is = dfu_device_too_long(&other, setup);
+    int32_t result = dfu_device_too_long(&other, setup);
     if (kind == 0xa1 || length <= config.transfer)
-        expect("not long", is == DFU_NOT_LONG && memcmp(&other.record, &device.record, sizeof other.record) == 0);
+        expect("not long", result == DFU_NOT_LONG && memcmp(&other.record, &device.record, sizeof other.record) == 0);
     else
-        expect("too long", is == DFU_STALL
+        expect("too long", result == DFU_STALL
             && handle_in_memory(&device, setup, body, length, out, sizeof out) == DFU_STALL
             && (index == config.interface_number || memcmp(&other.record, &stations[station], sizeof other.record) == 0)
             && dfu_device_state(&other) == dfu_device_state(&device) && dfu_device_code(&other) == dfu_device_code(&device));
@@ -101,11 +101,11 @@ static void too_long(int station, uint8_t kind, uint8_t request, uint8_t index, 
 /* When a change is due: one millisecond less leaves the state, and that many change it. */
 static void due(int station) {
     int32_t ms = dfu_core_due(&config, &stations[station]);
-    for (int32_t is = ms - 1; ms > 0 && is <= ms; is++) {
+    for (int32_t passed = ms - 1; ms > 0 && passed <= ms; passed++) {
         device.record = stations[station];
         memcpy(medium, mediums[station], sizeof medium);
-        pass((uint32_t)is);
-        expect("due", (dfu_device_state(&device) != dfu_core_state(&stations[station])) == (is == ms));
+        pass((uint32_t)passed);
+        expect("due", (dfu_device_state(&device) != dfu_core_state(&stations[station])) == (passed == ms));
     }
     expect("counts", (ms > 0) == (station == 1 || station == 5 || station == 9));
     device.record = stations[station];

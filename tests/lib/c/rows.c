@@ -11,8 +11,8 @@ static struct dfu_device device = {.config = &config, .flash = medium, .size = s
                                    .driver = &driver};
 static int wrong;
 
-static void expect(const char *what, int is) {
-    if (!is) {
+static void expect(const char *what, int holds) {
+    if (!holds) {
         printf("rows: %s\n", what);
         wrong = 1;
     }

@@ -70,9 +70,9 @@ static void lies(void) {
         for (size_t v = 0; v < sizeof values / sizeof values[0] + 2; v++) {
             make(LEAST, HARDWARE, 0);
             const unsigned count = places[i] == 12 ? 4 : 2;
-            const uint32_t is = made[places[i]] | (uint32_t)made[places[i] + 1] << 8;
-            const uint32_t to = v < sizeof values / sizeof values[0] ? values[v] : v % 2 ? is + 1 : is - 1;
-            if (is == (count == 2 ? to & 0xffff : to))
+            const uint32_t value = made[places[i]] | (uint32_t)made[places[i] + 1] << 8;
+            const uint32_t to = v < sizeof values / sizeof values[0] ? values[v] : v % 2 ? value + 1 : value - 1;
+            if (value == (count == 2 ? to & 0xffff : to))
                 continue;
             put(places[i], to, count);
             if (places[i] < protect)
@@ -118,11 +118,11 @@ static void each_verdict(void) {
     /* Parts that are left out of the unprotected TLVs, which are no bytes that are signed. */
     for (size_t i = 0; i < 3; i++) {
         static const uint32_t at[] = {4, 40, 76}, bytes[] = {36, 36, 68};
-        static const enum signed_verdict is[] = {SIGNED_WRONG_DIGEST, SIGNED_OTHER_KEY, SIGNED_WRONG_SIGNATURE};
+        static const enum signed_verdict verdicts[] = {SIGNED_WRONG_DIGEST, SIGNED_OTHER_KEY, SIGNED_WRONG_SIGNATURE};
         make(LEAST, HARDWARE, 0);
         memmove(made + protect + at[i], made + protect + at[i] + bytes[i], length - protect - at[i] - bytes[i]);
         length -= bytes[i], put(protect + 2, (uint32_t)(length - protect), 2);
-        expect("one is missing", is[i], says());
+        expect("one is missing", verdicts[i], says());
     }
     begin(32, 200), add_hardware(HARDWARE), end(), sign(0);
     add(0x50, 2), add(4, 2), add(99, 4), put(protect + 2, (uint32_t)(length - protect), 2);

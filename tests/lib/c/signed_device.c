@@ -30,9 +30,9 @@ static struct dfu_device device = {.config = &config, .flash = flash, .block = b
 static struct dfu_trial trial = {.flash = flash, .driver = &driver};
 static struct signed_board board = {.device = &device, .rules = {(const uint8_t (*)[SIGNED_KEY])keys, 1, HARDWARE, 0}};
 
-static void expect(const char *row, const char *what, int is) {
+static void expect(const char *row, const char *what, int holds) {
     checks++;
-    if (!is && wrong++ < 20)
+    if (!holds && wrong++ < 20)
         printf("signed_device: %s: %s (unit %u, attributes %u, %s)\n", row, what, (unsigned)config.unit, config.attributes,
                board.trial ? "on trial" : "no trial");
 }

@@ -13,9 +13,9 @@ static struct dfu_device dfu = {.config = &config, .flash = medium, .block = blo
 static const uint8_t image[4] = {0xaa, 0xbb, 0xcc, 0xdd};
 static int wrong, rows;
 
-static void expect(const char *what, int is) {
+static void expect(const char *what, int holds) {
     rows++;
-    if (!is) {
+    if (!holds) {
         printf("time: %s, attributes %u, sector %u, interface %u\n", what, config.attributes, (unsigned)config.sector,
                config.interface_number);
         wrong = 1;

@@ -23,11 +23,11 @@ static uint32_t roll(uint32_t sides) {
     dice = dice * 1664525u + 1013904223u;
     return (dice >> 8) % sides;
 }
-static void expect(const char *what, int is) {
+static void expect(const char *what, int holds) {
     checks++;
-    if (!is && wrong < 10)
+    if (!holds && wrong < 10)
         printf("trial: %s; unit %u, harm %d, tear %d, run %lu\n", what, (unsigned)config.unit, harm, tear, runs);
-    wrong += !is;
+    wrong += !holds;
 }
 
 /* Value that a byte of the operation that suffers the harm comes to. */

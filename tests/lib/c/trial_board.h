@@ -28,7 +28,7 @@ static int lost; /* how often it went */
  * harmed. */
 static int is_upgrading, first_ran, running, is_in_reset, was_in_reset, runs, is_back, is_mark_harmed;
 
-static void expect(const char *what, int is);
+static void expect(const char *what, int holds);
 
 static int is_now(void) {
     return lost < 2 && points++ == cuts[lost];

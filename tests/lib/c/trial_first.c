@@ -28,9 +28,9 @@ static struct dfu_device dfu = {
     .config = &config, .flash = part, .size = sizeof part, .block = block, .most = sizeof block, .driver = &driver};
 static struct dfu_trial trial = {.flash = part, .size = sizeof part, .driver = &driver, .tries = {UNIT, SECTOR, 4}};
 
-static void expect(const char *what, int is)
+static void expect(const char *what, int holds)
 {
-    if (!is) {
+    if (!holds) {
         printf("trial_first: %s\n", what);
         wrong = 1;
     }

@@ -32,12 +32,12 @@ static int is_same(struct view a, struct view b) {
 }
 /* Checks that what is seen is one of these. */
 static void may(const char *what, int n, const struct view *any) {
-    const struct view is = see();
+    const struct view view = see();
     int found = 0;
     for (int i = 0; i < n; i++)
-        found |= is_same(is, any[i]);
+        found |= is_same(view, any[i]);
     expect(what, found);
-    now = is;
+    now = view;
 }
 static struct view ended(struct view v) {
     const struct view to = {v.base, -1, 0, v.armed};

@@ -16,8 +16,8 @@ static uint8_t file[LENGTH + 16];
 static unsigned long sessions, verified, different;
 static int is_verified, tightest; /* what is offered; whether one try less than enough was too few */
 
-static void expect(const char *what, int is) {
-    if (!is && wrong++ < 10)
+static void expect(const char *what, int holds) {
+    if (!holds && wrong++ < 10)
         printf("trial sessions: %s; unit %u, attributes %u, tries %u, behaviour %d, armed %d, cuts %ld and %ld of %ld, harm at %ld\n", what,
                (unsigned)config.unit, (unsigned)config.attributes, (unsigned)trial.tries.tries, (int)behaviour, is_armed, cuts[0], cuts[1],
                points, harm_at);

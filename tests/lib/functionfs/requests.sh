@@ -215,7 +215,7 @@ $late"
 wrong_program function.c 's/is_enabled && may_be_reset/is_enabled \&\& (may_be_reset || true)/' 'each ENABLE is a reset' "$resets"
 wrong_program function.c 's/ && is_new_state;/ \&\& (is_new_state || true);/' 'each dropped event is a reset' "$resets
 $two"
-wrong_program bus.c 's/before == DFU_STATE_APP_DETACH ? now - bus->told : machine_due(&bus->machine)/now - bus->told/' \
+wrong_program bus.c 's/before == DFU_STATE_APP_DETACH ? now - bus->last_tick_ms : machine_due(&bus->machine)/now - bus->last_tick_ms/' \
     'it lets the time pass before it writes' "$first
 $early" "$timed"
 wrong_program machine.c 's/if (note(machine, dfu_device_would_stall.*/if (true)/; s/if (length > machine->config.tra.*/if (false) {/' \

@@ -99,7 +99,7 @@ extern struct given given;
 
 /* tape.c: all paths of an inline call. A check that does not hold ends the program, with status 1 and the path so far. */
 extern unsigned long paths, checks;
-void holds(int is, const char *what);
+void holds(int truth, const char *what);
 void note(enum call call);
 void note_number(int32_t number);
 /* A choice of the path, 0 to n - 1: each is tried. */

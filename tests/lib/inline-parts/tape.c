@@ -52,10 +52,10 @@ static struct {
     int has_number;
 } trail[LONGEST];
 
-void holds(int is, const char *what)
+void holds(int truth, const char *what)
 {
     checks++;
-    if (is)
+    if (truth)
         return;
     printf("%s: %s:", of, what);
     for (unsigned i = 0; i < events; i++) {

@@ -110,8 +110,9 @@ def rows(browser):
         wanted = (report, None if memory is None else True, [] if start is None else [start])
         check(f'DfuSe, {what}', (found['name'], None if memory is None else image == memory, found['started']), wanted)
         check_that(f'DfuSe, {what}: other pages are as they were', 'map' in what or others_stay(image), found['line'])
-    found = in_page(browser, {'settings': device(fails=4, failCode=0, says='Can\'t overwrite mboot')})[0]
-    check('its own words', (found['name'], found['says'], found['line'].split(':')[0]), ('refused', "Can't overwrite mboot", 'refused'))
+    found = in_page(browser, {'settings': device(fails=4, failCode=0, refusalText='Can\'t overwrite mboot')})[0]
+    check('its own words', (found['name'], found['deviceText'], found['line'].split(':')[0]),
+          ('refused', "Can't overwrite mboot", 'refused'))
     check('no block was sent', in_page(browser, {'settings': device(isProtected=True, fates=[{'kind': 'deaf', 'number': 0}])})[0]['line'],
           'silent: the device answers no more; no block was sent')
 

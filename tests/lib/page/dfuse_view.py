@@ -152,14 +152,14 @@ def names(browser, address, work):
 def ends(browser, address, work):
     """A map that lies, a protected device, one that refuses in its own words, one that leaves, and a person who cancels."""
     for settings, wanted in ((device(lies=START + 0x440), 'Not the same bytes'), (device(isProtected=True), 'Protected'),
-                             (device(fails=4, failCode=0, says="Can't overwrite mboot"), 'Refused by the device'),
+                             (device(fails=4, failCode=0, refusalText="Can't overwrite mboot"), 'Refused by the device'),
                              (device(fates=[{'kind': 'leave', 'number': 20}]), 'Verified')):
         connect(browser, address, work, settings)
         is_ready(browser)
         browser.click('#begin')
         check('DfuSe, its end', report(browser), wanted)
         words = shown(browser, '#report')
-        check_that('DfuSe, its own words', 'says' not in settings or "In its own words: Can't overwrite mboot" in words, words)
+        check_that('DfuSe, its own words', 'refusalText' not in settings or "In its own words: Can't overwrite mboot" in words, words)
     connect(browser, address, work, device(config={'busy_ms': 300, 'transfer': 16}))
     is_ready(browser)
     browser.click('#begin')

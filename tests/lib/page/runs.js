@@ -31,7 +31,8 @@ export const wordsOf = name => {
   return [status, words]
 }
 export const dfuseWordsOf = (report, leaving) => {
-  const { name, status, words } = dfuseVerdictOf({ end: 'report', report, more: report === 1 ? leaving : 0, says: '' }, { hasSent: true })
+  const ended = { end: 'report', report, more: report === 1 ? leaving : 0, deviceText: '' }
+  const { name, status, words } = dfuseVerdictOf(ended, { hasSent: true })
   return [name, status, words]
 }
 export const scripts = texts => texts.map(text => runScript(modules, linesOf(text)).join('\n'))
@@ -69,7 +70,7 @@ function answerOf(usb, { verdict, session, wire, trace, person }) {
   usb.pass(10000)
   return { line: lineOf(verdict), status: verdict.status, name: verdict.name, image: textOf(usb.device.image()), asked: person?.asked,
     actions: session?.taken, restarts: session?.restarted, transfers: wire?.transfers, goal: session?.goal, trace: trace?.lines,
-    faults: usb.faults, state: usb.device.state(), started: usb.device.started, says: verdict.says }
+    faults: usb.faults, state: usb.device.state(), started: usb.device.started, deviceText: verdict.deviceText }
 }
 
 // stopAt: the number of the action before which a person cancels.
@@ -85,7 +86,7 @@ async function run({ file, settings = {}, wantsVerified = true, limits = null, p
   await board.choose(await usb.requestDevice())
   const trace = new Trace()
   const wire = new Wire(board, usb.clock, person, trace)
-  const ids = { device: board.is.release, product: board.is.product, vendor: board.is.vendor }
+  const ids = { device: board.info.release, product: board.info.product, vendor: board.info.vendor }
   const onStep = (_, answer) => { if (answer === null && session.taken === stopAt) usb.clock.stop() }
   const session = new Session(host, wire, { wantsVerified, ids, limits, onStep })
   const refusal = session.begin()
@@ -106,7 +107,7 @@ async function runAny({ file, settings = {}, place = {}, platform = 'Linux', sto
   const person = new Person(usb, { chooses, replugs })
   const board = new Board(usb, usb.clock, person, place)
   await board.choose(await usb.requestDevice())
-  const [trace, ids] = [new Trace(), { device: board.is.release, product: board.is.product, vendor: board.is.vendor }]
+  const [trace, ids] = [new Trace(), { device: board.info.release, product: board.info.product, vendor: board.info.vendor }]
   const wire = new Wire(board, usb.clock, person, trace)
   const onStep = (_, answer) => { if (answer === null && session.taken === stopAt) usb.clock.stop() }
   const { session, refusal, verdictOf: verdictFor } = prepare(modules.host, wire, { bytes, ...read, isRaw }, { ids, ...words, onStep })

@@ -80,7 +80,7 @@ export class StandInUsb extends EventTarget {
     super()
     const usual = settings.maps === undefined ? USUAL : { ...USUAL, ...DFUSE_USUAL, alternates: settings.maps.length }
     this.settings = { ...usual, ...settings, config: { ...USUAL.config, ...usual.config, ...settings.config } }
-    Object.assign(this, { count: 0, log: [], faults: [], ms: 0, backAt: 0, isLost: false, told: performance.now() })
+    Object.assign(this, { count: 0, log: [], faults: [], ms: 0, backAt: 0, isLost: false, lastTick: performance.now() })
     const { config, interface: number, capacity, image } = this.settings
     const isDfuse = this.settings.maps !== undefined
     this.device = isDfuse ? new DfuseDevice(this.settings) : new Device(module, { ...config, interface_number: number }, capacity, image)
@@ -118,8 +118,8 @@ export class StandInUsb extends EventTarget {
   // The real time that passed.
   catchUp() {
     if (!this.settings.isReal) return
-    const ms = Math.floor(performance.now() - this.told)
-    this.told += ms
+    const ms = Math.floor(performance.now() - this.lastTick)
+    this.lastTick += ms
     if (ms > 0) this.pass(ms)
   }
 

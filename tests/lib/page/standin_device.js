@@ -39,9 +39,9 @@ export class StandInDevice {
 
   // A string descriptor: its bytes, or those of the languages.
   string(index) {
-    const { maps, says } = this.usb.settings
+    const { maps, refusalText } = this.usb.settings
     if (maps === undefined) return { status: 'stall' }
-    const text = index === WORDS ? says : maps[index - FIRST_NAME] ?? ''
+    const text = index === WORDS ? refusalText : maps[index - FIRST_NAME] ?? ''
     const units = Array.from(text, (_, at) => text.charCodeAt(at)).flatMap(unit => [unit & 255, unit >> 8])
     if (units.length > 252) return { status: 'stall' }
     return { status: 'ok', data: viewOf(new Uint8Array(index === 0 ? ENGLISH : [2 + units.length, 3, ...units])) }

@@ -31,7 +31,7 @@ export const DFUSE_USUAL = {
   isProtected: false,
   pending: 0,         // a page whose erase was brought by an earlier run, and not started
   lies: 0,            // a byte that is never written
-  says: '',           // what it says of a refusal
+  refusalText: '',    // what it says of a refusal
   tellsNames: false,  // WebUSB tells the names of its settings
 }
 
@@ -196,7 +196,7 @@ export class DfuseDevice {
     else this.settle()
     if (this.at === MANIFEST_SYNC) Object.assign(this, { at: MANIFEST, left: 1 })
     const ms = this.settings.tellsTimes ? this.left : 0
-    const string = this.at === ERROR && this.settings.says !== '' ? WORDS : 0
+    const string = this.at === ERROR && this.settings.refusalText !== '' ? WORDS : 0
     return new Uint8Array([this.said, ms & 255, ms >> 8 & 255, ms >> 16, this.at, string])
   }
 

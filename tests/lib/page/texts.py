@@ -59,7 +59,8 @@ def numbers():
                                                          'include/dfu_image_take.h',
                                                          'apps/flash/standard.h'))
     theirs = {name: int(number, 0) for name, number in re.findall(r'(?:^   |^enum \{|,) (\w+) = (-?(?:0x[0-9a-f]+|\d+))\b', headers, re.M)}
-    lists = re.findall(r'const char \*const (\w+)\[\] = \{(.*?)\};', (TOP / 'apps/flash/standard.c').read_text(), re.S)
+    tables = (TOP / 'apps/flash/standard.c').read_text() + (TOP / 'apps/common/names.c').read_text()
+    lists = re.findall(r'const char \*const (\w+)\[\] = \{(.*?)\};', tables, re.S)
     ours = ('host.js', 'watch.js', 'dfuse_host.js', 'dfuse_watch.js', 'names.js', 'taking.js')
     pages = ''.join((TOP / 'apps/web' / it).read_text() for it in ours)
     fronts = {name: 'DFU_' for name in ('WHAT', 'REPORT', 'REFUSAL', 'COURSE', 'COURSES')}

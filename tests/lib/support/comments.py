@@ -6,14 +6,14 @@ OPENING = re.compile(r"(?:What|How|Whether|Where|Why|That|The same)\b")
 END = re.compile(r"(?<=[.!?:])\s+(?=[A-Z`*\[(\"])")
 BLOCK = re.compile(r"\n\s*\n|\n(?=\s*[-|#>]|\s*\d+\. )")
 LEAST_WORDS = 4
-# A tree, the files that it has, and its budget. (Of the page's JavaScript it is what stands there; C, headers and pages are at the aim.)
+# A tree, the files that it has, and its budget. The aim is 6.0 for each; only the .rt are above it.
 TREES = (
-    ("crates, .rt", lambda it: it.startswith("crates/") and it.endswith(".rt"), 22.8),
-    ("crates, .antt", lambda it: it.startswith("crates/") and it.endswith(".antt"), 17.9),
+    ("crates, .rt", lambda it: it.startswith("crates/") and it.endswith(".rt"), 9.3),
+    ("crates, .antt", lambda it: it.startswith("crates/") and it.endswith(".antt"), 5.5),
     ("C of apps/", lambda it: it.startswith("apps/") and it.endswith((".c", ".h")), 6.0),
     ("headers of include/", lambda it: it.startswith("include/") and it.endswith(".h"), 6.0),
     ("C of examples/ and tests/", lambda it: it.startswith(("examples/", "tests/")) and it.endswith((".c", ".h")), 6.0),
-    ("JavaScript of apps/web", lambda it: it.startswith("apps/web/") and it.endswith(".js"), 16.8),
+    ("JavaScript of apps/web", lambda it: it.startswith("apps/web/") and it.endswith(".js"), 6.0),
     ("JavaScript of tests/", lambda it: it.startswith("tests/") and it.endswith(".js"), 6.0),
     ("pages", lambda it: it.endswith(".md"), 6.0),
 )

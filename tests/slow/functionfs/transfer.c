@@ -26,14 +26,14 @@ static int bytes_of(const char *word, uint8_t *out, int most)
 static int number(const char *device, const char *attribute)
 {
     char path[128];
-    int is = -1;
+    int number = -1;
     snprintf(path, sizeof path, "/sys/bus/usb/devices/%s/%s", device, attribute);
     FILE *file = fopen(path, "r");
-    if (file == NULL || fscanf(file, "%d", &is) != 1)
-        is = -1;
+    if (file == NULL || fscanf(file, "%d", &number) != 1)
+        number = -1;
     if (file != NULL)
         fclose(file);
-    return is;
+    return number;
 }
 
 static int set_alternate(int file, const char *setting)
@@ -47,9 +47,9 @@ static int set_alternate(int file, const char *setting)
 static int transfer(int file, const uint8_t setup[8], const char *body)
 {
     int length = body != NULL ? bytes_of(body, data, (int)sizeof data) : setup[6] | setup[7] << 8;
-    struct usbdevfs_ctrltransfer is = {setup[0], setup[1], (uint16_t)(setup[2] | setup[3] << 8), (uint16_t)(setup[4] | setup[5] << 8),
+    struct usbdevfs_ctrltransfer transfer = {setup[0], setup[1], (uint16_t)(setup[2] | setup[3] << 8), (uint16_t)(setup[4] | setup[5] << 8),
                                        (uint16_t)length, 4000, data};
-    return ioctl(file, USBDEVFS_CONTROL, &is);
+    return ioctl(file, USBDEVFS_CONTROL, &transfer);
 }
 
 int main(int count, char **words)

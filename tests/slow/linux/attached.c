@@ -57,20 +57,20 @@ static bool attach(void)
     int ends[2];
     char words[64];
     int file = open(ATTACH, O_WRONLY), length;
-    bool is = false;
+    bool is_attached = false;
     if (file < 0 || socketpair(AF_UNIX, SOCK_STREAM, 0, ends) != 0)
         fail_loudly("there is no %s", ATTACH);
     length = snprintf(words, sizeof words, "%ld %d %d %d", port, ends[1], DEVICE, FULL_SPEED);
-    is = write(file, words, (size_t)length) == length;
+    is_attached = write(file, words, (size_t)length) == length;
     close(file);
     close(ends[1]);
-    if (is)
+    if (is_attached)
         line = ends[0];
     else
         close(ends[0]);
     is_configured = false;
     generation = bus_generation();
-    return is;
+    return is_attached;
 }
 
 static void detach(void)
@@ -104,21 +104,23 @@ static int cut(const uint8_t *bytes, int length, uint8_t *out, int room)
 
 static int get_device(uint8_t *out, int room)
 {
-    struct libusb_device_descriptor is;
-    describe_device(bus_is_app(), &is);
-    const uint8_t bytes[18] = { 18, 1, 0x00, 0x02, 0, 0, 0, 8, (uint8_t)is.idVendor, (uint8_t)(is.idVendor >> 8),
-                                (uint8_t)is.idProduct, (uint8_t)(is.idProduct >> 8), (uint8_t)is.bcdDevice,
-                                (uint8_t)(is.bcdDevice >> 8), is.iManufacturer, is.iProduct, is.iSerialNumber, is.bNumConfigurations };
+    struct libusb_device_descriptor device;
+    describe_device(bus_is_app(), &device);
+    const uint8_t bytes[18] = { 18, 1, 0x00, 0x02, 0, 0, 0, 8, (uint8_t)device.idVendor, (uint8_t)(device.idVendor >> 8),
+                                (uint8_t)device.idProduct, (uint8_t)(device.idProduct >> 8), (uint8_t)device.bcdDevice,
+                                (uint8_t)(device.bcdDevice >> 8), device.iManufacturer, device.iProduct, device.iSerialNumber,
+                                device.bNumConfigurations };
     return cut(bytes, sizeof bytes, out, room);
 }
 
 static int get_configuration(uint8_t *out, int room)
 {
-    struct libusb_config_descriptor *is = describe_configuration(bus_is_app());
-    uint8_t bytes[256] = { 9, 2, 0, 0, is->bNumInterfaces, is->bConfigurationValue, is->iConfiguration, is->bmAttributes, is->MaxPower };
+    struct libusb_config_descriptor *configuration = describe_configuration(bus_is_app());
+    uint8_t bytes[256] = { 9, 2, 0, 0, configuration->bNumInterfaces, configuration->bConfigurationValue, configuration->iConfiguration,
+                           configuration->bmAttributes, configuration->MaxPower };
     int length = 9;
-    for (int at = 0; at < is->interface->num_altsetting; at++) {
-        const struct libusb_interface_descriptor *one = &is->interface->altsetting[at];
+    for (int at = 0; at < configuration->interface->num_altsetting; at++) {
+        const struct libusb_interface_descriptor *one = &configuration->interface->altsetting[at];
         const uint8_t words[9] = { 9, 4, one->bInterfaceNumber, one->bAlternateSetting, 0, one->bInterfaceClass,
                                    one->bInterfaceSubClass, one->bInterfaceProtocol, one->iInterface };
         memcpy(bytes + length, words, 9);
@@ -128,7 +130,7 @@ static int get_configuration(uint8_t *out, int room)
         length += one->extra_length;
     }
     bytes[2] = (uint8_t)length;
-    forget_configuration(is);
+    forget_configuration(configuration);
     return cut(bytes, length, out, room);
 }
 
@@ -175,21 +177,21 @@ static int handle(const uint8_t setup[8], uint8_t *data)
 static bool serve(void)
 {
     static uint8_t data[65536];
-    struct header is, answer = { 0 };
-    if (!transfer_all(&is, sizeof is, true))
+    struct header request, answer = { 0 };
+    if (!transfer_all(&request, sizeof request, true))
         return false;
-    uint32_t length = ntohl(is.fields[1]);
-    bool is_in = ntohl(is.direction) == 1;
-    answer.command = htonl(ntohl(is.command) == SUBMIT ? SUBMITTED : UNLINKED);
-    answer.number = is.number;
-    if (ntohl(is.command) == UNLINK) {
+    uint32_t length = ntohl(request.fields[1]);
+    bool is_in = ntohl(request.direction) == 1;
+    answer.command = htonl(ntohl(request.command) == SUBMIT ? SUBMITTED : UNLINKED);
+    answer.number = request.number;
+    if (ntohl(request.command) == UNLINK) {
         answer.fields[0] = htonl((uint32_t)-ECONNRESET);
         return transfer_all(&answer, sizeof answer, false);
     }
     if (!is_in && length > 0 && !transfer_all(data, length, true))
         return false;
     bus_pass_time();
-    int count = handle(is.setup, data);
+    int count = handle(request.setup, data);
     if (count == USB_ERROR_NO_DEVICE)
         return false;
     if (count == USB_ERROR_TIMEOUT)

@@ -53,11 +53,11 @@ int flash_write(uint32_t at, const uint32_t *words, uint32_t count)
     if (at + 4 * count > FLASH_BASE + SIZE || changes(at, 4 * count))
         return -1;
     for (uint32_t i = 0; i < 4 * count; i++) {
-        uint8_t *is = cell(at + i);
-        if (settings.cells == 1 && *is != 0xff && *is != bytes[i])
+        uint8_t *byte = cell(at + i);
+        if (settings.cells == 1 && *byte != 0xff && *byte != bytes[i])
             return -1;
         if (at + i != settings.lies)
-            *is = settings.cells == 0 ? *is & bytes[i] : bytes[i];
+            *byte = settings.cells == 0 ? *byte & bytes[i] : bytes[i];
     }
     return 0;
 }

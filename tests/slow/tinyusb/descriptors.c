@@ -8,8 +8,8 @@ struct dfu_config config;
 
 unsigned setting(const char *name, int base, unsigned otherwise)
 {
-    const char *is = getenv(name);
-    return is != NULL ? (unsigned)strtoul(is, NULL, base) : otherwise;
+    const char *value = getenv(name);
+    return value != NULL ? (unsigned)strtoul(value, NULL, base) : otherwise;
 }
 
 void board_set_up(void)
@@ -42,31 +42,31 @@ bool tud_vendor_control_xfer_cb(uint8_t rhport, uint8_t stage, tusb_control_requ
 
 uint8_t const *tud_descriptor_device_cb(void)
 {
-    static uint8_t const is[] = {18, TUSB_DESC_DEVICE, 0x10, 2, 0, 0, 0, 64, 0x09, 0x12, 0x01, 0x00, 0x00, 0x01, 1, 2, 3, 1};
-    return is;
+    static uint8_t const descriptor[] = {18, TUSB_DESC_DEVICE, 0x10, 2, 0, 0, 0, 64, 0x09, 0x12, 0x01, 0x00, 0x00, 0x01, 1, 2, 3, 1};
+    return descriptor;
 }
 
 uint8_t const *tud_descriptor_device_qualifier_cb(void)
 {
-    static uint8_t const is[] = {10, TUSB_DESC_DEVICE_QUALIFIER, 0x10, 2, 0, 0, 0, 64, 1, 0};
-    return is;
+    static uint8_t const descriptor[] = {10, TUSB_DESC_DEVICE_QUALIFIER, 0x10, 2, 0, 0, 0, 64, 1, 0};
+    return descriptor;
 }
 
 /* With INTERFACE above 0 there is another interface, 0, of a vendor's class and without endpoints. */
 static uint8_t const *configuration(uint8_t type)
 {
     enum { HEAD = TUD_CONFIG_DESC_LEN, OTHER = 9, OURS = DFU_TINYUSB_INTERFACE_LENGTH };
-    static uint8_t is[HEAD + OTHER + OURS];
+    static uint8_t descriptor[HEAD + OTHER + OURS];
     const uint8_t others = config.interface_number > 0 ? 1 : 0, length = (uint8_t)(HEAD + others * OTHER + OURS);
     uint8_t const head[HEAD] = {TUD_CONFIG_DESCRIPTOR(1, (uint8_t)(1 + others), 0, length, TUSB_DESC_CONFIG_ATT_SELF_POWERED, 100)};
     uint8_t const other[OTHER] = {9, TUSB_DESC_INTERFACE, 0, 0, 0, TUSB_CLASS_VENDOR_SPECIFIC, 0, 0, 0};
     uint8_t const ours[OURS] = {
         DFU_TINYUSB_INTERFACE(config.interface_number, 4, board_protocol(), config.attributes, config.detach_ms, config.transfer)};
-    memcpy(is, head, HEAD);
-    is[1] = type;
-    memcpy(is + HEAD, other, OTHER);
-    memcpy(is + HEAD + others * OTHER, ours, OURS);
-    return is;
+    memcpy(descriptor, head, HEAD);
+    descriptor[1] = type;
+    memcpy(descriptor + HEAD, other, OTHER);
+    memcpy(descriptor + HEAD + others * OTHER, ours, OURS);
+    return descriptor;
 }
 
 uint8_t const *tud_descriptor_configuration_cb(uint8_t index)
@@ -82,15 +82,15 @@ uint8_t const *tud_descriptor_other_speed_configuration_cb(uint8_t index)
 uint16_t const *tud_descriptor_string_cb(uint8_t index, uint16_t language)
 {
     static const char *const words[] = {"", "Fustrelan", "Board", "T1", "Firmware"};
-    static uint16_t is[16] = {0x0304, 0x0409};
+    static uint16_t descriptor[16] = {0x0304, 0x0409};
     const char *word = index < 5 ? words[index] : "";
     size_t length = strlen(word);
     (void)language;
     if (index > 4)
         return NULL;
-    is[0] = (uint16_t)(0x0300 | (index == 0 ? 4 : 2 + 2 * length));
-    is[1] = 0x0409;
+    descriptor[0] = (uint16_t)(0x0300 | (index == 0 ? 4 : 2 + 2 * length));
+    descriptor[1] = 0x0409;
     for (size_t at = 0; at < length; at++)
-        is[1 + at] = (uint8_t)word[at];
-    return is;
+        descriptor[1 + at] = (uint8_t)word[at];
+    return descriptor;
 }

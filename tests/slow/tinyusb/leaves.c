@@ -13,9 +13,9 @@ uint8_t board_protocol(void)
     return dfu_tinyusb_protocol();
 }
 
-static void check(const char *what, bool is)
+static void check(const char *what, bool holds)
 {
-    if (is) {
+    if (holds) {
         passed++;
     } else {
         failed++;

@@ -29,7 +29,7 @@ static bool is_aborted; /* by a reset, which TinyUSB has not taken yet: what it 
 static struct usb_ctrlrequest now;
 static uint32_t gathered;
 static struct {
-    struct usb_raw_ep_io is;
+    struct usb_raw_ep_io head;
     uint8_t bytes[65536 + 64];
 } io;
 static int gadget = -1;
@@ -103,15 +103,15 @@ static void *interrupt(void *nothing)
 {
     while (!__atomic_load_n(&is_leaving, __ATOMIC_SEQ_CST)) {
         struct {
-            struct usb_raw_event is;
+            struct usb_raw_event head;
             struct usb_ctrlrequest setup;
-        } event = {.is = {.length = sizeof event.setup}};
+        } event = {.head = {.length = sizeof event.setup}};
         if (ioctl(gadget, USB_RAW_IOCTL_EVENT_FETCH, &event) != 0) {
             if (errno == EINTR)
                 continue;
             break;
         }
-        switch ((int)event.is.type) {
+        switch ((int)event.head.type) {
         case USB_RAW_EVENT_CONTROL: begin_request(&event.setup); break;
         case RAW_RESET: begin_reset(false); break;
         case RAW_DISCONNECT: begin_reset(true); break;
@@ -192,7 +192,7 @@ static int gather_in(const uint8_t *packet, uint16_t length)
     memcpy(io.bytes + gathered, packet, length);
     gathered += length;
     if (gathered == now.wLength || length < CFG_TUD_ENDPOINT0_SIZE) {
-        io.is = (struct usb_raw_ep_io){.flags = gathered < now.wLength ? USB_RAW_IO_FLAGS_ZERO : 0, .length = gathered};
+        io.head = (struct usb_raw_ep_io){.flags = gathered < now.wLength ? USB_RAW_IO_FLAGS_ZERO : 0, .length = gathered};
         count = ioctl(gadget, USB_RAW_IOCTL_EP0_WRITE, &io);
         board_log(count < 0 ? "in failed %d" : "in %d", count < 0 ? errno : count);
     }
@@ -204,7 +204,7 @@ static int scatter_out(uint8_t *packet, uint16_t length)
 {
     int count = 0;
     if (!is_read) {
-        io.is = (struct usb_raw_ep_io){.length = now.wLength};
+        io.head = (struct usb_raw_ep_io){.length = now.wLength};
         count = ioctl(gadget, USB_RAW_IOCTL_EP0_READ, &io);
         board_log(count < 0 ? "out failed %d" : "out %d", count < 0 ? errno : count);
         is_read = true;
@@ -225,7 +225,7 @@ static int acknowledge(void)
         ioctl(gadget, USB_RAW_IOCTL_VBUS_DRAW, 50);
         ioctl(gadget, USB_RAW_IOCTL_CONFIGURE, 0);
     }
-    io.is = (struct usb_raw_ep_io){.length = 0};
+    io.head = (struct usb_raw_ep_io){.length = 0};
     count = ioctl(gadget, USB_RAW_IOCTL_EP0_READ, &io);
     board_log(count < 0 ? "ack failed %d" : "ack", count < 0 ? errno : 0);
     return count;

@@ -34,9 +34,9 @@ int32_t __wrap_dfu_core_power_on(const struct dfu_config *c, struct dfu_record *
     return __real_dfu_core_power_on(c, r, f, size);
 }
 
-static void check(const char *what, bool is)
+static void check(const char *what, bool holds)
 {
-    if (is) {
+    if (holds) {
         passed++;
     } else {
         failed++;

@@ -22,14 +22,14 @@ static uint8_t packet[8 + 65536];
 static int number(const char *attribute)
 {
     char path[128];
-    int is = -1;
+    int number = -1;
     snprintf(path, sizeof path, "/sys/bus/usb/devices/%s/%s", device, attribute);
     FILE *from = fopen(path, "r");
-    if (from == NULL || fscanf(from, "%d", &is) != 1)
-        is = -1;
+    if (from == NULL || fscanf(from, "%d", &number) != 1)
+        number = -1;
     if (from != NULL)
         fclose(from);
-    return is;
+    return number;
 }
 
 /* The device is waited for: after a reset it may come back with another number, in its other mode. */
@@ -144,8 +144,8 @@ static void print_answer(int got)
 
 static int transact(unsigned length)
 {
-    struct usbdevfs_ctrltransfer is = {setup[0], setup[1], (uint16_t)(setup[2] | setup[3] << 8), 0, (uint16_t)length, 6000, data};
-    const int got = ioctl(file, USBDEVFS_CONTROL, &is);
+    struct usbdevfs_ctrltransfer transfer = {setup[0], setup[1], (uint16_t)(setup[2] | setup[3] << 8), 0, (uint16_t)length, 6000, data};
+    const int got = ioctl(file, USBDEVFS_CONTROL, &transfer);
     return got < 0 ? -errno - 1 : got;
 }
 

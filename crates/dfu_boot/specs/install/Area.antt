@@ -28,7 +28,7 @@ pub record FirstDiffers (image run : List ℕ) (from to at : ℕ) : Type 0 where
   pub differs : slice_index run at ≢ slice_index image at
   pub before : AreSame image run from at
 
--- Where the sector, or the piece, of so many bytes begins that has this place.
+-- Place at which the sector, or the piece, of so many bytes begins that has this place.
 abbrev pub start_of : ℕ → ℕ → ℕ
 start_of part at = at - at % part
 

@@ -1,4 +1,4 @@
--- What is due next of a run area.
+-- Operation that is due next of a run area.
 use Rattle.std.specs.Prelude.{◌≡◌, ◌⊎◌, ℕ, ◌+◌, ◌≤◌, ◌<◌, min, List, length, Option, Some, None}
 use Rattle.dfu_boot.specs.declared.install.due.Due.{Due}
 use Rattle.dfu_boot.specs.declared.install.due.Due.TheVariants.{Refuse, Erase, Program, Start}
@@ -11,7 +11,7 @@ pub record IsReady (image run : List ℕ) (sector : ℕ) : Type 0 where
   pub some : 0 < length image
   pub fits : length image ≤ length run
 
--- Where to look first: where the last operation went, if that is in the image.
+-- Place at which the search begins: where the last operation went, if that is in the image.
 abbrev pub look_from : List ℕ → Option ℕ → ℕ
 look_from image None = 0
 look_from image (Some at) = min at (length image)
@@ -40,7 +40,7 @@ pub record IsEraseOf (image run : List ℕ) (sector : ℕ) (last : Option ℕ) (
   pub is : begins ≡ start_of sector at
   pub may_not : ¬ MayProgram run sector last (start_of 256 at)
 
--- What is due: a refusal, the first that there is; an operation for the next byte that differs; and if none differs, the start.
+-- The due operation: a refusal, the first that there is; an operation for the next byte that differs; and if none differs, the start.
 abbrev pub Does : List ℕ → List ℕ → ℕ → Option ℕ → Due → Type 0
 Does image run sector last (Refuse WrongSize) = ¬ IsRunArea (length run) sector
 Does image run sector last (Refuse NoImage) = IsRunArea (length run) sector × (length image ≡ 0)

@@ -1,4 +1,4 @@
--- How an operation went.
+-- Outcome of an operation.
 use Rattle.std.specs.Prelude.{◌≡◌, ℕ, ◌+◌, ◌≤◌, Bool, false, List, length, Option, Some, None}
 use Rattle.dfu_boot.specs.declared.install.due.Due.{Due}
 use Rattle.dfu_boot.specs.declared.install.due.Due.TheVariants.{Refuse, Erase, Program, Start}
@@ -19,7 +19,7 @@ Worked image run sector (Program piece) at = (piece ≡ at) × IsProgrammed imag
 Worked image run sector (Refuse refusal) at = ⊥
 Worked image run sector Start at = ⊥
 
--- What is noted of an operation of a run area: its place, if it did not fail and worked.
+-- The note of an operation of a run area is its place, if it did not fail and worked.
 abbrev pub TookDue : List ℕ → List ℕ → ℕ → Due → Bool → Option ℕ → Type 0
 TookDue image run sector due failed (Some at) = (failed ≡ false) × IsRunArea (length run) sector × Worked image run sector due at
 TookDue image run sector due failed None = failed ≡ false → IsRunArea (length run) sector → (at : ℕ) → ¬ Worked image run sector due at

@@ -1,4 +1,4 @@
--- What the calls return.
+-- Results of the calls.
 use Rattle.std.specs.Prelude.{◌≡◌, ℕ, ◌+◌, ◌*◌, ◌≤◌, ◌<◌, ◌==◌, nat_lt, ◌%◌, Option, Some, None, length, slice_range, if◌then◌else◌}
 use Rattle.dfu_slots.specs.Units.{Grain, gate_room, IsMultiple}
 use Rattle.dfu_slots.specs.Medium.{MediumState, IsWritable}
@@ -47,17 +47,17 @@ trial_start grain tries (standing.OnTrial t) =
     then record { operation = Some (sets grain t.slot (t.starts + 1)); slot = t.slot; otherwise = t.base }
     else record { operation = Some (Close t.slot); slot = t.base; otherwise = t.base }
 
--- What runs once the operation was carried out, whatever became of it.
+-- Image that runs once the operation was carried out, whatever became of it.
 abbrev pub runs_in : MediumState → Starting → Option Operation → ℕ
 runs_in m s (Some (Mark at len)) = if is_marked (slice_range m.bytes at (at + len)) then s.slot else s.otherwise
 runs_in m s (Some (Close at)) = s.slot
 runs_in m s None = s.slot
 
--- Where the image in the slot that begins there begins.
+-- Place at which the image begins in the slot that begins there.
 abbrev pub image_place : Grain → ℕ → ℕ
 image_place grain slot = slot + 2 * gate_room grain
 
--- How the image at this place is confirmed: by its mark 0, if it is active and that is not set. The confirmed image that the one on trial
+-- Confirmation of the image at this place: by its mark 0, if it is active and that is not set. The confirmed image that the one on trial
 -- would fall back to is confirmed.
 abbrev pub confirm_of : Grain → Standing → ℕ → Confirmation
 confirm_of grain (standing.Settled s) at =
@@ -69,12 +69,12 @@ confirm_of grain (standing.OnTrial t) at =
     then confirm.By (sets grain t.slot 0)
     else (if at == image_place grain t.base then confirm.Confirmed else confirm.Elsewhere)
 
--- How a trial ends: the gate of its slot is closed.
+-- End of a trial: the gate of its slot is closed.
 abbrev pub end_of_trial : Standing → Option Operation
 end_of_trial (standing.Settled s) = None
 end_of_trial (standing.OnTrial t) = Some (Close t.slot)
 
--- What an upload asks for first: without a start left the trial ends, as the next start would end it. Else nothing.
+-- Operation that an upload asks for first: without a start left the trial ends, as the next start would end it. Else nothing.
 abbrev pub upload_of : ℕ → Standing → Option Operation
 upload_of tries (standing.Settled s) = None
 upload_of tries (standing.OnTrial t) = if nat_lt t.starts tries then None else Some (Close t.slot)

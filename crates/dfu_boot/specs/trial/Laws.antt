@@ -1,4 +1,4 @@
--- What becomes of the images of a medium when an operation is carried out, whatever becomes of the operation.
+-- Images of a medium after an operation is carried out, whatever becomes of the operation.
 use Rattle.std.specs.Prelude.{◌≡◌, ◌⊎◌, ℕ, ◌+◌, ◌≤◌, ◌<◌, true, false, List, slice_range, replicate, Option, Some, None}
 use Rattle.dfu_slots.specs.declared.fault.WriteFault.TheVariants.{Failed}
 use Rattle.dfu_slots.specs.Medium.{MediumState, KeepsOutside, WroteOrLied, FailedWrite}
@@ -55,18 +55,18 @@ pub record IsBack (m : MediumState) (t : Trial) (now : MediumState) : Type 0 whe
   pub stands : IsSettled now (record { slot = t.base; is_confirmed = true })
   pub image : image_at now t.base ≡ image_at m t.base
 
--- What comes of the operation of a start, with a start left: the image on trial runs, and the start is recorded; or the confirmed one runs,
--- and the trial goes on as it was.
+-- Result of the operation of a start, with a start left: the image on trial runs, and the start is recorded; or the confirmed one runs, and
+-- the trial goes on as it was.
 abbrev pub AfterMark : MediumState → ℕ → Trial → MediumState → ℕ → Type 0
 AfterMark m tries t now ran = (HasStarted m tries t now × (ran ≡ t.slot)) ⊎ (GoesOn m tries t now × (ran ≡ t.base))
 
--- What comes of what was asked before a start: nothing, if nothing was asked.
+-- Result of the operation that was asked before a start: nothing, if nothing was asked.
 abbrev pub CarriedIf : MediumState → Option Operation → MediumState → Type 0
 CarriedIf m None now = now ≡ m
 CarriedIf m (Some operation) now = Carried m operation now
 
--- What a start leaves, and the slot that runs. If nothing is on trial the active image runs and nothing changed. On trial with a start left
--- the mark decides. Without one the confirmed image runs, and the trial has ended, or is as it was.
+-- Medium that a start leaves, and the slot that runs. If nothing is on trial the active image runs and nothing changed. On trial with a
+-- start left the mark decides. Without one the confirmed image runs, and the trial has ended, or is as it was.
 abbrev pub Starts : MediumState → ℕ → Standing → MediumState → ℕ → Type 0
 Starts m tries (standing.Settled s) now ran = (now ≡ m) × (ran ≡ s.slot)
 Starts m tries (standing.OnTrial t) now ran = AfterMark m tries t now ran
@@ -85,8 +85,8 @@ pub record RunsNext (m : MediumState) (tries : ℕ) (image : List ℕ) : Type 0 
   pub asks : upload_of tries standing ≡ None
   pub image_is : image_at m (upload_slot standing) ≡ image
 
--- What comes of what an upload asks for: the next start is to run what it gives then, the active image, or the confirmed one if no start
--- was left. Or the trial that was to end goes on.
+-- Result of the operation that an upload asks for: the next start is to run what it gives then, the active image, or the confirmed one if
+-- no start was left. Or the trial that was to end goes on.
 abbrev pub Uploads : MediumState → ℕ → Standing → MediumState → Type 0
 Uploads m tries (standing.Settled s) now = RunsNext now tries (image_at m s.slot)
 Uploads m tries (standing.OnTrial t) now = ((t.starts < tries) × RunsNext now tries (image_at m t.slot))

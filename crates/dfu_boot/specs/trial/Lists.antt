@@ -1,4 +1,4 @@
--- What may come to a medium with sectors, one thing after another, once an image was confirmed; and what becomes of its images.
+-- Events of a medium with sectors, one after another, once an image was confirmed; and what becomes of its images.
 use Rattle.std.specs.Prelude.{◌≡◌, ◌⊎◌, ℕ, ◌+◌, ◌≤◌, ◌<◌, true, false, List, [], ◌∷◌, Option, Some, None}
 use Rattle.dfu_slots.specs.Medium.{MediumState, KeepsOutside}
 use Rattle.dfu_slots.specs.Layout.{slot_size, ArePlaces}
@@ -33,18 +33,18 @@ pub record TrialStep : Type 0 where
   pub event : TrialEvent
   pub now : MediumState
 
--- What a start runs, unless the power went: what it says for the medium after its operation.
+-- Image that a start runs, unless the power went: what it says for the medium after its operation.
 abbrev pub RanBy : Starting → MediumState → Option ℕ → Type 0
 RanBy s now None = Unit {0}
 RanBy s now (Some slot) = slot ≡ runs_in now s s.operation
 
--- What a confirmation asked for was carried out, whatever became of it; else nothing changed.
+-- A confirmation that was asked for was carried out, whatever became of it; else nothing changed.
 abbrev pub ConfirmedBy : MediumState → Confirmation → MediumState → Type 0
 ConfirmedBy m (confirm.By operation) now = Carried m operation now
 ConfirmedBy m confirm.Confirmed now = now ≡ m
 ConfirmedBy m confirm.Elsewhere now = now ≡ m
 
--- What an upload gives, unless it is stalled: the image that the next start is to run.
+-- Image that an upload gives, unless it is stalled: the image that the next start is to run.
 abbrev pub GivenBy : MediumState → ℕ → Option (List ℕ) → Type 0
 GivenBy now tries None = Unit {0}
 GivenBy now tries (Some image) = RunsNext now tries image
@@ -95,7 +95,7 @@ AreTrusted m tries (Tried base image runs) = (t : Trial) × IsStanding m tries (
 abbrev pub IsOnOrBack : (base image : List ℕ) → ℕ → Trust → Type 0
 IsOnOrBack base image runs next = (next ≡ Tried base image runs) ⊎ (next ≡ Alone base)
 
--- What becomes of the images by a start. What runs is the confirmed image; or that on trial, which ran fewer than `tries` times before.
+-- Images after a start. The image that runs is the confirmed one; or that on trial, which ran fewer than `tries` times before.
 abbrev pub MayStart : ℕ → Trust → MediumState → Option ℕ → Trust → Type 0
 MayStart tries (Alone base) now None next = next ≡ Alone base
 MayStart tries (Alone base) now (Some slot) next = (image_at now slot ≡ base) × (next ≡ Alone base)
@@ -104,14 +104,14 @@ MayStart tries (Tried base image runs) now (Some slot) next =
     ((image_at now slot ≡ image) × (runs < tries) × (next ≡ Tried base image (runs + 1)))
     ⊎ ((image_at now slot ≡ base) × IsOnOrBack base image runs next)
 
--- What an upload gives is the confirmed image if nothing is on trial, or that on trial, which has a start left.
+-- The image that an upload gives is the confirmed image if nothing is on trial, or that on trial, which has a start left.
 abbrev pub MayGive : ℕ → Option (List ℕ) → Trust → Type 0
 MayGive tries None next = Unit {0}
 MayGive tries (Some image) (Alone base) = image ≡ base
 MayGive tries (Some image) (Tried base new runs) = (image ≡ new) × (runs < tries)
 
--- What may become of the images by what comes. Only a download brings an image on trial, with no run of it; so one whose trial ended runs
--- no more unless it comes again.
+-- Images that may follow an event. Only a download brings an image on trial, with no run of it; so one whose trial ended runs no more
+-- unless it comes again.
 abbrev pub MayBecome : ℕ → Trust → TrialEvent → MediumState → Trust → Type 0
 MayBecome tries trust (Starts ran) now next = MayStart tries trust now ran next
 MayBecome tries (Alone base) (Confirms at) now next = next ≡ Alone base

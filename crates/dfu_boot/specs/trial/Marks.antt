@@ -16,7 +16,7 @@ mark_at grain at i = at + gate_room grain + mark_size grain + i * mark_size grai
 abbrev pub mark_bytes : MediumState → ℕ → ℕ → List ℕ
 mark_bytes m at i = slice_range m.bytes (mark_at m.grain at i) (mark_at m.grain at i + mark_size m.grain)
 
--- Whether a byte is as an erase leaves it.
+-- True if a byte is as an erase leaves it.
 abbrev pub is_erased : ℕ → Bool
 is_erased byte = byte == 255
 
@@ -24,7 +24,7 @@ is_erased byte = byte == 255
 abbrev pub is_marked : List ℕ → Bool
 is_marked bytes = not (list_all is_erased bytes)
 
--- Whether that mark of the slot that begins there is set.
+-- True if that mark is set, of the slot that begins there.
 unfoldable pub is_set : MediumState → ℕ → ℕ → Bool
 is_set m at i = is_marked (mark_bytes m at i)
 

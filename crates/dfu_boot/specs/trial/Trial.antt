@@ -1,4 +1,4 @@
--- Which image of a medium is on trial.
+-- Image of a medium that is on trial.
 use Rattle.std.specs.Prelude.{◌≡◌, ℕ, true, false, List, take}
 use Rattle.dfu_slots.specs.Medium.{MediumState}
 use Rattle.dfu_slots.specs.Layout.{Slot, ArePlaces, HasHeader, header_length}

@@ -1,4 +1,4 @@
--- What the slot store does not read of a medium: so marks change no image, whenever they are set, and whatever becomes of them.
+-- Bytes that the slot store does not read of a medium: so marks change no image, whenever they are set, and whatever becomes of them.
 use Rattle.std.specs.Prelude.{◌≡◌, ◌↔◌, ℕ, ◌≤◌, List, length}
 use Rattle.dfu_slots.specs.Medium.{MediumState}
 use Rattle.dfu_slots.specs.Layout.{ArePlaces}
@@ -26,6 +26,6 @@ pub record IsMarked (m : MediumState) (tries : ℕ) (now : MediumState) : Type 0
 abbrev pub MarksAreUnread : Type 0
 MarksAreUnread = (m now : MediumState) (tries : ℕ) → IsSized m → AreTries m.grain tries → IsMarked m tries now → IsUnread m now
 
--- What the store does not read changes no image: an image is active afterwards exactly if it was before.
+-- A change of bytes that the store does not read changes no image: an image is active afterwards exactly if it was before.
 abbrev pub UnreadKeepsImages : Type 0
 UnreadKeepsImages = (m now : MediumState) (image : List ℕ) → IsUnread m now → Active now image ↔ Active m image

@@ -4,10 +4,10 @@ ghost use Rattle.dfu_boot.specs.install.Area.{IsRunArea, AreBlank};
 
 use dfu_slots::{MAX_SECTOR, PAGE};
 
-/// How many bytes are programmed at a time.
+/// Bytes that are programmed at a time.
 pub(crate) const PROGRAM: u32 = 256;
 
-/// Whether a run area of so many bytes may have sectors of so many.
+/// Returns whether a run area of so many bytes may have sectors of so many.
 pub(crate) fn is_run_area(len: usize, sector: u32) -> bool
     ensures { IsTrue result ↔ IsRunArea len sector }
 {
@@ -18,7 +18,7 @@ pub(crate) fn is_run_area(len: usize, sector: u32) -> bool
         && len % sector as usize == 0
 }
 
-/// Whether the bytes from one place to before another are all FFh.
+/// Returns whether the bytes from one place to before another are all FFh.
 pub(crate) fn are_blank(run: &[u8], from: u32, to: u32) -> bool
     requires order { from ≤ to }
     requires inside { to ≤ length run.now }

@@ -1,9 +1,9 @@
-//! Where a run area differs from an image.
+//! Places at which a run area differs from an image.
 ghost use Rattle.std.specs.Prelude.{◌≡◌, ◌≤◌, ◌<◌, ◌^◌, ◌+◌, length, min, IfSome, IfNone, IsTrue};
 ghost use Rattle.dfu_boot.specs.install.Area.{AreSame, FirstDiffers};
 ghost use Rattle.dfu_boot.specs.install.Next.{IsNext};
 
-// Whether the four bytes from there on are the same.
+// Returns whether the four bytes from there on are the same.
 fn are_four_same(image: &[u8], run: &[u8], at: u32) -> bool
     requires image { at + 4 ≤ length image.now }
     requires run { at + 4 ≤ length run.now }

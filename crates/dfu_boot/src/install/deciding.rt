@@ -1,4 +1,4 @@
-//! What is due next.
+//! Operation that is due next.
 ghost use Rattle.std.specs.Prelude.{◌≡◌, ◌+◌, ◌-◌, ◌%◌, ◌<◌, ◌≤◌, ◌^◌, length, min, IsTrue, ◌↔◌};
 ghost use Rattle.dfu_boot.specs.install.Area.{IsRunArea, start_of};
 ghost use Rattle.dfu_boot.specs.install.Next.{Does, IsNext, IsReady, MayProgram, look_from};
@@ -7,7 +7,7 @@ use crate::install::area::{PROGRAM, are_blank, is_run_area};
 use crate::install::compare::next_difference;
 use crate::install::due::{Due, Refusal};
 
-// Where to look first.
+// Returns the place at which the search begins.
 fn look_from(image: &[u8], last: Option<u32>) -> u32
     requires { length image.now < 2 ^ 32 }
     ensures value { result ≡ look_from image.now last }
@@ -19,7 +19,7 @@ fn look_from(image: &[u8], last: Option<u32>) -> u32
     }
 }
 
-// Whether the piece that begins there may be programmed, in a sector that begins there.
+// Returns whether the piece that begins there may be programmed, in a sector that begins there.
 fn may_program(run: &[u8], sector: u32, last: Option<u32>, piece: u32) -> bool
     requires some { 0 < sector }
     requires inside { piece + 256 ≤ length run.now }
@@ -36,7 +36,7 @@ fn may_program(run: &[u8], sector: u32, last: Option<u32>, piece: u32) -> bool
     }
 }
 
-// What is due of the sector in which that byte differs.
+// Returns the operation that is due of the sector in which that byte differs.
 fn mend(image: &[u8], run: &[u8], sector: u32, last: Option<u32>, at: u32) -> Due
     requires ready { IsReady image.now run.now sector }
     requires next { IsNext image.now run.now (look_from image.now last) at }
@@ -50,11 +50,11 @@ fn mend(image: &[u8], run: &[u8], sector: u32, last: Option<u32>, at: u32) -> Du
     }
 }
 
-/// What is due next, so that the run area comes to hold the image.
+/// Returns the operation that is due next, so that the run area comes to hold the image.
 ///
-/// `image` has the bytes of the image, `run` those of the run area as they are, in sectors of `sector` bytes. `last` is what `took`
-/// returned for the last operation, and None after each loss of power; whatever it is, Start comes only if the run area holds the whole
-/// image, and no operation lies outside the sectors of the image.
+/// `image` has the bytes of the image, `run` those of the run area as they are, in sectors of `sector` bytes. `last` is the result of
+/// `took` returned for the last operation, and None after each loss of power; whatever it is, Start comes only if the run area holds the
+/// whole image, and no operation lies outside the sectors of the image.
 ///
 /// Refused, in this order: `WrongSize`, `NoImage`, `TooLarge`.
 pub fn next(image: &[u8], run: &[u8], sector: u32, last: Option<u32>) -> Due

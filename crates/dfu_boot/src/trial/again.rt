@@ -10,7 +10,7 @@ use crate::trial::marks::{is_set, starts};
 use crate::trial::{Settled, Standing, Trial};
 use dfu_slots::{Medium, Places, capacity_of, data_at, generation, is_open, is_sized};
 
-// Where the slots are, if the data of one begins there.
+// Returns the places of the slots, if the data of one begins there.
 fn places_by_data<M: Medium>(medium: &M, at: u32) -> Option<Places>
     requires { IsSized (M.state medium.now) }
     ensures places { IfSome result (λ p. ArePlaces (M.state medium.now).bytes p.active p.spare) }
@@ -33,8 +33,8 @@ fn places_by_data<M: Medium>(medium: &M, at: u32) -> Option<Places>
     None
 }
 
-// Whether the gate of the first of two slots is open, and that of the second is not, or its header is one generation behind: the first is
-// the newest then, if it counts.
+// Returns whether the gate of the first of two slots is open, and that of the second is not, or its header is one generation behind: the
+// first is the newest then, if it counts.
 fn is_ahead<M: Medium>(medium: &M, places: Places) -> bool
     requires sized { IsSized (M.state medium.now) }
     requires places { ArePlaces (M.state medium.now).bytes places.active places.spare }

@@ -1,4 +1,4 @@
-//! How a running image is confirmed.
+//! Confirmation of a running image.
 ghost use Rattle.std.specs.Prelude.{◌≡◌, ◌+◌, ◌≤◌, length};
 ghost use Rattle.dfu_boot.specs.trial.Marks.{AreTries, mark_at};
 ghost use Rattle.dfu_boot.specs.trial.Calls.{IsStanding, IsTakenBy, sets, confirm_of};
@@ -8,7 +8,7 @@ use crate::trial::marks::{mark_at, mark_size};
 use crate::trial::{Operation, Standing};
 use dfu_slots::{Medium, data_at};
 
-/// How a running image is confirmed.
+/// Confirmation of a running image.
 #[derive(Clone, Copy, Drop)]
 pub enum Confirmation {
     /// By this operation.

@@ -1,4 +1,4 @@
-//! How a trial ends.
+//! End of a trial.
 ghost use Rattle.std.specs.Prelude.{◌≡◌, IfSome};
 ghost use Rattle.dfu_boot.specs.trial.Marks.{AreTries};
 ghost use Rattle.dfu_boot.specs.trial.Calls.{IsStanding, MediumTakes, end_of_trial, upload_of};

@@ -49,9 +49,9 @@ pub fn an_upload_gives_what_starts_next()
         (runs_in now (trial_start m.grain tries s) (trial_start m.grain tries s).operation) }
 {}
 
-/// Starts, confirmations, ends, uploads and downloads in any order, with whatever becomes of each operation, once an image was
-/// confirmed. What runs is the image that was confirmed last, or that on trial, fewer than `tries` times before; and some image
-/// is active after each. A list may begin as an image is confirmed, or as one is on trial.
+/// Starts, confirmations, ends, uploads and downloads in any order, with whatever becomes of each operation, once an image was confirmed.
+/// The image that runs is the one that was confirmed last, or that on trial, fewer than `tries` times before; and some image is active
+/// after each. A list may begin as an image is confirmed, or as one is on trial.
 pub fn what_was_confirmed_runs_or_the_newest_on_trial()
     ensures first { (m : MediumState) (tries : ℕ) (s : Settled) → IsStanding m tries (AreSettled s) → s.is_confirmed ≡ true →
         AreTrusted m tries (Alone (image_at m s.slot)) }

@@ -1,4 +1,4 @@
-//! Whether an image is on trial.
+//! Looks at the medium for an image on trial.
 ghost use Rattle.std.specs.Prelude.{OnOk, IfOk, IfErr};
 ghost use Rattle.dfu_slots.specs.Image.{HasImage};
 ghost use Rattle.dfu_slots.specs.Changes.{IsOpenFault};

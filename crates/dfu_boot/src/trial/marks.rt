@@ -1,4 +1,4 @@
-//! What is read of the marks.
+//! Marks of a slot, as they read.
 ghost use Rattle.std.specs.Prelude.{◌≡◌, ◌+◌, ◌*◌, ◌≤◌, ◌<◌, length, slice_range};
 ghost use Rattle.std.specs.List.{list_all};
 ghost use Rattle.dfu_slots.specs.Layout.{slot_size};
@@ -7,7 +7,7 @@ ghost use Rattle.dfu_boot.specs.trial.Marks.{mark_size, mark_at, is_erased, is_m
 
 use dfu_slots::{Medium, gate_of};
 
-/// How many bytes a mark has: a unit, and 16 at least.
+/// Returns the bytes of a mark: a unit, and 16 at least.
 pub(crate) fn mark_size<M: Medium>(medium: &M) -> u32
     ensures value { result ≡ mark_size (M.state medium.now).grain }
     ensures least { 16 ≤ result }
@@ -16,7 +16,7 @@ pub(crate) fn mark_size<M: Medium>(medium: &M) -> u32
     medium.unit().size().max(16)
 }
 
-/// Where that mark is, of the slot that begins there.
+/// Returns the place of that mark, of the slot that begins there.
 pub(crate) fn mark_at<M: Medium>(medium: &M, at: u32, i: u32) -> u32
     requires { mark_at (M.state medium.now).grain at i ≤ length (M.state medium.now).bytes }
     ensures { result ≡ mark_at (M.state medium.now).grain at i }
@@ -26,14 +26,14 @@ pub(crate) fn mark_at<M: Medium>(medium: &M, at: u32, i: u32) -> u32
     at + gate_of(medium) + size + i * size
 }
 
-// Whether all bytes are FFh.
+// Returns whether all bytes are FFh.
 fn is_blank(bytes: &[u8]) -> bool
     ensures { result ≡ list_all is_erased bytes.now }
 {
     bytes.iter().all(|byte| *byte == 0xff)
 }
 
-/// Whether one of so many bytes from there on, at most 256, is not FFh.
+/// Returns whether one of so many bytes from there on, at most 256, is not FFh.
 pub(crate) fn is_marked<M: Medium>(medium: &M, at: u32, len: u32) -> bool
     requires within { at + len ≤ length (M.state medium.now).bytes }
     requires most { len ≤ 256 }
@@ -45,7 +45,7 @@ pub(crate) fn is_marked<M: Medium>(medium: &M, at: u32, len: u32) -> bool
     !is_blank(bytes)
 }
 
-/// Whether that mark of the slot is set that begins there.
+/// Returns whether that mark is set, of the slot that begins there.
 pub(crate) fn is_set<M: Medium>(medium: &M, at: u32, i: u32) -> bool
     requires { let m = M.state medium.now in mark_at m.grain at i + mark_size m.grain ≤ length m.bytes }
     ensures { result ≡ is_set (M.state medium.now) at i }
@@ -53,7 +53,7 @@ pub(crate) fn is_set<M: Medium>(medium: &M, at: u32, i: u32) -> bool
     is_marked(medium, mark_at(medium, at, i), mark_size(medium))
 }
 
-/// How many starts are recorded of the image in the slot that begins there.
+/// Counts the recorded starts of the image in the slot that begins there.
 pub(crate) fn starts<M: Medium>(medium: &M, tries: u32, at: u32) -> u32
     requires sized { IsSized (M.state medium.now) }
     requires tries { AreTries (M.state medium.now).grain tries }

@@ -1,4 +1,4 @@
-//! What the calls ask of their caller.
+//! Operations that the calls ask of their caller.
 ghost use Rattle.std.specs.Prelude.{OnOk, OnErr};
 ghost use Rattle.dfu_boot.specs.trial.Calls.{MediumTakes, MarkIsWithin};
 ghost use Rattle.dfu_boot.specs.trial.Laws.{Carried, HasWorked, HasFailed};

@@ -1,4 +1,4 @@
-//! How many tries a medium has marks for.
+//! Tries for which a medium has marks.
 ghost use Rattle.std.specs.Prelude.{◌≡◌, ◌≤◌, OnOk, IfErr};
 ghost use Rattle.dfu_boot.specs.trial.Marks.{AreTries};
 ghost use Rattle.dfu_boot.specs.trial.Calls.{IsTriesFault};
@@ -7,7 +7,7 @@ use crate::trial::marks::mark_size;
 use dfu_slots::Medium;
 use thiserror::Error;
 
-/// Why so many tries are refused. They are looked for in this order.
+/// Faults for which so many tries are refused. They are looked for in this order.
 #[derive(Clone, Copy, Debug, Drop, Error)]
 pub enum TriesFault {
     /// The medium has no sectors, so no marks are erased with a header.
@@ -21,7 +21,7 @@ pub enum TriesFault {
     TooMany,
 }
 
-/// Whether an image of this medium can have so many tries: 2 or more, whose marks fit in a sector.
+/// Refuses tries that an image of this medium can't have: it has 2 or more, whose marks fit in a sector.
 ///
 /// # Errors
 ///

@@ -11,7 +11,7 @@ use Rattle.dfu_boot_c.specs.trial.Tries.{flash_state, IsTriesPart}
 use Rattle.dfu_boot_c.specs.trial.Numbers.{trial_number}
 use Rattle.dfu_boot_c.specs.install.Calls.{last_of}
 
--- How the flash is written, as a trial has it.
+-- Configuration of the flash, as a trial has it.
 abbrev pub part_of : DfuConfig → DfuTries
 part_of c = record { unit = c.unit; sector = c.sector; tries = 0 }
 
@@ -19,7 +19,7 @@ part_of c = record { unit = c.unit; sector = c.sector; tries = 0 }
 abbrev pub home_state : DfuConfig → List ℕ → MediumState
 home_state c flash = flash_state (part_of c) flash
 
--- Why there is no medium: no unit has that size or there are no such sectors, or else the flash has 2^32 bytes or more.
+-- There is no medium for this reason: no unit has that size or there are no such sectors, or else the flash has 2^32 bytes or more.
 abbrev pub IsFlashRefused : Refusal → DfuConfig → List ℕ → Type 0
 IsFlashRefused NoConfig c flash = ¬ IsTriesPart (part_of c)
 IsFlashRefused (Tries fault) c flash = ⊥
@@ -29,6 +29,6 @@ IsFlashRefused NoMedium c flash = IsTriesPart (part_of c) × (2 ^ 32 ≤ length 
 abbrev pub RefusesFlash : DfuConfig → List ℕ → ℤ → Type 0
 RefusesFlash c flash result = (why : Refusal) × IsFlashRefused why c flash × (result ≡ trial_number why)
 
--- How far a copy is, by its record.
+-- Progress of a copy, by its record.
 abbrev pub progress_of : DfuHomeRecord → Progress
 progress_of r = record { last = last_of r.last; count = r.count }

@@ -1,4 +1,4 @@
--- How a program in C gets what is due of two areas, and says what it carried out.
+-- Operations of two areas as a program in C gets them, and its reports of what it carried out.
 use Rattle.std.specs.Prelude.{◌≡◌, ◌⊎◌, ℕ, ℤ, pos, negsuc, List, length, take, ◌==◌, if◌then◌else◌}
 use Rattle.dfu_slots.specs.Medium.{MediumState}
 use Rattle.dfu_home.specs.declared.due.Due.{Due}
@@ -19,7 +19,7 @@ home_refusal_number NoSectors = negsuc 15
 home_refusal_number NoImage = negsuc 2
 home_refusal_number NotWritten = negsuc 7
 
--- An operation gives DFU_ASKS, and is written into what is asked for. That the image is home gives 0, a refusal its number, and nothing
+-- An operation gives DFU_ASKS, and is written into what is asked for. An image that is home gives 0, a refusal its number, and nothing
 -- changes.
 abbrev pub TellsHome : MediumState → Due → ℤ → DfuAsk → DfuAsk → Type 0
 TellsHome m (Refuse refusal) result before after = (result ≡ home_refusal_number refusal) × (after ≡ before)

@@ -1,4 +1,4 @@
--- What the numbers of a program in C mean.
+-- Meaning of the numbers of a program in C.
 use Rattle.std.specs.Prelude.{ℕ, ℤ, negsuc, ◌==◌, if◌then◌else◌, Option, Some, None}
 use Rattle.dfu_boot.specs.declared.install.due.Due.{Due}
 use Rattle.dfu_boot.specs.declared.install.due.Due.TheVariants.{Erase, Program, Start}

@@ -1,4 +1,4 @@
--- What a program in C gets to know about a trial.
+-- Facts of a trial that a program in C gets to know.
 use Rattle.std.specs.Prelude.{◌≡◌, ℕ, ℤ, pos, ◌-◌, ◌+◌, ◌==◌, Bool, nat_le, ◌&&◌, List, length, replicate, slice_range, Option, Some, None, if◌then◌else◌}
 use Rattle.dfu_slots.specs.Medium.{MediumState}
 use Rattle.dfu_slots.specs.Layout.{header_length}
@@ -16,7 +16,7 @@ use Rattle.dfu_core.specs.Numbers.{ASKS}
 use Rattle.dfu_boot_c.specs.declared.trial.told.DfuStanding.{DfuStanding}
 use Rattle.dfu_boot_c.specs.declared.trial.told.DfuStarting.{DfuStarting}
 
--- Where the image begins in the slot that begins there, and its length by its header.
+-- Place of the image in the slot that begins there, and its length by its header.
 abbrev pub image_in : MediumState → ℕ → DfuPlace
 image_in m slot = record { at = image_place m.grain slot; length = header_length (slot_of m slot) }
 
@@ -37,7 +37,7 @@ standing_told m tries (OnTrial t) = record {
   is_confirmed = 0;
 }
 
--- What runs, and what runs if the mark does not read set.
+-- Image that runs, and the one that runs if the mark does not read set.
 abbrev pub starting_told : MediumState → Starting → DfuStarting
 starting_told m s = record { run = image_in m s.slot; otherwise = image_in m s.otherwise }
 
@@ -50,10 +50,10 @@ IsTrialAsked sector (Some (Mark at len)) result before after =
 IsTrialAsked sector (Some (Close at)) result before after =
     (result ≡ ASKS) × (after ≡ record { kind = 1; at = at; length = sector; bytes = before.bytes })
 
--- Whether the mark that was asked for reads set: its range lies within the flash, and one of its bytes is not FFh.
+-- True if the mark that was asked for reads set: its range lies within the flash, and one of its bytes is not FFh.
 abbrev pub is_there : List ℕ → DfuAsk → Bool
 is_there flash ask = nat_le (ask.at + ask.length) (length flash) && is_marked (slice_range flash ask.at (ask.at + ask.length))
 
--- What runs once an operation was carried out or failed: of a program only if it reads set.
+-- Image that runs once an operation was carried out or failed: of a program only if it reads set.
 abbrev pub run_told : List ℕ → DfuAsk → DfuStarting → DfuPlace
 run_told flash ask s = if ask.kind == 2 then (if is_there flash ask then s.run else s.otherwise) else s.run

@@ -1,4 +1,4 @@
--- What comes of the calls of a program in C for a trial.
+-- Results of the calls of a program in C for a trial.
 use Rattle.std.specs.Prelude.{◌≡◌, ℕ, ℤ, pos, List, Some}
 use Rattle.dfu_boot.specs.trial.Calls.{trial_start, confirm_of, end_of_trial, upload_of}
 use Rattle.dfu_boot.specs.declared.trial.standing.Standing.{Standing}

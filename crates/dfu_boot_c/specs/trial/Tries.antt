@@ -37,8 +37,8 @@ pub record HasStanding (t : DfuTries) (flash : List ℕ) (s : Standing) : Type 0
   pub tries : AreTries (tries_grain t) t.tries
   pub stands : IsStanding (flash_state t flash) t.tries s
 
--- Why a call is refused: no unit has that size, or there are no such sectors; or else so many tries are refused; or else the flash
--- has no active image, or 2^32 bytes or more.
+-- A call is refused for this reason: no unit has that size, or there are no such sectors; or else so many tries are refused; or else the
+-- flash has no active image, or 2^32 bytes or more.
 abbrev pub IsTrialRefused : Refusal → DfuTries → List ℕ → Type 0
 IsTrialRefused NoConfig t flash = ¬ IsTriesPart t
 IsTrialRefused (Tries fault) t flash = IsTriesPart t × IsTriesFault fault (tries_grain t) t.tries

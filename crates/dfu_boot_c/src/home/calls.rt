@@ -12,7 +12,8 @@ use crate::install::area::number_of as place_number;
 use dfu_core::{ASKS, DfuAsk, DfuConfig, ERASE, PROGRAM};
 use dfu_home::{Due, is_home, next, took};
 
-/// What is due next, as `next` of dfu_home: 0, and the active image is in the first slot; or -11, and `ask` has the operation.
+/// Returns the operation that is due next, as `next` of dfu_home: 0, and the active image is in the first slot; or -11, and `ask` has the
+/// operation.
 ///
 /// Refused, in this order: -2 if no unit has that size or there are no such sectors, -3 if the flash has 2^32 bytes or more, -16 without
 /// sectors, -3 without an active image, -8 if more operations came than the flash has times 128 bytes.
@@ -74,8 +75,8 @@ pub extern "C" fn dfu_core_home_took(
     0
 }
 
-/// Whether a program that runs from the first slot may take a download, as `is_home` of dfu_home: 1 if the active image is there, and then
-/// a download goes to the second slot; 0 if it is in the second, and a download would be written over the program.
+/// Returns whether a program that runs from the first slot may take a download, as `is_home` of dfu_home: 1 if the active image is there,
+/// and then a download goes to the second slot; 0 if it is in the second, and a download would be written over the program.
 ///
 /// Refused, in this order: -2 if no unit has that size or there are no such sectors, -3 if the flash has no active image, or 2^32 bytes or
 /// more.

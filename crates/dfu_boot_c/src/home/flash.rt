@@ -8,7 +8,7 @@ use crate::trial::flash::{DfuTries, Refusal, medium_of};
 use dfu_asks::Mapped;
 use dfu_core::DfuConfig;
 
-// How the flash is written, as a trial has it: no tries matter.
+// Returns the configuration of the flash as a trial has it, in which no tries matter.
 fn part_of(config: &DfuConfig) -> DfuTries
     ensures { result ≡ part_of config.now }
 {

@@ -1,4 +1,4 @@
-//! What a program in C keeps of a copy, and the numbers that it gets and hands in.
+//! Record that a program in C keeps of a copy, and the numbers that it gets and hands in.
 ghost use Rattle.std.specs.Prelude.{◌≡◌};
 ghost use Rattle.dfu_boot_c.specs.home.Flash.{progress_of};
 ghost use Rattle.dfu_boot_c.specs.home.Tells.{home_refusal_number, due_of_ask};
@@ -7,17 +7,17 @@ use crate::install::area::last_of;
 use dfu_core::{DfuAsk, ERASE, PROGRAM};
 use dfu_home::{Due, Progress, Refusal};
 
-/// What is kept of a copy between two calls: `struct dfu_home_record`.
+/// Record of a copy between two calls: `struct dfu_home_record`.
 #[repr(C)]
 #[derive(Drop)]
 pub struct DfuHomeRecord {
-    /// Where the last operation went, if it worked and the power has not gone since; else FFFFFFFFh.
+    /// Place of the last operation, if it worked and the power has not gone since; else FFFFFFFFh.
     pub last: u32,
-    /// How many operations came since the power came.
+    /// Operations that came since the power came.
     pub count: u32,
 }
 
-/// How far a copy is.
+/// Returns the progress of a copy.
 pub(crate) fn progress_of(kept: &DfuHomeRecord) -> Progress
     ensures { result ≡ progress_of kept.now }
 {

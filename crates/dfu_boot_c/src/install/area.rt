@@ -1,14 +1,14 @@
-//! What a program in C keeps of a run area.
+//! Record that a program in C keeps of a run area.
 ghost use Rattle.std.specs.Prelude.{◌≡◌};
 ghost use Rattle.dfu_boot_c.specs.install.Calls.{last_of, number_of_place};
 
-/// What is kept of a run area between two calls: `struct dfu_run_area`.
+/// Record of a run area between two calls: `struct dfu_run_area`.
 #[repr(C)]
 #[derive(Drop)]
 pub struct DfuRunArea {
     /// Bytes of a sector.
     pub sector: u32,
-    /// Where the last operation went, if it worked and the power has not gone since; else FFFFFFFFh.
+    /// Place of the last operation, if it worked and the power has not gone since; else FFFFFFFFh.
     pub last: u32,
 }
 

@@ -34,7 +34,7 @@ fn tell(due: Due, image: &[u8], sector: u32, ask: &mut DfuAsk) -> i32
     }
 }
 
-/// What is due next, as `next`: 0, and the run area holds the whole image; or -11, and `ask` has the operation.
+/// Returns the operation that is due next, as `next`: 0, and the run area holds the whole image; or -11, and `ask` has the operation.
 ///
 /// Refused with -6 if it is no run area, -15 if the image has no bytes, -7 if it has more than the run area.
 #[unsafe(no_mangle)]

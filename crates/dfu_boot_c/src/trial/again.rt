@@ -12,7 +12,7 @@ use crate::trial::told::{DfuStanding, DfuStarting, starting_told, tell};
 use dfu_boot::trial::look_again;
 use dfu_core::DfuAsk;
 
-// Where the image begins that comes back, if a standing has one on trial.
+// Returns the place of the image that comes back, if a standing has one on trial.
 fn base_told(standing: &DfuStanding) -> Option<u32>
     ensures { result ≡ base_told standing.now }
 {
@@ -45,7 +45,7 @@ fn looked_again<'f>(
     }
 }
 
-// What starts, by a standing that was told before.
+// Returns the image that starts, by a standing that was told before.
 #[inline(never)]
 pub(crate) fn start_from(
     tries: &DfuTries,
@@ -68,9 +68,9 @@ pub(crate) fn start_from(
     }
 }
 
-/// What starts, as `dfu_core_trial_start`, by a standing that `dfu_core_trial_look` told: it reads gates, headers and marks, and no image.
-/// All that it takes from that standing is that the images which it names are whole; what their slots say otherwise comes from the flash.
-/// If that does not fit it looks anew.
+/// Returns the image that starts, as `dfu_core_trial_start`, by a standing that `dfu_core_trial_look` told: it reads gates, headers and
+/// marks, and no image. All that it takes from that standing is that the images which it names are whole; what their slots say otherwise
+/// comes from the flash. If that does not fit it looks anew.
 ///
 /// Refused as `dfu_core_trial_look`.
 #[unsafe(no_mangle)]

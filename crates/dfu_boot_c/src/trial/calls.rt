@@ -36,7 +36,8 @@ pub extern "C" fn dfu_core_trial_look(tries: &DfuTries, flash: &[u8], told: &mut
     }
 }
 
-/// What starts: 0, and `told.run` runs; or -11, and `ask` has the operation that comes before. Then `dfu_core_trial_runs` gives what runs.
+/// Returns the image that starts: 0, and `told.run` runs; or -11, and `ask` has the operation that comes before. Then `dfu_core_trial_runs`
+/// gives what runs.
 ///
 /// Refused as `dfu_core_trial_look`.
 #[unsafe(no_mangle)]
@@ -61,14 +62,14 @@ pub extern "C" fn dfu_core_trial_start(
     start_from(tries, flash, &none, ask, told)
 }
 
-// Whether all bytes are FFh.
+// Returns whether all bytes are FFh.
 fn is_blank(bytes: &[u8]) -> bool
     ensures { result ≡ list_all is_erased bytes.now }
 {
     bytes.iter().all(|byte| *byte == 0xff)
 }
 
-// Whether the mark that was asked for reads set.
+// Returns whether the mark that was asked for reads set.
 fn is_there(flash: &[u8], ask: &DfuAsk) -> bool
     ensures { result ≡ is_there flash.now ask.now }
 {
@@ -77,8 +78,8 @@ fn is_there(flash: &[u8], ask: &DfuAsk) -> bool
     at + len <= flash.len() && !is_blank(&flash[at..at + len])
 }
 
-/// What runs, once the operation that `dfu_core_trial_start` asked for was carried out or failed: 0, and `place` has it. A mark is read
-/// back.
+/// Returns the image that runs, once the operation that `dfu_core_trial_start` asked for was carried out or failed: 0, and `place` has it.
+/// A mark is read back.
 #[unsafe(no_mangle)]
 pub extern "C" fn dfu_core_trial_runs(
     flash: &[u8],
@@ -97,8 +98,8 @@ pub extern "C" fn dfu_core_trial_runs(
     0
 }
 
-/// How the image is confirmed whose first byte is `flash[at]`: 0 if it is confirmed; or -11, and `ask` has the operation; or -19 if no
-/// image begins there that may run.
+/// Confirms the image whose first byte is `flash[at]`: 0 if it is confirmed; or -11, and `ask` has the operation; or -19 if no image begins
+/// there that may run.
 ///
 /// Refused as `dfu_core_trial_look`.
 #[unsafe(no_mangle)]
@@ -121,7 +122,7 @@ pub extern "C" fn dfu_core_trial_confirm(
     }
 }
 
-/// How a trial ends: 0 if nothing is on trial; or -11, and `ask` has the operation.
+/// Ends a trial: 0 if nothing is on trial; or -11, and `ask` has the operation.
 ///
 /// Refused as `dfu_core_trial_look`.
 #[unsafe(no_mangle)]
@@ -139,8 +140,7 @@ pub extern "C" fn dfu_core_trial_end(tries: &DfuTries, flash: &[u8], ask: &mut D
     }
 }
 
-/// What comes before an upload: 0 if it may begin; or -11 if the image on trial has no start left, and `ask` has the operation that ends
-/// the trial.
+/// Prepares an upload: 0 if it may begin; or -11 if the image on trial has no start left, and `ask` has the operation that ends the trial.
 ///
 /// Refused as `dfu_core_trial_look`.
 #[unsafe(no_mangle)]

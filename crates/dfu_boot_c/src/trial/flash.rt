@@ -10,7 +10,7 @@ use dfu_boot::trial::{Standing, TriesFault, check_tries, look};
 use dfu_slots::Unit;
 use dfu_slots::laws::active_image_is_one;
 
-/// How the flash is written, and how many tries a new image has: `struct dfu_tries`.
+/// Configuration of the flash, with the tries of a new image: `struct dfu_tries`.
 #[repr(C)]
 #[derive(Drop)]
 pub struct DfuTries {
@@ -18,8 +18,7 @@ pub struct DfuTries {
     pub unit: u32,
     /// Bytes that are erased at a time: a multiple of 256 up to 131,072, not 0.
     pub sector: u32,
-    /// How often a new image is started before the one before it comes back: 2 or more. In a sector
-    /// (tries + 2) units of at least 16 bytes have room.
+    /// Starts of a new image before the one before it comes back: 2 or more. In a sector (tries + 2) units of at least 16 bytes have room.
     pub tries: u32,
 }
 
@@ -41,7 +40,7 @@ pub(crate) fn unit_sized(size: u32) -> Unit
     }
 }
 
-/// Why a call is refused. Nothing changed then.
+/// Reasons for which a call is refused. Nothing changed then.
 #[derive(Clone, Copy, Drop)]
 pub enum Refusal {
     /// No unit has that size, or there are no such sectors.
@@ -87,7 +86,7 @@ pub(crate) fn medium_of<'f>(tries: &DfuTries, flash: &'f [u8]) -> Option<Mapped<
     Mapped::with_sectors(flash, unit, tries.sector)
 }
 
-// Whether the flash can have so many tries.
+// Returns the refusal of so many tries, or None if the flash can have them.
 fn refused(tries: &DfuTries) -> Option<Refusal>
     ensures some { IfSome result (λ e. (flash : List ℕ) → IsTrialRefused e tries.now flash) }
     ensures none { IfNone result (IsTriesPart tries.now × AreTries (tries_grain tries.now) tries.now.tries) }

@@ -1,4 +1,4 @@
-//! What a program in C gets to know of a trial: the standing of the images, what starts, and what it is to do.
+//! Facts of a trial that a program in C gets to know: the standing of the images, the one that starts, and the operation that it is to do.
 ghost use Rattle.std.specs.Prelude.{◌≡◌, ◌+◌, ◌≤◌, length};
 ghost use Rattle.dfu_slots.specs.Layout.{slot_size};
 ghost use Rattle.dfu_slots.specs.Image.{IsSized};
@@ -20,13 +20,13 @@ pub struct DfuStanding {
     pub base: DfuPlace,
     /// 1 if the active image is on trial, else 0.
     pub on_trial: u32,
-    /// How many starts of the image on trial are left.
+    /// Starts that are left of the image on trial.
     pub left: u32,
     /// 1 if the active image is confirmed, else 0.
     pub is_confirmed: u32,
 }
 
-/// Where the image of the slot that begins there has its first byte, and its length by the slot's header.
+/// Returns the place of the image of the slot that begins there, and its length by the slot's header.
 pub(crate) fn image_in<M: Medium>(medium: &M, slot: u32) -> DfuPlace
     requires sized { IsSized (M.state medium.now) }
     requires within { slot + slot_size (M.state medium.now).bytes ≤ length (M.state medium.now).bytes }
@@ -65,13 +65,13 @@ pub(crate) fn standing_told<M: Medium>(medium: &M, tries: u32, standing: Standin
     }
 }
 
-/// What starts once the operation before it was carried out or failed: `struct dfu_starting`.
+/// Image that starts once the operation before it was carried out or failed: `struct dfu_starting`.
 #[repr(C)]
 #[derive(Drop)]
 pub struct DfuStarting {
     /// What runs.
     pub run: DfuPlace,
-    /// What runs if the operation is a mark, and it does not read set.
+    /// Image that runs if the operation is a mark, and it does not read set.
     pub otherwise: DfuPlace,
 }
 

@@ -1,4 +1,4 @@
--- Which packets are of one transfer.
+-- Packets of one transfer.
 use Rattle.std.specs.Prelude.{◌≡◌}
 use Rattle.dfu_conformance.specs.declared.captures.event.UsbEvent.{UsbEvent}
 

@@ -1,4 +1,4 @@
--- What a packet of usbmon says (Linux, Documentation/usb/usbmon.rst, "Raw binary format and API").
+-- Content of a packet of usbmon (Linux, Documentation/usb/usbmon.rst, "Raw binary format and API").
 use Rattle.std.specs.Prelude.{ℕ, ◌+◌, ◌*◌, ◌%◌, ◌==◌, ◌&&◌, ◌||◌, nat_le, Bool, true, List, [], ◌∷◌, length, drop, slice_index_or, Option, Some, None, if◌then◌else◌}
 use Rattle.dfu_conformance.specs.declared.captures.event.PacketKind.{PacketKind}
 use Rattle.dfu_conformance.specs.declared.captures.event.PacketKind.TheVariants.{Submits, Completes, Other}
@@ -24,7 +24,7 @@ abbrev pub eight_in : List ℕ → List ℕ
 eight_in bytes =
     byte bytes 0 ∷ byte bytes 1 ∷ byte bytes 2 ∷ byte bytes 3 ∷ byte bytes 4 ∷ byte bytes 5 ∷ byte bytes 6 ∷ byte bytes 7 ∷ []
 
--- How many bytes precede the data, by the link type; nothing if it is not a link type of usbmon.
+-- Number of bytes that precede the data, by the link type; nothing if it is not a link type of usbmon.
 abbrev pub head_in : (link : ℕ) → Option ℕ
 head_in link = if link == 189 then Some 48 else if link == 220 then Some 64 else None
 
@@ -52,6 +52,6 @@ begins_capture bytes =
     let n = four_in true bytes in
     n == 0xd4c3b2a1 || (n == 0x4d3cb2a1 || (n == 0xa1b2c3d4 || (n == 0xa1b23c4d || n == 0x0a0d0d0a)))
 
--- How many bytes the packet of a record of pcap has.
+-- Bytes of the packet of a record of pcap.
 abbrev pub captured_in : (is_big : Bool) → List ℕ → ℕ
 captured_in big bytes = four_in big (drop 8 bytes)

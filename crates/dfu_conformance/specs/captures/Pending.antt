@@ -1,4 +1,4 @@
--- Which transfers are pending.
+-- Transfers that are pending.
 use Rattle.std.specs.Prelude.{◌≡◌, ◌⊎◌, ℕ, List, slice_get, Some}
 use Rattle.std.specs.List.{swap_remove}
 use Rattle.dfu_conformance.specs.captures.Joining.{HasSameId, IsSameTransfer}

@@ -1,4 +1,4 @@
--- What a packet of USBPcap says (USBPcap, "Capture format": USBPCAP_BUFFER_PACKET_HEADER and USBPCAP_BUFFER_CONTROL_HEADER).
+-- Content of a packet of USBPcap (USBPcap, "Capture format": USBPCAP_BUFFER_PACKET_HEADER and USBPCAP_BUFFER_CONTROL_HEADER).
 use Rattle.std.specs.Prelude.{ℕ, ◌+◌, ◌-◌, ◌%◌, ◌==◌, ◌&&◌, nat_le, Bool, false, List, length, drop, Option, Some, None, if◌then◌else◌}
 use Rattle.dfu_conformance.specs.captures.Packets.{byte, two_in, four_in, eight_in}
 use Rattle.dfu_conformance.specs.declared.captures.event.PacketKind.{PacketKind}
@@ -38,11 +38,11 @@ recorded_ending bytes =
     let status = four_in false (drop 10 bytes) in
     if status == 0 then Done else if status == 0xc0000004 then Stalled else Failed
 
--- How many bytes the setup takes of those that follow the head.
+-- Bytes that the setup takes of those that follow the head.
 abbrev pub setup_length : List ℕ → ℕ
 setup_length bytes = if byte bytes 27 == 0 then 8 else 0
 
--- How many bytes of data follow the head and the setup.
+-- Bytes of data that follow the head and the setup.
 abbrev pub recorded_length : List ℕ → ℕ
 recorded_length bytes = four_in false (drop 23 bytes) - setup_length bytes
 

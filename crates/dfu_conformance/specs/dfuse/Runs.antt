@@ -1,4 +1,4 @@
--- What a DfuSe device may answer: the rows are in the tables of dfu_conformance and in `src/rows.rt`.
+-- Answers that a DfuSe device may give: the rows are in the tables of dfu_conformance and in `src/rows.rt`.
 use Rattle.std.specs.Prelude.{◌≡◌, ◌⊎◌, ℕ, ◌&&◌, Bool, true, false, List, [], ◌∷◌}
 use Rattle.dfu_conformance.specs.declared.row.StandardState.{StandardState}
 use Rattle.dfu_conformance.specs.declared.row.EventKind.{EventKind}

@@ -30,7 +30,7 @@ led_or_rests at e n =
     ((((rests e && may_stand at n) || list_any (leads_to at e n) STANDARD) || list_any (leads_to at e n) MARKS)
     || list_any (leads_to at e n) HABITS) || list_any (leads_to at e n) DFUSE
 
--- The same, if the places are those of a test.
+-- Places after a move, if the places are those of a test.
 abbrev pub then_moved : (StandardState → Bool) → StandardState → Bool
 then_moved held n =
     held n || list_any (λ (d : Drift). (place_number d.next == place_number n) && (held d.from && of_dfuse d.when)) DRIFTS

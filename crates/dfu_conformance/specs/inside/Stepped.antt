@@ -32,7 +32,7 @@ answered held e n a r =
     (((stays e && stands held n a r) || list_any (leads held e n a r) STANDARD) || list_any (leads held e n a r) MARKS)
     || list_any (leads held e n a r) HABITS
 
--- The same, where the devices held are those of a test.
+-- Places after a drift, where the devices held are those of a test.
 abbrev pub drifted : (StandardState → Bool) → StandardState → (attributes readings : ℕ) → Bool
 drifted held n a r =
     held n || list_any (λ (d : Drift). (place_number d.next == place_number n) && (held d.from && meets d.when a r)) DRIFTS

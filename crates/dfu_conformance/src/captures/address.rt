@@ -1,6 +1,6 @@
-//! Where a device is.
+//! Address of a device.
 
-/// Where a device is: its bus, and its number there, which changes at a reset.
+/// Address of a device: its bus, and its number there, which changes at a reset.
 #[derive(Clone, Copy, PartialEq, Eq)]
 pub struct Address {
     /// The bus.

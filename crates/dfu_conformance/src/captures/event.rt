@@ -1,8 +1,8 @@
-//! What a packet says of a control transfer.
+//! Content of a packet about a control transfer.
 
 use crate::captures::address::Address;
 
-/// Which part of a transfer a packet is.
+/// Part of a transfer that a packet is.
 #[derive(Clone, Copy)]
 pub enum PacketKind {
     /// It submits the transfer.
@@ -17,7 +17,7 @@ pub enum PacketKind {
     Other,
 }
 
-/// How a transfer ended.
+/// Ending of a transfer.
 #[derive(Clone, Copy)]
 pub enum Ending {
     /// It was done.
@@ -31,19 +31,19 @@ pub enum Ending {
 /// An event of a control transfer to endpoint 0.
 #[derive(Clone, Copy)]
 pub struct UsbEvent<'c> {
-    /// Which part of the transfer it is.
+    /// Part of the transfer.
     pub kind: PacketKind,
     /// The id of the transfer: no two that are pending on a bus have the same, and the next transfer of any device may have it again.
     pub id: [u8; 8],
-    /// Where the device is.
+    /// Address of the device.
     pub address: Address,
-    /// Whether the transfer's data goes to the host, if each of its packets says so.
+    /// Tells whether the transfer's data goes to the host, if each of its packets says so.
     pub is_in: Option<bool>,
     /// Of a submission: the eight bytes that begin the request.
     pub setup: Option<[u8; 8]>,
-    /// How it ended, if it completes the transfer.
+    /// Ending of the transfer, if the packet completes it.
     pub ending: Ending,
-    /// How many bytes were moved, if the packet says so.
+    /// Number of bytes that were moved, if the packet says so.
     pub moved: Option<u32>,
     /// The bytes of the transfer that were captured.
     pub data: &'c [u8],

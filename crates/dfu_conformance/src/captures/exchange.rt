@@ -2,7 +2,7 @@
 
 use crate::captures::address::Address;
 
-/// What was seen of an answer.
+/// Answer that was seen.
 #[derive(Clone, Copy)]
 pub(crate) enum Seen<'c> {
     Stall,
@@ -26,13 +26,13 @@ pub(crate) struct Exchange<'c> {
 }
 
 impl Exchange<'_> {
-    /// Whether it is a request of the class to an interface.
+    /// Returns whether it is a request of the class to an interface.
     pub(crate) fn is_class(&self) -> bool {
         let [kind, ..] = self.setup;
         kind == 0x21 || kind == 0xa1
     }
 
-    /// Whether only a device of DFU gets it, at this interface: DETACH, GETSTATUS of 6 bytes, or GETSTATE of 1.
+    /// Returns whether only a device of DFU gets it, at this interface: DETACH, GETSTATUS of 6 bytes, or GETSTATE of 1.
     pub(crate) fn tells_dfu(&self, interface: u8) -> bool {
         let [kind, request, _, _, low, high, length, length_high] = self.setup;
         low == interface

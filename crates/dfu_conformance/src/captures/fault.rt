@@ -1,6 +1,6 @@
-//! Why a capture gives no log.
+//! Faults for which a capture gives no log.
 
-/// Why a capture gives no log.
+/// Faults for which a capture gives no log.
 #[derive(Clone, Copy)]
 pub enum CaptureFault {
     /// Its packets aren't those of usbmon, link type 189 or 220, or of USBPcap, link type 249.

@@ -18,7 +18,7 @@ use std::alloc::Global;
 /// The link type of USBPcap.
 const USBPCAP: u16 = 249;
 
-/// What a packet says, by its link type. NotUsbmon if that is another one.
+/// Returns the content of a packet, by its link type. NotUsbmon if that is another one.
 fn event_of<'c>(packet: &Packet<'c>) -> Result<Option<UsbEvent<'c>>, CaptureFault> {
     if packet.link == USBPCAP {
         return Ok(recorded_event(packet.bytes));
@@ -42,7 +42,7 @@ fn given_by(setup: &[u8; 8], address: Address, link: u16) -> Option<Address> {
     }
 }
 
-/// What was seen of the answer to a transfer, by its completion.
+/// Returns the answer that was seen to a transfer, by its completion.
 fn seen_of<'c>(setup: &[u8; 8], event: &UsbEvent<'c>) -> Seen<'c> {
     let [kind, _, _, _, _, _, low, high] = *setup;
     let wanted = u16::from_le_bytes([low, high]) as u32;
@@ -57,8 +57,8 @@ fn seen_of<'c>(setup: &[u8; 8], event: &UsbEvent<'c>) -> Seen<'c> {
 /// The request of the class that reads the image (DFU 1.1, 6.2). Its answer may have no bytes.
 const UPLOAD: u8 = 2;
 
-/// Whether a completion may be that of this request, as far as its bytes go. One that moved more than the setup asks for completes another
-/// request, whose submission is missing. If the status alone tells of a read that must have bytes, their packet is missing.
+/// Returns whether a completion may be that of this request, as far as its bytes go. One that moved more than the setup asks for completes
+/// another request, whose submission is missing. If the status alone tells of a read that must have bytes, their packet is missing.
 fn fits(setup: &[u8; 8], event: &UsbEvent<'_>) -> bool {
     let [kind, request, _, _, _, _, low, high] = *setup;
     let wanted = u16::from_le_bytes([low, high]);
@@ -74,7 +74,7 @@ fn fits(setup: &[u8; 8], event: &UsbEvent<'_>) -> bool {
 /// Transfers, as they come.
 #[derive(Drop)]
 struct Joining<'c> {
-    // How many packets came.
+    // Number of packets that came.
     count: usize,
     pending: PendingTransfers<'c>,
     exchanges: Vec<Exchange<'c>>,

@@ -11,14 +11,14 @@ use crate::captures::joining::exchanges_of;
 use crate::captures::records::form_of;
 use std::alloc::Global;
 
-/// Whether bytes begin as a capture does: pcap of either order, or pcapng. Four bytes are enough.
+/// Returns whether bytes begin as a capture does: pcap of either order, or pcapng. Four bytes are enough.
 pub fn is_capture(bytes: &[u8]) -> bool
     ensures { result ≡ begins_capture bytes.now }
 {
     form_of(bytes).is_some()
 }
 
-/// Whether this address gets a request of DFU.
+/// Returns whether this address gets a request of DFU.
 fn is_dfu(exchanges: &[Exchange<'_>], interface: u8, address: Address) -> bool {
     for exchange in exchanges {
         if exchange.address == address && exchange.tells_dfu(interface) {
@@ -47,7 +47,7 @@ struct Followed {
 }
 
 impl Followed {
-    /// Whether an address that a device gets is one of the device.
+    /// Returns whether an address that a device gets is one of the device.
     fn gets(&mut self, address: Address) -> bool {
         let is_it = match self.only {
             Some(only) => only == address,
@@ -59,7 +59,7 @@ impl Followed {
         is_it
     }
 
-    /// Whether a request to this address is one to the device. ManyDevices if it is to another one.
+    /// Returns whether a request to this address is one to the device. ManyDevices if it is to another one.
     fn takes(&mut self, address: Address) -> Result<bool, CaptureFault> {
         if let Some(only) = self.only {
             return Ok(only == address);
@@ -75,7 +75,7 @@ impl Followed {
         Ok(true)
     }
 
-    /// Whether an exchange has a line. ManyDevices if it is one of another device, CutPacket if not all of it was captured.
+    /// Returns whether an exchange has a line. ManyDevices if it is one of another device, CutPacket if not all of it was captured.
     fn shows(&mut self, exchange: &Exchange<'_>) -> Result<bool, CaptureFault> {
         if let Some(address) = exchange.given {
             return Ok(self.gets(address));

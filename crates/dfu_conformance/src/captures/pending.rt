@@ -21,14 +21,14 @@ pub(crate) struct Pending<'c> {
     pub is_cut: bool,
 }
 
-/// Whether two events are of transfers with the same id on the same bus.
+/// Returns whether two events are of transfers with the same id on the same bus.
 fn has_same_id(one: &UsbEvent<'_>, other: &UsbEvent<'_>) -> bool
     ensures { IsTrue result ↔ HasSameId one.now other.now }
 {
     one.id == other.id && one.address.bus == other.address.bus
 }
 
-/// Whether two events may be of one transfer: they have the same id, bus, device and direction. Their endpoint is always 0.
+/// Returns whether two events may be of one transfer: they have the same id, bus, device and direction. Their endpoint is always 0.
 fn is_same_transfer(one: &UsbEvent<'_>, other: &UsbEvent<'_>) -> bool
     ensures { IsTrue result ↔ IsSameTransfer one.now other.now }
 {

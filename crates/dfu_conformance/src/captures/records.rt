@@ -5,10 +5,10 @@ ghost use Rattle.dfu_conformance.specs.captures.Packets.{begins_capture, capture
 
 use crate::captures::numbers::{byte_at, four, from, two};
 
-/// How many interfaces of a capture are known.
+/// Number of interfaces of a capture that are known.
 const LINKS: usize = 16;
 
-/// What a capture is: pcap or pcapng, the order of its bytes, and the link type of each interface.
+/// Form of a capture: pcap or pcapng, the order of its bytes, and the link type of each interface.
 #[derive(Clone, Copy)]
 pub(crate) struct Form {
     is_ng: bool,
@@ -56,7 +56,7 @@ pub(crate) fn form_of(bytes: &[u8]) -> Option<Form>
     Some(form)
 }
 
-/// How many bytes precede the first record.
+/// Returns the number of bytes that precede the first record.
 pub(crate) fn head_of(form: &Form) -> usize {
     if form.is_ng { 0 } else { 24 }
 }

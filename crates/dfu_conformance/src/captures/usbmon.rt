@@ -7,7 +7,7 @@ use crate::captures::address::Address;
 use crate::captures::event::{Ending, PacketKind, UsbEvent};
 use crate::captures::numbers::{byte_at, eight, four, from, front, two};
 
-/// How a transfer ended: byte 28 on has 0, or -32 of a stall.
+/// Returns the ending of a transfer: byte 28 on has 0, or -32 of a stall.
 fn ending_of(bytes: &[u8], is_big: bool) -> Ending
     ensures { result ≡ ending_in is_big bytes.now }
 {
@@ -18,7 +18,7 @@ fn ending_of(bytes: &[u8], is_big: bool) -> Ending
     }
 }
 
-/// How many bytes precede the data, by the link type; `None` if it is not a link type of usbmon.
+/// Returns the number of bytes that precede the data, by the link type; `None` if it is not a link type of usbmon.
 pub(crate) fn head_of(link: u16) -> Option<usize>
     ensures { result ≡ head_in link }
 {
@@ -29,7 +29,7 @@ pub(crate) fn head_of(link: u16) -> Option<usize>
     }
 }
 
-/// Whether an event submits a transfer or completes one.
+/// Returns whether an event submits a transfer or completes one.
 fn kind_of(bytes: &[u8]) -> PacketKind
     ensures { result ≡ kind_in bytes.now }
 {
@@ -51,9 +51,9 @@ fn setup_of(bytes: &[u8]) -> Option<[u8; 8]>
     }
 }
 
-/// What a packet says that has this many bytes before its data; `None` if it is no control transfer to endpoint 0, or hasn't a whole head.
-/// The bytes of each number are in the order that is given: bytes 0 to 7 are the id, bit 7 of byte 10 the direction, byte 11 the device, 12
-/// and 13 the bus, 28 to 31 the status, 32 to 35 the length, and 36 to 39 how many bytes of data follow the head.
+/// Returns the content of a packet that has this many bytes before its data; `None` if it is no control transfer to endpoint 0, or hasn't a
+/// whole head. The bytes of each number are in the order that is given: bytes 0 to 7 are the id, bit 7 of byte 10 the direction, byte 11
+/// the device, 12 and 13 the bus, 28 to 31 the status, 32 to 35 the length, and 36 to 39 how many bytes of data follow the head.
 pub fn packet_event(bytes: &[u8], head: usize, is_big: bool) -> Option<UsbEvent<'_>>
     ensures none { is_none result ≡ not (is_control head bytes.now) }
     ensures kind { IfSome result (λ e. e.kind ≡ kind_in bytes.now) }

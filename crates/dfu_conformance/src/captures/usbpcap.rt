@@ -9,10 +9,10 @@ use crate::captures::address::Address;
 use crate::captures::event::{Ending, PacketKind, UsbEvent};
 use crate::captures::numbers::{byte_at, eight, four, from, front, two};
 
-/// How many bytes the head of a control transfer has at least.
+/// Fewest bytes of the head of a control transfer.
 const HEAD: usize = 28;
 
-/// Which part of a transfer a packet is, by its stage (byte 27) and its direction (bit 0 of byte 16).
+/// Returns the part of a transfer that a packet is, by its stage (byte 27) and its direction (bit 0 of byte 16).
 fn kind_of(bytes: &[u8]) -> PacketKind
     ensures { result ≡ recorded_kind bytes.now }
 {
@@ -27,7 +27,7 @@ fn kind_of(bytes: &[u8]) -> PacketKind
     }
 }
 
-/// How a transfer ended, by the status of Windows' USB stack.
+/// Returns the ending of a transfer, by the status of Windows' USB stack.
 fn ending_of(bytes: &[u8]) -> Ending
     ensures { result ≡ recorded_ending bytes.now }
 {
@@ -49,7 +49,7 @@ fn setup_of(bytes: &[u8], head: usize) -> Option<[u8; 8]>
     }
 }
 
-/// What a packet says; `None` if it is no control transfer to endpoint 0, or hasn't a whole head.
+/// Returns the content of a packet; `None` if it is no control transfer to endpoint 0, or hasn't a whole head.
 ///
 /// Bytes 0 and 1 say how many bytes the head has, 28 at least; 2 to 9 are the id, 10 to 13 the status, 16 the direction, 17 and 18 the bus,
 /// 19 and 20 the device, 21 the endpoint, 22 the kind of transfer, 23 to 26 how many bytes follow the head, and 27 the stage. The first

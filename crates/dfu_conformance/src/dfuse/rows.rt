@@ -1,4 +1,4 @@
-//! What DfuSe adds to the table of USB DFU 1.1.
+//! Rows that DfuSe adds to the table of USB DFU 1.1.
 
 use crate::EventKind::{Close, GetState, GetStatus, Reset, Upload};
 use crate::Gives::{Ack, Short, Silent, Stall};
@@ -23,8 +23,8 @@ macro_rules! rows {
     };
 }
 
-/// What a DfuSe device may answer beyond USB DFU 1.1: where it is, what it is asked, what it answers, where it is then. `Habit`
-/// marks what each such device does, `Open` what they are known to do or may do.
+/// Answers that a DfuSe device may give beyond USB DFU 1.1: where it is, what it is asked, what it answers, where it is then. `Habit` marks
+/// what each such device does, `Open` what they are known to do or may do.
 #[rattlefmt::skip]
 pub static DFUSE: [Row; 12] = rows!(
     // DNLOAD of no bytes asks the device to leave, from dfuIDLE too.

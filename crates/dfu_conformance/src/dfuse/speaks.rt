@@ -1,4 +1,4 @@
-//! Whether a row is for a DfuSe device, and whether it may stay where it was.
+//! Rows for a DfuSe device, and the events at which it may stay where it was.
 
 ghost use Rattle.std.specs.Prelude.{◌≡◌, ◌==◌};
 ghost use Rattle.std.specs.Int.{bit_at};
@@ -7,7 +7,7 @@ ghost use Rattle.dfu_conformance.specs.dfuse.Runs.{dfuse_habits, is_told, of_dfu
 
 use crate::{EventKind, LogEvent, Reading, Response, When};
 
-/// Whether a DfuSe device may have this habit: bit n of 0Fh is reading n.
+/// Returns whether a DfuSe device may have this habit: bit n of 0Fh is reading n.
 fn is_habit(reading: Reading) -> bool
     ensures { result ≡ (bit_at dfuse_habits (reading_bit reading) == 1) }
 {
@@ -21,8 +21,8 @@ fn is_habit(reading: Reading) -> bool
     }
 }
 
-/// Whether a row or a move that is for these devices is for a DfuSe device: one that can download and upload, isn't tolerant and detaches
-/// by itself (bmAttributes 0Bh), with the habits bootloader, runtime-mute, self-reset and detach-at-once.
+/// Returns whether a row or a move that is for these devices is for a DfuSe device: one that can download and upload, isn't tolerant and
+/// detaches by itself (bmAttributes 0Bh), with the habits bootloader, runtime-mute, self-reset and detach-at-once.
 pub fn is_of_dfuse(when: When) -> bool
     ensures { result ≡ of_dfuse when }
 {
@@ -37,8 +37,8 @@ pub fn is_of_dfuse(when: When) -> bool
     }
 }
 
-/// Whether a request has to be answered: GETSTATUS and GETSTATE as section 3 of USB DFU 1.1 has them. Any other request may be stalled, and
-/// nothing changes.
+/// Returns whether a request has to be answered: GETSTATUS and GETSTATE as section 3 of USB DFU 1.1 has them. Any other request may be
+/// stalled, and nothing changes.
 pub fn is_told(event: &LogEvent) -> bool
     ensures { result ≡ is_told event.now }
 {
@@ -49,7 +49,8 @@ pub fn is_told(event: &LogEvent) -> bool
     }
 }
 
-/// Whether a device may stay where it was: nothing was seen of an answer, or a request was stalled that doesn't have to be answered.
+/// Returns whether a device may stay where it was: nothing was seen of an answer, or a request was stalled that doesn't have to be
+/// answered.
 pub(crate) fn may_rest(event: &LogEvent) -> bool
     ensures { result ≡ rests event.now }
 {

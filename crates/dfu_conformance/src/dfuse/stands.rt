@@ -1,4 +1,4 @@
-//! Where a device may be.
+//! Places at which a device may be.
 
 ghost use Rattle.std.specs.Prelude.{◌≡◌, ◌||◌, ◌&&◌, ◌==◌};
 ghost use Rattle.std.specs.List.{list_any};
@@ -77,7 +77,7 @@ pub(crate) fn step(before: &Places, event: &LogEvent) -> Places
     drift(&DRIFTS, &after)
 }
 
-/// Whether a device may be anywhere.
+/// Returns whether a device may be anywhere.
 pub(crate) fn is_anywhere(at: &Places) -> bool
     ensures { result ≡ is_somewhere at.now }
 {

@@ -26,7 +26,7 @@ reply_of (pending_answer.State asked) w = StateOf (state_of w.stage)
 reply_of (pending_answer.Piece place asked) w = Data (take asked (drop place (image_of w.slots)))
 reply_of pending_answer.Stall w = Stall
 
--- How many bytes of a status or of a state it was asked for.
+-- Bytes of a status or of a state that it was asked for.
 abbrev pub asked_of : PendingAnswer → ℕ
 asked_of (pending_answer.Status asked) = asked
 asked_of (pending_answer.State asked) = asked

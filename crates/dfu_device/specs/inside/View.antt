@@ -1,4 +1,4 @@
--- What a contract sees of the core of a device.
+-- View that a contract has of the core of a device.
 use Rattle.dfu_slots.specs.declared.medium.Medium.{Ghosts}
 use Rattle.dfu_device.specs.declared.device_core.DeviceCore.{DeviceCore}
 use Rattle.dfu_device.specs.DeviceView.{DeviceView}

@@ -1,4 +1,4 @@
--- What is heard of a part of an image that is compared.
+-- Meaning of a part of an image that is compared.
 use Rattle.std.specs.Prelude.{◌≡◌, ℕ, Bool, List, [], length, slice_index_or}
 use Rattle.std.specs.Str.{bytes_eq}
 use Rattle.dfu_host.specs.declared.phase.Phase.{Phase}
@@ -13,7 +13,7 @@ pub record IsCompared (task : Task) (k : ℕ) (part : List ℕ) (same : Bool) (l
   pub is_same : bytes_eq part (slice_index_or (pieces task) k []) ≡ same
   pub size : length part ≡ len
 
--- What is heard when part k is compared: a part only as it was compared.
+-- The meaning of part k when it is compared: a part only as it was compared.
 abbrev pub ComparesPart : Task → (k : ℕ) → (part : List ℕ) → Heard → Type 0
 ComparesPart task k part word = elim (of_part word) [
   | Came len ↦ ⊥
@@ -22,7 +22,7 @@ ComparesPart task k part word = elim (of_part word) [
   | NoPart ↦ Unit {0}
 ]
 
--- What is heard in a phase, in which a part may be compared.
+-- The meaning in a phase in which a part may be compared.
 abbrev pub Compares : Task → Phase → (part : List ℕ) → Heard → Type 0
 Compares task (phase.Compare k) part word = ComparesPart task k part word
 Compares task phase part word = Unit {0}

@@ -1,4 +1,4 @@
--- What becomes of a part of an upload in memory.
+-- Effect on a part of an upload in memory.
 use Rattle.std.specs.Prelude.{◌≡◌, ℕ, Bool, IsTrue, List, ◌++◌, length}
 use Rattle.dfu_host.specs.declared.phase.Phase.{Phase}
 use Rattle.dfu_host.specs.declared.phase.Phase.TheVariants as phase
@@ -14,14 +14,14 @@ pub record Joined (t k : ℕ) (memory part : List ℕ) (heard : ℕ) (memory' : 
   pub size : length part ≡ heard
   pub joins : IsTrue (is_kept t k heard) → memory' ≡ kept_at k memory ++ part
 
--- What is heard of a part: that it came, with so many bytes; how it compared; that there was no memory for it; or something else.
+-- Facts that are heard of a part: that it came, with so many bytes; how it compared; that there was no memory for it; or something else.
 pub data OfPart : Type 0 where
   Came : (len : ℕ) → OfPart
   WasCompared : (same : Bool) (len : ℕ) → OfPart
   HadNoRoom : OfPart
   NoPart : OfPart
 
--- What each thing heard says of a part.
+-- Fact of a part that each thing heard says.
 abbrev pub of_part : Heard → OfPart
 of_part (heard.Part len) = Came len
 of_part (heard.Compared same len) = WasCompared same len

@@ -1,4 +1,4 @@
--- What a host of the code has in memory.
+-- Memory of a host of the code.
 use Rattle.std.specs.Prelude.{ℕ, List, []}
 use Rattle.dfu_host.specs.declared.host.Memory.{Memory}
 use Rattle.dfu_host.specs.declared.host.Memory.TheVariants as memory

@@ -1,4 +1,4 @@
--- Why a part of an upload is refused, and what is heard then.
+-- Reasons for which a part of an upload is refused, and what is heard then.
 use Rattle.std.specs.Prelude.{◌≡◌, ℕ, Bool, if◌then◌else◌, List, length}
 use Rattle.dfu_host.specs.declared.phase.Phase.{Phase}
 use Rattle.dfu_host.specs.declared.phase.Phase.TheVariants as phase
@@ -15,7 +15,7 @@ abbrev pub RefusesBytes : (room t : ℕ) → Phase → (memory bytes : List ℕ)
 RefusesBytes room t (phase.Fetch k) memory bytes refused = refused ≡ overflows room t k (kept_at k memory) bytes
 RefusesBytes room t other memory bytes refused = Unit {0}
 
--- What is seen in a phase is refused as by a room of this many bytes.
+-- An answer in a phase is refused as by a room of this many bytes.
 abbrev pub RefusesIn : (room t : ℕ) → Phase → (memory : List ℕ) → Seen → (refused : Bool) → Type 0
 RefusesIn room t phase memory (seen.Bytes bytes) refused = RefusesBytes room t phase memory bytes.now refused
 RefusesIn room t phase memory seen.Ack refused = Unit {0}
@@ -26,13 +26,13 @@ RefusesIn room t phase memory seen.WasReset refused = Unit {0}
 RefusesIn room t phase memory seen.Restarted refused = Unit {0}
 RefusesIn room t phase memory seen.Left refused = Unit {0}
 
--- What is heard of this many bytes that come in a phase: of a part that was asked for, that there was no room, if it was refused, and else
+-- The meaning of this many bytes that come in a phase: of a part that was asked for, that there was no room, if it was refused, and else
 -- the part.
 abbrev pub HearsBytesBy : Phase → (size : ℕ) → (refused : Bool) → Heard → Type 0
 HearsBytesBy (phase.Fetch k) size refused word = word ≡ (if refused then heard.NoRoom else heard.Part size)
 HearsBytesBy other size refused word = Unit {0}
 
--- What is heard of what is seen in a phase, by whether it was refused.
+-- The meaning of an answer in a phase, by whether it was refused.
 abbrev pub HearsBy : Phase → Seen → (refused : Bool) → Heard → Type 0
 HearsBy phase (seen.Bytes bytes) refused word = HearsBytesBy phase (length bytes.now) refused word
 HearsBy phase seen.Ack refused word = Unit {0}

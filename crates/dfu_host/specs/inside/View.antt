@@ -1,4 +1,4 @@
--- What the values of the code mean.
+-- Meaning of the values of the code.
 use Rattle.std.specs.Prelude.{ℕ, List, [], length}
 use Rattle.dfu_wire.specs.declared.codes.Code.{Code}
 use Rattle.dfu_wire.specs.declared.states.State.{State}
@@ -16,7 +16,7 @@ use Rattle.dfu_host.specs.InParts.{host_of}
 use Rattle.dfu_host.specs.Table as table
 use Rattle.dfu_host.specs.Host.{HostState}
 
--- What the code heard, if the part that came has these bytes.
+-- Meaning of what the code heard, if the part that came has these bytes.
 abbrev pub heard_of : (part : List ℕ) → Heard → table.Heard
 heard_of part heard.Acked = table.Acked
 heard_of part (heard.Told status) = table.Status status.code status.poll_ms status.state
@@ -69,7 +69,7 @@ session_parts t p = record {
 abbrev pub state_with : List ℕ → Task → Progress → HostState
 state_with memory t p = host_of memory (session_parts t p)
 
--- What the table has for a status in a phase that asks for it, by the status's code, poll time and state.
+-- Row of the table for a status in a phase that asks for it, by the status's code, poll time and state.
 abbrev pub status_row : table.Task → Phase → Code → ℕ → State → table.Phase
 status_row task (phase.Poll n) = table.polled_phase (table.work_start task.goal) (length (table.pieces task)) n
 status_row task phase.Manifest = table.manifested (table.work_start task.goal) task.tolerant

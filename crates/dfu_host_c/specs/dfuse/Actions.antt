@@ -1,4 +1,4 @@
--- What the record of an action says, and what the buffer of bodies has.
+-- Content of the record of an action, and of the buffer of bodies.
 use Rattle.std.specs.Prelude.{◌≡◌, ◌<◌, ◌≤◌, ℕ, List, ◌++◌, length, replicate, drop}
 use Rattle.dfu_wire.specs.declared.requests.Request.{Request}
 use Rattle.dfuse_host.specs.Deeds.{DfuseDeed, Send, Wait, Done}

@@ -1,4 +1,4 @@
--- What came of a call.
+-- Result of a call.
 use Rattle.std.specs.Prelude.{◌≡◌, ◌⊎◌, ℕ, ℤ, List, Some, None}
 use Rattle.std.specs.Borrow.{Bor}
 use Rattle.dfu_formats.specs.memory.Reading.{MapContent}

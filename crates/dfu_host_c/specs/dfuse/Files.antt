@@ -13,7 +13,7 @@ abbrev pub setting_number : Option ℕ → ℕ
 setting_number (Some setting) = setting
 setting_number None = 256
 
--- What a file says as numbers: how many targets it has, their setting, and the identifiers of its suffix.
+-- Fields of a file as numbers: how many targets it has, their setting, and the identifiers of its suffix.
 abbrev pub file_record : DfuseContent → DfuseFile
 file_record f = record {
   targets = length f.targets;

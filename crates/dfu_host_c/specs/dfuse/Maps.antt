@@ -11,11 +11,11 @@ use Rattle.dfu_host_c.specs.declared.refusals.Refusal.TheVariants as refusal
 use Rattle.dfu_host_c.specs.declared.dfuse.map.DfuseMap.{DfuseMap}
 use Rattle.dfu_host_c.specs.declared.dfuse.map.DfuseRange.{DfuseRange}
 
--- What a map has, as numbers: how long its name is, and how many ranges there are.
+-- Content of a map, as numbers: how long its name is, and how many ranges there are.
 abbrev pub map_record : MapContent → DfuseMap
 map_record m = record { name = length m.name; ranges = length m.ranges }
 
--- What may be done with pages, as a number: bit 0 to read, bit 1 to erase, bit 2 to write them.
+-- Access to pages, as a number: bit 0 to read, bit 1 to erase, bit 2 to write them.
 abbrev pub access_number : Access → ℕ
 access_number a = bit a.is_readable + 2 * bit a.is_erasable + 4 * bit a.is_writable
 

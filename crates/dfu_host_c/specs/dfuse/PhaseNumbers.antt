@@ -22,7 +22,7 @@ works at end =
 abbrev pub work_at : (number at end : ℕ) → Option Work
 work_at number at end = slice_get (works at end) number
 
--- What is known of the address pointer, by this number, 0 to 2, and its address; None if it is over 2.
+-- Knowledge of the address pointer, by this number, 0 to 2, and its address; None if it is over 2.
 abbrev pub place_at : (number pointer : ℕ) → Option Place
 place_at number pointer = slice_get (place.Lost ∷ place.At pointer ∷ place.Reading pointer ∷ []) number
 

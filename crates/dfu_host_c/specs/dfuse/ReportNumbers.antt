@@ -8,7 +8,7 @@ use Rattle.dfuse_host.specs.declared.report.Leaving.{Leaving}
 use Rattle.dfuse_host.specs.declared.report.Leaving.TheVariants as leaving
 use Rattle.dfu_host_core.specs.ReportNumbers.{code_at}
 
--- How a device left, by this number; None if it is over 2.
+-- Way in which a device left, by this number; None if it is over 2.
 abbrev pub leaving_at : ℕ → Option Leaving
 leaving_at number = slice_get (leaving.Stayed ∷ leaving.Left ∷ leaving.Unknown ∷ []) number
 

@@ -1,4 +1,4 @@
--- What a program does with a device of DfuSe that is silent, leaves, or comes back as another one. The numbers of actions and of what is
+-- Course of a program with a device of DfuSe that is silent, leaves, or comes back as another one. The numbers of actions and of what is
 -- seen are those of a DFU session: action 0 is a request, 3 is seen of one without an answer, 7 of a device that left by itself.
 use Rattle.std.specs.Prelude.{ℕ, ◌==◌, ◌&&◌, ◌||◌, not, nat_lt, nat_le, Bool, slice_index, if◌then◌else◌}
 use Rattle.dfu_host_c.specs.Watch.{as_number, counted_to, yes}
@@ -26,15 +26,15 @@ dfuse_changes action command = (action.what == 0) && ((slice_index action.setup 
     && (nat_lt 0 action.length
     && (not (slice_index action.setup 2 == 0) || (not (slice_index action.setup 3 == 0) || (command == 65))))))
 
--- How many requests in a row went out and had no answer, after this action; 24 stands for any more.
+-- Number of requests in a row that went out and had no answer, after this action; 24 stands for any more.
 abbrev pub dfuse_silent_after : DfuseWatch → DfuseAction → (seen : ℕ) → DfuFacts → ℕ
 dfuse_silent_after watch action seen facts =
     if not (is_out action facts) then watch.silent
     else if seen == 3 then counted_to watch.silent 24
     else 0
 
--- What is kept after an action. Any request that went out but GETSTATUS ends a row of waits. The memory may have changed once an action was
--- to change it, also if it didn't go out.
+-- Record after an action. Any request that went out but GETSTATUS ends a row of waits. The memory may have changed once an action was to
+-- change it, also if it didn't go out.
 abbrev pub dfuse_watched : DfuseWatch → DfuseAction → (command seen : ℕ) → DfuFacts → DfuseWatch
 dfuse_watched watch action command seen facts = record {
   silent = dfuse_silent_after watch action seen facts;
@@ -48,9 +48,9 @@ abbrev pub is_gone_by_then : DfuseWatch → DfuseAction → (seen : ℕ) → Dfu
 is_gone_by_then watch action seen facts = (action.what == 0)
     && ((yes facts.open && (facts.again == 0)) || (yes facts.gone || ((seen == 7) || nat_le 3 watch.silent)))
 
--- How the program goes on, by the first of these that holds. A device that was asked to leave is taken for gone: 8, to report a restart.
--- The device is gone: 9, to report nothing, if the user has stopped the session; else 3 if it came back with several settings, else 2. It
--- was not asked to leave and is silent, 24 times in a row: 4. It was not asked to leave and the one that is open is another one: 5. Else 0.
+-- Course of the program, by the first of these that holds. A device that was asked to leave is taken for gone: 8, to report a restart. The
+-- device is gone: 9, to report nothing, if the user has stopped the session; else 3 if it came back with several settings, else 2. It was
+-- not asked to leave and is silent, 24 times in a row: 4. It was not asked to leave and the one that is open is another one: 5. Else 0.
 abbrev pub dfuse_course : DfuseWatch → DfuseSession → DfuseAction → (seen : ℕ) → DfuFacts → ℕ
 dfuse_course watch session action seen facts =
     if is_closing session && is_gone_by_then watch action seen facts then 8
@@ -59,10 +59,10 @@ dfuse_course watch session action seen facts =
     else if not (is_closing session) && (yes facts.open && (facts.again == 0)) then 5
     else 0
 
--- How many waits of 0 ms came in a row, after one of so many milliseconds; 4 stands for any more.
+-- Number of waits of 0 ms in a row, after one of so many milliseconds; 4 stands for any more.
 abbrev pub dfuse_waits_after_wait : DfuseWatch → (ms : ℕ) → ℕ
 dfuse_waits_after_wait watch ms = if ms == 0 then counted_to watch.waits 4 else 0
 
--- How many milliseconds a wait takes, once it was counted, if the session asks for so many: 5 from the fourth wait of 0 ms in a row on.
+-- Milliseconds that a wait takes, once it was counted, if the session asks for so many: 5 from the fourth wait of 0 ms in a row on.
 abbrev pub dfuse_wait_of : DfuseWatch → (ms : ℕ) → ℕ
 dfuse_wait_of watch ms = if nat_lt 3 watch.waits then 5 else ms

@@ -1,4 +1,4 @@
-//! What is to be done next, as a record for C.
+//! Action that is to be done next, as a record for C.
 
 ghost use Rattle.std.specs.Prelude.{◌≡◌, ◌⊎◌, ℕ, List, pos};
 ghost use Rattle.dfuse_host.specs.Deeds.{DfuseDeed, Send};
@@ -19,13 +19,13 @@ use dfuse_host::{Action, Element};
 #[repr(C)]
 #[derive(Drop)]
 pub struct DfuseAction {
-    /// How many bytes the body has. It is at the front of the buffer.
+    /// Length of the body in bytes. It is at the front of the buffer.
     pub length: u64,
     /// 0 to send, 1 to wait, 3 if the session is over.
     pub what: u32,
     /// The milliseconds of a wait, or the number of a report.
     pub value: u32,
-    /// What the report has: how the device left, or a code.
+    /// Detail of the report: how the device left, or a code.
     pub more: u32,
     /// The setup that is sent.
     pub setup: [u8; 8],
@@ -51,7 +51,7 @@ fn send(setup: [u8; 8], sent: &[u8], body: &mut [u8], action: &mut DfuseAction) 
     0
 }
 
-/// What is done without a request.
+/// Returns an action that has no request.
 fn other(what: u32, value: u32, more: u32) -> DfuseAction
     ensures { (bytes : List ℕ) → DfuseIsOther what value more result bytes bytes }
 {

@@ -1,4 +1,4 @@
-//! What a DfuSe file says, as a record for C.
+//! Fields of a DfuSe file, as a record for C.
 
 ghost use Rattle.std.specs.Prelude.{◌≡◌, ◌⊎◌, pos};
 ghost use Rattle.dfu_host_c.specs.dfuse.Files.{file_record, setting_number, HasFile, IsNoDfuSe};
@@ -10,7 +10,7 @@ use dfu_formats::dfuse::{File, read};
 #[repr(C)]
 #[derive(Drop)]
 pub struct DfuseFile {
-    /// How many targets there are, 1 to 255.
+    /// Number of targets, 1 to 255.
     pub targets: u32,
     /// The alternate setting that all targets are for, 0 to 255; 256 if there are several.
     pub setting: u32,

@@ -1,4 +1,4 @@
-//! What a DfuSe file has for an alternate setting, for C.
+//! Elements that a DfuSe file has for an alternate setting, for C.
 
 ghost use Rattle.std.specs.Prelude.{◌≡◌, ◌⊎◌, length, pos};
 ghost use Rattle.dfu_host_c.specs.dfuse.Files.{HasFileElements, HasNoElements, IsNoDfuSe};

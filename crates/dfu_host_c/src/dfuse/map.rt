@@ -11,9 +11,9 @@ use dfu_formats::memory::{Access, Map, Pages};
 #[repr(C)]
 #[derive(Drop)]
 pub struct DfuseMap {
-    /// How many bytes the name has, which follows the `@`.
+    /// Length of the name in bytes, which follows the `@`.
     pub name: u64,
-    /// How many ranges there are, 1 to 32.
+    /// Number of ranges, 1 to 32.
     pub ranges: u64,
 }
 
@@ -23,11 +23,11 @@ pub struct DfuseMap {
 pub struct DfuseRange {
     /// The address of the first byte.
     pub start: u64,
-    /// How many bytes each page has.
+    /// Bytes of each page.
     pub size: u64,
-    /// How many pages there are.
+    /// Number of pages.
     pub count: u32,
-    /// What may be done with each page: bit 0 to read, bit 1 to erase, bit 2 to write it.
+    /// Access to each page: bit 0 to read, bit 1 to erase, bit 2 to write it.
     pub access: u32,
 }
 
@@ -41,7 +41,7 @@ fn map_record(map: &Map<'_>) -> DfuseMap
     }
 }
 
-/// What may be done with pages, as a number.
+/// Returns the access to pages as a number.
 fn access_number(access: Access) -> u32
     ensures { result ≡ access_number access }
 {

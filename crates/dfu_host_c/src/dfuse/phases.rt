@@ -47,7 +47,7 @@ fn work_at(number: u32, at: u64, end: u64) -> Option<Work>
     }
 }
 
-/// What is known of the pointer, by its number and address; None if there is no such number.
+/// Returns what is known of the pointer, by its number and address; None if there is no such number.
 fn place_at(number: u32, pointer: u64) -> Option<Place>
     ensures { result ≡ place_at number pointer }
 {

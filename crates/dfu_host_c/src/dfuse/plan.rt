@@ -1,4 +1,4 @@
-//! What a session is to do, for C.
+//! Plan of a session, for C.
 
 ghost use Rattle.std.specs.Prelude.{◌≡◌};
 ghost use Rattle.dfu_host_c.specs.dfuse.Sessions.{dfuse_plan_of};
@@ -12,15 +12,15 @@ use dfuse_host::{Element, Plan};
 pub struct DfusePlan {
     /// The address at which the application is to start.
     pub start: u32,
-    /// How often `dfuse_take` may be called until the session is over; 0 counts as 1.
+    /// Calls of `dfuse_take` after which the session is over; 0 counts as 1.
     pub actions: u32,
-    /// How many restarts of the device are taken.
+    /// Restarts of the device that are taken.
     pub restarts: u16,
     /// The most bytes of a block.
     pub transfer: u16,
-    /// How many bytes of the image are written last.
+    /// Bytes of the image that are written last.
     pub front: u16,
-    /// Whether the device is to leave: 0 or else.
+    /// Tells whether the device is to leave: 0 or else.
     pub leaves: u16,
 }
 

@@ -17,7 +17,7 @@ macro_rules! reports {
     };
 }
 
-/// How a device left, by its number; None if it is over 2.
+/// Returns the way in which a device left, by its number; None if it is over 2.
 fn leaving_at(number: u32) -> Option<Leaving>
     ensures { result ≡ leaving_at number }
 {

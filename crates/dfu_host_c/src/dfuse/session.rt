@@ -8,7 +8,7 @@ use crate::dfuse::plan::DfusePlan;
 pub struct DfuseSession {
     /// The version of the library that wrote the record.
     pub version: u32,
-    /// What the session works at, 0 to 6; 7 if it is over.
+    /// Work of the session, 0 to 6; 7 if it is over.
     pub work: u32,
     /// The address that the work has reached.
     pub at: u64,
@@ -16,9 +16,9 @@ pub struct DfuseSession {
     pub end: u64,
     /// The address that the device's pointer was set to, if that is known.
     pub pointer: u64,
-    /// What is known of the pointer, 0 to 2.
+    /// Knowledge of the pointer, 0 to 2.
     pub place: u32,
-    /// Which step, 0 to 14.
+    /// Step of the work, 0 to 14.
     pub step: u32,
     /// The milliseconds of a step; of a report its code, or how the device left.
     pub more: u32,

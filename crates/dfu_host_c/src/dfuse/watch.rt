@@ -1,4 +1,4 @@
-//! What a program keeps beside a DfuSe session, as a record for C.
+//! Record that a program keeps beside a DfuSe session, for C.
 
 /// `struct dfuse_watch`: what has come of a session's requests so far. All 0 before it.
 #[repr(C)]

@@ -23,39 +23,39 @@ use crate::watching::{
     ENDS_GONE, ENDS_MANY, ENDS_OTHER, ENDS_SILENT, GOES_ON, MOST_SILENT, counted,
 };
 
-/// What `dfuse_watch_after` returns beside the numbers of `dfu_watch_after`: to report a restart in place of what was seen.
+/// Result of `dfuse_watch_after` beside the numbers of `dfu_watch_after`: to report a restart in place of what was seen.
 const GOES_RESTARTED: u32 = 8;
 /// To report nothing, since the user has stopped the session and the device is gone.
 const GOES_TO_STOP: u32 = 9;
-/// How many requests in a row have no answer once the device was asked to leave, until it is taken for gone.
+/// Requests in a row that may have no answer once the device was asked to leave, until it is taken for gone.
 const MOST_SILENT_AT_CLOSE: u32 = 3;
-/// How many waits of 0 ms in a row are kept to.
+/// Waits of 0 ms in a row that are kept to.
 const SHORT_WAITS: u32 = 3;
-/// How many milliseconds the next ones take.
+/// Milliseconds that the next ones take.
 const SHORT_WAIT_MS: u32 = 5;
 
-/// Whether the device was asked to leave: the DNLOAD of no bytes is the next action, or was sent.
+/// Returns whether the device was asked to leave: the DNLOAD of no bytes is the next action, or was sent.
 fn is_closing(session: &DfuseSession) -> bool
     ensures { result ≡ is_closing session.now }
 {
     session.work == 6 && session.step >= 12
 }
 
-/// Whether a request went out to the device.
+/// Returns whether a request went out to the device.
 fn is_out(action: &DfuseAction, facts: &DfuFacts) -> bool
     ensures { result ≡ is_out action.now facts.now }
 {
     action.what == 0 && facts.reached != 0
 }
 
-/// Whether an action is GETSTATUS (USB DFU 1.1, section 6.1.2).
+/// Returns whether an action is GETSTATUS (USB DFU 1.1, section 6.1.2).
 fn is_status(action: &DfuseAction) -> bool
     ensures { result ≡ is_status action.now }
 {
     action.setup[0] == 0xa1 && action.setup[1] == 3
 }
 
-/// Whether the memory may be another one after an action: a block of data, whose number isn't 0, or the command 41h, which erases.
+/// Returns whether the memory may be another one after an action: a block of data, whose number isn't 0, or the command 41h, which erases.
 fn changes(action: &DfuseAction, command: u32) -> bool
     ensures { result ≡ dfuse_changes action.now command }
 {
@@ -66,7 +66,7 @@ fn changes(action: &DfuseAction, command: u32) -> bool
         && (action.setup[2] != 0 || action.setup[3] != 0 || command == 0x41)
 }
 
-/// How many requests in a row went out and had no answer, after an action.
+/// Counts the requests in a row that went out and had no answer, after an action.
 fn silent_after(watch: &DfuseWatch, action: &DfuseAction, seen: u32, facts: &DfuFacts) -> u32
     ensures { result ≡ dfuse_silent_after watch.now action.now seen facts.now }
 {
@@ -79,7 +79,7 @@ fn silent_after(watch: &DfuseWatch, action: &DfuseAction, seen: u32, facts: &Dfu
     }
 }
 
-/// What is kept after an action. `command` is the first byte of its body, or 0.
+/// Returns the record after an action. `command` is the first byte of its body, or 0.
 fn watched(
     watch: &DfuseWatch,
     action: &DfuseAction,
@@ -100,8 +100,8 @@ fn watched(
     }
 }
 
-/// Whether a device that was asked to leave is taken for gone after this action, a request: another one is open, or it is gone,
-/// or it left by itself, or at least three requests in a row had no answer.
+/// Returns whether a device that was asked to leave is taken for gone after this action, a request: another one is open, or it is gone, or
+/// it left by itself, or at least three requests in a row had no answer.
 fn is_gone_by_then(watch: &DfuseWatch, action: &DfuseAction, seen: u32, facts: &DfuFacts) -> bool
     ensures { result ≡ is_gone_by_then watch.now action.now seen facts.now }
 {
@@ -110,7 +110,7 @@ fn is_gone_by_then(watch: &DfuseWatch, action: &DfuseAction, seen: u32, facts: &
         && (is_other || facts.gone != 0 || seen == 7 || watch.silent >= MOST_SILENT_AT_CLOSE)
 }
 
-/// How the program goes on, by what is kept and what it sees of the device.
+/// Returns the course of the program, by the record and by what it sees of the device.
 fn course(
     watch: &DfuseWatch,
     session: &DfuseSession,
@@ -140,7 +140,7 @@ fn course(
     }
 }
 
-/// Whether the device was asked to leave, and may be gone with any request: 1, or 0.
+/// Returns whether the device was asked to leave, and may be gone with any request: 1, or 0.
 #[unsafe(no_mangle)]
 pub extern "C" fn dfuse_watch_closes(session: &DfuseSession) -> u32
     ensures { result ≡ as_number (is_closing session.now) }
@@ -148,8 +148,7 @@ pub extern "C" fn dfuse_watch_closes(session: &DfuseSession) -> u32
     u32::from(is_closing(session))
 }
 
-/// What follows an action of which this was seen, and of the device these facts. `command` is the first byte of its body,
-/// or 0.
+/// Returns the course after an action of which this was seen, and of the device these facts. `command` is the first byte of its body, or 0.
 #[unsafe(no_mangle)]
 pub extern "C" fn dfuse_watch_after(
     watch: &mut DfuseWatch,
@@ -166,7 +165,7 @@ pub extern "C" fn dfuse_watch_after(
     course(watch, session, action, seen, facts)
 }
 
-/// How many milliseconds to wait if the host asks for these: as many, but 5 from the fourth wait of 0 in a row on.
+/// Returns the milliseconds to wait if the host asks for these: as many, but 5 from the fourth wait of 0 in a row on.
 #[unsafe(no_mangle)]
 pub extern "C" fn dfuse_watch_wait(watch: &mut DfuseWatch, ms: u32) -> u32
     ensures waits { watch.new.waits ≡ dfuse_waits_after_wait watch.old ms }

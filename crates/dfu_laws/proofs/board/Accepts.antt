@@ -9,7 +9,7 @@ use Rattle.dfu_device.specs.History.{IsRow, HistoryStep as TableRow}
 use Rattle.dfu_laws.specs.board.Accepts.{Heeds, RunAccepts, HeedsRow, HistoryAccepts}
 use Rattle.dfu_laws.proofs.board.Closing.{row_leads}
 
--- What was closed was accepted.
+-- An image that was closed was accepted.
 closed_accepted : (check : List ℕ → Bool) (old steps : List BoardStep) (image : List ℕ) → Heeds check old steps → IsClosed old steps image
     → check image ≡ true
 closed_accepted check old steps image heeds c = ap check c.image_is ∙ heeds c.first c.close c.rest c.steps_are c.is

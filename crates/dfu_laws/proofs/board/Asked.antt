@@ -1,4 +1,4 @@
--- How often a board asks: each time its series of writes is shorter by a piece.
+-- Number of times that a board asks: each time its series of writes is shorter by a piece.
 use Rattle.std.specs.Prelude.{◌≡◌, ◌==◌, nat_lt, nat_le, not, ◌&&◌, ℕ, ◌+◌, ◌%◌, ◌≤◌, ◌<◌, Bool, true, false, IsTrue, List, [], ◌∷◌, ◌++◌, length, take, Option, Some, None, if◌then◌else◌}
 use Rattle.std.proofs.Common.{inl, inr, refl, sym, ap, ◌∙◌, subst, arith, eq-eqb}
 use Rattle.std.proofs.Math.Nat.{mod-lt}
@@ -64,7 +64,7 @@ module _ (s : SlotsState) where
       let room : n ≤ room_of s = grind (arith, common_steps) in
       omega (arith, spare_size shape, room)
 
-  -- What is taken is in the spare slot.
+  -- The bytes that are taken are in the spare slot.
   taken_length : (n : ℕ) → n ≤ length (spare_of s) → length (take n (spare_of s)) ≡ n
   taken_length n fits = omega (arith, length-take n (spare_of s), fits)
 

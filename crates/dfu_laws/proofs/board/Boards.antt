@@ -1,4 +1,4 @@
--- What is kept of the device that a board stands for is kept on its flash: the laws.
+-- Facts that are kept of the device that a board stands for are kept on its flash: the laws.
 use Rattle.std.specs.Prelude.{◌≡◌, ◌⊎◌, ℕ, Bool, true, false, List, [], Option, Some, None}
 use Rattle.std.proofs.Common.{inl, inr, refl, sym, ap, ◌∙◌, subst}
 use Rattle.std.proofs.lemmas.List.{append-nil}
@@ -120,7 +120,7 @@ module _ (laws : WriteLaws) (takes : RowTakes) (only : OneImage) where
   pub run_refines : RunRefines
   run_refines b b' steps on run = idle_refines b b' (device_on b) steps (on_idle b on) run
 
-  -- What is kept of a device is kept on the flash of the board.
+  -- A fact that is kept of a device is kept on the flash of the board.
   kept_on : (image : List ℕ) (old steps : List BoardStep) (b : Board) (due : Option Cause) (d : DeviceView) → StandsFor b due d
       → KeptAt image old steps d → HasKept image old steps b
   kept_on image old steps b due d k kept =

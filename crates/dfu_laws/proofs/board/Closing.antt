@@ -1,4 +1,4 @@
--- Which rows lead to an image: only a closing DNLOAD begins the wait for it, and only a wait ends in it.
+-- Rows that lead to an image: only a closing DNLOAD begins the wait for it, and only a wait ends in it.
 use Rattle.std.specs.Prelude.{◌≡◌, ◌⊎◌, ℕ, ◌+◌, ◌==◌, ◌&&◌, nat_lt, nat_le, max, not, true, List, [], ◌∷◌, length, take, drop, slice_index}
 use Rattle.std.proofs.Common.{inl, inr, refl, sym, ap, ◌∙◌, subst}
 use Rattle.dfu_wire.specs.declared.setups.Setup.{Setup}
@@ -41,7 +41,7 @@ waits_taken image st t m = absurd m
 abbrev ClosesBy : Request → Reply → Type 0
 ClosesBy r reply = (reply ≡ Ack) × (number : ℕ) × (r ≡ Dnload number [])
 
--- What begins to wait did so before, or the request closed the download that it is; what is committed waited.
+-- An image is pending only if it was pending before or this request closed its download. Only a pending image is committed.
 abbrev Closes : List ℕ → Stage → Request → Plan → Type 0
 Closes image st r (Sure reply next) = (t : List ℕ) → IsPending next t → IsPending st t ⊎ (ClosesBy r reply × (t ≡ taken_in image st))
 Closes image st r (Writes before block reply next bad) = (t : List ℕ) → IsPending next t → ⊥
@@ -118,7 +118,7 @@ abbrev pub IsClosing : Cause → Answer → List ℕ → Type 0
 IsClosing cause a out =
     (setup : List ℕ) × (cause ≡ Transfer setup []) × (is_dnload setup ≡ true) × (a ≡ answer.Ack) × (out ≡ [])
 
--- What waits after a row waited before, or was closed by it; and the image is the one before, or what waited.
+-- An image that waits after a row waited before, or was closed by it; and the active image is the one before, or the one that waited.
 pub record Leads (w : DeviceView) (cause : Cause) (a : Answer) (out : List ℕ) (w' : DeviceView) : Type 0 where
   pub waits : (t : List ℕ) → IsPending w'.stage t → IsPending w.stage t ⊎ (IsClosing cause a out × (t ≡ taken_of (situation w)))
   pub image : (image_of w'.slots ≡ image_of w.slots) ⊎ IsPending w.stage (image_of w'.slots)

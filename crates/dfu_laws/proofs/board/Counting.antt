@@ -1,4 +1,4 @@
--- How many pieces a series of steps has.
+-- Number of pieces of a series of steps.
 use Rattle.std.proofs.Common.{◌≡◌, inl, inr, Bool, true, false, if◌then◌else◌, ◌==◌, ℕ, zero, suc, ◌+◌, ◌-◌, ◌*◌, ◌/◌, ◌%◌, ◌≤◌, ◌<◌, min, List, [], ◌∷◌, ◌++◌, length, refl, sym, ◌∙◌, ap, subst, arith, length-append}
 use Rattle.std.proofs.Math.Nat.{mod-lt, mod-add-mod, mod-eq_of_lt, mod_self, le-div_iff_mul-le}
 use Rattle.std.proofs.lemmas.Bool.{ne_eqb}

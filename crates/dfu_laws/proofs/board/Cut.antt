@@ -54,7 +54,7 @@ pub record WriteLaws : Type 0 where
 pub write_laws : PiecesTear → StepsAreWrites → BlocksBreak → CommitsBreak → WriteLaws
 write_laws tear same blocks commits = record { tear = tear; same = same; blocks = blocks; commits = commits }
 
--- What a device in dfuERROR answers at the end of a row.
+-- Answer of a device in dfuERROR at the end of a row.
 record IsSaid (c : Setting) (m : DeviceState) (asked : Option ℕ) : Type 0 where
   answer : Answer
   out : List ℕ

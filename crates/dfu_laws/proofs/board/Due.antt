@@ -1,4 +1,4 @@
--- What the row that is due does to the bytes taken, and to the image.
+-- Effect of the row that is due on the bytes taken, and on the image.
 use Rattle.std.specs.Prelude.{◌≡◌, ◌⊎◌, ℕ, Bool, true, false, if◌then◌else◌, List, ◌++◌}
 use Rattle.std.proofs.lemmas.Bool.{false≢true}
 use Rattle.std.proofs.Common.{inl, inr, refl, sym, ap, ◌∙◌, subst}

@@ -64,7 +64,7 @@ run_on : (b mid b' : Board) (xs ys : List BoardStep) → IsRun b xs mid → IsRu
 run_on b mid b' [] ys run more = subst (λ (x : Board). IsRun x ys b') run more
 run_on b mid b' (x ∷ xs) ys run more = (run.0, run.1, run.2, run_on x.after mid b' xs ys run.3 more)
 
--- What a step without an answer does to the work that is kept.
+-- Effect of a step without an answer on the work that is kept.
 
 -- It keeps the work and asks for none.
 record KeepsWork (b : Board) (says : Says) (b' : Board) : Type 0 where
@@ -104,7 +104,7 @@ step_work b b' (Took failed) WritesDue h un =
     inr (inr (record { due = refl; failed = failed; event = refl; work = h.work; work_is = h.left.work_is }))
 
 module _ (same : StepsAreWrites) (refines : IdleRefines) (mid : Board) (d : DeviceView) (idle : IsIdle mid d) where
-  -- What is known of a board that has this work: the piece that is due, and how many pieces the series has.
+  -- Facts of a board that has this work: the piece that is due, and how many pieces the series has.
   record WorkAt (b : Board) (w : PendingWrites) : Type 0 where
     piece : Step
     is : IsPiece (steps_in (lent_on b) w) w.done piece
@@ -227,7 +227,7 @@ module _ (same : StepsAreWrites) (refines : IdleRefines) (mid : Board) (d : Devi
           let k : StandsFor b' (Some c.0) r.device = subst (λ (x : Option Cause). StandsFor b' x r.device) (more.1 ∙ c.1) r.stands in
           (k.asks.work, k.asks.work_is)
 
--- What the clause `further` of `took` says of a step.
+-- The clause `further` of `took` says this of a step.
 pub took_further : (b b' : Board) (failed : Bool) (out : List ℕ) (r : Result Reply Refusal)
     → IfOk r (λ x. x ≡ reply.Asks → (w : PendingWrites) (p : Step) → b.asking.work ≡ Some w
     → IsPiece (steps_in (lent_on b) w) w.done p → b'.asking.work ≡ Some (record w { done = w.done + length p.write.bytes }))

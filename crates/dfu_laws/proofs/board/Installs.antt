@@ -1,4 +1,4 @@
--- Which rows put an image in place: those that lead out of manifestation without a fault.
+-- Rows that put an image in place: those that lead out of manifestation without a fault.
 use Rattle.std.specs.Prelude.{◌≡◌, ℕ, ◌+◌, ◌==◌, nat_le, true, List, [], length}
 use Rattle.std.proofs.Common.{inl, inr, refl, ap, ◌∙◌, subst}
 use Rattle.std.proofs.lemmas.Bool.{false≢true}

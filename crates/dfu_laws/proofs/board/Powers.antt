@@ -111,7 +111,7 @@ power_rows w w' true e =
       };
     }
 
--- What holds of it.
+-- Facts of the powered board.
 
 -- A board that got power stands for a device.
 pub on_idle : (b : Board) → IsPoweredOn b → IsIdle b (device_on b)

@@ -97,7 +97,7 @@ history_append : (w mid w' : DeviceView) (xs ys : List TableRow) → IsHistory w
 history_append w mid w' [] ys h more = subst (λ (x : DeviceView). IsHistory x ys w') h more
 history_append w mid w' (x ∷ xs) ys h more = (h.0, h.1, history_append x.after mid w' xs ys h.2 more)
 
--- What comes of a run, after these steps, if this is kept of the steps and the device.
+-- Result of a run, after these steps, if this is kept of the steps and the device.
 pub record RanOn (Kept : List BoardStep → DeviceView → Type 0) (steps rest : List BoardStep) (b' : Board) (due : Option Cause)
     (d : DeviceView)
     : Type 0 where

@@ -1,4 +1,4 @@
--- What the clauses of a call say is what a step of a board does.
+-- The clauses of a call say the step of a board.
 use Rattle.std.specs.Prelude.{◌≡◌, ℕ, Bool, false, List, [], length, take, Result, Ok, Err, Option, Some, None, IfOk, IfSome, IfNone, IsSome, OnOk, OnErr}
 use Rattle.std.proofs.Common.{refl, sym, ap, ◌∙◌}
 use Rattle.dfu_slots.specs.Medium.{Torn}
@@ -26,7 +26,7 @@ use Rattle.dfu_laws.specs.board.Board.{Board, lent_on, Says, Answers}
 use Rattle.dfu_laws.specs.board.Happens.{IsServedBy, IsTold, BoardStarts, IsRefusedOr, reply_said}
 use Rattle.dfu_laws.specs.board.Steps.{board, result_said}
 
--- What follows in one case of a refusal follows in each.
+-- A consequence in one case of a refusal follows in each.
 pub on_err : {T E P Q : Type 0} (r : Result T E) → (P → Q) → OnErr r P → OnErr r Q
 on_err (Ok x) follows p = tt
 on_err (Err e) follows p = follows p
@@ -132,7 +132,7 @@ took_step b b' failed room out out' (Ok r) flash taken outcome same =
     told_step b b' failed out out' r taken.work taken.is_left flash outcome
 took_step b b' failed room out out' (Err e) flash taken outcome same = same
 
--- What is None only against a fact is Some by it.
+-- A result that is None only against a fact is Some by it.
 pub some_of : {A P : Type 0} (r : Option A) → IfNone r (¬ P) → P → IsSome r
 some_of (Some x) never p = refl
 some_of None never p = absurd (never p)
@@ -155,7 +155,7 @@ on_step (Some a) block held flash config unit sector device is kept sector_is = 
 )
 on_step None block held flash config unit sector device is kept sector_is = tt
 
--- What follows of a value from one fact, or from two, follows if there is a value.
+-- A consequence of a value from one fact, or from two, follows if there is a value.
 pub on_some : {A : Type 0} (P Q : A → Type 0) (r : Option A) → ((x : A) → P x → Q x) → IfSome r P → IfSome r Q
 on_some P Q (Some x) follows p = follows x p
 on_some P Q None follows p = tt

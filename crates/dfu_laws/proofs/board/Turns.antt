@@ -33,7 +33,7 @@ none_or_some w x none some = absurd (cc)
 pub one_work : (x y : PendingWrites) (z : Option PendingWrites) → z ≡ Some x → z ≡ Some y → x ≡ y
 one_work x y z a b = cc
 
--- What is taken stays in a stage in which a download is under way, and in the others nothing is taken.
+-- The bytes taken stay in a stage in which a download is under way, and in the others nothing is taken.
 pub stage_holds : (image : List ℕ) (st : Stage) → held_in (state_of st) (taken_in image st) ≡ taken_in image st
 stage_holds image (InDownloadSync before block number) = refl
 stage_holds image (InDownloadSyncWritten taken number) = refl
@@ -90,7 +90,7 @@ stays b' due due' d e says tells stands none = record {
 
 -- A row that came to its end, after which a board is idle.
 
--- What is kept is a device then, on the flash of the board.
+-- The kept record is a device then, on the flash of the board.
 pub idle_there : (b' : Board) (flash : List ℕ) (x : Answer) (count : ℕ) (out out' : List ℕ) (R : Answer → List ℕ → Type 0)
     → b'.flash ≡ flash → HasEnded flash x count out out' (lent_on b') R → IsIdle b' (device_on b')
 idle_there b' flash x count out out' R same e = record {
@@ -99,7 +99,7 @@ idle_there b' flash x count out out' R same e = record {
   device = refl;
 }
 
--- What is said are the bytes of the row.
+-- The answered bytes are the bytes of the row.
 pub said_there : (says : Says) (flash : List ℕ) (x : Answer) (count : ℕ) (out out' : List ℕ) (now : LentAsking)
     (R : Answer → List ℕ → Type 0) (e : HasEnded flash x count out out' now R) → says ≡ Answers x (take count out')
     → says ≡ Answers x e.gave.sent

@@ -1,4 +1,4 @@
--- What the action of a session in C says of the deed of its host.
+-- The action of a session in C says the deed of its host.
 use Rattle.std.specs.Prelude.{◌≡◌, ◌≢◌, ℕ, pos, Bool, List, take, drop}
 use Rattle.std.proofs.Common.{inl, refl, sym, ap, ◌∙◌, subst, arith}
 use Rattle.dfu_wire.specs.declared.states.State.{State}
@@ -75,7 +75,7 @@ done_of payload from (Wait ms) a report t e = absurd cc
 done_of payload from Reset a report t e = absurd cc
 
 module _ (tells : HostsTell) (payload : List ℕ) (x : CoreHost) (h : HostState) (here : IsCoreHost payload x h) where
-  -- What dfu_host_next says of it.
+  -- Answer of dfu_host_next for it.
   pub told : (a : DfuAction) → Wants payload x a → TellsOfHost payload h (pos 0) a
   told a wants = tells payload x h wants.0 (pos 0) a a here wants.1 (inl (refl, wants.2))
 

@@ -1,4 +1,4 @@
--- What comes to a board and a session in C comes to the board and the session's host.
+-- An event of a board and a session in C is one of the board and the session's host.
 use Rattle.std.specs.Prelude.{◌≡◌, ℕ, List, [], ◌∷◌, ◌++◌, IsTrue}
 use Rattle.std.proofs.Common.{inl, inr, refl, subst, ⊎_elim}
 use Rattle.dfu_wire.specs.declared.requests.Request.{Request}

@@ -1,4 +1,4 @@
--- What a session in C is told is what its host hears.
+-- A session in C is told what its host hears.
 use Rattle.std.specs.Prelude.{◌≡◌, ℕ, pos, List, [], ◌∷◌, Some, IsTrue}
 use Rattle.std.specs.Borrow.{Bor}
 use Rattle.std.proofs.Common.{inl, inr, refl, sym, ap, ◌∙◌, subst}

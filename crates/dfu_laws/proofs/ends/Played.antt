@@ -95,7 +95,7 @@ module _ (begin : HostsBegin) (refine : HostsRefine) (tells : HostsTell) where
         plays = ends image o.plays (may_end s o.session (state_on now) begins o.is may) end active;
       }
 
-  -- The same in C.
+  -- Runs in C play likewise.
   core_plays : (b : CoreBoard) (steps : List CoreStep) (past : List (List ℕ)) (last : Option (List ℕ)) (l : CoreEnds)
       (p : CoreEndsPlay b steps past last l) (o : PlaysSo p.first p.calls past last l.session p.now)
       → CorePlays b steps past last (record { board = l.board; session = o.session })

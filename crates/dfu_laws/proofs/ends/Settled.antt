@@ -1,4 +1,4 @@
--- What is reported of a session in C is what its host reports.
+-- The report of a session in C is that of its host.
 use Rattle.std.specs.Prelude.{◌≡◌, ◌<◌, ℕ, Bool, true, false, if◌then◌else◌, max, List, take, Option, Some, None}
 use Rattle.std.proofs.Common.{refl, sym, ap, ◌∙◌, subst}
 use Rattle.dfu_host.specs.declared.report.Report.{Report}
@@ -18,7 +18,7 @@ use Rattle.dfu_host_core.specs.Runs.{CoreHost, IsCoreHost, HostsTell}
 use Rattle.dfu_laws.specs.ends.Sessions.{CoreSession, NoSession, InSession, IsSessionOf, gave_with, Settles, stays_live, is_over}
 use Rattle.dfu_laws.proofs.ends.Actions.{told, not_done}
 
--- What a session keeps at its end.
+-- The bytes that a session keeps at its end are its memory.
 memory_kept : (memory kept : List ℕ) (p : CodePhase) → phase_of memory p ≡ OverUploaded kept → kept ≡ memory
 memory_kept memory kept phase.OverUploaded e = sym (kept_same _ _ e)
   where
@@ -60,7 +60,7 @@ live_so h (Over r) never = absurd (never r refl)
 live_so h (OverUploaded kept) never = absurd (never Uploaded refl)
 live_so h p never = refl
 
--- What became of a session: it is that of the session in C, and so is what is reported.
+-- The session after its host took something is the session in C, and the report is the same.
 pub record TookSo (t : Took) (answer : Answered) (s' : CoreSession) : Type 0 where
   pub answer_is : t.answer ≡ answer
   pub is : IsSessionOf s' t.session

@@ -80,7 +80,7 @@ reset_turn b a n out' b' sound called (inr denied) =
     unchanged b a _ n out' b' sound called.config called.flash denied.unchanged denied.block_is (λ same. same)
     (inr (inr (denied.why, denied.number_is)))
 
--- What is handed out is due in the device that the record is.
+-- The work that is handed out is due in the device that the record is.
 pub handed_work : (b : CoreBoard) (a : Asking) (flash : List ℕ) (n : ℤ) (ask : DfuAsk) → IsSound b a
     → (h : HandsOut b.config b.kept b.block flash n ask)
     → (a.work ≡ Some h.work) × IsPiece (steps_in (with_memory b.block a) h.work) h.work.done (ask_step ask)

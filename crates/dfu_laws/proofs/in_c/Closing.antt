@@ -1,4 +1,4 @@
--- What is said of a setup that closes a download is what becomes of a refusal of its image.
+-- The answer for a setup that closes a download agrees with the refusal of its image.
 use Rattle.std.proofs.Common.{◌≡◌, ℤ, pos, ◌⊎◌, inl, inr, Bool, true, false, IsTrue, refl, ap, ◌∙◌}
 use Rattle.dfu_laws.specs.in_c.Closes.{ClosesIfRefused}
 use Rattle.dfu_core.specs.Numbers.{told_number}
@@ -13,7 +13,7 @@ one_yes : (said : Bool) (n : ℤ) → n ≡ told_number said → n ≡ pos 1 →
 one_yes true n is one = refl
 one_yes false n is one = absurd (cc)
 
--- What is said of a setup is what becomes of a refusal.
+-- The answer for a setup agrees with the refusal.
 pub closes_if_refused : ClosesIfRefused
 closes_if_refused c r r' setup status n refused idle is told two (inl (stall, idle2, is2, takes)) block flash a kept device =
     let closes = ((takes a kept).4 block flash device).1.2 in

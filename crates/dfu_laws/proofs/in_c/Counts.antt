@@ -68,7 +68,7 @@ unanswered c (CoreRefuseClose setup status) n out WritesDue told un = tt
 unanswered c (CoreRefuse status) n out WritesDue told un = tt
 unanswered c (CoreTook failed buffer) n out WritesDue told un = tt
 
--- How often it asks.
+-- Number of times that it asks.
 
 refusal_asks : (e : Refusal) → asks_of_number (refusal_number e) ≡ 0
 refusal_asks refusal.NoConfig = refl
@@ -164,7 +164,7 @@ goes_further b b' x x' (CoreRefuse status) n out' says is is' happens told = tt
 goes_further b b' x x' CoreWrite n out' says is is' happens told = tt
 goes_further b b' x x' (CoreRestart begins) n out' says is is' happens told = tt
 
--- What holds of the steps of the board.
+-- Facts of the steps of the board.
 record CountedSo (steps : List CoreStep) (ts : List BoardStep) : Type 0 where
   un : AreUnanswered ts
   further : AllGoFurther ts

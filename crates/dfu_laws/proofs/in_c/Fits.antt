@@ -1,4 +1,4 @@
--- What a board says to a setup is of its kind.
+-- The answer of a board to a setup is of its kind.
 use Rattle.std.specs.Prelude.{ℕ, List, [], ◌∷◌, ◌++◌, Option}
 use Rattle.std.proofs.Common.{refl, sym, ap, subst}
 use Rattle.dfu_wire.specs.declared.requests.Request.{Request}

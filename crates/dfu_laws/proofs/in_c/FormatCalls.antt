@@ -77,7 +77,7 @@ done_number format_progress.Asks e = absurd (cc)
 done_number format_progress.Formatted e = refl
 done_number (format_progress.Broken why) e = absurd (cc)
 
--- What comes of a piece that is not reported as broken.
+-- Result of a piece that is not reported as broken.
 comes_to : (f f' : Formatting) (image was flash : List ℕ) (p : Write) (failed : Bool) (came : FormatProgress)
     → TookPiece f f' image was flash p failed came → ((why : WriteFault) → came ≢ format_progress.Broken why)
     → FormatComesTo (grain_within f) f' image was flash came

@@ -1,4 +1,4 @@
--- What the numbers say that the calls of a board in C answer.
+-- Meaning of the numbers that the calls of a board in C answer.
 use Rattle.std.specs.Prelude.{◌≡◌, ℕ, ℤ, List, []}
 use Rattle.std.proofs.Common.{refl}
 use Rattle.dfu_asks.specs.declared.reply.Reply.{Reply}

@@ -44,11 +44,11 @@ on_too b x on is =
     let config = ap (λ (s : Setting). s.functional.transfer) is.kept.set_up.config_is in
     record { on = subst IsPoweredOn same start.1.0; sized = omega (arith, config, on.powers.config.allowed.transfer.some) }
 
--- What is active on the board is active on the flash in C.
+-- The image that is active on the board is active on the flash in C.
 pub active_too : (b : CoreBoard) (x : Board) (image : List ℕ) → IsBoardOf b x → Active (medium_on x) image → Active (medium_of_core b) image
 active_too b x image is active = subst (λ (m : MediumState). Active m image) (same_flash b x is) active
 
--- What comes next comes to the board of the sessions before.
+-- The next event comes to the board of the sessions before.
 pub comes_on : (b : CoreBoard) (steps more : List CoreStep) (past : List (List ℕ)) (last : Option (List ℕ)) (l l' : CoreLink)
     (answer : Answered) → (p : CorePlays b steps past last l) → (c : CoreComes l more answer l') → BoardComes p.link c.calls answer c.after
 comes_on b steps more past last l l' answer p c =

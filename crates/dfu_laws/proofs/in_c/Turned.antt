@@ -1,4 +1,4 @@
--- What a step of a board in C is, as one of a board; and a call that changes nothing.
+-- Step of a board in C, as one of a board; and a call that changes nothing.
 use Rattle.std.specs.Prelude.{◌≡◌, ◌≤◌, ℕ, ℤ, List, length}
 use Rattle.std.proofs.Common.{sym, ◌∙◌, ap, subst, arith}
 use Rattle.std.proofs.lemmas.List.{length-take-le}

@@ -99,7 +99,7 @@ StepKept w w' rest events =
     → Run (attributes_of (profile w)) 0 (place_of w.stage) events last)
     × Stands (profile w) w'.stage × (w'.config ≡ w.config)
 
--- What led a device on, and is seen, is the head of a run.
+-- An event that led a device on, and is seen, is the head of a run.
 led_step : (w w' : DeviceView) (e : LogEvent) (rest events : List LogEvent) → events ≡ e ∷ rest
     → LedOn (attributes_of (profile w)) (place_of w.stage) e (place_of w'.stage) × Stands (profile w) w'.stage × (w'.config ≡ w.config)
     → StepKept w w' rest events

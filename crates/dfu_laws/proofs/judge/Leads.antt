@@ -1,4 +1,4 @@
--- What a device answers leads it on as a device of the standard.
+-- The answer of a device leads it on as a device of the standard.
 use Rattle.std.specs.Prelude.{◌≡◌, ℕ, ◌+◌, ◌==◌, nat_lt, not, Bool, true, false, List, [], ◌∷◌, length, take, drop, slice_index, if◌then◌else◌}
 use Rattle.std.specs.List.{list_any}
 use Rattle.std.proofs.Common.{refl, sym, ap, ◌∙◌, arith}
@@ -71,7 +71,7 @@ asks_block p number len n a x xs is =
       is,
     )))))))
 
--- What a request is by the table of the judge, if its body has as many bytes as it says.
+-- Request by the table of the judge, if its body has as many bytes as it says.
 abbrev pub came_by : Asked → List ℕ → Came
 came_by (asked.Detach timeout) body = came.Detach
 came_by (asked.Dnload k len) [] = came.Close
@@ -156,7 +156,7 @@ gives_part c p number len body part st next g some can fits = λ a out h.
     ((flags c.can_download c.can_upload c.tolerant c.will_detach).1 ∙ can) refl
     (parted (place_of st) (place_of next) part p.length 0 a out g fits h)
 
--- What holds of each branch of an `if`, when it is taken, holds of the one that is taken.
+-- A fact of each branch of an `if`, when it is taken, holds of the one that is taken.
 pub which : {A : Type 0} (P : A → Type 0) (b : Bool) (x y : A) → (b ≡ true → P x) → (b ≡ false → P y) → P (if b then x else y)
 which P true x y f g = f refl
 which P false x y f g = g refl

@@ -28,7 +28,7 @@ use Rattle.dfu_laws.specs.judge.Kept.{attributes_of, place_of, Stands}
 use Rattle.dfu_laws.proofs.judge.Bits.{flags}
 use Rattle.dfu_laws.proofs.judge.Leads.{write_stands, commit_stands, which}
 
--- What comes of a time that passes is a move, or none.
+-- The result of a time that passes is a move, or none.
 abbrev pub TimeKept : Profile → Stage → Plan → Type 0
 TimeKept c st (Sure reply next) = MayMove (attributes_of c) 0 (place_of st) (place_of next) × Stands c next
 TimeKept c st (Writes before block reply next bad) =
@@ -109,7 +109,7 @@ time_moved (Commits taken reply next bad) c st w a out w' kept (inr (fault, says
       commit_stands c fault,
     )
 
--- What a program objects is no code that a device may not have in dfuERROR.
+-- The objection of a program is no code that a device may not have in dfuERROR.
 pub objection_stands : (c : Profile) (why : Objection) → Stands c (InError (objection_code why))
 objection_stands c Target = tt
 objection_stands c File = tt

@@ -1,4 +1,4 @@
--- What is seen of an answer is what a row of the judge's table gives.
+-- The view of an answer is what a row of the judge's table gives.
 use Rattle.std.specs.Prelude.{◌≡◌, ℕ, zero, suc, ◌<◌, ◌==◌, ◌||◌, min, true, List, [], ◌∷◌, length, take, slice_index}
 use Rattle.std.specs.List.{list_any}
 use Rattle.std.proofs.Common.{refl, ap, ◌∙◌, inl, inr, arith}

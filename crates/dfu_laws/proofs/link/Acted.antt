@@ -1,4 +1,4 @@
--- What a host's action, or a restart that it hears of, leaves of what holds of its session.
+-- Facts of a session that remain after a host's action, or after a restart that it hears of.
 use Rattle.std.specs.Prelude.{◌≡◌, ◌⊎◌, ℕ, ◌<◌, Bool, IsTrue, List, [], ◌∷◌, ◌++◌, Option, Some}
 use Rattle.std.proofs.Common.{inl, inr, refl, sym, ap, ◌∙◌, subst}
 use Rattle.dfu_device.specs.declared.answer.Answer.TheVariants as answer
@@ -29,9 +29,9 @@ use Rattle.dfu_sim.proofs.Taking.{restart_taken, restart_plain}
 use Rattle.dfu_sim.proofs.Projected.{heard_in}
 use Rattle.dfu_laws.proofs.link.Timed.{DeviceWell}
 
--- What is live after an action.
+-- Live session after an action.
 
--- The same is live, or nothing is.
+-- The live session is the one before, or nothing is live.
 abbrev pub StaysLive : Session → Session → Type 0
 StaysLive before now = (live_of now ≡ live_of before) ⊎ (live_of now ≡ NoOne)
 
@@ -47,7 +47,7 @@ go_lives (goes b d s) = elim (says_lives s) [
   | inr none ↦ inr none
 ]
 
--- What holds after an action.
+-- Facts after an action.
 
 -- A session took what it heard, and the device came from one situation to another: what holds of the session holds again, it is live
 -- still or over, and with Installed or Verified its payload is the active image and the state is appIDLE.

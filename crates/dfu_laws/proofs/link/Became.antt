@@ -1,4 +1,4 @@
--- What a board becomes as time passes and as the bus is reset.
+-- Board after time that passes, and after a reset of the bus.
 use Rattle.std.specs.Prelude.{◌≡◌, ℕ, List}
 use Rattle.std.proofs.Common.{inl, refl, sym, ap, ◌∙◌, subst}
 use Rattle.dfu_slots.specs.Seen.{image_of}

@@ -1,4 +1,4 @@
--- What the end of a trial leaves of a board and of what holds of the live session.
+-- Board after the end of a trial, and the facts of the live session that remain.
 use Rattle.std.specs.Prelude.{◌≡◌, ℕ, ◌-◌, ◌*◌, ◌/◌, Bool, true, List, [], ◌∷◌, length}
 use Rattle.std.proofs.Common.{inl, inr, refl, sym, ap, ◌∙◌, subst}
 use Rattle.dfu_wire.specs.declared.states.State.TheVariants.{DfuIdle}
@@ -103,7 +103,7 @@ module _ (c : Profile) (s s' : Situation) (before : s.stage ≡ InDfuIdle) (afte
   transfer_fact (ToVerify p) task phase t f = load_transfer p task phase t f
   transfer_fact (ToCompare p) task phase t f = compare_transfer p task phase t f
 
--- What holds of the live session holds after the end of a trial.
+-- Facts of the live session hold after the end of a trial.
 pub ending_fact : (c : Profile) (session : Session) (b b' : Board) (begins : Bool) (d : DeviceView) → state_on b ≡ state_of d.stage
     → MayEnd session (state_on b) begins → BoardStarts begins b' → SessionFact c (situation d) session
     → SessionFact c (situation (device_on b')) session

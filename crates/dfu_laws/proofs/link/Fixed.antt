@@ -1,4 +1,4 @@
--- What a row leaves as it was: by which profile a device goes.
+-- Profile of a device, which a row leaves as it was.
 use Rattle.std.specs.Prelude.{◌≡◌, ℕ, List, [], ◌∷◌}
 use Rattle.std.proofs.Common.{ap, ◌∙◌}
 use Rattle.dfu_slots.specs.Seen.{shows_same}

@@ -1,4 +1,4 @@
--- What a restart leaves of which a host hears no more than that its own reset is over.
+-- Facts that remain after a restart of which a host hears no more than that its own reset is over.
 use Rattle.std.specs.Prelude.{◌≡◌, ℕ, Bool, true, false, if◌then◌else◌, List, [], ◌∷◌, Option, Some, None}
 use Rattle.std.proofs.Common.{inl, refl, sym, ap, ◌∙◌, subst}
 use Rattle.dfu_slots.specs.Seen.{shows_same}

@@ -1,4 +1,4 @@
--- What marks of a trial leave of a board: the device that it is, with the same image and in the same stage.
+-- Board after marks of a trial: it is the same device, with the same image and in the same stage.
 use Rattle.std.specs.Prelude.{◌≡◌, ◌&&◌, ◌||◌, ◌==◌, ℕ, ◌+◌, ◌-◌, ◌*◌, ◌/◌, ◌^◌, ◌≤◌, ◌<◌, nat_le, nat_lt, IsTrue, List, length, take, drop, get_or, slice_index, slice_range, if◌then◌else◌}
 use Rattle.std.proofs.Common.{inl, inr, refl, sym, ap, ◌∙◌, subst, arith, ⊎_elim}
 use Rattle.std.proofs.lemmas.Bool.{cases_lt}
@@ -64,7 +64,7 @@ module _ (w : Grain) (old now : List ℕ) (un : IsUnread (mapped w old) (mapped 
   spare_same : slot g now (spare_at g now) ≡ slot g old (spare_at g old)
   spare_same = ap (λ (k : ℕ). slot g now k) spare_is ∙ spare_there
 
-  -- What is erased ahead of the puts in the spare slot is erased there.
+  -- A sector that is erased ahead of the puts in the spare slot is erased there.
   ahead_again : IsSized (mapped w old) → (k : ℕ) → 2 * g + k ≤ slot_size old → IsAhead (mapped w old) (spare_at g old + 2 * g + k)
       → IsAhead (mapped w now) (spare_at g now + 2 * g + k)
   ahead_again sized k fits ahead some =
@@ -149,7 +149,7 @@ pub record MarkedOn (d : DeviceView) (b' : Board) : Type 0 where
   pub fixed : profile device ≡ profile d
 
 module _ (a : LentAsking) (old now : List ℕ) (un : IsUnread (mapped (grain_in a) old) (mapped (grain_in a) now)) where
-  -- What is a device's on the old bytes of flash is a device's on the new ones.
+  -- A record that is a device's on the old bytes of flash is a device's on the new ones.
   device_again : IsDevice a old → IsDevice a now
   device_again k = record {
     store = store_again (grain_in a) old now un a.held a.put_end k.store;

@@ -19,7 +19,7 @@ abbrev pub tail_of : List BoardStep → List BoardStep
 tail_of [] = []
 tail_of (x ∷ xs) = xs
 
--- What comes to nothing is nothing.
+-- Two lists that join to nothing are empty.
 pub no_rest : (xs ys : List BoardStep) → xs ++ ys ≡ [] → (xs ≡ []) × (ys ≡ [])
 no_rest [] ys e = (refl, e)
 no_rest (x ∷ xs) ys e = absurd (cc)

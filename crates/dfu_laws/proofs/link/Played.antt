@@ -1,4 +1,4 @@
--- What holds of a board and its host through all that may come.
+-- Facts of a board and its host through all that may come.
 use Rattle.std.specs.Prelude.{◌≡◌, ◌⊎◌, ℕ, ◌<◌, Bool, List, [], ◌∷◌, Option, Some}
 use Rattle.std.proofs.Common.{inl, inr, refl, sym, ap, ◌∙◌, subst}
 use Rattle.dfu_slots.specs.Seen.{image_of}
@@ -46,7 +46,7 @@ pub record Stands (c : Profile) (first : List ℕ) (past : List (List ℕ)) (las
   pub sound : IsSound past d.stage
   pub known : (image_of d.slots ≡ first) ⊎ IsOneOf (image_of d.slots) past
 
--- What came of the next thing.
+-- Result of the next event.
 pub record WentOn (c : Profile) (first : List ℕ) (past : List (List ℕ)) (last : Option (List ℕ)) (answer : Answered) (l' : BoardLink)
     : Type 0 where
   pub device : DeviceView
@@ -64,7 +64,7 @@ known_on first past s s' known w = elim (w.image) [
   | inr one ↦ inr one
 ]
 
--- What an action of a host, or a restart that it hears of, comes to.
+-- Result of an action of a host, or of a restart that it hears of.
 took_on : (c : Profile) (first : List ℕ) (past : List (List ℕ)) (last : Option (List ℕ)) (l : BoardLink) (d d' : DeviceView) (b' : Board)
     (t : Took) → Stands c first past last l d → IsIdle b' d' → profile d' ≡ c
     → ActedWell c past l.session (situation d) (situation d') t → WentOn c first past last t.answer (left b' t)
@@ -114,7 +114,7 @@ module _ (refines : IdleRefines) (simulation : Simulation) (only : OnlyOffered) 
       (λ mid more says reaches. way_well l.session (Elapse 0) l.board mid d more says k e sound offered f tt reaches)
       (behind power begins lost run event)
 
-  -- What holds holds again, after all that may come.
+  -- The facts hold again, after all that may come.
   pub went_on : (first : List ℕ) (last : Option (List ℕ)) (l l' : BoardLink) (d : DeviceView) (steps : List BoardStep) (answer : Answered)
       → Stands c first past last l d → BoardComes l steps answer l' → WentOn c first past last answer l'
   went_on first last l _ d steps _ s (passes {ms = ms} {a = a} {out = out} {b' = b'} serves) =

@@ -28,7 +28,7 @@ run_parts b (x ∷ xs) ys b' run =
     let more = run_parts x.after xs ys b' run.3 in
     record { mid = more.mid; first = (run.0, run.1, run.2, more.first); second = more.second }
 
--- The same steps lead to the same board.
+-- Equal steps lead to the same board.
 pub one_run : (b : Board) (steps : List BoardStep) (x y : Board) → IsRun b steps x → IsRun b steps y → x ≡ y
 one_run b [] x y h k = h ∙ sym k
 one_run b (s ∷ rest) x y h k = one_run s.after rest x y h.3 k.3
@@ -53,7 +53,7 @@ stops_run call b b' steps (within run br) = run
 stops_run call b b' _ (within_second {first = first} {second = second} {mid = mid} serves run br) =
     run_append b mid b' first second serves.run run
 
--- What comes next over a link is a run, or a mark with no steps.
+-- The next event over a link is a run, or a mark with no steps.
 abbrev pub WentBy : Board → List BoardStep → Board → Type 0
 WentBy b steps b' = IsRun b steps b' ⊎ ((steps ≡ []) × IsMarkedBoard b b')
 

@@ -1,4 +1,4 @@
--- What comes of a host's request to a board.
+-- Result of a host's request to a board.
 use Rattle.std.specs.Prelude.{◌≡◌, ℕ, ◌<◌, IsTrue, List, []}
 use Rattle.std.proofs.Common.{inl, inr, refl, sym, ◌∙◌, subst}
 use Rattle.dfu_wire.specs.declared.requests.Request.{Request}
@@ -100,7 +100,7 @@ module _ (refines : IdleRefines) (simulation : Simulation) (only : OnlyOffered) 
         (setup, asked, record { came = response.Answered a; out = out; reaches = again mid x said (inl row) more; hears = some })) room
   ]
 
-  -- What was heard of it, and what the board became.
+  -- Meaning that was heard of it, and the board after it.
   pub record Sent (b' : Board) (heard : Heard) : Type 0 where
     pub device : DeviceView
     pub idle : IsIdle b' device

@@ -99,7 +99,7 @@ one_row d d' cause a out rows one h =
     (subst (λ (z : Answer). Row d one.row.cause z out d') one.answer_is
     (subst (λ (z : List ℕ). Row d one.row.cause one.row.answer z d') one.out_is row))
 
--- What a call leaves: the row of its cause, and no writes are due.
+-- Result of a call: the row of its cause, and no writes are due.
 pub record Served (d : DeviceView) (cause : Cause) (a : Answer) (out : List ℕ) (b' : Board) : Type 0 where
   pub device : DeviceView
   pub row : Row d cause a out device

@@ -73,7 +73,7 @@ module _ (refines : IdleRefines) (simulation : Simulation) (only : OnlyOffered) 
     opened_fact s p e goal limits f =
         subst (λ (x : Profile). SessionFact c s (opened x goal limits.actions limits.restarts)) (sym e) f
 
-    -- What holds of a session that begins.
+    -- Facts of a session that begins.
     offer_fact : (past : List (List ℕ)) (s : Situation) (purpose : Purpose) (payload : List ℕ) (limits : Limits) → IsSound past s.stage
         → 0 < length payload → SessionFact c s (opened c (goal_of_purpose purpose payload) limits.actions limits.restarts)
     offer_fact past s purpose payload limits sound some =

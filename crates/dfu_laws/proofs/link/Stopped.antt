@@ -1,4 +1,4 @@
--- What a board becomes as the power goes, during any call.
+-- Board after the power goes, during any call.
 use Rattle.std.specs.Prelude.{◌≡◌, ◌⊎◌, ℕ, Bool, true, false, List, [], ◌∷◌, ◌++◌, Option, Some, None}
 use Rattle.std.proofs.Common.{inl, inr, refl, sym, ap, ◌∙◌, subst}
 use Rattle.std.proofs.lemmas.Bool.{false≢true}
@@ -42,7 +42,7 @@ pub start_sound : (past : List (List ℕ)) (begins : Bool) → IsSound past (sta
 start_sound past true = tt
 start_sound past false = tt
 
--- What happens as the power comes back.
+-- Event in which the power comes back.
 power_happens : (b b' : Board) (s : BoardStep) (begins : Bool) → IsRun b (s ∷ []) b' → s.event ≡ Restart begins
     → (b'.flash ≡ b.flash) × BoardStarts begins b'
 power_happens b b' s begins run event =

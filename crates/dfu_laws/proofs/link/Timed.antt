@@ -1,4 +1,4 @@
--- What the passing of time at a device, also with a medium that fails, leaves of its image and of what holds of a session.
+-- Image of a device after time has passed, also with a medium that fails, and the facts of a session that remain.
 use Rattle.std.specs.Prelude.{◌≡◌, ◌⊎◌, ℕ, ◌+◌, ◌==◌, nat_le, max, List, length}
 use Rattle.std.proofs.Common.{inl, inr, refl, sym, ◌∙◌, subst}
 use Rattle.dfu_device.specs.Pace.{block_ms, image_ms}
@@ -99,7 +99,7 @@ module _ (c : Profile) (s : Situation) (ms : ℕ) (luck : Luck) where
   goal_timed (ToVerify p) phase on f = fact_time c s.image p phase ms s.stage f luck
   goal_timed (ToCompare p) phase on f = compare_timed p phase on f
 
-  -- What holds of a session holds after a time in which a write may fail.
+  -- Facts of a session hold after a time in which a write may fail.
   pub timed : (session : Session) → SessionFact c s session → SessionFact c (elapsed c s ms luck) session
   timed Nobody f = tt
   timed (Hosted h) f = record { task_is = f.task_is; on = f.on; some = f.some; fact = goal_timed h.task.goal h.phase f.on f.fact }

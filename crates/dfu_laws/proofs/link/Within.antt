@@ -1,4 +1,4 @@
--- Which image a board keeps at each step of what comes over the link.
+-- Image that a board keeps at each step of what comes over the link.
 use Rattle.std.specs.Prelude.{◌≡◌, ◌⊎◌, ℕ, List, [], ◌∷◌, ◌++◌}
 use Rattle.std.proofs.Common.{inl, inr, refl, sym, ap, ◌∙◌, subst}
 use Rattle.std.proofs.lemmas.List.{append-nil}
@@ -37,7 +37,7 @@ module _ (refines : IdleRefines) (c : Profile) (first : List ℕ) (past : List (
   ]
   known_by image i known (inr one) = inr one
 
-  -- What a device becomes is known if the device was.
+  -- The device after an event is known if the device before was.
   pub became_known : (d : DeviceView) (b' : Board) → KnownOf first past d → (x : Became c past (situation d) b')
       → KnownOf first past x.device
   became_known d b' k x = record {

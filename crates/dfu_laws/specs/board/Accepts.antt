@@ -1,4 +1,4 @@
--- Which images a device keeps, and a board, whose program checks each one.
+-- Images that a device keeps, and a board, whose program checks each one.
 use Rattle.std.specs.Prelude.{◌≡◌, ◌⊎◌, ℕ, Bool, true, List, [], ◌∷◌, ◌++◌}
 use Rattle.dfu_wire.specs.declared.codes.Code.TheVariants.{Target as ErrTarget, File as ErrFile, StalledPkt as ErrStalledPkt}
 use Rattle.dfu_slots.specs.Seen.{image_of}

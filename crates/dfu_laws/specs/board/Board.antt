@@ -35,7 +35,7 @@ device_on b = device_in (lent_on b) b.flash
 abbrev pub state_on : Board → State
 state_on b = state_of (stage_of b.asking.mode [] [])
 
--- What may happen to a board.
+-- Events that may happen to a board.
 pub data Event : Type 0 where
   -- The calls `handle`, `elapse` and `usb_reset`.
   Handle : (setup body : List ℕ) → Event
@@ -51,7 +51,7 @@ pub data Event : Type 0 where
   -- The power goes, and comes back: `power_on`. If the device begins for a host, it is put into dfuIDLE then.
   Restart : (begins : Bool) → Event
 
--- What is said then: nothing, as by a call that is refused; that writes are due; or an answer with its bytes.
+-- Answer to an event: nothing, as by a call that is refused; that writes are due; or an answer with its bytes.
 pub data Says : Type 0 where
   Nothing : Says
   WritesDue : Says

@@ -1,4 +1,4 @@
--- How often a board asks for writes until a call is answered.
+-- Number of times that a board asks for writes until a call is answered.
 use Rattle.std.specs.Prelude.{◌≡◌, ℕ, ◌+◌, ◌-◌, ◌/◌, ◌≤◌, ◌==◌, List, [], ◌∷◌, length, Some, None, if◌then◌else◌}
 use Rattle.dfu_asks.specs.declared.pending_writes.PendingWrites.{PendingWrites}
 use Rattle.dfu_asks.specs.declared.pending_writes.SlotWrite.{SlotWrite}
@@ -29,7 +29,7 @@ abbrev pub most_asks : SlotWrite → (n sector : ℕ) → ℕ
 most_asks (Block spare close) n sector = block_erases n sector + block_programs n
 most_asks (Commit spare gen crc) n sector = commit_erases sector + commit_programs
 
--- How many of these steps say that writes are due.
+-- Number of these steps that say that writes are due.
 abbrev pub asks_of : Says → ℕ
 asks_of WritesDue = 1
 asks_of says = 0

@@ -1,4 +1,4 @@
--- What may come of a step of a board: what the clauses of a call say, and what may become of its flash.
+-- Results of a step of a board: what the clauses of a call say, and what may become of its flash.
 use Rattle.std.specs.Prelude.{◌≡◌, ℕ, Bool, true, false, List, [], ◌∷◌, length, take, Some, None}
 use Rattle.dfu_slots.specs.Medium.{Torn}
 use Rattle.dfu_slots.specs.Seen.{SlotsState}
@@ -19,7 +19,7 @@ use Rattle.dfu_asks.specs.Calls.{AsksWrites, DeviceCalled, DeviceTook}
 use Rattle.dfu_asks.specs.Refused.{Fits, IsKeptOn, IsLeft}
 use Rattle.dfu_laws.specs.board.Board.{Board, lent_on, medium_on, device_on, Event, Handle, Elapse, UsbReset, RefuseClose, Refuse, Write, Took, Restart, Says, Nothing, WritesDue, Answers, BoardStep}
 
--- What a reply says, with these bytes in the buffer of the call.
+-- Answer of a reply, with these bytes in the buffer of the call.
 abbrev pub reply_said : Reply → List ℕ → Says
 reply_said reply.Asks out = WritesDue
 reply_said (reply.Answered a count) out = Answers a (take count out)
@@ -101,7 +101,7 @@ abbrev pub IsRefusedOr : Says → Board → Board → Type 0 → Type 0
 IsRefusedOr Nothing b b' P = b' ≡ b
 IsRefusedOr says b b' P = P
 
--- What comes of an event. If the power goes, the flash stays as it is.
+-- Result of an event. If the power goes, the flash stays as it is.
 abbrev pub Happens : Board → Event → Says → Board → Type 0
 Happens b (Handle setup body) says b' = IsRefusedOr says b b' (IsServedBy b (Transfer setup body) says b')
 Happens b (Elapse ms) says b' = IsRefusedOr says b b' (IsServedBy b (Passing ms) says b')

@@ -1,4 +1,4 @@
--- Which image a board keeps through any steps.
+-- Image that a board keeps through any steps.
 use Rattle.std.specs.Prelude.{◌≡◌, ◌≢◌, ◌⊎◌, ℕ, Bool, true, false, List, [], ◌∷◌, ◌++◌}
 use Rattle.dfu_wire.specs.declared.states.State.{State}
 use Rattle.dfu_wire.specs.declared.states.State.TheVariants.{DfuIdle, ManifestSync, Manifest, ManifestWaitReset}

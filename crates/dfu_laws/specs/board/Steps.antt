@@ -11,17 +11,17 @@ use Rattle.dfu_laws.specs.board.Happens.{reply_said}
 abbrev pub board : Asking → (block held flash : List ℕ) → Board
 board a block held flash = record { asking = a; block = block; held = held; flash = flash }
 
--- What the result of a call says, with these bytes in its buffer.
+-- Answer of the result of a call, with these bytes in its buffer.
 abbrev pub result_said : Result Reply Refusal → List ℕ → Says
 result_said (Ok r) out = reply_said r out
 result_said (Err e) out = Nothing
 
--- What the result of `usb_reset` says.
+-- Answer of the result of `usb_reset`.
 abbrev pub said_of_reset : Result (Unit {0}) Refusal → Says
 said_of_reset (Ok x) = Answers answer.Ack []
 said_of_reset (Err e) = Nothing
 
--- What the result of `refuse_close` says: a stall if the setup closes a download.
+-- Answer of the result of `refuse_close`: a stall if the setup closes a download.
 abbrev pub said_of_close : Result Bool Refusal → Says
 said_of_close (Ok true) = Answers answer.Stall []
 said_of_close r = Nothing

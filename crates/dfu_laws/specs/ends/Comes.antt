@@ -1,4 +1,4 @@
--- What may come to a board and to a session in C over a link, by the calls of the session's record.
+-- Events of a board and of a session in C over a link, by the calls of the session's record.
 use Rattle.std.specs.Prelude.{◌≡◌, ◌⊎◌, ℕ, Bool, false, List, [], ◌∷◌, ◌++◌}
 use Rattle.dfu_device.specs.declared.answer.Answer.{Answer}
 use Rattle.dfu_device.specs.declared.objection.Objection.{Objection}
@@ -11,9 +11,9 @@ use Rattle.dfu_laws.specs.link.Calls.{Serves, Reaches, Objects, Stops}
 use Rattle.dfu_laws.specs.link.Marks.{IsMarkedBoard}
 use Rattle.dfu_laws.specs.ends.Sessions.{CoreSession, InSession, Wants, IsEntering, sent_body, HostTakes, TellsOf, Settles, HearsRestart, MayBeUnderWay}
 
--- What comes next, with the steps of the board, and what is reported then. The program does what dfu_host_next says: it sends a request
--- (0), waits (1) or resets the bus (2). By dfu_host_take it tells what came of that: what is sent back; 4, that the wait is over; or 5,
--- that the bus was reset.
+-- The next event, with the steps of the board, and the report then. The program does what dfu_host_next says: it sends a request (0), waits
+-- (1) or resets the bus (2). By dfu_host_take it tells what came of that: what is sent back; 4, that the wait is over; or 5, that the bus
+-- was reset.
 pub data EndsCome (s : CoreSession) (b : Board) : List BoardStep → Answered → CoreSession → Board → Type 0 where
   -- Time passes at the board.
   time_passes : {ms : ℕ} {steps : List BoardStep} {a : Answer} {out : List ℕ} {b' : Board} → Serves b (Elapse ms) steps a out b'

@@ -74,7 +74,7 @@ pub record CoreEndsPlay (b : CoreBoard) (steps : List CoreStep) (past : List (Li
   pub is_now : IsBoardOf l.board now
   pub plays : EndsPlay first calls past last l.session now
 
--- What comes next, in the same way.
+-- The next event, in terms of the calls in C.
 pub record CoreEndsCome (l : CoreEnds) (steps : List CoreStep) (answer : Answered) (l' : CoreEnds) : Type 0 where
   pub run : IsCoreMarkedRun l.board steps l'.board
   pub before : Board

@@ -51,12 +51,12 @@ TellsOf (Answers answer.Bytes out) seen bytes = ((seen ≡ 1) × (bytes ≡ out)
 TellsOf (Answers answer.Stall out) seen bytes = (seen ≡ 2) ⊎ (seen ≡ 3)
 TellsOf says seen bytes = seen ≡ 3
 
--- What is given with a report: with Uploaded the bytes that the session keeps.
+-- Bytes that are given with a report: with Uploaded the bytes that the session keeps.
 abbrev pub gave_with : Report → List ℕ → Option (List ℕ)
 gave_with Uploaded bytes = Some bytes
 gave_with report bytes = None
 
--- What dfu_host_next says of a session that was told something, and what is reported: it goes on; or it is over, with a report.
+-- The answer of dfu_host_next for a session that was told something, and the report: it goes on; or it is over, with a report.
 pub data Settles (payload : List ℕ) (x : CoreHost) : Answered → CoreSession → Type 0 where
   stays_live : (a : DfuAction) → Wants payload x a → a.what ≢ 3 → Settles payload x silent (InSession payload x)
   is_over : (a : DfuAction) (report : Report) → Wants payload x a → a.what ≡ 3 → report_at a.value a.code ≡ Some report

@@ -1,4 +1,4 @@
--- What is said of a close, and what becomes of a refusal of it.
+-- Answers to a close, and effects of a refusal of it.
 use Rattle.std.specs.Prelude.{◌≡◌, ◌⊎◌, ◌↔◌, ℕ, ℤ, pos, List}
 use Rattle.dfu_asks.specs.declared.asking.Asking.{Asking}
 use Rattle.dfu_asks.specs.Asks.{IsDevice}

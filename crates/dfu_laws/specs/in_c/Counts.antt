@@ -1,4 +1,4 @@
--- How often a board in C asks for writes until a call is answered.
+-- Number of times that a board in C asks for writes until a call is answered.
 use Rattle.std.specs.Prelude.{◌≡◌, ◌≢◌, ℕ, ◌+◌, ◌≤◌, ◌==◌, ℤ, pos, negsuc, List, [], ◌∷◌, Some, if◌then◌else◌}
 use Rattle.dfu_asks.specs.declared.pending_writes.PendingWrites.{PendingWrites}
 use Rattle.dfu_core.specs.Config.{transfer_of}
@@ -28,7 +28,7 @@ abbrev pub asks_of_number : ℤ → ℕ
 asks_of_number (pos k) = 0
 asks_of_number (negsuc k) = if k == 10 then 1 else 0
 
--- How many of these steps returned DFU_ASKS.
+-- Number of these steps that returned DFU_ASKS.
 abbrev pub core_asks_in : List CoreStep → ℕ
 core_asks_in [] = 0
 core_asks_in (s ∷ rest) = asks_of_number s.number + core_asks_in rest

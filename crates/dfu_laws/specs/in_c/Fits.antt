@@ -8,7 +8,7 @@ use Rattle.dfu_wire.specs.Request.{Asks}
 use Rattle.dfu_device.specs.declared.answer.Answer.TheVariants as answer
 use Rattle.dfu_laws.specs.board.Board.{Event, Handle, Says, Answers, BoardStep}
 
--- What is said to a request is of its kind: GETSTATUS, GETSTATE and UPLOAD are not acknowledged, and any other one gets no bytes.
+-- The answer to a request is of its kind: GETSTATUS, GETSTATE and UPLOAD are not acknowledged, and any other one gets no bytes.
 abbrev pub FitsRequest : Request → Says → Type 0
 FitsRequest (request.GetStatus len) (Answers answer.Ack out) = ⊥
 FitsRequest (request.GetState len) (Answers answer.Ack out) = ⊥

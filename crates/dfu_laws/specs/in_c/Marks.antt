@@ -1,4 +1,4 @@
--- What a trial changes on the flash of a board in C, and steps with such changes between them.
+-- Bytes that a trial changes on the flash of a board in C, and steps with such changes between them.
 use Rattle.std.specs.Prelude.{◌≡◌, pos, Bool, List, [], ◌∷◌, length}
 use Rattle.dfu_boot.specs.trial.Unread.{IsUnread}
 use Rattle.dfu_core.specs.Power.{Powers}

@@ -44,7 +44,7 @@ pub record CorePlays (b : CoreBoard) (steps : List CoreStep) (past : List (List 
   pub is_link : IsLinkOf l link
   pub plays : Plays first calls past last link
 
--- What comes next, with the steps in C, and what is reported then: in the same way it is what comes next to a board.
+-- The next event, with the steps in C, and the report: it is likewise the next event of a board.
 pub record CoreComes (l : CoreLink) (steps : List CoreStep) (answer : Answered) (l' : CoreLink) : Type 0 where
   pub run : IsCoreMarkedRun l.board steps l'.board
   pub before : BoardLink
@@ -55,7 +55,8 @@ pub record CoreComes (l : CoreLink) (steps : List CoreStep) (answer : Answered) 
   pub is_after : IsLinkOf l' after
   pub comes : BoardComes before calls answer after
 
--- The last session began with a payload. That is the active image of the flash, and the board is in appIDLE, as dfu_core_state returns it.
+-- The last session began with a payload. The payload is the active image of the flash, and the board is in appIDLE, as dfu_core_state
+-- returns it.
 pub record IsCoreInPlace (last : Option (List ℕ)) (b : CoreBoard) : Type 0 where
   pub payload : List ℕ
   pub offered : last ≡ Some payload

@@ -60,8 +60,8 @@ pub record HasInstalled (b mid b' : CoreBoard) (steps : List CoreStep) : Type 0 
   pub runs : IsRunOf b mid steps
   pub active : Active (medium_of_core b') (taken_by [] runs.run)
 
--- The same if a step leads from a state in which an image may wait to one in which manifestation is over, and no fault is reported.
--- Power that comes back with dfu_core_begin is left out.
+-- All bytes taken are the active image if a step leads from a state in which an image may wait to one in which manifestation is over, and
+-- no fault is reported. Power that comes back with dfu_core_begin is left out.
 abbrev pub CoreInstalls : Type 0
 CoreInstalls = (b mid b' : CoreBoard) (steps : List CoreStep) (last : CoreStep) (state state' : State) → IsCoreOn b
     → IsCoreRun b steps mid → IsIn mid state → is_manifesting state ≡ true → IsCoreRun mid (last ∷ []) b' → last.event ≢ CoreRestart true

@@ -56,13 +56,13 @@ NumberSays n out Nothing = IsRefusal n
 NumberSays n out WritesDue = n ≡ ASKS
 NumberSays n out (Answers a bytes) = (count : ℕ) × (n ≡ answer_number a count) × (bytes ≡ take count out)
 
--- The same for time that passed, and for a reset of the bus: an answer is 0.
+-- The number of time that passed, or of a reset of the bus, says this: an answer is 0.
 abbrev pub PassedSays : ℤ → Says → Type 0
 PassedSays n Nothing = IsRefusal n
 PassedSays n WritesDue = n ≡ ASKS
 PassedSays n (Answers a bytes) = n ≡ pos 0
 
--- The same of a call by which the program refuses an image.
+-- The number of a call by which the program refuses an image says this.
 abbrev pub ObjectionSays : ℤ → Says → Type 0
 ObjectionSays n Nothing = IsRefusal n ⊎ (n ≡ NO_CLOSE) ⊎ (n ≡ NO_STATUS)
 ObjectionSays n WritesDue = ⊥

@@ -52,7 +52,7 @@ place_of InManifestWaitReset = place.ManifestWaitReset
 place_of (InUploadIdle at number) = place.UploadIdle
 place_of (InError code) = place.Error
 
--- What is seen of an answer with these bytes.
+-- View of an answer with these bytes.
 abbrev pub seen : Answer → List ℕ → Shows
 seen answer.Ack out = shows.Bytes 0 0 0
 seen answer.Stall out = shows.Stall
@@ -79,8 +79,8 @@ abbrev pub AreSeen : List HistoryStep → List LogEvent → Type 0
 AreSeen [] events = events ≡ []
 AreSeen (s ∷ h) events = (rest : List LogEvent) × TellsEvents s.cause s.answer s.out rest events × AreSeen h rest
 
--- What holds of each stage that a device comes to: manifestation is complete only if it is tolerant, an upload is under way
--- only if it can upload, and dfuERROR never has the code OK.
+-- Facts of each stage that a device comes to: manifestation is complete only if it is tolerant, an upload is under way only if it can
+-- upload, and dfuERROR never has the code OK.
 abbrev pub Stands : Profile → Stage → Type 0
 Stands c InManifestSyncComplete = c.tolerant ≡ true
 Stands c (InUploadIdle at number) = c.can_upload ≡ true

@@ -5,8 +5,8 @@ use Rattle.dfu_device.specs.declared.objection.Objection.{Objection}
 use Rattle.dfu_laws.specs.board.Board.{Board, Event, Handle, RefuseClose, Write, Took, Restart, Says, Nothing, WritesDue, Answers, BoardStep}
 use Rattle.dfu_laws.specs.board.Happens.{IsRun}
 
--- What may come to a board while writes are due: the flash is written, or the program says how that went and is not answered yet, or any
--- other call is refused.
+-- Events of a board while writes are due: the flash is written, or the program says how that went and is not answered yet, or any other
+-- call is refused.
 abbrev pub CarriesOn : Event → Says → Type 0
 CarriesOn Write says = Unit {0}
 CarriesOn (Took failed) (Answers a out) = ⊥

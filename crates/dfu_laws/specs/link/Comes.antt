@@ -1,4 +1,4 @@
--- What may come to a board and to the host of its session over a link.
+-- Events of a board and of the host of its session over a link.
 use Rattle.std.specs.Prelude.{◌≡◌, ◌⊎◌, ℕ, Bool, false, List, [], ◌∷◌, ◌++◌, IsTrue}
 use Rattle.dfu_wire.specs.declared.requests.Request.{Request}
 use Rattle.dfu_device.specs.declared.answer.Answer.{Answer}
@@ -20,7 +20,7 @@ pub record BoardLink : Type 0 where
   pub board : Board
   pub session : Session
 
--- What a host hears of what is sent back: the answer, or nothing if it is lost.
+-- The host hears this of an answer that is sent back: the answer, or nothing if it is lost.
 abbrev pub HearsSentBack : Deed → Says → Heard → Type 0
 HearsSentBack d (Answers a out) heard = (heard ≡ NothingHeard) ⊎ HearsAnswer d a out heard
 HearsSentBack d says heard = heard ≡ NothingHeard
@@ -36,7 +36,7 @@ IsUnderWay session call = ⊥
 abbrev pub left : Board → Took → BoardLink
 left b t = record { board = b; session = t.session }
 
--- What comes next, with the steps of the board, and what is reported then: a report or none, and with Uploaded the bytes.
+-- The next event, with the steps of the board, and the report then: a report or none, and with Uploaded the bytes.
 pub data BoardComes (l : BoardLink) : List BoardStep → Answered → BoardLink → Type 0 where
   -- Time passes at the board.
   passes : {ms : ℕ} {steps : List BoardStep} {a : Answer} {out : List ℕ} {b' : Board} → Serves l.board (Elapse ms) steps a out b'

@@ -44,7 +44,7 @@ pub data Plays (b : Board) : List BoardStep → List (List ℕ) → Option (List
       (image : List ℕ) → Plays b steps past last l → MayEnd l.session (state_on l.board) begins → TrialEnds l.board begins b'
       → Active (medium_on b') image → Plays b steps (image ∷ past) last (record { board = b'; session = l.session })
 
--- The last session began with a payload. That is the active image of the board's flash, and the board is in appIDLE.
+-- The last session began with a payload. The payload is the active image of the board's flash, and the board is in appIDLE.
 pub record IsInPlace (last : Option (List ℕ)) (b : Board) : Type 0 where
   pub payload : List ℕ
   pub offered : last ≡ Some payload

@@ -1,4 +1,4 @@
--- What runs after a session whose payload is on trial.
+-- Image that runs after a session whose payload is on trial.
 use Rattle.std.specs.Prelude.{◌≡◌, ◌<◌, ℕ, List, Option, Some}
 use Rattle.dfu_slots.specs.Medium.{MediumState}
 use Rattle.dfu_boot.specs.trial.Marks.{AreTries}

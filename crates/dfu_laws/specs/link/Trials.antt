@@ -1,4 +1,4 @@
--- When a trial may end, by what the host of the live session is about to do.
+-- Ends of a trial that may come, by what the host of the live session is about to do.
 use Rattle.std.specs.Prelude.{◌≡◌, ◌⊎◌, Bool, true}
 use Rattle.dfu_wire.specs.declared.states.State.{State}
 use Rattle.dfu_wire.specs.declared.states.State.TheVariants.{DfuIdle}

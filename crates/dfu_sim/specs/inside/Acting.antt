@@ -1,4 +1,4 @@
--- What the link's small functions do, each as its part of a play.
+-- Effects of the link's small functions, each as its part of a play.
 use Rattle.std.specs.Prelude.{◌≡◌, ℕ, IsTrue, List, Option, Some, None, Result, Ok, Err}
 use Rattle.dfu_suffix.specs.Grammar.{Content}
 use Rattle.dfu_device.specs.Setting.{Setting}
@@ -29,11 +29,11 @@ use Rattle.dfu_sim.specs.Refusing.{IsOffered}
 abbrev pub delivery_in : GivenDelivery → Delivery
 delivery_in g = record { handling = g.handling; refusing = g.refusing; back = g.back; harming = g.harming }
 
--- How a write is harmed in it.
+-- Harm of a write in it.
 abbrev pub harm_at : GivenDelivery → Harm
 harm_at g = harmed g.writes g.tear.now
 
--- What a host sees at the end of a wait or a reset: after a cut, that the device was restarted.
+-- Result that a host sees at the end of a wait or a reset: after a cut, that the device was restarted.
 abbrev pub seen_over : MediumFault → Seen → Seen
 seen_over NoWrite s = s
 seen_over CutsPower s = seen.Restarted
@@ -58,7 +58,7 @@ abbrev pub ended : Session → Took
 ended Nobody = record { session = Nobody; answer = silent }
 ended (Hosted h) = settled h h.phase
 
--- What an abort answers: it is refused if no session is live.
+-- Answer of an abort: it is refused if no session is live.
 abbrev pub abort_told : Session → Result (Option Report) LinkFault
 abort_told Nobody = Err NoHost
 abort_told (Hosted h) = Ok None

@@ -1,4 +1,4 @@
--- What must hold of a medium before operations are carried out on it.
+-- Facts that must hold of a medium before operations are carried out on it.
 use Rattle.std.specs.Prelude.{◌≡◌, ℕ, ◌+◌, ◌*◌, ◌%◌, ◌≤◌, ◌<◌, List, [], ◌∷◌, length}
 use Rattle.dfu_slots.specs.declared.operation.Op.{Op}
 use Rattle.dfu_slots.specs.declared.operation.Op.TheVariants.{Erase, Program}

@@ -1,4 +1,4 @@
--- What a store keeps of its places.
+-- Facts of a store's places that it keeps.
 use Rattle.std.specs.Prelude.{◌≡◌, ℕ}
 use Rattle.dfu_slots.specs.Image.{gate_of, active_at, spare_at}
 use Rattle.dfu_slots.specs.Seen.{SlotsState}

@@ -1,4 +1,4 @@
--- What the functions that write return and leave.
+-- Results and effects of the functions that write.
 use Rattle.std.specs.Prelude.{List, Result, Ok, Err}
 use Rattle.dfu_slots.specs.declared.fault.WriteFault.{WriteFault}
 use Rattle.dfu_slots.specs.Medium.{MediumState, Write, AllWrites, BrokenWrites}

@@ -1,4 +1,4 @@
--- What the medium in memory represents.
+-- Value that the medium in memory represents.
 use Rattle.std.specs.Prelude.{ℕ, Bool, List, []}
 use Rattle.dfu_slots.specs.Units.{Grain}
 use Rattle.dfu_slots.specs.Medium.{MediumState, Fuse}

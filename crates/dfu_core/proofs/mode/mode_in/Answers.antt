@@ -1,7 +1,7 @@
 use Rattle.std.proofs.Common.{◌≡◌, Option, Some, None, sym, ap, ◌∙◌}
 use Rattle.dfu_core.proofs.mode.mode_in.Goals as goal
 
--- What is found is one.
+-- The mode that is found is one.
 abbrev value_or : {A : Type 0} → A → Option A → A
 value_or m (Some x) = x
 value_or m None = m

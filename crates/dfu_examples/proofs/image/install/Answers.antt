@@ -2,7 +2,7 @@ use Rattle.std.proofs.Common.{◌≡◌, ◌⊎◌, inl, inr, ⊎_elim, ℕ, ◌
 use Rattle.dfu_slots.specs.Seen.{SlotsState, image_of, spare_of}
 use Rattle.dfu_examples.proofs.image.install.Goals as goal
 
--- What was put at the front is read back from it.
+-- The bytes that were put at the front are read back from it.
 put_front : (old mid image : List ℕ) → take (0 + length image) mid ≡ take 0 old ++ image → take (length image) mid ≡ image
 put_front old mid image front =
     let same : length image ≡ 0 + length image = omega arith in ap (λ (n : ℕ). take n mid) same ∙ front

@@ -6,7 +6,7 @@ use Rattle.dfu_laws.proofs.board.Served.{on_err}
 use Rattle.dfu_laws.proofs.board.Objected.{close_step}
 use Rattle.dfu_laws.proofs.steps.refuse_close.Goals as goal
 
--- What is said of a device is said of its board.
+-- An answer of a device is one of its board.
 on_other : {P Q : Type 0} (r : Result Bool Refusal) → (P → Q) → IfOk r (λ x. IsTrue (not x) → P) → IfOk r (λ x. IsTrue (not x) → Q)
 on_other (Ok x) f p = λ y. f (p y)
 on_other (Err e) f p = tt

@@ -1,7 +1,7 @@
 use Rattle.std.proofs.Common.{◌⊎◌, inl, inr}
 use Rattle.dfu_host.proofs.task.Task.row.Goals as goal
 
--- What follows from the one and from the other follows from either.
+-- A consequence of the one and of the other follows from either.
 from_either : {A B C : Type 0} → A ⊎ B → (A → C) → (B → C) → C
 from_either (inl a) first second = first a
 from_either (inr b) first second = second b
