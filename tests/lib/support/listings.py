@@ -1,4 +1,4 @@
-"""Runs the commands of the pages, and compiles their C, in a folder of its own.
+"""Runs the commands of the pages, and compiles their C, in a folder of its own. (The Rust of docs/RUST.md: tests/lib/rust/page.)
 
 A command that needs a board, root, another program or much time is named in LEFT_OUT with the test that runs it; each other one has to
 succeed, and prints the lines that stand below it. So a new block of a page is run, or it is named here.
