@@ -15,7 +15,7 @@ TREES = (
     ("C of examples/ and tests/", lambda it: it.startswith(("examples/", "tests/")) and it.endswith((".c", ".h")), 6.0),
     ("JavaScript of apps/web", lambda it: it.startswith("apps/web/") and it.endswith(".js"), 6.0),
     ("JavaScript of tests/", lambda it: it.startswith("tests/") and it.endswith(".js"), 6.0),
-    ("pages", lambda it: it.endswith(".md"), 6.0),
+    ("pages", lambda it: it.endswith(".md"), 4.8),
 )
 
 
