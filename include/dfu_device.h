@@ -3,9 +3,12 @@
  * @file dfu_device.h
  * @brief Runs the device of USB device firmware upgrade (USB DFU 1.1) in a bootloader; the code is dfu_device.c.
  *
- *     static uint8_t block[DFU_BLOCK_SIZE(1024, 16)], data[1024];   // transfer 1,024 and unit 16, of the configuration
+ *     static const struct dfu_config config = {.version = DFU_VERSION, .vendor = 0x1209, .product = 1, .detach_ms = 1000,
+ *         .attributes = DFU_CAN_DNLOAD | DFU_CAN_UPLOAD, .transfer = 1024, .busy_ms = 1, .manifest_ms = 1, .least = 1,
+ *         .unit = 16, .sector = 1024, .erase_ms = 20, .program_ms = 2};                    // this line is of the part
+ *     static uint8_t block[DFU_BLOCK_SIZE(1024, 16)], data[1024];                          // of transfer and unit
  *     static struct dfu_device dfu = {.config = &config, .flash = flash, .size = size, .block = block, .most = sizeof block,
- *                                     .driver = &driver};           // driver: your two functions, which erase and program
+ *                                     .driver = &driver};                               // your functions that erase and program
  *     void bootloader(void) {
  *         struct dfu_place place;
  *         int32_t n = dfu_device_power_on_or_format(&dfu, image, length);                  // the first image of a new board
@@ -14,14 +17,17 @@
  *         case REQUEST:          n = dfu_device_serve(&dfu, setup, data, data, sizeof data); // setup[0] is 21h or A1h
  *                                n >= 0 ? answer(data, n) : stall(); n = 0; break;
  *         case ANSWER_IS_OUT:    dfu_device_work(&dfu); break;                             // writes the flash
- *         case BUS_RESET:        dfu_device_reset(&dfu); break;                            // the reset that counts, below
+ *         case BUS_RESET:        if (configured) dfu_device_reset(&dfu);                   // SET_CONFIGURATION sets it: RULES
+ *                                configured = 0; break;
  *         }
  *         if (dfu_device_image(&dfu, &place) == 0 && place.length != 0) start(flash + place.at);
  *     }
  *
- * The flash is mapped for reading. It has two slots, each for one image: a download goes to the spare slot, and becomes active in one step
- * at its end, so that whenever power is lost the old image or the whole new one is active. The calls below stand in the order in which a
- * program meets them. RULES, at the end of this file, says what the program must keep to, and what to do on each refusal.
+ * Compile it by `cc -std=c11 -Iinclude yours.c dist/dfu_device.c`. An image is the bytes that the host sends, of any form: hosts leave the
+ * suffix of a DFU file out, so the first image has none either. The flash is mapped for reading. It has two slots, each for one image: a
+ * download goes to the spare slot, and becomes active in one step at its end, so that whenever power is lost the old image or the whole new
+ * one is active. The calls below stand in the order in which a program meets them. RULES, at the end of this file, says what the program
+ * must keep to, and what to do on each refusal.
  */
 #ifndef DFU_DEVICE_H
 #define DFU_DEVICE_H
@@ -104,10 +110,11 @@ enum dfu_attribute {
     DFU_WILL_DETACH = 8
 };
 
-/** @brief Negative results. DFU_STALL and DFU_ASKS are answers; all others are refusals, which change nothing. */
+/** @brief Negative results. DFU_STALL and DFU_ASKS are answers. All others are refusals, which change nothing, but for DFU_NOT_WRITTEN: it
+ *         ends a format, after which there may be no image. */
 enum dfu_result {
     DFU_STALL = -1,       /**< stall the request; the device may be in another state now */
-    DFU_NO_CONFIG = -2,   /**< the configuration has another version, or a number that is out of its range */
+    DFU_NO_CONFIG = -2,   /**< the configuration has another version, or a number outside the range that struct dfu_config gives it */
     DFU_NO_MEDIUM = -3,   /**< the flash has no active image, or another than the record says, or 2^32 bytes or more */
     DFU_NO_DEVICE = -4,   /**< the record does not belong to this flash and block, or another version wrote it */
     DFU_NO_ROOM = -5,     /**< out has less room than an answer may need: 6 bytes, or the transfer size if that is more */
@@ -140,7 +147,7 @@ struct dfu_config {
     uint8_t attributes;       /**< bmAttributes: enum dfu_attribute; bits 4 to 7 are ignored */
     uint8_t interface_number; /**< bInterfaceNumber: a setup whose wIndex is another number is stalled */
     uint32_t busy_ms;         /**< ms for each block, sent as bwPollTimeout, after which the host asks again: 0 to 16,777,215. At 0 a
-                                   block is written before its status is answered, and no time is said */
+                                   block is written before its status is answered, and bwPollTimeout is 0 */
     uint32_t manifest_ms;     /**< the same to put an image in place: 0 to 16,777,215 ms, at least 1 if not tolerant */
     uint32_t least;           /**< the fewest bytes of an image, 1 to 16,777,216; with more than a slot holds, no download can succeed */
     uint32_t unit;            /**< programs are whole multiples of it: 1, 16, 64 or 256 */
@@ -229,7 +236,7 @@ struct dfu_place {
 /** @brief Driver of the flash. Each function returns 0 if it is done, else any number. A program is whole units, at a multiple of the
  *  unit, and if there are sectors FFh is there before. It may cross pages of the part: if the part wraps around there, split it. */
 struct dfu_driver {
-    void *own;                                                                            /**< handed to both functions */
+    void *own;                                                                            /**< handed to both functions, or NULL */
     /** erases the sector at flash[at] to FFh */
     int (*erase)(void *own, uint32_t at, uint32_t length);
     /** programs 1 to 256 bytes at flash[at]; they begin at a multiple of 4 in memory */
@@ -250,7 +257,8 @@ struct dfu_device {
 
 /* THE CALLS, in the order in which a program meets them. A negative number is enum dfu_result: the first refusal that holds of those that a
  * call names, in their order. But while a format is due, each call that can return DFU_NO_BLOCK, and dfu_device_candidate, returns
- * DFU_ASKED before DFU_NO_CONFIG. A refusal changes nothing, and no call writes the flash but through the driver.
+ * DFU_ASKED before DFU_NO_CONFIG. A refusal changes nothing, but what serve, work, reset or settle carried out before it stays done. No
+ * call writes the flash but through the driver.
  *
  * 1. Power. */
 
@@ -284,7 +292,9 @@ static inline int32_t dfu_device_functional(const struct dfu_config *config, uin
 static inline int32_t dfu_device_serve(struct dfu_device *d, const uint8_t setup[8], const uint8_t *body, uint8_t *out, size_t room);
 
 /** @brief Does the work, right after each answer is out: writes the block that waits, or puts the image in place. It does all at once, and
- *         the time of dfuDNBUSY or dfuMANIFEST passes in it.
+ *         the time of dfuDNBUSY or dfuMANIFEST passes in it. Call it after a stall too: if nothing waits it does nothing. If an operation
+ *         fails, the device is in dfuERROR afterwards, and the host is told so by its next GETSTATUS. The old image is active then, or the
+ *         whole new one if it was being put in place.
  * @return 0; DFU_ASKS without a driver; the refusals of dfu_device_elapse, dfu_device_next and dfu_device_took */
 static inline int32_t dfu_device_work(struct dfu_device *d);
 
@@ -293,13 +303,13 @@ static inline int32_t dfu_device_work(struct dfu_device *d);
  * @return 0; as dfu_device_work; the refusals of dfu_device_elapse */
 static inline int32_t dfu_device_reset(struct dfu_device *d);
 
-/** @brief Lets `ms` milliseconds pass. They count in appDETACH, dfuDNBUSY and dfuMANIFEST; with a driver report those in appDETACH alone. A
+/** @brief Lets `ms` milliseconds pass. They count in appDETACH, dfuDNBUSY and dfuMANIFEST. With a driver, call it in appDETACH alone. A
  *         call changes the state at most once, and drops the rest of its time.
  * @return 0; DFU_ASKS; DFU_NO_CONFIG, DFU_NO_BLOCK, DFU_NO_DEVICE, DFU_ASKED, DFU_NO_MEDIUM, DFU_NO_DEVICE, as dfu_device_handle */
 static inline int32_t dfu_device_elapse(struct dfu_device *d, uint32_t ms);
 
 /** @brief Tells the state.
- * @return enum dfu_state, 0 to 10; DFU_NO_DEVICE if the version, the mode, or the number in mode 12 is out of its range */
+ * @return enum dfu_state, 0 to 10; DFU_NO_DEVICE if the record is damaged */
 static inline int32_t dfu_device_state(const struct dfu_device *d);
 
 /** @brief Tells the status code, which is DFU_STATUS_OK in every state but dfuERROR.
@@ -429,9 +439,10 @@ static inline int32_t dfu_device_format_took(struct dfu_device *d, const uint8_t
  *   dfu_device_serve and dfu_device_reset do it first too, since a host may be early, and a stack may not say that an answer is out. If it
  *   was left out, dfu_device_handle takes the next request as an error, and a reset ends the upgrade; either drops what was taken.
  * - Other requests than those with bmRequestType 21h or A1h are the program's own.
- * - The reset that counts is the first reset of the bus, or unplugging, after a SET_CONFIGURATION with a value other than 0. Hosts reset a
- *   device twice while they enumerate it, and a second reset would lead from dfuIDLE to appIDLE. In the first enumeration of a device that
- *   began in dfuIDLE no reset counts.
+ * - THE RESET THAT COUNTS is the first reset of the bus after a SET_CONFIGURATION with a value other than 0; all others are part of an
+ *   enumeration. So the program keeps a flag: SET_CONFIGURATION sets it, or clears it with the value 0, and at a reset of the bus, or if
+ *   the device is unplugged, the program calls dfu_device_reset only if the flag is set, and clears it. If it called it at each reset, the
+ *   second reset of an enumeration would lead from dfuIDLE to appIDLE, and the old image would start.
  * - An application that stays on the bus answers by dfu_runtime.h. If a program is both, it lets milliseconds pass in appDETACH
  *   (dfu_device_elapse). If that leads to dfuIDLE (bitWillDetach), leave the bus and come back, and report no reset for it.
  * - The time that a block takes is sent as bwPollTimeout, after which the host asks again: busy_ms, and erase_ms for each sector that this
@@ -444,9 +455,9 @@ static inline int32_t dfu_device_format_took(struct dfu_device *d, const uint8_t
  *   receive the data stage.
  *
  * A program must always keep to this:
- * - Only driver may be NULL; every other pointer points to as many bytes as its length or its type says, even if the length is 0. Nothing
- *   may begin at address 0, and no two may overlap, except that body and out may be the same memory: if the host sends, out isn't
- *   written, and else body isn't read.
+ * - Only driver and driver.own may be NULL; every other pointer points to as many bytes as its length or its type says, even if the length
+ *   is 0. Nothing may begin at address 0, and no two may overlap, except that body and out may be the same memory: if the host sends, out
+ *   isn't written, and else body isn't read.
  * - One call at a time for a device, and DFU_STACK bytes of stack. Two devices share nothing, so a call for one may interrupt a call for
  *   the other. An interrupt that may come within a call must not make one for the same device.
  * So that a device goes on from where it was:
@@ -465,7 +476,8 @@ static inline int32_t dfu_device_format_took(struct dfu_device *d, const uint8_t
  *   is never known to be new: there the factory puts the first image in place.
  * - DFU_NO_MEDIUM or DFU_NO_DEVICE elsewhere: flash, block or record changed. Call dfu_device_power_on or dfu_device_begin again; the host
  *   begins again.
- * - DFU_ASKED: operations are due. Carry them out (dfu_device_settle with DFU_ASKS), then make the call again.
+ * - DFU_ASKED: operations are due. Carry them out, then make the call again: those of a block or an image by dfu_device_settle with
+ *   DFU_ASKS, those of a format by dfu_device_format_next and dfu_device_format_took.
  * - DFU_NOT_WRITTEN: format again; if that goes on, the part or its driver is broken.
  * - DFU_NOT_LONG, DFU_NO_CLOSE: call dfu_device_handle with this request. DFU_NO_CANDIDATE: there is nothing to check.
  *
