@@ -9,7 +9,7 @@ use thiserror::Error;
 /// Why a file isn't read, checked or written. `read` and `check` answer the first of TooLarge,
 /// TooShort, NoSignature, BadLength, DfuSe, BadCrc whose condition holds, looked for in this
 /// order; `add` looks for TooLarge and then AlreadySuffixed.
-#[derive(Clone, Copy, Debug, Error)]
+#[derive(Clone, Copy, Error)]
 pub enum SuffixFault {
     /// The file has under 16 bytes.
     TooShort,
@@ -31,6 +31,12 @@ pub enum SuffixFault {
     Read,
     /// The writer failed, or took nothing of what was left.
     Write,
+}
+
+impl fmt::Debug for SuffixFault {
+    fn fmt<W: fmt::Write>(&self, f: &mut fmt::Formatter<W>) -> fmt::Result {
+        f.write_str(self.name())
+    }
 }
 
 /// The texts, in the order of the enum.

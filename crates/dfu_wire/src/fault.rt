@@ -7,7 +7,7 @@ use std::fmt;
 use thiserror::Error;
 
 /// Faults of bytes or numbers that are not a value of the wire. Each reader says in which order it looks.
-#[derive(Clone, Copy, Debug, Error)]
+#[derive(Clone, Copy, Error)]
 pub enum WireFault {
     /// There are fewer bytes than the value has: no bytes of a functional descriptor, or fewer than its
     /// first byte says (if that is 7 or 9), and under 6 of a status.
@@ -25,6 +25,12 @@ pub enum WireFault {
     UnknownCode,
     /// A poll time is over 16,777,215 milliseconds, so three bytes do not hold it.
     PollTooLong,
+}
+
+impl fmt::Debug for WireFault {
+    fn fmt<W: fmt::Write>(&self, f: &mut fmt::Formatter<W>) -> fmt::Result {
+        f.write_str(self.name())
+    }
 }
 
 /// The texts, in the order of the enum.

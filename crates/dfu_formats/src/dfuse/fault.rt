@@ -5,7 +5,7 @@ use thiserror::Error;
 
 /// Why bytes aren't a DfuSe file: the first of these that holds. Up to BadCrc the suffix is looked at, from the end of the file; then the
 /// rest from its front, target by target.
-#[derive(Clone, Copy, Debug, Error)]
+#[derive(Clone, Copy, Error)]
 pub enum FileFault {
     /// The file has over 16,777,216 bytes.
     TooLarge,
@@ -39,6 +39,18 @@ pub enum FileFault {
     AddressPastTheEnd,
     /// There are more bytes after the last target.
     Trailing,
+}
+
+impl fmt::Debug for FileFault {
+    fn fmt<W: fmt::Write>(&self, f: &mut fmt::Formatter<W>) -> fmt::Result {
+        #[rattlefmt::skip]
+        static NAMES: [&str; 16] = [
+            "TooLarge", "TooShort", "NoSignature", "BadLength", "NotDfuSe", "BadCrc", "NoPrefix", "BadVersion",
+            "BadImageSize", "NoTargets", "NoTarget", "BadTargetSize", "ElementPastTheTarget", "EmptyElement",
+            "AddressPastTheEnd", "Trailing",
+        ];
+        f.write_str(NAMES[*self as usize])
+    }
 }
 
 /// The texts, in the order of the enum.

@@ -7,17 +7,28 @@ ghost use Rattle.dfu_formats.specs.dfuse.Images.{ascends_from, elements_for, ima
 use crate::dfuse::element::Element;
 use crate::dfuse::file::File;
 use crate::dfuse::listing::put;
+use std::fmt;
 use thiserror::Error;
 
 /// Why a file has no image for a setting: the first of these that holds.
 #[derive(Clone, Copy, Debug, Error)]
 pub enum ImageFault {
     /// No target is for this alternate setting.
-    #[error("the file has nothing for this alternate setting")]
     NoSuchSetting,
     /// There are more elements than there is room for.
-    #[error("the file has too many elements")]
     TooManyElements,
+}
+
+/// The texts, in the order of the enum.
+static TEXTS: [&str; 2] = [
+    "the file has nothing for this alternate setting",
+    "the file has too many elements",
+];
+
+impl fmt::Display for ImageFault {
+    fn fmt<W: fmt::Write>(&self, f: &mut fmt::Formatter<W>) -> fmt::Result {
+        f.write_str(TEXTS[*self as usize])
+    }
 }
 
 /// Sorts elements by their addresses.

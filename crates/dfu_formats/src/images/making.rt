@@ -10,6 +10,7 @@ use crate::images::format::Format;
 use crate::images::laying::{LayFault, lay, lowest};
 use crate::images::{elf, ihex, srec, uf2};
 use std::alloc::Global;
+use std::fmt;
 use thiserror::Error;
 
 /// The bytes from the lowest address of a file to its highest one.
@@ -25,14 +26,21 @@ pub struct Image {
 #[derive(Clone, Copy, Debug, Error)]
 pub enum ImageFileFault {
     /// It can't be read.
-    #[error("{0}")]
     Unread(ImageFault),
     /// It has no byte for any address.
-    #[error("it has no bytes for an image")]
     NoData,
     /// Its elements don't make one piece.
-    #[error("{0}")]
     Unlaid(LayFault),
+}
+
+impl fmt::Display for ImageFileFault {
+    fn fmt<W: fmt::Write>(&self, f: &mut fmt::Formatter<W>) -> fmt::Result {
+        match self {
+            ImageFileFault::Unread(fault) => fmt::Display::fmt(fault, f),
+            ImageFileFault::NoData => f.write_str("it has no bytes for an image"),
+            ImageFileFault::Unlaid(fault) => fmt::Display::fmt(fault, f),
+        }
+    }
 }
 
 /// The elements of a file of a format.

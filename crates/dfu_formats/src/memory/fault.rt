@@ -5,7 +5,7 @@ use thiserror::Error;
 
 /// Why a string isn't a memory map. It is read from the front, and the first fault met is the answer; Overlaps is looked for
 /// once all is read.
-#[derive(Clone, Copy, Debug, Error)]
+#[derive(Clone, Copy, Error)]
 pub enum MapFault {
     /// It doesn't begin with `@`, or has no `/` after the name.
     NoMap,
@@ -25,6 +25,17 @@ pub enum MapFault {
     Trailing,
     /// Two ranges share an address.
     Overlaps,
+}
+
+impl fmt::Debug for MapFault {
+    fn fmt<W: fmt::Write>(&self, f: &mut fmt::Formatter<W>) -> fmt::Result {
+        #[rattlefmt::skip]
+        static NAMES: [&str; 9] = [
+            "NoMap", "BadAddress", "BadCount", "BadSize", "BadType", "PastTheEnd", "TooManyRanges", "Trailing",
+            "Overlaps",
+        ];
+        f.write_str(NAMES[*self as usize])
+    }
 }
 
 /// The texts, in the order of the enum.
