@@ -8,6 +8,7 @@ ghost use Rattle.dfu_device.specs.Decision.{profile_in};
 
 use dfu_slots::Unit;
 use dfu_wire::{Functional, Ids};
+use std::fmt;
 use std::marker::Model;
 use thiserror::Error;
 
@@ -78,15 +79,23 @@ impl Model for Config {
 #[derive(Clone, Copy, Debug, Drop, Error)]
 pub enum ConfigFault {
     /// The transfer size of the functional descriptor is 0 or over 4,096 bytes.
-    #[error("the transfer size is not 1 to 4096 bytes")]
     BadTransfer,
     /// A poll time is over 16,777,215 ms, or the manifestation time is 0 although the device is not
     /// tolerant of manifestation.
-    #[error("a poll time does not fit in 24 bits, or the manifestation time is 0 without tolerance")]
     BadPoll,
     /// The fewest bytes of an image are 0 or over 16,777,216.
-    #[error("the fewest bytes of an image are not 1 to 16777216")]
     BadLeast,
+}
+
+impl fmt::Display for ConfigFault {
+    fn fmt<W: fmt::Write>(&self, f: &mut fmt::Formatter<W>) -> fmt::Result {
+        f.write_str(match self {
+            ConfigFault::BadTransfer => "the transfer size is not 1 to 4096 bytes",
+            ConfigFault::BadPoll =>
+                "a poll time does not fit in 24 bits, or the manifestation time is 0 without tolerance",
+            ConfigFault::BadLeast => "the fewest bytes of an image are not 1 to 16777216",
+        })
+    }
 }
 
 /// Fixed settings of a device, which the table reads beside its mode.
