@@ -1,9 +1,10 @@
 //! `dfu judge`: the verdict on a log or a capture of a file or of standard input.
 
-use crate::captures::{Headed, MAX_CAPTURE, capture_line, capture_why};
+use crate::captures::{Headed, MAX_CAPTURE};
 use crate::dfusing::judge_dfuse;
 use crate::eventful::Eventful;
 use crate::line_ends::LineEnds;
+use crate::passes::{is_kept, judge_passes, without_log};
 use crate::prefixing::Prefixed;
 use crate::watching::Watched;
 use dfu_conformance::LineFault;
@@ -70,7 +71,7 @@ pub(crate) struct JudgeOptions {
 
 /// What is judged, and how.
 #[derive(Clone, Copy)]
-struct Judged<'w> {
+pub(crate) struct Judged<'w> {
     /// The name of the file.
     pub name: &'w str,
     /// What precedes each line.
@@ -91,7 +92,7 @@ impl<'w> Judged<'w> {
 }
 
 /// The output for the lines of what is judged.
-fn output<'o, R: Print + AllocGlobal>(
+pub(crate) fn output<'o, R: Print + AllocGlobal>(
     rt: &'o R,
     judged: Judged<'o>,
 ) -> Prefixed<'o, JsonLines<'o, Printer<'o, R>>> {
@@ -107,7 +108,7 @@ fn output<'o, R: Print + AllocGlobal>(
 }
 
 /// Judges the log that a reader gives.
-fn judge_text_of<R: Print + AllocGlobal, S: Read + Drop>(
+pub(crate) fn judge_text_of<R: Print + AllocGlobal, S: Read + Drop>(
     rt: &R,
     judged: Judged<'_>,
     log: S,
@@ -140,16 +141,7 @@ fn judge_bytes<R: Print + AllocGlobal>(rt: &R, judged: Judged<'_>, capture: &[u8
     let alloc = rt.alloc();
     match log_of(alloc, capture, judged.how.interface, judged.how.only) {
         Ok(log) => judge_text_of(rt, judged, log.as_slice()),
-        Err(fault) => {
-            let line = capture_line(fault).as_bytes();
-            Outcome {
-                exit: write_out(&mut output(rt, judged), line, Exit::Refused),
-                reason: match capture_why(fault) {
-                    Some(why) => file_reason(alloc, judged.name, why),
-                    None => None,
-                },
-            }
-        }
+        Err(fault) => without_log(rt, judged, fault),
     }
 }
 
@@ -171,7 +163,11 @@ fn judge_capture<R: Print + AllocGlobal, S: Read + Drop>(
 }
 
 /// A file or standard input that can't be read.
-fn unread<R: Print + AllocGlobal>(rt: &R, judged: Judged<'_>, error: &io::Error) -> Outcome {
+pub(crate) fn unread<R: Print + AllocGlobal>(
+    rt: &R,
+    judged: Judged<'_>,
+    error: &io::Error,
+) -> Outcome {
     Outcome {
         exit: fault_text(SuffixFault::Read, &mut output(rt, judged)),
         reason: error_reason(rt.alloc(), judged.name, error),
@@ -187,6 +183,9 @@ fn judge_file<R: Files + Input + Print + AllocGlobal>(rt: &R, judged: Judged<'_>
     match Headed::new(given) {
         Ok(given) => {
             if is_capture(given.head()) {
+                if is_kept(rt, judged.name) {
+                    return judge_passes(rt, judged);
+                }
                 judge_capture(rt, judged, given)
             } else {
                 judge_text_of(rt, judged, LineEnds::new(given))

@@ -15,6 +15,7 @@ mod judging;
 mod line;
 mod line_ends;
 mod numbering;
+mod passes;
 mod performing;
 mod prefixing;
 mod running;

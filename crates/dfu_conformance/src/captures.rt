@@ -1,22 +1,31 @@
 //! A reader of captures of the USB: pcap and pcapng with packets of Linux's usbmon, or of USBPcap on Windows.
 //!
-//! `log_of` makes the log of a device of it. No bytes make it stop but by a fault.
+//! `log_of` makes the log of a device of it, and `CaptureStream` that of one that comes in pieces. No bytes make it stop but by a fault.
 
 mod address;
+mod devices;
 mod event;
 mod exchange;
 mod fault;
+mod following;
 mod joining;
 mod logging;
 mod numbers;
 mod pending;
 mod records;
+mod streaming;
+mod telling;
+mod text;
+mod transfers;
 mod usbmon;
 mod usbpcap;
+mod window;
 
 pub use address::Address;
+pub use devices::Devices;
 pub use event::{Ending, PacketKind, UsbEvent};
 pub use fault::CaptureFault;
 pub use logging::{is_capture, log_of};
+pub use streaming::{CaptureStream, checked, devices_in};
 pub use usbmon::packet_event;
 pub use usbpcap::recorded_event;

@@ -50,3 +50,20 @@ pub struct UsbEvent<'c> {
     /// Not all of its bytes were captured.
     pub is_cut: bool,
 }
+
+impl UsbEvent<'_> {
+    /// The event without its bytes.
+    pub(crate) fn head(&self) -> UsbEvent<'static> {
+        UsbEvent {
+            kind: self.kind,
+            id: self.id,
+            address: self.address,
+            is_in: self.is_in,
+            setup: self.setup,
+            ending: self.ending,
+            moved: self.moved,
+            data: &[],
+            is_cut: self.is_cut,
+        }
+    }
+}

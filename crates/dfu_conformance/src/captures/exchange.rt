@@ -10,6 +10,15 @@ pub(crate) enum Seen<'c> {
     Bytes(&'c [u8]),
 }
 
+/// The bytes that the host sends with a request.
+#[derive(Clone, Copy)]
+pub(crate) enum Body<'c> {
+    /// These.
+    Bytes(&'c [u8]),
+    /// So many, which were not kept. A judge asks no more.
+    Count(usize),
+}
+
 /// A request and its answer.
 #[derive(Clone, Copy)]
 pub(crate) struct Exchange<'c> {
@@ -17,7 +26,7 @@ pub(crate) struct Exchange<'c> {
     pub packet: usize,
     pub address: Address,
     pub setup: [u8; 8],
-    pub body: &'c [u8],
+    pub body: Body<'c>,
     pub seen: Seen<'c>,
     /// The address that the device gets by it, if it shows that the bus was reset.
     pub given: Option<Address>,

@@ -11,6 +11,6 @@ pub enum CaptureFault {
     NoDevice,
     /// More than one device got requests of DFU, and none was asked for.
     ManyDevices,
-    /// An allocation was refused.
+    /// An allocation was refused, or a record of a capture that comes in pieces has over 1,048,576 bytes: no more are kept.
     NoMemory,
 }

@@ -6,7 +6,7 @@ ghost use Rattle.dfu_conformance.specs.declared.captures.fault.CaptureFault.TheV
 
 use crate::captures::address::Address;
 use crate::captures::event::{Ending, PacketKind, UsbEvent};
-use crate::captures::exchange::{Exchange, Seen};
+use crate::captures::exchange::{Body, Exchange, Seen};
 use crate::captures::fault::CaptureFault;
 use crate::captures::numbers::from;
 use crate::captures::pending::{Pending, PendingTransfers};
@@ -19,7 +19,7 @@ use std::alloc::Global;
 const USBPCAP: u16 = 249;
 
 /// Returns the content of a packet, by its link type. NotUsbmon if that is another one.
-fn event_of<'c>(packet: &Packet<'c>) -> Result<Option<UsbEvent<'c>>, CaptureFault> {
+pub(crate) fn event_of<'c>(packet: &Packet<'c>) -> Result<Option<UsbEvent<'c>>, CaptureFault> {
     if packet.link == USBPCAP {
         return Ok(recorded_event(packet.bytes));
     }
@@ -71,6 +71,41 @@ fn fits(setup: &[u8; 8], event: &UsbEvent<'_>) -> bool {
     }
 }
 
+/// What a completion says of the transfer that it completes, in packet N; nothing if it completes another one, or that is of no use here.
+pub(crate) fn exchange_of<'c>(
+    packet: usize,
+    began: &Pending<'c>,
+    event: &UsbEvent<'c>,
+    link: u16,
+) -> Option<Exchange<'c>> {
+    let [kind, ..] = began.setup;
+    let address = began.submission.address;
+    let exchange = Exchange {
+        packet,
+        address,
+        setup: began.setup,
+        body: began.body,
+        seen: seen_of(&began.setup, event),
+        given: given_by(&began.setup, address, link),
+        is_cut: began.is_cut || kind >= 0x80 && event.ending == Ending::Done && event.is_cut,
+    };
+    if !fits(&began.setup, event) || !exchange.is_class() && exchange.given.is_none() {
+        return None;
+    }
+    Some(exchange)
+}
+
+/// The transfer that an event submits, with the bytes that go with it if they are for the device.
+pub(crate) fn submitted<'c>(event: &UsbEvent<'c>, setup: [u8; 8], body: Body<'c>) -> Pending<'c> {
+    let [kind, ..] = setup;
+    Pending {
+        submission: *event,
+        setup,
+        body: if kind < 0x80 { body } else { Body::Count(0) },
+        is_cut: kind < 0x80 && event.is_cut,
+    }
+}
+
 /// Transfers, as they come.
 #[derive(Drop)]
 struct Joining<'c> {
@@ -84,13 +119,8 @@ impl<'c> Joining<'c> {
     /// A transfer is submitted. One that had its id before is over, though its completion is missing.
     fn submit(&mut self, event: &UsbEvent<'c>, setup: [u8; 8]) -> Result<(), CaptureFault> {
         let _over = self.pending.take(event);
-        let [kind, ..] = setup;
-        self.pending.put(Pending {
-            submission: *event,
-            setup,
-            body: if kind < 0x80 { event.data } else { &[] },
-            is_cut: kind < 0x80 && event.is_cut,
-        })
+        self.pending
+            .put(submitted(event, setup, Body::Bytes(event.data)))
     }
 
     /// The bytes of a transfer that was submitted without them come. One whose bytes come from the device has none, so it is over.
@@ -102,7 +132,7 @@ impl<'c> Joining<'c> {
         if kind >= 0x80 {
             return Ok(());
         }
-        began.body = event.data;
+        began.body = Body::Bytes(event.data);
         began.is_cut = event.is_cut;
         self.pending.put(began)
     }
@@ -112,20 +142,9 @@ impl<'c> Joining<'c> {
         let Some(began) = self.pending.take_same(event) else {
             return Ok(());
         };
-        let [kind, ..] = began.setup;
-        let address = began.submission.address;
-        let exchange = Exchange {
-            packet: self.count,
-            address,
-            setup: began.setup,
-            body: began.body,
-            seen: seen_of(&began.setup, event),
-            given: given_by(&began.setup, address, link),
-            is_cut: began.is_cut || kind >= 0x80 && event.ending == Ending::Done && event.is_cut,
-        };
-        if !fits(&began.setup, event) || !exchange.is_class() && exchange.given.is_none() {
+        let Some(exchange) = exchange_of(self.count, &began, event, link) else {
             return Ok(());
-        }
+        };
         match self.exchanges.push(exchange) {
             Ok(()) => Ok(()),
             Err(_) => Err(CaptureFault::NoMemory),

@@ -5,6 +5,7 @@ ghost use Rattle.dfu_conformance.specs.captures.Joining.{IsSameTransfer, HasSame
 ghost use Rattle.dfu_conformance.specs.captures.Pending.{LacksId, LacksSame, LeavesWithout};
 
 use crate::captures::event::UsbEvent;
+use crate::captures::exchange::Body;
 use crate::captures::fault::CaptureFault;
 use std::alloc::Global;
 
@@ -16,7 +17,7 @@ pub(crate) struct Pending<'c> {
     /// The eight bytes that begin the request.
     pub setup: [u8; 8],
     /// The bytes that the host sends with it.
-    pub body: &'c [u8],
+    pub body: Body<'c>,
     /// Not all of these were captured.
     pub is_cut: bool,
 }
@@ -48,6 +49,18 @@ impl<'c> PendingTransfers<'c> {
     {
         PendingTransfers {
             all: Vec::new(alloc),
+        }
+    }
+
+    /// How many they are.
+    pub(crate) fn count(&self) -> usize {
+        self.all.len()
+    }
+
+    /// Forgets the one in the first place, if there is one.
+    pub(crate) fn forget_first(&mut self) {
+        if !self.all.is_empty() {
+            let _first = self.all.swap_remove(0);
         }
     }
 

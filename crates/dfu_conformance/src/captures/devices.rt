@@ -1,0 +1,47 @@
+//! The devices that get requests of DFU.
+
+use crate::captures::address::Address;
+use crate::captures::fault::CaptureFault;
+use std::alloc::Global;
+
+/// The most addresses that are kept. A bus has 127.
+const MAX_DEVICES: usize = 4096;
+
+/// The addresses that get requests of DFU in a capture.
+#[derive(Drop)]
+pub struct Devices {
+    all: Vec<Address>,
+}
+
+impl Devices {
+    /// None.
+    pub(crate) fn new(alloc: Global) -> Devices {
+        Devices {
+            all: Vec::new(alloc),
+        }
+    }
+
+    /// Whether this address is one of them.
+    pub(crate) fn has(&self, address: Address) -> bool {
+        for one in &self.all {
+            if *one == address {
+                return true;
+            }
+        }
+        false
+    }
+
+    /// Adds an address. ManyDevices if there is no room for it.
+    pub(crate) fn add(&mut self, address: Address) -> Result<(), CaptureFault> {
+        if self.has(address) {
+            return Ok(());
+        }
+        if self.all.len() >= MAX_DEVICES {
+            return Err(CaptureFault::ManyDevices);
+        }
+        match self.all.push(address) {
+            Ok(()) => Ok(()),
+            Err(_) => Err(CaptureFault::NoMemory),
+        }
+    }
+}

@@ -1,0 +1,135 @@
+//! The text of a log.
+
+use crate::captures::exchange::{Body, Exchange, Seen};
+use crate::captures::fault::CaptureFault;
+use std::alloc::Global;
+
+/// A hexadecimal digit of a value below 16.
+fn digit(value: u8) -> u8 {
+    if value < 10 {
+        b'0' + value
+    } else {
+        b'a' + value % 16 - 10
+    }
+}
+
+/// A log with a line for each packet so far.
+#[derive(Drop)]
+pub(crate) struct Log {
+    text: Vec<u8>,
+    lines: usize,
+    // Memory was refused for a part of the text.
+    is_torn: bool,
+}
+
+impl Log {
+    /// No line.
+    pub(crate) fn new(alloc: Global) -> Log {
+        Log {
+            text: Vec::new(alloc),
+            lines: 0,
+            is_torn: false,
+        }
+    }
+
+    /// Adds bytes.
+    fn put(&mut self, bytes: &[u8]) {
+        if self.text.extend_from_slice(bytes).is_err() {
+            self.is_torn = true;
+        }
+    }
+
+    /// Adds bytes as digits.
+    fn put_hex(&mut self, bytes: &[u8]) {
+        for byte in bytes {
+            self.put(&[digit(*byte / 16), digit(*byte % 16)]);
+        }
+    }
+
+    /// Adds the bytes that the host sent.
+    fn put_body(&mut self, body: Body<'_>) {
+        match body {
+            Body::Bytes([]) | Body::Count(0) => self.put(b"-"),
+            Body::Bytes(bytes) => self.put_hex(bytes),
+            Body::Count(count) => {
+                for _byte in 0..count {
+                    self.put(b"00");
+                }
+            }
+        }
+    }
+
+    /// Adds an answer.
+    fn put_seen(&mut self, seen: Seen<'_>) {
+        match seen {
+            Seen::Stall => self.put(b"stall"),
+            Seen::Nothing => self.put(b"nothing"),
+            Seen::Bytes([]) => self.put(b"ack"),
+            Seen::Bytes(bytes) => self.put_hex(bytes),
+        }
+    }
+
+    /// Adds the line of a request and its answer.
+    fn put_exchange(&mut self, exchange: &Exchange<'_>) {
+        self.put_hex(&exchange.setup);
+        self.put(b" ");
+        self.put_body(exchange.body);
+        self.put(b" ");
+        self.put_seen(exchange.seen);
+        self.put(b"\n");
+    }
+
+    /// Adds the line of a packet that says this.
+    pub(crate) fn push_line(&mut self, exchange: &Exchange<'_>) {
+        if exchange.given.is_some() {
+            self.put(b"reset\n");
+        } else {
+            self.put_exchange(exchange);
+        }
+    }
+
+    /// Adds the line of a packet that says nothing.
+    pub(crate) fn push_empty(&mut self) {
+        self.put(b"\n");
+    }
+
+    /// Adds the line of an exchange after empty lines for the packets before it.
+    pub(crate) fn push(&mut self, exchange: &Exchange<'_>) {
+        for _line in self.lines.saturating_add(1)..exchange.packet {
+            self.push_empty();
+        }
+        self.lines = exchange.packet;
+        self.push_line(exchange);
+    }
+
+    /// The text so far.
+    pub(crate) fn bytes(&self) -> &[u8] {
+        &self.text
+    }
+
+    /// Forgets the text.
+    pub(crate) fn clear(&mut self) {
+        self.text.clear();
+    }
+
+    /// NoMemory if memory was refused for a part of the text.
+    pub(crate) fn is_whole(&self) -> Result<(), CaptureFault> {
+        if self.is_torn {
+            Err(CaptureFault::NoMemory)
+        } else {
+            Ok(())
+        }
+    }
+
+    /// The text, unless memory was refused for it or no line was added.
+    pub(crate) fn whole(self) -> Result<Vec<u8>, CaptureFault> {
+        let Log { text, is_torn, .. } = self;
+        if is_torn {
+            return Err(CaptureFault::NoMemory);
+        }
+        if text.is_empty() {
+            return Err(CaptureFault::NoDevice);
+        }
+        Ok(text)
+    }
+}

@@ -1,0 +1,63 @@
+//! The bytes of a capture that were read and not yet taken.
+
+use crate::captures::numbers::from;
+use std::alloc::Global;
+use std::io::{self, ErrorKind, Read};
+
+/// How many bytes are read at once.
+const PIECE: usize = 65_536;
+
+/// A reader, and the bytes of it that were read and not taken.
+#[derive(Drop)]
+pub(crate) struct Window<R> {
+    reader: R,
+    bytes: Vec<u8>,
+    // Those before this place were taken.
+    taken: usize,
+}
+
+impl<R> Window<R> {
+    /// A reader of which nothing was read.
+    pub(crate) fn new(alloc: Global, reader: R) -> Window<R> {
+        Window {
+            reader,
+            bytes: Vec::new(alloc),
+            taken: 0,
+        }
+    }
+
+    /// The bytes that were read and not taken.
+    pub(crate) fn rest(&self) -> &[u8] {
+        from(&self.bytes, self.taken)
+    }
+
+    /// Takes so many bytes.
+    pub(crate) fn take(&mut self, count: usize) {
+        self.taken = self.taken.saturating_add(count);
+    }
+
+    /// Forgets the bytes that were taken.
+    fn forget_taken(&mut self) {
+        if self.taken >= self.bytes.len() {
+            self.bytes.clear();
+        } else {
+            let count = self.bytes.len() - self.taken;
+            self.bytes.copy_within(self.taken.., 0);
+            self.bytes.truncate(count);
+        }
+        self.taken = 0;
+    }
+}
+
+impl<R: Read> Window<R> {
+    /// Reads on, and returns whether there was more.
+    pub(crate) fn read_on(&mut self) -> io::Result<bool> {
+        self.forget_taken();
+        let mut piece = [0u8; PIECE];
+        let count = self.reader.read(&mut piece)?;
+        match self.bytes.extend_from_slice(&piece[..count]) {
+            Ok(()) => Ok(count > 0),
+            Err(_) => Err(io::Error::from(ErrorKind::OutOfMemory)),
+        }
+    }
+}
