@@ -232,6 +232,13 @@ struct dfu_place {
 #define DFU_COMMIT_ERASES(sector) ((sector) == 0 ? 0 : 3)
 /** @brief The most programs that do: the last unit, the header, the gate. */
 #define DFU_COMMIT_PROGRAMS 3
+/** @brief The erases of a format of an image of `length` bytes: of both gates, the header, the gate that is opened, and one for each sector
+ *  of the image. It has so many, or fewer if it is broken off. */
+#define DFU_FORMAT_ERASES(length, sector) \
+    ((sector) == 0 ? 0 : 4 + ((length) + (sector) - 1) / ((sector) + ((sector) == 0)))
+/** @brief The programs of a format: one for each 256 bytes of the image, the header and the gate; and without sectors those that close both
+ *  gates. */
+#define DFU_FORMAT_PROGRAMS(length, sector) (((length) + 255) / 256 + ((sector) == 0 ? 4 : 2))
 
 /** @brief Driver of the flash. Each function returns 0 if it is done, else any number. A program is whole units, at a multiple of the
  *  unit, and if there are sectors FFh is there before. It may cross pages of the part: if the part wraps around there, split it. */

@@ -12,6 +12,7 @@ use Rattle.dfu_asks.specs.Steps.{Step}
 use Rattle.dfu_asks.specs.Carried.{IsPiece, ErasesWhole}
 use Rattle.dfu_asks.specs.Phases.{steps_left}
 use Rattle.dfu_asks.specs.Formats.{AsksFormat, TookPiece}
+use Rattle.dfu_asks.specs.FormatFurther.{FormatAsksFurther}
 use Rattle.dfu_core.specs.declared.config.DfuConfig.{DfuConfig}
 use Rattle.dfu_core.specs.Config.{config_grain, IsConfig}
 use Rattle.dfu_core.specs.Mode.{blank}
@@ -76,3 +77,4 @@ pub record GoesFormat (c : DfuConfig) (r : DfuRecord) (flash image : List ℕ) (
   pub took : (was mid : List ℕ) → AsksFormat before image was mid → (p : Step)
       → IsPiece (steps_left before (length was) image) before.done p
       → Torn mid p.write.at p.write.bytes flash → TookPiece before after image was flash p.write failed came
+  pub further : FormatAsksFurther before (length flash) image came after

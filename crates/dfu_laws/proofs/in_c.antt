@@ -12,3 +12,5 @@ pub mod Played
 pub mod GoesOn
 pub mod Stays
 pub mod FormatCalls
+pub mod FormatBounds
+pub mod FormatCounts

@@ -6,4 +6,5 @@ pub mod Runs
 pub mod Plays
 pub mod Stays
 pub mod FormatCalls
+pub mod FormatCounts
 pub mod Closes

@@ -12,6 +12,7 @@ ghost use Rattle.dfu_laws.specs.judge.Kept.{HistoryIsKept, StartIsKept};
 ghost use Rattle.dfu_laws.specs.in_c.Closes.{ClosesIfRefused};
 ghost use Rattle.dfu_laws.specs.in_c.Runs.{CoreRefines, CoreKeeps, CoreStays, CoreInstalls, CoreStarts};
 ghost use Rattle.dfu_laws.specs.in_c.FormatCalls.{FormatsEnd, FormatsBeginAnew};
+ghost use Rattle.dfu_laws.specs.in_c.FormatCounts.{FormatsAskFew};
 ghost use Rattle.dfu_laws.specs.in_c.Plays.{CorePlaysInstall, CorePlaysKnow, CorePlaysKnowWithin, CorePlaysGive, CorePlaysRun, CorePlaysGoOn};
 ghost use Rattle.dfu_laws.specs.in_c.Counts.{CoreAsksFew};
 ghost use Rattle.dfu_laws.specs.in_c.Stays.{CorePlaysStay};
@@ -166,6 +167,12 @@ pub fn core_boards_install()
 pub fn core_formats_make_an_image()
     ensures formatted { FormatsEnd }
     ensures anew { FormatsBeginAnew }
+{}
+
+/// Whatever becomes of the writes of a format: at most so many of its calls return DFU_ASKS as `DFU_FORMAT_ERASES` and
+/// `DFU_FORMAT_PROGRAMS` say together of the image's length and the sector. So the loop that carries a format out ends.
+pub fn core_formats_ask_few_times()
+    ensures { FormatsAskFew }
 {}
 
 /// The result of dfu_core_closes for a setup agrees with dfu_core_refuse_close: at 1 that returns DFU_STALL, and at 0 DFU_NO_CLOSE. So a

@@ -1,6 +1,6 @@
 /* Counts the erases and programs that a block costs, and putting an image in place: at most as many as the macros of dfu_device.h say, and
- * for some unit, sector and transfer size exactly as many. Downloads by dice, in blocks of any size, over flash in memory. It takes the
- * number of downloads. */
+ * for some unit, sector and transfer size exactly as many. A format costs exactly what its macros say. Formats and downloads by dice, in
+ * blocks of any size, over flash in memory. It takes the number of downloads. */
 #include <stdio.h>
 #include <stdlib.h>
 #include <string.h>
@@ -10,7 +10,7 @@
 #define MOST 4096
 
 static struct dfu_config config = {DFU_VERSION, 0x0100, 1, 0x1209, 255, 8, 7, 0, 0, 0, 1, 1, 0, 0, 0};
-static uint8_t medium[DFU_MEDIUM_SIZE(256, 8192, 65536)], block[DFU_BLOCK_SIZE(MOST, 256)], body[MOST], out[MOST];
+static uint8_t medium[DFU_MEDIUM_SIZE(256, 8192, 65536)], block[DFU_BLOCK_SIZE(MOST, 256)], body[MOST], out[MOST], image[20000];
 static uint32_t dice = 1, erases, programs;
 static long blocks, all_erases, all_programs;
 
@@ -70,13 +70,25 @@ static int download(uint32_t left) {
     return serve(0x21, DFU_DNLOAD, number, 0) == 0 && is_within(DFU_COMMIT_ERASES(config.sector), DFU_COMMIT_PROGRAMS);
 }
 
+/* A format of an image of so many bytes: whether it cost what the macros say. */
+static int format(uint32_t length) {
+    const uint32_t all = DFU_FORMAT_ERASES(length, config.sector), more = DFU_FORMAT_PROGRAMS(length, config.sector);
+    erases = programs = 0;
+    if (dfu_device_format(&dfu, image, length) == 0 && erases == all && programs == more)
+        return 1;
+    printf("counts: a format of %u bytes: %u erases of %u, %u programs of %u, unit %u, sector %u\n", (unsigned)length, (unsigned)erases,
+           (unsigned)all, (unsigned)programs, (unsigned)more, (unsigned)config.unit, (unsigned)config.sector);
+    return 0;
+}
+
 /* Two downloads onto a board with a unit, a sector and a transfer size by dice: the second one has an open gate to close. */
 static int both(void) {
     static const uint32_t units[] = {1, 16, 64, 256}, sectors[] = {0, 256, 512, 1024, 4096, 8192};
     config.unit = units[roll(4)], config.sector = sectors[roll(6)];
     config.transfer = (uint16_t)(1 + roll(roll(2) ? MOST : 700));
     dfu.size = DFU_MEDIUM_SIZE(config.unit, config.sector, 65536);
-    return dfu_device_format(&dfu, body, 1) == 0 && dfu_device_begin(&dfu) == 0 && download(1 + roll(30000)) && download(1 + roll(30000));
+    return format(roll(roll(2) ? 300 : sizeof image + 1)) && dfu_device_begin(&dfu) == 0 && download(1 + roll(30000))
+        && download(1 + roll(30000));
 }
 
 int main(int count, char **words) {

@@ -27,10 +27,10 @@ gate_few : (u : WriteUnit) → gate_size u ≤ 256
 gate_few Byte = omega arith
 gate_few _ = omega arith
 
-gate_length : (u : WriteUnit) (gate : ℕ) → length (gate_unit (gate_size u) gate) ≤ 256
+pub gate_length : (u : WriteUnit) (gate : ℕ) → length (gate_unit (gate_size u) gate) ≤ 256
 gate_length u gate = omega (arith, gate_few u, length-replicate {A = ℕ} (gate_size u - 1) 0)
 
-header_length : (u : WriteUnit) (gen len crc : ℕ) → length (header_unit (gate_size u) gen len crc) ≤ 256
+pub header_length : (u : WriteUnit) (gen len crc : ℕ) → length (header_unit (gate_size u) gen len crc) ≤ 256
 header_length u gen len crc = omega (arith, gate_few u, length-replicate {A = ℕ} (gate_size u - 16) 0)
 
 fill_few : (u : WriteUnit) (n : ℕ) → n < unit_size u → n + fill_size u n ≤ 256
@@ -113,7 +113,7 @@ module _ (u : WriteUnit) (held block : List ℕ) (low : length held < unit_size 
       )
 
 -- The close of a gate is one piece: an erase or a program.
-close_count : (u : WriteUnit) (sector spare : ℕ) → count (close_step (record { unit = u; sector = sector }) spare ∷ []) ≤ 1
+pub close_count : (u : WriteUnit) (sector spare : ℕ) → count (close_step (record { unit = u; sector = sector }) spare ∷ []) ≤ 1
 close_count u zero spare = omega (arith, gate_length u 0)
 close_count u (suc k) spare =
     let some : (suc k == 0) ≡ false = ne_eqb (suc k) 0 (omega arith) in
@@ -121,7 +121,7 @@ close_count u (suc k) spare =
     subst (λ (b : Bool). parts (if b then false else true) (length (closed b)) + 0 ≤ 1) (sym some) (omega arith)
 
 -- One, if it is so.
-abbrev one_if : Bool → ℕ
+abbrev pub one_if : Bool → ℕ
 one_if true = 1
 one_if false = 0
 
@@ -147,11 +147,11 @@ programs_few true h b one two p none = omega (arith, p.block, p.none (none refl)
 programs_few false h b one two p none = omega (arith, p.block, p.few)
 
 -- With sectors.
-chosen : (b : Bool) → b ≡ false → (x : ℕ) → ◌≡◌ {A = ℕ} (if b then 0 else x) x
+pub chosen : (b : Bool) → b ≡ false → (x : ℕ) → ◌≡◌ {A = ℕ} (if b then 0 else x) x
 chosen true e x = absurd (true≢false e)
 chosen false e x = refl
 
-erased_some : (s at n : ℕ) → (s == 0) ≡ false → length (erased s at n) ≡ length (erases s at n)
+pub erased_some : (s at n : ℕ) → (s == 0) ≡ false → length (erased s at n) ≡ length (erases s at n)
 erased_some s at n e = ap (λ (b : Bool). length (if b then [] else erases s at n)) e
 
 -- A block.
@@ -208,7 +208,7 @@ one_few s (suc zero) n wide few le = omega arith
 one_few s (suc (suc c)) n wide few le = absurd (omega (arith, wide, few, le))
 
 -- At most 256 bytes are one program, and with sectors one erase.
-unit_count : (s at n : ℕ) → (0 < s → 256 ≤ s) → n ≤ 256 → length (erased s at n) + (n + 255) / 256 ≤ one_if (not (s == 0)) + 1
+pub unit_count : (s at n : ℕ) → (0 < s → 256 ≤ s) → n ≤ 256 → length (erased s at n) + (n + 255) / 256 ≤ one_if (not (s == 0)) + 1
 unit_count zero at n wide few = omega (arith, few)
 unit_count (suc k) at n wide few =
     let s = suc k in

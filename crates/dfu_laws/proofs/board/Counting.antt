@@ -29,7 +29,7 @@ parts_less : (b : Bool) (len n k : ℕ) → k ≡ (if b then len - n else min 25
 parts_less true len n k size some le = omega (arith, size, some, le)
 parts_less false len n k size some le = omega (arith, size, some, le)
 
-parts_none : (b : Bool) (x : ℕ) → x ≡ 0 → parts b x ≡ 0
+pub parts_none : (b : Bool) (x : ℕ) → x ≡ 0 → parts b x ≡ 0
 parts_none true x e = omega (arith, e)
 parts_none false x e = omega (arith, e)
 

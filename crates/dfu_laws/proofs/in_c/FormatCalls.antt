@@ -44,7 +44,7 @@ phase_back n from format_step.Header h = λ i. phase_at (sym h i) from
 phase_back n from format_step.Gate h = λ i. phase_at (sym h i) from
 phase_back n from format_step.Ended h = λ i. phase_at (sym h i) from
 
-one_format : (c : DfuConfig) (r : DfuRecord) (f g : Formatting) → IsFormatting c r f → IsFormatting c r g → f ≡ g
+pub one_format : (c : DfuConfig) (r : DfuRecord) (f g : Formatting) → IsFormatting c r f → IsFormatting c r g → f ≡ g
 one_format c r f g h k = λ i. record {
   unit = (h.unit ∙ sym k.unit) i;
   sector = one_sector f.sector g.sector (h.sector ∙ sym k.sector) i;
@@ -56,18 +56,18 @@ one_format c r f g h k = λ i. record {
 -- A format that asks.
 
 -- A record is a format of this image that asks for its next write on this flash.
-record IsAsking (c : DfuConfig) (image flash : List ℕ) (r : DfuRecord) : Type 0 where
-  config : IsConfig c
-  format : Formatting
-  is : IsFormatting c r format
-  was : List ℕ
-  asks : AsksFormat format image was flash
-  size : length was ≡ length flash
+pub record IsAsking (c : DfuConfig) (image flash : List ℕ) (r : DfuRecord) : Type 0 where
+  pub config : IsConfig c
+  pub format : Formatting
+  pub is : IsFormatting c r format
+  pub was : List ℕ
+  pub asks : AsksFormat format image was flash
+  pub size : length was ≡ length flash
 
-grain_is : (c : DfuConfig) (r : DfuRecord) (f : Formatting) → IsFormatting c r f → grain_within f ≡ config_grain c
+pub grain_is : (c : DfuConfig) (r : DfuRecord) (f : Formatting) → IsFormatting c r f → grain_within f ≡ config_grain c
 grain_is c r f is = λ i. record { unit = is.unit i; sector = is.sector i }
 
-asks_number : (came : FormatProgress) → progress_number came ≡ ASKS → came ≡ format_progress.Asks
+pub asks_number : (came : FormatProgress) → progress_number came ≡ ASKS → came ≡ format_progress.Asks
 asks_number format_progress.Asks e = refl
 asks_number format_progress.Formatted e = absurd (cc)
 asks_number (format_progress.Broken why) e = absurd (cc)
@@ -121,7 +121,7 @@ module _ (c : DfuConfig) (image flash flash' : List ℕ) (r r' : DfuRecord) (n :
       subst (λ (x : FormatProgress). FormatComesTo (grain_within t.goes.before) t.goes.after image a.was flash' x) came comes in
       subst (λ (g : Grain). Active (mapped g flash') image) (grain_is c r t.goes.before t.goes.is) formatted.active
 
-asking : (c : DfuConfig) (image flash : List ℕ) (r : DfuRecord) → IsBeingFormatted c image flash r → IsAsking c image flash r
+pub asking : (c : DfuConfig) (image flash : List ℕ) (r : DfuRecord) → IsBeingFormatted c image flash r → IsAsking c image flash r
 asking c image flash r (begins s) = record {
   config = s.config;
   format = s.formatting;

@@ -42,6 +42,7 @@ went c came r' is number_is on over rest = record {
   over = over;
   rest = rest;
   took = λ was mid asks p piece torn. MatchOption-at_some _ _ _ is c.took.ensures.outcome was mid asks p piece torn;
+  further = MatchOption-at_some _ _ _ is c.took.ensures.further;
 }
 
 pub returns-in-None : goal.returns-in-None
