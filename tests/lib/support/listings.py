@@ -1,4 +1,5 @@
-"""Runs the commands of the pages, and compiles their C, in a folder of its own. (The Rust of docs/RUST.md: tests/lib/rust/page.)
+"""Runs the commands of the pages, and compiles their C, in a folder of its own. (The Rust of docs/RUST.md: tests/lib/rust/page.) Of the
+Rattle on the crates' pages each call has to be one of the crates: a proof of it would take minutes.
 
 A command that needs a board, root, another program or much time is named in LEFT_OUT with the test that runs it; each other one has to
 succeed, and prints the lines that stand below it. So a new block of a page is run, or it is named here.
@@ -44,6 +45,8 @@ int page(void) {
     int32_t n;
 """, "    return (int)n;\n}\n"),
 }
+# Calls of the kit that the Rattle on a page makes.
+OF_THE_KIT = {"alloc", "is_err", "split_at"}
 FENCE = re.compile(r"^```([^\n]*)\n(.*?)^```$", re.M | re.S)
 
 
@@ -85,13 +88,35 @@ def faults_of_c(page, text, top, folder):
         before, after = AROUND[page]
         with open(os.path.join(folder, "page.c"), "w", encoding="utf-8") as file:
             file.write(before + block + after)
-        ended = subprocess.run(["gcc", "-std=c11", "-Wall", "-Wextra", "-Werror", "-fsyntax-only", "-I", os.path.join(top, "include"), "page.c"],
-                               cwd=folder, capture_output=True, text=True, check=False)
+        compiler = ["gcc", "-std=c11", "-Wall", "-Wextra", "-Werror", "-fsyntax-only", "-I", os.path.join(top, "include"), "page.c"]
+        ended = subprocess.run(compiler, cwd=folder, capture_output=True, text=True, check=False)
         yield f"{page}: {ended.stderr[:300]}" if ended.returncode else ""
 
 
+def calls_of_crates(top):
+    """Returns the names of the functions that the crates define."""
+    found = set(OF_THE_KIT)
+    for folder, _, files in os.walk(os.path.join(top, "crates")):
+        for name in (it for it in files if it.endswith(".rt") and "/src" in folder):
+            with open(os.path.join(folder, name), encoding="utf-8") as file:
+                found |= set(re.findall(r"\bfn (\w+)", file.read()))
+    return found
+
+
+def faults_of_rattle(page, text, known):
+    """Yields for each piece of Rattle on a crate's page nothing, or the calls in it that no crate defines."""
+    for kind, block in FENCE.findall(text):
+        if page.startswith("crates/") and kind in ("rust", "text"):
+            called = re.findall(r"\b([a-z_]\w*)\(", re.sub("//.*", "", block))
+            gone = sorted(set(called) - known)
+            yield f"{page}: no crate has {', '.join(gone)}" if gone else ""
+
+
 def faults(top, pages, text_of):
-    """Yields for each command and each piece of C nothing, or its fault; without gcc or a built `dfu` it says that they are left out."""
+    """Yields for each command and each piece of code nothing, or its fault. Without gcc or a built `dfu` only Rattle is looked at."""
+    known = calls_of_crates(top)
+    for page in pages:
+        yield from faults_of_rattle(page, text_of(page), known)
     build = os.path.abspath(os.environ.get("BUILD") or os.path.join(top, "build"))
     if not os.path.exists(os.path.join(build, "dfu")) or not shutil.which("gcc"):
         print("the commands of the pages are left out: there is no gcc, or no dfu in build")
