@@ -2,8 +2,8 @@
 use Rattle.std.proofs.Common.{◌≡◌, ℕ, ◌+◌, ◌<◌, List, length, get_or, take, ap, sym, ◌∙◌}
 use Rattle.std.specs.List.{fold}
 use Rattle.std.proofs.lemmas.List.Sums.{fold_more}
-use Rattle.clap.specs.Words.{App, Rule, with_rule, with_subcommand}
-use Rattle.dfu_args.specs.Tables.{app_in, rule_in, with_listed, with_row}
+use Rattle.clap.specs.Words.{App, Rule, with_rule}
+use Rattle.dfu_args.specs.Tables.{rule_in, with_listed, with_row}
 use Rattle.dfu_args.specs.declared.commands.Listed.{Listed}
 use Rattle.dfu_args.specs.declared.commands.Row.{Row}
 
@@ -14,8 +14,7 @@ next_row first a b r rows i d within before added by = added ∙ (ap (λ (r : Ru
     ∙ (ap (λ (a : App). with_row a (get_or rows i d)) before ∙ sym (fold_more with_row first rows i d within)))
 
 -- A command with the first subcommands, and then with the next.
-pub next_listed : (first a b sub : App) (all : List Listed) (i : ℕ) (d : Listed) → i < length all
-    → a ≡ fold with_listed first (take i all) → b ≡ with_subcommand a sub.top → sub ≡ app_in (get_or all i d)
-    → b ≡ fold with_listed first (take (i + 1) all)
-next_listed first a b sub all i d within before added by = added ∙ (ap (λ (s : App). with_subcommand a s.top) by
-    ∙ (ap (λ (a : App). with_listed a (get_or all i d)) before ∙ sym (fold_more with_listed first all i d within)))
+pub next_listed : (first a b : App) (all : List Listed) (i : ℕ) (d : Listed) → i < length all
+    → a ≡ fold with_listed first (take i all) → b ≡ with_listed a (get_or all i d) → b ≡ fold with_listed first (take (i + 1) all)
+next_listed first a b all i d within before added =
+    added ∙ (ap (λ (a : App). with_listed a (get_or all i d)) before ∙ sym (fold_more with_listed first all i d within))

@@ -1,16 +1,17 @@
 //! The command line, as clap has it: made of the tables of the commands; and the matches of the words.
 
-ghost use Rattle.std.specs.Prelude.{◌≡◌, IfOk, IfSome, false, map, true};
-ghost use Rattle.std.specs.List.{fold};
+ghost use Rattle.std.specs.Prelude.{◌≡◌, ℕ, IfOk, IfSome, List, false, map, true};
+ghost use Rattle.std.specs.List.{All, fold};
 ghost use Rattle.std.specs.String.{string_bytes};
 ghost use Rattle.clap.specs.Words.{HasKind, Kinds, app_of, found_of, has_subcommand, matches_of, rows_of, rule_of, subcommand_of, subcommand_rows_of};
 ghost use Rattle.clap.specs.declared.builder.Command.TheViews.{out-Command};
 ghost use Rattle.dfu_args.specs.CommandLine.{dfu_app, top_app};
+ghost use Rattle.dfu_args.specs.Alone.{IsAlone, SaysAll};
 ghost use Rattle.dfu_args.specs.Complete.{IsComplete};
 ghost use Rattle.dfu_args.specs.Refusals.{EndsBy, TellsFault, word_faults};
 ghost use Rattle.dfu_args.specs.Tables.{app_in, rule_in, with_listed, with_row};
 
-use crate::commands::{COMMANDS, Kind, Listed, Row, TOP};
+use crate::commands::{COMMANDS, DFU, Kind, Listed, Row};
 use crate::help;
 use crate::subcommand::ArgsFault;
 use clap::error::ErrorKind;
@@ -68,6 +69,20 @@ fn made<'a>(alloc: Global, listed: &Listed<'a>) -> Result<Command<'a>, AllocErro
     with_rows(alloc, command, listed.rows)
 }
 
+/// A command with a subcommand more.
+fn with_command<'a>(
+    alloc: Global,
+    command: Command<'a>,
+    listed: &Listed<'a>,
+) -> Result<Command<'a>, AllocError>
+    requires plain { (out-Command command).has_globals ≡ false }
+    ensures app { IfOk result (λ c. app_of c ≡ with_listed (app_of command.entry) listed.now) }
+    ensures local { IfOk result (λ c. (out-Command c).has_globals ≡ false) }
+{
+    let listed = made(alloc, listed)?;
+    command.subcommand(listed)
+}
+
 /// A command with a subcommand more for each that is listed.
 fn with_commands<'a>(
     alloc: Global,
@@ -80,7 +95,7 @@ fn with_commands<'a>(
 {
     let mut command = command;
     for it in listed {
-        command = command.subcommand(made(alloc, it)?)?;
+        command = with_command(alloc, command, it)?;
     }
     Ok(command)
 }
@@ -90,22 +105,46 @@ fn top_command<'a>(alloc: Global) -> Result<Command<'a>, AllocError>
     ensures app { IfOk result (λ c. app_of c ≡ top_app) }
     ensures local { IfOk result (λ c. (out-Command c).has_globals ≡ false) }
 {
-    let command = Command::new(alloc, "dfu")
-        .about(help::DFU)
-        .after_help(help::DFU_EXAMPLE)
+    let command = made(alloc, &DFU)?;
+    command
         .subcommand_required(true)
         .version(help::VERSION)
-        .bin_name("dfu")?;
-    with_rows(alloc, command, &TOP)
+        .bin_name("dfu")
 }
 
-/// The whole command.
-#[tactic(auto, unfolding(crate::specs::CommandLine::dfu_app))]
-pub(crate) fn dfu_command<'a>(alloc: Global) -> Result<Command<'a>, AllocError>
-    ensures app { IfOk result (λ c. app_of c ≡ dfu_app) }
+/// The subcommands. They make the whole command, and words whose first one names one of them are answered by it alone.
+fn commands() -> &'static [Listed<'static>]
+    ensures whole { (words : List (List ℕ)) → SaysAll words (fold with_listed top_app result.now) }
+    ensures alone { All IsAlone result.now }
+{
+    &COMMANDS
+}
+
+/// The subcommand with this name, if there is one.
+fn listed_of(name: &str) -> Option<&'static Listed<'static>>
+    ensures alone { IfSome result (λ l. IsAlone l.now) }
+    ensures named { IfSome result (λ l. l.now.name.now ≡ name.now) }
+{
+    for listed in commands() {
+        if listed.name == name {
+            return Some(listed);
+        }
+    }
+    None
+}
+
+/// The command with the subcommand that the first word names, or else with each.
+fn dfu_command<'a>(alloc: Global, words: &[String]) -> Result<Command<'a>, AllocError>
+    ensures app { IfOk result (λ c. SaysAll (map string_bytes words.now) (app_of c)) }
     ensures local { IfOk result (λ c. (out-Command c).has_globals ≡ false) }
 {
-    with_commands(alloc, top_command(alloc)?, &COMMANDS)
+    let command = top_command(alloc)?;
+    if let [_program, name, ..] = words {
+        if let Some(listed) = listed_of(name.as_str()) {
+            return with_command(alloc, command, listed);
+        }
+    }
+    with_commands(alloc, command, commands())
 }
 
 /// What clap makes of the words.
@@ -119,7 +158,7 @@ pub(crate) fn matches_of<'a>(
     ensures complete { IfOk result (λ m. IfSome (subcommand_rows_of m) (λ p. IsComplete p.0 p.1)) }
     ensures faults { EndsBy (word_faults (map string_bytes words.now)) result }
 {
-    let command = match dfu_command(alloc) {
+    let command = match dfu_command(alloc, words) {
         Ok(command) => command,
         Err(_) => return Err(ArgsFault::NoMemory),
     };

@@ -23,7 +23,7 @@ pub(crate) enum Kind<'a> {
     Flag,
 }
 
-/// A subcommand: its name, what `--help` prints before and behind its arguments, and these.
+/// A command: its name, what `--help` prints before and behind its arguments, and these.
 #[derive(Clone, Copy)]
 pub(crate) struct Listed<'a> {
     pub(crate) name: &'a str,
@@ -34,11 +34,16 @@ pub(crate) struct Listed<'a> {
 
 const EXPLAIN: Row<'static> = Row("explain", Kind::Flag, help::EXPLAIN);
 
-/// The arguments of the command before its subcommand.
-pub(crate) const TOP: [Row<'static>; 1] = [EXPLAIN];
+/// The command before its subcommand.
+pub(crate) static DFU: Listed<'static> = Listed {
+    name: "dfu",
+    about: help::DFU,
+    example: help::DFU_EXAMPLE,
+    rows: &[EXPLAIN],
+};
 
 /// The subcommands.
-pub(crate) const COMMANDS: [Listed<'static>; 7] = [
+pub(crate) static COMMANDS: [Listed<'static>; 7] = [
     Listed {
         name: "check",
         about: help::CHECK,

@@ -7,7 +7,7 @@ pub returns-in-Ok-try_get_matches_from : goal.returns-in-Ok-try_get_matches_from
 returns-in-Ok-try_get_matches_from c = record {
   top = stated_above _ (map string_bytes c.args.words.now) _ c.in-Ok.ensures.app c.in-Ok-try_get_matches_from.ensures.matches;
   rows = stated _ (map string_bytes c.args.words.now) _ c.in-Ok.ensures.app c.in-Ok-try_get_matches_from.ensures.matches;
-  named = met _ _ c.in-Ok.ensures.app c.in-Ok.ensures.local c.in-Ok-try_get_matches_from.ensures.parsed;
+  named = met _ (map string_bytes c.args.words.now) _ c.in-Ok.ensures.app c.in-Ok.ensures.local c.in-Ok-try_get_matches_from.ensures.parsed;
   complete = complete_from (map string_bytes c.args.words.now) _
       (stated _ (map string_bytes c.args.words.now) _ c.in-Ok.ensures.app c.in-Ok-try_get_matches_from.ensures.matches)
       (faultless _ (map string_bytes c.args.words.now) c.in-Ok.ensures.app c.in-Ok-try_get_matches_from.ensures.kinds);

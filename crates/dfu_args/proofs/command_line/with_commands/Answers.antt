@@ -4,7 +4,6 @@ use Rattle.dfu_args.proofs.command_line.with_commands.Goals as goal
 
 pub loop-it-preserved : goal.loop-it-preserved
 loop-it-preserved c = record {
-  app = next_listed _ _ _ _ c.args.listed.now c.loop-it.it-index _ c.loop-it-test.true c.loop-it.invariant.app
-      (c.in_ok-command.ensures.shape c.in_ok-made.ensures.local) c.in_ok-made.ensures.app;
+  app = next_listed _ _ _ c.args.listed.now c.loop-it.it-index _ c.loop-it-test.true c.loop-it.invariant.app c.in_ok-command.ensures.app;
   local = search rules;
 }
