@@ -10,7 +10,7 @@
 //! | [`pcap`] | captures of usbmon and of USBPcap |
 //! | [`output`] | the lines that are printed |
 //! | [`files`] | files that are checked, made and replaced; lines as JSON objects |
-//! | [`words`], [`cli`], [`command`] | the words of the command line, and what is done |
+//! | [`words`], [`command`] | the words of the command line, and what is done |
 //! | [`callers`] | a bootloader, a flashing tool and two media, each over a trait of its driver: no command uses them |
 #![no_std]
 #![deny(unsafe_code)]
@@ -22,7 +22,6 @@ extern crate std;
 pub mod system;
 
 pub mod callers;
-pub mod cli;
 pub mod command;
 pub mod files;
 pub mod link;

@@ -2,7 +2,7 @@
 
 use crate::host::Host;
 use crate::machine::{Kind, Machine, entry_in};
-use dfu::cli::run_words;
+use dfu::command::run_words;
 use unit_program::Outcome;
 use unit_program::known_files::FOUR_ONES;
 use unit_program::words::words_of;

@@ -3,7 +3,7 @@
 use crate::acting::{OLD, machine_over};
 use crate::host::Host;
 use crate::machine::{Kind, Machine};
-use dfu::cli::run_explained;
+use dfu::command::run_explained;
 use unit_program::Outcome;
 use unit_program::words::words_of;
 
@@ -95,6 +95,34 @@ fn says_which_word_is_wrong() -> Outcome {
     for (line, told) in &WORDS {
         let machine = machine_over(Kind::File, OLD, "")?;
         says(&machine, line, true, (2, "bad words\n", told));
+    }
+    Ok(())
+}
+
+/// Words of dfu-suffix and of dfu-prefix, and what is said of them; and words of nobody.
+#[rustfmt::skip]
+static FOREIGN: [(&str, &str); 8] = [
+    ("dfu -c a", "dfu: -c: type dfu check FILE\n"),
+    ("dfu -v 1209 -a a", "dfu: -a: type dfu add FILE OUT --vid 1209 --pid 0001 --did 0100\n"),
+    ("dfu strip a", "dfu: strip: type dfu extract FILE OUT\n"),
+    ("dfu -T a", "dfu: -T: a prefix is neither made nor read here; dfu-prefix does both\n"),
+    ("dfu -v -a", ""),
+    ("dfu check -D a", ""),
+    ("dfu chek a", ""),
+    ("dfu", ""),
+];
+
+/// It is said if no reason is wanted too.
+#[test]
+fn says_what_to_type() -> Outcome {
+    for (line, told) in &FOREIGN {
+        for is_wanted in [false, true] {
+            let machine = machine_over(Kind::File, OLD, "")?;
+            let words = words_of(line).expect("memory for the words");
+            let status = run_explained(&Host { machine: &machine }, &words, is_wanted);
+            assert_eq!(status, 2, "{line}");
+            assert_eq!(machine.state.borrow().told, *told, "{line}");
+        }
     }
     Ok(())
 }

@@ -1,6 +1,6 @@
 //! A script from a reader that fails, one to a writer that fails, and one without a line.
 
-use dfu::cli::run_text;
+use dfu::command::run_text;
 use dfu::output::Exit;
 use fustrelan::memory::Global;
 use unit_program::readers::{Failing, Refusing};

@@ -1,7 +1,0 @@
-use Rattle.std.specs.Prelude.{◌≡◌, take, fold, map, []}
-use Rattle.std.specs.String.{string_bytes}
-use Rattle.dfu_cli.specs.HexWords.{word_step}
-use Rattle.dfu_cli.proofs.hexing.bare.Given as goal
-
-abbrev pub invariant-loop-word : goal.invariant-loop-word
-invariant-loop-word l = l.digits.items ≡ fold word_step [] (take l.word-index (map string_bytes l.words))

@@ -1,6 +1,0 @@
-use Rattle.std.specs.Prelude.{◌≡◌, take, fold}
-use Rattle.dfu_cli.specs.HexWords.{step}
-use Rattle.dfu_cli.proofs.hexing.with_word.Given as goal
-
-abbrev pub invariant-loop-byte : goal.invariant-loop-byte
-invariant-loop-byte l = l.digits.items ≡ fold step l.fn.digits.items (take l.byte-index l.word)

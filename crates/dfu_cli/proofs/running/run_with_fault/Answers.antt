@@ -1,7 +1,0 @@
-use Rattle.dfu_cli.proofs.running.run_with_fault.Goals as goal
-
-pub returns-clause-run : goal.returns-clause-run
-returns-clause-run g c = c.end_text.ensures.run _ _ _ c.script_with-answer.ensures.ended
-
-pub returns-clause-printed : goal.returns-clause-printed
-returns-clause-printed g c = c.end_text.ensures.printed _ _ _ c.script_with-answer.ensures.printed

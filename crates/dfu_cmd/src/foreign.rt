@@ -1,0 +1,79 @@
+//! Words of dfu-suffix and of dfu-prefix: what to type in place of them.
+
+use dfu_output::reason_line;
+use std::alloc::Global;
+
+const CHECK: &str = "type dfu check FILE";
+
+const ADD: &str = "type dfu add FILE OUT --vid 1209 --pid 0001 --did 0100";
+
+const EXTRACT: &str = "type dfu extract FILE OUT";
+
+const PREFIX: &str = "a prefix is neither made nor read here; dfu-prefix does both";
+
+/// A word of another program, and what stands for it here.
+struct Foreign(&'static str, &'static str);
+
+static FOREIGN: [Foreign; 19] = [
+    Foreign("-c", CHECK),
+    Foreign("--check", CHECK),
+    Foreign("-a", ADD),
+    Foreign("--add", ADD),
+    Foreign("-D", EXTRACT),
+    Foreign("--delete", EXTRACT),
+    Foreign("delete", EXTRACT),
+    Foreign("remove", EXTRACT),
+    Foreign("strip", EXTRACT),
+    Foreign("-s", PREFIX),
+    Foreign("--stellaris-address", PREFIX),
+    Foreign("-T", PREFIX),
+    Foreign("--stellaris", PREFIX),
+    Foreign("-L", PREFIX),
+    Foreign("--lpc-prefix", PREFIX),
+    Foreign("prefix", PREFIX),
+    Foreign("dfu-prefix", PREFIX),
+    Foreign("suffix", ADD),
+    Foreign("dfu-suffix", ADD),
+];
+
+/// Options of dfu-suffix that have a value, and stand before the file.
+static VALUED: [&str; 8] = ["-v", "--vid", "-p", "--pid", "-d", "--did", "-S", "--spec"];
+
+/// What stands for a word, if it is one of another program.
+fn typed_for(word: &str) -> Option<&'static str> {
+    for Foreign(name, typed) in &FOREIGN {
+        if *name == word {
+            return Some(*typed);
+        }
+    }
+    None
+}
+
+/// Whether a word is an option that has a value.
+fn is_valued(word: &str) -> bool {
+    for name in &VALUED {
+        if *name == word {
+            return true;
+        }
+    }
+    false
+}
+
+/// The line that says what to type, if the first word behind options that have values is one of another program. None too if there is
+/// no memory.
+pub(crate) fn foreign_reason(alloc: Global, words: &[String]) -> Option<String> {
+    let mut is_value = false;
+    for word in words.get(1..)? {
+        let word = word.as_str();
+        if is_value {
+            is_value = false;
+        } else if let Some(typed) = typed_for(word) {
+            return reason_line(alloc, "", word, typed).ok();
+        } else if is_valued(word) {
+            is_value = true;
+        } else {
+            return None;
+        }
+    }
+    None
+}

@@ -1,0 +1,92 @@
+//! The identifiers that the options of `dfu add` and `dfu set` give.
+
+ghost use Rattle.std.specs.Prelude.{◌≡◌, option_and_then, option_map};
+ghost use Rattle.std.specs.String.{string_bytes};
+ghost use Rattle.dfu_wire.specs.Identifier.{identifier_in};
+ghost use Rattle.dfu_cmd.specs.Identifiers.{change_said, ids_said, wrong_option};
+
+use dfu_fs::Change;
+use dfu_wire::{Ids, identifier};
+
+/// The texts of the three options.
+#[derive(Clone, Copy)]
+pub(crate) struct IdTexts<'t> {
+    /// `--vid`.
+    pub vendor: &'t str,
+    /// `--pid`.
+    pub product: &'t str,
+    /// `--did`.
+    pub device: &'t str,
+}
+
+impl<'t> IdTexts<'t> {
+    /// These texts.
+    pub(crate) fn new(vendor: &'t str, product: &'t str, device: &'t str) -> IdTexts<'t>
+        ensures vendor { result.vendor.now ≡ vendor.now }
+        ensures product { result.product.now ≡ product.now }
+        ensures device { result.device.now ≡ device.now }
+    {
+        IdTexts {
+            vendor,
+            product,
+            device,
+        }
+    }
+}
+
+/// The identifiers, if each text is four hexadecimal digits.
+pub(crate) fn ids_said(texts: &IdTexts<'_>) -> Option<Ids>
+    ensures { result ≡ ids_said texts.now.vendor.now texts.now.product.now texts.now.device.now }
+{
+    let vendor = identifier(texts.vendor.as_bytes())?;
+    let product = identifier(texts.product.as_bytes())?;
+    let device = identifier(texts.device.as_bytes())?;
+    Some(Ids {
+        device,
+        product,
+        vendor,
+    })
+}
+
+/// The first option whose text is no identifier, as a label, and the text.
+pub(crate) fn wrong_option<'t>(texts: &IdTexts<'t>) -> Option<(&'static str, &'t str)>
+    ensures { option_map (λ o. (o.0.now, o.1.now)) result
+        ≡ wrong_option texts.now.vendor.now texts.now.product.now texts.now.device.now }
+{
+    if identifier(texts.vendor.as_bytes()).is_none() {
+        return Some(("--vid ", texts.vendor));
+    }
+    if identifier(texts.product.as_bytes()).is_none() {
+        return Some(("--pid ", texts.product));
+    }
+    if identifier(texts.device.as_bytes()).is_none() {
+        return Some(("--did ", texts.device));
+    }
+    None
+}
+
+/// The number of an option, if it is given and is four hexadecimal digits.
+fn number_in(text: &Option<String>) -> Option<u16>
+    ensures { result ≡ option_and_then identifier_in (option_map string_bytes text.now) }
+{
+    match text {
+        Some(text) => identifier(text.as_bytes()),
+        None => None,
+    }
+}
+
+/// The identifiers that change: of each text that is given and is four hexadecimal digits the number. Any other stays.
+pub(crate) fn change_said(
+    vendor: &Option<String>,
+    product: &Option<String>,
+    device: &Option<String>,
+) -> Change
+    ensures { result ≡ change_said (option_map string_bytes vendor.now) (option_map string_bytes product.now)
+        (option_map string_bytes device.now) }
+{
+    Change {
+        vendor: number_in(vendor),
+        product: number_in(product),
+        device: number_in(device),
+    }
+}

@@ -1,0 +1,40 @@
+//! Numbers: of the line that names a line of a script, and in a word.
+
+ghost use Rattle.std.specs.Prelude.{◌≡◌, ◌++◌, ◌∷◌, IfOk, [], codes};
+ghost use Rattle.std.specs.Fmt.{decimal};
+ghost use Rattle.std.specs.String.{string_bytes};
+ghost use Rattle.dfu_cmd.specs.NumberText.{WritesNumber};
+
+use dfu_output::{Exit, fault_text, write_out};
+use dfu_suffix::SuffixFault;
+use std::alloc::{AllocError, Global};
+use std::io::Write;
+
+/// A text and a number after it.
+fn numbered(alloc: Global, text: &str, number: u32) -> Result<String, AllocError>
+    ensures { IfOk result (λ t. string_bytes t ≡ text.now ++ decimal number ++ 10 ∷ []) }
+{
+    format!(in alloc; "{text}{number}\n")
+}
+
+/// Writes the line that names a line of the script.
+pub(crate) fn number_text<W: Write>(alloc: Global, text: &str, number: u32, writer: &mut W) -> Exit
+    ensures { WritesNumber text.now number (W.contents writer.old) (W.contents writer.new) result }
+{
+    match numbered(alloc, text, number) {
+        Ok(line) => write_out(writer, line.as_bytes(), Exit::Refused),
+        Err(_) => fault_text(SuffixFault::NoMemory, writer),
+    }
+}
+
+/// A number of 1 to 10 decimal digits, up to 4,294,967,295.
+pub(crate) fn number_of(word: &str) -> Option<u32> {
+    let digits = word.as_bytes();
+    if digits.len() > 10 || !digits.iter().all(|digit| digit.is_ascii_digit()) {
+        return None;
+    }
+    match word.parse::<u32>() {
+        Ok(number) => Some(number),
+        Err(_) => None,
+    }
+}

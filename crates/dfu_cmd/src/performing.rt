@@ -1,0 +1,241 @@
+//! What the words of a command line ask for is done.
+
+use crate::captures::{device_in, interface_in};
+use crate::changing::{perform_add, perform_set};
+use crate::foreign::foreign_reason;
+use crate::hexing::bare;
+use crate::identifiers::IdTexts;
+use crate::judging::{JudgeOptions, judge_files};
+use crate::scripts::{Ways, run_script};
+use crate::shown::{Remembering, show_reason};
+use crate::tips::advised;
+use crate::watching::read_file;
+use crate::words::{WordFault, refused_word, word_reason};
+use dfu_args::{ArgsFault, ParsedArgs, Subcommand, parse_args};
+use dfu_fs::{JsonLines, Owned, check_files, extract_file};
+use dfu_output::{Exit, Outcome, fault_text, show_text};
+use dfu_suffix::SuffixFault;
+use std::io::{self, IsTerminal};
+use std::rt::Files;
+
+/// Whether bytes of this kind can be shown.
+fn is_kind(kind: &str) -> bool {
+    matches!(
+        kind,
+        "functional" | "status" | "state" | "setup" | "configuration"
+    )
+}
+
+fn perform_show<R: Print + AllocGlobal>(
+    rt: &R,
+    kind: &str,
+    words: &[String],
+    json: bool,
+) -> Outcome {
+    let alloc = rt.alloc();
+    // Words that aren't understood have no object.
+    let lines = JsonLines::new(alloc, json && is_kind(kind), None, io::writer(rt));
+    let mut out = Remembering::new(lines);
+    let Ok(digits) = bare(alloc, words) else {
+        return Outcome {
+            exit: fault_text(SuffixFault::NoMemory, &mut out),
+            reason: None,
+        };
+    };
+    // A text from which ASCII characters are taken stays a text.
+    let hex = std::str::from_utf8(&digits).unwrap_or("?");
+    let exit = show_text(alloc, kind, hex, &mut out);
+    let reason = match exit {
+        Exit::BadWords => word_reason(alloc, WordFault::Kind, kind),
+        Exit::Refused => show_reason(alloc, kind, out.front()),
+        _ => None,
+    };
+    Outcome { exit, reason }
+}
+
+/// Judges a log or a capture, if the words can be used.
+fn perform_judge<R: Files + Input + Print + AllocGlobal>(
+    rt: &R,
+    names: &[String],
+    interface: &str,
+    device: &str,
+    dfuse: bool,
+    json: bool,
+) -> Outcome {
+    let Some(interface) = interface_in(interface) else {
+        return refused_word(rt, WordFault::Interface, interface);
+    };
+    let Some(only) = device_in(device) else {
+        return refused_word(rt, WordFault::Device, device);
+    };
+    let how = JudgeOptions {
+        interface,
+        only,
+        dfuse,
+        json,
+    };
+    judge_files(rt, names, how)
+}
+
+/// Runs a script in these ways, if the words can be used: the script and its file can't both be standard input.
+fn perform_run<R: Files + Input + Print + AllocGlobal>(
+    rt: &R,
+    script: &str,
+    file: &Option<String>,
+    ways: Ways<'_>,
+) -> Outcome
+where
+    R::File: IsTerminal,
+    R::Reader: IsTerminal,
+{
+    let Some(name) = file else {
+        return run_script(rt, script, ways);
+    };
+    if script == "-" && name.as_str() == "-" {
+        return refused_word(rt, WordFault::File, "-");
+    }
+    match read_file(rt, name) {
+        Ok(bytes) => run_script(
+            rt,
+            script,
+            Ways {
+                file: Some(&bytes),
+                ..ways
+            },
+        ),
+        Err(answer) => answer,
+    }
+}
+
+/// Does what a subcommand asks for.
+fn perform<R: Files + Input + Print + AllocGlobal>(
+    rt: &R,
+    subcommand: &Subcommand,
+    explain: bool,
+) -> Outcome
+where
+    R::File: Owned + IsTerminal,
+    R::Reader: IsTerminal,
+{
+    match subcommand {
+        Subcommand::Check { files, json } => check_files(rt, files, explain, *json),
+        Subcommand::Add {
+            file,
+            to,
+            vid,
+            pid,
+            did,
+            format,
+            fill,
+        } => perform_add(rt, file, to, &IdTexts::new(vid, pid, did), format, fill),
+        Subcommand::Extract { to, .. } if to.as_str() == "-" => refused_word(
+            rt,
+            WordFault::Out,
+            to,
+        ),
+        Subcommand::Extract { file, to } => extract_file(rt, file, to, explain),
+        Subcommand::Change {
+            file,
+            vid,
+            pid,
+            did,
+        } => perform_set(rt, file, vid, pid, did, explain),
+        Subcommand::Show { kind, hex, json } => perform_show(rt, kind, hex, *json),
+        Subcommand::Run {
+            script,
+            trace,
+            file,
+        } => perform_run(rt, script, file, Ways::without_file(*trace, explain)),
+        Subcommand::Judge {
+            files,
+            interface,
+            device,
+            dfuse,
+            json,
+        } => perform_judge(rt, files, interface, device, *dfuse, *json),
+    }
+}
+
+/// The parser's text, with other tips in place of misleading ones, if there is memory for it.
+fn print_advised<R: Print + AllocGlobal>(rt: &R, error: &clap::Error) -> io::Result<()> {
+    let alloc = rt.alloc();
+    let Ok(text) = format!(in alloc; "{error}") else {
+        return rt.print(error);
+    };
+    match advised(alloc, &text) {
+        Ok(text) => rt.print(text.as_str()),
+        Err(_) => rt.print(error),
+    }
+}
+
+/// The parser's text, which for a mistake ends with how to ask for help.
+fn print_text<R: Print + AllocGlobal>(rt: &R, error: &clap::Error) -> u8 {
+    match print_advised(rt, error) {
+        Ok(()) => error.exit_code() as u8,
+        Err(_error) => Exit::Fault.status(),
+    }
+}
+
+/// Does what the words ask for. It returns the exit status, and the reason if that is wanted: by the
+/// words, or because `is_wanted` says so. For words of another program it returns what to type in any case.
+fn answer_words<R: Files + Input + Print + AllocGlobal>(
+    rt: &R,
+    words: &[String],
+    is_wanted: bool,
+) -> (u8, Option<String>)
+where
+    R::File: Owned + IsTerminal,
+    R::Reader: IsTerminal,
+{
+    match parse_args(rt.alloc(), words) {
+        Ok(
+            ParsedArgs {
+                subcommand,
+                explain,
+            },
+        ) => {
+            let is_wanted = is_wanted || explain;
+            let Outcome { exit, reason } = perform(rt, &subcommand, is_wanted);
+            let reason = if is_wanted { reason } else { None };
+            (exit.status(), reason)
+        }
+        Err(fault) => match fault {
+            ArgsFault::Words(error) => {
+                (print_text(rt, &error), foreign_reason(rt.alloc(), words))
+            }
+            ArgsFault::NoMemory => (no_memory(rt).status(), None),
+        },
+    }
+}
+
+/// Does what the words ask for, and returns the exit status. No reason is written.
+pub fn run_words<R: Files + Input + Print + AllocGlobal>(rt: &R, words: &[String]) -> u8
+where
+    R::File: Owned + IsTerminal,
+    R::Reader: IsTerminal,
+{
+    let (status, _) = answer_words(rt, words, false);
+    status
+}
+
+/// Does what `run_words` does, and writes the reason of a refusal to standard error if the words
+/// have `--explain` or `is_wanted` is set, and for words of another program what to type. If it can't be written, nothing else changes.
+pub fn run_explained<R: Files + Input + Print + Eprint + AllocGlobal>(
+    rt: &R,
+    words: &[String],
+    is_wanted: bool,
+) -> u8
+where
+    R::File: Owned + IsTerminal,
+    R::Reader: IsTerminal,
+{
+    let (status, reason) = answer_words(rt, words, is_wanted);
+    if let Some(line) = &reason {
+        let _ = rt.eprint(line.as_str());
+    }
+    status
+}
+
+fn no_memory<R: Print>(rt: &R) -> Exit {
+    fault_text(SuffixFault::NoMemory, &mut io::writer(rt))
+}

@@ -1,0 +1,116 @@
+//! Why words are refused.
+
+ghost use Rattle.std.specs.Prelude.{◌≡◌, IfOk, IfSome, None, is_some, true};
+ghost use Rattle.std.specs.String.{string_bytes};
+ghost use Rattle.dfu_output.specs.ReasonLines.{reason_line};
+ghost use Rattle.dfu_cmd.specs.Identifiers.{ids_said};
+ghost use Rattle.dfu_cmd.specs.WordReasons.{label_and_why};
+
+use crate::identifiers::{IdTexts, wrong_option};
+use dfu_output::{Outcome, bad_words, reason_line};
+use std::alloc::{AllocError, Global};
+use std::io;
+
+/// Refuses words, for this reason.
+pub(crate) fn refused<R: Print>(rt: &R, reason: Option<String>) -> Outcome {
+    Outcome {
+        exit: bad_words(&mut io::writer(rt)),
+        reason,
+    }
+}
+
+/// Refuses a word that has this fault.
+pub(crate) fn refused_word<R: Print + AllocGlobal>(
+    rt: &R,
+    fault: WordFault,
+    word: &str,
+) -> Outcome {
+    refused(rt, word_reason(rt.alloc(), fault, word))
+}
+
+/// The line, if there was memory for it.
+fn made(line: Result<String, AllocError>) -> Option<String>
+    ensures { (t : _) → IfOk line (λ s. string_bytes s ≡ t) → IfSome result (λ s. string_bytes s ≡ t) }
+{
+    match line {
+        Ok(line) => Some(line),
+        Err(_) => None,
+    }
+}
+
+/// Why the first wrong one of the three identifiers is refused.
+pub(crate) fn bad_identifier(alloc: Global, texts: &IdTexts<'_>) -> Option<String>
+    ensures sound { is_some (ids_said texts.now.vendor.now texts.now.product.now texts.now.device.now) ≡ true → result ≡ None }
+{
+    match wrong_option(texts) {
+        Some((option, text)) => {
+            let why = "it has to be four hexadecimal digits, as 1209";
+            made(reason_line(alloc, option, text, why))
+        }
+        None => None,
+    }
+}
+
+/// What is wrong with a word.
+#[derive(Clone, Copy)]
+pub(crate) enum WordFault {
+    /// KIND is unknown.
+    Kind,
+    /// OUT can't be `-`.
+    Out,
+    /// FILE, which changes, can't be `-`.
+    Place,
+    /// A format is unknown.
+    Format,
+    /// A byte for gaps isn't two digits.
+    Fill,
+    /// A raw image has no byte for gaps.
+    LoneFill,
+    /// No identifier of FILE changes.
+    NoChange,
+    /// A script and its file can't both be standard input.
+    File,
+    /// An interface is no number below 256.
+    Interface,
+    /// A device of a capture isn't a bus and a device.
+    Device,
+}
+
+/// What precedes a word that has this fault, and why it is refused.
+fn label_and_why(fault: WordFault) -> (&'static str, &'static str)
+    ensures label { result.0.now ≡ (label_and_why fault).0 }
+    ensures why { result.1.now ≡ (label_and_why fault).1 }
+{
+    match fault {
+        WordFault::Kind => (
+            "KIND ",
+            "it has to be functional, status, state, setup or configuration",
+        ),
+        WordFault::Out => ("OUT ", "it has to be a file, as ./- for one with this name"),
+        WordFault::Place => (
+            "FILE ",
+            "it has to be a file, as ./- for one with this name",
+        ),
+        WordFault::Format => (
+            "--format ",
+            "it has to be raw, auto, ihex, srec, uf2 or elf",
+        ),
+        WordFault::Fill => ("--fill ", "it has to be two hexadecimal digits, as ff"),
+        WordFault::LoneFill => ("--fill ", "a raw image has no gaps; it goes with --format"),
+        WordFault::NoChange => ("FILE ", "nothing is to change: give --vid, --pid or --did"),
+        WordFault::File => ("--file ", "the script is standard input already"),
+        WordFault::Interface => ("--interface ", "it has to be a number from 0 to 255"),
+        WordFault::Device => (
+            "--device ",
+            "it has to be only, or a bus and a device, as 1.7",
+        ),
+    }
+}
+
+/// Why a word is refused that has this fault.
+pub(crate) fn word_reason(alloc: Global, fault: WordFault, word: &str) -> Option<String>
+    ensures { IfSome result (λ t. string_bytes t ≡ reason_line (label_and_why fault).0 word.now (label_and_why fault).1) }
+{
+    let (label, why) = label_and_why(fault);
+    made(reason_line(alloc, label, word, why))
+}
