@@ -108,7 +108,7 @@ pub(crate) fn dfu_command<'a>(alloc: Global) -> Result<Command<'a>, AllocError>
     with_commands(alloc, top_command(alloc)?, &COMMANDS)
 }
 
-/// What clap makes of the words.
+/// Returns clap's matches of the words.
 pub(crate) fn matches_of<'a>(
     alloc: Global,
     words: &'a [String],

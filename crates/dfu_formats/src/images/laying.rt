@@ -9,7 +9,7 @@ use crate::images::limits::MAX_IMAGE;
 use std::alloc::Global;
 use thiserror::Error;
 
-/// Why elements do not make an image.
+/// Faults of elements that do not make an image.
 #[derive(Clone, Copy, Debug, Error)]
 pub enum LayFault {
     /// An allocation was refused.
