@@ -1,4 +1,4 @@
--- That each text of a subcommand is there.
+-- Each text of a subcommand is there.
 use Rattle.std.specs.Prelude.{◌≡◌, true, false, List, [], ◌∷◌, if◌then◌else◌, is_some, codes}
 use Rattle.std.specs.Str.{bytes_eq}
 use Rattle.clap.specs.Words.{Row, Text, first_of}

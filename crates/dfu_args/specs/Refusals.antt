@@ -1,4 +1,4 @@
--- What the words of a command line are refused for.
+-- Refusals of the words of a command line.
 use Rattle.std.specs.Prelude.{◌≡◌, ⊤, List, [], Result, Ok, Err}
 use Rattle.clap.specs.Words.{IsAmong, Kinds, Text, fault_of, kind_of}
 use Rattle.dfu_args.specs.declared.subcommand.ArgsFault.{ArgsFault}

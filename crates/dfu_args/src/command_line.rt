@@ -147,7 +147,7 @@ fn dfu_command<'a>(alloc: Global, words: &[String]) -> Result<Command<'a>, Alloc
     with_commands(alloc, command, commands())
 }
 
-/// What clap makes of the words.
+/// Returns clap's matches of the words.
 pub(crate) fn matches_of<'a>(
     alloc: Global,
     words: &'a [String],

@@ -6,7 +6,7 @@ use crate::help;
 #[derive(Clone, Copy)]
 pub(crate) struct Row<'a>(pub(crate) &'a str, pub(crate) Kind<'a>, pub(crate) &'a str);
 
-/// How an argument is given.
+/// Way in which an argument is given.
 #[derive(Clone, Copy)]
 pub(crate) enum Kind<'a> {
     /// A positional argument that has to be there, by its name in `--help`.

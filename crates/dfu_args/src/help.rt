@@ -1,6 +1,6 @@
 //! The texts of `--help`.
 
-/// What `--version` prints after the program's name.
+/// Version that `--version` prints after the program's name.
 pub(crate) const VERSION: &str = "0.3.0";
 
 pub(crate) const DFU: &str = "dfu 0.3.0: firmware files and upgrades over USB (DFU 1.1)";

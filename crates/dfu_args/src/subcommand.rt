@@ -1,13 +1,13 @@
-//! What the words of a command line ask for.
+//! Request that the words of a command line make.
 
-/// What is to be done, with the texts of the words or their defaults.
+/// Subcommand, with the texts of the words or their defaults.
 #[derive(Drop)]
 pub enum Subcommand {
     /// Check each file, or standard input if it is `-`.
     Check {
         /// Each FILE, one at least.
         files: Vec<String>,
-        /// Whether each line is to be an object: `--json` was given.
+        /// Tells whether each line is to be an object: `--json` was given.
         json: bool,
     },
     /// Write a file and a suffix for it.
@@ -51,14 +51,14 @@ pub enum Subcommand {
         kind: String,
         /// Each HEX, one at least: the bytes, two hexadecimal digits each.
         hex: Vec<String>,
-        /// Whether each line is to be an object: `--json` was given.
+        /// Tells whether each line is to be an object: `--json` was given.
         json: bool,
     },
     /// Run a script, or that of standard input if `script` is `-`.
     Run {
         /// SCRIPT.
         script: String,
-        /// Whether each action is to be printed: `--trace` was given.
+        /// Tells whether each action is to be printed: `--trace` was given.
         trace: bool,
         /// The file that FILE means, or standard input if it is `-`; none without `--file`.
         file: Option<String>,
@@ -71,9 +71,9 @@ pub enum Subcommand {
         interface: String,
         /// BUS.DEVICE, or `only`.
         device: String,
-        /// Whether it is to be a device that speaks DfuSe: `--dfuse` was given.
+        /// Tells whether it is to be a device that speaks DfuSe: `--dfuse` was given.
         dfuse: bool,
-        /// Whether each line is to be an object: `--json` was given.
+        /// Tells whether each line is to be an object: `--json` was given.
         json: bool,
     },
 }
@@ -81,13 +81,13 @@ pub enum Subcommand {
 /// A subcommand, and how it is to be done.
 #[derive(Drop)]
 pub struct ParsedArgs {
-    /// What is to be done.
+    /// Subcommand that is to be done.
     pub subcommand: Subcommand,
-    /// Whether the reason of a refusal is wanted: `--explain` was given.
+    /// Tells whether the reason of a refusal is wanted: `--explain` was given.
     pub explain: bool,
 }
 
-/// Why the words ask for no subcommand.
+/// Faults for which the words ask for no subcommand.
 #[derive(Drop)]
 pub enum ArgsFault {
     /// The parser refused the words, or they ask for help: its text and its exit status.

@@ -60,7 +60,7 @@ fn text_if(alloc: Global, found: &ArgMatches<'_>, id: &str) -> Result<Option<Str
     }
 }
 
-/// Whether a flag was given.
+/// Returns whether a flag was given.
 fn is_on(found: &ArgMatches<'_>, id: &str) -> bool
     ensures { result ≡ is_on (first_of id.now (rows_of (found_of found.now))) }
 {
@@ -171,7 +171,7 @@ fn chosen(alloc: Global, matches: &ArgMatches<'_>) -> Result<Subcommand, AllocEr
     }
 }
 
-/// Whether the flag was given after the subcommand.
+/// Returns whether the flag was given after the subcommand.
 fn is_on_below(matches: &ArgMatches<'_>, id: &str) -> bool
     ensures { result ≡ is_on (first_of id.now (rows_in (subcommand_rows_of matches.now))) }
 {
@@ -181,7 +181,7 @@ fn is_on_below(matches: &ArgMatches<'_>, id: &str) -> bool
     }
 }
 
-/// What these matches ask for.
+/// Returns the request of these matches.
 fn asked(alloc: Global, matches: &ArgMatches<'_>) -> Result<ParsedArgs, AllocError>
     requires named { has_subcommand matches.now ≡ true }
     requires complete { IfSome (subcommand_rows_of matches.now) (λ p. IsComplete p.0 p.1) }
@@ -195,7 +195,7 @@ fn asked(alloc: Global, matches: &ArgMatches<'_>) -> Result<ParsedArgs, AllocErr
     })
 }
 
-/// What the words ask for; the first word is the program's name.
+/// Returns the request of the words; the first word is the program's name.
 ///
 /// # Errors
 ///

@@ -1,4 +1,4 @@
--- Where the image is that a program is to run.
+-- Place of the image that a program is to run.
 use Rattle.std.specs.Prelude.{◌≡◌, ◌+◌, ◌*◌, ◌≤◌, ℕ, List, length, slice_range}
 use Rattle.dfu_slots.specs.Units.{Grain}
 use Rattle.dfu_slots.specs.Image.{Active, active_at, gate_of}

@@ -8,7 +8,7 @@ use Rattle.dfu_device.specs.declared.device_state.DeviceState.TheVariants as dev
 use Rattle.dfu_device.specs.Rows.{body_length}
 use Rattle.dfu_device.specs.Setting.{Setting}
 
--- Where a device goes from this mode by such a body: as by a request that it doesn't know.
+-- Mode of a device after such a body in this mode: as by a request that it doesn't know.
 abbrev pub after_long : DeviceState → DeviceState
 after_long device_state.AppIdle = device_state.AppIdle
 after_long (device_state.AppDetach timer passed) = device_state.AppIdle

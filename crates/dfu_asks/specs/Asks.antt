@@ -30,7 +30,7 @@ use Rattle.dfu_asks.specs.Series.{held_before}
 use Rattle.dfu_asks.specs.Steps.{Step}
 use Rattle.dfu_asks.specs.Jobs.{job_writes, job_steps}
 
--- How its flash is written.
+-- Grain in which its flash is written.
 abbrev pub grain_in : LentAsking → Grain
 grain_in a = grain_of a.unit a.sector
 
@@ -81,7 +81,7 @@ IsDue m asked len s j end held = ⊥
 abbrev pub writes_in : LentAsking → PendingWrites → List Write
 writes_in a w = job_writes w.job (grain_in a) a.put_end a.held a.block
 
--- The same as steps.
+-- Writes that are left, as steps.
 abbrev pub steps_in : LentAsking → PendingWrites → List Step
 steps_in a w = job_steps w.job (grain_in a) a.put_end a.held a.block
 
@@ -141,17 +141,17 @@ pub record IsBrokenOff (fault : WriteFault) (a a' : LentAsking) : Type 0 where
   pub end : a'.put_end ≡ 0
   pub work : a'.work ≡ None
 
--- What is noted after a row in this mode, on this flash: after a commit what the flash has, and after a block what was noted.
+-- The notes after a row in this mode, on this flash: after a commit those of the flash, and after a block those of before.
 pub record NotesAfter (m : DeviceState) (flash : List ℕ) (a a' : LentAsking) : Type 0 where
   pub of_block : is_block m ≡ true → a'.noted ≡ a.noted
   pub of_commit : is_block m ≡ false → HasImage (mapped (grain_in a') flash) → IsNoted a'.noted (mapped (grain_in a') flash)
 
--- What is replied by a device that is set up like this, in this mode with a block of n bytes, if so many bytes are asked for.
+-- The reply of a device that is set up like this, in this mode with a block of n bytes, if so many bytes are asked for.
 abbrev pub IsReply : Setting → DeviceState → (n : ℕ) → ReplyRead → (asked : ℕ) → Answer → List ℕ → Type 0
 IsReply c m n r asked a out = (room : ℕ) (spare block : List ℕ) → HoldsTime m n spare block
     → Answers asked (reply_in (profile_of c room) (stage_of m spare block) r) a out
 
--- What is answered in this mode at the end of a row, in which no time is said: the status, if a GETSTATUS asked for so many bytes of it.
+-- The answer in this mode at the end of a row, in which no time is said: the status, if a GETSTATUS asked for so many bytes of it.
 abbrev pub IsAnswered : Setting → DeviceState → Option ℕ → Answer → List ℕ → Type 0
 IsAnswered c m None a out = (n : ℕ) × IsReply c m n reply.Ack 0 a out
 IsAnswered c m (Some len) a out = (n : ℕ) × IsReply c m n reply.Status len a out

@@ -4,7 +4,7 @@ use Rattle.std.specs.List.{list_all}
 use Rattle.dfu_slots.specs.Units.{Grain, gate_room}
 use Rattle.dfu_slots.specs.Layout.{slot_size}
 
--- Whether a byte is as an erase leaves it, and as a new part of NOR flash has it.
+-- True if a byte is as an erase leaves it, and as a new part of NOR flash has it.
 abbrev pub reads_erased : ℕ → Bool
 reads_erased byte = byte == 255
 
@@ -13,7 +13,7 @@ reads_erased byte = byte == 255
 abbrev pub front_of : Grain → List ℕ → ℕ → List ℕ
 front_of grain flash at = slice_range flash at (at + 2 * gate_room grain)
 
--- Every byte that the gates and the headers of both slots take up is FFh. What the data of the slots holds does not matter.
+-- Every byte that the gates and the headers of both slots take up is FFh. The data of the slots does not matter.
 pub record IsUnwritten (grain : Grain) (flash : List ℕ) : Type 0 where
   pub first : IsTrue (list_all reads_erased (front_of grain flash 0))
   pub second : IsTrue (list_all reads_erased (front_of grain flash (slot_size flash)))

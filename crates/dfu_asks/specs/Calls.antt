@@ -1,4 +1,4 @@
--- What a call of a device that asks leaves.
+-- State that a call of a device that asks leaves.
 use Rattle.std.specs.Prelude.{◌≡◌, ℕ, ◌+◌, ◌≤◌, ◌<◌, Bool, true, false, List, ◌++◌, length, drop, slice_range, Option, Some, None}
 use Rattle.dfu_slots.specs.declared.fault.WriteFault.TheVariants.{Failed, NotVerified}
 use Rattle.dfu_slots.specs.Medium.{Write}
@@ -44,7 +44,7 @@ pub record AsksWrites (a : LentAsking) (len : ℕ) (s : SlotsState) (was flash :
   pub reached : IsReached (steps_in a work) work.done
   pub flash_is : flash ≡ carried was (writes_in a work) work.done
 
--- What comes of a device that works for the row that is due: it asks, further on; or the row came to its end.
+-- Result of a device that works for the row that is due: it asks, further on; or the row came to its end.
 pub data DueComes (d : DeviceView) (len : ℕ) (s : SlotsState) (was flash out : List ℕ) (now : LentAsking) (out' : List ℕ) : Reply
     → Type 0 where
   comes_asks : AsksWrites now len s was flash → device_of now s ≡ d → out' ≡ out → DueComes d len s was flash out now out' reply.Asks

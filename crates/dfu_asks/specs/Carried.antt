@@ -3,7 +3,7 @@ use Rattle.std.specs.Prelude.{◌≡◌, ◌⊎◌, ℕ, ◌+◌, ◌-◌, ◌%�
 use Rattle.dfu_slots.specs.Medium.{Write, written}
 use Rattle.dfu_asks.specs.Steps.{Step}
 
--- How many bytes a series of writes has.
+-- Number of bytes of a series of writes.
 abbrev pub total : List Write → ℕ
 total [] = 0
 total (w ∷ ws) = length w.bytes + total ws

@@ -1,4 +1,4 @@
--- Whether a setup closes a download, before it is handed in.
+-- The answer that says, before a setup is handed in, whether it closes a download.
 use Rattle.std.specs.Prelude.{◌≡◌, ◌↔◌, ℕ, Bool, IsTrue, List, Some}
 use Rattle.dfu_device.specs.declared.answer.Answer.{Answer}
 use Rattle.dfu_device.specs.declared.answer.Answer.TheVariants as answer

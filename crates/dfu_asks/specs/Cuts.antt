@@ -13,7 +13,7 @@ use Rattle.dfu_asks.specs.Jobs.{asked}
 abbrev pub source_bytes : Source → WriteInputs → List ℕ → List ℕ
 source_bytes source s front = source_of source s.held.now s.block.now front
 
--- The same, with 256 zeros after them.
+-- Bytes of the source, with 256 zeros after them.
 abbrev pub zeroed : Source → WriteInputs → List ℕ → List ℕ
 zeroed source s front = source_bytes source s front ++ replicate 256 0
 

@@ -40,7 +40,7 @@ FailsOut fault (Writes before block reply stage bad) len w a out w' =
 FailsOut fault (Commits taken reply stage bad) len w a out w' =
     Answers len (bad fault) a out × FailedCommit fault taken w.config w.slots w'
 
--- What comes of the row that is due in a device.
+-- Result of the row that is due in a device.
 abbrev pub Works : ℕ → DeviceView → Answer → List ℕ → DeviceView → Type 0
 Works len w a out w' = WorksOut (due_plan (profile w) w.stage) len w a out w'
 
@@ -48,7 +48,7 @@ Works len w a out w' = WorksOut (due_plan (profile w) w.stage) len w a out w'
 abbrev pub Fails : WriteFault → ℕ → DeviceView → Answer → List ℕ → DeviceView → Type 0
 Fails fault len w a out w' = FailsOut fault (due_plan (profile w) w.stage) len w a out w'
 
--- What comes of the due row, its writes working or one of them having a fault, is what this row says.
+-- The result of the due row, its writes working or one of them having a fault, is what this row says.
 pub record IsDueRow (len : ℕ) (w : DeviceView) (Row : Answer → List ℕ → DeviceView → Type 0) : Type 0 where
   pub works : (a : Answer) (out : List ℕ) (w' : DeviceView) → Works len w a out w' → Row a out w'
   pub fails : (fault : WriteFault) (a : Answer) (out : List ℕ) (w' : DeviceView) → Fails fault len w a out w' → Row a out w'
@@ -86,7 +86,7 @@ wanted (Some len) = len
 abbrev pub plan_in : (block body : List ℕ) → Decision → DeviceView → Plan
 plan_in block body decision d = plan_of (profile d) (image_of d.slots) (spare_of d.slots) block body decision
 
--- What is decided sends at most so many bytes of this image.
+-- The decision sends at most so many bytes of this image.
 abbrev pub SendsWithin : Decision → List ℕ → ℕ → Type 0
 SendsWithin (decision.Sends place size number) image room = length (take size (drop place image)) ≤ room
 SendsWithin d image room = Unit {0}

@@ -39,7 +39,7 @@ pub record HasFormatted (m : MediumState) (image : List ℕ) (now : MediumState)
   pub writes : AllWrites m (format_series m image) now
   pub active : Active now image
 
--- What comes of a format once its pieces so far are carried out: it asks for the next one, or it came to its end.
+-- Result of a format once its pieces so far are carried out: it asks for the next one, or it came to its end.
 abbrev pub FormatComesTo : Grain → Formatting → (image was flash : List ℕ) → FormatProgress → Type 0
 FormatComesTo grain f image was flash Asks = AsksFormat f image was flash
 FormatComesTo grain f image was flash Formatted = HasFormatted (mapped grain was) image (mapped grain flash)

@@ -22,7 +22,7 @@ job_writes (Block spare close) grain end held block =
 job_writes (Commit spare gen crc) grain end held block =
     part_writes grain (held_place grain spare end held) held ++ open_writes grain spare gen end crc
 
--- The same as steps.
+-- Writes of the job, as steps.
 abbrev pub job_steps : SlotWrite → Grain → ℕ → List ℕ → List ℕ → List Step
 job_steps (Block spare close) grain end held block =
     (if close then close_step grain spare ∷ [] else []) ++ put_steps grain (held_place grain spare end held) held block
@@ -44,7 +44,7 @@ pub record IsFit (sector : ℕ) (p : FlashOp) (bytes : List ℕ) : Type 0 where
   pub small : p.at < 2 ^ 43
   pub count : length (asked p bytes).write.bytes ≡ p.len
 
--- How the flash is written that this stock is for.
+-- Grain of the flash that this stock is for.
 abbrev pub grain_for : WriteInputs → Grain
 grain_for s = grain_of s.unit s.sector
 

@@ -9,7 +9,7 @@ use Rattle.dfu_asks.specs.declared.noted.Noted.{Noted}
 use Rattle.dfu_asks.specs.declared.pending_writes.PendingWrites.{PendingWrites}
 use Rattle.dfu_asks.specs.declared.asking.Asking.{Asking}
 
--- What is kept of a device that asks, the block that is not written, and the bytes held back.
+-- Record of a device that asks, the block that is not written, and the bytes held back.
 pub record LentAsking : Type 0 where
   pub config : Setting
   pub unit : WriteUnit

@@ -16,7 +16,7 @@ grain_of unit sector = record { unit = unit; sector = sector.size }
 abbrev pub mapped : Grain → List ℕ → MediumState
 mapped grain bytes = record { bytes = bytes; failures = 2 ^ 64 - 1; fuse = Unknown; grain = grain; tag = [] }
 
--- What is not seen of flash that is mapped: how often a write has failed, what the next writes will do, and a tag of its owner's.
+-- Values of mapped flash that are not seen: how often a write has failed, what the next writes will do, and a tag of its owner's.
 pub record Unseen : Type 0 where
   pub failures : ℕ
   pub fuse : Fuse

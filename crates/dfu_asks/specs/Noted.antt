@@ -1,4 +1,4 @@
--- What is noted of the active image, and what is seen of a medium by it.
+-- Notes of the active image, and the view of a medium by them.
 use Rattle.std.specs.Prelude.{◌≡◌, ℕ, ◌+◌, ◌≤◌, List, length, if◌then◌else◌}
 use Rattle.dfu_slots.specs.Medium.{MediumState}
 use Rattle.dfu_slots.specs.Layout.{OPEN, slot_size, header_length}
@@ -6,11 +6,11 @@ use Rattle.dfu_slots.specs.Image.{gate_of, slot_of, capacity_of, active_at, IsSi
 use Rattle.dfu_asks.specs.declared.noted.Noted.{Noted}
 use Rattle.dfu_asks.specs.declared.noted.View.{View}
 
--- Where the noted slot begins.
+-- Place at which the noted slot begins.
 abbrev pub noted_at : Noted → List ℕ → ℕ
 noted_at n bytes = if n.second then slot_size bytes else 0
 
--- Where the other slot begins.
+-- Place at which the other slot begins.
 abbrev pub beside : Noted → List ℕ → ℕ
 beside n bytes = if n.second then 0 else slot_size bytes
 

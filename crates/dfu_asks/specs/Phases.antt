@@ -49,11 +49,11 @@ part_steps grain size image crc Header =
 part_steps grain size image crc Gate = anew_steps grain.sector 0 (gate_unit (gate_size grain.unit) OPEN)
 part_steps grain size image crc Ended = []
 
--- How its flash is written.
+-- Grain in which its flash is written.
 abbrev pub grain_within : Formatting → Grain
 grain_within f = grain_of f.unit f.sector
 
--- What is left of a format on flash of so many bytes, from the part on that is being carried out.
+-- Steps that are left of a format on flash of so many bytes, from the part on that is being carried out.
 abbrev pub steps_left : Formatting → ℕ → List ℕ → List Step
 steps_left f size image = steps_from (grain_within f) (size / 2) image f.register f.phase
 

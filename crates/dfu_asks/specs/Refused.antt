@@ -15,7 +15,7 @@ pub record Fits (a : Asking) (room : ℕ) : Type 0 where
   pub block : a.block_len ≤ room
   pub transfer : a.config.functional.transfer ≤ min 4096 room
 
--- What is kept is a device on this flash, with its active image noted, and this memory has room.
+-- The record is a device on this flash, with its active image noted, and this memory has room.
 pub record IsKeptOn (a : Asking) (block held flash : List ℕ) : Type 0 where
   pub fits : Fits a (length block)
   pub is : IsDevice (lent a block held) flash
@@ -32,7 +32,7 @@ IsRefusedCall refusal.NoMedium a block held flash need room = (a.work ≡ None) 
 IsRefusedCall refusal.NoDevice a block held flash need room = (a.work ≡ None) × (need ≤ room) × IsThere a flash ×
     ¬ IsKeptOn a block held flash
 
--- What is true of each call that is not refused, also if what is kept was damaged.
+-- Facts of each call that is not refused, also if the record was damaged.
 pub record IsServed (a : Asking) (block flash : List ℕ) (need room : ℕ) : Type 0 where
   pub work : a.work ≡ None
   pub enough : need ≤ room

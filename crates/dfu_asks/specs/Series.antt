@@ -9,7 +9,7 @@ use Rattle.dfu_slots.specs.Store.{IsStore}
 use Rattle.dfu_device.specs.Parts.{is_put}
 use Rattle.dfu_device.specs.Rows.{block_calls}
 
--- What is held back before a block that comes after so many bytes: nothing before the first one.
+-- Bytes that are held back before a block that comes after so many bytes: none before the first one.
 abbrev pub held_before : SlotsState → ℕ → List ℕ
 held_before s n = if n == 0 then [] else s.held
 

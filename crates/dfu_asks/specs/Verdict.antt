@@ -1,4 +1,4 @@
--- Whether a device will stall a setup, before the body of the setup is there.
+-- The answer that says, before the body of a setup is there, whether a device will stall it.
 use Rattle.std.specs.Prelude.{◌≡◌, ◌↔◌, ℕ, Bool, true, false, IsTrue, Option, Some, None, List, length}
 use Rattle.dfu_wire.specs.declared.setups.Setup.{Setup}
 use Rattle.dfu_wire.specs.Setup.{IsSetup}
@@ -15,13 +15,13 @@ abbrev pub is_stall : Reply → Bool
 is_stall Stall = true
 is_stall reply = false
 
--- What three answers agree on.
+-- Answer on which three answers agree.
 abbrev pub agreed : Bool → Bool → Bool → Option Bool
 agreed true true true = Some true
 agreed false false false = Some false
 agreed x y z = None
 
--- Whether the plan gives a stall, if that is so or not so whatever its writes come to.
+-- True if the plan gives a stall, false if it gives none, whatever its writes come to; else nothing.
 abbrev pub verdict : Plan → Option Bool
 verdict (Sure reply stage) = Some (is_stall reply)
 verdict (Writes before block reply stage bad) = agreed (is_stall reply) (is_stall (bad Failed)) (is_stall (bad NotVerified))

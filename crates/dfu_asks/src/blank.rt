@@ -1,4 +1,4 @@
-//! Whether the flash reads as if it was never written, so that a program can tell a new board from a damaged one.
+//! Look at a flash that may never have been written, by which a program can tell a new board from a damaged one.
 ghost use Rattle.std.specs.Prelude.{◌≡◌, ◌↔◌, ◌+◌, ◌≤◌, IsTrue, length, slice_range, IfSome, IfNone, OnSome};
 ghost use Rattle.std.specs.List.{list_all};
 ghost use Rattle.dfu_slots.specs.Image.{IsSized, HasImage};
@@ -9,7 +9,7 @@ use crate::Mapped;
 use crate::gates::gate_room;
 use dfu_slots::is_sized;
 
-// Whether so many bytes from there on are FFh.
+// Returns whether so many bytes from there on are FFh.
 fn is_erased(flash: &[u8], at: usize, len: usize) -> bool
     requires { at + len ≤ length flash.now }
     ensures { result ≡ list_all reads_erased (slice_range flash.now at (at + len)) }
@@ -18,8 +18,8 @@ fn is_erased(flash: &[u8], at: usize, len: usize) -> bool
 }
 
 impl<'m> Mapped<'m> {
-    /// Whether the flash reads as if it was never written: true if every byte that the gates and the headers of both slots take up is FFh,
-    /// and then there is no active image; false if one is not. What the data of the slots holds does not matter.
+    /// Returns whether the flash reads as if it was never written: true if every byte that the gates and the headers of both slots take up
+    /// is FFh, and then there is no active image; false if one is not. The data of the slots does not matter.
     ///
     /// None exactly if the flash has not as many bytes as two slots can have.
     pub fn is_blank(&self) -> Option<bool>

@@ -1,4 +1,4 @@
-//! Where a received image that is not in place yet is in the flash of a device that asks.
+//! Place of a received image that is not in place yet, in the flash of a device that asks.
 ghost use Rattle.std.specs.Prelude.{◌≡◌, ◌+◌, ◌≤◌, ℕ, List, length, IfOk, IfErr, IfSome, IfNone, None};
 ghost use Rattle.dfu_device.specs.Candidate.{candidate_in, IsCandidate};
 ghost use Rattle.dfu_asks.specs.Lent.{lent};
@@ -11,8 +11,8 @@ use dfu_device::Candidate;
 use dfu_slots::{Medium, data_at};
 
 impl Asking {
-    /// Where the received image is, as `Device::candidate`. The bytes after those in the flash are the `held_len` ones that are held
-    /// back.
+    /// Returns the place of the received image, as `Device::candidate`. The bytes after those in the flash are the `held_len` ones that are
+    /// held back.
     ///
     /// # Errors
     ///

@@ -1,4 +1,4 @@
-//! What is decided is carried out, or is begun.
+//! Decisions that are carried out, or are begun.
 ghost use Rattle.std.specs.Prelude.{◌≡◌, ◌-◌, ◌≤◌, ◌++◌, min, ℕ, List, length, take, drop, Some, None};
 ghost use Rattle.dfu_slots.specs.Image.{slot_of};
 ghost use Rattle.dfu_slots.specs.Seen.{image_of};
@@ -19,7 +19,7 @@ use crate::{Asking, Mapped, Reply};
 use dfu_device::{Answer, Decision, DeviceState, status_in};
 use dfu_slots::read_data;
 
-// How many bytes of a status are asked for.
+// Returns the bytes of a status that are asked for.
 fn wanted(asked: Option<u16>) -> u16
     ensures { result ≡ wanted asked }
 {

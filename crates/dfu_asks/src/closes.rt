@@ -1,4 +1,4 @@
-//! Whether a setup closes a download, said before it is handed in: the program's own check of the image comes then.
+//! Tells before a setup is handed in whether it closes a download, because the program's own check of the image comes then.
 ghost use Rattle.std.specs.Prelude.{◌≡◌, ℕ, List, IfOk, IfErr, OnOk, IsSome, None};
 ghost use Rattle.dfu_asks.specs.Asks.{device_in, IsDevice};
 ghost use Rattle.dfu_asks.specs.Close.{TellsClose};
@@ -8,7 +8,7 @@ ghost use Rattle.dfu_asks.specs.Lent.{LentAsking, lent};
 use crate::{Asking, Refusal};
 use dfu_device::{Config, DeviceState, is_close};
 
-/// Whether this setup closes the download of a device of this configuration in this mode, as `Asking::closes`.
+/// Returns whether this setup closes the download of a device of this configuration in this mode, as `Asking::closes`.
 pub fn mode_closes(config: &Config, mode: DeviceState, setup: &[u8; 8]) -> bool
     ensures { (a : LentAsking) (flash : List ℕ) → IsDeviceIn config.now mode a flash → TellsClose result setup.now (device_in a flash) }
 {
@@ -19,10 +19,10 @@ pub fn mode_closes(config: &Config, mode: DeviceState, setup: &[u8; 8]) -> bool
 }
 
 impl Asking {
-    /// Whether this setup closes a download: a DNLOAD with wLength 0 in dfuDNLOAD-IDLE, once as many bytes were taken as an image has at
-    /// least (USB DFU 1.1, section 6.1.1.1). If true, `handle` would acknowledge it, and from then on all bytes taken wait to be put in
-    /// place, so a program that checks images does it now, and `refuse_close` would refuse the image; if false, `handle` would do nothing
-    /// of the kind.
+    /// Returns whether this setup closes a download: a DNLOAD with wLength 0 in dfuDNLOAD-IDLE, once as many bytes were taken as an image
+    /// has at least (USB DFU 1.1, section 6.1.1.1). If true, `handle` would acknowledge it, and from then on all bytes taken wait to be put
+    /// in place, so a program that checks images does it now, and `refuse_close` would refuse the image; if false, `handle` would do
+    /// nothing of the kind.
     ///
     /// # Errors
     ///

@@ -1,4 +1,4 @@
-//! How a device goes on with what is left to be written of a row, and what becomes of it at the end of the row.
+//! Next steps of a device with the writes that are left of a row, and its state at the end of the row.
 ghost use Rattle.std.specs.Prelude.{◌≡◌, ◌≤◌, ℕ, List, [], length, take, true, false, if◌then◌else◌, ◌<◌, ◌↔◌, Some};
 ghost use Rattle.dfu_slots.specs.Image.{HasImage};
 ghost use Rattle.dfu_slots.specs.Writes.{put_rest};
@@ -18,7 +18,7 @@ use dfu_device::{Answer, Config, DeviceState};
 use dfu_slots::{Unit, WriteFault};
 use dfu_wire::Code;
 
-// Whether a block is written in a mode.
+// Returns whether a block is written in a mode.
 fn is_block(mode: DeviceState) -> bool
     ensures { result ≡ is_block mode }
 {
@@ -107,7 +107,7 @@ fn note(noted: &mut Noted, mode: DeviceState, flash: &[u8], unit: Unit, sector: 
 }
 
 impl Asking {
-    // How many bytes are held back after a row whose writes worked, and where the puts end. These bytes are kept in their memory.
+    // Returns how many bytes are held back after a row whose writes worked, and where the puts end. These bytes are kept in their memory.
     fn rest_after(&self, block: &[u8], held: &mut [u8]) -> (usize, u32)
         requires { HasRoom self.now.unit held.old }
         ensures held { let a = lent self.now block.now held.old in

@@ -17,7 +17,7 @@ use crate::pending_writes::WriteInputs;
 use crate::{FormatStep, Formatting};
 use dfu_slots::{Sequence, Unit, VERSION, make_header};
 
-/// How many bytes an image of so many has, filled up to whole units.
+/// Returns the bytes of an image of so many, filled up to whole units.
 pub(crate) fn filled_len(unit: Unit, len: usize) -> usize
     requires { len ≤ 2 ^ 24 }
     ensures value { result ≡ len + fill_size unit len }
@@ -27,7 +27,7 @@ pub(crate) fn filled_len(unit: Unit, len: usize) -> usize
     len + (size - len % size) % size
 }
 
-/// What the writes of a format are made of: the image takes the place of the block.
+/// Returns the inputs of the writes of a format: the image takes the place of the block.
 pub(crate) fn stock_for<'a>(formatting: &Formatting, image: &'a [u8]) -> WriteInputs<'a>
     ensures unit { result.unit ≡ formatting.now.unit }
     ensures sector { result.sector ≡ formatting.now.sector }
@@ -43,7 +43,7 @@ pub(crate) fn stock_for<'a>(formatting: &Formatting, image: &'a [u8]) -> WriteIn
     }
 }
 
-// Whether the next piece is one of the header, or of the gate that is opened after it.
+// Returns whether the next piece is one of the header, or of the gate that is opened after it.
 fn open_piece(index: usize, register: u32, cut: &mut Cut<'_>) -> bool
     requires { length cut.old.stock.block.now ≤ 2 ^ 24 }
     ensures found { let s = cut.old.stock in IsTrue result →
@@ -65,7 +65,8 @@ fn open_piece(index: usize, register: u32, cut: &mut Cut<'_>) -> bool
     numbered_piece(sequence, index, cut)
 }
 
-/// Whether a piece is left of the part of a format that is being carried out. Then the next one is found. The flash has so many bytes.
+/// Returns whether a piece is left of the part of a format that is being carried out. Then the next one is found. The flash has so many
+/// bytes.
 pub(crate) fn part_piece(formatting: &Formatting, size: usize, cut: &mut Cut<'_>) -> bool
     requires flash { size < 2 ^ 32 }
     requires held { cut.old.stock.held.now ≡ [] }

@@ -1,4 +1,4 @@
-//! Where the active image is, which a program is to run.
+//! Place of the active image, which a program is to run.
 ghost use Rattle.std.specs.Prelude.{◌≡◌, ◌/◌, ◌≤◌, IfSome, IfNone, if◌then◌else◌};
 ghost use Rattle.dfu_slots.specs.Image.{HasImage};
 ghost use Rattle.dfu_asks.specs.ActiveImage.{ImageIsAt};
@@ -8,16 +8,16 @@ use crate::gates::gate_room;
 use crate::{Asking, Noted, Sector};
 use dfu_slots::{Unit, length_in};
 
-/// Where an image is in the flash.
+/// Place of an image in the flash.
 #[derive(Clone, Copy, Drop)]
 pub struct ImagePlace {
-    /// Where its first byte is.
+    /// Place of its first byte.
     pub at: u32,
-    /// How many bytes it has, 0 to 16,777,216.
+    /// Length of the image in bytes, 0 to 16,777,216.
     pub len: u32,
 }
 
-// Where a slot begins in flash of so many bytes.
+// Returns the place at which a slot begins in flash of so many bytes.
 fn slot_at(second: bool, size: usize) -> usize
     ensures value { result ≡ (if second then size / 2 else 0) }
     ensures most { result ≤ size / 2 }
@@ -26,8 +26,8 @@ fn slot_at(second: bool, size: usize) -> usize
 }
 
 impl ImagePlace {
-    /// Where the active image is in this flash, which is written in this unit and erased in these sectors: after the gate and the header of
-    /// its slot, within the flash. It reads the image of each open slot, and needs no device.
+    /// Returns the place of the active image in this flash, which is written in this unit and erased in these sectors: after the gate and
+    /// the header of its slot, within the flash. It reads the image of each open slot, and needs no device.
     ///
     /// None exactly if the flash has no active image, or 2^32 bytes or more.
     pub fn find(flash: &[u8], unit: Unit, sector: Sector) -> Option<ImagePlace>
@@ -44,7 +44,7 @@ impl ImagePlace {
 }
 
 impl Asking {
-    /// Where the active image is in this flash, as `ImagePlace::find`; whatever the device noted of it.
+    /// Returns the place of the active image in this flash, as `ImagePlace::find`; whatever the device noted of it.
     ///
     /// None exactly if the flash has no active image, or 2^32 bytes or more.
     pub fn image(&self, flash: &[u8]) -> Option<ImagePlace>

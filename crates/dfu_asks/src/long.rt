@@ -14,7 +14,7 @@ use crate::{Asking, Refusal};
 use dfu_device::{Config, DeviceState};
 use dfu_wire::{Code, Setup};
 
-// Where a device goes from this mode by a body that is longer than a block may be.
+// Returns the mode of a device after a body in this mode that is longer than a block may be.
 fn after_long(mode: DeviceState) -> DeviceState
     ensures { result ≡ after_long mode }
 {
@@ -28,7 +28,7 @@ fn after_long(mode: DeviceState) -> DeviceState
     }
 }
 
-// Whether the host sends more bytes with this setup than a block has.
+// Returns whether the host sends more bytes with this setup than a block has.
 fn is_long(setup: &Setup, transfer: u16) -> bool
     ensures { result ≡ nat_lt transfer (body_length setup.now) }
 {

@@ -12,7 +12,7 @@ use crate::sector::{Position, locate};
 use crate::{FlashOp, SlotWrite};
 use dfu_slots::{MAX_OPERATIONS, Op, Sequence, Source, VERSION, make_header};
 
-/// How many bytes are programmed at a time at most.
+/// Most bytes that are programmed at a time.
 pub const MAX_PROGRAM: usize = 256;
 
 // An erase of so many bytes there is found.
@@ -27,7 +27,7 @@ fn find_erase(at: u64, len: usize, cut: &mut Cut<'_>)
     };
 }
 
-// Whether the next piece is one of the erase of the sector that begins there. Then it is found; else the search goes on after it.
+// Returns whether the next piece is one of the erase of the sector that begins there. Then it is found; else the search goes on after it.
 fn erase_piece(at: u64, cut: &mut Cut<'_>) -> bool
     requires { at < 2 ^ 41 }
     ensures found { IsTrue result → IsPiece (erase_step at cut.old.stock.sector.size ∷ []) cut.old.rest (step_of cut.new) }
@@ -47,7 +47,7 @@ fn erase_piece(at: u64, cut: &mut Cut<'_>) -> bool
     false
 }
 
-// Whether the next piece is one of a write of `len` bytes there, or of its erases: of the bytes of this source, without the first
+// Returns whether the next piece is one of a write of `len` bytes there, or of its erases: of the bytes of this source, without the first
 // `skip`. Then it is found; else the search goes on after the write.
 fn write_piece(at: u64, source: Source, skip: usize, len: usize, cut: &mut Cut<'_>) -> bool
     requires small { at < 2 ^ 41 }
@@ -86,7 +86,8 @@ fn write_piece(at: u64, source: Source, skip: usize, len: usize, cut: &mut Cut<'
     }
 }
 
-/// Whether the next piece is one of the operation of this number. Then it is found; else the search goes on after that, if there is one.
+/// Returns whether the next piece is one of the operation of this number. Then it is found; else the search goes on after that, if there is
+/// one.
 pub(crate) fn numbered_piece(sequence: Sequence, index: usize, cut: &mut Cut<'_>) -> bool
     requires { MayCutAll cut.old.stock cut.old.front (operations (grain_for cut.old.stock) sequence) }
     ensures found { let s = cut.old.stock in IsTrue result →
@@ -112,7 +113,7 @@ pub(crate) fn numbered_piece(sequence: Sequence, index: usize, cut: &mut Cut<'_>
     }
 }
 
-/// Whether the next piece is one of the operations of a sequence. Then it is found; else the search goes on after them.
+/// Returns whether the next piece is one of the operations of a sequence. Then it is found; else the search goes on after them.
 pub(crate) fn sequence_piece(sequence: Sequence, cut: &mut Cut<'_>) -> bool
     requires { MayCutAll cut.old.stock cut.old.front (operations (grain_for cut.old.stock) sequence) }
     ensures found { let s = cut.old.stock in IsTrue result →
@@ -132,7 +133,7 @@ pub(crate) fn sequence_piece(sequence: Sequence, cut: &mut Cut<'_>) -> bool
     false
 }
 
-// Whether the next piece is one of what closes the gate of the slot that begins there, if that is to be closed.
+// Returns whether the next piece is one of those that close the gate of the slot that begins there, if that is to be closed.
 fn shut_piece(spare: u32, close: bool, cut: &mut Cut<'_>) -> bool
     ensures found { IsTrue result →
         IsPiece (if close then close_step (grain_for cut.old.stock) spare ∷ [] else []) cut.old.rest (step_of cut.new) }
@@ -146,7 +147,7 @@ fn shut_piece(spare: u32, close: bool, cut: &mut Cut<'_>) -> bool
     close && sequence_piece(Sequence::Close { slot: spare }, cut)
 }
 
-// Whether the next piece is one of what a block writes.
+// Returns whether the next piece is one that a block writes.
 fn block_piece(spare: u32, close: bool, cut: &mut Cut<'_>) -> bool
     requires held { length cut.old.stock.held.now ≤ 256 }
     requires block { length cut.old.stock.block.now ≤ 4096 }
@@ -169,7 +170,7 @@ fn block_piece(spare: u32, close: bool, cut: &mut Cut<'_>) -> bool
     sequence_piece(sequence, cut)
 }
 
-// Whether the next piece is one of what a commit writes.
+// Returns whether the next piece is one that a commit writes.
 fn commit_piece(spare: u32, generation: u8, register: u32, cut: &mut Cut<'_>) -> bool
     requires held { length cut.old.stock.held.now ≤ 256 }
     ensures found { IsTrue result →
@@ -190,7 +191,7 @@ fn commit_piece(spare: u32, generation: u8, register: u32, cut: &mut Cut<'_>) ->
     sequence_piece(sequence, cut)
 }
 
-/// Whether a piece of the writes of a job is left. Then the next one is found.
+/// Returns whether a piece of the writes of a job is left. Then the next one is found.
 pub(crate) fn next_piece(job: SlotWrite, cut: &mut Cut<'_>) -> bool
     requires held { length cut.old.stock.held.now ≤ 256 }
     requires block { length cut.old.stock.block.now ≤ 4096 }

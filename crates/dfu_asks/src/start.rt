@@ -1,4 +1,4 @@
-//! What is to be written of a row that begins, and whether flash is erased where it is programmed with no erase before.
+//! Writes of a row that begins, and the test that flash is erased where it is programmed with no erase before.
 ghost use Rattle.std.specs.Prelude.{◌≡◌, ◌⊎◌, ◌+◌, ◌≤◌, ◌++◌, true, ℕ, List, Option, length, take, slice_range, Some, IsTrue, ◌^◌, ◌<◌, ◌↔◌, slice_index};
 ghost use Rattle.dfu_suffix.specs.Register.{register};
 ghost use Rattle.dfu_device.specs.Parts.{stage_of, is_put};
@@ -18,7 +18,7 @@ use dfu_device::DeviceState;
 use dfu_slots::{WriteFault, data_at, is_open};
 use dfu_suffix::Crc;
 
-// Where so many bytes from there on end, or the first sector begins among them.
+// Returns the end of so many bytes from there on, or the place at which the first sector begins among them.
 fn stretch_end(size: u32, at: u64, len: u64) -> u64
     requires some { 0 < size }
     requires most { size ≤ 2 ^ 17 }
@@ -33,7 +33,7 @@ fn stretch_end(size: u32, at: u64, len: u64) -> u64
     at + len.min(u64::from(size - behind))
 }
 
-// Whether these bytes of flash are FFh.
+// Returns whether these bytes of flash are FFh.
 fn are_erased(flash: &[u8], from: usize, to: usize) -> bool
     requires { to ≤ length flash.now }
     ensures { IsTrue result ↔ ((p : ℕ) → from ≤ p → p < to → slice_index flash.now p ≡ 255) }
@@ -46,7 +46,7 @@ fn are_erased(flash: &[u8], from: usize, to: usize) -> bool
     true
 }
 
-// Whether so many bytes from there on are FFh, up to the sector that begins next; flash without sectors is written over.
+// Returns whether so many bytes from there on are FFh, up to the sector that begins next; flash without sectors is written over.
 fn is_clear(flash: &[u8], sector: Sector, at: u64, len: u64) -> bool
     requires small { at < 2 ^ 43 }
     requires short { len < 2 ^ 43 }
@@ -92,8 +92,8 @@ impl Asking {
         }
     }
 
-    // The job of a block after so many bytes, how many bytes are held back then, and where the puts end. What was put before a first block
-    // is forgotten.
+    // The job of a block after so many bytes, how many bytes are held back then, and where the puts end. The bytes that were put before a
+    // first block are forgotten.
     fn block_job(&self, written: u32, medium: &Mapped<'_>, view: &View) -> (SlotWrite, usize, u32)
         requires unit { medium.now.unit ≡ self.now.unit }
         requires sector { medium.now.sector ≡ self.now.sector }
@@ -141,7 +141,7 @@ impl Asking {
         }
     }
 
-    // Whether what the row that is due programs behind the puts with no erase before is erased, if its puts end there.
+    // Returns whether the flash that the due row programs behind the puts with no erase before is erased, if its puts end there.
     fn is_ahead(&self, end: u32, medium: &Mapped<'_>, view: &View) -> bool
         requires unit { medium.now.unit ≡ self.now.unit }
         requires sector { medium.now.sector ≡ self.now.sector }

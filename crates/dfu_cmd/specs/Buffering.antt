@@ -1,4 +1,4 @@
--- What `dfu run` writes through a buffer.
+-- Text that `dfu run` writes through a buffer.
 use Rattle.std.specs.Prelude.{◌≡◌, ◌⊎◌, ℕ, List, ◌++◌, Option, Some, IfSome}
 use Rattle.std.specs.Io.KnownBytes.{Keeps}
 use Rattle.dfu_output.specs.declared.exit.Exit.{Exit}
@@ -12,7 +12,7 @@ pub record HasFront (written : List ℕ) (new : Option (List ℕ)) : Type 0 wher
   pub whole : written ≡ front ++ rest
   pub out : new ≡ Some front
 
--- What was written is out whole, and the end is that of the writing; or a prefix of it is out, and the end is a fault.
+-- The text that was written is out whole, and the end is that of the writing; or a prefix of it is out, and the end is a fault.
 abbrev pub ComesOut : (written new : Option (List ℕ)) (end result : Exit) → Type 0
 ComesOut written new end result =
     (Keeps written new × (result ≡ end)) ⊎ (IfSome written (λ w. HasFront w new) × (result ≡ Fault))

@@ -1,4 +1,4 @@
--- What is written of a line that has a number.
+-- Text of a line that has a number.
 use Rattle.std.specs.Prelude.{◌⊎◌, ℕ, List, [], ◌∷◌, ◌++◌, Option}
 use Rattle.std.specs.Fmt.{decimal}
 use Rattle.dfu_suffix.specs.declared.fault.SuffixFault.TheVariants as suffix

@@ -1,4 +1,4 @@
--- What `dfu run` writes.
+-- Text that `dfu run` writes.
 use Rattle.std.specs.Prelude.{◌≡◌, ℕ, List, Option, IfSome, codes}
 use Rattle.dfu_suffix.specs.declared.fault.SuffixFault.TheVariants as suffix
 use Rattle.dfu_link.specs.declared.scripting.fault.ScriptFault.{ScriptFault}
@@ -12,8 +12,8 @@ use Rattle.dfu_output.specs.AnswerLines.{fault_line}
 use Rattle.dfu_output.specs.Output.{Wrote}
 use Rattle.dfu_cmd.specs.NumberText.{WritesNumber}
 
--- What is written of a script that stopped, after what it wrote, is the line of its fault, and nothing more if the
--- writer failed. A line that was printed in place of an expected one ends before it.
+-- The text of a script that stopped, after what it wrote, is the line of its fault, and nothing more if the writer failed. A line that was
+-- printed in place of an expected one ends before it.
 abbrev pub WritesStop : ScriptFault → Option (List ℕ) → Option (List ℕ) → Exit → Type 0
 WritesStop (BadLine n) old new result = WritesNumber (codes "refused BadLine ") n old new result
 WritesStop (LateConfig n) old new result = WritesNumber (codes "refused LateConfig ") n old new result

@@ -85,7 +85,7 @@ pub(crate) fn capture_line(fault: CaptureFault) -> &'static str {
     }
 }
 
-/// Why a capture gives no log, in words.
+/// Returns the reason in words for which a capture gives no log.
 pub(crate) fn capture_why(fault: CaptureFault) -> Option<&'static str> {
     match fault {
         CaptureFault::NotUsbmon => Some(

@@ -7,7 +7,7 @@ use dfu_output::{FormatChoice, Outcome, fill_in, format_in};
 use std::alloc::Global;
 use std::rt::Files;
 
-/// How `--format` and `--fill` have FILE taken, or why they can't be used.
+/// Returns the options that `--format` and `--fill` give for FILE, or the reason for which they can't be used.
 fn how_said(
     alloc: Global,
     format: &Option<String>,

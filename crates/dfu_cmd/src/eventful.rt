@@ -4,14 +4,14 @@ ghost use Rattle.std.specs.Prelude.{◌≤◌, length, IfOk};
 
 use std::io::{self, Write};
 
-/// How the verdict on no events begins.
+/// Beginning of the verdict on no events.
 const NONE: &[u8] = b"kept events 0 ";
 
-/// An output that holds back the verdict on no events. What begins otherwise goes through.
+/// An output that holds back the verdict on no events. Any other line goes through.
 #[derive(Drop)]
 pub(crate) struct Eventful<W> {
     out: W,
-    // How many bytes of that beginning were written.
+    // Bytes of that beginning that were written.
     held: usize,
     is_passing: bool,
 }
@@ -26,7 +26,7 @@ impl<W> Eventful<W> {
         }
     }
 
-    /// Whether the verdict on no events was held back.
+    /// Returns whether the verdict on no events was held back.
     pub(crate) fn is_without(&self) -> bool {
         !self.is_passing && self.held == NONE.len()
     }

@@ -6,14 +6,14 @@ ghost use Rattle.dfu_cmd.specs.HexWords.{bare_digits, is_between, is_mark, step,
 
 use std::alloc::{AllocError, Global};
 
-/// Whether a character separates bytes.
+/// Returns whether a character separates bytes.
 fn is_between(byte: u8) -> bool
     ensures { result ≡ is_between byte }
 {
     byte == b' ' || byte == b'\t' || byte == b'\n' || byte == b'\r' || byte == b':' || byte == b','
 }
 
-/// Whether a sign is the x of a 0x before a byte.
+/// Returns whether a sign is the x of a 0x before a byte.
 fn is_mark(digits: &[u8], byte: u8) -> bool
     ensures { result ≡ is_mark digits.now byte }
 {

@@ -16,7 +16,7 @@ use std::alloc::Global;
 use std::io::{self, Printer, Read};
 use std::rt::Files;
 
-/// What is wrong with a line, in words.
+/// Returns the fault of a line, in words.
 fn fault_why(why: LineFault) -> &'static str {
     match why {
         LineFault::Long => "it has over 262,158 bytes",
@@ -30,7 +30,7 @@ fn fault_why(why: LineFault) -> &'static str {
     }
 }
 
-/// Why a log was judged no further, if its line doesn't say it.
+/// Returns the reason for which a log was judged no further, if its line doesn't say it.
 fn stop_reason<S>(
     alloc: Global,
     name: &str,
@@ -56,27 +56,27 @@ fn stop_reason<S>(
     }
 }
 
-/// How files are to be judged.
+/// Options by which files are to be judged.
 #[derive(Clone, Copy)]
 pub(crate) struct JudgeOptions {
     /// The number of the interface.
     pub interface: u8,
     /// Of a capture the address, if one is named.
     pub only: Option<Address>,
-    /// Whether the device is to speak DfuSe.
+    /// Tells whether the device is to speak DfuSe.
     pub dfuse: bool,
-    /// Whether each line is an object.
+    /// Tells whether each line is an object.
     pub json: bool,
 }
 
-/// What is judged, and how.
+/// Files that are judged, and the options.
 #[derive(Clone, Copy)]
 pub(crate) struct Judged<'w> {
     /// The name of the file.
     pub name: &'w str,
-    /// What precedes each line.
+    /// Text in front of each line.
     pub before: &'w str,
-    /// How it is judged.
+    /// Options by which it is judged.
     pub how: JudgeOptions,
 }
 

@@ -1,9 +1,9 @@
-//! Why a script stopped, in words.
+//! Reasons for which a script stopped, in words.
 
 use dfu_link::{Field, LineFault, Reason, SetupFault};
 use std::alloc::{AllocError, Global};
 
-/// What a word has to be.
+/// Returns the words for the kind of word that a field takes.
 fn wanted(field: Field) -> &'static str {
     match field {
         Field::Identifier => "four hexadecimal digits",
@@ -20,7 +20,7 @@ fn wanted(field: Field) -> &'static str {
     }
 }
 
-/// What is wrong with the words of a line, which has this many.
+/// Returns the fault of the words of a line, which has this many.
 fn words_why(alloc: Global, fault: LineFault, words: usize) -> Result<String, AllocError> {
     let why = match fault {
         LineFault::Word(field, number) => {
@@ -41,7 +41,7 @@ fn words_why(alloc: Global, fault: LineFault, words: usize) -> Result<String, Al
     String::from_str(alloc, why)
 }
 
-/// What is wrong with a line with a byte that isn't printable ASCII.
+/// Returns the fault of a line with a byte that isn't printable ASCII.
 fn unprintable_why(begins: bool, ends: bool) -> &'static str {
     if begins {
         "it begins with a byte order mark"
@@ -52,7 +52,7 @@ fn unprintable_why(begins: bool, ends: bool) -> &'static str {
     }
 }
 
-/// Why a line is not in the language. No reason is noted for one over 65,536 bytes.
+/// Returns the reason for which a line is not in the language. No reason is noted for one over 65,536 bytes.
 pub(crate) fn line_why(alloc: Global, reason: Option<Reason>) -> Result<String, AllocError> {
     match reason {
         Some(Reason::Line(fault, words)) => words_why(alloc, fault, words),
@@ -63,7 +63,7 @@ pub(crate) fn line_why(alloc: Global, reason: Option<Reason>) -> Result<String, 
     }
 }
 
-/// Why no device can be set up.
+/// Returns the reason for which no device can be set up.
 pub(crate) fn setup_why(fault: SetupFault) -> &'static str {
     match fault {
         SetupFault::Transfer => "TRANSFER isn't 1 to 4,096",

@@ -4,7 +4,7 @@ ghost use Rattle.std.specs.Prelude.{◌≤◌, length, IfOk};
 
 use std::io::{self, Read};
 
-/// How many bytes are read at a time.
+/// Bytes that are read at a time.
 const BUFFER_BYTES: usize = 4096;
 
 /// A reader that gives a line feed for a carriage return and a line feed. Any other carriage return stays.

@@ -52,8 +52,7 @@ fn words_of(rt: &HostRuntime) -> io::Result<Vec<String>> {
     Ok(words)
 }
 
-/// What the words say if one of them isn't text: the place of the first such word, and whether
-/// the reason is asked for.
+/// Returns the place of the first word that isn't text, and whether the reason is asked for.
 fn looked_at(rt: &HostRuntime) -> (usize, bool) {
     let mut wrong = 0;
     let mut explain = false;
@@ -75,8 +74,8 @@ fn looked_at(rt: &HostRuntime) -> (usize, bool) {
     (wrong, explain)
 }
 
-/// Why a word isn't understood that isn't UTF-8 text, as some names of files: `place` is its place,
-/// counted from 1 after the program's name.
+/// Returns the reason for which a word isn't understood that isn't UTF-8 text, as some names of files: `place` is its place, counted from 1
+/// after the program's name.
 fn unread_word(alloc: Global, place: usize) -> Option<String>
     ensures { IfSome result (λ t. string_bytes t ≡ reason_line (codes "word ") (decimal place)
         (codes "it has to be UTF-8 text; a file with another name can be given as standard input")) }

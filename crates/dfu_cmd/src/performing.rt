@@ -1,4 +1,4 @@
-//! What the words of a command line ask for is done.
+//! Does what the words of a command line ask for.
 
 use crate::captures::{device_in, interface_in};
 use crate::changing::{perform_add, perform_set};
@@ -18,7 +18,7 @@ use dfu_suffix::SuffixFault;
 use std::io::{self, IsTerminal};
 use std::rt::Files;
 
-/// Whether bytes of this kind can be shown.
+/// Returns whether bytes of this kind can be shown.
 fn is_kind(kind: &str) -> bool {
     matches!(
         kind,

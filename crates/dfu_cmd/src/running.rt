@@ -82,7 +82,7 @@ pub(crate) fn run_with_fault<R: Read + Drop, W: Write>(
 ) -> (Exit, Option<ScriptFault>)
     ensures run { WritesRun (given_bytes file.entry) (R.remaining reader) (W.contents writer.old) (W.contents writer.new) result.0 }
     ensures printed { WritesPrinted (given_bytes file.entry) (R.remaining reader) (W.contents writer.old) (W.contents writer.new) result.0 }
-    // Where no fault is given the script ran to its end.
+    // The script ran to its end if no fault is given.
     ensures fault { result.1 ≡ None → result.0 ≡ Exit.Done }
 {
     let answer = script_with(alloc, file, reader, writer, stopped);
@@ -102,7 +102,7 @@ pub(crate) fn run_traced_with_fault<R: Read + Drop, W: Write, N: Write>(
 ) -> (Exit, Option<ScriptFault>, bool)
     ensures run { WritesRun (given_bytes file.entry) (R.remaining reader) (W.contents writer.old) (W.contents writer.new) result.0 }
     ensures printed { WritesPrinted (given_bytes file.entry) (R.remaining reader) (W.contents writer.old) (W.contents writer.new) result.0 }
-    // Where no fault is given the script ran to its end.
+    // The script ran to its end if no fault is given.
     ensures fault { result.1 ≡ None → result.0 ≡ Exit.Done }
 {
     let (answer, is_traced) = script_traced_with(alloc, file, reader, writer, trace, stopped);

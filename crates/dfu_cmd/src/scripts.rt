@@ -15,8 +15,8 @@ use std::alloc::Global;
 use std::io::{self, BufWriter, IsTerminal, Printer, Read, Write};
 use std::rt::Files;
 
-/// How many bytes the buffer of `run` has. Two writes after one another put out at least this many,
-/// whatever the lines are; so there is at most one for each 8,192 bytes, and one more.
+/// Bytes of the buffer of `run`. Two writes after one another put out at least this many, whatever the lines are; so there is at most one
+/// for each 8,192 bytes, and one more.
 const BUFFER: usize = 16_384;
 
 /// A buffer in front of the output: with this room, or, if there is no memory for that, with none,
@@ -31,14 +31,14 @@ fn buffer_of<R: Print + AllocGlobal>(rt: &R, room: usize) -> BufWriter<Printer<'
     buffer
 }
 
-/// How a script is run, beside its own lines.
+/// Options of a script's run, beside its own lines.
 #[derive(Clone, Copy)]
 pub(crate) struct Ways<'f> {
-    /// Whether each action of the host is printed.
+    /// Tells whether each action of the host is printed.
     pub trace: bool,
     /// The bytes of FILE, if there are any.
     pub file: Option<&'f [u8]>,
-    /// Whether the reason is wanted if it stops.
+    /// Tells whether the reason is wanted if it stops.
     pub explain: bool,
 }
 
@@ -57,7 +57,7 @@ impl Ways<'_> {
     }
 }
 
-/// Why a script stopped at a fault, if its line doesn't say it.
+/// Returns the reason for which a script stopped at a fault, if its line doesn't say it.
 fn fault_reason<S>(
     alloc: Global,
     name: &str,

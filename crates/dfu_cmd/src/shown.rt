@@ -1,4 +1,4 @@
-//! Why `dfu show` refuses bytes, by the line that it printed.
+//! Reasons for which `dfu show` refuses bytes, by the line that it printed.
 
 ghost use Rattle.std.specs.Prelude.{◌≤◌, length, IfOk};
 
@@ -6,7 +6,7 @@ use dfu_output::reason_line;
 use std::alloc::Global;
 use std::io::{self, Write};
 
-/// How many bytes are remembered: more than the longest line of a refusal of `dfu show` has.
+/// Bytes that are remembered: more than the longest line of a refusal of `dfu show` has.
 const REMEMBERED_BYTES: usize = 32;
 
 /// An output, and the first bytes that were written to it.
@@ -56,7 +56,7 @@ impl<W: Write> Write for Remembering<W> {
     }
 }
 
-/// Why bytes are refused, by the line that was printed, and what to do.
+/// Returns the reason for which bytes are refused, by the line that was printed, and what to do.
 fn why(line: &str) -> Option<&'static str> {
     match line {
         "refused BadHex\n" => Some(

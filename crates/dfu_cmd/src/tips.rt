@@ -1,4 +1,4 @@
-//! What the parser's text for a mistake advises.
+//! Advice in the parser's text for a mistake.
 
 use std::alloc::{AllocError, Global};
 

@@ -1,4 +1,4 @@
-//! What a reader keeps of the error at which it failed, and a file that is read whole with it.
+//! Reader that keeps the error at which it failed, and a file that is read whole with it.
 
 use dfu_fs::{error_reason, gather_fault, open};
 use dfu_output::{Outcome, fault_text};
@@ -26,7 +26,7 @@ impl<R> Watched<R> {
         }
     }
 
-    /// Why the file with this name could not be read, if reading it failed.
+    /// Returns the reason for which the file with this name could not be read, if reading it failed.
     pub(crate) fn reason(&self, alloc: Global, name: &str) -> Option<String> {
         match &self.error {
             Some(error) => error_reason(alloc, name, error),

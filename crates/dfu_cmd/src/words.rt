@@ -1,4 +1,4 @@
-//! Why words are refused.
+//! Reasons for which words are refused.
 
 ghost use Rattle.std.specs.Prelude.{◌≡◌, IfOk, IfSome, None, is_some, true};
 ghost use Rattle.std.specs.String.{string_bytes};
@@ -38,7 +38,7 @@ fn made(line: Result<String, AllocError>) -> Option<String>
     }
 }
 
-/// Why the first wrong one of the three identifiers is refused.
+/// Returns the reason for which the first wrong one of the three identifiers is refused.
 pub(crate) fn bad_identifier(alloc: Global, texts: &IdTexts<'_>) -> Option<String>
     ensures sound { is_some (ids_said texts.now.vendor.now texts.now.product.now texts.now.device.now) ≡ true → result ≡ None }
 {
@@ -51,7 +51,7 @@ pub(crate) fn bad_identifier(alloc: Global, texts: &IdTexts<'_>) -> Option<Strin
     }
 }
 
-/// What is wrong with a word.
+/// Fault of a word.
 #[derive(Clone, Copy)]
 pub(crate) enum WordFault {
     /// KIND is unknown.
@@ -76,7 +76,7 @@ pub(crate) enum WordFault {
     Device,
 }
 
-/// What precedes a word that has this fault, and why it is refused.
+/// Returns the label of a word that has this fault, and the reason for which it is refused.
 fn label_and_why(fault: WordFault) -> (&'static str, &'static str)
     ensures label { result.0.now ≡ (label_and_why fault).0 }
     ensures why { result.1.now ≡ (label_and_why fault).1 }
@@ -107,7 +107,7 @@ fn label_and_why(fault: WordFault) -> (&'static str, &'static str)
     }
 }
 
-/// Why a word is refused that has this fault.
+/// Returns the reason for which a word is refused that has this fault.
 pub(crate) fn word_reason(alloc: Global, fault: WordFault, word: &str) -> Option<String>
     ensures { IfSome result (λ t. string_bytes t ≡ reason_line (label_and_why fault).0 word.now (label_and_why fault).1) }
 {

@@ -1,4 +1,4 @@
-//! What firmware lies in, and what a DfuSe device says of its memory.
+//! Formats of firmware files, and memory maps of DfuSe devices.
 //!
 //! `images` reads the files that builds produce, and says what a file without a suffix is; `dfuse` reads DfuSe files, and `memory` the
 //! memory maps of devices. The crate opens no file.

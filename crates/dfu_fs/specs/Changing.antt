@@ -31,7 +31,7 @@ abbrev pub IsChanged : Change → (old new : List ℕ) → Type 0
 IsChanged change old new = (payload : List ℕ) × (ids : Ids) × (dfu : ℕ) × (extra : List ℕ) × IsFile payload ids dfu extra old
     × IsFile payload (changed change ids) dfu extra new
 
--- What comes of a file: the changed one, or its first fault, unless memory ran out.
+-- Result of a change of a file: the changed one, or its first fault, unless memory ran out.
 abbrev pub ChangesFile : Change → List ℕ → Result (Vec ℕ Global) SuffixFault → Type 0
 ChangesFile change old (Ok new) = IsChanged change old new.items
 ChangesFile change old (Err NoMemory) = Unit {0}

@@ -38,7 +38,7 @@ after_word line =
 abbrev pub rest_after : List ℕ → (text : List ℕ) → Option (List ℕ)
 rest_after line text = if starts_with nat_eq line text then after_word (drop (length text) line) else None
 
--- How many bytes a list has: up to ` events `, or to the end.
+-- Length of a list: up to ` events `, or to the end.
 unfoldable pub list_length : List ℕ → ℕ
 list_length [] = 0
 list_length (b ∷ bs) = if starts_with nat_eq (b ∷ bs) (codes " events ") then 0 else list_length bs + 1

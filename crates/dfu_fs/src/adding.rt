@@ -16,7 +16,7 @@ use std::alloc::{AllocError, Global};
 use std::io::{self, Read};
 use std::rt::Files;
 
-/// How FILE is taken, and what fills the gaps of its image.
+/// Options by which FILE is taken, and the byte that fills the gaps of its image.
 #[derive(Clone, Copy)]
 pub struct AddOptions {
     /// `--format`.
@@ -33,7 +33,7 @@ struct Added<'w> {
     ids: Ids,
 }
 
-/// What a file was taken as that looks like one of a format, by its first bytes.
+/// Returns a hint about a file that looks like one of a format, by its first bytes.
 fn hint(alloc: Global, file: &str, head: &[u8]) -> Option<String> {
     let Looks::Of(format) = look_at(head, b"").looks else {
         return None;
@@ -151,13 +151,13 @@ where
     }
 }
 
-/// Whether bytes end with a suffix of DFU or of DfuSe.
+/// Returns whether bytes end with a suffix of DFU or of DfuSe.
 fn has_suffix(bytes: &[u8]) -> bool {
     matches!(read(bytes), Ok(_) | Err(SuffixFault::DfuSe))
 }
 
 /// Adds a suffix to the image of a file, of the format that is asked for or that it looks like; to the file as it is if nothing is known
-/// against that. What has a suffix already is refused for that.
+/// against that. A file that has a suffix already is refused for that.
 fn add_image<R: Files + Input + Print + AllocGlobal>(
     rt: &R,
     added: Added<'_>,

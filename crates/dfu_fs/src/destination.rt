@@ -1,4 +1,4 @@
-//! Where OUT leads: the file that is to be made or replaced.
+//! Destination to which OUT leads: the file that is to be made or replaced.
 
 use dfu_suffix::check;
 use std::alloc::{AllocError, Global};
@@ -7,10 +7,10 @@ use std::io::{self, ErrorKind};
 use std::os::unix::fs::MetadataExt;
 use std::rt::Files;
 
-/// How many symbolic links are followed, as by Linux.
+/// Symbolic links that are followed, as by Linux.
 const MAX_LINKS: u32 = 40;
 
-/// How often OUT is looked at while somebody else replaces it.
+/// Looks at OUT that are made while somebody else replaces it.
 const MAX_LOOKS: u32 = 10;
 
 /// The name of a file, which is no link, and what is there.
@@ -32,7 +32,7 @@ pub(crate) fn beside(alloc: Global, name: &str, other: &str) -> Result<String, A
     Ok(text)
 }
 
-/// What a look found; nothing is no fault.
+/// Returns the result of a look; nothing is no fault.
 fn found(look: io::Result<Metadata>) -> io::Result<Option<Metadata>> {
     match look {
         Ok(file) => Ok(Some(file)),
@@ -76,7 +76,7 @@ fn followed<R: Files + AllocGlobal>(rt: &R, out: &str) -> io::Result<Destination
     Err(io::Error::from(ErrorKind::FilesystemLoop))
 }
 
-/// Whether what a look found can be OUT's place.
+/// Returns whether the file that a look found can be OUT's place.
 fn may_be(file: &Option<Metadata>) -> bool {
     match file {
         Some(file) => file.is_file(),
@@ -84,7 +84,7 @@ fn may_be(file: &Option<Metadata>) -> bool {
     }
 }
 
-/// Whether both looks found nothing, or both the same file.
+/// Returns whether both looks found nothing, or both the same file.
 fn is_same(look: &Option<Metadata>, other: &Option<Metadata>) -> bool {
     match (look, other) {
         (None, None) => true,
@@ -118,8 +118,8 @@ pub(crate) fn place_of<R: Files + AllocGlobal>(rt: &R, out: &str) -> io::Result<
     Err(io::Error::new(ErrorKind::InvalidInput, why))
 }
 
-/// Whether the file at OUT's place may go, so that no input is lost that was typed for OUT: it is FILE itself, it has no bytes, or it is
-/// a DFU file, as each that `dfu add` makes. If nothing is there, it may.
+/// Returns whether the file at OUT's place may go, so that no input is lost that was typed for OUT: it is FILE itself, it has no bytes, or
+/// it is a DFU file, as each that `dfu add` makes. If nothing is there, it may.
 fn may_go<R: Files>(rt: &R, file: &str, place: &Destination) -> io::Result<bool> {
     let Some(old) = &place.file else {
         return Ok(true);

@@ -1,4 +1,4 @@
-//! What is read: a file, standard input, or bytes that were read; and what is noted of it for a reason.
+//! Input that is read: a file, standard input, or bytes that were read; and the notes of it for a reason.
 
 use std::fs;
 use std::io::{self, IsTerminal, Read};

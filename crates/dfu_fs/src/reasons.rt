@@ -1,4 +1,4 @@
-//! Why a file could not be read, written or accepted.
+//! Reasons for which a file could not be read, written or accepted.
 
 ghost use Rattle.std.specs.Prelude.{◌≡◌, ◌≢◌, [], IfOk, IfSome, List, ℕ, codes};
 ghost use Rattle.std.specs.String.{string_bytes};
@@ -11,7 +11,7 @@ use dfu_suffix::{Findings, SuffixFault};
 use std::alloc::{AllocError, Global};
 use std::io;
 
-/// What a file is called in a reason: its name, but standard input for the name `-`.
+/// Returns the words for a file in a reason: its name, but standard input for the name `-`.
 fn called(name: &str) -> &str
     ensures input { name.now ≡ codes "-" → result.now ≡ codes "standard input" }
     ensures file { name.now ≢ codes "-" → result.now ≡ name.now }
@@ -30,7 +30,7 @@ pub fn file_reason(alloc: Global, name: &str, why: &str) -> Option<String>
     }
 }
 
-/// The same, if the system refused a call: in its words.
+/// Returns the reason for which the system refused a call, in its words.
 pub fn error_reason(alloc: Global, name: &str, error: &io::Error) -> Option<String>
     ensures input { name.now ≡ codes "-" →
         IfSome result (λ t. (why : List ℕ) × (string_bytes t ≡ reason_line [] (codes "standard input") why)) }
@@ -49,7 +49,7 @@ fn made_reason(alloc: Global, name: &str, why: Result<String, AllocError>) -> Op
     }
 }
 
-/// Why a check sum is wrong: that in the suffix, and that of the bytes before it.
+/// Returns the reason for which a check sum is wrong: that in the suffix, and that of the bytes before it.
 #[tactic(auto, unfolding(crate::specs::SuffixReasons::sums_why))]
 fn sums_why(alloc: Global, written: u32, found: u32) -> Result<String, AllocError>
     ensures { IfOk result (λ t. string_bytes t ≡ sums_why written found) }
@@ -59,7 +59,7 @@ fn sums_why(alloc: Global, written: u32, found: u32) -> Result<String, AllocErro
     )
 }
 
-/// Why the length of a suffix is wrong: what it says, in a file of this many bytes.
+/// Returns the reason for which the length of a suffix is wrong: the length that it says, in a file of this many bytes.
 #[tactic(auto, unfolding(crate::specs::SuffixReasons::length_why))]
 fn length_why(alloc: Global, said: u8, count: u32) -> Result<String, AllocError>
     ensures { IfOk result (λ t. string_bytes t ≡ length_why said count) }
@@ -69,7 +69,7 @@ fn length_why(alloc: Global, said: u8, count: u32) -> Result<String, AllocError>
     )
 }
 
-/// What is wrong with what a reader gave, in words, and what to do.
+/// Returns the fault of the bytes of a reader, in words, and what to do.
 fn fault_why(fault: SuffixFault) -> Option<&'static str> {
     match fault {
         SuffixFault::TooShort => {
@@ -94,7 +94,7 @@ fn fault_why(fault: SuffixFault) -> Option<&'static str> {
     }
 }
 
-/// Why the bytes of a file are refused, by what was found of them.
+/// Returns the reason for which the bytes of a file are refused, by what was found of them.
 pub(crate) fn found_reason(
     alloc: Global,
     name: &str,
@@ -119,7 +119,7 @@ pub(crate) fn found_reason(
     }
 }
 
-/// Why what a reader gave is refused, or that it failed.
+/// Returns the reason for which the bytes of a reader are refused, or for which it failed.
 pub(crate) fn given_reason<R>(
     alloc: Global,
     name: &str,

@@ -9,10 +9,9 @@ use dfu_suffix::{SuffixFault, write_whole};
 use std::io::{self, ErrorKind, Write};
 use std::rt::Files;
 
-/// What is to take the place of OUT, or of what OUT leads to, whole: bytes are written beside it, and
-/// then take its name, so that a cut of the machine leaves the old file or the new one. Until then
-/// what was there is unchanged. The part is made at the first write, so that if nothing is
-/// written OUT isn't looked at.
+/// File that is to take the place of OUT, or of what OUT leads to, whole: bytes are written beside it, and then take its name, so that a
+/// cut of the machine leaves the old file or the new one. Until then what was there is unchanged. The part is made at the first write, so
+/// that if nothing is written OUT isn't looked at.
 #[derive(Drop)]
 pub(crate) struct Replacement<'a, R: Files> {
     rt: &'a R,

@@ -9,7 +9,7 @@ use std::io::{self, ErrorKind};
 use std::os::unix::fs::{MetadataExt, OpenOptionsExt, PermissionsExt, fchown};
 use std::rt::Files;
 
-/// How many names are tried for the part.
+/// Names that are tried for the part.
 const MAX_PARTS: u32 = 1000;
 
 /// An open file whose owner can be set.

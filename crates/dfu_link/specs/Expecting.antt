@@ -20,7 +20,7 @@ Meets None text = Unit {0}
 Meets (Some e) [] = Unit {0}
 Meets (Some e) (byte ∷ bytes) = BeginsAsExpected e (byte ∷ bytes)
 
--- What is expected still once a text was printed: nothing, if the text has a byte.
+-- Line that is expected still once a text was printed: none, if the text has a byte.
 abbrev pub still : Option Expectation → (text : List ℕ) → Option Expectation
 still e [] = e
 still e (byte ∷ bytes) = None
@@ -33,7 +33,8 @@ pub record IsUnexpected (e : Expectation) (text : List ℕ) (old new : Option (L
   pub other : text ≢ e.text ++ 10 ∷ []
   pub told : Appends old new front
 
--- Why a text is not out whole: the writer failed; or a line is expected, and the text is another, or there was no memory to compare them.
+-- A text is not out whole for this reason: the writer failed; or a line is expected, and the text is another, or there was no memory to
+-- compare them.
 abbrev pub FailsToPrint : Option Expectation → (text : List ℕ) → (old new : Option (List ℕ)) → ScriptFault → Type 0
 FailsToPrint e text old new Write = Unit {0}
 FailsToPrint (Some e) text old new NoMemory = Unit {0}

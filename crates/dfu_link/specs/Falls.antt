@@ -1,4 +1,4 @@
--- How a script ends with a fault, and what is out then.
+-- End of a script with a fault, and the text that is out then.
 use Rattle.std.specs.Prelude.{◌≡◌, ◌≢◌, ◌⊎◌, ℕ, ◌+◌, ◌%◌, ◌<◌, List, [], ◌∷◌, ◌++◌, length, Option, Some, None, Result, Ok, Err}
 use Rattle.std.specs.Io.KnownBytes.{Appends}
 use Rattle.dfu_slots.specs.Units.{IsMultiple}
@@ -73,8 +73,8 @@ pub record IsSecond (p : Point) (line : List ℕ) (n : ℕ) : Type 0 where
   pub number : n ≡ first.number
   pub second : IsExpect p.given line
 
--- How line k falls once the device is started. It is not of the language, or a configuration line, or finds no memory that it needs, and
--- then nothing of it is out; or it expects a line before one that is expected was printed; or it stops in what the line prints.
+-- Line k falls like this once the device is started. It is not of the language, or a configuration line, or finds no memory that it needs,
+-- and then nothing of it is out; or it expects a line before one that is expected was printed; or it stops in what the line prints.
 abbrev pub LineFalls : Point → ℕ → List ℕ → Option (List ℕ) → Option (List ℕ) → ScriptFault → Type 0
 LineFalls p k line old new (BadLine n) = (n ≡ k) × (line_of p.given line ≡ None) × (new ≡ old)
 LineFalls p k line old new (LateConfig n) = (n ≡ k) × IsSetting p.given line × (new ≡ old)
@@ -84,8 +84,8 @@ LineFalls p k line old new (Expected n) = BreaksIn p line old new (Expected n)
 LineFalls p k line old new (NonePrinted n) = IsSecond p line n × (new ≡ old)
 LineFalls p k line old new fault = ⊥
 
--- What falls if these lines are left, the first of them line k. The text goes over its limit or the reader fails, and nothing more is
--- out; or that line falls, or if none is left the line of the image, when the writer fails.
+-- The script falls like this if these lines are left, the first of them line k. The text goes over its limit or the reader fails, and
+-- nothing more is out; or that line falls, or if none is left the line of the image, when the writer fails.
 abbrev pub NextFalls : Point → ℕ → List (List ℕ) → Option (List ℕ) → Option (List ℕ) → ScriptFault → Type 0
 NextFalls p k lines old new TooLarge = new ≡ old
 NextFalls p k lines old new Read = new ≡ old
@@ -122,7 +122,7 @@ pub data CannotStart (s : Settings) : Type 0 where
   cuts_sector : 0 < s.grain.sector → s.capacity % s.grain.sector ≢ 0 → CannotStart s
   too_large : s.capacity < length s.image → CannotStart s
 
--- Why a device does not start: BadConfig if it cannot, or there is no memory.
+-- A device does not start for this reason: BadConfig if it cannot, or there is no memory.
 abbrev pub StartFalls : Settings → ScriptFault → Type 0
 StartFalls s BadConfig = CannotStart s
 StartFalls s NoMemory = Unit {0}
@@ -141,7 +141,7 @@ pub data Falls (given : Option (List ℕ)) (text : List ℕ) (old new : Option (
       → (falls : RunFalls (point settings (at_rest first)) (1 + length sets_up.before) after old new fault)
       → StopsAfter text (sets_up.before ++ falls.done) fault → Falls given text old new fault
 
--- How a script ended: with Ok all of it ran, and with a fault it fell.
+-- The script ended like this: with Ok all of it ran, and with a fault it fell.
 abbrev pub Ended : (given : Option (List ℕ)) → (text : List ℕ) → (old new : Option (List ℕ)) → Result Unit ScriptFault → Type 0
 Ended given text old new (Ok done) = WroteRun given text old new
 Ended given text old new (Err fault) = Falls given text old new fault

@@ -28,11 +28,11 @@ unit_named n =
     else if n == 256 then Some U256
     else None
 
--- How many bytes the medium writes at a time: 1, 16, 64 or 256.
+-- Bytes that the medium writes at a time: 1, 16, 64 or 256.
 unfoldable pub unit_of_word : List ℕ → Option WriteUnit
 unit_of_word word = number_of word >>= λ n. unit_named n
 
--- How many bytes the medium erases at a time: 0 or a multiple of 256 up to 131,072.
+-- Bytes that the medium erases at a time: 0 or a multiple of 256 up to 131,072.
 unfoldable pub sector_of : List ℕ → Option ℕ
 sector_of word = small_of 131072 word >>= λ n. guard (n % 256 == 0) n
 

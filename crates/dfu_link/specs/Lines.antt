@@ -19,7 +19,7 @@ use Rattle.dfu_link.specs.declared.scripting.fault.Field.TheVariants as a
 use Rattle.dfu_link.specs.declared.scripting.fault.LineFault.{LineFault}
 use Rattle.dfu_link.specs.declared.scripting.fault.LineFault.TheVariants as wrong
 
--- What is read of a line, or what is wrong with it.
+-- Result of reading a line: its meaning, or its fault.
 abbrev pub Read : Type 0 → Type 0
 Read A = Result A LineFault
 
@@ -29,7 +29,7 @@ abbrev pub ◌>>=◌ : {A B : Type 0} → Read A → (A → Read B) → Read B
 (Ok x) >>= f = f x
 (Err e) >>= f = Err e
 
--- What the code read, seen for what it means, is what is to be read; and if it read nothing, the same is wrong.
+-- The code's reading, seen for its meaning, is the reading that is wanted; and if it read nothing, the fault is the one that is wanted.
 abbrev pub Tells : {X Y : Type 0} → (X → Y) → Read X → Read Y → Type 0
 Tells view (Ok x) read = read ≡ Ok (view x)
 Tells view (Err e) read = read ≡ Err e
@@ -51,7 +51,7 @@ short_at n of words = field a.Short (small_of 65535) n of words
 unfoldable pub hex_at : (n of : ℕ) → List (List ℕ) → Read (List ℕ × List (List ℕ))
 hex_at n of words = field a.Bytes hex_word_bytes n of words
 
--- What is wrong with word n if it names no file.
+-- Fault of word n if it names no file.
 abbrev pub no_file : List ℕ → (n : ℕ) → LineFault
 no_file word n = if bytes_eq word (codes "FILE") then wrong.NoFile else wrong.Word a.Bytes n
 
@@ -229,16 +229,16 @@ by_keyword given key.Expect line words = expect_of line
 by_keyword given key.Check line words = check_of words
 by_keyword given key.Refuse line words = refuse_of words
 
--- What the words of a line say: nothing if there are none, or if they are a comment.
+-- Meaning of the words of a line: nothing if there are none, or if they are a comment.
 abbrev pub says : (given : Option (List ℕ)) → (line : List ℕ) → List (List ℕ) → Read Said
 says given line [] = Ok Blank
 says given line (word ∷ words) =
     if is_comment word then Ok Blank else (ok_or (keyword_of word) wrong.Keyword >>= λ k. by_keyword given k line words)
 
--- What a line says, if these bytes are given, or what is wrong with it: a line over 65,536 bytes says nothing.
+-- Meaning of a line, if these bytes are given, or its fault: a line over 65,536 bytes says nothing.
 unfoldable pub read_line : (given : Option (List ℕ)) → List ℕ → Read Said
 read_line given line = if nat_le (length line) 65536 then says given line (words_of line) else Err wrong.Long
 
--- What a line says, with these bytes given, if it is one of the language.
+-- Meaning of a line, with these bytes given, if it is one of the language.
 unfoldable pub line_of : (given : Option (List ℕ)) → List ℕ → Option Said
 line_of given line = ok_of (read_line given line)

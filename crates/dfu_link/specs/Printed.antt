@@ -13,9 +13,9 @@ use Rattle.dfu_sim.specs.Headline.{WasOffered, Begun, WithOffer, AsUpload, Headl
 use Rattle.dfu_slots.specs.Image.{Active}
 use Rattle.dfu_link.specs.declared.scripting.fault.ScriptFault.{ScriptFault}
 
--- What a line brings.
+-- Effect of a line.
 
--- What a line brings. It sets the image that a device has at first, lets events come that may each begin a session, lets some number of
+-- Effect of a line. It sets the image that a device has at first, lets events come that may each begin a session, lets some number of
 -- events come that begin none, or shows the device. Any other line brings nothing.
 pub data Brings : Type 0 where
   Nothing : Brings
@@ -39,7 +39,7 @@ abbrev pub count_in : List (List ℕ) → ℕ
 count_in [] = 0
 count_in (word ∷ words) = unwrap_or (number_of word) 0
 
--- What a line brings by the words after `go`: some passes, so many passes, or one event of another fate.
+-- Effect of a line by the words after `go`: some passes, so many passes, or one event of another fate.
 abbrev pub go_brings : List (List ℕ) → Brings
 go_brings [] = Nothing
 go_brings (word ∷ words) =
@@ -47,8 +47,8 @@ go_brings (word ∷ words) =
     else if bytes_eq word (codes "pass") then Events (replicate (count_in words) None)
     else Events (None ∷ [])
 
--- What a line of these words brings. An offer and an upload may begin a session. An abort, a time, a reset, a cut and a refusal are one
--- event each, and `expect` is none.
+-- Effect of a line of these words. An offer and an upload may begin a session. An abort, a time, a reset, a cut and a refusal are one event
+-- each, and `expect` is none.
 abbrev pub words_bring : (given : Option (List ℕ)) → List (List ℕ) → Brings
 words_bring given [] = Nothing
 words_bring given (word ∷ words) =
@@ -66,7 +66,7 @@ words_bring given (word ∷ words) =
     else if bytes_eq word (codes "expect") then Events []
     else Nothing
 
--- What a line brings if these bytes are given.
+-- Effect of a line if these bytes are given.
 abbrev pub brought : (given : Option (List ℕ)) → List ℕ → Brings
 brought given line = words_bring given (words_of line)
 
@@ -82,7 +82,7 @@ abbrev pub begun_after : Option Begun → List Begun → List Begun
 begun_after None past = past
 begun_after (Some begun) past = begun ∷ past
 
--- What is printed of a report, or of none, while this image is active.
+-- Text of a report, or of none, while this image is active.
 abbrev pub report_text : Option Report → (image : List ℕ) → List ℕ
 report_text None image = []
 report_text (Some report) image = report_line report image
@@ -105,7 +105,7 @@ pub data EventsPrint (factory : List ℕ) (past : List Begun) (b : LinkView) :
       → EventsPrint factory past b events printed mid c → endless reason ≡ true
       → EventsPrint factory past b (events ++ event ∷ []) (printed ++ refused_event_line reason) mid c
 
--- What is printed of a line by what it brings, once the device is started. Of `show` it is a state in one line with a known image.
+-- The text of a line by its effect, once the device is started. Of `show` it is a state in one line with a known image.
 pub data LinePrints (factory : List ℕ) (past : List Begun) (b : LinkView) : Brings → (printed : List ℕ) → List Begun → LinkView
     → Type 0 where
   prints_nothing : LinePrints factory past b Nothing [] past b
@@ -165,8 +165,8 @@ pub record WrotePrinted (given : Option (List ℕ)) (text : List ℕ) (old new :
   pub prints : TextPrints given text after after printed past end image
   pub told : Appends old new (printed ++ line_of_image image)
 
--- A script stopped before the first of these lines, or before its last line if none is left. What is out of that line: nothing, or a
--- prefix of what is printed of the line or of the first of its events.
+-- A script stopped before the first of these lines, or before its last line if none is left. Of that line nothing is out, or a prefix of
+-- the text of the line or of the first of its events.
 pub data PartPrints (given : Option (List ℕ)) (factory : List ℕ) (past : List Begun) (b : LinkView) (image : List ℕ) :
     List (List ℕ) → (old new : Option (List ℕ)) → Type 0 where
   nothing_out : {lines : List (List ℕ)} {old : Option (List ℕ)} → PartPrints given factory past b image lines old old
@@ -186,7 +186,7 @@ pub data StopsPrinted (given : Option (List ℕ)) (text : List ℕ) (old new : O
       → (prints : TextPrints given text after done printed past end image) → after ≡ done ++ rest → Appends old mid printed
       → PartPrints given prints.factory past end image rest mid new → StopsPrinted given text old new
 
--- What is printed by how the script ended: with Ok the whole text, and with a fault as far as it went.
+-- The text by how the script ended: with Ok the whole text, and with a fault as far as it went.
 abbrev pub HasPrinted : (given : Option (List ℕ)) → (text : List ℕ) → (old new : Option (List ℕ)) → Result Unit ScriptFault → Type 0
 HasPrinted given text old new (Ok done) = WrotePrinted given text old new
 HasPrinted given text old new (Err fault) = StopsPrinted given text old new

@@ -1,4 +1,4 @@
--- What a line says, as plain data.
+-- Meaning of a line, as plain data.
 use Rattle.std.specs.Borrow.{Bor}
 use Rattle.std.specs.Prelude.{ℕ, List, [], Option, Some, None, unwrap_or}
 use Rattle.dfu_wire.specs.declared.ids.Ids.{Ids}
@@ -34,7 +34,7 @@ abbrev pub offered_bytes : offereds.Offered → List ℕ
 offered_bytes (offered.Spelled text) = hex_bytes text
 offered_bytes (offered.Given bytes) = bytes.now
 
--- What a configuration line sets: who the device is, what it is like, how its medium is written or erased, how many milliseconds an erase
+-- Setting of a configuration line: who the device is, what it is like, how its medium is written or erased, how many milliseconds an erase
 -- and a program of 256 bytes take, how many bytes an image may have, the image at first, or the bytes with which an image begins that the
 -- program takes.
 pub data ConfigLine : Type 0 where
@@ -67,7 +67,7 @@ HasTear (Go Fail h times) = Unit {0}
 HasTear (Go Lie h times) = Unit {0}
 HasTear d = ⊥
 
--- What a line says: nothing, a setting, the limits of later sessions, events, that the host passes until it reports, that the device is to
+-- Meaning of a line: nothing, a setting, the limits of later sessions, events, that the host passes until it reports, that the device is to
 -- be shown, or which line is to be printed next.
 pub data Said : Type 0 where
   Blank : Said
@@ -78,7 +78,7 @@ pub data Said : Type 0 where
   Show : Said
   Expects : (text : List ℕ) → Said
 
--- What a configuration line as the code has it sets.
+-- Setting of a configuration line as the code has it.
 abbrev pub config_line_of : config_lines.ConfigLine → ConfigLine
 config_line_of (config.Ids ids) = TheIds ids
 config_line_of (config.Device functional least busy manifest) = TheDevice functional least busy manifest
@@ -95,11 +95,11 @@ harm_fate kind.Cut = CutIn
 harm_fate kind.Fail = Fail
 harm_fate kind.Lie = Lie
 
--- What a line says in which a write is harmed, after so many that work, with this tear.
+-- Meaning of a line in which a write is harmed, after so many that work, with this tear.
 abbrev pub harmed_line : kinds.HarmKind → (writes : ℕ) → HexText → Said
 harmed_line h writes text = Does (Go (harm_fate h) (harmed writes (hex_bytes text)) 1)
 
--- What an event line as the code has it says.
+-- Meaning of an event line as the code has it.
 abbrev pub said_by : event_lines.EventLine → Said
 said_by (events.Offer purpose file) = Does (Offer purpose (offered_bytes file))
 said_by events.Upload = Does Upload
@@ -112,7 +112,7 @@ said_by events.Reset = Does Reset
 said_by events.Cut = Does Cut
 said_by (events.Refuse why) = Does (Refuse why)
 
--- What a line as the code has it says.
+-- Meaning of a line as the code has it.
 abbrev pub said_of : lines.Line → Said
 said_of line.Blank = Blank
 said_of (line.Set s) = Sets (config_line_of s)

@@ -1,4 +1,4 @@
--- What a script does, and what it prints.
+-- Acts of a script, and its text.
 use Rattle.std.specs.Prelude.{◌≡◌, ◌≢◌, ℕ, ◌+◌, ◌*◌, ◌≤◌, ◌==◌, Bool, true, false, if◌then◌else◌, List, [], ◌∷◌, ◌++◌, length, Option, Some, None, Result, replicate}
 use Rattle.std.specs.Io.KnownBytes.{Appends}
 use Rattle.dfu_wire.specs.Functional.{functional_of}
@@ -25,9 +25,9 @@ use Rattle.dfu_link.specs.Said.{ConfigLine, TheIds, TheDevice, TheUnit, TheSecto
 use Rattle.dfu_link.specs.Lines.{line_of}
 use Rattle.dfu_link.specs.Expecting.{Expectation, Meets, still}
 
--- What is set before the first event line or `show`: the device, how its medium is written and erased, how many bytes an image may have,
--- and the image at first. Set are also the bytes with which an image begins that the device's program takes, and the limits of sessions.
--- The bytes that FILE means are given, if any are, and no line sets them.
+-- Settings before the first event line or `show`: the device, how its medium is written and erased, how many bytes an image may have, and
+-- the image at first. Set are also the bytes with which an image begins that the device's program takes, and the limits of sessions. The
+-- bytes that FILE means are given, if any are, and no line sets them.
 pub record Settings : Type 0 where
   pub device : Setting
   pub grain : Grain
@@ -37,7 +37,7 @@ pub record Settings : Type 0 where
   pub limits : Limits
   pub given : Option (List ℕ)
 
--- What holds if no line sets anything else.
+-- Settings that hold if no line sets anything else.
 abbrev pub beginning : (given : Option (List ℕ)) → Settings
 beginning given = record {
   device = record {
@@ -56,8 +56,8 @@ beginning given = record {
   given = given;
 }
 
--- What a configuration line sets takes the place of what was set before. The pace of the device's flash is that of a medium that is written
--- and erased as the device's own.
+-- The value of a configuration line takes the place of the one that was set before. The pace of the device's flash is that of a medium that
+-- is written and erased as the device's own.
 abbrev pub set : Settings → ConfigLine → Settings
 set s (TheIds ids) = record s { device = record s.device { ids = ids } }
 set s (TheDevice functional least busy manifest) =
@@ -76,7 +76,7 @@ set s (TheCapacity n) = record s { capacity = n }
 set s (TheImage bytes) = record s { image = bytes }
 set s (TheCheck bytes) = record s { check = bytes }
 
--- What a line before the first event line or `show` sets.
+-- Settings after a line before the first event line or `show`.
 abbrev pub prepared : Settings → Said → Option Settings
 prepared s Blank = Some s
 prepared s (Sets x) = Some (set s x)
@@ -150,8 +150,8 @@ pub data AllCome (check : List ℕ) : LinkView → List Happening → List ℕ �
       AllCome check b events out c → Comes c (checked check c event) c' answer → ShowsActive c'
       → AllCome check b (events ++ event ∷ []) (out ++ answer_line answer) c'
 
--- Where a script is once the device is started: the bytes that FILE means, those with which an image begins that the program takes,
--- the limits of the next session, which line is expected next, and the link.
+-- Point at which a script is once the device is started: the bytes that FILE means, those with which an image begins that the program
+-- takes, the limits of the next session, the line that is expected next, and the link.
 pub record Point : Type 0 where
   pub given : Option (List ℕ)
   pub check : List ℕ
@@ -159,7 +159,7 @@ pub record Point : Type 0 where
   pub next : Option Expectation
   pub at : LinkView
 
--- Where it is with these settings and this link, and no line is expected.
+-- Point with these settings and this link, at which no line is expected.
 abbrev pub point : Settings → LinkView → Point
 point s at = record { given = s.given; check = s.check; limits = s.limits; next = None; at = at }
 
@@ -178,9 +178,8 @@ events_of limits Reset = Resets ∷ []
 events_of limits Cut = Cuts ∷ []
 events_of limits (Refuse why) = Refuses why ∷ []
 
--- What line k does once the device is started, and what it prints, which is as expected. A configuration line has no place there.
--- `go until report` lets so many actions pass that print nothing, and then one that prints something. `expect` has no place while a
--- line is expected already.
+-- Line k acts like this once the device is started, and its text is as expected. A configuration line has no place there. `go until report`
+-- lets so many actions pass that print nothing, and then one that prints something. `expect` has no place while a line is expected already.
 pub data LineActs (k : ℕ) : Point → Said → List ℕ → Point → Type 0 where
   skips : {p : Point} → LineActs k p Blank [] p
   limits_to : {p : Point} {actions restarts : ℕ} → LineActs k p (LimitsTo actions restarts) []

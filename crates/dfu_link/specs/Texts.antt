@@ -57,13 +57,13 @@ refusal_line link.NoHost = codes "refused NoHost\n"
 refusal_line (link.BadOffer fault) = codes "refused BadOffer " ++ offer_fault_name fault ++ 10 ∷ []
 refusal_line link.NoMemory = codes "refused NoMemory\n"
 
--- What is printed of what an event's caller got: the line of its refusal or of its report, or nothing.
+-- Text for the result that an event's caller got: the line of its refusal or of its report, or nothing.
 abbrev pub told_line : Result (Option Report) LinkFault → (uploaded : List ℕ) → List ℕ
 told_line (Ok None) uploaded = []
 told_line (Ok (Some r)) uploaded = report_line r uploaded
 told_line (Err fault) uploaded = refusal_line fault
 
--- What is printed of what came of an event.
+-- Text for the result of an event.
 abbrev pub answer_line : Result Answered LinkFault → List ℕ
 answer_line answer = told_line (shown_as answer) (unwrap_or (gave_of answer) [])
 
@@ -75,7 +75,7 @@ line_of_image image = codes "image " ++ (hex_text image ++ 10 ∷ [])
 abbrev pub image_line : DeviceView → List ℕ
 image_line device = line_of_image (image_of device.slots)
 
--- What `show` prints before the image: the device's state and its status code.
+-- Text that `show` prints before the image: the device's state and its status code.
 abbrev pub state_text : DeviceView → List ℕ
 state_text device = (codes "state " ++ state_name (state_of device.stage) ++ codes " status ")
     ++ (code_name (code_of device.stage) ++ codes " ")

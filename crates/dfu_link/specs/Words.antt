@@ -16,7 +16,7 @@ abbrev pub guard : {A : Type 0} → Bool → A → Option A
 guard true x = Some x
 guard false x = None
 
--- What the code read, seen for what it means, is what is to be read, and it read nothing exactly if there is nothing.
+-- The code's reading, seen for its meaning, is the reading that is wanted, and it read nothing exactly if there is nothing.
 abbrev pub Reads : {X Y : Type 0} → (X → Y) → Option X → Option Y → Type 0
 Reads view None read = read ≡ None
 Reads view (Some x) read = read ≡ Some (view x)
@@ -57,7 +57,7 @@ abbrev pub first_word : List (List ℕ) → Option (List ℕ × List (List ℕ))
 first_word [] = None
 first_word (word ∷ words) = Some (word, words)
 
--- What follows the first word of a line and one space, if there is such a space.
+-- Text behind the first word of a line and one space, if there is such a space.
 unfoldable pub text_behind : List ℕ → Option (List ℕ)
 text_behind line =
     position is_no_space line >>= λ start. position is_space (drop start line) >>= λ end. Some (drop (end + 1) (drop start line))
@@ -72,7 +72,7 @@ unfoldable pub number_of : List ℕ → Option ℕ
 number_of word = if nat_le 1 (length word) && nat_le (length word) 10 then (digits_value 0 word >>= λ n. guard (nat_le n 4294967295) n) else
     None
 
--- What there is without an error.
+-- Value of a result without an error.
 abbrev pub ok_of : {A E : Type 0} → Result A E → Option A
 ok_of (Ok x) = Some x
 ok_of (Err e) = None

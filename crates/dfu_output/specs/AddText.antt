@@ -1,4 +1,4 @@
--- What `dfu add` writes.
+-- Text that `dfu add` writes.
 use Rattle.std.specs.Prelude.{◌⊎◌, ℕ, List, [], ◌∷◌, ◌++◌, Option, IfSome, Result, IsOk, codes}
 use Rattle.std.specs.Fmt.{decimal}
 use Rattle.dfu_suffix.specs.Adding.{Adds, KeepsAtFault}

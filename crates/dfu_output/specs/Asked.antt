@@ -1,4 +1,4 @@
--- What `--format` and `--fill` ask for.
+-- Options that `--format` and `--fill` ask for.
 use Rattle.std.specs.Prelude.{◌≢◌, ℕ, ◌*◌, ◌+◌, ◌&&◌, nat_lt, if◌then◌else◌, List, [], ◌∷◌, Option, Some, None, codes}
 use Rattle.dfu_formats.specs.images.Digits.{hex_value}
 

@@ -1,4 +1,4 @@
--- What `dfu check` writes.
+-- Text that `dfu check` writes.
 use Rattle.std.specs.Prelude.{◌⊎◌, ℕ, List, Option, IfSome, Result, IsOk}
 use Rattle.dfu_suffix.specs.Checking.{Checks, FindsFile, UnlessRead}
 use Rattle.dfu_suffix.specs.declared.findings.Findings.{Findings}

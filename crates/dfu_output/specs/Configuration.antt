@@ -1,4 +1,4 @@
--- What `dfu show configuration` reads: a configuration descriptor and those that follow it (USB 2.0, sections 9.5 and 9.6).
+-- Bytes that `dfu show configuration` reads: a configuration descriptor and those that follow it (USB 2.0, sections 9.5 and 9.6).
 use Rattle.std.specs.Prelude.{◌≡◌, ◌≢◌, ◌⊎◌, ◌+◌, ◌*◌, ◌<◌, ◌≤◌, ◌==◌, if◌then◌else◌, ℕ, Bool, true, false, List, [], ◌∷◌, ◌++◌, length, take, drop, slice_index, Result, Ok, Err, codes}
 use Rattle.std.specs.Fmt.{decimal}
 use Rattle.dfu_wire.specs.Functional.{IsFunctional, FirstFunctionalFault}
@@ -25,8 +25,8 @@ interface_line number alternate protocol string =
     codes "interface" ++ (codes " " ++ decimal number) ++ (codes " alternate " ++ decimal alternate)
     ++ (codes " mode " ++ mode_name protocol) ++ (codes " string " ++ decimal string) ++ 10 ∷ []
 
--- What one descriptor adds to the text, within an interface for upgrades or not, and within which the next one is; or why it
--- can't be read.
+-- One descriptor adds this to the text, within an interface for upgrades or not, and within which the next one is; or this is the fault for
+-- which it can't be read.
 pub data AddsText (inside : Bool) (d : List ℕ) : Bool → Result (List ℕ) WireFault → Type 0 where
   upgrade : slice_index d 1 ≡ 4 → 9 ≤ length d → IsUpgrade d →
       AddsText inside d true (Ok (interface_line (slice_index d 2) (slice_index d 3) (slice_index d 7) (slice_index d 8)))
@@ -42,7 +42,7 @@ abbrev pub text_then : List ℕ → Result (List ℕ) WireFault → Result (List
 text_then text (Ok rest) = Ok (text ++ rest)
 text_then text (Err e) = Err e
 
--- What descriptors in a row add to the text, or the first fault: one begins with its length, at least 2.
+-- Descriptors in a row add this to the text, or have this first fault: one begins with its length, at least 2.
 pub data Walks : Bool → List ℕ → Result (List ℕ) WireFault → Type 0 where
   end : {inside : Bool} → Walks inside [] (Ok [])
   no_length : {inside : Bool} {b : List ℕ} → 0 < length b → slice_index b 0 < 2 → Walks inside b (Err fault.WrongLength)
@@ -53,7 +53,7 @@ pub data Walks : Bool → List ℕ → Result (List ℕ) WireFault → Type 0 wh
       AddsText inside (take (slice_index b 0) b) now (Ok text) → Walks now (drop (slice_index b 0) b) rest →
       Walks inside b (text_then text rest)
 
--- How many bytes a configuration has with all that follows it, by wTotalLength.
+-- Bytes of a configuration with all that follows it, by wTotalLength.
 abbrev pub total_length : List ℕ → ℕ
 total_length bytes = slice_index bytes 2 + 256 * slice_index bytes 3
 

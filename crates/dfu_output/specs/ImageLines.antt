@@ -52,13 +52,13 @@ unread_text (fault.TooLarge at) = codes "TooLarge " ++ decimal at
 unread_text (fault.TooManyElements at) = codes "TooManyElements " ++ decimal at
 unread_text (fault.Overlaps address) = codes "Overlaps " ++ hex 8 address
 
--- Why elements don't make one piece, by the name of the fault; a gap with its addresses.
+-- Name of the fault for which elements don't make one piece; a gap with its addresses.
 unfoldable pub unlaid_text : LayFault → List ℕ
 unlaid_text lay.NoMemory = codes "NoMemory"
 unlaid_text (lay.Gap from to) = codes "Gap " ++ hex 8 from ++ (codes " " ++ hex 8 to)
 unlaid_text lay.TooLarge = codes "TooLarge"
 
--- Why there is no image of a file, by the name of the fault.
+-- Name of the fault for which there is no image of a file.
 abbrev pub fault_text : ImageFileFault → List ℕ
 fault_text (Unread fault) = unread_text fault
 fault_text NoData = codes "NoData"

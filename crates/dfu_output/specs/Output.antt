@@ -1,4 +1,4 @@
--- What was put out.
+-- Text that was put out.
 use Rattle.std.specs.Prelude.{◌≡◌, ◌⊎◌, ℕ, List, Option}
 use Rattle.std.specs.Io.KnownBytes.{Appends}
 use Rattle.dfu_suffix.specs.Writing.{IsOutInPart}

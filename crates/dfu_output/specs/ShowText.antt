@@ -1,4 +1,4 @@
--- What `dfu show` writes.
+-- Text that `dfu show` writes.
 use Rattle.std.specs.Prelude.{◌≡◌, ◌≢◌, ◌⊎◌, ◌<◌, ◌%◌, ℕ, List, [], ◌∷◌, length, slice_index, Option, Result, Ok, Err, IsOk, codes}
 use Rattle.hex.specs.Hex.{decode_of}
 use Rattle.hex.specs.declared.error.FromHexError.{FromHexError}
@@ -102,7 +102,7 @@ abbrev pub configuration_answer : Result (List ℕ) WireFault → List ℕ
 configuration_answer (Ok text) = text
 configuration_answer (Err e) = wire_line e
 
--- What is written is the text for the bytes as a configuration; or it says that there was no memory for it.
+-- The text is that for the bytes as a configuration; or it says that there was no memory for it.
 abbrev pub WritesConfiguration : (bytes : List ℕ) (old new : Option (List ℕ)) → Exit → Type 0
 WritesConfiguration bytes old new result =
     ((answer : Result (List ℕ) WireFault) × Configured bytes answer × Wrote old new (configuration_answer answer) (read_exit answer) result)

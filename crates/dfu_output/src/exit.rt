@@ -1,4 +1,4 @@
-//! How a command ended, and the lines that end it.
+//! Exit of a command, and the lines that end it.
 
 ghost use Rattle.std.specs.Prelude.{◌≡◌, max};
 ghost use Rattle.dfu_output.specs.AnswerLines.{bad_words_line, fault_line, fault_exit};
@@ -9,7 +9,7 @@ use dfu_suffix::{SuffixFault, write_whole};
 use std::alloc::Global;
 use std::io::Write;
 
-/// How a command ended, which is the exit status of the program.
+/// Exit of a command, which is the exit status of the program.
 #[derive(Clone, Copy)]
 pub enum Exit {
     /// It did what was asked: status 0.
@@ -47,12 +47,12 @@ impl Exit {
     }
 }
 
-/// How a command ended, and the line for standard error that says why, if there is one.
+/// Exit of a command, and the line for standard error that says the reason, if there is one.
 #[derive(Drop)]
 pub struct Outcome {
     /// How it ended.
     pub exit: Exit,
-    /// Why, as a line, if the answer's own line doesn't say it and the reason is wanted.
+    /// Reason, as a line, if the answer's own line doesn't say it and the reason is wanted.
     pub reason: Option<String>,
 }
 

@@ -1,4 +1,4 @@
-//! Numbers and labels of a line. What is called often isn't inlined, which keeps the program small.
+//! Numbers and labels of a line. Functions that are called often aren't inlined, which keeps the program small.
 
 ghost use Rattle.std.specs.Prelude.{◌≡◌, ◌++◌, IfOk, OnOk};
 ghost use Rattle.std.specs.Fmt.{decimal};

@@ -1,4 +1,4 @@
-//! Why an answer is given whose line doesn't say it: the line for standard error, and what is in it.
+//! Reasons of an answer whose line doesn't say it: the line for standard error, and what is in it.
 
 ghost use Rattle.std.specs.Prelude.{◌≡◌, ◌∷◌, [], IfOk, MatchOption, chars};
 ghost use Rattle.std.specs.String.{string_bytes};
@@ -61,7 +61,8 @@ pub fn reason_line(alloc: Global, label: &str, name: &str, why: &str) -> Result<
     Ok(line)
 }
 
-/// What precedes a line of one of several files: its name as a terminal may show it, at most 4,096 characters of it, and a colon.
+/// Returns the text in front of a line of one of several files: its name as a terminal may show it, at most 4,096 characters of it, and a
+/// colon.
 ///
 /// # Errors
 ///

@@ -1,4 +1,4 @@
--- What adding a suffix answers and writes.
+-- Answer and text of adding a suffix.
 use Rattle.std.specs.Prelude.{◌≡◌, ◌⊎◌, ℕ, ◌<◌, ◌≤◌, List, [], length, Option, Result, Ok, Err, ⊤}
 use Rattle.std.specs.Io.KnownBytes.{Appends, Keeps}
 use Rattle.dfu_suffix.specs.Grammar.{IsFile, First}

@@ -1,4 +1,4 @@
--- What checking a file answers.
+-- Answer of checking a file.
 use Rattle.std.specs.Prelude.{◌≡◌, ◌↔◌, ℕ, ◌+◌, ◌-◌, ◌≤◌, List, length, take, drop, slice_index, IfOk, Result, Ok, Err, ⊤}
 use Rattle.byteorder.specs.Endian.{little_number}
 use Rattle.dfu_suffix.specs.Register.{register}
@@ -19,8 +19,8 @@ summary_of payload ids dfu extra = record {
   crc = register (before_crc payload ids dfu extra);
 }
 
--- What is accepted is a file of the grammar, with its summary; each file of the grammar is accepted; any other has a
--- first fault, which is the answer.
+-- An accepted file is one of the grammar, with its summary; each file of the grammar is accepted; any other has a first fault, which is the
+-- answer.
 pub record Checks (bytes : List ℕ) (answer : Result Summary SuffixFault) : Type 0 where
   pub found : IfOk answer (λ s. (payload : List ℕ) × (extra : List ℕ) × IsFile payload s.ids s.dfu extra bytes
       × (s ≡ summary_of payload s.ids s.dfu extra))

@@ -1,4 +1,4 @@
--- What gathering all that a reader gives answers.
+-- Answer of gathering all that a reader gives.
 use Rattle.std.specs.Prelude.{◌≡◌, ℕ, ◌<◌, ◌≤◌, List, length, Result, Ok, Err, ⊤, Vec}
 use Rattle.std.specs.declared.alloc.Global.{Global}
 use Rattle.dfu_suffix.specs.declared.gathering.GatherFault.{GatherFault}

@@ -1,4 +1,4 @@
--- What a writer holds once a text was written to it.
+-- Text that a writer holds once a text was written to it.
 use Rattle.std.specs.Prelude.{◌≡◌, ℕ, ◌<◌, List, ◌++◌, length, Option, Result, Ok, Err}
 use Rattle.std.specs.Io.KnownBytes.{Appends}
 

@@ -69,8 +69,8 @@ pub fn add<R: Read + Drop, W: Write>(
     ids: Ids,
     writer: &mut W,
 ) -> Result<u32, SuffixFault>
-    // What the answer says of all that the reader gives, in whatever pieces: at Ok a file of the
-    // grammar with that payload and these identifiers is written, and at Write a part from its start.
+    // The answer tells of all that the reader gives, in whatever pieces: at Ok a file of the grammar with that payload and these
+    // identifiers is written, and at Write a part from its start.
     ensures answer { IfSome (R.remaining reader) (λ all. Adds all ids (W.contents writer.old) (W.contents writer.new) result) }
     // After a fault other than Write nothing is written.
     ensures kept { KeepsAtFault (W.contents writer.old) (W.contents writer.new) result }

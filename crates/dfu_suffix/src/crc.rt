@@ -114,7 +114,7 @@ fn byte_entry(table: &[u32; 256], byte: u8) -> u32
     table[usize::from(byte)]
 }
 
-// What 32 bits 0 make of the number in four bytes.
+// Returns the register after 32 bits 0, from the number in four bytes.
 #[inline(always)]
 fn after_32_zeros(bytes: &[u8]) -> u32
     requires { length bytes.now ≡ 4 }
@@ -126,7 +126,7 @@ fn after_32_zeros(bytes: &[u8]) -> u32
         ^ byte_entry(table(7), bytes[3])
 }
 
-// What 64 bits 0 make of a number.
+// Returns the register after 64 bits 0, from a number.
 #[inline(always)]
 fn after_64_zeros(number: u32) -> u32
     ensures { result ≡ shifts 64 number }

@@ -1,4 +1,4 @@
-//! What a check finds in a file, accepted or not.
+//! Findings of a check in a file, accepted or not.
 
 ghost use Rattle.std.specs.Prelude.{◌≡◌, length, drop, slice_index, bit_xor};
 ghost use Rattle.byteorder.specs.Endian.{little_number};
@@ -6,11 +6,11 @@ ghost use Rattle.dfu_suffix.specs.Register.{shift, shifts};
 
 use crate::summary::u32_at;
 
-/// What `check_with` finds in a file of 16 to 16,777,216 bytes: its length, two fields of its suffix (USB DFU 1.1,
-/// appendix B) as they are written, and the register that dwCRC has to be.
+/// Findings of `check_with` in a file of 16 to 16,777,216 bytes: its length, two fields of its suffix (USB DFU 1.1, appendix B) as they are
+/// written, and the register that dwCRC has to be.
 #[derive(Clone, Copy)]
 pub struct Findings {
-    /// How many bytes the file has.
+    /// Length of the file in bytes.
     pub count: u32,
     /// bLength, from 0 to 255.
     pub suffix: u8,
@@ -37,7 +37,7 @@ impl Findings {
     }
 }
 
-/// What the last 16 of `count` bytes and the register over all of them say.
+/// Returns the findings in the last 16 of `count` bytes and in the register over all of them.
 pub(crate) fn findings_of(tail: &[u8], count: u32, register: u32) -> Findings
     requires { length tail.now ≡ 16 }
     ensures count { result.count ≡ count }

@@ -11,7 +11,7 @@ ghost use Rattle.dfu_suffix.specs.inside.Folding.{stands_for};
 
 use crate::crc;
 
-/// How many bytes at least are worth folding; as many are folded at a time.
+/// Fewest bytes that are worth folding; as many are folded at a time.
 const FOLDED_BYTES: usize = 4096;
 
 /// The bytes of a residue, 1,968, and of a piece after it.

@@ -7,7 +7,7 @@ use crate::file::{MAX_READS, READ_BYTES};
 use std::alloc::Global;
 use std::io::Read;
 
-/// Why what a reader gives was not all gathered.
+/// Faults for which the bytes of a reader were not all gathered.
 #[derive(Clone, Copy)]
 pub enum GatherFault {
     /// The reader gives more bytes than the limit.

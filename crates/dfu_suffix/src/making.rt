@@ -59,7 +59,7 @@ pub(crate) fn append_suffix(text: &mut Vec<u8>, ids: Ids) -> Result<(), AllocErr
     }
 }
 
-/// Whether the fault is that of a DfuSe file.
+/// Returns whether the fault is that of a DfuSe file.
 fn is_dfuse(fault: SuffixFault) -> bool
     ensures { (result ≡ true) ↔ (fault ≡ DfuSe) }
 {
@@ -69,7 +69,7 @@ fn is_dfuse(fault: SuffixFault) -> bool
     }
 }
 
-/// Whether the bytes have a suffix, which may be a DfuSe file's.
+/// Returns whether the bytes have a suffix, which may be a DfuSe file's.
 pub(crate) fn has_suffix(bytes: &[u8]) -> bool
     ensures { (result ≡ true) ↔ HasSuffix bytes.now }
 {

@@ -43,8 +43,8 @@ fn payload_of(bytes: &[u8], suffix: usize) -> &[u8]
     payload
 }
 
-/// What the bytes say, read from their end, or their first fault. Each reader has a body of its own, so that the small
-/// one is linked without the large tables.
+/// Reads the fields of the bytes from their end, or returns their first fault. Each reader has a body of its own, so that the small one is
+/// linked without the large tables.
 #[inline(always)]
 #[tactic(auto, using(std::proofs::lemmas::Bool::Decides::nat_tests), unfolding(crate::specs::inside::Reading::reading))]
 fn parse(bytes: &[u8], by_small_table: bool) -> Result<File<'_>, SuffixFault>
@@ -86,7 +86,7 @@ fn read_by(bytes: &[u8], by_small_table: bool) -> Result<File<'_>, SuffixFault>
 /// length, DfuSe if bcdDFU is 011Ah, BadCrc if dwCRC isn't the register over the bytes
 /// before it.
 pub fn read(bytes: &[u8]) -> Result<File<'_>, SuffixFault>
-    // What is read is a file of the grammar.
+    // The result is a file of the grammar.
     ensures found { IfOk result (λ f. (extra : List ℕ) × IsFile f.payload f.ids f.dfu extra bytes.now × (f.suffix ≡ 16 + length extra)) }
     // Each file of the grammar is read.
     ensures only { (payload : List ℕ) (ids : Ids) (dfu : ℕ) (extra : List ℕ) → IsFile payload ids dfu extra bytes.now

@@ -3,8 +3,8 @@
 ghost use Rattle.std.specs.Prelude.{◌≡◌};
 ghost use Rattle.dfu_suffix.specs.Register.{after_bits, bits_of, low_bits, shifts};
 
-/// What 4 further bits 0 make of each number below 16. The check computes it by the definition over
-/// single bits (proofs/SmallTable.antt).
+/// Register after 4 further bits 0, for each number below 16. The check computes it by the definition over single bits
+/// (proofs/SmallTable.antt).
 static AFTER_4: [u32; 16] = [
     0x0000_0000,
     0x1db7_1064,
@@ -24,7 +24,7 @@ static AFTER_4: [u32; 16] = [
     0xbdbd_f21c,
 ];
 
-// What 4 bits 0 make of a number.
+// Returns the register after 4 bits 0, from a number.
 #[inline(always)]
 fn after_4_zeros(number: u32) -> u32
     ensures { result ≡ shifts 4 number }

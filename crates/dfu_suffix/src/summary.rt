@@ -1,4 +1,4 @@
-//! What `check` says of a file, by its end (USB DFU 1.1, appendix B).
+//! Summary of a file that `check` gives, by its end (USB DFU 1.1, appendix B).
 
 ghost use Rattle.std.specs.Prelude.{◌≡◌, ◌≢◌, ◌+◌, ◌≤◌, length, drop, Err, IfOk};
 ghost use Rattle.byteorder.specs.Endian.{little_number};
@@ -15,7 +15,7 @@ use dfu_wire::Ids;
 /// A file's fields and the length of its payload, as `check` answers them.
 #[derive(Clone, Copy)]
 pub struct Summary {
-    /// How many bytes the payload has, at most 16,777,200.
+    /// Length of the payload in bytes, at most 16,777,200.
     pub payload: u32,
     /// bLength: how many bytes the suffix has, from 16 to 255.
     pub suffix: u8,
@@ -27,7 +27,7 @@ pub struct Summary {
     pub crc: u32,
 }
 
-// Whether the last 16 bytes have the signature.
+// Returns whether the last 16 bytes have the signature.
 fn is_signed(tail: &[u8]) -> bool
     requires { length tail.now ≡ 16 }
     ensures { result ≡ is_signed tail.now }
@@ -65,7 +65,7 @@ fn ids_of(tail: &[u8]) -> Ids
     }
 }
 
-/// What the last 16 of `count` bytes say, or the first fault of the file but TooLarge and BadCrc.
+/// Returns the fields of the last 16 of `count` bytes, or the first fault of the file but TooLarge and BadCrc.
 #[tactic(auto, using(std::proofs::lemmas::Bool::Decides::nat_tests), unfolding(crate::specs::inside::TailChecks::tail_summary))]
 pub(crate) fn parse_tail(tail: &[u8], count: u32) -> Result<Summary, SuffixFault>
     requires { 16 ≤ count → length tail.now ≡ 16 }
@@ -96,8 +96,8 @@ pub(crate) fn parse_tail(tail: &[u8], count: u32) -> Result<Summary, SuffixFault
     })
 }
 
-/// The summary of a file of `count` bytes, or its first fault but TooLarge, by its last 16 bytes and
-/// the register over all of it. That register is 0 exactly if dwCRC is right.
+/// The summary of a file of `count` bytes, or its first fault but TooLarge, by its last 16 bytes and the register over all of it. The
+/// register is 0 exactly if dwCRC is right.
 pub(crate) fn check_register(tail: &[u8], count: u32, register: u32) -> Result<Summary, SuffixFault>
     requires { length tail.now ≡ 16 }
     ensures answer { result ≡ register_checked tail.now count register }

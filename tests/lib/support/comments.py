@@ -6,10 +6,10 @@ OPENING = re.compile(r"(?:What|How|Whether|Where|Why|That|The same)\b")
 END = re.compile(r"(?<=[.!?:])\s+(?=[A-Z`*\[(\"])")
 BLOCK = re.compile(r"\n\s*\n|\n(?=\s*[-|#>]|\s*\d+\. )")
 LEAST_WORDS = 4
-# A tree, the files that it has, and its budget. The aim is 6.0 for each; only the .rt are above it.
+# A tree, the files that it has, and its budget. The aim is at most 6.0 for each.
 TREES = (
-    ("crates, .rt", lambda it: it.startswith("crates/") and it.endswith(".rt"), 9.3),
-    ("crates, .antt", lambda it: it.startswith("crates/") and it.endswith(".antt"), 5.5),
+    ("crates, .rt", lambda it: it.startswith("crates/") and it.endswith(".rt"), 1.0),
+    ("crates, .antt", lambda it: it.startswith("crates/") and it.endswith(".antt"), 3.0),
     ("C of apps/", lambda it: it.startswith("apps/") and it.endswith((".c", ".h")), 6.0),
     ("headers of include/", lambda it: it.startswith("include/") and it.endswith(".h"), 6.0),
     ("C of examples/ and tests/", lambda it: it.startswith(("examples/", "tests/")) and it.endswith((".c", ".h")), 6.0),

@@ -4,12 +4,12 @@ use Rattle.dfu_formats.specs.images.Elements.{Piece}
 use Rattle.dfu_formats.specs.declared.dfuse.element.Element.{Element}
 use Rattle.dfu_formats.specs.declared.dfuse.fault.FileFault.{FileFault}
 
--- What was found, or nothing.
+-- List that was found, or nothing.
 abbrev pub found : {A : Type 0} → Result (List A) FileFault → List A
 found (Ok xs) = xs
 found (Err fault) = []
 
--- Whether there was a fault, and which.
+-- Fault of a result, if there was one.
 abbrev pub fault_only : {A : Type 0} → Result A FileFault → Result Unit FileFault
 fault_only (Ok x) = Ok tt
 fault_only (Err fault) = Err fault

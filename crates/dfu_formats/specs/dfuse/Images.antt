@@ -33,7 +33,7 @@ unfoldable pub elements_for : (setting : ℕ) → List Target → List Piece
 elements_for setting [] = []
 elements_for setting (t ∷ ts) = if t.setting == setting then t.elements ++ elements_for setting ts else elements_for setting ts
 
--- Why there is no image of a setting in so many places.
+-- Fault for which there is no image of a setting in so many places.
 unfoldable pub image_fault : (room : ℕ) → (setting : ℕ) → List Target → Option ImageFault
 image_fault room setting targets =
     if not (has_setting setting targets) then Some NoSuchSetting

@@ -8,7 +8,7 @@ use Rattle.dfu_formats.specs.declared.dfuse.raw.RawFault.{RawFault}
 use Rattle.dfu_formats.specs.declared.dfuse.raw.RawFault.TheVariants.{TooLarge, BadLength, BadCrc, HasAddresses, Empty, AddressPastTheEnd}
 use Rattle.dfu_formats.specs.dfuse.Reading.{is_prefixed}
 
--- Why a file with this fault of dfu_suffix isn't taken, if it isn't.
+-- Refusal of a file with this fault of dfu_suffix, if it is refused.
 abbrev pub raw_refusal : SuffixFault → Option RawFault
 raw_refusal suffix.TooLarge = Some TooLarge
 raw_refusal suffix.BadLength = Some BadLength
@@ -21,7 +21,7 @@ abbrev pub whole_or : List ℕ → Option RawFault → Result (List ℕ) RawFaul
 whole_or bytes None = Ok bytes
 whole_or bytes (Some fault) = Err fault
 
--- What precedes a suffix, by the first fault of dfu_suffix. A file that is too short for one, or isn't signed, has no suffix.
+-- Bytes before a suffix, by the first fault of dfu_suffix. A file that is too short for one, or isn't signed, has no suffix.
 unfoldable pub payload_by : Option SuffixFault → List ℕ → Result (List ℕ) RawFault
 payload_by None bytes = Ok (take (length bytes - slice_index (tail_of bytes) 11) bytes)
 payload_by (Some fault) bytes = whole_or bytes (raw_refusal fault)

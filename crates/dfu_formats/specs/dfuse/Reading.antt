@@ -1,4 +1,4 @@
--- How a DfuSe file (UM0391) is read from the front, piece by piece, with the fault of each piece.
+-- Reading of a DfuSe file (UM0391) from the front, piece by piece, with the fault of each piece.
 use Rattle.std.specs.Prelude.{ℕ, zero, suc, ◌+◌, ◌-◌, ◌^◌, ◌==◌, ◌&&◌, ◌||◌, not, nat_lt, Bool, true, false, if◌then◌else◌, List, [], ◌∷◌, length, take, drop, slice_index, find, Option, Some, None, Result, Ok, Err}
 use Rattle.std.specs.Int.{w32, from_le_bytes}
 use Rattle.byteorder.specs.Endian.{little_number}
@@ -63,7 +63,7 @@ abbrev pub is_target : List ℕ → Bool
 is_target b = (slice_index b 0 == 84) && ((slice_index b 1 == 97) && ((slice_index b 2 == 114) && ((slice_index b 3 == 103)
     && ((slice_index b 4 == 101) && (slice_index b 5 == 116)))))
 
--- What a target says before its elements, the bytes of these, and the bytes after the target.
+-- Fields of a target before its elements, the bytes of these, and the bytes after the target.
 pub record Heading : Type 0 where
   pub setting : ℕ
   pub named : ℕ
@@ -129,7 +129,7 @@ pub record Suffixed : Type 0 where
   pub payload : List ℕ
   pub ids : Ids
 
--- What the last 16 bytes say of bytes that have no fault.
+-- Fields of the last 16 bytes of bytes that have no fault.
 abbrev pub suffixed_by : List ℕ → Suffixed
 suffixed_by bytes = record {
   payload = take (length bytes - slice_index (tail_of bytes) 11) bytes;
@@ -145,7 +145,7 @@ abbrev pub is_dfuse : SuffixFault → Bool
 is_dfuse suffix.DfuSe = true
 is_dfuse other = false
 
--- Why a file with another fault is not a DfuSe file; if its CRC is wrong, it is of another version.
+-- Fault for which a file with another fault is not a DfuSe file; if its CRC is wrong, it is of another version.
 abbrev pub refusal : SuffixFault → FileFault
 refusal suffix.TooLarge = TooLarge
 refusal suffix.TooShort = TooShort

@@ -25,7 +25,7 @@ pub record Gathering : Type 0 where
 abbrev pub nothing : Gathering
 nothing = record { complete = []; growing = record { address = 0; bytes = [] }; total = 0 }
 
--- How many elements have an address up to that of this one, counted from the front.
+-- Number of elements that have an address up to that of this one, counted from the front.
 unfoldable pub element_place : (address : ℕ) → List Piece → ℕ
 element_place address [] = 0
 element_place address (q ∷ qs) = if nat_lt address q.address then 0 else suc (element_place address qs)

@@ -1,4 +1,4 @@
--- How an ELF file of 32 bits, little endian, is read, segment by segment, with the fault of each. Segments are counted from 0.
+-- Reading of an ELF file of 32 bits, little endian, segment by segment, with the fault of each. Segments are counted from 0.
 use Rattle.std.specs.Prelude.{ℕ, ◌+◌, ◌*◌, ◌^◌, ◌==◌, ◌&&◌, ◌||◌, not, nat_lt, Bool, if◌then◌else◌, List, length, take, drop, slice_index, Result, Ok, Err}
 use Rattle.dfu_formats.specs.declared.images.fault.ImageFault.{ImageFault}
 use Rattle.dfu_formats.specs.declared.images.fault.ImageFault.TheVariants.{NotElf, CutHeader, CutSegment, PastTheEnd}
@@ -11,7 +11,7 @@ is_elf file =
     not (nat_lt (length file) 52) && ((le32 file 0 == 0x464C457F)
     && ((slice_index file 4 == 1) && ((slice_index file 5 == 1) && (slice_index file 6 == 1))))
 
--- What a segment has in the file goes to its physical address. A segment that isn't to be loaded, or has no bytes there, says nothing.
+-- The bytes of a segment in the file go to its physical address. A segment that isn't to be loaded, or has no bytes there, says nothing.
 unfoldable pub segment_read : (file : List ℕ) → (index : ℕ) → Gathering → (header : List ℕ) → Result Gathering ImageFault
 segment_read file index g header =
     if not (le32 header 0 == 1) || (le32 header 16 == 0) then Ok g

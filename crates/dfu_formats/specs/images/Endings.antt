@@ -1,4 +1,4 @@
--- What the ending of a file's name says of its format.
+-- Format that the ending of a file's name says.
 use Rattle.std.specs.Prelude.{ℕ, ◌-◌, ◌||◌, Bool, if◌then◌else◌, List, length, drop, codes, Option, Some, None}
 use Rattle.std.specs.Str.{str_eq_ignore_ascii_case}
 use Rattle.dfu_formats.specs.declared.images.format.Format.TheVariants.{IntelHex, SRecord, Uf2, Elf}
@@ -9,7 +9,7 @@ use Rattle.dfu_formats.specs.declared.images.endings.Ending.TheVariants.{Of, Dfu
 unfoldable pub ends_in : (ending name : List ℕ) → Bool
 ends_in ending name = str_eq_ignore_ascii_case (drop (length name - length ending) name) ending
 
--- What the name's ending says: a format that builds produce, or a DFU file.
+-- Format that the name's ending says: one that builds produce, or a DFU file.
 abbrev pub name_ending : List ℕ → Option Ending
 name_ending name =
     if ends_in (codes ".dfu") name then Some Dfu

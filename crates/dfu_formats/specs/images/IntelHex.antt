@@ -1,4 +1,4 @@
--- How a file of Intel HEX is read, line by line, with the fault of each.
+-- Reading of a file of Intel HEX, line by line, with the fault of each.
 use Rattle.std.specs.Prelude.{ℕ, ◌+◌, ◌*◌, ◌%◌, ◌^◌, ◌==◌, ◌&&◌, ◌||◌, Bool, not, nat_lt, true, if◌then◌else◌, List, [], ◌∷◌, length, take, drop, slice_index, sum, Result, Ok, Err}
 use Rattle.dfu_formats.specs.declared.images.fault.ImageFault.{ImageFault}
 use Rattle.dfu_formats.specs.declared.images.fault.ImageFault.TheVariants.{NoMark, BadLength, BadChecksum, BadType, PastSegment}
@@ -48,7 +48,7 @@ based at unit s r =
     })
     else Err (BadLength at)
 
--- What a record says: 0 data, 1 the end, 2 a segment in paragraphs of 16, 4 the upper half of addresses, 3 and 5 where a program begins.
+-- Meaning of a record: 0 data, 1 the end, 2 a segment in paragraphs of 16, 4 the upper half of addresses, 3 and 5 where a program begins.
 unfoldable pub hex_meant : (at : ℕ) → State → HexRecord → Result State ImageFault
 hex_meant at s r =
     if r.kind == 0 then hex_data_at at s r

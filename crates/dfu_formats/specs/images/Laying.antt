@@ -19,7 +19,7 @@ abbrev pub in_front : List ℕ → Result (List ℕ) LayFault → Result (List �
 in_front front (Err fault) = Err fault
 in_front front (Ok bytes) = Ok (front ++ bytes)
 
--- What comes of a part: it precedes what comes of the others.
+-- Bytes of a part, which precede those of the others.
 abbrev pub followed : Result (List ℕ) LayFault → (List ℕ → Result (List ℕ) LayFault) → Result (List ℕ) LayFault
 followed (Err fault) more = Err fault
 followed (Ok front) more = in_front front (more front)

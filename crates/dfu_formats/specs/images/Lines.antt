@@ -12,7 +12,7 @@ abbrev pub before_lines : ℕ → List (List ℕ) → List (List ℕ)
 before_lines b [] = (b ∷ []) ∷ []
 before_lines b (line ∷ lines) = (b ∷ line) ∷ lines
 
--- What is between line feeds, which may be nothing.
+-- Texts between line feeds, which may be empty.
 unfoldable pub lines : List ℕ → List (List ℕ)
 lines [] = [] ∷ []
 lines (b ∷ bs) = if b == 10 then [] ∷ lines bs else before_lines b (lines bs)
@@ -29,7 +29,7 @@ to_last bytes = take (length bytes - suffix_len is_blank_byte bytes) bytes
 unfoldable pub bare : List ℕ → List ℕ
 bare line = to_last (unblanked line)
 
--- What was read up to a line: the elements, what Intel HEX counts offsets from, whether that is a segment of 65,536 bytes, how many
+-- State of the reading up to a line: the elements, what Intel HEX counts offsets from, whether that is a segment of 65,536 bytes, how many
 -- S-records of data there were, whether the text may end here, and whether it ended.
 pub record State : Type 0 where
   pub gathering : Gathering

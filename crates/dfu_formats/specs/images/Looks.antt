@@ -1,4 +1,4 @@
--- What a file without a DFU suffix is, by its bytes and its name.
+-- Look of a file without a DFU suffix, by its bytes and its name.
 use Rattle.std.specs.Prelude.{ℕ, ◌==◌, ◌&&◌, ◌||◌, nat_le, nat_lt, nat_eq, Bool, false, if◌then◌else◌, List, [], ◌∷◌, codes, Option, Some, None}
 use Rattle.std.specs.List.{starts_with}
 use Rattle.dfu_formats.specs.images.Digits.{hex_value}
@@ -32,12 +32,12 @@ abbrev pub begins_srec : List ℕ → Bool
 begins_srec (a ∷ b ∷ bs) = (a == 83) && ((nat_le 48 b && nat_le b 57) && has_digits bs)
 begins_srec bs = false
 
--- What a file is if its bytes say nothing: what its name says, or else a raw image.
+-- Look of a file whose bytes say nothing: what its name says, or else a raw image.
 abbrev pub looks_by_name : Option Ending → Looks
 looks_by_name None = looks.Raw
 looks_by_name (Some ending) = looks.Other (Named ending)
 
--- What a file is: the first of these that holds, and else what its name says.
+-- Look of a file: the first of these that holds, and else what its name says.
 abbrev pub looks_of : (file : List ℕ) → (ending : Option Ending) → Looks
 looks_of file ending =
     if begins (codes "DfuSe") file then looks.Other DfuSe

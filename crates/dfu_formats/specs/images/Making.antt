@@ -26,7 +26,8 @@ abbrev pub LiesAs : Option ℕ → Result (List Piece) ImageFault → Image → 
 LiesAs fill read image = (ps : List Piece) × (read ≡ Ok ps) × (0 < length ps) × (image.address ≡ lowest ps)
     × (laid fill 0 (lowest ps) ps ≡ Ok image.bytes.items)
 
--- What comes of what is read of a file: its fault; or that there are no bytes; or its elements as one piece; or why they do not make one.
+-- Result of what is read of a file: its fault; or that there are no bytes; or its elements as one piece; or the fault for which they do not
+-- make one.
 abbrev pub MakesImage : Option ℕ → Result (List Piece) ImageFault → Result Image ImageFileFault → Type 0
 MakesImage fill read (Ok image) = LiesAs fill read image
 MakesImage fill read (Err (Unread fault)) = FailsToRead fault read

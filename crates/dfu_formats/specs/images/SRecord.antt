@@ -1,4 +1,4 @@
--- How a file of S-records is read, line by line, with the fault of each.
+-- Reading of a file of S-records, line by line, with the fault of each.
 use Rattle.std.specs.Prelude.{ℕ, ◌+◌, ◌-◌, ◌*◌, ◌^◌, ◌%◌, ◌==◌, ◌&&◌, ◌||◌, not, nat_lt, nat_le, true, false, if◌then◌else◌, List, [], ◌∷◌, length, take, drop, slice_index, sum, fold, Result, Ok, Err}
 use Rattle.dfu_formats.specs.declared.images.fault.ImageFault.{ImageFault}
 use Rattle.dfu_formats.specs.declared.images.fault.ImageFault.TheVariants.{NoMark, BadLength, BadChecksum, BadType, BadCount, PastSegment}
@@ -20,7 +20,7 @@ srec_spelled at (b ∷ kind ∷ digits) =
     if (b == 83) && (nat_le 48 kind && nat_le kind 57) then (bytes_at at digits >>= λ bytes. Ok (record { kind = kind - 48; bytes = bytes }))
     else Err (NoMark at)
 
--- How many bytes the address has: four of types 3 and 7, three of 2, 6 and 8, and else two.
+-- Number of bytes of the address: four of types 3 and 7, three of 2, 6 and 8, and else two.
 abbrev pub width : (kind : ℕ) → ℕ
 width kind =
     if (kind == 3) || (kind == 7) then 4
@@ -63,7 +63,7 @@ srec_closed at s r =
     else if r.address == s.count then Ok (record s { is_whole = true })
     else Err (BadCount at)
 
--- What a record says: 0 a title, 1 to 3 data, 5 and 6 a count, 7 to 9 the end.
+-- Meaning of a record: 0 a title, 1 to 3 data, 5 and 6 a count, 7 to 9 the end.
 unfoldable pub srec_meant : (at : ℕ) → State → SRecordLine → Result State ImageFault
 srec_meant at s r =
     if r.kind == 0 then Ok s

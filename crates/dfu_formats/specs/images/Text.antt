@@ -25,19 +25,19 @@ is_text_byte b = (nat_le 32 b && not (b == 127)) || ((b == 9) || ((b == 10) || (
 abbrev pub nothing_awaited : Awaited
 nothing_awaited = record { left = 0; low = 0x80; high = 0xBF }
 
--- How many bytes of a character in UTF-8 follow its first one, which is none of ASCII.
+-- Number of bytes of a character in UTF-8 that follow its first one, which is none of ASCII.
 abbrev pub behind_first : ℕ → ℕ
 behind_first b = if nat_lt b 0xE0 then 1 else if nat_lt b 0xF0 then 2 else 3
 
--- What is awaited behind the first byte of a character, if text has such a one: a plain one of ASCII, or C2h to F4h. The second byte is
--- within the bounds that the first one sets.
+-- Bytes that are awaited behind the first byte of a character, if text has such a one: a plain one of ASCII, or C2h to F4h. The second byte
+-- is within the bounds that the first one sets.
 abbrev pub awaited_behind_first : ℕ → Option Awaited
 awaited_behind_first b =
     if nat_lt b 128 then (if is_text_byte b then Some nothing_awaited else None)
     else if nat_le 0xC2 b && nat_le b 0xF4 then Some (record { left = behind_first b; low = second_byte_min b; high = second_byte_max b })
     else None
 
--- What is awaited behind a byte, if text has such a one there. Each byte behind the second of a character is 80h to BFh.
+-- Bytes that are awaited behind a byte, if text has such a one there. Each byte behind the second of a character is 80h to BFh.
 abbrev pub awaited_behind : Awaited → ℕ → Option Awaited
 awaited_behind a b =
     if a.left == 0 then awaited_behind_first b

@@ -1,4 +1,4 @@
--- What the loop over ranges keeps.
+-- Facts that the loop over ranges keeps.
 use Rattle.std.specs.Prelude.{◌≡◌, List, ◌++◌, Result, Ok, Err}
 use Rattle.arrayvec.specs.ArrayVec.{ArrayVec}
 use Rattle.dfu_formats.specs.declared.memory.pages.Pages.{Pages}

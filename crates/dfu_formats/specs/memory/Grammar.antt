@@ -43,7 +43,7 @@ pub record IsGroup (start : ℕ) (p : Pages) (text : List ℕ) : Type 0 where
   pub starts : p.start ≡ start
   pub sound : IsRange p
 
--- What may precede an address: `0x`, `0X` or nothing.
+-- Prefix that may precede an address: `0x`, `0X` or nothing.
 abbrev pub IsPrefix : List ℕ → Type 0
 IsPrefix [] = Unit {0}
 IsPrefix (a ∷ []) = ⊥

@@ -1,4 +1,4 @@
--- What a map says of an address.
+-- Facts of an address that a map says.
 use Rattle.std.specs.Prelude.{◌≡◌, ℕ, ◌+◌, ◌-◌, ◌*◌, ◌/◌, ◌<◌, ◌≤◌, ◌&&◌, ◌||◌, not, nat_lt, nat_le, Bool, true, List, [], ◌∷◌, Option, Some, None, if◌then◌else◌}
 use Rattle.std.specs.Option.{option_map}
 use Rattle.dfu_formats.specs.declared.memory.pages.Access.{Access}
@@ -32,7 +32,7 @@ page_at address ranges = option_map (page_in address) (range_at address ranges)
 abbrev pub end_of_page : Page → ℕ
 end_of_page p = p.start + p.size
 
--- What is wanted is granted.
+-- All that is wanted is granted.
 abbrev pub grants : (granted wanted : Access) → Bool
 grants granted wanted =
     (granted.is_readable || not wanted.is_readable)

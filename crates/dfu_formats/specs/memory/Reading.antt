@@ -1,4 +1,4 @@
--- How a map is read from the front of a string, piece by piece, with the fault of each piece.
+-- Reading of a map from the front of a string, piece by piece, with the fault of each piece.
 use Rattle.std.specs.Prelude.{ℕ, zero, suc, ◌+◌, ◌-◌, ◌*◌, ◌/◌, ◌%◌, ◌^◌, ◌==◌, ◌&&◌, ◌||◌, nat_lt, nat_le, Bool, if◌then◌else◌, List, [], ◌∷◌, length, take, drop, Option, Some, None, Result, Ok, Err}
 use Rattle.std.specs.List.{position}
 use Rattle.dfu_formats.specs.memory.Ranges.{end_of_range, are_apart}
@@ -31,7 +31,7 @@ digit_value b =
     else if nat_le 65 b && nat_le b 70 then b - 55
     else 16
 
--- How many digits of a base are at the front.
+-- Number of digits of a base at the front.
 unfoldable pub digits_in : (base : ℕ) → List ℕ → ℕ
 digits_in base [] = 0
 digits_in base (b ∷ bs) = if nat_lt (digit_value b) base then suc (digits_in base bs) else 0
@@ -47,7 +47,7 @@ map_number_at base most text =
     if digits_in base text == 0 || nat_lt most (digits_in base text) then None
     else Some (record { value = digits_number base 0 (take (digits_in base text) text); rest = drop (digits_in base text) text })
 
--- What follows this byte, if the text begins with it.
+-- Text behind this byte, if the text begins with it.
 unfoldable pub behind : ℕ → List ℕ → Option (List ℕ)
 behind byte [] = None
 behind byte (b ∷ bs) = if b == byte then Some bs else None
@@ -62,7 +62,7 @@ count_at text =
     or BadCount (map_number_at 10 5 text) >>= counting BadCount
     >>= λ n. or BadCount (behind 42 n.rest) >>= λ rest. Ok (record { value = n.value; rest = rest })
 
--- How many bytes a unit has: K, M, B and the space; 0 for any other byte.
+-- Bytes of a unit: K, M, B and the space; 0 for any other byte.
 abbrev pub unit_bytes : ℕ → ℕ
 unit_bytes b = if b == 75 then 1024 else if b == 77 then 1048576 else if b == 66 || b == 32 then 1 else 0
 
@@ -76,7 +76,7 @@ unit_at value (b ∷ bs) = if unit_bytes b == 0 then record { value = value; res
 unfoldable pub size_at : List ℕ → Result NumberRead MapFault
 size_at text = or BadSize (map_number_at 10 5 text) >>= counting BadSize >>= λ n. Ok (unit_at n.value n.rest)
 
--- What may be done with pages, and the text after the letter that says it.
+-- Access to pages, and the text after the letter that says it.
 pub record LetterRead : Type 0 where
   pub access : Access
   pub rest : List ℕ
@@ -125,8 +125,8 @@ address_at text =
 abbrev pub place_found : Result NumberRead MapFault → Result (Option NumberRead) MapFault
 place_found place = place >>= λ p. Ok (Some p)
 
--- Where the next range begins, after one that ends at this address: there after `,`, and at an address of its own after `/`; nowhere at
--- the end of the text.
+-- Place at which the next range begins, after one that ends at this address: there after `,`, and at an address of its own after `/`;
+-- nowhere at the end of the text.
 unfoldable pub next_at : (end : ℕ) → List ℕ → Result (Option NumberRead) MapFault
 next_at end [] = Ok None
 next_at end (b ∷ bs) =
@@ -170,7 +170,7 @@ cut_at text (Some n) = Some (record { name = trimmed (take n text); rest = drop 
 unfoldable pub map_name_at : List ℕ → Result Named MapFault
 map_name_at text = or NoMap (behind 64 text) >>= λ behind. or NoMap (cut_at behind (position is_stroke behind))
 
--- What a map says: a name, and ranges.
+-- Content of a map: a name, and ranges.
 pub record MapContent : Type 0 where
   pub name : List ℕ
   pub ranges : List Pages

@@ -107,7 +107,7 @@ impl<'f> Elements<'f> {
         Elements { left, rest }
     }
 
-    /// How many there are.
+    /// Returns the number of elements.
     pub fn len(&self) -> u32
         ensures { result ≡ length self.now }
     {

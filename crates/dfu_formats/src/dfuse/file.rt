@@ -67,7 +67,7 @@ fn read_body(ids: Ids, whole: usize, bytes: &[u8]) -> Result<File<'_>, FileFault
     }
 }
 
-/// What the bytes say, or their first fault.
+/// Reads the fields of the bytes, or returns their first fault.
 #[tactic(auto, unfolding(crate::specs::dfuse::Reading::file_at))]
 fn read_file(bytes: &[u8]) -> Result<File<'_>, FileFault>
     ensures { result ≡ file_at bytes.now }
@@ -85,7 +85,7 @@ fn read_file(bytes: &[u8]) -> Result<File<'_>, FileFault>
 ///
 /// The first fault, in the order of [`FileFault`].
 pub fn read(bytes: &[u8]) -> Result<File<'_>, FileFault>
-    // What is read is a file of the grammar.
+    // The result is a file of the grammar.
     ensures found { IfOk result (λ f. IsDfuSe f bytes.now) }
     // Each file of the grammar is read.
     ensures only { (f : DfuseContent) → IsDfuSe f bytes.now → result ≡ Ok f }

@@ -1,4 +1,4 @@
-//! What a target says before its elements.
+//! Fields of a target before its elements.
 
 ghost use Rattle.std.specs.Prelude.{◌≡◌};
 ghost use Rattle.dfu_formats.specs.dfuse.Reading.{heading_at};
@@ -8,7 +8,7 @@ use crate::dfuse::marks::is_target;
 use crate::dfuse::numbers::number_at;
 use std::marker::Model;
 
-/// What a target says before its elements, the bytes of these, and the bytes after the target.
+/// Fields of a target before its elements, the bytes of these, and the bytes after the target.
 #[derive(Drop)]
 pub(crate) struct Heading<'f> {
     pub setting: u8,

@@ -10,7 +10,7 @@ use crate::dfuse::listing::put;
 use std::fmt;
 use thiserror::Error;
 
-/// Why a file has no image for a setting: the first of these that holds.
+/// Faults for which a file has no image for a setting: the first of these that holds.
 #[derive(Clone, Copy, Debug, Error)]
 pub enum ImageFault {
     /// No target is for this alternate setting.
@@ -81,7 +81,7 @@ impl<'f> File<'f> {
         Ok(count)
     }
 
-    /// The same, by their addresses. It does not look whether they overlap: a session refuses that.
+    /// Lists the elements by their addresses. It does not look whether they overlap: a session refuses that.
     ///
     /// # Errors
     ///

@@ -11,7 +11,7 @@ use dfu_suffix::SuffixFault;
 use std::fmt;
 use thiserror::Error;
 
-/// Why a file can't be written to an address: the first of these that holds.
+/// Faults for which a file can't be written to an address: the first of these that holds.
 #[derive(Clone, Copy, Debug, Error)]
 pub enum RawFault {
     /// The file has over 16,777,216 bytes.
@@ -44,7 +44,7 @@ impl fmt::Display for RawFault {
     }
 }
 
-/// Why a file with this fault isn't taken, if it isn't.
+/// Returns the refusal of a file with this fault, if it is refused.
 fn refusal(fault: SuffixFault) -> Option<RawFault>
     ensures { result ≡ raw_refusal fault }
 {
@@ -57,7 +57,7 @@ fn refusal(fault: SuffixFault) -> Option<RawFault>
     }
 }
 
-/// What precedes a suffix; a file without one has nothing else.
+/// Returns the bytes before a suffix; a file without one has nothing else.
 fn payload_of(bytes: &[u8]) -> Result<&[u8], RawFault>
     ensures { MatchResult result (λ payload. payload_by (find (has_fault bytes.now) fault_order) bytes.now ≡ Ok payload.now)
         (λ fault. payload_by (find (has_fault bytes.now) fault_order) bytes.now ≡ Err fault) }
@@ -71,7 +71,7 @@ fn payload_of(bytes: &[u8]) -> Result<&[u8], RawFault>
     }
 }
 
-/// Whether a file begins with the letters DfuSe.
+/// Returns whether a file begins with the letters DfuSe.
 #[tactic(auto, using(std::proofs::lemmas::Bool::Decides::nat_tests))]
 fn has_prefix(bytes: &[u8]) -> bool
     ensures { result ≡ has_prefix bytes.now }

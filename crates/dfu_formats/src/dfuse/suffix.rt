@@ -46,7 +46,7 @@ fn field(place: usize, tail: &[u8]) -> u16
     LittleEndian::read_u16(field)
 }
 
-/// Whether dwCRC isn't the register over the bytes before it.
+/// Returns whether dwCRC isn't the register over the bytes before it.
 fn has_bad_crc(bytes: &[u8]) -> bool
     requires { 16 ≤ length bytes.now }
     ensures { result ≡ has_fault bytes.now suffix.BadCrc }
@@ -58,7 +58,7 @@ fn has_bad_crc(bytes: &[u8]) -> bool
     LittleEndian::read_u32(crc) != over.value()
 }
 
-/// What the last 16 bytes say.
+/// Returns the fields of the last 16 bytes.
 fn suffixed_by(bytes: &[u8]) -> Suffixed<'_>
     requires long { 16 ≤ length bytes.now }
     ensures { result ≡ suffixed_by bytes.now }
@@ -75,7 +75,7 @@ fn suffixed_by(bytes: &[u8]) -> Suffixed<'_>
     }
 }
 
-/// Whether this is the fault that a DfuSe file has.
+/// Returns whether this is the fault that a DfuSe file has.
 fn is_dfuse(fault: SuffixFault) -> bool
     ensures { result ≡ is_dfuse fault }
 {
@@ -85,7 +85,7 @@ fn is_dfuse(fault: SuffixFault) -> bool
     }
 }
 
-/// Why a file with another fault is not a DfuSe file.
+/// Returns the fault for which a file with another fault is not a DfuSe file.
 fn refusal(fault: SuffixFault) -> FileFault
     ensures { result ≡ refusal fault }
 {
@@ -98,7 +98,7 @@ fn refusal(fault: SuffixFault) -> FileFault
     }
 }
 
-/// What precedes a suffix with bcdDFU 011Ah.
+/// Returns the bytes before a suffix with bcdDFU 011Ah.
 fn read_signed(bytes: &[u8]) -> Result<Suffixed<'_>, FileFault>
     requires { 16 ≤ length bytes.now }
     ensures { result ≡ signed_by bytes.now }

@@ -10,12 +10,12 @@ use crate::dfuse::fault::FileFault;
 use crate::dfuse::headings::take_heading;
 use std::marker::Model;
 
-/// What goes into the memory of an alternate setting.
+/// Elements for the memory of an alternate setting.
 #[derive(Drop)]
 pub struct Target<'f> {
     /// The alternate setting.
     pub setting: u8,
-    /// Whether the target has a name: 0 if it has none.
+    /// Tells whether the target has a name: 0 if it has none.
     pub named: u32,
     /// The 255 bytes for its name, which ends at the first 0.
     pub name: &'f [u8],
@@ -71,7 +71,7 @@ impl<'f> Targets<'f> {
         Targets { left, rest }
     }
 
-    /// How many there are.
+    /// Returns the number of targets.
     pub fn len(&self) -> u8
         ensures { result ≡ length self.now }
     {

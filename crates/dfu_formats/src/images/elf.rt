@@ -12,7 +12,7 @@ use crate::images::numbers::{le16, le32};
 use crate::images::parts::{ByPart, elements_by_part};
 use std::alloc::Global;
 
-/// Whether a file has the header of such a file.
+/// Returns whether a file has the header of such a file.
 #[tactic(auto, using(std::proofs::lemmas::Bool::Decides::nat_tests))]
 fn is_elf(file: &[u8]) -> bool
     ensures value { result ≡ is_elf file.now }
@@ -62,7 +62,7 @@ impl ByPart for Segments<'_> {
 /// The elements of a file.
 #[tactic(auto, using(std::proofs::lemmas::Bool::Decides::nat_tests), unfolding(crate::specs::images::Elf::elf_elements_of))]
 pub fn read(alloc: Global, file: &[u8]) -> Result<Vec<Element>, ImageFault>
-    // What the file says, or its first fault.
+    // The result is the list of the file's elements, or its first fault.
     ensures value { Lists result (elf_elements_of file.now) }
     // The elements are by address, and no two share one.
     ensures apart { IfOk result (λ v. AreApart 0 v.items) }

@@ -1,11 +1,11 @@
-//! What the ending of a file's name says.
+//! Formats by the ending of a file's name.
 
 ghost use Rattle.std.specs.Prelude.{◌≡◌};
 ghost use Rattle.dfu_formats.specs.images.Endings.{name_ending, ends_in};
 
 use crate::images::format::Format;
 
-/// What the ending of a file's name says that it is.
+/// Format that the ending of a file's name says.
 #[derive(Clone, Copy)]
 pub enum Ending {
     /// A file of a format that builds produce.
@@ -14,7 +14,7 @@ pub enum Ending {
     Dfu,
 }
 
-/// Whether a name has this ending, in letters of either case.
+/// Returns whether a name has this ending, in letters of either case.
 #[tactic(auto, unfolding(crate::specs::images::Endings::ends_in))]
 fn ends_in(ending: &[u8], name: &[u8]) -> bool
     ensures { result ≡ ends_in ending.now name.now }
@@ -26,7 +26,7 @@ fn ends_in(ending: &[u8], name: &[u8]) -> bool
     last.eq_ignore_ascii_case(ending)
 }
 
-/// What the ending of a name says, if anything.
+/// Returns the format that the ending of a name says, if it says one.
 pub(crate) fn name_ending(name: &[u8]) -> Option<Ending>
     ensures { result ≡ name_ending name.now }
 {

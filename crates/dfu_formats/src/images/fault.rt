@@ -1,11 +1,11 @@
-//! Why a file is refused.
+//! Faults for which a file is refused.
 
 ghost use Rattle.std.specs.Prelude.{◌<◌};
 
 use std::fmt;
 use thiserror::Error;
 
-/// Why a file has no image. Lines are counted from 1, and blocks and segments from 0.
+/// Faults for which a file has no image. Lines are counted from 1, and blocks and segments from 0.
 #[derive(Clone, Copy, Error)]
 pub enum ImageFault {
     /// An allocation was refused.

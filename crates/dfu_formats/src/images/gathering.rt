@@ -34,7 +34,7 @@ impl Model for Gathering {
     ghost invariant = { λ g. (g.total ≤ 16777216) × (g.address + length g.bytes.items ≤ 2 ^ 32) };
 }
 
-/// How many elements have an address up to this one, counted from the front.
+/// Counts the elements that have an address up to this one, from the front.
 fn place_of(address: u32, elements: &[Element]) -> usize
     ensures value { result ≡ element_place address elements.now }
     ensures within { result ≤ length elements.now }

@@ -72,7 +72,7 @@ fn framed(at: usize, bytes: &[u8]) -> Result<Record<'_>, ImageFault>
     })
 }
 
-/// Whether the data of a record goes past the end of its segment, if it has one.
+/// Returns whether the data of a record goes past the end of its segment, if it has one.
 fn leaves_segment(state: &State, said: &Record<'_>) -> bool
     requires { said.now.offset < 65536 }
     ensures { result ≡ leaves_segment state.now said.now }
@@ -159,7 +159,7 @@ impl TextFormat for IntelHex {
 /// The elements of a file.
 #[tactic(auto, using(std::proofs::lemmas::Bool::Decides::nat_tests), unfolding(crate::specs::images::IntelHex::hex_elements_of))]
 pub fn read(alloc: Global, text: &[u8]) -> Result<Vec<Element>, ImageFault>
-    // What the file says, or its first fault.
+    // The result is the list of the file's elements, or its first fault.
     ensures value { Lists result (hex_elements_of text.now) }
     // The elements are by address, and no two share one.
     ensures apart { IfOk result (λ v. AreApart 0 v.items) }

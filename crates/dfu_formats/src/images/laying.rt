@@ -10,7 +10,7 @@ use std::alloc::Global;
 use std::fmt;
 use thiserror::Error;
 
-/// Why elements do not make an image.
+/// Faults of elements that do not make an image.
 #[derive(Clone, Copy, Debug, Error)]
 pub enum LayFault {
     /// An allocation was refused.

@@ -15,7 +15,7 @@ use crate::images::text::{is_blank_byte, unblanked, unmarked};
 use std::alloc::Global;
 use std::marker::Model;
 
-/// Where the first line feed is.
+/// Returns the place of the first line feed.
 fn feed_in(text: &[u8]) -> Option<usize>
     ensures value { result ≡ position is_feed text.now }
     ensures within { IfSome result (λ at. at < length text.now) }
@@ -51,8 +51,8 @@ fn bare(line: &[u8]) -> &[u8]
     kept
 }
 
-/// What was read of a text up to a line: the elements, what Intel HEX counts offsets from, whether that is a segment of 65,536 bytes,
-/// how many S-records of data there were, whether the text may end here, and whether only blank lines may follow.
+/// State of the reading of a text up to a line: the elements, what Intel HEX counts offsets from, whether that is a segment of 65,536
+/// bytes, how many S-records of data there were, whether the text may end here, and whether only blank lines may follow.
 #[derive(Drop)]
 pub(crate) struct State {
     pub gathering: Gathering,
@@ -85,7 +85,7 @@ impl Model for State {
 pub(crate) trait TextFormat {
     ghost use Rattle.dfu_formats.specs.images.Lines as lines;
 
-    /// What comes of the record on a line, by the number of the line.
+    /// Result of the record on a line, by the number of the line.
     ghost step: { (at : ℕ) → lines.State → List ℕ → Result lines.State declared.ImageFault };
 
     fn step(alloc: Global, at: usize, state: State, line: &[u8]) -> Result<State, ImageFault>
@@ -94,7 +94,7 @@ pub(crate) trait TextFormat {
         ensures counted { IfOk result (λ s. s.count ≤ state.count + 1) };
 }
 
-/// Whether a line has nothing but blanks.
+/// Returns whether a line has nothing but blanks.
 fn is_blank_line(line: &[u8]) -> bool
     ensures { result ≡ list_all is_blank_byte line.now }
 {
@@ -156,7 +156,7 @@ pub(crate) fn elements_by_line<F: TextFormat>(
     alloc: Global,
     text: &[u8],
 ) -> Result<Vec<Element>, ImageFault>
-    // What the text says, or its first fault.
+    // The result is the list of the text's elements, or its first fault.
     ensures value { Lists result (elements_by_line F.step text.now) }
     // The elements are by address, and no two share one.
     ensures apart { IfOk result (λ v. AreApart 0 v.items) }

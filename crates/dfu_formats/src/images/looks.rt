@@ -1,4 +1,4 @@
-//! What a file without a DFU suffix is.
+//! Looks of a file without a DFU suffix.
 
 ghost use Rattle.std.specs.Prelude.{◌≡◌};
 ghost use Rattle.dfu_formats.specs.images.Looks.{begins_ihex, begins_srec, has_digits, look_of, looks_by_name, looks_of};
@@ -24,7 +24,7 @@ pub enum NotImage {
     Named(Ending),
 }
 
-/// What a file is.
+/// Look of a file.
 #[derive(Clone, Copy)]
 pub enum Looks {
     /// Nothing is known against a raw image.
@@ -40,13 +40,13 @@ pub enum Looks {
 pub struct Look {
     /// What it is.
     pub looks: Looks,
-    /// What the ending of its name says, whatever its bytes are.
+    /// Format that the ending of its name says, whatever its bytes are.
     pub ending: Option<Ending>,
     /// The first byte that no record has there, of a file that looks like Intel HEX or S-records.
     pub bad: Option<Place>,
 }
 
-/// Whether the first two bytes are hexadecimal digits.
+/// Returns whether the first two bytes are hexadecimal digits.
 #[tactic(auto, using(std::proofs::lemmas::Bool::Decides::nat_tests))]
 fn has_digits(text: &[u8]) -> bool
     ensures { result ≡ has_digits text.now }
@@ -57,7 +57,7 @@ fn has_digits(text: &[u8]) -> bool
     }
 }
 
-/// Whether the text of a file begins as Intel HEX.
+/// Returns whether the text of a file begins as Intel HEX.
 #[tactic(auto, using(std::proofs::lemmas::Bool::Decides::nat_tests))]
 fn begins_ihex(file: &[u8], text: &[u8]) -> bool
     ensures { result ≡ begins_ihex file.now text.now }
@@ -68,7 +68,7 @@ fn begins_ihex(file: &[u8], text: &[u8]) -> bool
     }
 }
 
-/// Whether a text begins as an S-record.
+/// Returns whether a text begins as an S-record.
 #[tactic(auto, using(std::proofs::lemmas::Bool::Decides::nat_tests))]
 fn begins_srec(text: &[u8]) -> bool
     ensures { result ≡ begins_srec text.now }
@@ -79,7 +79,7 @@ fn begins_srec(text: &[u8]) -> bool
     }
 }
 
-/// What a file is if its bytes say nothing.
+/// Returns the look of a file whose bytes say nothing.
 fn looks_by_name(ending: Option<Ending>) -> Looks
     ensures { result ≡ looks_by_name ending }
 {
@@ -89,7 +89,7 @@ fn looks_by_name(ending: Option<Ending>) -> Looks
     }
 }
 
-/// What a file is, by its bytes and what its name says.
+/// Returns the look of a file, by its bytes and the ending of its name.
 fn looks_of(file: &[u8], ending: Option<Ending>) -> Looks
     ensures { result ≡ looks_of file.now ending }
 {

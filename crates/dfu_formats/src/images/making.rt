@@ -22,7 +22,7 @@ pub struct Image {
     pub bytes: Vec<u8>,
 }
 
-/// Why there is no image of a file.
+/// Faults for which there is no image of a file.
 #[derive(Clone, Copy, Debug, Error)]
 pub enum ImageFileFault {
     /// It can't be read.

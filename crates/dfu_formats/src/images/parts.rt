@@ -11,12 +11,12 @@ use crate::images::fault::ImageFault;
 use crate::images::gathering::Gathering;
 use std::alloc::Global;
 
-/// What is known of a file before its parts are read, in a format that is read part by part.
+/// Facts of a file before its parts are read, in a format that is read part by part.
 pub(crate) trait ByPart {
-    /// How many bytes a part has.
+    /// Bytes of a part.
     ghost size: { Self → ℕ };
 
-    /// What comes of a part, by its index.
+    /// Result of a part, by its index.
     ghost part_read: { Self → (index : ℕ) → elements.Gathering → List ℕ → Result elements.Gathering declared.ImageFault };
 
     fn part_read(
@@ -30,7 +30,7 @@ pub(crate) trait ByPart {
         ensures { Gives result (part_read self.now index gathering part.now) };
 }
 
-/// What so many parts give.
+/// Parses the first `total` parts.
 fn parts_read<F: ByPart>(
     alloc: Global,
     file: &F,
@@ -67,7 +67,7 @@ pub(crate) fn elements_by_part<F: ByPart>(
 ) -> Result<Vec<Element>, ImageFault>
     requires sized { size ≡ F.size file.now }
     requires whole { total * size ≤ length parts.now }
-    // What the parts say, or the first fault.
+    // The result is the list of the parts' elements, or the first fault.
     ensures value { Lists result (elements_by_part size (F.part_read file.now) total parts.now) }
     // The elements are by address, and no two share one.
     ensures apart { IfOk result (λ v. AreApart 0 v.items) }

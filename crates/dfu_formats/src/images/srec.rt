@@ -88,7 +88,7 @@ impl TextFormat for SRecord {
 /// The elements of a file.
 #[tactic(auto, using(std::proofs::lemmas::Bool::Decides::nat_tests), unfolding(crate::specs::images::SRecord::srec_elements_of))]
 pub fn read(alloc: Global, text: &[u8]) -> Result<Vec<Element>, ImageFault>
-    // What the file says, or its first fault.
+    // The result is the list of the file's elements, or its first fault.
     ensures value { Lists result (srec_elements_of text.now) }
     // The elements are by address, and no two share one.
     ensures apart { IfOk result (λ v. AreApart 0 v.items) }

@@ -13,7 +13,7 @@ pub(crate) fn unmarked(text: &[u8]) -> &[u8]
     }
 }
 
-/// Whether a byte is a space, a tab or a carriage return.
+/// Returns whether a byte is a space, a tab or a carriage return.
 pub(crate) fn is_blank_byte(byte: u8) -> bool
     ensures { result ≡ is_blank_byte byte }
 {
@@ -35,7 +35,7 @@ pub(crate) fn unblanked(text: &[u8]) -> &[u8]
     rest
 }
 
-/// Whether a byte is no control character but a tab, line feed, form feed or carriage return.
+/// Returns whether a byte is no control character but a tab, line feed, form feed or carriage return.
 #[tactic(auto, using(std::proofs::lemmas::Bool::Decides::nat_tests))]
 fn is_text_byte(byte: u8) -> bool
     ensures { result ≡ is_text_byte byte }
@@ -46,7 +46,7 @@ fn is_text_byte(byte: u8) -> bool
     }
 }
 
-/// What is awaited of a character of UTF-8: how many bytes, and the bounds of the next one.
+/// Bytes that are awaited of a character of UTF-8: how many, and the bounds of the next one.
 #[derive(Clone, Copy)]
 struct Awaited {
     left: u8,
@@ -61,7 +61,7 @@ const NOTHING: Awaited = Awaited {
     high: 0xbf,
 };
 
-/// What is awaited behind the first byte of a character.
+/// Returns the bytes that are awaited behind the first byte of a character.
 #[tactic(auto, using(std::proofs::lemmas::Bool::Decides::nat_tests))]
 fn awaited_behind_first(byte: u8) -> Option<Awaited>
     ensures { result ≡ awaited_behind_first byte }
@@ -84,7 +84,7 @@ fn awaited_behind_first(byte: u8) -> Option<Awaited>
     Some(Awaited { left, low, high })
 }
 
-/// What is awaited behind a byte.
+/// Returns the bytes that are awaited behind a byte.
 #[tactic(auto, using(std::proofs::lemmas::Bool::Decides::nat_tests))]
 fn awaited_behind(awaited: Awaited, byte: u8) -> Option<Awaited>
     ensures { result ≡ awaited_behind awaited byte }
@@ -101,7 +101,7 @@ fn awaited_behind(awaited: Awaited, byte: u8) -> Option<Awaited>
     None
 }
 
-/// Whether bytes are characters of UTF-8, none of them another control character.
+/// Returns whether bytes are characters of UTF-8, none of them another control character.
 #[tactic(auto, using(std::proofs::lemmas::Bool::Decides::nat_tests), unfolding(crate::specs::images::Text::text_from))]
 fn are_characters(bytes: &[u8]) -> bool
     ensures { result ≡ text_from nothing_awaited bytes.now }
@@ -116,7 +116,7 @@ fn are_characters(bytes: &[u8]) -> bool
     awaited.left == 0
 }
 
-/// Whether a file is text alone: UTF-8, without other control characters.
+/// Returns whether a file is text alone: UTF-8, without other control characters.
 #[tactic(auto, using(std::proofs::lemmas::Bool::Decides::nat_tests))]
 pub(crate) fn is_text(file: &[u8]) -> bool
     ensures { result ≡ is_text file.now }

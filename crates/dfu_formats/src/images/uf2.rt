@@ -13,7 +13,7 @@ use crate::images::numbers::le32;
 use crate::images::parts::{ByPart, elements_by_part};
 use std::alloc::Global;
 
-/// Whether a block has its three marks.
+/// Returns whether a block has its three marks.
 fn is_block(block: &[u8]) -> bool
     requires { length block.now ≡ 512 }
     ensures { result ≡ is_uf2_block block.now }
@@ -23,7 +23,7 @@ fn is_block(block: &[u8]) -> bool
         && le32(block, 508) == 0x0ab1_6f30
 }
 
-/// Whether a block has a flag.
+/// Returns whether a block has a flag.
 fn has_flag(block: &[u8], flag: u32) -> bool
     requires size { length block.now ≡ 512 }
     requires flag { 1 ≤ flag }
@@ -76,7 +76,7 @@ fn flashed(
     gathering.add(alloc, index, address, content)
 }
 
-/// What blocks have to name: how many they are, and the family of the first.
+/// Fields that blocks have to name: how many they are, and the family of the first.
 #[derive(Drop)]
 struct Blocks {
     total: usize,
@@ -112,7 +112,7 @@ impl ByPart for Blocks {
 /// The elements of a file.
 #[tactic(auto, using(std::proofs::lemmas::Bool::Decides::nat_tests), unfolding(crate::specs::images::Blocks::uf2_elements_of))]
 pub fn read(alloc: Global, file: &[u8]) -> Result<Vec<Element>, ImageFault>
-    // What the file says, or its first fault.
+    // The result is the list of the file's elements, or its first fault.
     ensures value { Lists result (uf2_elements_of file.now) }
     // The elements are by address, and no two share one.
     ensures apart { IfOk result (λ v. AreApart 0 v.items) }

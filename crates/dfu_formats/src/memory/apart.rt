@@ -1,4 +1,4 @@
-//! Whether ranges share an address.
+//! Test that ranges share no address.
 
 ghost use Rattle.std.specs.Prelude.{◌≡◌};
 ghost use Rattle.std.specs.List.{All};
@@ -7,7 +7,7 @@ ghost use Rattle.dfu_formats.specs.memory.Ranges.{IsRange, is_apart, is_apart_fr
 use crate::memory::pages::Pages;
 use crate::memory::ranges::end_of;
 
-/// Whether two ranges share no address.
+/// Returns whether two ranges share no address.
 fn is_apart(one: &Pages, other: &Pages) -> bool
     requires one { IsRange one.now }
     requires other { IsRange other.now }
@@ -16,7 +16,7 @@ fn is_apart(one: &Pages, other: &Pages) -> bool
     end_of(one) <= other.start as u64 || end_of(other) <= one.start as u64
 }
 
-/// Whether a range shares no address with any of these.
+/// Returns whether a range shares no address with any of these.
 fn is_apart_from(one: &Pages, others: &[Pages]) -> bool
     requires one { IsRange one.now }
     requires others { All IsRange others.now }
@@ -30,7 +30,7 @@ fn is_apart_from(one: &Pages, others: &[Pages]) -> bool
     true
 }
 
-/// Whether no two ranges share an address.
+/// Returns whether no two ranges share an address.
 pub(crate) fn are_apart(ranges: &[Pages]) -> bool
     requires { All IsRange ranges.now }
     ensures { result ≡ are_apart ranges.now }

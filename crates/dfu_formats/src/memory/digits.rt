@@ -18,7 +18,7 @@ fn digit_value(byte: u8) -> u64
     }
 }
 
-/// How many digits in this base are at the front.
+/// Counts the digits in this base at the front.
 fn digits_in(base: u64, text: &[u8]) -> usize
     ensures value { result ≡ digits_in base text.now }
     ensures within { result ≤ length text.now }

@@ -1,9 +1,9 @@
-//! Why a string is refused.
+//! Faults for which a string is refused.
 
 use std::fmt;
 use thiserror::Error;
 
-/// Why a string isn't a memory map. It is read from the front, and the first fault met is the answer; Overlaps is looked for
+/// Faults of a string that isn't a memory map. It is read from the front, and the first fault met is the answer; Overlaps is looked for
 /// once all is read.
 #[derive(Clone, Copy, Error)]
 pub enum MapFault {

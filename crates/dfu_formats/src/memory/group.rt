@@ -11,7 +11,7 @@ use crate::memory::pages::{Access, Pages};
 use crate::memory::text::{Number, behind, front};
 use std::marker::Model;
 
-/// What may be done with pages, and the text after the letter that says it.
+/// Access to pages, and the text after the letter that says it.
 #[derive(Drop)]
 struct Allowed<'t> {
     access: Access,
@@ -43,7 +43,7 @@ impl<'t> Model for Group<'t> {
     ghost view = { λ g. record { pages = g.pages; rest = g.rest.now } };
 }
 
-/// How many bytes a unit has, or 0.
+/// Returns the bytes of a unit, or 0.
 fn unit_of(byte: u8) -> u64
     ensures value { result ≡ unit_bytes byte }
     ensures small { result ≤ 2 ^ 20 }
@@ -104,7 +104,7 @@ fn take_size(text: &[u8]) -> Result<Number<'_>, MapFault>
     }
 }
 
-/// What the bits of a letter say, from `a`, which has only the lowest bit.
+/// Returns the access that the bits of a letter say, from `a`, which has only the lowest bit.
 fn access_of(letter: u8) -> Access
     requires { 97 ≤ letter }
     ensures { result ≡ access_of letter }

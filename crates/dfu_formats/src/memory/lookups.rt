@@ -1,4 +1,4 @@
-//! What ranges say of an address.
+//! Lookups of an address in ranges.
 
 ghost use Rattle.std.specs.Prelude.{◌≡◌, ◌≤◌, ◌<◌, ◌+◌, ◌^◌, ◌↔◌, true, IsTrue, IfSome};
 ghost use Rattle.std.specs.List.{All};
@@ -8,7 +8,7 @@ ghost use Rattle.dfu_formats.specs.memory.Lookups.{has, range_at, page_at, page_
 use crate::memory::pages::{Access, Page, Pages};
 use crate::memory::ranges::end_of;
 
-/// Whether a range has this address.
+/// Returns whether a range has this address.
 fn has(address: u64, pages: &Pages) -> bool
     requires { IsRange pages.now }
     ensures { result ≡ has address pages.now }
@@ -62,7 +62,7 @@ pub(crate) fn page_at(address: u64, ranges: &[Pages]) -> Option<Page>
     }
 }
 
-/// Whether each address from the first up to before the second is in a range that grants what is wanted.
+/// Returns whether each address from the first up to before the second is in a range that grants what is wanted.
 pub(crate) fn all_granted(wanted: Access, start: u64, end: u64, ranges: &[Pages]) -> bool
     requires sound { All IsRange ranges.now }
     requires apart { are_apart ranges.now ≡ true }

@@ -39,7 +39,7 @@ impl<'t> Model for Map<'t> {
     ghost invariant = { λ m. All IsRange m.ranges.items × (are_apart m.ranges.items ≡ true) };
 }
 
-/// What a string says, or its first fault.
+/// Reads the map of a string, or returns its first fault.
 #[tactic(auto, using(std::proofs::lemmas::Bool::Decides::nat_tests), unfolding(crate::specs::memory::Reading::map_at))]
 fn read_map(text: &[u8]) -> Result<Map<'_>, MapFault>
     ensures { result ≡ map_at text.now }
@@ -72,7 +72,7 @@ impl<'t> Map<'t> {
     ///
     /// The fault of the first place at which the string is not a map, or Overlaps.
     pub fn read(text: &'t [u8]) -> Result<Map<'t>, MapFault>
-        // What is read is a map.
+        // The result is a map.
         ensures found { IfOk result (λ m. IsMap m text.now) }
         // Each map is read.
         ensures only { (m : MapContent) → IsMap m text.now → result ≡ Ok m }
@@ -114,7 +114,7 @@ impl<'t> Map<'t> {
         lookups::page_at(address as u64, &self.ranges)
     }
 
-    /// Whether each address from the first up to before the second lies in a range that grants what is wanted.
+    /// Returns whether each address from the first up to before the second lies in a range that grants what is wanted.
     pub fn grants(&self, wanted: Access, start: u64, end: u64) -> bool
         ensures { IsTrue result ↔ AllGranted wanted start end self.now.ranges }
     {

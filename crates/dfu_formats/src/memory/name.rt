@@ -39,7 +39,7 @@ fn trimmed(bytes: &[u8]) -> &[u8]
     kept
 }
 
-/// Where the first `/` is.
+/// Returns the place of the first `/`.
 fn stroke_in(text: &[u8]) -> Option<usize>
     ensures value { result ≡ position is_stroke text.now }
     ensures within { IfSome result (λ at. at < length text.now) }

@@ -3,7 +3,7 @@
 ghost use Rattle.std.specs.Prelude.{◌≡◌};
 ghost use Rattle.dfu_formats.specs.memory.Lookups.{grants};
 
-/// What may be done with a page.
+/// Access to a page.
 #[derive(Clone, Copy, Default)]
 pub struct Access {
     pub is_readable: bool,
@@ -12,7 +12,7 @@ pub struct Access {
 }
 
 impl Access {
-    /// Whether all that is wanted is granted.
+    /// Returns whether all that is wanted is granted.
     pub fn grants(self, wanted: Access) -> bool
         ensures { result ≡ grants self wanted }
     {
@@ -27,11 +27,11 @@ impl Access {
 pub struct Pages {
     /// The address of the first byte.
     pub start: u32,
-    /// How many bytes each page has, up to 2^32.
+    /// Bytes of each page, up to 2^32.
     pub size: u64,
-    /// How many pages there are.
+    /// Number of pages.
     pub count: u32,
-    /// What may be done with each.
+    /// Access to each page.
     pub access: Access,
 }
 
@@ -40,8 +40,8 @@ pub struct Pages {
 pub struct Page {
     /// The address of the first byte.
     pub start: u32,
-    /// How many bytes it has, up to 2^32.
+    /// Bytes of the page, up to 2^32.
     pub size: u64,
-    /// What may be done with it.
+    /// Access to the page.
     pub access: Access,
 }

@@ -1,4 +1,4 @@
-//! Where ranges begin: at an address of their own, or where the one before ends.
+//! Starts of ranges: at an address of their own, or where the one before ends.
 
 ghost use Rattle.std.specs.Prelude.{◌≡◌, ◌<◌, ◌^◌, IfOk, IfSome};
 ghost use Rattle.dfu_formats.specs.memory.Reading.{behind_prefix, address_at, next_at};

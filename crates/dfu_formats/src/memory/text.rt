@@ -33,7 +33,7 @@ pub(crate) fn front(text: &[u8]) -> Option<(u8, &[u8])>
     Some((byte, rest))
 }
 
-/// What follows this byte, if the text begins with it.
+/// Returns the text behind this byte, if the text begins with it.
 #[tactic(auto, using(std::proofs::lemmas::Bool::Decides::nat_tests), unfolding(crate::specs::memory::Reading::behind))]
 pub(crate) fn behind(byte: u8, text: &[u8]) -> Option<&[u8]>
     ensures { MatchOption result (behind byte text.now ≡ None) (λ rest. behind byte text.now ≡ Some rest.now) }

@@ -2,7 +2,7 @@
 
 use crate::json::name::Name;
 
-/// What a word of a line is in an object.
+/// Kind of a word of a line in an object.
 #[derive(Clone, Copy)]
 pub(crate) enum WordKind {
     /// A decimal number: a number.

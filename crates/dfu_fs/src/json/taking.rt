@@ -12,14 +12,14 @@ use crate::json::quoting::push_quoted;
 use crate::json::words::{list_length, rest_after, word_in};
 use std::alloc::AllocError;
 
-/// Whether each byte of a word is a digit.
+/// Returns whether each byte of a word is a digit.
 fn is_digits(word: &[u8]) -> bool
     ensures { result ≡ list_all is_ascii_digit word.now }
 {
     word.iter().all(|byte| byte.is_ascii_digit())
 }
 
-/// Whether a word is a number of JSON.
+/// Returns whether a word is a number of JSON.
 fn is_number(word: &[u8]) -> bool
     ensures { result ≡ is_number word.now }
 {

@@ -4,7 +4,7 @@ ghost use Rattle.std.specs.Prelude.{◌≡◌, ◌≤◌, codes, length, nat_eq,
 ghost use Rattle.std.specs.List.{position, position_or_len, starts_with};
 ghost use Rattle.dfu_fs.specs.Parts.{is_space, list_length, rest_after, word_in};
 
-/// What ends a list before the end of a line.
+/// Text that ends a list before the end of a line.
 const EVENTS: &[u8] = b" events ";
 
 /// The first space.
@@ -14,7 +14,7 @@ fn first_space(line: &[u8]) -> Option<usize>
     line.iter().position(|byte| *byte == b' ')
 }
 
-/// How many bytes the first word has.
+/// Returns the length of the first word.
 fn word_length(line: &[u8]) -> usize
     ensures value { result ≡ position_or_len is_space line.now }
     ensures within { result ≤ length line.now }
@@ -59,7 +59,7 @@ pub(crate) fn rest_after<'l>(line: &'l [u8], text: &str) -> Option<&'l [u8]>
     Some(&behind[1..])
 }
 
-/// How many bytes a list has: up to ` events `, or to the end.
+/// Returns the length of a list: up to ` events `, or to the end.
 pub(crate) fn list_length(line: &[u8]) -> usize
     ensures value { result ≡ list_length line.now }
     ensures within { result ≤ length line.now }

@@ -24,7 +24,7 @@ pub data CannotForm (grain : Grain) (capacity : ℕ) (image : List ℕ) : Type 0
   cuts_sector : 0 < grain.sector → capacity % grain.sector ≢ 0 → CannotForm grain capacity image
   too_long : capacity < length image → CannotForm grain capacity image
 
--- Why there is none: that, or there is no memory.
+-- There is none for this reason: that, or there is no memory.
 abbrev pub FormFalls : Grain → ℕ → List ℕ → ScriptFault → Type 0
 FormFalls grain capacity image BadConfig = CannotForm grain capacity image
 FormFalls grain capacity image NoMemory = Unit {0}

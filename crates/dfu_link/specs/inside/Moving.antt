@@ -1,4 +1,4 @@
--- What lines do one after the other, as the loops of the code have it.
+-- Acts of lines one after the other, as the loops of the code have it.
 use Rattle.std.specs.Prelude.{◌≡◌, ℕ, ◌+◌, List, [], ◌++◌, Bool, true, false, Option, Some, None, Result, IfSome, OnOk, IfErr, replicate}
 use Rattle.std.specs.Io.KnownBytes.{Appends, IsAtEnd}
 use Rattle.dfu_slots.specs.Medium.Fuse.{Whole}
@@ -30,14 +30,14 @@ pub record HasPlayed (check : List ℕ) (b : LinkView) (e : Option Expectation) 
   pub plays : AllCome check b events out b'
   pub prints : Prints e old out e' new
 
--- How playing events went: with Ok they were played, and with a fault it stopped among them.
+-- Playing events went like this: with Ok they were played, and with a fault it stopped among them.
 pub record PlaysEvents (check : List ℕ) (b : LinkView) (e : Option Expectation) (events : List Happening) (old : Option (List ℕ))
     (b' : LinkView)
     (e' : Option Expectation) (new : Option (List ℕ)) (r : Result Unit ScriptFault) : Type 0 where
   pub ok : OnOk r (HasPlayed check b e events old b' e' new)
   pub fault : IfErr r (λ f. HasBroken check b e events old new f)
 
--- What a line says was done, and what it prints is out.
+-- The acts of a line are done, and its text is out.
 pub record HasDoneLine (p : Point) (said : Said) (old : Option (List ℕ)) (p' : Point) (new : Option (List ℕ)) : Type 0 where
   pub out : List ℕ
   pub acts : (k : ℕ) → LineActs k p said out p'
@@ -47,7 +47,7 @@ pub record HasDoneLine (p : Point) (said : Said) (old : Option (List ℕ)) (p' :
 abbrev pub HasStopped : Point → Said → Option (List ℕ) → Option (List ℕ) → ScriptFault → Type 0
 HasStopped p said old new fault = (k : ℕ) (line : List ℕ) → line_of p.given line ≡ Some said → LineFalls p k line old new fault
 
--- How doing what a line says went.
+-- Doing the acts of a line went like this.
 pub record DoesLine (p : Point) (said : Said) (old : Option (List ℕ)) (p' : Point) (new : Option (List ℕ)) (r : Result Unit ScriptFault)
     : Type 0 where
   pub ok : OnOk r (HasDoneLine p said old p' new)
@@ -78,7 +78,7 @@ pub record Steps (k : ℕ) (p : Point) (line : List ℕ) (old : Option (List ℕ
   pub acts : LineActs k p said out p'
   pub told : Appends old new out
 
--- How line k went.
+-- Line k went like this.
 pub record LineEnds (k : ℕ) (p : Point) (line : List ℕ) (old : Option (List ℕ)) (p' : Point) (new : Option (List ℕ))
     (r : Result Unit ScriptFault) : Type 0 where
   pub ok : OnOk r (Steps k p line old p' new)
@@ -104,7 +104,7 @@ pub record Ends (p : Point) (s : SourceState) (old new : Option (List ℕ)) : Ty
   pub meets : Meets end.next (image_line end.at.device)
   pub told : Appends old new (shown ++ image_line end.at.device)
 
--- What falls once a source is here, if its reader names the text.
+-- The script falls like this once a source is here, if its reader names the text.
 abbrev pub FallsHere : Point → SourceState → Option (List ℕ) → Option (List ℕ) → ScriptFault → Type 0
 FallsHere p s old new fault = IfSome s.left
     (λ left. IsStopped s.room left fault × NextFalls p (s.number + 1) (lines_of left) old new fault)

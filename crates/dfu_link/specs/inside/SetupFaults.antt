@@ -1,4 +1,4 @@
--- Why no device can be set up like this.
+-- Faults for which no device can be set up like this.
 use Rattle.std.specs.Prelude.{◌≢◌, ◌%◌, ◌<◌, length}
 use Rattle.dfu_slots.specs.Units.{IsMultiple}
 use Rattle.dfu_link.specs.ScriptRun.{Settings}

@@ -1,4 +1,4 @@
--- What the `ScriptConfig` of the code means.
+-- Meaning of the `ScriptConfig` of the code.
 use Rattle.std.specs.Prelude.{ℕ, List, [], ◌∷◌, Option, Some, None, Vec}
 use Rattle.std.specs.declared.alloc.Global.{Global}
 use Rattle.dfu_device.specs.declared.config.Pace.{Pace}
@@ -24,11 +24,11 @@ check_bytes (Some front) = front.items
 abbrev pub setup_grain : WriteUnit → Sector → Grain
 setup_grain unit sector = record { unit = unit; sector = sector.bytes }
 
--- How long its flash takes, which is written in the unit and erased in the sectors that are set.
+-- Times of its flash, which is written in the unit and erased in the sectors that are set.
 abbrev pub pace_of : ScriptConfig → Pace
 pace_of s = record { erase_ms = s.erase_ms; program_ms = s.program_ms; unit = s.unit; sector = s.sector.bytes }
 
--- What the device is set up with.
+-- Settings of the device.
 abbrev pub setting_of_device : ScriptConfig → Setting
 setting_of_device s = record {
   ids = s.ids;

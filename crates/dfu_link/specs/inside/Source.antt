@@ -1,4 +1,4 @@
--- What a source of lines gives of the text that it reads.
+-- Lines that a source gives of the text that it reads.
 use Rattle.std.specs.Prelude.{◌≡◌, ℕ, ◌+◌, ◌<◌, List, [], ◌∷◌, ◌++◌, length, Option, Some, None, IfSome, ⊤, Bool, true, false, if◌then◌else◌, ◌≤◌}
 use Rattle.std.specs.Io.KnownBytes.{Consumes, IsAtEnd, prepend_known}
 use Rattle.dfu_link.specs.Words.{endless, lines_of}
@@ -14,8 +14,7 @@ pub record PiecesState : Type 0 where
 abbrev pub pieces_state : List ℕ → Option (List ℕ) → PiecesState
 pieces_state ready given = record { ready = ready; left = prepend_known ready given }
 
--- What is left of the text if the reader names it, how many bytes may still be taken, the number of the line that was given last, and
--- that line.
+-- Rest of the text if the reader names it, how many bytes may still be taken, the number of the line that was given last, and that line.
 pub record SourceState : Type 0 where
   pub left : Option (List ℕ)
   pub room : ℕ
@@ -44,7 +43,7 @@ pub record TookLines (text : List ℕ) (room : ℕ) (lines : List (List ℕ)) (l
   pub are : lines_of text ≡ lines ++ lines_of left
   pub rooms : room ≡ length front + room'
 
--- The same if the reader names the text.
+-- The lines are taken like this if the reader names the text.
 abbrev pub TakesLines : Option (List ℕ) → ℕ → List (List ℕ) → Option (List ℕ) → ℕ → Type 0
 TakesLines None room lines left room' = ⊤
 TakesLines (Some text) room lines None room' = ⊥

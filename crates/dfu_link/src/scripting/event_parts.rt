@@ -1,5 +1,5 @@
-//! What the events of a line are made of: the file that they offer, the fate of an action in which a write is harmed, and how the image
-//! begins that an action closes.
+//! Parts of the events of a line: the file that they offer, the fate of an action in which a write is harmed, and how the image begins that
+//! an action closes.
 
 ghost use Rattle.std.specs.Prelude.{◌≡◌, IfOk, IfErr, ◌+◌, ◌≤◌, ◌<◌, ◌∷◌, [], length, get_or, drop, IfSome, IfNone};
 ghost use Rattle.dfu_link.specs.Said.{given_bytes, harm_fate};
@@ -107,7 +107,7 @@ fn byte_at<M: Medium>(slots: &Slots<M>, candidate: Candidate, i: usize) -> Optio
     None
 }
 
-/// Whether this byte is at this place of an image that was taken.
+/// Returns whether this byte is at this place of an image that was taken.
 fn has_byte<M: Medium>(slots: &Slots<M>, candidate: Candidate, i: usize, byte: u8) -> bool
     requires { candidate.at + candidate.stored ≤ length slots.now.medium.bytes }
     ensures { result ≡ begins_with (byte ∷ []) (drop i (taken_at slots.now candidate)) }
@@ -118,7 +118,7 @@ fn has_byte<M: Medium>(slots: &Slots<M>, candidate: Candidate, i: usize, byte: u
     }
 }
 
-/// Whether an image that was taken begins with these bytes.
+/// Returns whether an image that was taken begins with these bytes.
 pub(crate) fn begins<M: Medium>(slots: &Slots<M>, candidate: Candidate, check: &[u8]) -> bool
     requires { candidate.at + candidate.stored ≤ length slots.now.medium.bytes }
     ensures { result ≡ begins_with check.now (taken_at slots.now candidate) }

@@ -9,8 +9,8 @@ use dfu_host::Limits;
 use std::alloc::Global;
 use std::io::Write;
 
-/// A line that is expected to be printed next, without its line feed, and the number of the line that
-/// says so. What is printed next is put into memory first, to compare it.
+/// A line that is expected to be printed next, without its line feed, and the number of the line that says so. The line that is printed
+/// next is put into memory first, to compare it.
 #[derive(Drop)]
 pub(crate) struct Expectation {
     pub number: u32,
@@ -18,9 +18,8 @@ pub(crate) struct Expectation {
     pub alloc: Global,
 }
 
-/// What holds for the lines to come: the bytes that FILE means, if they are given, those with which
-/// an image begins that the program takes, the limits of later sessions, and which line is
-/// expected. What is wrong with a line is noted in `stopped`.
+/// Context of the lines to come: the bytes that FILE means, if they are given, those with which an image begins that the program takes, the
+/// limits of later sessions, and the line that is expected. The fault of a line is noted in `stopped`.
 #[derive(Drop)]
 pub(crate) struct ScriptContext<'g> {
     pub given: Option<&'g [u8]>,
@@ -60,7 +59,7 @@ pub(crate) fn expect(
     Ok(())
 }
 
-/// Whether a text is this line.
+/// Returns whether a text is this line.
 fn is_line(expected: &[u8], text: &[u8]) -> bool
     ensures same { result ≡ true → text.now ≡ expected.now ++ 10 ∷ [] }
     ensures other { result ≡ false → text.now ≢ expected.now ++ 10 ∷ [] }

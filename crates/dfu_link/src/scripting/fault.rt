@@ -1,12 +1,11 @@
-//! How a script ends before its last line is out, why a line is not one of the language, and what a run notes of it.
+//! Faults that end a script before its last line is out, or for which a line is not one of the language, and the notes of a run.
 
 use crate::scripting::setup_fault::SetupFault;
 use std::cell::Cell;
 use std::fmt;
 use thiserror::Error;
 
-/// How a script ends before its last line is out. Lines are counted from 1, and skipped lines count
-/// too.
+/// Faults that end a script before its last line is out. Lines are counted from 1, and skipped lines count too.
 #[derive(Clone, Copy, Debug, Error)]
 pub enum ScriptFault {
     /// This line is not one of the language, or has over 65,536 bytes. Looked for in a line before
@@ -18,8 +17,7 @@ pub enum ScriptFault {
     /// unit or of the sector, or the image has more bytes than the capacity. Looked for at the first
     /// event line or `show`, or at the end.
     BadConfig,
-    /// This line expects another line to be printed than the one that came next. That one is out but
-    /// for its line feed.
+    /// This line expects another line to be printed than the one that came next. The line that came is out but for its line feed.
     Expected(u32),
     /// This line expects a line, and the next `expect` came before any was printed.
     NonePrinted(u32),
@@ -85,8 +83,8 @@ pub enum Field {
     Bytes,
 }
 
-/// Why a line is not of the language: the first of its words, from the left, that isn't what its place wants, or how many words it has to
-/// have. Words are counted from 1.
+/// Faults for which a line is not of the language: the first of its words, from the left, that isn't what its place wants, or how many
+/// words it has to have. Words are counted from 1.
 #[derive(Clone, Copy)]
 pub enum LineFault {
     /// It has over 65,536 bytes.
@@ -109,7 +107,7 @@ pub enum LineFault {
     Comment,
 }
 
-/// What is wrong with a script that stopped, beside its fault.
+/// Fault of a script that stopped, beside the fault of its run.
 #[derive(Clone, Copy)]
 pub enum Reason {
     /// Of BadLine: the line has a byte that isn't 20h to 7Eh. It begins with a byte order mark, ends in a carriage return, or neither.
@@ -120,7 +118,7 @@ pub enum Reason {
     Setup(SetupFault, u32),
 }
 
-/// What a run of a script notes of where it stops: nothing at first. It has no way to change the run, or what is printed of it.
+/// Notes that a run of a script makes of its stop: nothing at first. It has no way to change the run, or what is printed of it.
 #[derive(Drop)]
 pub struct Stopped {
     reason: Cell<Option<Reason>>,
@@ -134,7 +132,7 @@ impl Stopped {
         }
     }
 
-    /// What is wrong with the script, once it stopped at BadLine or BadConfig. Of a line over 65,536 bytes nothing is noted.
+    /// Returns the fault of the script, once it stopped at BadLine or BadConfig. Of a line over 65,536 bytes nothing is noted.
     pub fn reason(&self) -> Option<Reason> {
         self.reason.get()
     }

@@ -1,4 +1,4 @@
-//! What a word of a line means: hexadecimal text, a file, 16 bits, attributes, a unit, a sector, an objection; and the next word of a line,
+//! Meaning of a word of a line: hexadecimal text, a file, 16 bits, attributes, a unit, a sector, an objection; and the next word of a line,
 //! read so.
 
 ghost use Rattle.std.specs.Prelude.{◌≡◌, ◌↔◌, IsTrue, is_some};
@@ -108,7 +108,7 @@ fn unit_named(bytes: u32) -> Option<Unit>
     }
 }
 
-/// How many bytes the medium writes at a time.
+/// Returns the bytes that the medium writes at a time.
 #[tactic(auto, unfolding(crate::specs::Fields::unit_of_word))]
 pub(crate) fn unit(word: &[u8]) -> Option<Unit>
     ensures { result ≡ unit_of_word word.now }
@@ -117,7 +117,7 @@ pub(crate) fn unit(word: &[u8]) -> Option<Unit>
     unit_named(n)
 }
 
-/// How many bytes the medium erases at a time.
+/// Returns the bytes that the medium erases at a time.
 #[tactic(auto, unfolding(crate::specs::Fields::sector_of), using(std::proofs::lemmas::Bool::Decides::nat_tests))]
 pub(crate) fn sector(word: &[u8]) -> Option<Sector>
     ensures { Reads (λ s. s.bytes) result (sector_of word.now) }
@@ -130,7 +130,7 @@ pub(crate) fn sector(word: &[u8]) -> Option<Sector>
     }
 }
 
-/// Why a program refuses an image, by the word of its status code.
+/// Returns the reason for which a program refuses an image, by the word of its status code.
 pub(crate) fn objection(word: &[u8]) -> Option<Objection>
     ensures { result ≡ objection_of word.now }
 {

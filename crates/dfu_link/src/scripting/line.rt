@@ -1,4 +1,4 @@
-//! What a line says.
+//! Meaning of a line.
 
 ghost use Rattle.std.specs.Prelude.{◌≡◌, ◌%◌, ◌≤◌, IsTrue, is_some};
 ghost use Rattle.dfu_link.specs.Words.{hex_word_bytes};
@@ -15,7 +15,7 @@ pub(crate) struct HexText<'l> {
     ghost readable: { IsTrue (is_some (hex_word_bytes text.now)) },
 }
 
-/// How many bytes an image may have.
+/// Most bytes of an image.
 #[derive(Clone, Copy)]
 pub(crate) struct Room {
     pub bytes: u32,
@@ -23,7 +23,7 @@ pub(crate) struct Room {
     ghost most: { bytes ≤ 1048576 },
 }
 
-/// How many bytes the medium erases at a time; at 0 it is written over in place.
+/// Bytes that the medium erases at a time; at 0 it is written over in place.
 #[derive(Clone, Copy)]
 pub(crate) struct Sector {
     pub bytes: u32,
@@ -31,12 +31,12 @@ pub(crate) struct Sector {
     ghost most: { bytes ≤ 131072 },
 }
 
-/// What a configuration line sets.
+/// Setting of a configuration line.
 #[derive(Clone, Copy)]
 pub(crate) enum ConfigLine<'l> {
     /// Who the device is.
     Ids(Ids),
-    /// What its functional descriptor says, and what `Config::new` takes beside it.
+    /// Fields of its functional descriptor, and the numbers that `Config::new` takes beside it.
     Device {
         functional: Functional,
         least: u32,
@@ -47,12 +47,12 @@ pub(crate) enum ConfigLine<'l> {
     Unit(Unit),
     /// The sectors in which it is erased.
     Erase(Sector),
-    /// How many milliseconds the medium takes to erase a sector, and to program 256 bytes.
+    /// Milliseconds that the medium takes to erase a sector, and to program 256 bytes.
     Pace {
         erase_ms: u16,
         program_ms: u16,
     },
-    /// How many bytes an image may have.
+    /// Most bytes of an image.
     Capacity(Room),
     /// The image that the device has at first.
     Image(HexText<'l>),
@@ -60,7 +60,7 @@ pub(crate) enum ConfigLine<'l> {
     Check(HexText<'l>),
 }
 
-/// What harms a write in an action of the host: the power is cut in it, or the write fails or lies.
+/// Kind of harm of a write in an action of the host: the power is cut in it, or the write fails or lies.
 #[derive(Clone, Copy)]
 pub(crate) enum HarmKind {
     Cut,
@@ -113,7 +113,7 @@ pub(crate) enum EventLine<'l, 'g> {
     Refuse(Objection),
 }
 
-/// What a line says.
+/// Meaning of a line.
 #[derive(Clone, Copy)]
 pub(crate) enum Line<'l, 'g> {
     /// Nothing: it has no words, or is a comment.

@@ -1,4 +1,4 @@
-//! What follows the first word of a line, unless that is `go`.
+//! Forms of a line behind its first word, unless that is `go`.
 
 ghost use Rattle.std.specs.Prelude.{◌≡◌};
 ghost use Rattle.dfu_link.specs.Words.{words_of};
@@ -119,7 +119,7 @@ pub(crate) fn limits(line: &[u8]) -> Result<Line<'_, 'static>, LineFault>
     ended(Line::Limits { actions, restarts }, 3, rest)
 }
 
-/// What is wrong with a word that names no file.
+/// Returns the fault of a word that names no file.
 fn no_file(word: &[u8], n: usize) -> LineFault
     ensures { result ≡ no_file word.now n }
 {

@@ -45,7 +45,7 @@ pub(crate) fn write_three<W: Write>(
     write_out(writer, last.as_bytes())
 }
 
-/// How many bytes are printed at once.
+/// Bytes that are printed at once.
 pub(crate) const SHOWN_BYTES: usize = 256;
 
 /// Writes at most 256 bytes as digits.

@@ -40,8 +40,8 @@ fn play<'f, M: Faulty, W: Write>(
     say_next(writer, next, answer, world.uploaded())
 }
 
-/// Whether a program that takes only images that begin with these bytes has nothing against the image that was taken, or none was. If it
-/// checks no bytes, it doesn't look for one.
+/// Returns whether a program that takes only images that begin with these bytes has nothing against the image that was taken, or none was.
+/// If it checks no bytes, it doesn't look for one.
 fn is_accepted<M: Medium>(device: &Device<M>, check: &[u8]) -> bool
     ensures { result ≡ is_accepted check.now (candidate_in device.now.stage) }
 {
@@ -68,8 +68,8 @@ fn checked<'f, 't, M: Medium>(device: &Device<M>, check: &[u8], fate: Fate<'t>) 
     }
 }
 
-/// Lets the host take an action, and shows the link to who watches before and after it. The device's
-/// program refuses an image that does not begin with these bytes, if the action closes it. What is printed of it is still to be written.
+/// Lets the host take an action, and shows the link to who watches before and after it. The device's program refuses an image that does not
+/// begin with these bytes, if the action closes it. The line of the action is still to be written.
 fn take<'f, T: Tracer<M>, M: Faulty>(
     world: &mut World<'f, M>,
     fate: Fate<'_>,
@@ -88,7 +88,7 @@ fn take<'f, T: Tracer<M>, M: Faulty>(
     answer
 }
 
-/// Whether nothing is printed of an event.
+/// Returns whether nothing is printed of an event.
 fn is_silent(answer: Result<Option<Report>, LinkFault>) -> bool
     ensures silent { result ≡ true → answer ≡ Ok None }
     ensures told { result ≡ false → answer ≢ Ok None }

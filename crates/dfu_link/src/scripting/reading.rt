@@ -1,4 +1,4 @@
-//! What a line says, read: by its first word, and after `go` by the fate.
+//! Reading of a line: by its first word, and after `go` by the fate.
 
 ghost use Rattle.dfu_link.specs.Words.{Reads, words_of};
 ghost use Rattle.dfu_sim.specs.Happening.{fate_of, harm_in};
@@ -71,7 +71,7 @@ fn until(line: &[u8]) -> Result<Line<'_, 'static>, LineFault>
     ended(Line::Do(EventLine::GoOn), 3, rest)
 }
 
-/// What follows `go`, by its first word.
+/// Reads the words behind `go`, by the first of them.
 fn by_fate(keyword: FateKeyword, rest: &[u8]) -> Result<Line<'_, 'static>, LineFault>
     ensures { Tells said_of result (by_fate keyword (words_of rest.now)) }
 {
@@ -103,7 +103,7 @@ fn go(line: &[u8]) -> Result<Line<'_, 'static>, LineFault>
     }
 }
 
-/// What a line says, by its first word.
+/// Reads a line by its first word.
 fn by_keyword<'l, 'g>(
     given: Option<&'g [u8]>,
     keyword: Keyword,
@@ -136,7 +136,7 @@ fn by_keyword<'l, 'g>(
     }
 }
 
-/// What a line says if these bytes are given, or what is wrong with it. A line over 65,536 bytes is not one of the language.
+/// Returns the meaning of a line if these bytes are given, or the fault of the line. A line over 65,536 bytes is not one of the language.
 #[tactic(auto, unfolding(crate::specs::Lines::read_line))]
 fn read_line<'l, 'g>(given: Option<&'g [u8]>, line: &'l [u8]) -> Result<Line<'l, 'g>, LineFault>
     ensures { Tells said_of result (read_line (given_bytes given.entry) line.now) }
@@ -158,7 +158,7 @@ fn read_line<'l, 'g>(given: Option<&'g [u8]>, line: &'l [u8]) -> Result<Line<'l,
     }
 }
 
-/// What a line says if these bytes are given, or nothing if it is not one of the language.
+/// Returns the meaning of a line if these bytes are given, or nothing if it is not one of the language.
 #[tactic(auto, unfolding(crate::specs::Lines::line_of))]
 pub(crate) fn parse<'l, 'g>(given: Option<&'g [u8]>, line: &'l [u8]) -> Option<Line<'l, 'g>>
     ensures { Reads said_of result (line_of (given_bytes given.entry) line.now) }
@@ -169,7 +169,7 @@ pub(crate) fn parse<'l, 'g>(given: Option<&'g [u8]>, line: &'l [u8]) -> Option<L
     }
 }
 
-/// How many words a line has.
+/// Counts the words of a line.
 fn count_words(line: &[u8]) -> usize {
     let mut words: usize = 0;
     let mut is_in = false;

@@ -122,7 +122,7 @@ fn later_line<'f, T: Tracer<M>, M: Faulty, W: Write>(
     }
 }
 
-/// Whether a link holds a file of which no session is live any more.
+/// Returns whether a link holds a file of which no session is live any more.
 fn is_over<M: Faulty>(world: &World<'_, M>, file: &[u8]) -> bool
     ensures { result ≡ true → world.now.bench.session ≡ Nobody }
 {
@@ -130,8 +130,8 @@ fn is_over<M: Faulty>(world: &World<'_, M>, file: &[u8]) -> bool
 }
 
 /// Does the line that the source gave on a link that was made for it, and those after it, until one offers a file while no session is live.
-/// A link that holds a file is left once its session is over. With no line left the line of the image is written. Whether the source has
-/// given a line that is left is answered.
+/// A link that holds a file is left once its session is over. With no line left the line of the image is written. The answer says whether
+/// the source has given a line that is left.
 fn run_link<'f, T: Tracer<M>, R: Read + Drop, M: Faulty, W: Write>(
     alloc: Global,
     world: &mut World<'f, M>,

@@ -86,7 +86,7 @@ pub(super) fn run_lines<T: Tracer<SimMedium>, R: Read + Drop, W: Write>(
 /// In `offer` and `verify` the word FILE means the bytes that are given, of which nothing is
 /// copied. If none are given, it is no word of the language.
 ///
-/// What is wrong with the script is noted in `stopped` if it stops at BadLine or BadConfig.
+/// The fault of the script is noted in `stopped` if it stops at BadLine or BadConfig.
 ///
 /// It keeps one line, one piece of 65,536 bytes that was read, and the file of the session that is
 /// live, however long the text is.

@@ -27,7 +27,7 @@ fn say_uploaded<W: Write>(writer: &mut W, bytes: &[u8]) -> Result<(), ScriptFaul
     write_bytes(writer, bytes)
 }
 
-/// The line of a report. What was uploaded is shown only with Uploaded.
+/// The line of a report. The uploaded bytes are shown only with Uploaded.
 fn say_report<W: Write>(writer: &mut W, report: Report, uploaded: &[u8]) -> Result<(), ScriptFault>
     ensures { Puts (report_line report uploaded.now) (W.contents writer.old) (W.contents writer.new) result }
 {

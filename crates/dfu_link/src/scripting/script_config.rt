@@ -1,4 +1,4 @@
-//! What is set before the first event line or `show`.
+//! Settings before the first event line or `show`.
 
 ghost use Rattle.std.specs.Prelude.{◌≡◌, OnOk, IfErr};
 ghost use Rattle.dfu_link.specs.Said.{config_line_of, given_bytes};
@@ -23,11 +23,10 @@ pub(crate) struct SetLines {
     pub image: u32,
 }
 
-/// What is set: what `Config::new` takes, the unit in which the medium is written and the sectors in which it is
-/// erased, how many milliseconds an erase and a program of 256 bytes take, and how many bytes an image may have. Set
-/// are also the image at first (the byte 00 if there is none), the bytes with which an image begins that the program
-/// takes (any if there are none), and the limits of sessions. The bytes that FILE means are given, and the lines that
-/// set are known by their numbers.
+/// Settings of a script: the numbers that `Config::new` takes, the unit in which the medium is written and the sectors in which it is
+/// erased, how many milliseconds an erase and a program of 256 bytes take, and how many bytes an image may have. Set are also the image at
+/// first (the byte 00 if there is none), the bytes with which an image begins that the program takes (any if there are none), and the
+/// limits of sessions. The bytes that FILE means are given, and the lines that set are known by their numbers.
 #[derive(Drop)]
 pub(crate) struct ScriptConfig<'g> {
     pub ids: Ids,
@@ -47,7 +46,7 @@ pub(crate) struct ScriptConfig<'g> {
     pub lines: SetLines,
 }
 
-/// What holds if no line sets anything else.
+/// Returns the settings that hold if no line sets anything else.
 pub(crate) fn beginning(given: Option<&[u8]>) -> ScriptConfig<'_>
     ensures { settings_of result ≡ beginning (given_bytes given.entry) }
 {

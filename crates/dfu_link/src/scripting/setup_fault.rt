@@ -1,4 +1,4 @@
-//! Why no device can be set up like this.
+//! Faults for which no device can be set up like this.
 
 ghost use Rattle.std.specs.Prelude.{IfSome};
 ghost use Rattle.dfu_link.specs.inside.SetupFaults.{HasRoomFault};
@@ -11,7 +11,7 @@ use dfu_device::ConfigFault;
 /// The most milliseconds of a poll time, which has 24 bits.
 const MAX_POLL: u32 = 16_777_215;
 
-/// Why no device can be set up, in the order in which it is looked for.
+/// Faults for which no device can be set up, in the order in which they are looked for.
 #[derive(Clone, Copy)]
 pub enum SetupFault {
     /// The transfer size isn't 1 to 4,096 bytes.

@@ -16,14 +16,14 @@ use std::marker::Model;
 /// The most bytes of a text.
 const MAX_TEXT: u32 = 16_777_216;
 
-/// What a reader gives, line by line. It holds the line that was given last, in a buffer that is
-/// reserved once, and of the text no more than a piece.
+/// Text that a reader gives, line by line. It holds the line that was given last, in a buffer that is reserved once, and of the text no
+/// more than a piece.
 ///
 /// Contracts see it as a `SourceState`.
 #[derive(Drop)]
 pub(crate) struct Source<R: Read + Drop> {
     pieces: Pieces<R>,
-    // How many bytes may still be taken.
+    // Bytes that may still be taken.
     room: u32,
     number: u32,
     line: Vec<u8>,
@@ -40,14 +40,14 @@ impl<R: Read + Drop> Model for Source<R> {
     ghost invariant = { λ s. (s.number + s.room ≤ 16777216) × (65537 ≤ vec_capacity s.line) };
 }
 
-/// Where a line ends.
+/// Returns the place at which a line ends.
 fn newline_at(text: &[u8]) -> Option<usize>
     ensures { result ≡ position is_newline text.now }
 {
     text.iter().position(|byte| *byte == b'\n')
 }
 
-/// How many bytes were taken, and whether the last of them is the 0Ah of the line.
+/// Number of bytes that were taken, and whether the last of them is the 0Ah of the line.
 #[derive(Clone, Copy)]
 struct Taken {
     bytes: u32,

@@ -43,8 +43,7 @@ pub(crate) fn first_image<'s>(setup: &'s ScriptConfig<'_>) -> &'s [u8]
     }
 }
 
-/// How many bytes a medium of two slots has that is written in this unit and erased in these sectors,
-/// with so much room.
+/// Returns the bytes of a medium of two slots that is written in this unit and erased in these sectors, with so much room.
 fn medium_len(unit: Unit, sector: Sector, room: Room) -> u32
     ensures value { result ≡ 2 * (2 * gate_room (setup_grain unit sector) + room.bytes) }
     ensures whole { IsMultiple unit room.bytes → IsMultiple unit result }
@@ -52,7 +51,7 @@ fn medium_len(unit: Unit, sector: Sector, room: Room) -> u32
     2 * (2 * unit.size().max(16).max(sector.bytes) + room.bytes)
 }
 
-/// Whether so much room has no whole sectors.
+/// Returns whether so much room has no whole sectors.
 pub(crate) fn cuts_sector(sector: Sector, room: Room) -> bool
     ensures cuts { result ≡ true → (0 < sector.bytes) × (room.bytes % sector.bytes ≢ 0) }
     ensures whole { result ≡ false → 0 < sector.bytes → room.bytes % sector.bytes ≡ 0 }
@@ -91,7 +90,7 @@ fn form(
     }
 }
 
-/// How long the flash of the device takes.
+/// Returns the times of the flash of the device.
 fn pace_of(setup: &ScriptConfig<'_>) -> Pace
     ensures { result ≡ pace_of setup.now }
 {

@@ -12,14 +12,14 @@ ghost use Rattle.dfu_link.specs.Keywords.{keyword_of, later_keyword_of, fate_key
 use crate::scripting::fault::LineFault;
 use crate::scripting::line::Line;
 
-/// Where the first space is.
+/// Returns the place of the first space.
 fn space_at(line: &[u8]) -> Option<usize>
     ensures { result ≡ position is_space line.now }
 {
     line.iter().position(|byte| *byte == b' ')
 }
 
-/// Where the first byte is that isn't a space.
+/// Returns the place of the first byte that isn't a space.
 fn start_at(line: &[u8]) -> Option<usize>
     ensures { result ≡ position is_no_space line.now }
 {
@@ -38,7 +38,7 @@ pub(crate) fn word_at(line: &[u8]) -> Option<(&[u8], &[u8])>
     }
 }
 
-/// What follows the first word and one space.
+/// Returns the text behind the first word and one space.
 #[tactic(auto, unfolding(crate::specs::Words::text_behind))]
 pub(crate) fn text_behind(line: &[u8]) -> Option<&[u8]>
     ensures { Reads (λ x. x.now) result (text_behind line.now) }
@@ -50,14 +50,14 @@ pub(crate) fn text_behind(line: &[u8]) -> Option<&[u8]>
     Some(text)
 }
 
-/// Whether a word is this text.
+/// Returns whether a word is this text.
 pub(crate) fn is_word(word: &[u8], text: &[u8]) -> bool
     ensures { result ≡ bytes_eq word.now text.now }
 {
     word == text
 }
 
-/// Whether a line with this first word is a comment.
+/// Returns whether a line with this first word is a comment.
 pub(crate) fn is_comment(word: &[u8]) -> bool
     ensures { result ≡ is_comment word.now }
 {
@@ -67,7 +67,7 @@ pub(crate) fn is_comment(word: &[u8]) -> bool
     }
 }
 
-/// What the line says, if it has no further word; it has to have `of`.
+/// Returns the meaning of the line, if it has no further word; it has to have `of`.
 pub(crate) fn ended<'l, 'g>(
     said: Line<'l, 'g>,
     of: usize,

@@ -10,7 +10,7 @@ use dfu_wire::{Request, Setup, State};
 use std::alloc::Global;
 use std::io::Write;
 
-/// How many milliseconds pass in an action.
+/// Returns the milliseconds that pass in an action.
 fn time_of(action: Action<'_>, fate: Fate<'_>) -> u32 {
     match (action, fate) {
         (_, Fate::Slip(ms)) => ms,
@@ -19,20 +19,20 @@ fn time_of(action: Action<'_>, fate: Fate<'_>) -> u32 {
     }
 }
 
-/// What a line of the trace has beside the action: its number, and the milliseconds since the start.
+/// Numbers of a line of the trace beside the action: its own, and the milliseconds since the start.
 #[derive(Clone, Copy)]
 pub(crate) struct Count {
     pub number: u64,
     pub ms: u64,
 }
 
-/// What a link was before an action of its host.
+/// State of a link before an action of its host.
 #[derive(Drop)]
 pub(crate) struct Snapshot<'f> {
     pub phase: Phase,
     pub action: Action<'f>,
     pub state: State,
-    /// How many writes its medium had made.
+    /// Number of writes that its medium had made.
     pub writes: u64,
 }
 

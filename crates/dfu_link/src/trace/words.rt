@@ -14,7 +14,7 @@ fn asked_text(request: Request) -> &'static str {
     }
 }
 
-/// What precedes a write, after another one or not, that erases or not.
+/// Returns the text before a write, after another one or not, that erases or not.
 fn before_write(is_behind: bool, erases: bool) -> &'static str {
     match (is_behind, erases) {
         (false, false) => "",
@@ -24,7 +24,7 @@ fn before_write(is_behind: bool, erases: bool) -> &'static str {
     }
 }
 
-/// How a write ended.
+/// Returns the text for the end of a write.
 fn end_text(end: WriteEnd) -> &'static str {
     match end {
         WriteEnd::Worked => "",

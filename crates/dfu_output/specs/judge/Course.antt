@@ -1,4 +1,4 @@
--- How a log is judged, a byte at a time.
+-- Judging of a log, a byte at a time.
 use Rattle.std.specs.Prelude.{◌≡◌, ◌≢◌, ℕ, ◌+◌, ◌<◌, List, [], ◌∷◌, ◌++◌, length, Bool, Some, cond}
 use Rattle.dfu_conformance.specs.declared.event.LogEvent.{LogEvent}
 use Rattle.dfu_conformance.specs.declared.verdict.Departure.{Departure}
@@ -8,8 +8,8 @@ use Rattle.dfu_conformance.specs.MayAnswer.{CanAnswer}
 use Rattle.dfu_conformance.specs.Verdict.{ArePlacesAfter}
 use Rattle.dfu_output.specs.judge.Texts.{departure_text, is_single}
 
--- How far a log was judged: how many lines were ended, the line that is not, the events that came, those since the last departure, after
--- how many one state was left, and what is printed.
+-- Progress of the judging of a log: how many lines were ended, the line that is not, the events that came, those since the last departure,
+-- after how many one state was left, and what is printed.
 pub record LogCourse : Type 0 where
   pub number : ℕ
   pub line : List ℕ
@@ -34,13 +34,13 @@ going_on c e at = record c { events = c.events ++ e ∷ []; since = c.since ++ e
 abbrev pub departing : LogCourse → Departure → LogCourse
 departing c d = record c { events = c.events ++ d.event ∷ []; since = []; out = c.out ++ departure_text c.number d }
 
--- What an event at the line that was ended last leads to.
+-- An event at the line that was ended last leads to this.
 pub data EventLeads (c : LogCourse) (e : LogEvent) : LogCourse → Type 0 where
   goes_on : (at : List Bool) → CanAnswer 0 (c.since ++ e ∷ []) → ArePlacesAfter 0 (c.since ++ e ∷ []) at → EventLeads c e (going_on c e at)
   departs : (d : Departure) → d.event ≡ e → (CanAnswer 0 (c.since ++ e ∷ []) → ⊥) → ArePlacesAfter 0 c.since d.before
       → EventLeads c e (departing c d)
 
--- What the end of a line leads to: it says nothing, or something of another interface or class, or that an event came.
+-- The end of a line leads to this: it says nothing, or something of another interface or class, or that an event came.
 pub data LineEndLeads (interface : ℕ) (c : LogCourse) : LogCourse → Type 0 where
   says_nothing : LineSays interface c.line (Some Blank) → LineEndLeads interface c (course_line_ended c)
   says_elsewhere : LineSays interface c.line (Some Elsewhere) → LineEndLeads interface c (course_line_ended c)

@@ -22,7 +22,7 @@ event_request_name e = if e.is_plain then asked_name e.asked else codes "other"
 abbrev pub may_stall_text : LogEvent → List ℕ
 may_stall_text e = (codes "allowed any " ++ event_request_name e) ++ (codes " stall unchanged open" ++ 10 ∷ [])
 
--- That, of a request that doesn't have to be answered.
+-- Text of a stall, of a request that doesn't have to be answered.
 abbrev pub stalled_text : LogEvent → List ℕ
 stalled_text e = if is_told e then [] else may_stall_text e
 

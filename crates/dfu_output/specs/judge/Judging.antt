@@ -1,4 +1,4 @@
--- What `dfu judge` writes of a log.
+-- Text that `dfu judge` writes of a log.
 use Rattle.std.specs.Prelude.{◌≡◌, ◌⊎◌, ℕ, ◌+◌, Bool, List, [], ◌∷◌, ◌++◌, length, Option, Some, None, IfSome, codes}
 use Rattle.std.specs.Fmt.{decimal}
 use Rattle.std.specs.Io.KnownBytes.{Appends}
@@ -17,13 +17,13 @@ use Rattle.dfu_output.specs.judge.Lines.{IsBadLine}
 use Rattle.dfu_output.specs.judge.Course.{LogCourse, Judges}
 use Rattle.dfu_output.specs.judge.Texts.{verdict_text}
 
--- Why the next byte of a text isn't judged.
+-- The next byte of a text isn't judged for this reason.
 abbrev pub CannotGo : (interface : ℕ) (front : List ℕ) → LogCourse → (rest : List ℕ) → LogFault → Type 0
 CannotGo interface front c rest (BadLine n why) = (n ≡ c.number + 1) × IsBadLine interface c.line rest why
 CannotGo interface front c rest TooLarge = length front ≡ 1099511627776
 CannotGo interface front c rest fault = ⊥
 
--- What is out when judging stopped: what is printed of the text so far, or a prefix of it if the writer failed.
+-- The text is this when judging stopped: that of the text so far, or a prefix of it if the writer failed.
 abbrev pub StopsWith : (interface : ℕ) (front : List ℕ) → LogCourse → (rest : List ℕ) (old new : Option (List ℕ)) → LogFault → Type 0
 StopsWith interface front c rest old new NoMemory = Appends old new c.out
 StopsWith interface front c rest old new Read = Appends old new c.out
@@ -43,8 +43,8 @@ pub record LogStops (interface : ℕ) (old new : Option (List ℕ)) (text : List
 unfoldable pub bad_line : ℕ → List ℕ
 bad_line n = codes "refused BadLine " ++ decimal n ++ 10 ∷ []
 
--- What is written when judging stopped, after what it wrote: a line, and nothing more if the writer failed. If there is no memory
--- for the line of a bad line, it is that of NoMemory.
+-- The text when judging stopped, after what it wrote, is a line, and nothing more if the writer failed. If there is no memory for the line
+-- of a bad line, it is that of NoMemory.
 abbrev pub WritesLogStop : LogFault → Option (List ℕ) → Option (List ℕ) → Exit → Type 0
 WritesLogStop (BadLine n why) old new result =
     Wrote old new (bad_line n) Refused result ⊎ Wrote old new (fault_line suffix.NoMemory) Refused result
@@ -83,11 +83,12 @@ pub data WritesJudgment (interface : ℕ) (given old new : Option (List ℕ)) (r
   to_a_stop : (mid : Option (List ℕ)) (fault : LogFault) → IfSome given (λ text. LogStops interface old mid (text ++ 10 ∷ []) fault)
       → WritesLogStop fault mid new result → stop ≡ Some fault → WritesJudgment interface given old new result stop
 
--- The same, with some fault or none.
+-- The text of a log, with some fault or none.
 abbrev pub WritesOfLog : (interface : ℕ) (given old new : Option (List ℕ)) → Exit → Type 0
 WritesOfLog interface given old new result = (stop : Option LogFault) × WritesJudgment interface given old new result stop
 
--- Why a departure wasn't written: there was no memory for its lines and none is out, or the writer failed and a prefix of them is.
+-- A departure wasn't written for this reason: there was no memory for its lines and none is out, or the writer failed and a prefix of them
+-- is.
 abbrev pub CannotTell : (text : List ℕ) (old new : Option (List ℕ)) → LogFault → Type 0
 CannotTell text old new NoMemory = new ≡ old
 CannotTell text old new Write = IsOutInPart old new text

@@ -57,7 +57,7 @@ abbrev pub IsBadLine : (interface : ℕ) (line rest : List ℕ) → LineFault �
 IsBadLine interface line rest Long = (length line ≡ 262158) × (ends_line rest ≡ false)
 IsBadLine interface line rest why = LineSays interface line None × (why ≡ why_unread line) × (ends_line rest ≡ true)
 
--- Why the first of these bytes isn't taken: there is no room for it in the log, or its line can't be one of a log.
+-- The first of these bytes isn't taken for this reason: there is no room for it in the log, or its line can't be one of a log.
 abbrev pub CannotTake : (interface : ℕ) → LinesState → (rest : List ℕ) → LogFault → Type 0
 CannotTake interface s rest (BadLine n why) = (n ≡ s.number + 1) × IsBadLine interface s.line rest why
 CannotTake interface s rest TooLarge = s.room ≡ 0

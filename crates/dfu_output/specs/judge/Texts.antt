@@ -75,7 +75,7 @@ departs_text n d =
 unfoldable pub departure_text : (number : ℕ) → Departure → List ℕ
 departure_text n d = departs_text n d ++ each (allowed_text d) STANDARD ++ unchanged_text d.event
 
--- How many events came, and after how many of them one state was left.
+-- Text for how many events came, and after how many of them one state was left.
 abbrev pub counts_text : (events single : ℕ) → List ℕ
 counts_text events single = codes " events " ++ decimal events ++ (codes " single " ++ decimal single)
 

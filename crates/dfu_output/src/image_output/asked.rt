@@ -1,11 +1,11 @@
-//! What `--format` and `--fill` ask for.
+//! Options that `--format` and `--fill` ask for.
 
 ghost use Rattle.std.specs.Prelude.{◌≡◌, ◌≤◌, codes, None, Some};
 ghost use Rattle.dfu_output.specs.Asked.{IsNoFormat, fill_in};
 
 use dfu_formats::images::{Format, hex_digit};
 
-/// How FILE is taken.
+/// Choice of the format of which FILE is taken.
 #[derive(Clone, Copy)]
 pub enum FormatChoice {
     /// Without a word: as it is, with a reason if it looks like a file of a format.
@@ -37,7 +37,7 @@ pub fn fill_in(word: &str) -> Option<u8>
     }
 }
 
-/// How FILE is taken by the word of `--format`.
+/// Returns the choice by the word of `--format`.
 pub fn format_in(word: &str) -> Option<FormatChoice>
     ensures raw { word.now ≡ codes "raw" → result ≡ Some FormatChoice.Raw }
     ensures auto { word.now ≡ codes "auto" → result ≡ Some FormatChoice.Auto }

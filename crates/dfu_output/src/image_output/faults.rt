@@ -43,7 +43,7 @@ fn unread_field(fault: ImageFault) -> Field<'static>
     }
 }
 
-/// Why elements don't make one piece, by the name of the fault.
+/// Returns the name of the fault for which elements don't make one piece.
 #[tactic(auto, unfolding(crate::specs::ImageLines::unlaid_text))]
 fn unlaid_text(alloc: Global, fault: LayFault) -> Result<String, AllocError>
     ensures { IfOk result (λ t. string_bytes t ≡ unlaid_text fault) }
@@ -55,7 +55,7 @@ fn unlaid_text(alloc: Global, fault: LayFault) -> Result<String, AllocError>
     }
 }
 
-/// Why there is no image of a file, by the name of the fault.
+/// Returns the name of the fault for which there is no image of a file.
 fn fault_text(alloc: Global, fault: ImageFileFault) -> Result<String, AllocError>
     ensures { IfOk result (λ t. string_bytes t ≡ fault_text fault) }
 {

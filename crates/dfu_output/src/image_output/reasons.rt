@@ -4,7 +4,7 @@ use crate::image_output::lines::format_name;
 use dfu_formats::images::{Ending, Format, ImageFault, ImageFileFault, LayFault, NotImage, Place};
 use std::alloc::{AllocError, Global};
 
-/// What to do about a file that makes no image; nothing if the reason says it.
+/// Returns the advice on a file that makes no image; nothing if the reason says it.
 fn advice(fault: ImageFileFault) -> &'static str {
     match fault {
         ImageFileFault::Unread(ImageFault::NoMemory) | ImageFileFault::Unlaid(LayFault::NoMemory) =>
@@ -20,7 +20,8 @@ fn advice(fault: ImageFileFault) -> &'static str {
     }
 }
 
-/// Why a file makes no image, with the place of its first byte that no record has there, if there is one, and what to do.
+/// Returns the reason for which a file makes no image, with the place of its first byte that no record has there, if there is one, and what
+/// to do.
 pub fn why(alloc: Global, fault: ImageFileFault, bad: Option<Place>) -> Result<String, AllocError> {
     let advice = advice(fault);
     match bad {
@@ -31,7 +32,7 @@ pub fn why(alloc: Global, fault: ImageFileFault, bad: Option<Place>) -> Result<S
     }
 }
 
-/// What is seen of a file of which no image is taken, and what to do.
+/// Returns the words for a file of which no image is taken, and what to do.
 pub fn why_not(alloc: Global, other: NotImage) -> Result<String, AllocError> {
     let said = match other {
         NotImage::DfuSe =>
@@ -51,7 +52,7 @@ pub fn why_not(alloc: Global, other: NotImage) -> Result<String, AllocError> {
     String::from_str(alloc, said)
 }
 
-/// How a file was taken that looks like one of a format.
+/// Returns the words for the way in which a file was taken that looks like one of a format.
 pub fn looks_like(alloc: Global, format: Format) -> Result<String, AllocError> {
     let name = format_name(format);
     format!(in alloc;

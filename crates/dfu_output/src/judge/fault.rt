@@ -1,4 +1,4 @@
-//! Why a log was judged no further, and its line.
+//! Fault for which a log was judged no further, and its line.
 
 ghost use Rattle.std.specs.Prelude.{◌≡◌, IfOk};
 ghost use Rattle.std.specs.String.{string_bytes};
@@ -12,14 +12,14 @@ use dfu_suffix::SuffixFault;
 use std::alloc::{AllocError, Global};
 use std::io::Write;
 
-/// Why a log was judged no further.
+/// Fault for which a log was judged no further.
 #[derive(Clone, Copy)]
 pub enum LogFault {
     /// A line is not a line of a log.
     BadLine {
         /// Its number, counted from 1.
         number: u64,
-        /// What is wrong with it.
+        /// Fault of the line.
         why: LineFault,
     },
     /// The log has over 1,099,511,627,775 bytes.

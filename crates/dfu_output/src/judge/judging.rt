@@ -55,7 +55,7 @@ impl Judging {
         })
     }
 
-    /// How many lines were ended.
+    /// Returns the number of lines that were ended.
     pub(crate) fn number(&self) -> u64
         ensures { result ≡ self.now.lines.number }
     {
@@ -126,7 +126,7 @@ impl Judging {
         }
     }
 
-    /// How many events came, and after how many of them one state was left.
+    /// Returns the number of events that came, and after how many of them one state was left.
     pub(crate) fn counts(&self) -> (u64, u64)
         ensures events { result.0 ≡ self.now.events }
         ensures single { result.1 ≡ self.now.single }

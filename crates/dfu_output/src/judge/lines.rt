@@ -21,7 +21,7 @@ const MAX_LOG: u64 = 1_099_511_627_776;
 #[derive(Drop)]
 pub struct LogLines {
     line: Vec<u8>,
-    // How many bytes may still come.
+    // Bytes that may still come.
     room: u64,
     number: u64,
 }
@@ -66,7 +66,7 @@ fn put_all(line: &mut Vec<u8>, bytes: &[u8])
     };
 }
 
-/// How many of these bytes precede the first 0Ah; at most so many.
+/// Returns how many of these bytes precede the first 0Ah; at most so many.
 fn inner_length(bytes: &[u8], most: usize) -> usize
     ensures within { result ≤ length bytes.now }
     ensures most { result ≤ most }
@@ -96,7 +96,7 @@ impl LogLines {
         })
     }
 
-    /// How many lines were ended.
+    /// Returns the number of lines that were ended.
     pub fn number(&self) -> u64
         ensures { result ≡ self.now.number }
     {

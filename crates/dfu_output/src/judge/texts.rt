@@ -15,7 +15,7 @@ use crate::numbers::{field, push};
 use dfu_conformance::{Departure, LogEvent, Reading, Row, STANDARD, StandardState, Verdict};
 use std::alloc::{AllocError, Global};
 
-/// Whether a device may be in this state, if these are the places at which it may be.
+/// Returns whether a device may be in this state, if these are the places at which it may be.
 pub(crate) fn may_be_in(at: &[bool; 12], place: StandardState) -> bool
     ensures { result ≡ may_be_in at.now place }
 {
@@ -33,7 +33,7 @@ fn one_if(yes: bool) -> usize
     if yes { 1 } else { 0 }
 }
 
-/// Whether there is one state in which a device may be.
+/// Returns whether there is one state in which a device may be.
 #[tactic(auto, unfolding(crate::specs::judge::Texts::is_single))]
 pub fn is_single(at: &[bool; 12]) -> bool
     ensures { result ≡ is_single at.now }

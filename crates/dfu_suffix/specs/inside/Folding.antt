@@ -1,4 +1,4 @@
--- What a residue of 1,968 bytes represents, onto which all bytes so far were folded.
+-- Register that a residue of 1,968 bytes represents, onto which all bytes so far were folded.
 use Rattle.std.specs.Prelude.{ℕ, List, [], ◌∷◌, take, bit_xor}
 use Rattle.dfu_suffix.specs.Register.{after_bits, bits_of}
 

@@ -1,4 +1,4 @@
--- What making a file in memory answers.
+-- Answer of making a file in memory.
 use Rattle.std.specs.Prelude.{◌≤◌, ◌<◌, ℕ, List, [], ◌++◌, length, Result, Ok, Err, ⊤, Vec}
 use Rattle.std.specs.Int.{w32, to_le_bytes}
 use Rattle.std.specs.declared.alloc.Global.{Global}

@@ -1,4 +1,4 @@
--- What reading from the end finds. The grammar says what it means.
+-- Result of reading from the end. The grammar says what it means.
 use Rattle.std.specs.Prelude.{ℕ, ◌-◌, List, length, take, drop, slice_index, find, Option, Some, None, Result, Ok, Err}
 use Rattle.byteorder.specs.Endian.{little_number}
 use Rattle.dfu_suffix.specs.Grammar.{Content, tail_of, has_fault, fault_order}

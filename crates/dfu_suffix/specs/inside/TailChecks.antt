@@ -1,4 +1,4 @@
--- What the last 16 bytes of a file answer. The grammar and `Checks` say what it means.
+-- Answer of the last 16 bytes of a file. The grammar and `Checks` say what it means.
 use Rattle.std.specs.Prelude.{ℕ, ◌-◌, ◌==◌, ◌||◌, Bool, not, nat_lt, if◌then◌else◌, List, drop, slice_index, Result, Ok, Err}
 use Rattle.byteorder.specs.Endian.{little_number}
 use Rattle.dfu_suffix.specs.Grammar.{is_signed}

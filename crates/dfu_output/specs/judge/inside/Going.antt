@@ -26,7 +26,7 @@ pub record IsAt (s : JudgingState) (text : List ℕ) (c : LogCourse) : Type 0 wh
   pub events : s.events ≡ length c.events
   pub single : s.single ≡ c.single
 
--- What is printed of a departure, if there is one.
+-- Text for a departure, if there is one.
 abbrev pub told_text : (number : ℕ) → Option Departure → List ℕ
 told_text n None = []
 told_text n (Some d) = departure_text n d
