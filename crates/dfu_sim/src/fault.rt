@@ -2,36 +2,51 @@
 
 use dfu_host::HostFault;
 use dfu_suffix::SuffixFault;
+use std::fmt;
 use thiserror::Error;
 
 /// Why an event is refused.
 #[derive(Clone, Copy, Debug, Error)]
 pub enum LinkFault {
     /// A file is offered or an upload is to begin while a session is live. Looked for first.
-    #[error("a session is live already")]
     HostBusy,
     /// A session is to be given up or an action is to go while none is live.
-    #[error("no session is live")]
     NoHost,
     /// While no session is live: of an offer, the fault of `dfu_suffix::read`, else that of
     /// `Host::download`, or `Host::download_verified` if it is to be verified; of an upload, that of
     /// `Host::upload`.
-    #[error("the session is refused: {0}")]
     BadOffer(OfferFault),
     /// There was no memory for a report. Only `run` answers it.
-    #[error("out of memory")]
     NoMemory,
+}
+
+impl fmt::Display for LinkFault {
+    fn fmt<W: fmt::Write>(&self, f: &mut fmt::Formatter<W>) -> fmt::Result {
+        f.write_str(match self {
+            LinkFault::HostBusy => "a session is live already",
+            LinkFault::NoHost => "no session is live",
+            LinkFault::BadOffer(fault) => return write!(f, "the session is refused: {}", fault),
+            LinkFault::NoMemory => "out of memory",
+        })
+    }
 }
 
 /// Why an offer or an upload is refused.
 #[derive(Clone, Copy, Debug, Error)]
 pub enum OfferFault {
     /// The bytes are no DFU file: this is the first fault of `dfu_suffix::read`. Only an offer has it.
-    #[error("{0}")]
     Suffix(SuffixFault),
     /// The file is read, and this is the first fault of `Host::download`, or of
     /// `Host::download_verified` if it is to be verified, with the device's descriptor and
     /// identifiers; or that of `Host::upload` with the descriptor.
-    #[error("{0}")]
     Host(HostFault),
+}
+
+impl fmt::Display for OfferFault {
+    fn fmt<W: fmt::Write>(&self, f: &mut fmt::Formatter<W>) -> fmt::Result {
+        match self {
+            OfferFault::Suffix(fault) => fmt::Display::fmt(fault, f),
+            OfferFault::Host(fault) => fmt::Display::fmt(fault, f),
+        }
+    }
 }

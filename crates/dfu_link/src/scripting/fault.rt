@@ -2,6 +2,7 @@
 
 use crate::scripting::setup_fault::SetupFault;
 use std::cell::Cell;
+use std::fmt;
 use thiserror::Error;
 
 /// How a script ends before its last line is out. Lines are counted from 1, and skipped lines count
@@ -10,35 +11,51 @@ use thiserror::Error;
 pub enum ScriptFault {
     /// This line is not one of the language, or has over 65,536 bytes. Looked for in a line before
     /// LateConfig and BadConfig.
-    #[error("line {0} is not understood")]
     BadLine(u32),
     /// This line sets something about the device after the first event line or `show`.
-    #[error("line {0} sets up a device that has begun")]
     LateConfig(u32),
     /// The device can't be set up like this (`ConfigFault`), or the capacity is no multiple of the
     /// unit or of the sector, or the image has more bytes than the capacity. Looked for at the first
     /// event line or `show`, or at the end.
-    #[error("no device can be set up like this")]
     BadConfig,
     /// This line expects another line to be printed than the one that came next. That one is out but
     /// for its line feed.
-    #[error("line {0} expects another line than the one that is printed next")]
     Expected(u32),
     /// This line expects a line, and the next `expect` came before any was printed.
-    #[error("no line is printed that line {0} could expect")]
     NonePrinted(u32),
     /// The text has over 16,777,216 bytes.
-    #[error("the script has over 16777216 bytes")]
     TooLarge,
     /// An allocation was refused.
-    #[error("out of memory")]
     NoMemory,
     /// The reader failed.
-    #[error("the script can't be read")]
     Read,
     /// The writer failed, or took nothing of what was left.
-    #[error("the output can't be written")]
     Write,
+}
+
+impl fmt::Display for ScriptFault {
+    fn fmt<W: fmt::Write>(&self, f: &mut fmt::Formatter<W>) -> fmt::Result {
+        f.write_str(match self {
+            ScriptFault::BadLine(line) => return write!(f, "line {line} is not understood"),
+            ScriptFault::LateConfig(line) => return write!(
+                f,
+                "line {line} sets up a device that has begun"
+            ),
+            ScriptFault::BadConfig => "no device can be set up like this",
+            ScriptFault::TooLarge => "the script has over 16777216 bytes",
+            ScriptFault::NoMemory => "out of memory",
+            ScriptFault::Read => "the script can't be read",
+            ScriptFault::Write => "the output can't be written",
+            ScriptFault::Expected(line) => return write!(
+                f,
+                "line {line} expects another line than the one that is printed next"
+            ),
+            ScriptFault::NonePrinted(line) => return write!(
+                f,
+                "no line is printed that line {line} could expect"
+            ),
+        })
+    }
 }
 
 /// A field of a line: what one of its words has to be.

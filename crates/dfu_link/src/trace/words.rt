@@ -94,12 +94,9 @@ fn fate_text(fate: Fate<'_>) -> &'static str {
 
 /// The state that these bytes are.
 fn state_in(bytes: &[u8]) -> Option<State> {
-    if bytes.len() != 1 {
-        return None;
-    }
-    match State::from_byte(bytes[0]) {
-        Ok(state) => Some(state),
-        Err(_) => None,
+    match bytes {
+        [byte] => State::from_byte(*byte).ok(),
+        _ => None,
     }
 }
 
@@ -123,10 +120,7 @@ impl Words {
 
     /// The text of the words, if there was memory for all of them.
     pub(crate) fn into_text(self) -> Option<String> {
-        if !self.is_whole {
-            return None;
-        }
-        Some(self.text)
+        if self.is_whole { Some(self.text) } else { None }
     }
 
     /// Adds a text.
