@@ -40,6 +40,10 @@ impl fmt::Display for ScriptFault {
                 "line {line} sets up a device that has begun"
             ),
             ScriptFault::BadConfig => "no device can be set up like this",
+            ScriptFault::TooLarge => "the script has over 16777216 bytes",
+            ScriptFault::NoMemory => "out of memory",
+            ScriptFault::Read => "the script can't be read",
+            ScriptFault::Write => "the output can't be written",
             ScriptFault::Expected(line) => return write!(
                 f,
                 "line {line} expects another line than the one that is printed next"
@@ -48,10 +52,6 @@ impl fmt::Display for ScriptFault {
                 f,
                 "no line is printed that line {line} could expect"
             ),
-            ScriptFault::TooLarge => "the script has over 16777216 bytes",
-            ScriptFault::NoMemory => "out of memory",
-            ScriptFault::Read => "the script can't be read",
-            ScriptFault::Write => "the output can't be written",
         })
     }
 }
