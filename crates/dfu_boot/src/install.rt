@@ -9,6 +9,7 @@ pub mod laws;
 mod outcome;
 mod pieces;
 
+pub use area::are_blank;
 pub use deciding::next;
 pub use due::{Due, Refusal};
 pub use outcome::took;

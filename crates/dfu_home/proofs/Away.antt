@@ -4,9 +4,9 @@ use Rattle.dfu_slots.specs.Medium.{MediumState}
 use Rattle.dfu_slots.specs.Layout.{slot_size, IsOpen, header_length}
 use Rattle.dfu_slots.specs.Image.{gate_of, slot_of, capacity_of, Active, HasImage, active_at}
 use Rattle.dfu_slots.proofs.Stands.{ActiveAt, standing}
+use Rattle.dfu_slots.proofs.Counting.{header_length_is}
 use Rattle.dfu_slots.proofs.Newest.{places_are, tested_places, place_end}
 use Rattle.dfu_slots.proofs.Parts.{data_length}
-use Rattle.dfu_home.proofs.Headers.{length_is}
 use Rattle.dfu_home.specs.Places.{first_of, second_of, away_image, IsHome, IsAway}
 use Rattle.dfu_home.specs.Laws.{SecondIsSpare}
 
@@ -38,7 +38,7 @@ module _ (m : MediumState) (image : List ℕ) (s : ActiveAt (gate_of m) m.bytes 
       (omega (arith, s.sized.room))
 
   pub away_length : header_length (second_of m) ≡ length image
-  away_length = length_is (second_of m) (length image) s.header_is (omega (arith, s.header_is.fits, room, s.sized.bound))
+  away_length = header_length_is (second_of m) (length image) s.header_is (omega (arith, s.header_is.fits, room, s.sized.bound))
 
   pub away_fits : length image ≤ capacity_of m
   away_fits = omega (arith, s.header_is.fits, room)
@@ -52,14 +52,7 @@ second_is_spare m home =
     let room = home.has.active.sized.room in
     ⊎_elim (λ p. p.1) (λ p. absurd (omega (arith, p.0, home.first, room))) (tested_places (gate_of m) m.bytes)
 
--- The image is not in a closed first slot.
-pub shut_away : (m : MediumState) → ¬ IsOpen (first_of m) → ¬ IsHome m
-shut_away m shut home =
-    let a = home.has.active in
-    let at = (places_are (gate_of m) m.bytes a.at a.spare home.has.image (standing a)).0 ∙ home.first in
-    shut (subst (λ (q : ℕ). IsOpen (slot_of m q)) at a.newest.counts.is_open)
-
--- Nor is it in both.
+-- The image is not in both.
 pub not_both : (m : MediumState) → IsAway m → ¬ IsHome m
 not_both m away home = omega (arith, home.first, away.second, away.has.active.sized.room)
 

@@ -1,4 +1,3 @@
-mod Headers
 mod Away
 mod Units
 mod Asked

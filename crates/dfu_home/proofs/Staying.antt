@@ -1,5 +1,5 @@
 -- The active image stays, whatever becomes of what is due.
-use Rattle.std.proofs.Common.{◌≡◌, ◌⊎◌, inl, inr, ⊎_elim, ℕ, ◌≤◌, ◌<◌, List, length, take, slice_index, refl, sym, ◌∙◌, ap, subst, arith}
+use Rattle.std.proofs.Common.{◌≡◌, inl, inr, ⊎_elim, ℕ, ◌≤◌, ◌<◌, List, length, take, slice_index, refl, sym, ◌∙◌, ap, subst, arith}
 use Rattle.std.proofs.lemmas.Bool.{cases_eq}
 use Rattle.dfu_suffix.specs.Register.{register}
 use Rattle.dfu_slots.specs.Units.{IsWhole}
@@ -8,8 +8,9 @@ use Rattle.dfu_slots.specs.Layout.{Slot, slot, slot_size, IsOpen, OPEN, generati
 use Rattle.dfu_slots.specs.Image.{gate_of, capacity_of, Counts, IsNewest, Active}
 use Rattle.dfu_slots.proofs.Stands.{ActiveAt}
 use Rattle.dfu_slots.proofs.Sectors.{gate_wide}
-use Rattle.dfu_slots.proofs.Parts.{gate_outside, header_outside, data_outside, slot_outside, size_kept, sized_kept, data_length}
-use Rattle.dfu_home.proofs.Headers.{counted, header_two, length_is}
+use Rattle.dfu_slots.proofs.Parts.{header_outside, data_outside, size_kept, sized_kept, data_length}
+use Rattle.dfu_slots.proofs.Counting.{header_length_is, header_two}
+use Rattle.dfu_slots.proofs.Kept.{mine_kept, active_kept, gate_change, closed_change}
 use Rattle.dfu_slots.proofs.Series.{SameSize}
 use Rattle.dfu_slots.proofs.Seeing.{active_on}
 use Rattle.dfu_home.specs.Places.{first_of, second_of, away_image, HasBytes, HasCopyHeader, copy_header}
@@ -25,41 +26,24 @@ module _ (m now : MediumState) (image : List ℕ) (from to : ℕ) (a : ActiveAt 
   abbrev half : ℕ
   half = slot_size m.bytes
 
+  wide : 16 ≤ g
+  wide = gate_wide m.grain
+
   same : SameSize m now
   same = record { grain = grain; size = keeps.size }
 
-  size : slot_size now.bytes ≡ half
-  size = size_kept from to m.bytes now.bytes keeps
+  on : ActiveAt g now.bytes half 0 image → Active now image
+  on stands = active_on half 0 image same whole stands
 
-  second_kept : slot g now.bytes half ≡ slot g m.bytes half
-  second_kept = slot_outside g from to m.bytes now.bytes half keeps (gate_wide m.grain) (omega (arith, a.sized.room)) (inr below)
-
-  -- The second slot stays the newest, if the first one does not count, or is one generation behind.
-  stays : (¬ Counts (slot g now.bytes 0)) ⊎ (generation (slot g m.bytes half) ≡ next_generation (generation (slot g now.bytes 0)))
-      → Active now image
-  stays newer = active_on half 0 image same whole (record {
-    sized = sized_kept g m.bytes now.bytes keeps.size a.sized;
-    places = inr (sym size, refl);
-    newest = subst (λ (s : Slot). IsNewest s (slot g now.bytes 0)) (sym second_kept)
-        (record { counts = a.newest.counts; newer = newer });
-    header_is = subst (λ (s : Slot). HasHeader s (length image)) (sym second_kept) a.header_is;
-    image_is = subst (λ (s : Slot). image ≡ take (length image) s.data_bytes) (sym second_kept) a.image_is;
-  })
-
-  -- So it is if only the gate of the first one is changed, which was open: that counts no more than it did.
+  -- It stays if only the gate of the first slot is changed, which was open.
   pub closing_stays : IsOpen (first_of m) → to ≤ g → Active now image
-  closing_stays was_open gate =
-      let head = header_outside g from to m.bytes now.bytes 0 keeps (inr (omega (arith, gate))) in
-      let body = data_outside g from to m.bytes now.bytes 0 keeps (inr (omega (arith, gate))) in
-      stays (⊎_elim (λ off. inl (λ c. off (counted (slot g now.bytes 0) (slot g m.bytes 0) head body was_open c)))
-      (λ newer. inr (newer ∙ ap (λ (h : List ℕ). next_generation (slice_index h 0)) (sym head)))
-      a.newest.newer)
+  closing_stays was_open gate = on
+      (gate_change g wide m.bytes now.bytes half 0 image from to a keeps was_open (omega arith) (omega (arith, gate)))
 
   -- And if what is behind its closed gate is.
   pub filling_stays : ¬ IsOpen (first_of m) → 0 < from → Active now image
-  filling_stays shut above =
-      let gate = gate_outside g from to m.bytes now.bytes 0 keeps (inl above) in
-      stays (inl (λ c. shut (sym gate ∙ c.is_open)))
+  filling_stays shut above = on
+      (closed_change g wide m.bytes now.bytes half 0 image from to a keeps shut above (omega (arith, below)))
 
   -- The gate of a whole copy is changed: the first slot does not count, or it is one generation on, with the same image.
   module _ (gate : to ≤ g) (bytes : HasBytes m) (head : HasCopyHeader m) where
@@ -90,12 +74,15 @@ module _ (m now : MediumState) (image : List ℕ) (from to : ℕ) (a : ActiveAt 
     has_head = header_two s (next_generation (generation (second_of m))) (length image) head_for (omega (arith, long, away_fits m image a))
 
     long_is : header_length s ≡ length image
-    long_is = length_is s (length image) has_head (omega (arith, away_fits m image a, a.sized.bound))
+    long_is = header_length_is s (length image) has_head (omega (arith, away_fits m image a, a.sized.bound))
+
+    second_kept : slot g now.bytes half ≡ slot g m.bytes half
+    second_kept = mine_kept g wide m.bytes now.bytes half 0 image from to a keeps (omega arith) (omega (arith, below))
 
     opened : IsOpen s → Active now image
     opened is_open = active_on 0 half image same whole (record {
       sized = sized_kept g m.bytes now.bytes keeps.size a.sized;
-      places = inl (refl, sym size);
+      places = inl (refl, sym (size_kept from to m.bytes now.bytes keeps));
       newest = record {
         counts = record { is_open = is_open; intact = λ two. subst (HasHeader s) (sym long_is) has_head };
         newer = inr (ap (λ (h : List ℕ). slice_index h 0) head_is
@@ -106,4 +93,6 @@ module _ (m now : MediumState) (image : List ℕ) (from to : ℕ) (a : ActiveAt 
     })
 
     pub opening_stays : Active now image
-    opening_stays = ⊎_elim opened (λ off. stays (inl (λ c. off c.is_open))) (cases_eq s.gate OPEN)
+    opening_stays = ⊎_elim opened
+        (λ off. on (active_kept g wide m.bytes now.bytes half 0 image from to a keeps (omega arith) (omega (arith, below))
+        (inl (λ c. off c.is_open)))) (cases_eq s.gate OPEN)

@@ -8,8 +8,8 @@ ghost use Rattle.dfu_home.specs.Places.{first_of, away_image, last_in_data};
 ghost use Rattle.dfu_home.specs.Next.{IsCopying, IsCopyDue, IsHeadDue, IsUnitDue, GivesUnit, GivesBytes};
 
 use crate::Due;
-use crate::bytes::{are_blank, are_same, fill_up};
-use dfu_boot::install;
+use crate::bytes::{are_same, fill_up};
+use dfu_boot::install::{self, are_blank};
 use dfu_slots::{Medium, OPEN_GATE, VERSION, gate_of, header_of, length_in, make_header};
 use dfu_suffix::Crc;
 

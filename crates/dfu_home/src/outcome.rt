@@ -2,8 +2,9 @@
 ghost use Rattle.std.specs.Prelude.{◌≡◌, ◌+◌, ◌-◌, ◌^◌, ◌<◌, ◌↔◌, min, IsTrue, length};
 ghost use Rattle.dfu_home.specs.Took.{Worked, Noted};
 
-use crate::bytes::{are_blank, are_same};
+use crate::bytes::are_same;
 use crate::{Due, Progress};
+use dfu_boot::install::are_blank;
 
 // Returns whether an operation worked, as it reads.
 fn worked(flash: &[u8], sector: u32, due: Due, bytes: &[u8; 256]) -> bool

@@ -6,12 +6,12 @@ pub mod Begun
 pub mod Commit
 mod Committed
 mod Comparing
-mod Counting
+pub mod Counting
 pub mod Headers
 pub mod Filled
 pub mod Formatted
 pub mod Formatting
-mod Kept
+pub mod Kept
 pub mod Newest
 mod Opening
 pub mod Parts

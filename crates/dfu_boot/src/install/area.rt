@@ -19,7 +19,7 @@ pub(crate) fn is_run_area(len: usize, sector: u32) -> bool
 }
 
 /// Returns whether the bytes from one place to before another are all FFh.
-pub(crate) fn are_blank(run: &[u8], from: u32, to: u32) -> bool
+pub fn are_blank(run: &[u8], from: u32, to: u32) -> bool
     requires order { from ≤ to }
     requires inside { to ≤ length run.now }
     ensures { IsTrue result ↔ AreBlank run.now from to }
