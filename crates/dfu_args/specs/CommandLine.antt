@@ -124,7 +124,7 @@ rows_in None = []
 rows_in (Some p) = p.1
 
 -- The words ask for the reason of a refusal: they have the flag `--explain`, before the subcommand or after it.
-abbrev pub asks_why : List Text → Bool
-asks_why words =
+abbrev pub wants_reason : List Text → Bool
+wants_reason words =
     is_on (first_of (codes "explain") (matches_of dfu_app words))
     || is_on (first_of (codes "explain") (rows_in (subcommand_of dfu_app words)))

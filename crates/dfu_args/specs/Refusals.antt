@@ -10,11 +10,11 @@ unfoldable pub word_faults : List Text → Kinds
 word_faults words = fault_of dfu_app words
 
 -- A fault of words is an error of one of these kinds, or that there was no memory.
-abbrev pub TellsFault : Kinds → ArgsFault → Type 0
-TellsFault kinds (Words error) = IsAmong (kind_of error) kinds
-TellsFault kinds NoMemory = ⊤
+abbrev pub IsFaultOfKinds : Kinds → ArgsFault → Type 0
+IsFaultOfKinds kinds (Words error) = IsAmong (kind_of error) kinds
+IsFaultOfKinds kinds NoMemory = ⊤
 
 -- It succeeds only if there is no fault; else its error has one of these kinds, or says that there was no memory.
-abbrev pub EndsBy : {T : Type 0} → Kinds → Result T ArgsFault → Type 0
-EndsBy kinds (Ok x) = kinds ≡ []
-EndsBy kinds (Err fault) = TellsFault kinds fault
+abbrev pub ResultOfKinds : {T : Type 0} → Kinds → Result T ArgsFault → Type 0
+ResultOfKinds kinds (Ok x) = kinds ≡ []
+ResultOfKinds kinds (Err fault) = IsFaultOfKinds kinds fault

@@ -8,7 +8,7 @@ ghost use Rattle.clap.specs.declared.builder.Command.TheViews.{out-Command};
 ghost use Rattle.dfu_args.specs.CommandLine.{dfu_app, top_app};
 ghost use Rattle.dfu_args.specs.Alone.{IsAlone, SaysAll};
 ghost use Rattle.dfu_args.specs.Complete.{IsComplete};
-ghost use Rattle.dfu_args.specs.Refusals.{EndsBy, TellsFault, word_faults};
+ghost use Rattle.dfu_args.specs.Refusals.{ResultOfKinds, IsFaultOfKinds, word_faults};
 ghost use Rattle.dfu_args.specs.Tables.{app_in, rule_in, with_listed, with_row};
 
 use crate::commands::{COMMANDS, DFU, Kind, Listed, Row};
@@ -156,7 +156,7 @@ pub(crate) fn matches_of<'a>(
     ensures rows { IfOk result (λ m. subcommand_rows_of m ≡ subcommand_of dfu_app (map string_bytes words.now)) }
     ensures named { IfOk result (λ m. has_subcommand m ≡ true) }
     ensures complete { IfOk result (λ m. IfSome (subcommand_rows_of m) (λ p. IsComplete p.0 p.1)) }
-    ensures faults { EndsBy (word_faults (map string_bytes words.now)) result }
+    ensures faults { ResultOfKinds (word_faults (map string_bytes words.now)) result }
 {
     let command = match dfu_command(alloc, words) {
         Ok(command) => command,
@@ -170,7 +170,7 @@ pub(crate) fn matches_of<'a>(
 
 /// The fault of an error of the parser: out of memory, or the words.
 fn fault_of(error: clap::Error) -> ArgsFault
-    ensures { (kinds : Kinds) → HasKind kinds error → TellsFault kinds result }
+    ensures { (kinds : Kinds) → HasKind kinds error → IsFaultOfKinds kinds result }
 {
     match error.kind() {
         ErrorKind::OutOfMemory => ArgsFault::NoMemory,

@@ -4,9 +4,9 @@ ghost use Rattle.std.specs.Prelude.{◌≡◌, ◌||◌, IfOk, IfSome, Some, cod
 ghost use Rattle.std.specs.Option.{option_map};
 ghost use Rattle.std.specs.String.{string_bytes};
 ghost use Rattle.clap.specs.Words.{all_of, first_of, found_of, has_subcommand, rows_of, subcommand_of, subcommand_rows_of};
-ghost use Rattle.dfu_args.specs.CommandLine.{asks_why, dfu_app, is_on, rows_in, States};
+ghost use Rattle.dfu_args.specs.CommandLine.{wants_reason, dfu_app, is_on, rows_in, States};
 ghost use Rattle.dfu_args.specs.Complete.{HasTexts, IsComplete, arguments_of};
-ghost use Rattle.dfu_args.specs.Refusals.{EndsBy, word_faults};
+ghost use Rattle.dfu_args.specs.Refusals.{ResultOfKinds, word_faults};
 
 use crate::command_line::matches_of;
 use crate::subcommand::{ArgsFault, ParsedArgs, Subcommand};
@@ -205,9 +205,9 @@ pub fn parse_args(alloc: Global, words: &[String]) -> Result<ParsedArgs, ArgsFau
     // The subcommand and its texts are those that clap states for these words and this command.
     ensures subcommand { IfOk result (λ a. States (subcommand_of dfu_app (map string_bytes words.now)) a.subcommand) }
     // The reason is wanted exactly if clap states the flag for these words.
-    ensures explain { IfOk result (λ a. a.explain ≡ asks_why (map string_bytes words.now)) }
+    ensures explain { IfOk result (λ a. a.explain ≡ wants_reason (map string_bytes words.now)) }
     // A subcommand is returned only if clap states no fault for the words, and Words only with a kind that it states.
-    ensures faults { EndsBy (word_faults (map string_bytes words.now)) result }
+    ensures faults { ResultOfKinds (word_faults (map string_bytes words.now)) result }
 {
     let matches = matches_of(alloc, words)?;
     match asked(alloc, &matches) {
@@ -226,7 +226,7 @@ pub fn parse_subcommand(alloc: Global, words: &[String]) -> Result<Subcommand, A
     // The subcommand and its texts are those that clap states for these words and this command.
     ensures subcommand { IfOk result (λ j. States (subcommand_of dfu_app (map string_bytes words.now)) j) }
     // A subcommand is returned only if clap states no fault for the words, and Words only with a kind that it states.
-    ensures faults { EndsBy (word_faults (map string_bytes words.now)) result }
+    ensures faults { ResultOfKinds (word_faults (map string_bytes words.now)) result }
 {
     let parsed = parse_args(alloc, words)?;
     Ok(parsed.subcommand)

@@ -5,7 +5,7 @@ use Rattle.dfu_slots.specs.declared.layout.Unit.{Unit as WriteUnit}
 use Rattle.dfu_slots.specs.declared.fault.WriteFault.{WriteFault}
 use Rattle.dfu_slots.specs.declared.fault.WriteFault.TheVariants.{NotVerified}
 use Rattle.dfu_slots.specs.Medium.{MediumState, Write, Torn, FailedWrite}
-use Rattle.dfu_slots.specs.Seen.{SlotsState, store_of, is_shaped}
+use Rattle.dfu_slots.specs.StoreView.{SlotsState, store_of, is_shaped}
 use Rattle.dfu_slots.specs.Store.{IsStore}
 use Rattle.dfu_slots.proofs.Written.{was_written}
 use Rattle.dfu_slots.proofs.Seeing.{shaped}
@@ -19,7 +19,7 @@ use Rattle.dfu_device.specs.Rows.{Done}
 use Rattle.dfu_device.specs.Parts.{shows, stage_of, is_sound, is_filled}
 use Rattle.dfu_asks.specs.declared.pending_writes.SlotWrite.{SlotWrite}
 use Rattle.dfu_asks.specs.declared.pending_writes.PendingWrites.{PendingWrites}
-use Rattle.dfu_asks.specs.Lent.{LentAsking}
+use Rattle.dfu_asks.specs.Lent.{LentDevice}
 use Rattle.dfu_asks.specs.declared.reply.Reply.{Reply}
 use Rattle.dfu_asks.specs.declared.reply.Reply.TheVariants as reply
 use Rattle.dfu_asks.specs.declared.sector.Sector.{Sector}
@@ -30,9 +30,9 @@ use Rattle.dfu_asks.specs.Cuts.{IsNextPiece}
 use Rattle.dfu_asks.specs.Due.{due_plan, DueRow, IsDueStage, IsSure, IsSureOrDue, Works, Fails}
 use Rattle.dfu_asks.specs.declared.noted.Noted.{Noted}
 use Rattle.dfu_asks.specs.Noted.{IsNoted}
-use Rattle.dfu_asks.specs.Asks.{grain_in, store_in, device_in, unseen_in, device_with, device_of, IsDevice, IsDue, IsJobOf, IsWorking, writes_in, steps_in, IsBrokenOff, NotesAfter, IsAnswered, GivesAnswer, IsRest}
-use Rattle.dfu_asks.specs.Calls.{HasEnded, AsksWrites, DueComes, comes_asks, comes_ended, MakesRow, AreSureOrDue, DeviceCalled, called_ended, called_asks}
-use Rattle.dfu_asks.specs.Refused.{IsTaken}
+use Rattle.dfu_asks.specs.Asks.{grain_in, store_in, device_in, unseen_in, device_with, device_of, IsDevice, IsDue, IsJobOf, IsWorking, writes_in, steps_in, IsBrokenOff, NotesAfter, IsAnswered, AnswerInBuffer, IsRest}
+use Rattle.dfu_asks.specs.Calls.{CallCompleted, WritesPending, DueOutcome, comes_asks, comes_ended, IsRowOnAnyMedium, AreSureOrDue, DeviceCalled, called_ended, called_asks}
+use Rattle.dfu_asks.specs.Refused.{ReportAccepted}
 use Rattle.dfu_asks.proofs.Steps.{job_writes_are}
 use Rattle.dfu_asks.proofs.Bits.{IsBitOf, bit_of}
 use Rattle.dfu_asks.proofs.Pieces.{piece_one, piece_end, piece_some}
@@ -67,7 +67,7 @@ pub mapped_as : {u u' : WriteUnit} {s s' : Sector} (flash : List ℕ) → u' ≡
 mapped_as flash unit sector = λ i. mapped (record { unit = unit i; sector = (sector i).size }) flash
 
 -- The store is unchanged if only the mode and the block changed.
-pub rest_store : (a mid : LentAsking) (flash : List ℕ) → IsRest a mid → store_in mid flash ≡ store_in a flash
+pub rest_store : (a mid : LentDevice) (flash : List ℕ) → IsRest a mid → store_in mid flash ≡ store_in a flash
 rest_store a mid flash r = λ i. store_of (mapped (record { unit = r.unit i; sector = (r.sector i).size }) flash) (r.held i) (r.end i)
 
 -- A call that begins.
@@ -81,7 +81,7 @@ due_of (device_state.Manifest n passed) xs ys asked len s j end held due is = (d
 due_of m xs ys asked len s j end held due is = absurd due
 
 -- A device that begins the job of the row that is due works for it.
-pub begins : (a : LentAsking) (m : DeviceState) (b : List ℕ) (s : SlotsState) (flash xs ys : List ℕ) (j : SlotWrite) (asked : Option ℕ) (len : ℕ)
+pub begins : (a : LentDevice) (m : DeviceState) (b : List ℕ) (s : SlotsState) (flash xs ys : List ℕ) (j : SlotWrite) (asked : Option ℕ) (len : ℕ)
     → a.mode ≡ m → a.block ≡ b → s.medium ≡ mapped (grain_in a) flash → IsStore s → IsTrue (is_sound m (length b) s)
     → IsNoted a.noted s.medium → IsDueStage (stage_of m xs ys) asked len → IsJobOf m s j a.put_end a.held
     → IsWorking a (record { job = j; asked = asked; done = 0 }) len s flash
@@ -96,12 +96,12 @@ begins a m b s flash xs ys j asked len mode_is block medium store sound noted du
 }
 
 -- A row of each device, of which this is not seen, follows from another one.
-abbrev pub RowFollows : LentAsking → List ℕ → (Row Row' : DeviceView → Answer → List ℕ → DeviceView → Type 0) → Type 0
+abbrev pub RowFollows : LentDevice → List ℕ → (Row Row' : DeviceView → Answer → List ℕ → DeviceView → Type 0) → Type 0
 RowFollows a flash Row Row' = (u : Unseen) (x : Answer) (sent : List ℕ) (d : DeviceView) → Row (device_with u a flash) x sent d
     → Row' (device_with u a flash) x sent d
 
 -- A call that is answered by a row is answered by each row that follows from it.
-pub called_by : (a : LentAsking) (flash out : List ℕ) (Row Row' : DeviceView → Answer → List ℕ → DeviceView → Type 0) (now : LentAsking)
+pub called_by : (a : LentDevice) (flash out : List ℕ) (Row Row' : DeviceView → Answer → List ℕ → DeviceView → Type 0) (now : LentDevice)
     (out' : List ℕ) (r : Reply) → RowFollows a flash Row Row' → DeviceCalled a flash out Row now out' r
     → DeviceCalled a flash out Row' now out' r
 called_by a flash out Row Row' now out' _ follows (called_ended x count e) = called_ended x count (record {
@@ -120,9 +120,9 @@ called_by a flash out Row Row' now out' _ follows (called_asks len asks same due
 }) out_is
 
 -- The row that is due begins: its writes are asked for, or it came to its end with no write.
-pub due_begins : (a : LentAsking) (flash out : List ℕ) (len : ℕ) (now : LentAsking) (out' : List ℕ) (r : Reply)
-    → DueComes (device_in a flash) len (store_in a flash) flash flash out now out' r
-    → ((x : Answer) (count : ℕ) → r ≡ reply.Answered x count → HasEnded flash x count out out' now (MakesRow a flash (Works len) now))
+pub due_begins : (a : LentDevice) (flash out : List ℕ) (len : ℕ) (now : LentDevice) (out' : List ℕ) (r : Reply)
+    → DueOutcome (device_in a flash) len (store_in a flash) flash flash out now out' r
+    → ((x : Answer) (count : ℕ) → r ≡ reply.Answered x count → CallCompleted flash x count out out' now (IsRowOnAnyMedium a flash (Works len) now))
     → DeviceCalled a flash out (DueRow len) now out' r
 due_begins a flash out len now out' _ (comes_asks asks same out_is) ended =
     called_asks len asks same (λ u. let d = device_with u a flash in due_row (due_plan (profile d) d.stage) len d refl) out_is
@@ -147,7 +147,7 @@ due_only p d asked len other (inl sure) = absurd (other sure)
 due_only p d asked len other (inr due) = due
 
 -- A call that begins the row that is due is answered by the plan that is that row.
-pub due_called : (a : LentAsking) (flash out : List ℕ) (p : DeviceView → Plan) (asked : Option ℕ) (len : ℕ) (now : LentAsking)
+pub due_called : (a : LentDevice) (flash out : List ℕ) (p : DeviceView → Plan) (asked : Option ℕ) (len : ℕ) (now : LentDevice)
     (out' : List ℕ) (r : Reply) → ((d : DeviceView) → ¬ IsSure (p d)) → AreSureOrDue p a flash asked len
     → (IsDueStage (device_in a flash).stage asked len → DeviceCalled a flash out (DueRow len) now out' r)
     → DeviceCalled a flash out (λ d x sent d'. Done (p d) len d x sent d') now out' r
@@ -161,10 +161,10 @@ due_called a flash out p asked len now out' r other due called =
 
 -- An answer by a setting that is the same.
 pub gives_in : (c d : Setting) (m : DeviceState) (asked : Option ℕ) (x : Answer) (count : ℕ) (out out' : List ℕ) → d ≡ c
-    → GivesAnswer (λ y sent. IsAnswered d m asked y sent) x count out out' →
-    GivesAnswer (λ y sent. IsAnswered c m asked y sent) x count out out'
+    → AnswerInBuffer (λ y sent. IsAnswered d m asked y sent) x count out out' →
+    AnswerInBuffer (λ y sent. IsAnswered c m asked y sent) x count out out'
 gives_in c d m asked x count out out' same gives =
-    subst (λ (k : Setting). GivesAnswer (λ y sent. IsAnswered k m asked y sent) x count out out') same gives
+    subst (λ (k : Setting). AnswerInBuffer (λ y sent. IsAnswered k m asked y sent) x count out out') same gives
 
 -- A call that writes nothing.
 
@@ -172,7 +172,7 @@ gives_in c d m asked x count out out' same gives =
 sound_from : (p q : Bool) → p ≡ true → IsTrue q → IsTrue (p && q)
 sound_from p q e t = grind (arith, common_steps)
 
-module _ (a now : LentAsking) (flash : List ℕ) (rest : IsRest a now) (is : IsDevice a flash)
+module _ (a now : LentDevice) (flash : List ℕ) (rest : IsRest a now) (is : IsDevice a flash)
     (filled : IsTrue (is_filled now.mode (length now.block) (store_in a flash))) where
   store_kept : store_in now flash ≡ store_in a flash
   store_kept = rest_store a now flash rest
@@ -198,7 +198,7 @@ module _ (a now : LentAsking) (flash : List ℕ) (rest : IsRest a now) (is : IsD
   pub kept_ended : a.work ≡ None → (x : Answer) (count : ℕ) (out out' sent : List ℕ)
       (Row : DeviceView → Answer → List ℕ → DeviceView → Type 0) → count ≡ length sent → out' ≡ sent ++ drop count out
       → ((u : Unseen) → Row (device_with u a flash) x sent (shows a.config (unseen_in u (store_in a flash)) now.mode now.block))
-      → HasEnded flash x count out out' now (MakesRow a flash Row now)
+      → CallCompleted flash x count out out' now (IsRowOnAnyMedium a flash Row now)
   kept_ended none x count out out' sent Row count_is out_is row = record {
     gave = record {
       sent = sent;
@@ -211,7 +211,7 @@ module _ (a now : LentAsking) (flash : List ℕ) (rest : IsRest a now) (is : IsD
   }
 
 -- A call that only changes the mode and the block has come to its end with this answer.
-pub mode_ended : (a : LentAsking) (m : DeviceState) (block flash : List ℕ) → IsDevice a flash
+pub mode_ended : (a : LentDevice) (m : DeviceState) (block flash : List ℕ) → IsDevice a flash
     → IsTrue (is_filled m (length block) (store_in a flash)) → a.work ≡ None → (x : Answer) (count : ℕ) (out out' sent : List ℕ)
     (Row : DeviceView → Answer → List ℕ → DeviceView → Type 0) → count ≡ length sent → out' ≡ sent ++ drop count out
     → ((u : Unseen) → Row (device_with u a flash) x sent (shows a.config (unseen_in u (store_in a flash)) m block))
@@ -225,30 +225,30 @@ mode_ended a m block flash is filled none x count out out' sent Row count_is out
 -- How a piece went.
 
 -- A piece of a work is one of the same work.
-pub piece_of : (a : LentAsking) (x w : PendingWrites) (p : Step) → x ≡ w → IsPiece (steps_in a x) x.done p → IsPiece (steps_in a w) w.done p
+pub piece_of : (a : LentDevice) (x w : PendingWrites) (p : Step) → x ≡ w → IsPiece (steps_in a x) x.done p → IsPiece (steps_in a w) w.done p
 piece_of a x w p same piece = subst (λ (y : PendingWrites). IsPiece (steps_in a y) y.done p) same piece
 
 -- The piece that was asked for is the one that was taken.
-pub one_piece : (a : LentAsking) (w x : PendingWrites) (p q : Step) → x ≡ w → IsPiece (steps_in a x) x.done p
+pub one_piece : (a : LentDevice) (w x : PendingWrites) (p q : Step) → x ≡ w → IsPiece (steps_in a x) x.done p
     → IsPiece (steps_in a w) w.done q → p ≡ q
 one_piece a w x p q same first second = piece_one (steps_in a w) w.done p q (piece_of a x w p same first) second
 
 -- The piece that was asked for has as many bytes as the one that is looked at.
-pub next_size : (a : LentAsking) (w x : PendingWrites) (p : Step) (flash : List ℕ) (n : ℕ) (there : Bool) → x ≡ w
+pub next_size : (a : LentDevice) (w x : PendingWrites) (p : Step) (flash : List ℕ) (n : ℕ) (there : Bool) → x ≡ w
     → IsPiece (steps_in a x) x.done p → IsNextPiece (steps_in a w) w.done flash n there → length p.write.bytes ≡ n
 next_size a w x p flash n there same piece next =
     ap (λ (y : Step). length y.write.bytes) (one_piece a w x p next.piece same piece next.is) ∙ next.size
 
 -- The writes of the steps of a work are its writes.
-pub writes_are : (a : LentAsking) (w : PendingWrites) → step_writes (steps_in a w) ≡ writes_in a w
+pub writes_are : (a : LentDevice) (w : PendingWrites) → step_writes (steps_in a w) ≡ writes_in a w
 writes_are a w = job_writes_are w.job (grain_in a) a.put_end a.held a.block
 
 -- A piece of a work is some bytes of one of its writes.
-pub bit_in : (a : LentAsking) (w : PendingWrites) (p : Step) → IsPiece (steps_in a w) w.done p → IsBitOf (writes_in a w) w.done p.write
+pub bit_in : (a : LentDevice) (w : PendingWrites) (p : Step) → IsPiece (steps_in a w) w.done p → IsBitOf (writes_in a w) w.done p.write
 bit_in a w p piece = subst (λ (ws : List Write). IsBitOf ws w.done p.write) (writes_are a w) (bit_of (steps_in a w) w.done p piece)
 
 -- With a next piece some bytes of the work are left.
-pub piece_left : (a : LentAsking) (w : PendingWrites) (p : Step) → IsPiece (steps_in a w) w.done p → w.done < total (writes_in a w)
+pub piece_left : (a : LentDevice) (w : PendingWrites) (p : Step) → IsPiece (steps_in a w) w.done p → w.done < total (writes_in a w)
 piece_left a w p piece = omega (
   arith,
   piece_end (steps_in a w) w.done p piece,
@@ -257,31 +257,31 @@ piece_left a w p piece = omega (
 )
 
 -- If no step of it is left, none of its bytes is.
-pub none_left : (a : LentAsking) (w : PendingWrites) → total (step_writes (steps_in a w)) ≤ w.done → total (writes_in a w) ≤ w.done
+pub none_left : (a : LentDevice) (w : PendingWrites) → total (step_writes (steps_in a w)) ≤ w.done → total (writes_in a w) ≤ w.done
 none_left a w le = omega (arith, ap total (writes_are a w), le)
 
 -- A device with a next piece is one that a piece can be taken of.
-pub taken_from : (a : LentAsking) (w : PendingWrites) (p : Step) (room : ℕ) → 6 ≤ room → a.work ≡ Some w → IsPiece (steps_in a w) w.done p
-    → IsTaken a room
+pub taken_from : (a : LentDevice) (w : PendingWrites) (p : Step) (room : ℕ) → 6 ≤ room → a.work ≡ Some w → IsPiece (steps_in a w) w.done p
+    → ReportAccepted a room
 taken_from a w p room fits is piece =
     record { fits = fits; work = w; is_left = record { work_is = is; left = piece_left a w p piece } }
 
-module _ (a : LentAsking) (len : ℕ) (s : SlotsState) (was before : List ℕ) (asks : AsksWrites a len s was before) (p : Step)
+module _ (a : LentDevice) (len : ℕ) (s : SlotsState) (was before : List ℕ) (asks : WritesPending a len s was before) (p : Step)
     (piece : IsPiece (steps_in a asks.work) asks.work.done p) (flash : List ℕ) (torn : Torn before p.write.at p.write.bytes flash) where
   torn_there : Torn (carried was (writes_in a asks.work) asks.work.done) p.write.at p.write.bytes flash
   torn_there = subst (λ (l : List ℕ). Torn l p.write.at p.write.bytes flash) asks.flash_is torn
 
   -- It failed, or other bytes are there: the row with that fault.
-  pub piece_failed : (fault : WriteFault) (now : LentAsking) (asked : Option ℕ) (x : Answer) (count : ℕ) (out out' : List ℕ)
+  pub piece_failed : (fault : WriteFault) (now : LentDevice) (asked : Option ℕ) (x : Answer) (count : ℕ) (out out' : List ℕ)
       → asks.work.asked ≡ asked → IsBrokenOff fault a now → NotesAfter a.mode flash a now
-      → GivesAnswer (λ y sent. IsAnswered a.config now.mode asked y sent) x count out out'
-      → HasEnded flash x count out out' now (λ y sent. Fails fault len (device_of a s) y sent (device_in now flash))
+      → AnswerInBuffer (λ y sent. IsAnswered a.config now.mode asked y sent) x count out out'
+      → CallCompleted flash x count out out' now (λ y sent. Fails fault len (device_of a s) y sent (device_in now flash))
   piece_failed fault now asked x count out out' same off notes gives =
       broken_ended a now asks.work len s was flash asks.working notes x count out out' fault
       (broken_carried (grain_in a) fault (writes_in a asks.work) was flash asks.work.done p.write
       (working_within a asks.work len s was asks.working)
       (bit_in a asks.work p piece) torn_there) off
-      (subst (λ (y : Option ℕ). GivesAnswer (λ z sent. IsAnswered a.config now.mode y z sent) x count out out') (sym same) gives)
+      (subst (λ (y : Option ℕ). AnswerInBuffer (λ z sent. IsAnswered a.config now.mode y z sent) x count out out') (sym same) gives)
 
   -- It is there: the series is one piece further.
   pub piece_stands : p.write.at + length p.write.bytes ≤ length flash

@@ -5,10 +5,10 @@ use Rattle.dfu_slots.specs.declared.fault.PutFault.TheVariants.{Failed as PutFai
 use Rattle.dfu_slots.specs.declared.fault.WriteFault.{WriteFault}
 use Rattle.dfu_slots.specs.declared.fault.WriteFault.TheVariants.{Failed, NotVerified}
 use Rattle.dfu_slots.specs.Image.{capacity_of}
-use Rattle.dfu_slots.specs.Seen.{SlotsState, is_begun, room_of, Call, Begin, Put, Commit, BrokenBy, CallWorked, CallFailed}
+use Rattle.dfu_slots.specs.StoreView.{SlotsState, is_begun, room_of, Call, Begin, Put, Commit, BrokenBy, CallWorked, CallFailed}
 use Rattle.dfu_slots.specs.Store.{IsStore}
 use Rattle.dfu_slots.specs.Changes.{ending_of, Changes}
-use Rattle.dfu_slots.specs.Leaves.{BeginLeaves, PutLeaves, CommitLeaves}
+use Rattle.dfu_slots.specs.CallResults.{StoreBeginResult, StorePutResult, StoreCommitResult}
 use Rattle.dfu_slots.proofs.Seeing.{begun_closed, room_capacity}
 use Rattle.dfu_slots.proofs.Stays.{SamePlaces}
 use Rattle.dfu_slots.proofs.AfterBegin.{begin_done}
@@ -46,7 +46,7 @@ large s n fits over = omega (arith, fits, over, room_capacity s)
 
 module _ (s now : SlotsState) (store : IsStore s) where
   -- A `begin` whose writes worked.
-  pub begun : CallWorked s Begin now → BeginLeaves s done now
+  pub begun : CallWorked s Begin now → StoreBeginResult s done now
   begun worked =
       (begin_done {T = Unit {0}} {s = s} {v = s} refl
       (record { store = store; active_there = refl; spare_there = refl }) now done tt worked).1
@@ -71,7 +71,7 @@ module _ (s now : SlotsState) (store : IsStore s) where
       record { active = sym kept.active_there; spare = sym kept.spare_there }
 
   -- A `begin` that was broken off.
-  pub begin_broken : (fault : WriteFault) → CallFailed fault s Begin now → BeginLeaves s (broken fault) now
+  pub begin_broken : (fault : WriteFault) → CallFailed fault s Begin now → StoreBeginResult s (broken fault) now
   begin_broken Failed failed =
       (begin_done {T = Unit {0}} {s = s} {v = s} refl (record { store = store; active_there = refl; spare_there = refl }) now
       (broken Failed) tt
@@ -82,7 +82,7 @@ module _ (s now : SlotsState) (store : IsStore s) where
 
   module _ (at : ℕ) (bytes : List ℕ) (here : at ≡ s.put_end) (ready : is_begun s ≡ true) (fits : at + length bytes ≤ room_of s) where
     put_done_by : (result : Result (Unit {0}) PutFault) → ¬ IsErrOf result NotBegun → ¬ IsErrOf result TooLarge
-        → Changes s (Put at bytes) result now → SamePlaces s.medium now.medium × PutLeaves s at bytes result now
+        → Changes s (Put at bytes) result now → SamePlaces s.medium now.medium × StorePutResult s at bytes result now
     put_done_by result begun small changes =
         let both = put_done {T = Unit {0}} {s = s} {v = s} refl
         (record { store = store; active_there = refl; spare_there = refl }) now at bytes
@@ -91,23 +91,23 @@ module _ (s now : SlotsState) (store : IsStore s) where
         (record { active = sym both.0.active_there; spare = sym both.0.spare_there }, both.1)
 
     -- A `put` whose writes worked. It leaves the slots where they were.
-    pub put_came : CallWorked s (Put at bytes) now → SamePlaces s.medium now.medium × PutLeaves s at bytes done now
+    pub put_came : CallWorked s (Put at bytes) now → SamePlaces s.medium now.medium × StorePutResult s at bytes done now
     put_came worked = put_done_by done (λ e. cc) (λ e. cc) worked
 
     -- A `put` that was broken off. It does too.
     pub put_broken : (fault : WriteFault) → CallFailed fault s (Put at bytes) now
-        → SamePlaces s.medium now.medium × PutLeaves s at bytes (broken fault) now
+        → SamePlaces s.medium now.medium × StorePutResult s at bytes (broken fault) now
     put_broken fault failed = put_done_by (broken fault) (no_other fault) (not_large fault)
         (changes_broken fault s now (Put at bytes) failed)
 
   module _ (len : ℕ) (within : len ≤ s.put_end) (ready : is_begun s ≡ true) where
     -- A `commit` whose writes worked.
-    pub commit_came : CallWorked s (Commit len) now → CommitLeaves s len done now
+    pub commit_came : CallWorked s (Commit len) now → StoreCommitResult s len done now
     commit_came worked = commit_leaves {T = Unit {0}} {s = s} {v = s} (λ i. s) store now len within done
         (λ e. cc, λ o. absurd (begun_closed s ready o)) (λ e. cc) worked
 
     -- A `commit` that was broken off.
-    pub commit_broken : (fault : WriteFault) → CallFailed fault s (Commit len) now → CommitLeaves s len (broken fault) now
+    pub commit_broken : (fault : WriteFault) → CallFailed fault s (Commit len) now → StoreCommitResult s len (broken fault) now
     commit_broken fault failed = commit_leaves {T = Unit {0}} {s = s} {v = s} (λ i. s) store now len within (broken fault)
         (λ e. absurd (no_other fault e), λ o. absurd (begun_closed s ready o)) (not_large fault)
         (changes_broken fault s now (Commit len) failed)

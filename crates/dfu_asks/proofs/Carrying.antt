@@ -3,7 +3,7 @@ use Rattle.std.proofs.Common.{◌≡◌, inl, inr, ℕ, ◌+◌, ◌-◌, ◌≤
 use Rattle.std.proofs.lemmas.List.{take-take, length-take-le, take_all, drop-take, take-append-drop}
 use Rattle.dfu_slots.specs.declared.fault.WriteFault.{WriteFault}
 use Rattle.dfu_slots.specs.Units.{Grain}
-use Rattle.dfu_slots.specs.Medium.{Write, WroteBytes, AllWrites, BrokenWrites, KeepsOutside, Torn, written}
+use Rattle.dfu_slots.specs.Medium.{Write, WroteBytes, AllWrites, BrokenWrites, FrameOutside, Torn, written}
 use Rattle.dfu_slots.proofs.Torn.{written_torn, keeps_both, keeps_wider}
 use Rattle.dfu_slots.proofs.Within.{written_written, written_nil}
 use Rattle.dfu_asks.specs.Mapped.{mapped}
@@ -98,10 +98,10 @@ module _ (u : Grain) where
       let before = written m w.at (take n w.bytes) in
       let front : length (take n w.bytes) ≡ n = length-take-le n w.bytes (omega (arith, part.within)) in
       let was : carried before ws (n - length w.bytes) ≡ before = (λ i. carried before ws (none i)) ∙ carried_none ws before in
-      let first : KeepsOutside w.at (w.at + length w.bytes) m before =
+      let first : FrameOutside w.at (w.at + length w.bytes) m before =
       keeps_wider w.at (w.at + length (take n w.bytes)) w.at (w.at + length w.bytes) m before
       (written_torn m w.at (take n w.bytes) (omega (arith, front, high, part.within))) (omega arith) (omega (arith, front, part.within)) in
-      let second : KeepsOutside w.at (w.at + length w.bytes) before now =
+      let second : FrameOutside w.at (w.at + length w.bytes) before now =
       keeps_wider p.at (p.at + length p.bytes) w.at (w.at + length w.bytes) before now
       (subst (λ (l : List ℕ). Torn l p.at p.bytes now) was torn) (omega (arith, part.place)) (omega (arith, part.place, part.within)) in
       inl (record {

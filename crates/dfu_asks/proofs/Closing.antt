@@ -6,10 +6,10 @@ use Rattle.dfu_wire.specs.declared.requests.Request.{Request as Asked}
 use Rattle.dfu_wire.specs.declared.requests.Request.TheVariants as asked
 use Rattle.dfu_wire.specs.declared.codes.Code.TheVariants.{NotDone as ErrNotDone}
 use Rattle.dfu_wire.specs.Setup.{IsSetup}
-use Rattle.dfu_wire.specs.Request.{Asks}
-use Rattle.dfu_wire.specs.OneRequest.{Asks-one}
+use Rattle.dfu_wire.specs.Request.{SetupRequest}
+use Rattle.dfu_wire.specs.OneRequest.{SetupRequest-one}
 use Rattle.dfu_wire.specs.OneValue.{IsSetup-one}
-use Rattle.dfu_slots.specs.Seen.{image_of}
+use Rattle.dfu_slots.specs.StoreView.{image_of}
 use Rattle.dfu_device.specs.declared.answer.Answer.{Answer}
 use Rattle.dfu_device.specs.declared.answer.Answer.TheVariants as answer
 use Rattle.dfu_device.specs.Candidate.{candidate_in}
@@ -19,7 +19,7 @@ use Rattle.dfu_device.specs.Table.{Plan, Sure, Writes, Commits, ack, error, plan
 use Rattle.dfu_device.specs.DeviceView.{DeviceView, profile}
 use Rattle.dfu_device.specs.Rows.{meant, asked_length, body_length, Answers, Done, is_served, setup_plan, is_close, IsCloseSetup, ClosesDownload, Handles, handled_as}
 use Rattle.dfu_asks.specs.Verdict.{IsBodyOf}
-use Rattle.dfu_asks.specs.Close.{WasClosed, TellsClose}
+use Rattle.dfu_asks.specs.Close.{WasClosed, IsCloseVerdict}
 use Rattle.dfu_asks.proofs.ClosePlans.{Closes, Needs, row_needs}
 
 -- An answer of a reply that is an acknowledgement.
@@ -57,23 +57,23 @@ setup_needs w p q body = either_way (Needs (profile w) w.stage (meant q body)) (
     (row_needs (profile w) (image_of w.slots) w.stage (meant q body)) (λ t a m. absurd (cc))
 
 -- A DNLOAD has as many bytes as its setup says.
-dnload_length : (p : Setup) (block len : ℕ) (body : List ℕ) → Asks p (asked.Dnload block len) → length body ≡ body_length p
+dnload_length : (p : Setup) (block len : ℕ) (body : List ℕ) → SetupRequest p (asked.Dnload block len) → length body ≡ body_length p
     → length body ≡ len
 dnload_length p block len body asks fits =
     fits ∙ ap (λ (k : ℕ). if k == 0x21 then p.length else 0) asks.0.kind ∙ sym asks.2
 
 -- A setup that closes a download asks for a DNLOAD of no bytes, whichever request it is read as.
-close_read : (setup : List ℕ) (p : Setup) (q : Asked) → IsSetup p setup → Asks p q → IsCloseSetup setup → is_close q ≡ true
+close_read : (setup : List ℕ) (p : Setup) (q : Asked) → IsSetup p setup → SetupRequest p q → IsCloseSetup setup → is_close q ≡ true
 close_read setup p q reads asks (p2, q2, reads2, asks2, close) =
     let same : p2 ≡ p = IsSetup-one p2 p setup reads2 reads in
-    subst (λ (r : Asked). is_close r ≡ true) (Asks-one p q2 q (subst (λ (x : Setup). Asks x q2) same asks2) asks) close
+    subst (λ (r : Asked). is_close r ≡ true) (SetupRequest-one p q2 q (subst (λ (x : Setup). SetupRequest x q2) same asks2) asks) close
 
 empty : (l : List ℕ) → length l ≡ 0 → l ≡ []
 empty [] none = refl
 empty (x ∷ xs) none = absurd (omega (arith, none))
 
 -- Such a request goes by the table, as a DNLOAD of no bytes.
-close_meant : (p : Setup) (q : Asked) (body : List ℕ) → Asks p q → is_close q ≡ true → length body ≡ body_length p
+close_meant : (p : Setup) (q : Asked) (body : List ℕ) → SetupRequest p q → is_close q ≡ true → length body ≡ body_length p
     → (number : ℕ) × (meant q body ≡ Dnload number []) × (is_served p q body ≡ true)
 close_meant p (asked.Dnload block len) body asks close fits = (
   block,
@@ -95,7 +95,7 @@ module _ (setup body : List ℕ) (d : DeviceView) (x : Answer) (sent : List ℕ)
       let n = done_needs (setup_plan d p q body) (profile d) (meant q body) (asked_length q) d x sent d' was.taken
       (setup_needs d p q body) done was.acknowledged was.waits in
       let e = close_asked q body n.number n.asks in
-      let asks_dnload : Asks p (asked.Dnload e.0 e.1) = subst (λ (r : Asked). Asks p r) e.2 asks in
+      let asks_dnload : SetupRequest p (asked.Dnload e.0 e.1) = subst (λ (r : Asked). SetupRequest p r) e.2 asks in
       let none : e.1 ≡ 0 = sym (dnload_length p e.0 e.1 body asks_dnload (body_is p reads)) ∙ ap (λ (l : List ℕ). length l) e.3 in
       ((p, q, reads, asks, ap is_close e.2 ∙ eq-eqb e.1 0 none), n.may)
 
@@ -111,7 +111,7 @@ module _ (setup body : List ℕ) (d : DeviceView) (x : Answer) (sent : List ℕ)
       record { acknowledged = went.0.0; taken = row.0; had = row.1; waits = ap (λ (v : DeviceView). v.stage) went.1 }
 
 -- What is said of a setup holds of its row too.
-pub tells_close : (said : Bool) (setup : List ℕ) (d : DeviceView) → IsTrue said ↔ ClosesDownload setup d → TellsClose said setup d
+pub tells_close : (said : Bool) (setup : List ℕ) (d : DeviceView) → IsTrue said ↔ ClosesDownload setup d → IsCloseVerdict said setup d
 tells_close said setup d is = record {
   closes = is;
   closed = λ body body_is x sent d' h. (

@@ -10,12 +10,12 @@ use Rattle.dfu_asks.specs.declared.pending_writes.WriteInputs.{WriteInputs}
 use Rattle.dfu_asks.specs.declared.pending_writes.SlotWrite.{SlotWrite}
 use Rattle.dfu_asks.specs.declared.cut.Cut.{Cut}
 use Rattle.dfu_asks.specs.Steps.{Step, step_writes, marked, program, anew_steps, close_step}
-use Rattle.dfu_asks.specs.Jobs.{asked, IsFit, steps_for}
+use Rattle.dfu_asks.specs.Jobs.{asked, PieceBounds, steps_for}
 use Rattle.dfu_asks.specs.declared.formatting.Formatting.{Formatting}
 use Rattle.dfu_asks.specs.declared.pending_writes.PendingWrites.{PendingWrites}
-use Rattle.dfu_asks.specs.Lent.{LentAsking}
+use Rattle.dfu_asks.specs.Lent.{LentDevice}
 use Rattle.dfu_asks.specs.Asks.{steps_in}
-use Rattle.dfu_asks.specs.Phases.{part_left}
+use Rattle.dfu_asks.specs.Phases.{steps_of_part}
 use Rattle.dfu_asks.specs.Cuts.{source_bytes, zeroed, step_of, IsCut}
 use Rattle.dfu_asks.specs.Carried.{total, IsPart, IsPiece}
 use Rattle.dfu_asks.proofs.Pieces.{range_of_front, range_behind}
@@ -55,7 +55,7 @@ filled_with c out all is h =
     λ i. record { erases = c.piece.erases; write = record { at = c.piece.at; bytes = bytes i } }
 
 -- A cut is fit to be asked for, once its bytes are in a buffer.
-pub fit_of : (sector : ℕ) (c : Cut) (out : List ℕ) → IsCut sector c → asked c.piece out ≡ step_of c → IsFit sector c.piece out
+pub fit_of : (sector : ℕ) (c : Cut) (out : List ℕ) → IsCut sector c → asked c.piece out ≡ step_of c → PieceBounds sector c.piece out
 fit_of sector c out is same = record {
   some = is.some;
   programs = is.programs;
@@ -111,7 +111,7 @@ module _ (job : SlotWrite) (s : WriteInputs) (ss : List Step) (steps : steps_for
   none_in le = omega (arith, le, rest, ap (λ (xs : List Step). total (step_writes xs)) begun_with)
 
 -- A piece that a search for this work found is one of the work.
-pub piece_found : (a : LentAsking) (v : PendingWrites) (s : WriteInputs) → ((w : PendingWrites) → steps_for w.job s ≡ steps_in a w)
+pub piece_found : (a : LentDevice) (v : PendingWrites) (s : WriteInputs) → ((w : PendingWrites) → steps_for w.job s ≡ steps_in a w)
     → (first : Cut) → first.stock ≡ s → first.rest ≡ v.done → (p : Step) → IsPiece (steps_for v.job first.stock) first.rest p
     → IsPiece (steps_in a v) v.done p
 piece_found a v s steps first stock rest p found = found_in v.job s (steps_in a v) (steps v) v.done first stock rest p found
@@ -122,19 +122,19 @@ module _ (f : Formatting) (now size : ℕ) (same : now ≡ size) (image : List �
   found_for : first.stock.block.now ≡ image
   found_for = ap (λ (x : WriteInputs). x.block.now) stock ∙ block
 
-  pub part_found : (p : Step) → IsPiece (part_left f now first.stock.block.now) first.rest p → IsPiece (part_left f size image) f.done p
+  pub part_found : (p : Step) → IsPiece (steps_of_part f now first.stock.block.now) first.rest p → IsPiece (steps_of_part f size image) f.done p
   part_found p piece =
-      subst (λ (n : ℕ). IsPiece (part_left f n image) f.done p) same
-      (subst (λ (n : ℕ). IsPiece (part_left f now image) n p) rest
-      (subst (λ (l : List ℕ). IsPiece (part_left f now l) first.rest p) found_for piece))
+      subst (λ (n : ℕ). IsPiece (steps_of_part f n image) f.done p) same
+      (subst (λ (n : ℕ). IsPiece (steps_of_part f now image) n p) rest
+      (subst (λ (l : List ℕ). IsPiece (steps_of_part f now l) first.rest p) found_for piece))
 
   pub part_none : length image ≤ 2 ^ 24
-      → (length first.stock.block.now ≤ 2 ^ 24 → total (step_writes (part_left f now first.stock.block.now)) ≤ first.rest)
-      → total (step_writes (part_left f size image)) ≤ f.done
+      → (length first.stock.block.now ≤ 2 ^ 24 → total (step_writes (steps_of_part f now first.stock.block.now)) ≤ first.rest)
+      → total (step_writes (steps_of_part f size image)) ≤ f.done
   part_none small none = omega (
     arith,
     none (omega (arith, ap length found_for, small)),
     rest,
-    ap (λ (l : List ℕ). total (step_writes (part_left f now l))) found_for,
-    ap (λ (n : ℕ). total (step_writes (part_left f n image))) same,
+    ap (λ (l : List ℕ). total (step_writes (steps_of_part f now l))) found_for,
+    ap (λ (n : ℕ). total (step_writes (steps_of_part f n image))) same,
   )

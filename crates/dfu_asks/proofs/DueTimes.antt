@@ -9,7 +9,7 @@ use Rattle.dfu_device.specs.Table.{Plan, Writes, Commits, ack, time_plan}
 use Rattle.dfu_device.specs.DeviceView.{DeviceView, profile}
 use Rattle.dfu_device.specs.Parts.{stage_of}
 use Rattle.dfu_device.specs.Pace.{block_ms, image_ms}
-use Rattle.dfu_device.specs.Decision.{HoldsTime}
+use Rattle.dfu_device.specs.Decision.{HasTimeInputs}
 use Rattle.dfu_device.specs.Rows.{Done}
 use Rattle.dfu_asks.specs.Times.{due_of, ChangesOnceDue}
 
@@ -117,7 +117,7 @@ module _ (ms : ℕ) (d d' : DeviceView) where
       (ap (λ (w : DeviceView). state_of w.stage) done.1 ∙ sym (ap state_of is))
 
   -- Each mode.
-  pub time_due : (m : DeviceState) (n : ℕ) (spare block : List ℕ) → HoldsTime m n spare block → d.stage ≡ stage_of m spare block
+  pub time_due : (m : DeviceState) (n : ℕ) (spare block : List ℕ) → HasTimeInputs m n spare block → d.stage ≡ stage_of m spare block
       → Went (time_plan (profile d) (stage_of m spare block) ms) → ChangesOnceDue (due_of d.config m n) ms d d'
   time_due (device_state.AppDetach timer passed) n spare block holds is done =
       detach timer passed is (ms == 0) d.config.functional.will_detach (nat_le (max 1 timer) (passed + ms)) refl refl done

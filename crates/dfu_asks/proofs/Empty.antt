@@ -11,7 +11,7 @@ use Rattle.dfu_slots.proofs.Sectors.{unit_wide}
 use Rattle.dfu_asks.specs.declared.pending_writes.SlotWrite.{SlotWrite}
 use Rattle.dfu_asks.specs.declared.pending_writes.SlotWrite.TheVariants.{Block, Commit}
 use Rattle.dfu_asks.specs.Carried.{total}
-use Rattle.dfu_asks.specs.Jobs.{held_place, job_writes}
+use Rattle.dfu_asks.specs.Jobs.{tail_place, job_writes}
 use Rattle.dfu_asks.proofs.Pieces.{total_append}
 
 -- Bytes that are written anew are in one of its writes.
@@ -69,7 +69,7 @@ open_some w at gen len crc =
 pub none_at_all : (j : SlotWrite) (w : Grain) (end : ℕ) (held block : List ℕ) → total (job_writes j w end held block) ≤ 0
     → job_writes j w end held block ≡ []
 none_at_all (Block spare close) w end held block le =
-    let at = held_place w spare end held in
+    let at = tail_place w spare end held in
     let all = held ++ block in
     let head = head_size w.unit held block in
     none_append (if close then record { at = spare; bytes = closed_gate w } ∷ [] else []) (put_writes w at held block)
@@ -82,6 +82,6 @@ none_at_all (Commit spare gen crc) w end held block le =
     absurd (omega (
       arith,
       le,
-      total_append (part_writes w (held_place w spare end held) held) (open_writes w spare gen end crc),
+      total_append (part_writes w (tail_place w spare end held) held) (open_writes w spare gen end crc),
       open_some w spare gen end crc,
     ))

@@ -2,7 +2,7 @@
 use Rattle.std.proofs.Common.{◌≡◌, inl, inr, refl, ℕ, ◌≤◌, IsTrue, List, length, Option, None, sym, ap, subst, arith}
 use Rattle.dfu_slots.specs.declared.fault.WriteFault.{WriteFault}
 use Rattle.dfu_slots.specs.Medium.{MediumState, Write, AllWrites, BrokenWrites}
-use Rattle.dfu_slots.specs.Seen.{SlotsState, store_of, store_on}
+use Rattle.dfu_slots.specs.StoreView.{SlotsState, store_of, store_on}
 use Rattle.dfu_slots.specs.Store.{IsStore}
 use Rattle.dfu_device.specs.declared.answer.Answer.{Answer}
 use Rattle.dfu_device.specs.declared.device_state.DeviceState.{DeviceState}
@@ -10,12 +10,12 @@ use Rattle.dfu_device.specs.DeviceView.{DeviceView}
 use Rattle.dfu_device.specs.Setting.{Setting}
 use Rattle.dfu_device.specs.Parts.{shows, is_sound}
 use Rattle.dfu_asks.specs.declared.pending_writes.PendingWrites.{PendingWrites}
-use Rattle.dfu_asks.specs.Lent.{LentAsking}
+use Rattle.dfu_asks.specs.Lent.{LentDevice}
 use Rattle.dfu_asks.specs.Mapped.{mapped, Unseen, mapped_with}
 use Rattle.dfu_asks.specs.Carried.{total, carried}
 use Rattle.dfu_asks.specs.Due.{Works, Fails}
-use Rattle.dfu_asks.specs.Asks.{grain_in, store_in, device_in, unseen_in, device_with, device_of, IsWorking, writes_in, IsFinished, IsBrokenOff, NotesAfter, IsAnswered, GivesAnswer, done_mode, failed_mode}
-use Rattle.dfu_asks.specs.Calls.{HasEnded}
+use Rattle.dfu_asks.specs.Asks.{grain_in, store_in, device_in, unseen_in, device_with, device_of, IsWorking, writes_in, IsFinished, IsBrokenOff, NotesAfter, IsAnswered, AnswerInBuffer, done_mode, failed_mode}
+use Rattle.dfu_asks.specs.Calls.{CallCompleted}
 use Rattle.dfu_asks.proofs.Carrying.{all_carried}
 use Rattle.dfu_asks.proofs.Empty.{none_at_all}
 use Rattle.dfu_asks.proofs.Unseen.{store_unseen, sound_unseen, due_unseen}
@@ -24,14 +24,14 @@ use Rattle.dfu_asks.proofs.Working.{Ends, Stays, held_after, end_after, works, f
 use Rattle.dfu_asks.proofs.Renoted.{noted_after}
 
 -- What came of a row that left this store and this mode, in what is kept then.
-ended : (a now : LentAsking) (asked : Option ℕ) (flash : List ℕ) (x : Answer) (count : ℕ) (out out' : List ℕ) (S : SlotsState)
+ended : (a now : LentDevice) (asked : Option ℕ) (flash : List ℕ) (x : Answer) (count : ℕ) (out out' : List ℕ) (S : SlotsState)
     (M : DeviceState)
     (Stay : Type 0) (Row : Answer → List ℕ → Type 0)
     → store_in now flash ≡ S → now.mode ≡ M → now.block ≡ a.block → now.work ≡ None
-    → GivesAnswer (λ y sent. IsAnswered a.config now.mode asked y sent) x count out out'
+    → AnswerInBuffer (λ y sent. IsAnswered a.config now.mode asked y sent) x count out out'
     → (IsStore S → Stay → IsNoted now.noted (mapped (grain_in now) flash))
     → ((sent : List ℕ) → IsAnswered a.config M asked x sent → Ends a.config S M a.block Stay (Row x sent))
-    → HasEnded flash x count out out' now Row
+    → CallCompleted flash x count out out' now Row
 ended a now asked flash x count out out' S M Stay Row store mode block work gives noted comes =
     let e = comes gives.sent (subst (λ (m : DeviceState). IsAnswered a.config m asked x gives.sent) mode gives.says) in
     record {
@@ -57,7 +57,7 @@ same_ends : (c : Setting) (s : SlotsState) (m : DeviceState) (b : List ℕ) (Sta
 same_ends c s m b Stays Row d d' same e =
     record { comes = subst Row same e.comes; store = e.store; sound = e.sound; stays = e.stays }
 
-module _ (a now : LentAsking) (w : PendingWrites) (len : ℕ) (s : SlotsState) (was flash : List ℕ) (working : IsWorking a w len s was)
+module _ (a now : LentDevice) (w : PendingWrites) (len : ℕ) (s : SlotsState) (was flash : List ℕ) (working : IsWorking a w len s was)
     (notes : NotesAfter a.mode flash a now) (x : Answer) (count : ℕ) (out out' : List ℕ) where
   grain_is : s.medium.grain ≡ grain_in a
   grain_is = ap (λ (m : MediumState). m.grain) working.medium
@@ -84,10 +84,10 @@ module _ (a now : LentAsking) (w : PendingWrites) (len : ℕ) (s : SlotsState) (
 
   -- All its writes worked, and this follows.
   finished : (Row : Answer → List ℕ → Type 0) → AllWrites (mapped (grain_in a) was) (writes_in a w) (mapped (grain_in a) flash)
-      → IsFinished a now → GivesAnswer (λ y sent. IsAnswered a.config now.mode w.asked y sent) x count out out'
+      → IsFinished a now → AnswerInBuffer (λ y sent. IsAnswered a.config now.mode w.asked y sent) x count out out'
       → ((sent : List ℕ) → IsAnswered a.config (done_mode a.config a.mode (length a.block)) w.asked x sent
       → Ends a.config left (done_mode a.config a.mode (length a.block)) a.block (Stays a.mode s left) (Row x sent))
-      → HasEnded flash x count out out' now Row
+      → CallCompleted flash x count out out' now Row
   finished Row all fin gives comes =
       ended a now w.asked flash x count out out' left (done_mode a.config a.mode (length a.block)) (Stays a.mode s left) Row
       (λ i. store_of (mapped (record { unit = fin.unit i; sector = (fin.sector i).size }) flash) (fin.held i) (fin.end i))
@@ -107,8 +107,8 @@ module _ (a now : LentAsking) (w : PendingWrites) (len : ℕ) (s : SlotsState) (
 
   -- All its writes worked.
   pub all_ended : AllWrites (mapped (grain_in a) was) (writes_in a w) (mapped (grain_in a) flash) → IsFinished a now
-      → GivesAnswer (λ y sent. IsAnswered a.config now.mode w.asked y sent) x count out out'
-      → HasEnded flash x count out out' now (λ y sent. Works len (device_of a s) y sent (device_in now flash))
+      → AnswerInBuffer (λ y sent. IsAnswered a.config now.mode w.asked y sent) x count out out'
+      → CallCompleted flash x count out out' now (λ y sent. Works len (device_of a s) y sent (device_in now flash))
   all_ended all fin gives =
       finished (λ y sent. Works len (device_of a s) y sent (device_in now flash)) all fin gives
       (λ sent says. same_ends a.config left (done_mode a.config a.mode (length a.block)) a.block (Stays a.mode s left)
@@ -116,8 +116,8 @@ module _ (a now : LentAsking) (w : PendingWrites) (len : ℕ) (s : SlotsState) (
 
   -- One of them had this fault.
   pub broken_ended : (fault : WriteFault) → BrokenWrites fault (mapped (grain_in a) was) (writes_in a w) (mapped (grain_in a) flash)
-      → IsBrokenOff fault a now → GivesAnswer (λ y sent. IsAnswered a.config now.mode w.asked y sent) x count out out'
-      → HasEnded flash x count out out' now (λ y sent. Fails fault len (device_of a s) y sent (device_in now flash))
+      → IsBrokenOff fault a now → AnswerInBuffer (λ y sent. IsAnswered a.config now.mode w.asked y sent) x count out out'
+      → CallCompleted flash x count out out' now (λ y sent. Fails fault len (device_of a s) y sent (device_in now flash))
   broken_ended fault broken off gives =
       let rest = store_on (mapped (grain_in a) flash) in
       ended a now w.asked flash x count out out' rest (failed_mode fault a.mode) (Stays a.mode s rest)
@@ -138,14 +138,14 @@ module _ (a now : LentAsking) (w : PendingWrites) (len : ℕ) (s : SlotsState) (
 
   -- All are carried out.
   pub carried_ended : flash ≡ carried was (writes_in a w) w.done → total (writes_in a w) ≤ w.done → IsFinished a now
-      → GivesAnswer (λ y sent. IsAnswered a.config now.mode w.asked y sent) x count out out'
-      → HasEnded flash x count out out' now (λ y sent. Works len (device_of a s) y sent (device_in now flash))
+      → AnswerInBuffer (λ y sent. IsAnswered a.config now.mode w.asked y sent) x count out out'
+      → CallCompleted flash x count out out' now (λ y sent. Works len (device_of a s) y sent (device_in now flash))
   carried_ended is le fin gives = all_ended
       (subst (λ (l : List ℕ). AllWrites (mapped (grain_in a) was) (writes_in a w) (mapped (grain_in a) l)) (sym is)
       (all_carried (grain_in a) (writes_in a w) was w.done le)) fin gives
 
 -- A row with no write came to its end at once: it worked on every medium with these bytes.
-module _ (a now : LentAsking) (w : PendingWrites) (len : ℕ) (s : SlotsState) (flash : List ℕ) (working : IsWorking a w len s flash)
+module _ (a now : LentDevice) (w : PendingWrites) (len : ℕ) (s : SlotsState) (flash : List ℕ) (working : IsWorking a w len s flash)
     (notes : NotesAfter a.mode flash a now) (x : Answer) (count : ℕ) (out out' : List ℕ) (nothing : total (writes_in a w) ≤ 0) where
   no_write : (m : MediumState) → AllWrites m (writes_in a w) m
   no_write m = subst (λ (ws : List Write). AllWrites m ws m) (sym (none_at_all w.job (grain_in a) a.put_end a.held a.block nothing)) refl
@@ -164,8 +164,8 @@ module _ (a now : LentAsking) (w : PendingWrites) (len : ℕ) (s : SlotsState) (
       (subst (λ (m : MediumState). AllWrites m (writes_in a w) (mapped_with u (grain_in a) flash)) (sym there)
       (no_write (mapped_with u (grain_in a) flash))) x sent says).comes
 
-  pub begun_ended : IsFinished a now → GivesAnswer (λ y sent. IsAnswered a.config now.mode w.asked y sent) x count out out'
-      → HasEnded flash x count out out' now
+  pub begun_ended : IsFinished a now → AnswerInBuffer (λ y sent. IsAnswered a.config now.mode w.asked y sent) x count out out'
+      → CallCompleted flash x count out out' now
       (λ y sent. (u : Unseen) → Works len (device_of a (unseen_in u s)) y sent (device_with u now flash))
   begun_ended fin gives =
       finished a now w len s flash flash working notes x count out out'

@@ -9,7 +9,7 @@ use Rattle.dfu_slots.specs.Units.{Grain, gate_size, gate_room, filled}
 use Rattle.dfu_slots.specs.Medium.{MediumState, Write, Torn, FailedWrite, AllWrites, BrokenWrites}
 use Rattle.dfu_slots.specs.Layout.{OPEN, slot_size, gate_unit, header_unit}
 use Rattle.dfu_slots.specs.Image.{IsSized}
-use Rattle.dfu_slots.specs.Seen.{format_series}
+use Rattle.dfu_slots.specs.StoreView.{format_series}
 use Rattle.dfu_slots.proofs.Stands.{two_slots}
 use Rattle.dfu_slots.proofs.Written.{was_written}
 use Rattle.dfu_slots.proofs.Sectors.{edge_zero, gate_most}
@@ -20,7 +20,7 @@ use Rattle.dfu_asks.specs.declared.formatting.Formatting.{Formatting}
 use Rattle.dfu_asks.specs.Mapped.{mapped}
 use Rattle.dfu_asks.specs.Steps.{Step, step_writes, anew_steps, close_step, open_steps}
 use Rattle.dfu_asks.specs.Carried.{total, carried, AreWithin, IsPiece, IsReached, ErasesWhole}
-use Rattle.dfu_asks.specs.Phases.{piece_steps, image_steps, steps_from, part_steps, format_steps, grain_within, steps_left, part_left}
+use Rattle.dfu_asks.specs.Phases.{piece_steps, image_steps, steps_from, part_steps, format_steps, grain_within, remaining_steps, steps_of_part}
 use Rattle.dfu_asks.specs.Formats.{flash_of, FormatUnderWay, HasFormatted}
 use Rattle.dfu_asks.proofs.Bits.{IsBitOf, bit_of}
 use Rattle.dfu_asks.proofs.Pieces.{piece_front, piece_behind, reached_none, reached_step}
@@ -47,11 +47,11 @@ left_parts w size image crc format_step.Gate = ([], sym (append-nil (part_steps 
 left_parts w size image crc format_step.Ended = ([], refl)
 
 -- A piece of a part is one of what is left.
-pub in_left : (f : Formatting) (size : ℕ) (image : List ℕ) (n : ℕ) (p : Step) → IsPiece (part_left f size image) n p
-    → IsPiece (steps_left f size image) n p
+pub in_left : (f : Formatting) (size : ℕ) (image : List ℕ) (n : ℕ) (p : Step) → IsPiece (steps_of_part f size image) n p
+    → IsPiece (remaining_steps f size image) n p
 in_left f size image n p piece =
     let parts = left_parts (grain_within f) (size / 2) image f.register f.phase in
-    subst (λ (ss : List Step). IsPiece ss n p) (sym parts.1) (piece_front (part_left f size image) parts.0 n p piece)
+    subst (λ (ss : List Step). IsPiece ss n p) (sym parts.1) (piece_front (steps_of_part f size image) parts.0 n p piece)
 
 -- What closes a gate has some bytes.
 pub close_some : (w : Grain) (at : ℕ) → 0 < length (close_step w at).write.bytes
@@ -112,10 +112,10 @@ module _ (f : Formatting) (image was flash : List ℕ) (way : FormatUnderWay f i
   writes = step_writes steps
 
   abbrev left : List Step
-  left = steps_left f (length was) image
+  left = remaining_steps f (length was) image
 
   abbrev part : List Step
-  part = part_left f (length was) image
+  part = steps_of_part f (length was) image
 
   abbrev before : ℕ
   before = total (step_writes way.front) + f.done
@@ -134,7 +134,7 @@ module _ (f : Formatting) (image was flash : List ℕ) (way : FormatUnderWay f i
 
   -- The piece that a search in its part found is one of what is left.
   pub way_piece : (s : WriteInputs) → s.block.now ≡ image → (first : Cut) → first.stock ≡ s → first.rest ≡ f.done → (p : Step)
-      → IsPiece (part_left f (length flash) first.stock.block.now) first.rest p → IsPiece left f.done p
+      → IsPiece (steps_of_part f (length flash) first.stock.block.now) first.rest p → IsPiece left f.done p
   way_piece s block first stock rest p found =
       in_left f (length was) image f.done p (part_found f (length flash) (length was) way_size image s block first stock rest p found)
 

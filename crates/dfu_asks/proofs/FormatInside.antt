@@ -6,7 +6,7 @@ use Rattle.dfu_slots.specs.Medium.{MediumState, AllWrites}
 use Rattle.dfu_slots.specs.Layout.{slot_size, OPEN, gate_unit, header_unit}
 use Rattle.dfu_slots.specs.Image.{gate_of, Active}
 use Rattle.dfu_slots.specs.Writes.{write_anew, close_writes, image_writes, open_writes}
-use Rattle.dfu_slots.specs.Seen.{format_series}
+use Rattle.dfu_slots.specs.StoreView.{format_series}
 use Rattle.dfu_slots.specs.Changes.{CanFormat}
 use Rattle.dfu_slots.proofs.Stands.{two_slots}
 use Rattle.dfu_slots.proofs.Parts.{length-gate_unit, length-header_unit}

@@ -5,7 +5,7 @@ use Rattle.dfu_suffix.specs.Register.{register}
 use Rattle.dfu_slots.specs.Units.{Grain, gate_room, filled}
 use Rattle.dfu_slots.specs.Medium.{MediumState, Write}
 use Rattle.dfu_slots.specs.Writes.{piece_writes, close_writes, image_writes}
-use Rattle.dfu_slots.specs.Seen.{format_series}
+use Rattle.dfu_slots.specs.StoreView.{format_series}
 use Rattle.dfu_asks.specs.declared.formatting.FormatStep.{FormatStep}
 use Rattle.dfu_asks.specs.declared.formatting.FormatStep.TheVariants as format_step
 use Rattle.dfu_asks.specs.Steps.{Step, step_writes, anew_steps, some_steps, open_steps, close_step}

@@ -7,7 +7,7 @@ use Rattle.dfu_slots.specs.Medium.{MediumState, Write}
 use Rattle.dfu_slots.specs.Layout.{OPEN, slot_size, gate_unit, header_unit}
 use Rattle.dfu_slots.specs.Image.{gate_of, spare_at}
 use Rattle.dfu_slots.specs.Writes.{closed_gate, write_anew, put_writes, part_writes, open_writes}
-use Rattle.dfu_slots.specs.Seen.{SlotsState, is_begun, room_of}
+use Rattle.dfu_slots.specs.StoreView.{SlotsState, is_begun, room_of}
 use Rattle.dfu_slots.specs.Store.{IsStore}
 use Rattle.dfu_slots.proofs.Stands.{two_slots, standing}
 use Rattle.dfu_slots.proofs.Newest.{spare_end}
@@ -25,10 +25,10 @@ use Rattle.dfu_device.specs.Parts.{is_put, is_sound}
 use Rattle.dfu_asks.specs.declared.pending_writes.SlotWrite.{SlotWrite}
 use Rattle.dfu_asks.specs.declared.pending_writes.SlotWrite.TheVariants as slot_write
 use Rattle.dfu_asks.specs.declared.pending_writes.PendingWrites.{PendingWrites}
-use Rattle.dfu_asks.specs.Lent.{LentAsking}
+use Rattle.dfu_asks.specs.Lent.{LentDevice}
 use Rattle.dfu_asks.specs.Carried.{AreWithin}
-use Rattle.dfu_asks.specs.Series.{held_before}
-use Rattle.dfu_asks.specs.Jobs.{held_place, job_writes}
+use Rattle.dfu_asks.specs.Series.{tail_before}
+use Rattle.dfu_asks.specs.Jobs.{tail_place, job_writes}
 use Rattle.dfu_asks.specs.Asks.{grain_in, IsBlockJob, IsCommitJob, IsDue, IsWorking, writes_in}
 use Rattle.dfu_asks.proofs.Working.{IsNext, IsAll, next_in, all_in}
 
@@ -80,16 +80,16 @@ module _ (s : SlotsState) (store : IsStore s) (w : Grain) (grain : s.medium.grai
 
   -- What is put lies after the first byte of the spare slot, which is its gate.
   pub put_beyond : (n : ℕ) (b : List ℕ) (held : List ℕ) → length held ≤ n → n + length b ≤ room_of s
-      → AllInside (place + 1) to (put_writes w (held_place w place n held) held b)
+      → AllInside (place + 1) to (put_writes w (tail_place w place n held) held b)
   put_beyond n b held le room =
-      put_inside w held b (place + 1) to (held_place w place n held) to_edge (omega (arith, gate_wide w))
+      put_inside w held b (place + 1) to (tail_place w place n held) to_edge (omega (arith, gate_wide w))
       (omega (arith, length-append held b, le, room, room_there, gate))
 
   -- So does what was held back.
   pub part_beyond : (n : ℕ) → s.put_end ≡ n
-      → AllInside (place + 1) to (part_writes w (held_place w place n s.held) s.held)
+      → AllInside (place + 1) to (part_writes w (tail_place w place n s.held) s.held)
   part_beyond n here =
-      some_inside w.sector (place + 1) to (held_place w place n s.held) (filled w.unit s.held) to_edge (omega (arith, gate_wide w))
+      some_inside w.sector (place + 1) to (tail_place w place n s.held) (filled w.unit s.held) to_edge (omega (arith, gate_wide w))
       (omega (
         arith,
         here,
@@ -110,7 +110,7 @@ module _ (s : SlotsState) (store : IsStore s) (w : Grain) (grain : s.medium.grai
   block_inside : (n : ℕ) (b : List ℕ) (close : Bool) (held : List ℕ) → length held ≤ n → n + length b ≤ room_of s
       → AllInside place to (job_writes (slot_write.Block place close) w n held b)
   block_inside n b close held le room =
-      let put = put_writes w (held_place w place n held) held b in
+      let put = put_writes w (tail_place w place n held) held b in
       inside_append place to (if close then record { at = place; bytes = closed_gate w } ∷ [] else []) put
       (inside_if place to close (record { at = place; bytes = closed_gate w } ∷ []) []
       (omega arith, omega (arith, closed_fits w, room_there, gate), tt) tt)
@@ -119,7 +119,7 @@ module _ (s : SlotsState) (store : IsStore s) (w : Grain) (grain : s.medium.grai
   commit_inside : (n gen crc : ℕ) (b : List ℕ) → s.put_end ≡ n
       → AllInside place to (job_writes (slot_write.Commit place gen crc) w n s.held b)
   commit_inside n gen crc b here =
-      let part = part_writes w (held_place w place n s.held) s.held in
+      let part = part_writes w (tail_place w place n s.held) s.held in
       let header = write_anew w.sector (place + gate_room w) (header_unit (gate_size w.unit) gen n crc) in
       let last = write_anew w.sector place (gate_unit (gate_size w.unit) OPEN) in
       inside_append place to part (open_writes w place gen n crc) (inside_wider part place to (part_beyond n here))
@@ -132,7 +132,7 @@ module _ (s : SlotsState) (store : IsStore s) (w : Grain) (grain : s.medium.grai
   few n some (inr put) = omega (arith, held_end s store.puts, eqb-true _ _ (and_parts (is_begun s) (s.put_end == n) put).1)
 
   -- No more is held back before a block than was put.
-  pub held_little : (n : ℕ) → (n ≡ 0) ⊎ (is_put n s ≡ true) → length (held_before s n) ≤ n
+  pub held_little : (n : ℕ) → (n ≡ 0) ⊎ (is_put n s ≡ true) → length (tail_before s n) ≤ n
   held_little n before = elim (cases_eq n 0) [
     | inl none ↦ subst (λ (c : Bool). length (if c then [] else s.held) ≤ n) (sym (ap (λ (k : ℕ). k == 0) none)) (omega arith)
     | inr some ↦ subst (λ (c : Bool). length (if c then [] else s.held) ≤ n) (sym (ne_eqb n 0 some)) (few n some before)
@@ -142,7 +142,7 @@ module _ (s : SlotsState) (store : IsStore s) (w : Grain) (grain : s.medium.grai
       → (n : ℕ) → IsNext s n (length b) → IsBlockJob n s j end held → AllInside place to (job_writes j w end held b)
   of_block b held end j n next is = subst (λ (ws : List Write). AllInside place to ws)
       (λ i. job_writes (sym is.job_is i) w (sym is.end_is i) (sym is.held_is i) b)
-      (block_inside n b ((n == 0) && not (is_begun s)) (held_before s n) (held_little n next.before) next.room)
+      (block_inside n b ((n == 0) && not (is_begun s)) (tail_before s n) (held_little n next.before) next.room)
 
   of_commit : (b held : List ℕ) (end : ℕ) (j : SlotWrite)
       → (n : ℕ) → IsAll s n → IsCommitJob n s j end held → AllInside place to (job_writes j w end held b)
@@ -167,7 +167,7 @@ module _ (s : SlotsState) (store : IsStore s) (w : Grain) (grain : s.medium.grai
   end_there = spare_end g s.medium.bytes (standing store.has_image.active).sized
 
 -- So the writes that a device works for lie within its flash.
-pub working_within : (a : LentAsking) (w : PendingWrites) (len : ℕ) (s : SlotsState) (flash : List ℕ) → IsWorking a w len s flash
+pub working_within : (a : LentDevice) (w : PendingWrites) (len : ℕ) (s : SlotsState) (flash : List ℕ) → IsWorking a w len s flash
     → AreWithin (writes_in a w) (length flash)
 working_within a w len s flash k =
     let bytes : s.medium.bytes ≡ flash = ap (λ (x : MediumState). x.bytes) k.medium in

@@ -4,7 +4,7 @@ use Rattle.std.proofs.lemmas.Bool.{cases_eq, ne_eqb}
 use Rattle.dfu_slots.specs.Medium.{MediumState}
 use Rattle.dfu_slots.specs.Layout.{OPEN, slot_size, ArePlaces}
 use Rattle.dfu_slots.specs.Image.{gate_of, active_at, spare_at}
-use Rattle.dfu_slots.specs.Seen.{SlotsState, spare_slot, is_begun}
+use Rattle.dfu_slots.specs.StoreView.{SlotsState, spare_slot, is_begun}
 use Rattle.dfu_slots.proofs.Newest.{tested_places}
 use Rattle.dfu_asks.specs.declared.noted.Noted.{Noted}
 use Rattle.dfu_asks.specs.Noted.{beside, IsNoted}

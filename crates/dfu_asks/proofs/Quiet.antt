@@ -4,7 +4,7 @@ use Rattle.dfu_wire.specs.declared.setups.Setup.{Setup}
 use Rattle.dfu_wire.specs.declared.requests.Request.{Request as Asked}
 use Rattle.dfu_wire.specs.declared.requests.Request.TheVariants as asked
 use Rattle.dfu_slots.specs.declared.fault.WriteFault.{WriteFault}
-use Rattle.dfu_slots.specs.Seen.{image_of, spare_of}
+use Rattle.dfu_slots.specs.StoreView.{image_of, spare_of}
 use Rattle.dfu_device.specs.declared.answer.Answer.{Answer}
 use Rattle.dfu_device.specs.declared.answer.Answer.TheVariants as answer
 use Rattle.dfu_device.specs.declared.device_state.DeviceState.{DeviceState}

@@ -2,10 +2,10 @@
 use Rattle.std.proofs.Common.{◌≡◌, ◌⊎◌, inl, inr, ⊎_elim, if◌then◌else◌, ℕ, ◌+◌, ◌/◌, ◌≤◌, List, sym, ◌∙◌, ap, subst, arith}
 use Rattle.std.proofs.lemmas.Bool.{cases_Bool}
 use Rattle.dfu_slots.specs.Units.{gate_room}
-use Rattle.dfu_slots.specs.Medium.{MediumState, KeepsOutside}
+use Rattle.dfu_slots.specs.Medium.{MediumState, FrameOutside}
 use Rattle.dfu_slots.specs.Layout.{slot, slot_size}
 use Rattle.dfu_slots.specs.Image.{gate_of, slot_of, active_at, spare_at, HasImage}
-use Rattle.dfu_slots.specs.Seen.{SlotsState}
+use Rattle.dfu_slots.specs.StoreView.{SlotsState}
 use Rattle.dfu_slots.specs.Store.{IsStore}
 use Rattle.dfu_slots.proofs.Stands.{standing}
 use Rattle.dfu_slots.proofs.Newest.{tested_places, spare_end}
@@ -16,13 +16,13 @@ use Rattle.dfu_asks.specs.declared.noted.Noted.{Noted}
 use Rattle.dfu_asks.specs.declared.pending_writes.PendingWrites.{PendingWrites}
 use Rattle.dfu_asks.specs.Mapped.{mapped}
 use Rattle.dfu_asks.specs.Noted.{IsNoted}
-use Rattle.dfu_asks.specs.Lent.{LentAsking}
+use Rattle.dfu_asks.specs.Lent.{LentDevice}
 use Rattle.dfu_asks.specs.Asks.{grain_in, is_block, IsWorking, NotesAfter, writes_in}
 use Rattle.dfu_asks.proofs.Working.{Stays}
 use Rattle.dfu_asks.proofs.Inside.{due_inside}
 
 module _ (s : SlotsState) (store : IsStore s) (now : MediumState) (grain : now.grain ≡ s.medium.grain)
-    (keeps : KeepsOutside (spare_at (gate_of s.medium) s.medium.bytes)
+    (keeps : FrameOutside (spare_at (gate_of s.medium) s.medium.bytes)
     (spare_at (gate_of s.medium) s.medium.bytes + slot_size s.medium.bytes) s.medium.bytes now.bytes)
     (place : active_at (gate_of now) now.bytes ≡ active_at (gate_of s.medium) s.medium.bytes) where
   -- Writes within the spare slot leave the header of the active one.
@@ -47,7 +47,7 @@ module _ (s : SlotsState) (store : IsStore s) (now : MediumState) (grain : now.g
     header = noted.header ∙ header_stays;
   }
 
-module _ (a now : LentAsking) (w : PendingWrites) (len : ℕ) (s : SlotsState) (was flash : List ℕ) (working : IsWorking a w len s was)
+module _ (a now : LentDevice) (w : PendingWrites) (len : ℕ) (s : SlotsState) (was flash : List ℕ) (working : IsWorking a w len s was)
     (notes : NotesAfter a.mode flash a now) (unit : now.unit ≡ a.unit) (sector : now.sector ≡ a.sector)
     (ends : Ends (mapped (grain_in a) was) (writes_in a w) (mapped (grain_in a) flash)) (left : SlotsState)
     (is_left : left.medium ≡ mapped (grain_in a) flash) (has : HasImage left.medium) (stays : Stays a.mode s left) where
@@ -57,7 +57,7 @@ module _ (a now : LentAsking) (w : PendingWrites) (len : ℕ) (s : SlotsState) (
   grain : left.medium.grain ≡ s.medium.grain
   grain = ap (λ (x : MediumState). x.grain) is_left ∙ sym (ap (λ (x : MediumState). x.grain) working.medium)
 
-  keeps : KeepsOutside (spare_at (gate_of s.medium) s.medium.bytes)
+  keeps : FrameOutside (spare_at (gate_of s.medium) s.medium.bytes)
       (spare_at (gate_of s.medium) s.medium.bytes + slot_size s.medium.bytes) s.medium.bytes left.medium.bytes
   keeps = ends_keep (spare_at (gate_of s.medium) s.medium.bytes) (spare_at (gate_of s.medium) s.medium.bytes + slot_size s.medium.bytes)
       (writes_in a w) s.medium left.medium

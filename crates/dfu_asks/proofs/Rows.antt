@@ -7,13 +7,13 @@ use Rattle.dfu_slots.specs.declared.fault.WriteFault.TheVariants.{Failed, NotVer
 use Rattle.dfu_slots.specs.Units.{gate_room}
 use Rattle.dfu_slots.specs.Medium.{MediumState, Write, AllWrites, BrokenWrites}
 use Rattle.dfu_slots.specs.Writes.{put_writes, put_rest}
-use Rattle.dfu_slots.specs.Seen.{SlotsState, store_of, store_on, data_place, image_of, spare_of, is_begun, room_of, is_shaped, Begin, Put, Commit, writes_of, AllWorked, BrokenBy, CallWorked, CallFailed, DidCall, Ending, Called}
+use Rattle.dfu_slots.specs.StoreView.{SlotsState, store_of, store_on, data_place, image_of, spare_of, is_begun, room_of, is_shaped, Begin, Put, Commit, writes_of, AllWorked, BrokenBy, CallWorked, CallFailed, CallEnding, Ending, Called}
 use Rattle.dfu_slots.specs.Store.{IsStore}
 use Rattle.dfu_slots.proofs.Series.{all_parts, broken_parts, all_grain}
 use Rattle.dfu_slots.proofs.Stays.{SamePlaces}
 use Rattle.dfu_device.specs.Parts.{is_put}
 use Rattle.dfu_device.proofs.Calls.{called_one, block_begun, block_not_begun, block_further, fits_spare, put_on}
-use Rattle.dfu_asks.specs.Series.{block_series, block_store, BlockWritten, BlockBroken, CommitDone, CommitBroken}
+use Rattle.dfu_asks.specs.Series.{block_series, block_store, BlockWritten, BlockBroken, CommitCompleted, CommitBroken}
 use Rattle.dfu_asks.proofs.Came.{done, broken, broken_ending, begun, begun_places, broken_places, begin_broken, put_came, put_broken, commit_came, commit_broken}
 
 -- The first block.
@@ -78,7 +78,7 @@ module _ (s : SlotsState) (store : IsStore s) (block : List ℕ) (fits : length 
         let lp = came.1 in
         record {
           calls = block_begun s b (store_on m) 0 block (BrokenBy fault) refl (lb.common.call refl (omega arith))
-              (subst (λ (e : Ending). DidCall b (Put 0 block) e (store_on m)) (broken_ending fault) (lp.common.call lb.shut fits_there));
+              (subst (λ (e : Ending). CallEnding b (Put 0 block) e (store_on m)) (broken_ending fault) (lp.common.call lb.shut fits_there));
           store = lp.common.store;
           image = lp.image ∙ lb.image;
           place = came.0.active ∙ places.active;
@@ -97,7 +97,7 @@ module _ (s : SlotsState) (store : IsStore s) (block : List ℕ) (fits : length 
       let lb = begin_broken s (store_on m) store fault failed in
       record {
         calls = block_not_begun fault s (store_on m) 0 block refl
-            (subst (λ (e : Ending). DidCall s Begin e (store_on m)) (broken_ending fault) (lb.common.call refl (omega arith)));
+            (subst (λ (e : Ending). CallEnding s Begin e (store_on m)) (broken_ending fault) (lb.common.call refl (omega arith)));
         store = lb.common.store;
         image = lb.image;
         place = (broken_places s (store_on m) store fault failed).active;
@@ -147,7 +147,7 @@ module _ (s : SlotsState) (store : IsStore s) (shape : is_shaped s ≡ true) (n 
       let lp = came.1 in
       record {
         calls = block_further s (store_on m) n block (BrokenBy fault) some within
-            (subst (λ (e : Ending). DidCall s (Put n block) e (store_on m)) (broken_ending fault) (lp.common.call ready fits));
+            (subst (λ (e : Ending). CallEnding s (Put n block) e (store_on m)) (broken_ending fault) (lp.common.call ready fits));
         store = lp.common.store;
         image = lp.image;
         place = came.0.active;
@@ -220,12 +220,12 @@ module _ (s : SlotsState) (store : IsStore s) (shape : is_shaped s ≡ true) (n 
   whole : length (take n (spare_of s)) ≡ n
   whole = length-take-le n (spare_of s) (fits_spare s n shape fits)
 
-  one_call : (now : SlotsState) (ending : Ending) → DidCall s (Commit n) ending now
+  one_call : (now : SlotsState) (ending : Ending) → CallEnding s (Commit n) ending now
       → Called s (Commit (length (take n (spare_of s))) ∷ []) ending now
   one_call now ending d = subst (λ (k : ℕ). Called s (Commit k ∷ []) ending now) (sym whole) (called_one s now (Commit n) ending d)
 
   -- Whoever makes the writes of a commit has made it.
-  pub commit_done : AllWrites s.medium (writes_of s (Commit n)) m → CommitDone s n (store_on m)
+  pub commit_done : AllWrites s.medium (writes_of s (Commit n)) m → CommitCompleted s n (store_on m)
   commit_done all =
       let l = commit_came s (store_on m) store n upto can (record { writes = all; held_is = refl; end_is = refl }) in
       record {
@@ -241,7 +241,7 @@ module _ (s : SlotsState) (store : IsStore s) (shape : is_shaped s ≡ true) (n 
       let l = commit_broken s (store_on m) store n upto can fault (record { writes = all; held_is = refl; end_is = refl }) in
       record {
         calls = one_call (store_on m) (BrokenBy fault)
-            (subst (λ (e : Ending). DidCall s (Commit n) e (store_on m)) (broken_ending fault) (l.common.call can fits));
+            (subst (λ (e : Ending). CallEnding s (Commit n) e (store_on m)) (broken_ending fault) (l.common.call can fits));
         store = l.common.store;
         image = kept fault l.kept;
         room = l.common.room;

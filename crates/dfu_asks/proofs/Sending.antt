@@ -4,7 +4,7 @@ use Rattle.std.proofs.lemmas.Bool.{cases_eq, cases_lt, ltb-true, ltb-false}
 use Rattle.std.proofs.lemmas.List.{drop-take, take-take, take_min, length-take, length-drop}
 use Rattle.dfu_slots.specs.Layout.{header_length}
 use Rattle.dfu_slots.specs.Image.{slot_of, active_at, gate_of, capacity_of}
-use Rattle.dfu_slots.specs.Seen.{SlotsState, image_of}
+use Rattle.dfu_slots.specs.StoreView.{SlotsState, image_of}
 use Rattle.dfu_device.specs.declared.answer.Answer.TheVariants as answer
 use Rattle.dfu_device.specs.declared.device_state.DeviceState.{DeviceState}
 use Rattle.dfu_device.specs.declared.device_state.DeviceState.TheVariants as device_state

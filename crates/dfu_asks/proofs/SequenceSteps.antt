@@ -19,11 +19,11 @@ use Rattle.dfu_slots.proofs.Put.{head_le}
 use Rattle.dfu_slots.proofs.Sequences.{closed_range, gate_range, header_range, part_range, head_range, back_range, image_range}
 use Rattle.dfu_asks.specs.declared.pending_writes.WriteInputs.{WriteInputs}
 use Rattle.dfu_asks.specs.Steps.{Step, anew_steps, some_steps, put_steps, open_steps, close_step}
-use Rattle.dfu_asks.specs.Jobs.{grain_for, held_place}
+use Rattle.dfu_asks.specs.Jobs.{grain_for, tail_place}
 use Rattle.dfu_asks.specs.declared.formatting.FormatStep.{FormatStep}
 use Rattle.dfu_asks.specs.declared.formatting.Formatting.{Formatting}
 use Rattle.dfu_asks.specs.Mapped.{grain_of}
-use Rattle.dfu_asks.specs.Phases.{part_steps, part_left}
+use Rattle.dfu_asks.specs.Phases.{part_steps, steps_of_part}
 use Rattle.dfu_asks.specs.Cuts.{range_in}
 use Rattle.dfu_asks.specs.OpSteps.{ops_steps, steps_at, MayCutAll}
 use Rattle.dfu_asks.proofs.Locating.{anew_are}
@@ -59,7 +59,7 @@ module _ (s : WriteInputs) (front : List ℕ) where
 
   -- A block is put after what is held.
   pub put_are : (slot end : ℕ) → let h = s.held.now in let b = s.block.now in
-      ops_steps s front (operations w (Put slot end (length h) (length b))) ≡ put_steps w (held_place w slot end h) h b
+      ops_steps s front (operations w (Put slot end (length h) (length b))) ≡ put_steps w (tail_place w slot end h) h b
   put_are slot end =
       let h = s.held.now in
       let b = s.block.now in
@@ -68,7 +68,7 @@ module _ (s : WriteInputs) (front : List ℕ) where
       let mine = if length h == 0 then 0 else min (unit_size w.unit) (whole_part w.unit (length h + length b)) in
       let first : mine ≡ head_size w.unit h b = ap (λ (k : ℕ). if length h == 0 then 0 else min (unit_size w.unit) k) whole in
       let left = whole_part w.unit (length h + length b) - mine in
-      let at = held_place w slot end h in
+      let at = tail_place w slot end h in
       let back : mine + left ≡ whole_part w.unit (length (h ++ b)) = omega (arith, first, whole, head_le w h b) in
       (λ i. some_steps w.sector at (head_range w h b mine first i)
       ++ (some_steps w.sector (at + first i) (back_range w h b mine left first back i) ++ []))
@@ -92,9 +92,9 @@ module _ (s : WriteInputs) (front : List ℕ) where
   -- What is held is written, and the slot is opened.
   pub commit_are : (slot end gen crc : ℕ) → length s.held.now ≤ 256 → front ≡ header 2 gen end crc →
       ops_steps s front (operations w (Commit slot end (length s.held.now)))
-      ≡ some_steps w.sector (held_place w slot end s.held.now) (filled w.unit s.held.now) ++ open_steps w slot gen end crc
+      ≡ some_steps w.sector (tail_place w slot end s.held.now) (filled w.unit s.held.now) ++ open_steps w slot gen end crc
   commit_are slot end gen crc few is =
-      λ i. some_steps w.sector (held_place w slot end s.held.now) (part_range w.unit s.held.now few i)
+      λ i. some_steps w.sector (tail_place w slot end s.held.now) (part_range w.unit s.held.now few i)
       ++ (header_are slot gen end crc is i ++ append-nil (gate_are slot i) i)
 
   -- The header of a format, and its gate.
@@ -151,5 +151,5 @@ module _ (s : WriteInputs) (front : List ℕ) where
 
 -- The steps of a part of a format are those of what is left of it.
 pub part_in : (f : Formatting) (size : ℕ) (s : WriteInputs) → s.unit ≡ f.unit → s.sector ≡ f.sector → (x : FormatStep) → f.phase ≡ x
-    → part_steps (grain_for s) (size / 2) s.block.now f.register x ≡ part_left f size s.block.now
+    → part_steps (grain_for s) (size / 2) s.block.now f.register x ≡ steps_of_part f size s.block.now
 part_in f size s unit sector x is = λ i. part_steps (grain_of (unit i) (sector i)) (size / 2) s.block.now f.register (sym is i)

@@ -7,7 +7,7 @@ use Rattle.dfu_slots.specs.Medium.{MediumState, Write, written}
 use Rattle.dfu_slots.specs.Layout.{OPEN, slot_size, gate_unit, header_unit}
 use Rattle.dfu_slots.specs.Image.{gate_of, capacity_of, spare_at, HasImage}
 use Rattle.dfu_slots.specs.Writes.{erase_write, erases, closed_gate, write_anew, put_writes, part_writes}
-use Rattle.dfu_slots.specs.Seen.{SlotsState, is_begun}
+use Rattle.dfu_slots.specs.StoreView.{SlotsState, is_begun}
 use Rattle.dfu_slots.specs.Store.{IsStore}
 use Rattle.dfu_slots.proofs.Newest.{tested_places}
 use Rattle.dfu_slots.proofs.Torn.{written_torn, written_range, first_of_range}
@@ -22,14 +22,14 @@ use Rattle.dfu_device.specs.declared.device_state.DeviceState.TheVariants as dev
 use Rattle.dfu_device.specs.Parts.{is_sound}
 use Rattle.dfu_asks.specs.declared.pending_writes.SlotWrite.{SlotWrite}
 use Rattle.dfu_asks.specs.declared.pending_writes.SlotWrite.TheVariants as slot_write
-use Rattle.dfu_asks.specs.Lent.{LentAsking}
+use Rattle.dfu_asks.specs.Lent.{LentDevice}
 use Rattle.dfu_asks.specs.Mapped.{mapped}
 use Rattle.dfu_asks.specs.Steps.{Step, step_writes, marked, program, anew_steps, some_steps}
 use Rattle.dfu_asks.specs.Carried.{total, carried, IsPiece, IsReached}
-use Rattle.dfu_asks.specs.Series.{held_before}
-use Rattle.dfu_asks.specs.Jobs.{held_place, job_writes, job_steps}
+use Rattle.dfu_asks.specs.Series.{tail_before}
+use Rattle.dfu_asks.specs.Jobs.{tail_place, job_writes, job_steps}
 use Rattle.dfu_asks.specs.Asks.{IsBlockJob, IsCommitJob, IsDue, grain_in, writes_in, steps_in}
-use Rattle.dfu_asks.specs.Calls.{AsksWrites}
+use Rattle.dfu_asks.specs.Calls.{WritesPending}
 use Rattle.dfu_asks.proofs.Carrying.{carried_none}
 use Rattle.dfu_asks.proofs.Working.{IsNext, IsAll, next_in, all_in}
 use Rattle.dfu_asks.proofs.Steps.{before, writes_append, writes_marked, anew_writes, some_writes, job_writes_are}
@@ -111,11 +111,11 @@ module _ (s : SlotsState) (store : IsStore s) (w : Grain) (grain : s.medium.grai
   gate_there = omega (arith, end_there s store w grain, store.has_image.active.sized.room, ap gate_room grain)
 
   block_shut : (close : Bool) (n k : ℕ) (held b : List ℕ) → (close ≡ false → is_begun s ≡ true)
-      → AllInside (place + 1) to (put_writes w (held_place w place n held) held b)
+      → AllInside (place + 1) to (put_writes w (tail_place w place n held) held b)
       → IsShut (carried m (job_writes (slot_write.Block place close) w n held b) k)
   block_shut false n k held b begun inside = inr (stays_off _ k (begun refl) inside)
   block_shut true n k held b begun inside =
-      let ws = put_writes w (held_place w place n held) held b in
+      let ws = put_writes w (tail_place w place n held) held b in
       let closed : Write = record { at = place; bytes = closed_gate w } in
       let mid = written m place (take k (closed_gate w)) in
       let c = gate_closes w in
@@ -156,13 +156,13 @@ module _ (s : SlotsState) (store : IsStore s) (w : Grain) (grain : s.medium.grai
   ]
 
   commit_shut : (n gen crc k : ℕ) (held b : List ℕ) → is_begun s ≡ true
-      → AllInside (place + 1) to (part_writes w (held_place w place n held) held)
+      → AllInside (place + 1) to (part_writes w (tail_place w place n held) held)
       → IsReached (job_steps (slot_write.Commit place gen crc) w n held b) k
       → k < total (job_writes (slot_write.Commit place gen crc) w n held b)
       → IsShut (carried m (job_writes (slot_write.Commit place gen crc) w n held b) k)
   commit_shut n gen crc k held b begun inside reached left =
       let bytes = gate_unit (gate_size w.unit) OPEN in
-      let part = some_steps w.sector (held_place w place n held) (filled w.unit held) in
+      let part = some_steps w.sector (tail_place w place n held) (filled w.unit held) in
       let head = anew_steps w.sector (place + gate_room w) (header_unit (gate_size w.unit) gen n crc) in
       let erase = marked true (before w.sector place bytes) in
       let gate : Step = program place bytes in
@@ -175,13 +175,13 @@ module _ (s : SlotsState) (store : IsStore s) (w : Grain) (grain : s.medium.grai
       (omega (arith, length-gate_unit (gate_size w.unit) OPEN (unit_wide w.unit), gate_most w.unit))
       (subst (λ (ss : List Step). IsReached ss k) (sym same) reached)
       (subst (λ (ws : List Write). k < total ws) (sym writes) left) in
-      let ps = part_writes w (held_place w place n held) held in
+      let ps = part_writes w (tail_place w place n held) held in
       let hs = write_anew w.sector (place + gate_room w) (header_unit (gate_size w.unit) gen n crc) in
       let es = before w.sector place bytes in
       let front_is : step_writes front ≡ (ps ++ hs) ++ es =
       writes_append (part ++ head) erase
       ∙ ap (λ (ws : List Write). ws ++ step_writes erase) (writes_append part head)
-      ∙ (λ i. some_writes w.sector (held_place w place n held) (filled w.unit held) i
+      ∙ (λ i. some_writes w.sector (tail_place w place n held) (filled w.unit held) i
       ++ anew_writes w.sector (place + gate_room w) (header_unit (gate_size w.unit) gen n crc) i ++ writes_marked true es i) in
       let within = inside_append (place + 1) to ps hs inside (header_beyond s store w grain n gen crc) in
       let is : carried m (job_writes (slot_write.Commit place gen crc) w n held b) k ≡ carried (carried m (ps ++ hs) k) es (k - total (ps ++ hs)) =
@@ -203,10 +203,10 @@ module _ (s : SlotsState) (store : IsStore s) (w : Grain) (grain : s.medium.grai
       → (n : ℕ) → IsNext s n (length b) → IsBlockJob n s j end held → IsShut (carried m (job_writes j w end held b) k)
   of_block b held end j k n next is = subst (λ (ws : List Write). IsShut (carried m ws k))
       (λ i. job_writes (sym is.job_is i) w (sym is.end_is i) (sym is.held_is i) b)
-      (block_shut ((n == 0) && not (is_begun s)) n k (held_before s n) b
+      (block_shut ((n == 0) && not (is_begun s)) n k (tail_before s n) b
       (λ e. ⊎_elim (λ none. begun_there (n == 0) (is_begun s) e (ap (λ (i : ℕ). i == 0) none))
       (λ put. (and_parts (is_begun s) (s.put_end == n) put).0) next.before)
-      (put_beyond s store w grain n b (held_before s n) (held_little s store w grain n next.before) next.room))
+      (put_beyond s store w grain n b (tail_before s n) (held_little s store w grain n next.before) next.room))
 
   of_commit : (b held : List ℕ) (end : ℕ) (j : SlotWrite) (k : ℕ)
       → (n : ℕ) → IsAll s n → IsCommitJob n s j end held → IsReached (job_steps j w end held b) k
@@ -237,7 +237,7 @@ module _ (s : SlotsState) (store : IsStore s) (w : Grain) (grain : s.medium.grai
   due_shut b held end j k m asked len sound due reached left = absurd due
 
 -- The next piece lies within a slot that is the spare one, or whose gate is closed.
-pub record Goes (a : LentAsking) (flash : List ℕ) (p : Step) : Type 0 where
+pub record Goes (a : LentDevice) (flash : List ℕ) (p : Step) : Type 0 where
   pub slot : ℕ
   pub either : (slot ≡ 0) ⊎ (slot ≡ slot_size flash)
   pub low : slot ≤ p.write.at
@@ -246,7 +246,7 @@ pub record Goes (a : LentAsking) (flash : List ℕ) (p : Step) : Type 0 where
       ⊎ (HasImage (mapped (grain_in a) flash) × (spare_at (gate_of (mapped (grain_in a) flash)) flash ≡ slot))
 
 -- So it does if a device asks.
-pub asks_goes : (a : LentAsking) (len : ℕ) (s : SlotsState) (was flash : List ℕ) (k : AsksWrites a len s was flash) (p : Step)
+pub asks_goes : (a : LentDevice) (len : ℕ) (s : SlotsState) (was flash : List ℕ) (k : WritesPending a len s was flash) (p : Step)
     → IsPiece (steps_in a k.work) k.work.done p → Goes a flash p
 asks_goes a len s was flash k p piece =
     let ws = writes_in a k.work in

@@ -6,20 +6,20 @@ use Rattle.dfu_slots.specs.Units.{Grain, gate_size, gate_room, whole_part, fille
 use Rattle.dfu_slots.specs.Layout.{OPEN, gate_unit, header_unit}
 use Rattle.dfu_slots.specs.Image.{gate_of, spare_at}
 use Rattle.dfu_slots.specs.Writes.{erase_write, erases, head_size}
-use Rattle.dfu_slots.specs.Seen.{SlotsState, is_begun}
+use Rattle.dfu_slots.specs.StoreView.{SlotsState, is_begun}
 use Rattle.dfu_slots.specs.Store.{IsStore}
 use Rattle.dfu_slots.proofs.Sectors.{IsEdge}
 use Rattle.dfu_device.specs.declared.device_state.DeviceState.{DeviceState}
 use Rattle.dfu_device.specs.declared.device_state.DeviceState.TheVariants as device_state
 use Rattle.dfu_asks.specs.declared.pending_writes.SlotWrite.{SlotWrite}
 use Rattle.dfu_asks.specs.declared.pending_writes.SlotWrite.TheVariants as slot_write
-use Rattle.dfu_asks.specs.Lent.{LentAsking}
+use Rattle.dfu_asks.specs.Lent.{LentDevice}
 use Rattle.dfu_slots.specs.Medium.{MediumState}
 use Rattle.dfu_asks.specs.Steps.{Step, marked, program, anew_steps, some_steps, put_steps, open_steps, close_step}
 use Rattle.dfu_asks.specs.Carried.{IsPiece, IsReached, ErasesWhole}
-use Rattle.dfu_asks.specs.Jobs.{held_place, job_steps}
+use Rattle.dfu_asks.specs.Jobs.{tail_place, job_steps}
 use Rattle.dfu_asks.specs.Asks.{grain_in, steps_in, IsBlockJob, IsCommitJob, IsDue}
-use Rattle.dfu_asks.specs.Calls.{AsksWrites}
+use Rattle.dfu_asks.specs.Calls.{WritesPending}
 use Rattle.dfu_asks.proofs.Inside.{place_edge}
 
 -- Each step erases one whole sector, or programs.
@@ -77,16 +77,16 @@ put_sound w at held block =
 
 block_sound : (w : Grain) (spare end : ℕ) (close : Bool) (held b : List ℕ) → IsEdge w.sector spare
     → AreSound w.sector (job_steps (slot_write.Block spare close) w end held b)
-block_sound w spare end true held b edge = (close_sound w spare edge, put_sound w (held_place w spare end held) held b)
-block_sound w spare end false held b edge = put_sound w (held_place w spare end held) held b
+block_sound w spare end true held b edge = (close_sound w spare edge, put_sound w (tail_place w spare end held) held b)
+block_sound w spare end false held b edge = put_sound w (tail_place w spare end held) held b
 
 commit_sound : (w : Grain) (spare gen crc end : ℕ) (held b : List ℕ)
     → AreSound w.sector (job_steps (slot_write.Commit spare gen crc) w end held b)
 commit_sound w spare gen crc end held b =
     let header = header_unit (gate_size w.unit) gen end crc in
     let gate = gate_unit (gate_size w.unit) OPEN in
-    sound_append w.sector (some_steps w.sector (held_place w spare end held) (filled w.unit held)) (open_steps w spare gen end crc)
-    (some_sound w.sector (held_place w spare end held) (filled w.unit held))
+    sound_append w.sector (some_steps w.sector (tail_place w spare end held) (filled w.unit held)) (open_steps w spare gen end crc)
+    (some_sound w.sector (tail_place w spare end held) (filled w.unit held))
     (sound_append w.sector (anew_steps w.sector (spare + gate_room w) header) (anew_steps w.sector spare gate)
     (anew_sound w.sector (spare + gate_room w) header) (anew_sound w.sector spare gate))
 
@@ -124,7 +124,7 @@ module _ (s : SlotsState) (store : IsStore s) (w : Grain) (grain : s.medium.grai
   due_sound m asked len due = absurd due
 
 -- So is the piece that a device asks for.
-pub asks_sound : (a : LentAsking) (len : ℕ) (s : SlotsState) (was flash : List ℕ) (k : AsksWrites a len s was flash) (p : Step)
+pub asks_sound : (a : LentDevice) (len : ℕ) (s : SlotsState) (was flash : List ℕ) (k : WritesPending a len s was flash) (p : Step)
     → IsPiece (steps_in a k.work) k.work.done p → ErasesWhole a.sector.size p
 asks_sound a len s was flash k p piece =
     sound_piece a.sector.size (steps_in a k.work) k.work.done p

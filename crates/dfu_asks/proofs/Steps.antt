@@ -7,7 +7,7 @@ use Rattle.dfu_slots.specs.Writes.{erases, closed_gate, write_anew, write_some, 
 use Rattle.dfu_asks.specs.declared.pending_writes.SlotWrite.{SlotWrite}
 use Rattle.dfu_asks.specs.declared.pending_writes.SlotWrite.TheVariants as slot_write
 use Rattle.dfu_asks.specs.Steps.{Step, step_writes, marked, program, anew_steps, some_steps, put_steps, open_steps}
-use Rattle.dfu_asks.specs.Jobs.{held_place, job_writes, job_steps}
+use Rattle.dfu_asks.specs.Jobs.{tail_place, job_writes, job_steps}
 
 -- Of two lists they are those of the one, and then those of the other.
 pub writes_append : (xs ys : List Step) → step_writes (xs ++ ys) ≡ step_writes xs ++ step_writes ys
@@ -63,8 +63,8 @@ open_writes_are w at gen len crc =
 pub job_writes_are : (j : SlotWrite) (w : Grain) (end : ℕ) (held block : List ℕ)
     → step_writes (job_steps j w end held block) ≡ job_writes j w end held block
 job_writes_are (slot_write.Block spare true) w end held block =
-    ap (λ (ws : List Write). record { at = spare; bytes = closed_gate w } ∷ ws) (put_writes_are w (held_place w spare end held) held block)
-job_writes_are (slot_write.Block spare false) w end held block = put_writes_are w (held_place w spare end held) held block
+    ap (λ (ws : List Write). record { at = spare; bytes = closed_gate w } ∷ ws) (put_writes_are w (tail_place w spare end held) held block)
+job_writes_are (slot_write.Block spare false) w end held block = put_writes_are w (tail_place w spare end held) held block
 job_writes_are (slot_write.Commit spare gen crc) w end held block =
-    writes_append (some_steps w.sector (held_place w spare end held) (filled w.unit held)) (open_steps w spare gen end crc)
-    ∙ (λ i. some_writes w.sector (held_place w spare end held) (filled w.unit held) i ++ open_writes_are w spare gen end crc i)
+    writes_append (some_steps w.sector (tail_place w spare end held) (filled w.unit held)) (open_steps w spare gen end crc)
+    ∙ (λ i. some_writes w.sector (tail_place w spare end held) (filled w.unit held) i ++ open_writes_are w spare gen end crc i)

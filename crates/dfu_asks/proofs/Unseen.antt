@@ -4,7 +4,7 @@ use Rattle.dfu_suffix.specs.Register.{register}
 use Rattle.dfu_slots.specs.Layout.{generation, next_generation}
 use Rattle.dfu_slots.specs.Medium.Fuse.{Unknown}
 use Rattle.dfu_slots.specs.Image.{gate_of, spare_at}
-use Rattle.dfu_slots.specs.Seen.{SlotsState, active_slot, image_of, spare_of, is_begun, room_of, is_shaped}
+use Rattle.dfu_slots.specs.StoreView.{SlotsState, active_slot, image_of, spare_of, is_begun, room_of, is_shaped}
 use Rattle.dfu_slots.specs.Store.{IsStore}
 use Rattle.dfu_device.specs.declared.device_state.DeviceState.{DeviceState}
 use Rattle.dfu_device.specs.declared.device_state.DeviceState.TheVariants as device_state

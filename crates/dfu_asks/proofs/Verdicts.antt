@@ -5,13 +5,13 @@ use Rattle.dfu_wire.specs.declared.setups.Setup.{Setup}
 use Rattle.dfu_wire.specs.declared.requests.Request.{Request as Asked}
 use Rattle.dfu_wire.specs.declared.requests.Request.TheVariants as asked
 use Rattle.dfu_wire.specs.Setup.{IsSetup}
-use Rattle.dfu_wire.specs.Request.{Asks}
+use Rattle.dfu_wire.specs.Request.{SetupRequest}
 use Rattle.dfu_slots.specs.Units.{Grain, gate_room}
-use Rattle.dfu_slots.specs.Seen.{image_of, spare_of, room_of}
+use Rattle.dfu_slots.specs.StoreView.{image_of, spare_of, room_of}
 use Rattle.dfu_device.specs.declared.answer.Answer.{Answer}
 use Rattle.dfu_device.specs.declared.answer.Answer.TheVariants as answer
 use Rattle.dfu_device.specs.declared.device_state.DeviceState.{DeviceState}
-use Rattle.dfu_device.specs.Decision.{HoldsWritten, HasLength}
+use Rattle.dfu_device.specs.Decision.{HasWrittenBytes, HasLength}
 use Rattle.dfu_device.specs.Stage.{Profile, OtherRequest}
 use Rattle.dfu_device.specs.Table.{Plan, plan}
 use Rattle.dfu_device.specs.Setting.{Setting}
@@ -20,10 +20,10 @@ use Rattle.dfu_device.specs.Parts.{stage_of, is_sound}
 use Rattle.dfu_device.specs.Rows.{Done, handled_as, meant, asked_length, body_length, setup_plan}
 use Rattle.dfu_device.proofs.Before.{has_length}
 use Rattle.dfu_device.proofs.Carried.{holds_written}
-use Rattle.dfu_asks.specs.Lent.{LentAsking}
+use Rattle.dfu_asks.specs.Lent.{LentDevice}
 use Rattle.dfu_asks.specs.Asks.{grain_in, store_in, device_in}
 use Rattle.dfu_asks.specs.InMode.{IsDeviceIn}
-use Rattle.dfu_asks.specs.Verdict.{verdict, TellsStall}
+use Rattle.dfu_asks.specs.Verdict.{verdict, IsStallVerdict}
 use Rattle.dfu_asks.proofs.StallPlans.{done_stall, done_other}
 use Rattle.dfu_asks.proofs.LongPlans.{plan_other}
 
@@ -46,7 +46,7 @@ served_stalls d m spare unwritten p asked.NotDfu body stage_is fits =
 
 -- What is decided on the request of a setup is said of the answer to that setup.
 module _ (setup : List ℕ) (p : Setup) (q : Asked) (b : Bool) (the_setup : (x : Setup) → IsSetup x setup → p ≡ x)
-    (the_request : (x : Asked) → Asks p x → q ≡ x) where
+    (the_request : (x : Asked) → SetupRequest p x → q ≡ x) where
   -- So it is of what was carried out of a plan.
   says_stall : (d : DeviceView) (w : Plan) (len : ℕ) (x : Answer) (sent : List ℕ) (d' : DeviceView) → Done w len d x sent d' → (e : Bool)
       → b ≡ e → Some b ≡ verdict w → IsTrue b ↔ (x ≡ answer.Stall)
@@ -61,30 +61,30 @@ module _ (setup : List ℕ) (p : Setup) (q : Asked) (b : Bool) (the_setup : (x :
 
   -- So it is of the answer, if it is of the row of what the setup asks.
   pub tells_stall : (d : DeviceView)
-      → ((body : List ℕ) → length body ≡ body_length p → Asks p q → Some b ≡ verdict (setup_plan d p q body)) → TellsStall b setup d
+      → ((body : List ℕ) → length body ≡ body_length p → SetupRequest p q → Some b ≡ verdict (setup_plan d p q body)) → IsStallVerdict b setup d
   tells_stall d said body body_is x sent d' (handled_as y z is asks done) =
       let p_is : p ≡ y = the_setup y is in
-      let asks_p : Asks p z = subst (λ k. Asks k z) (sym p_is) asks in
+      let asks_p : SetupRequest p z = subst (λ k. SetupRequest k z) (sym p_is) asks in
       let q_is : q ≡ z = the_request z asks_p in
       let fits : length body ≡ body_length p = body_is y is ∙ sym (ap body_length p_is) in
       says_stall d (setup_plan d p q body) (asked_length q) x sent d'
       (subst (λ k. Done (setup_plan d p k body) (asked_length k) d x sent d') (sym q_is)
       (subst (λ k. Done (setup_plan d k z body) (asked_length z) d x sent d') (sym p_is) done)) b refl
-      (said body fits (subst (λ k. Asks p k) (sym q_is) asks_p))
+      (said body fits (subst (λ k. SetupRequest p k) (sym q_is) asks_p))
 
 -- The room of a slot of this flash.
-room_in : (a : LentAsking) (flash : List ℕ) → room_of (store_in a flash) ≡ length flash / 2 - 2 * gate_room (grain_in a)
+room_in : (a : LentDevice) (flash : List ℕ) → room_of (store_in a flash) ≡ length flash / 2 - 2 * gate_room (grain_in a)
 unfolding room_of
 room_in a flash = refl
 
 -- What is decided by a profile is said of each device of that setting in that mode, on flash with that room.
 module _ (config : Setting) (grain : Grain) (size : ℕ) (c : Profile) (profile_is : c ≡ profile_of config (size / 2 - 2 * gate_room grain))
     (setup : List ℕ) (p : Setup) (q : Asked) (m : DeviceState) (b : Bool) (the_setup : (x : Setup) → IsSetup x setup → p ≡ x)
-    (the_request : (x : Asked) → Asks p x → q ≡ x)
-    (said : (image spare unwritten body : List ℕ) → HoldsWritten m spare → HasLength q body
+    (the_request : (x : Asked) → SetupRequest p x → q ≡ x)
+    (said : (image spare unwritten body : List ℕ) → HasWrittenBytes m spare → HasLength q body
     → Some b ≡ verdict (plan c image (stage_of m spare unwritten) (meant q body))) where
-  pub stalls_device : (a : LentAsking) (flash : List ℕ) → IsDeviceIn config m a flash → grain_in a ≡ grain → length flash ≡ size
-      → TellsStall b setup (device_in a flash)
+  pub stalls_device : (a : LentDevice) (flash : List ℕ) → IsDeviceIn config m a flash → grain_in a ≡ grain → length flash ≡ size
+      → IsStallVerdict b setup (device_in a flash)
   stalls_device a flash in_mode grain_is size_is =
       let store = store_in a flash in
       let d = device_in a flash in
@@ -92,7 +92,7 @@ module _ (config : Setting) (grain : Grain) (size : ℕ) (c : Profile) (profile_
       let room : room_of store ≡ size / 2 - 2 * gate_room grain = room_in a flash
       ∙ (λ i. size_is i / 2 - 2 * gate_room (grain_is i)) in
       let same : c ≡ profile d = profile_is ∙ (λ i. profile_of (sym in_mode.config_is i) (sym room i)) in
-      let holds : HoldsWritten m (spare_of store) = holds_written m (length a.block) store
+      let holds : HasWrittenBytes m (spare_of store) = holds_written m (length a.block) store
       (subst (λ x. IsTrue (is_sound x (length a.block) store)) in_mode.mode_is in_mode.device.sound) in
       tells_stall setup p q b the_setup the_request d (λ body fits asks.
       subst (λ (x : Profile). Some b ≡ verdict (plan x (image_of d.slots) (stage_of m (spare_of store) a.block) (meant q body))) same

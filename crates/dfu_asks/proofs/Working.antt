@@ -9,7 +9,7 @@ use Rattle.dfu_slots.specs.Medium.{MediumState, Write, Rose, AllWrites, BrokenWr
 use Rattle.dfu_slots.specs.Layout.{OPEN, next_generation, generation}
 use Rattle.dfu_slots.specs.Image.{gate_of, spare_at, active_at}
 use Rattle.dfu_slots.specs.Writes.{put_writes, put_rest, part_writes, open_writes}
-use Rattle.dfu_slots.specs.Seen.{SlotsState, store_of, store_on, data_place, spare_slot, active_slot, spare_of, is_begun, room_of, is_shaped, Begin, Put, Commit, writes_of}
+use Rattle.dfu_slots.specs.StoreView.{SlotsState, store_of, store_on, data_place, spare_slot, active_slot, spare_of, is_begun, room_of, is_shaped, Begin, Put, Commit, writes_of}
 use Rattle.dfu_slots.specs.Store.{IsStore}
 use Rattle.dfu_slots.proofs.Seeing.{shaped, room_capacity}
 use Rattle.dfu_device.specs.declared.answer.Answer.{Answer}
@@ -24,12 +24,12 @@ use Rattle.dfu_device.specs.Table.{write_code, commit_code}
 use Rattle.dfu_device.proofs.Commits.{written_sound}
 use Rattle.dfu_asks.specs.declared.pending_writes.SlotWrite.{SlotWrite}
 use Rattle.dfu_asks.specs.declared.pending_writes.SlotWrite.TheVariants as slot_write
-use Rattle.dfu_asks.specs.Series.{block_series, block_store, BlockWritten, BlockBroken, CommitDone, CommitBroken}
-use Rattle.dfu_asks.specs.Jobs.{held_place, job_writes}
+use Rattle.dfu_asks.specs.Series.{block_series, block_store, BlockWritten, BlockBroken, CommitCompleted, CommitBroken}
+use Rattle.dfu_asks.specs.Jobs.{tail_place, job_writes}
 use Rattle.dfu_asks.specs.Due.{Works, Fails}
 use Rattle.dfu_asks.specs.Asks.{IsBlockJob, IsCommitJob, IsDue, capped, is_block, done_mode, failed_mode, IsAnswered}
 use Rattle.dfu_asks.proofs.Rows.{block_written, block_broken, commit_done, commit_off}
-use Rattle.dfu_device.specs.Decision.{HoldsTime}
+use Rattle.dfu_device.specs.Decision.{HasTimeInputs}
 
 -- A block that is due has bytes, and there is room for them after what was put.
 pub record IsNext (s : SlotsState) (n b : ℕ) : Type 0 where
@@ -97,7 +97,7 @@ series_of_block s n j u end held block unit is =
     first e none =
         (λ i. choose (e i) (not_begun s i))
         ∙ (λ i. writes_of s Begin
-        ++ put_writes s.medium.grain (held_place s.medium.grain (spare_at (gate_of s.medium) s.medium.bytes) (none i) []) [] block)
+        ++ put_writes s.medium.grain (tail_place s.medium.grain (spare_at (gate_of s.medium) s.medium.bytes) (none i) []) [] block)
         ∙ (λ i. chosen (sym e i))
 
     further : (n == 0) ≡ false → choose (n == 0) (not (is_begun s)) ≡ chosen (n == 0)
@@ -177,7 +177,7 @@ module _ (c : Setting) (w : Grain) (b held : List ℕ) (end : ℕ) (j : SlotWrit
 
   -- All writes of a commit.
   commit_left : (n : ℕ) → IsAll s n → IsCommitJob n s j end held
-      → AllWrites s.medium (job_writes j w end held b) now → CommitDone s n at_rest
+      → AllWrites s.medium (job_writes j w end held b) now → CommitCompleted s n at_rest
   commit_left n whole job all =
       commit_done s store shape n whole.put whole.room now
       (subst (λ (ws : List Write). AllWrites s.medium ws now) (series_of_commit s n j w end held b unit_is whole.put job) all)
@@ -222,7 +222,7 @@ module _ (c : Setting) (w : Grain) (b held : List ℕ) (end : ℕ) (j : SlotWrit
   commit_ends : (d to : DeviceState) (n : ℕ) (stage : Stage) (Says : Type 0) → is_block d ≡ false
       → stage_of to (spare_of at_rest) b ≡ stage
       → (IsStore at_rest → IsTrue (is_sound to (length b) at_rest))
-      → CommitDone s n at_rest → Says
+      → CommitCompleted s n at_rest → Says
       → Ends c at_rest to b (Stays d s at_rest)
       (Says × Committed (take n (spare_of s)) c s stage (shows c at_rest to b))
   commit_ends d to n stage Says commits stage_is sound got says = record {
@@ -260,14 +260,14 @@ module _ (c : Setting) (w : Grain) (b held : List ℕ) (end : ℕ) (j : SlotWrit
       next_mode : Bool → DeviceState
       next_mode t = if t then device_state.ManifestSyncComplete else device_state.ManifestWaitReset
 
-      no_time : (t : Bool) (k : ℕ) → HoldsTime (next_mode t) k [] []
+      no_time : (t : Bool) (k : ℕ) → HasTimeInputs (next_mode t) k [] []
       no_time true k = tt
       no_time false k = tt
 
       next_stage : Bool → Stage
       next_stage t = if t then InManifestSyncComplete else InManifestWaitReset
 
-      tolerant : (t : Bool) → CommitDone s n at_rest → (a ≡ answer.Ack) × (out ≡ [])
+      tolerant : (t : Bool) → CommitCompleted s n at_rest → (a ≡ answer.Ack) × (out ≡ [])
           → Ends c at_rest (next_mode t) b (Stays (device_state.Manifest n passed) s at_rest)
           (((a ≡ answer.Ack) × (out ≡ []))
           × Committed (take n (spare_of s)) c s (next_stage t) (shows c at_rest (next_mode t) b))

@@ -7,7 +7,7 @@ use Rattle.dfu_slots.specs.Medium.{Write}
 use Rattle.dfu_slots.specs.Layout.{generation, next_generation}
 use Rattle.dfu_slots.specs.Image.{gate_of, spare_at, HasImage}
 use Rattle.dfu_slots.specs.Writes.{put_rest}
-use Rattle.dfu_slots.specs.Seen.{SlotsState, store_of, active_slot, spare_of, is_begun}
+use Rattle.dfu_slots.specs.StoreView.{SlotsState, store_of, active_slot, spare_of, is_begun}
 use Rattle.dfu_slots.specs.Store.{IsStore}
 use Rattle.dfu_device.specs.declared.device_state.DeviceState.{DeviceState}
 use Rattle.dfu_device.specs.declared.device_state.DeviceState.TheVariants as device_state
@@ -18,28 +18,28 @@ use Rattle.dfu_device.specs.Parts.{shows, stage_of, is_sound}
 use Rattle.dfu_device.specs.DeviceView.{DeviceView, profile_of}
 use Rattle.dfu_device.specs.declared.decision.Reply.{Reply as ReplyRead}
 use Rattle.dfu_device.specs.declared.decision.Reply.TheVariants as reply
-use Rattle.dfu_device.specs.Decision.{reply_in, HoldsTime}
+use Rattle.dfu_device.specs.Decision.{reply_in, HasTimeInputs}
 use Rattle.dfu_device.specs.Table.{write_code, commit_code}
 use Rattle.dfu_asks.specs.declared.pending_writes.SlotWrite.{SlotWrite}
 use Rattle.dfu_asks.specs.declared.pending_writes.SlotWrite.TheVariants as slot_write
 use Rattle.dfu_asks.specs.declared.pending_writes.PendingWrites.{PendingWrites}
-use Rattle.dfu_asks.specs.Lent.{LentAsking}
+use Rattle.dfu_asks.specs.Lent.{LentDevice}
 use Rattle.dfu_asks.specs.Mapped.{grain_of, mapped, Unseen, mapped_with}
 use Rattle.dfu_asks.specs.Noted.{IsNoted}
-use Rattle.dfu_asks.specs.Series.{held_before}
+use Rattle.dfu_asks.specs.Series.{tail_before}
 use Rattle.dfu_asks.specs.Steps.{Step}
 use Rattle.dfu_asks.specs.Jobs.{job_writes, job_steps}
 
 -- Grain in which its flash is written.
-abbrev pub grain_in : LentAsking → Grain
+abbrev pub grain_in : LentDevice → Grain
 grain_in a = grain_of a.unit a.sector
 
 -- The slot store on these bytes of flash.
-abbrev pub store_in : LentAsking → List ℕ → SlotsState
+abbrev pub store_in : LentDevice → List ℕ → SlotsState
 store_in a flash = store_of (mapped (grain_in a) flash) a.held a.put_end
 
 -- The device on these bytes of flash.
-abbrev pub device_in : LentAsking → List ℕ → DeviceView
+abbrev pub device_in : LentDevice → List ℕ → DeviceView
 device_in a flash = shows a.config (store_in a flash) a.mode a.block
 
 -- A slot store on a medium with the same bytes, of which this is not seen.
@@ -47,11 +47,11 @@ abbrev pub unseen_in : Unseen → SlotsState → SlotsState
 unseen_in u s = store_of (mapped_with u s.medium.grain s.medium.bytes) s.held s.put_end
 
 -- The device on these bytes of flash, of which this is not seen.
-abbrev pub device_with : Unseen → LentAsking → List ℕ → DeviceView
+abbrev pub device_with : Unseen → LentDevice → List ℕ → DeviceView
 device_with u a flash = shows a.config (unseen_in u (store_in a flash)) a.mode a.block
 
 -- It is a device's, and its active image is noted.
-pub record IsDevice (a : LentAsking) (flash : List ℕ) : Type 0 where
+pub record IsDevice (a : LentDevice) (flash : List ℕ) : Type 0 where
   pub store : IsStore (store_in a flash)
   pub sound : IsTrue (is_sound a.mode (length a.block) (store_in a flash))
   pub noted : IsNoted a.noted (mapped (grain_in a) flash)
@@ -60,7 +60,7 @@ pub record IsDevice (a : LentAsking) (flash : List ℕ) : Type 0 where
 pub record IsBlockJob (n : ℕ) (s : SlotsState) (j : SlotWrite) (end : ℕ) (held : List ℕ) : Type 0 where
   pub job_is : j ≡ slot_write.Block (spare_at (gate_of s.medium) s.medium.bytes) ((n == 0) && not (is_begun s))
   pub end_is : end ≡ n
-  pub held_is : held ≡ held_before s n
+  pub held_is : held ≡ tail_before s n
 
 -- The job of a commit of n bytes.
 pub record IsCommitJob (n : ℕ) (s : SlotsState) (j : SlotWrite) (end : ℕ) (held : List ℕ) : Type 0 where
@@ -78,15 +78,15 @@ IsDue (device_state.Manifest written passed) asked len s j end held = (asked ≡
 IsDue m asked len s j end held = ⊥
 
 -- The writes of its work.
-abbrev pub writes_in : LentAsking → PendingWrites → List Write
+abbrev pub writes_in : LentDevice → PendingWrites → List Write
 writes_in a w = job_writes w.job (grain_in a) a.put_end a.held a.block
 
 -- Writes that are left, as steps.
-abbrev pub steps_in : LentAsking → PendingWrites → List Step
+abbrev pub steps_in : LentDevice → PendingWrites → List Step
 steps_in a w = job_steps w.job (grain_in a) a.put_end a.held a.block
 
 -- It works for the row that is due in the device that it was, on these bytes of flash, in this slot store.
-pub record IsWorking (a : LentAsking) (w : PendingWrites) (len : ℕ) (s : SlotsState) (flash : List ℕ) : Type 0 where
+pub record IsWorking (a : LentDevice) (w : PendingWrites) (len : ℕ) (s : SlotsState) (flash : List ℕ) : Type 0 where
   pub medium : s.medium ≡ mapped (grain_in a) flash
   pub store : IsStore s
   pub sound : IsTrue (is_sound a.mode (length a.block) s)
@@ -94,7 +94,7 @@ pub record IsWorking (a : LentAsking) (w : PendingWrites) (len : ℕ) (s : Slots
   pub noted : IsNoted a.noted s.medium
 
 -- The device that it works for.
-abbrev pub device_of : LentAsking → SlotsState → DeviceView
+abbrev pub device_of : LentDevice → SlotsState → DeviceView
 device_of a s = shows a.config s a.mode a.block
 
 -- Its next mode once all is written; a sum of bytes stops at the largest number.
@@ -120,7 +120,7 @@ abbrev pub failed_mode : WriteFault → DeviceState → DeviceState
 failed_mode fault m = if is_block m then device_state.Error (write_code fault) else device_state.Error (commit_code fault)
 
 -- All is written: what is kept then.
-pub record IsFinished (a a' : LentAsking) : Type 0 where
+pub record IsFinished (a a' : LentDevice) : Type 0 where
   pub config : a'.config ≡ a.config
   pub unit : a'.unit ≡ a.unit
   pub sector : a'.sector ≡ a.sector
@@ -131,7 +131,7 @@ pub record IsFinished (a a' : LentAsking) : Type 0 where
   pub work : a'.work ≡ None
 
 -- A write had this fault: what is kept then.
-pub record IsBrokenOff (fault : WriteFault) (a a' : LentAsking) : Type 0 where
+pub record IsBrokenOff (fault : WriteFault) (a a' : LentDevice) : Type 0 where
   pub config : a'.config ≡ a.config
   pub unit : a'.unit ≡ a.unit
   pub sector : a'.sector ≡ a.sector
@@ -142,13 +142,13 @@ pub record IsBrokenOff (fault : WriteFault) (a a' : LentAsking) : Type 0 where
   pub work : a'.work ≡ None
 
 -- The notes after a row in this mode, on this flash: after a commit those of the flash, and after a block those of before.
-pub record NotesAfter (m : DeviceState) (flash : List ℕ) (a a' : LentAsking) : Type 0 where
+pub record NotesAfter (m : DeviceState) (flash : List ℕ) (a a' : LentDevice) : Type 0 where
   pub of_block : is_block m ≡ true → a'.noted ≡ a.noted
   pub of_commit : is_block m ≡ false → HasImage (mapped (grain_in a') flash) → IsNoted a'.noted (mapped (grain_in a') flash)
 
 -- The reply of a device that is set up like this, in this mode with a block of n bytes, if so many bytes are asked for.
 abbrev pub IsReply : Setting → DeviceState → (n : ℕ) → ReplyRead → (asked : ℕ) → Answer → List ℕ → Type 0
-IsReply c m n r asked a out = (room : ℕ) (spare block : List ℕ) → HoldsTime m n spare block
+IsReply c m n r asked a out = (room : ℕ) (spare block : List ℕ) → HasTimeInputs m n spare block
     → Answers asked (reply_in (profile_of c room) (stage_of m spare block) r) a out
 
 -- The answer in this mode at the end of a row, in which no time is said: the status, if a GETSTATUS asked for so many bytes of it.
@@ -157,7 +157,7 @@ IsAnswered c m None a out = (n : ℕ) × IsReply c m n reply.Ack 0 a out
 IsAnswered c m (Some len) a out = (n : ℕ) × IsReply c m n reply.Status len a out
 
 -- The bytes of an answer, at most six, are at the front of a buffer.
-pub record GivesAnswer (Says : Answer → List ℕ → Type 0) (a : Answer) (count : ℕ) (out out' : List ℕ) : Type 0 where
+pub record AnswerInBuffer (Says : Answer → List ℕ → Type 0) (a : Answer) (count : ℕ) (out out' : List ℕ) : Type 0 where
   pub sent : List ℕ
   pub says : Says a sent
   pub count_is : count ≡ length sent
@@ -165,7 +165,7 @@ pub record GivesAnswer (Says : Answer → List ℕ → Type 0) (a : Answer) (cou
   pub out_is : out' ≡ sent ++ drop count out
 
 -- All that is kept but the mode and the block is as it was.
-pub record IsRest (a a' : LentAsking) : Type 0 where
+pub record IsRest (a a' : LentDevice) : Type 0 where
   pub config : a'.config ≡ a.config
   pub unit : a'.unit ≡ a.unit
   pub sector : a'.sector ≡ a.sector

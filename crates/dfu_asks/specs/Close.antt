@@ -17,7 +17,7 @@ pub record WasClosed (d : DeviceView) (x : Answer) (d' : DeviceView) : Type 0 wh
 
 -- It is said of this setup whether it closes the download of this device; and so what comes of the setup once it is handled: an image that
 -- waits to be put in place, or none that did not wait before.
-pub record TellsClose (said : Bool) (setup : List ℕ) (d : DeviceView) : Type 0 where
+pub record IsCloseVerdict (said : Bool) (setup : List ℕ) (d : DeviceView) : Type 0 where
   pub closes : IsTrue said ↔ ClosesDownload setup d
   pub closed : (body : List ℕ) → IsBodyOf setup body → (x : Answer) (sent : List ℕ) (d' : DeviceView) → Handles setup body d x sent d'
       → IsTrue said ↔ WasClosed d x d'

@@ -6,7 +6,7 @@ use Rattle.dfu_device.specs.Stage.{Request, GetStatus, Ack, Stall, Profile, Stag
 use Rattle.dfu_device.specs.Table.{Plan, Sure, Writes, Commits, write_and_report, commit_and_report}
 use Rattle.dfu_device.specs.DeviceView.{DeviceView, profile}
 use Rattle.dfu_device.specs.Decision.{plan_of}
-use Rattle.dfu_slots.specs.Seen.{image_of, spare_of}
+use Rattle.dfu_slots.specs.StoreView.{image_of, spare_of}
 use Rattle.dfu_device.specs.declared.decision.Decision.{Decision}
 use Rattle.dfu_device.specs.declared.decision.Decision.TheVariants as decision
 use Rattle.dfu_device.specs.Rows.{Answers, WroteBlock, FailedBlock, Committed, FailedCommit, Done}

@@ -10,7 +10,7 @@ use Rattle.dfu_asks.specs.declared.pending_writes.PendingWrites.{PendingWrites}
 use Rattle.dfu_asks.specs.declared.asking.Asking.{Asking}
 
 -- Record of a device that asks, the block that is not written, and the bytes held back.
-pub record LentAsking : Type 0 where
+pub record LentDevice : Type 0 where
   pub config : Setting
   pub unit : WriteUnit
   pub sector : Sector
@@ -22,7 +22,7 @@ pub record LentAsking : Type 0 where
   pub work : Option PendingWrites
 
 -- The device with these bytes in the memory of its block, and these in that of the bytes held back.
-abbrev pub lent : Asking → (block held : List ℕ) → LentAsking
+abbrev pub lent : Asking → (block held : List ℕ) → LentDevice
 lent a block held = record {
   config = a.config;
   unit = a.unit;

@@ -36,6 +36,6 @@ abbrev pub IsSlotOf : ℕ → ℕ → ℕ → Type 0
 IsSlotOf at size slot = ((at < size) × (slot ≡ 0)) ⊎ ((size ≤ at) × (slot ≡ size))
 
 -- A range is not asked for: whichever slot it lies in has an open gate, and is not the spare of an active image.
-abbrev pub IsHeldBack : MediumState → ℕ → ℕ → Type 0
-IsHeldBack m at len = (slot : ℕ) → (slot ≡ 0) ⊎ (slot ≡ slot_size m.bytes) → slot ≤ at → at + len ≤ slot + slot_size m.bytes
+abbrev pub IsProtectedRange : MediumState → ℕ → ℕ → Type 0
+IsProtectedRange m at len = (slot : ℕ) → (slot ≡ 0) ⊎ (slot ≡ slot_size m.bytes) → slot ≤ at → at + len ≤ slot + slot_size m.bytes
     → (slice_index m.bytes slot ≡ OPEN) × (HasImage m → spare_at (gate_of m) m.bytes ≢ slot)

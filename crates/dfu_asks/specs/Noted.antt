@@ -20,7 +20,7 @@ pub record IsNoted (n : Noted) (m : MediumState) : Type 0 where
   pub header : n.header ≡ (slot_of m (active_at (gate_of m) m.bytes)).header
 
 -- A medium is two slots, and the noted one is open, and has the noted header, whose length fits. No image is read to tell that.
-pub record NotedStands (n : Noted) (m : MediumState) : Type 0 where
+pub record NotedIsOnFlash (n : Noted) (m : MediumState) : Type 0 where
   pub sized : IsSized m
   pub is_open : (slot_of m (noted_at n m.bytes)).gate ≡ OPEN
   pub header : (slot_of m (noted_at n m.bytes)).header ≡ n.header
@@ -28,7 +28,7 @@ pub record NotedStands (n : Noted) (m : MediumState) : Type 0 where
 
 -- This is seen of a medium by what is noted.
 pub record IsView (v : View) (n : Noted) (m : MediumState) : Type 0 where
-  pub stands : NotedStands n m
+  pub stands : NotedIsOnFlash n m
   pub active : v.active ≡ noted_at n m.bytes
   pub spare : v.spare ≡ beside n m.bytes
   pub room : v.room ≡ capacity_of m

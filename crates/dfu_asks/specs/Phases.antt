@@ -54,9 +54,9 @@ abbrev pub grain_within : Formatting → Grain
 grain_within f = grain_of f.unit f.sector
 
 -- Steps that are left of a format on flash of so many bytes, from the part on that is being carried out.
-abbrev pub steps_left : Formatting → ℕ → List ℕ → List Step
-steps_left f size image = steps_from (grain_within f) (size / 2) image f.register f.phase
+abbrev pub remaining_steps : Formatting → ℕ → List ℕ → List Step
+remaining_steps f size image = steps_from (grain_within f) (size / 2) image f.register f.phase
 
 -- That part.
-abbrev pub part_left : Formatting → ℕ → List ℕ → List Step
-part_left f size image = part_steps (grain_within f) (size / 2) image f.register f.phase
+abbrev pub steps_of_part : Formatting → ℕ → List ℕ → List Step
+steps_of_part f size image = part_steps (grain_within f) (size / 2) image f.register f.phase

@@ -3,15 +3,15 @@ use Rattle.std.specs.Prelude.{◌≡◌, ◌⊎◌, ℕ, ◌+◌, ◌==◌, true
 use Rattle.dfu_slots.specs.declared.fault.WriteFault.{WriteFault}
 use Rattle.dfu_slots.specs.Medium.{MediumState, Write}
 use Rattle.dfu_slots.specs.Writes.{put_writes, put_rest}
-use Rattle.dfu_slots.specs.Seen.{SlotsState, store_of, data_place, image_of, spare_of, room_of, Begin, Put, Commit, writes_of, AllWorked, BrokenBy, Called}
+use Rattle.dfu_slots.specs.StoreView.{SlotsState, store_of, data_place, image_of, spare_of, room_of, Begin, Put, Commit, writes_of, AllWorked, BrokenBy, Called}
 use Rattle.dfu_slots.specs.Image.{gate_of, active_at}
 use Rattle.dfu_slots.specs.Store.{IsStore}
 use Rattle.dfu_device.specs.Parts.{is_put}
 use Rattle.dfu_device.specs.Rows.{block_calls}
 
 -- Bytes that are held back before a block that comes after so many bytes: none before the first one.
-abbrev pub held_before : SlotsState → ℕ → List ℕ
-held_before s n = if n == 0 then [] else s.held
+abbrev pub tail_before : SlotsState → ℕ → List ℕ
+tail_before s n = if n == 0 then [] else s.held
 
 -- The writes of a block after so many bytes; before those of the first block come those that close the spare.
 abbrev pub block_series : SlotsState → ℕ → List ℕ → List Write
@@ -20,7 +20,7 @@ block_series s n block =
 
 -- The store once they are made.
 abbrev pub block_store : SlotsState → ℕ → List ℕ → MediumState → SlotsState
-block_store s n block m = store_of m (put_rest s.medium.grain.unit (held_before s n) block) (n + length block)
+block_store s n block m = store_of m (put_rest s.medium.grain.unit (tail_before s n) block) (n + length block)
 
 -- The block was written after so many bytes: the calls of its row worked, the spare has those bytes and then the block's, all of them count
 -- as put, and the image, its place and the room stay.
@@ -42,7 +42,7 @@ pub record BlockBroken (fault : WriteFault) (s : SlotsState) (n : ℕ) (block : 
   pub room : room_of now ≡ room_of s
 
 -- The first n bytes of the spare were made the active image, and the room stays.
-pub record CommitDone (s : SlotsState) (n : ℕ) (now : SlotsState) : Type 0 where
+pub record CommitCompleted (s : SlotsState) (n : ℕ) (now : SlotsState) : Type 0 where
   pub calls : Called s (Commit (length (take n (spare_of s))) ∷ []) AllWorked now
   pub store : IsStore now
   pub image : image_of now ≡ take n (spare_of s)

@@ -32,6 +32,6 @@ abbrev pub IsBodyOf : List ℕ → List ℕ → Type 0
 IsBodyOf setup body = (p : Setup) → IsSetup p setup → length body ≡ body_length p
 
 -- It is said of this setup whether this device answers it with a stall, whatever its body. If it asks for writes it will not stall.
-abbrev pub TellsStall : Bool → List ℕ → DeviceView → Type 0
-TellsStall said setup d = (body : List ℕ) → IsBodyOf setup body → (x : Answer) (sent : List ℕ) (d' : DeviceView)
+abbrev pub IsStallVerdict : Bool → List ℕ → DeviceView → Type 0
+IsStallVerdict said setup d = (body : List ℕ) → IsBodyOf setup body → (x : Answer) (sent : List ℕ) (d' : DeviceView)
     → Handles setup body d x sent d' → IsTrue said ↔ (x ≡ answer.Stall)

@@ -12,7 +12,7 @@ ghost use Rattle.dfu_asks.specs.Noted.{IsView};
 ghost use Rattle.dfu_asks.specs.Lent.{lent, HasRoom, IsSetUpAs};
 ghost use Rattle.dfu_asks.specs.Asks.{device_in, IsDevice};
 ghost use Rattle.dfu_asks.specs.Calls.{DeviceCalled, HasAtMost};
-ghost use Rattle.dfu_asks.specs.Refused.{IsKeptOn, IsThere, Fits, IsRefusedCall, IsServed};
+ghost use Rattle.dfu_asks.specs.Refused.{IsDeviceOn, IsThere, RoomForBlocks, IsRefusedCall, IsServed};
 ghost use Rattle.dfu_asks.specs.Addressed.{addressed};
 
 use crate::noted::{View, look};
@@ -51,12 +51,12 @@ impl Asking {
         ensures medium { IfOk result (λ r. (r.0.unit ≡ self.now.unit) × (r.0.sector ≡ self.now.sector) × (r.0.bytes.now ≡ flash.now)) }
         ensures view { IfOk result (λ r. IsView r.1 self.now.noted (mapped (grain_of self.now.unit self.now.sector) flash.now)) }
         ensures there { OnOk result (IsThere self.now flash.now) }
-        ensures fits { OnOk result (Fits self.now room) }
+        ensures fits { OnOk result (RoomForBlocks self.now room) }
         ensures end { IfOk result (λ r. self.now.put_end ≤ r.1.room) }
         ensures held { IfOk result (λ r. self.now.held_len ≤ self.now.put_end) }
         ensures no_medium { IfErr result (λ e. e ≡ Refusal.NoMedium → ¬ IsThere self.now flash.now) }
         ensures no_device { IfErr result (λ e. e ≢ Refusal.NoMedium → (e ≡ Refusal.NoDevice) × IsThere self.now flash.now
-            × ((block held : List ℕ) → length block ≡ room → HasRoom self.now.unit held → ¬ IsKeptOn self.now block held flash.now)) }
+            × ((block held : List ℕ) → length block ≡ room → HasRoom self.now.unit held → ¬ IsDeviceOn self.now block held flash.now)) }
     {
         let Some(medium) = Mapped::with_sector(flash, self.unit, self.sector) else {
             return Err(Refusal::NoMedium);
@@ -91,7 +91,7 @@ impl Asking {
         requires held { self.old.held_len ≤ self.old.put_end }
         requires memory { HasRoom self.old.unit held.old }
         ensures outcome { let a = lent self.old block.old held.old in
-            let flash = medium.now.bytes.now in IsKeptOn self.old block.old held.old flash →
+            let flash = medium.now.bytes.now in IsDeviceOn self.old block.old held.old flash →
             DeviceCalled a flash out.old (λ d x sent d'. Handles setup.now body.now d x sent d')
             (lent self.new block.new held.new) out.new result }
         ensures first { result ≡ Reply.Asks → (w : PendingWrites) × (self.new.work ≡ Some w) × (w.done ≡ 0) }
@@ -122,7 +122,7 @@ impl Asking {
         out: &mut [u8],
     ) -> Result<Reply, Refusal>
         requires { HasRoom self.old.unit held.old }
-        ensures outcome { let a = lent self.old block.old held.old in IfOk result (λ r. IsKeptOn self.old block.old held.old flash.now →
+        ensures outcome { let a = lent self.old block.old held.old in IfOk result (λ r. IsDeviceOn self.old block.old held.old flash.now →
             DeviceCalled a flash.now out.old (λ d x sent d'. Handles setup.now body.now d x sent d')
             (lent self.new block.new held.new) out.new r) }
         ensures first { IfOk result (λ r. r ≡ Reply.Asks → (w : PendingWrites) × (self.new.work ≡ Some w) × (w.done ≡ 0)) }
@@ -132,7 +132,7 @@ impl Asking {
         ensures asked { IsSome self.old.work → IsErrOf result Refusal.Asked }
         ensures few { IfOk result (λ r. HasAtMost 65535 r) }
         ensures same { IsSetUpAs self.old self.new }
-        ensures fits { OnOk result (Fits self.new (length block.new)) }
+        ensures fits { OnOk result (RoomForBlocks self.new (length block.new)) }
         ensures unchanged { OnErr result ((self.new ≡ self.old) × (block.new ≡ block.old) × (held.new ≡ held.old) × (out.new ≡ out.old)) }
     {
         if self.work.is_some() {
@@ -158,7 +158,7 @@ impl Asking {
         ms: u32,
     ) -> Result<Reply, Refusal>
         requires { HasRoom self.old.unit held.old }
-        ensures outcome { let a = lent self.old block.old held.old in IfOk result (λ r. IsKeptOn self.old block.old held.old flash.now →
+        ensures outcome { let a = lent self.old block.old held.old in IfOk result (λ r. IsDeviceOn self.old block.old held.old flash.now →
             (out : List ℕ) × DeviceCalled a flash.now (replicate 6 0)
             (λ d x sent d'. (x ≡ Ack) × (sent ≡ []) × Elapses ms d d')
             (lent self.new block.new held.new) out r) }
@@ -167,7 +167,7 @@ impl Asking {
         ensures refused { IfErr result (λ e. IsRefusedCall e self.old block.old held.old flash.now 0 0) }
         ensures asked { IsSome self.old.work → IsErrOf result Refusal.Asked }
         ensures same { IsSetUpAs self.old self.new }
-        ensures fits { OnOk result (Fits self.new (length block.new)) }
+        ensures fits { OnOk result (RoomForBlocks self.new (length block.new)) }
         ensures unchanged { OnErr result ((self.new ≡ self.old) × (block.new ≡ block.old) × (held.new ≡ held.old)) }
     {
         if self.work.is_some() {
@@ -189,13 +189,13 @@ impl Asking {
         requires { HasRoom self.old.unit held.now }
         ensures row { let before = device_in (lent self.old block.now held.now) flash.now in
             OnOk result (device_in (lent self.new block.now held.now) flash.now ≡ record before { stage = reset_stage before.stage }) }
-        ensures is { OnOk result (IsKeptOn self.old block.now held.now flash.now → IsKeptOn self.new block.now held.now flash.now) }
+        ensures is { OnOk result (IsDeviceOn self.old block.now held.now flash.now → IsDeviceOn self.new block.now held.now flash.now) }
         ensures work { OnOk result (self.new.work ≡ None) }
         ensures served { OnOk result (IsServed self.old block.now flash.now 0 0) }
         ensures refused { IfErr result (λ e. IsRefusedCall e self.old block.now held.now flash.now 0 0) }
         ensures asked { IsSome self.old.work → IsErrOf result Refusal.Asked }
         ensures same { IsSetUpAs self.old self.new }
-        ensures fits { OnOk result (Fits self.new (length block.now)) }
+        ensures fits { OnOk result (RoomForBlocks self.new (length block.now)) }
         ensures unchanged { OnErr result (self.new ≡ self.old) }
     {
         if self.work.is_some() {

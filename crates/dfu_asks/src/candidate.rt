@@ -3,7 +3,7 @@ ghost use Rattle.std.specs.Prelude.{◌≡◌, ◌+◌, ◌≤◌, ℕ, List, le
 ghost use Rattle.dfu_device.specs.Candidate.{candidate_in, IsCandidate};
 ghost use Rattle.dfu_asks.specs.Lent.{lent};
 ghost use Rattle.dfu_asks.specs.Asks.{device_in};
-ghost use Rattle.dfu_asks.specs.Refused.{IsKeptOn, IsRefusedCall};
+ghost use Rattle.dfu_asks.specs.Refused.{IsDeviceOn, IsRefusedCall};
 
 use crate::noted::look;
 use crate::{Asking, Mapped, Refusal};
@@ -18,7 +18,7 @@ impl Asking {
     ///
     /// As `elapse`, except that the memory of the block is not checked.
     pub fn candidate(&self, flash: &[u8]) -> Result<Option<Candidate>, Refusal>
-        ensures some { (block held : List ℕ) → IsKeptOn self.now block held flash.now →
+        ensures some { (block held : List ℕ) → IsDeviceOn self.now block held flash.now →
             IfOk result (λ r. IfSome r (λ c. IsCandidate (device_in (lent self.now block held) flash.now) c)) }
         ensures none { (block held : List ℕ) →
             IfOk result (λ r. IfNone r (candidate_in (device_in (lent self.now block held) flash.now).stage ≡ None)) }

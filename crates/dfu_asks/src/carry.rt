@@ -1,7 +1,7 @@
 //! Decisions that are carried out, or are begun.
 ghost use Rattle.std.specs.Prelude.{◌≡◌, ◌-◌, ◌≤◌, ◌++◌, min, ℕ, List, length, take, drop, Some, None};
 ghost use Rattle.dfu_slots.specs.Image.{slot_of};
-ghost use Rattle.dfu_slots.specs.Seen.{image_of};
+ghost use Rattle.dfu_slots.specs.StoreView.{image_of};
 ghost use Rattle.dfu_device.specs.Decision.{IsPossible};
 ghost use Rattle.dfu_device.specs.Rows.{Done};
 ghost use Rattle.dfu_asks.specs.declared.pending_writes.PendingWrites.{PendingWrites};
@@ -10,9 +10,9 @@ ghost use Rattle.dfu_asks.specs.Mapped.{grain_of, mapped};
 ghost use Rattle.dfu_asks.specs.Noted.{IsView, noted_at};
 ghost use Rattle.dfu_asks.specs.Lent.{lent, HasRoom, IsSetUpAs};
 ghost use Rattle.dfu_asks.specs.Due.{plan_in, SendsWithin, wanted};
-ghost use Rattle.dfu_asks.specs.Asks.{store_in, IsReply, GivesAnswer};
+ghost use Rattle.dfu_asks.specs.Asks.{store_in, IsReply, AnswerInBuffer};
 ghost use Rattle.dfu_asks.specs.Calls.{AreSureOrDue, DeviceCalled, HasAtMost};
-ghost use Rattle.dfu_asks.specs.Refused.{IsKeptOn};
+ghost use Rattle.dfu_asks.specs.Refused.{IsDeviceOn};
 
 use crate::noted::View;
 use crate::{Asking, Mapped, Reply};
@@ -66,7 +66,7 @@ impl Asking {
         out: &mut [u8],
     ) -> (Answer, usize)
         requires { 6 ≤ length out.old }
-        ensures { GivesAnswer (λ x sent. IsReply self.now.config self.now.mode self.now.block_len reply asked x sent)
+        ensures { AnswerInBuffer (λ x sent. IsReply self.now.config self.now.mode self.now.block_len reply asked x sent)
             result.0 result.1 out.old out.new }
     {
         match reply {
@@ -109,7 +109,7 @@ impl Asking {
             let flash = medium.now.bytes.now in
             let s = store_in a flash in
             let len = wanted asked in
-            IsKeptOn self.old block.old held.old flash →
+            IsDeviceOn self.old block.old held.old flash →
             IsPossible self.old.config.functional.transfer (length a.block) (length body.now) s decision →
             AreSureOrDue (plan_in a.block body.now decision) a flash asked len → SendsWithin decision (image_of s) (length out.old) →
             DeviceCalled a flash out.old (λ d x sent d'. Done (plan_in a.block body.now decision d) len d x sent d')

@@ -1,16 +1,16 @@
 //! Tells before a setup is handed in whether it closes a download, because the program's own check of the image comes then.
 ghost use Rattle.std.specs.Prelude.{◌≡◌, ℕ, List, IfOk, IfErr, OnOk, IsSome, None};
 ghost use Rattle.dfu_asks.specs.Asks.{device_in, IsDevice};
-ghost use Rattle.dfu_asks.specs.Close.{TellsClose};
+ghost use Rattle.dfu_asks.specs.Close.{IsCloseVerdict};
 ghost use Rattle.dfu_asks.specs.InMode.{IsDeviceIn};
-ghost use Rattle.dfu_asks.specs.Lent.{LentAsking, lent};
+ghost use Rattle.dfu_asks.specs.Lent.{LentDevice, lent};
 
 use crate::{Asking, Refusal};
 use dfu_device::{Config, DeviceState, is_close};
 
 /// Returns whether this setup closes the download of a device of this configuration in this mode, as `Asking::closes`.
 pub fn mode_closes(config: &Config, mode: DeviceState, setup: &[u8; 8]) -> bool
-    ensures { (a : LentAsking) (flash : List ℕ) → IsDeviceIn config.now mode a flash → TellsClose result setup.now (device_in a flash) }
+    ensures { (a : LentDevice) (flash : List ℕ) → IsDeviceIn config.now mode a flash → IsCloseVerdict result setup.now (device_in a flash) }
 {
     if !mode.may_close(config.least()) {
         return false;
@@ -29,7 +29,7 @@ impl Asking {
     /// `Asked` if writes are due.
     pub fn closes(&self, setup: &[u8; 8]) -> Result<bool, Refusal>
         ensures told { (block held flash : List ℕ) → IsDevice (lent self.now block held) flash →
-            IfOk result (λ b. TellsClose b setup.now (device_in (lent self.now block held) flash)) }
+            IfOk result (λ b. IsCloseVerdict b setup.now (device_in (lent self.now block held) flash)) }
         ensures idle { OnOk result (self.now.work ≡ None) }
         ensures asked { IfErr result (λ e. (e ≡ Refusal.Asked) × IsSome self.now.work) }
     {

@@ -1,6 +1,6 @@
 //! The piece that is found, and its bytes: in runs, as they lie in memory one after the other, in place, and read back.
 ghost use Rattle.std.specs.Prelude.{◌≡◌, ◌+◌, ◌^◌, ◌<◌, ◌≤◌, ◌++◌, ◌↔◌, ℕ, false, length, replicate, slice_index, slice_range, IsTrue, ◌∷◌, [], take, drop};
-ghost use Rattle.dfu_asks.specs.Jobs.{asked, IsFit, steps_for};
+ghost use Rattle.dfu_asks.specs.Jobs.{asked, PieceBounds, steps_for};
 ghost use Rattle.dfu_asks.specs.Cuts.{step_of, IsCut, source_bytes, run_bytes, IsNextPiece};
 ghost use Rattle.dfu_slots.specs.Layout.{OPEN};
 ghost use Rattle.dfu_asks.specs.declared.pending_writes.PendingWrites.{PendingWrites};
@@ -171,7 +171,7 @@ impl Runs<'_> {
 pub(crate) fn fill(cut: &Cut<'_>, out: &mut [u8; MAX_PROGRAM])
     requires { (sector : ℕ) × IsCut sector cut.now }
     ensures step { asked cut.now.piece out.new ≡ step_of cut.now }
-    ensures fits { (sector : ℕ) → IsCut sector cut.now → IsFit sector cut.now.piece out.new }
+    ensures fits { (sector : ℕ) → IsCut sector cut.now → PieceBounds sector cut.now.piece out.new }
 {
     let runs = runs_of(cut, &[OPEN_GATE]);
     let middle = runs.front.len();

@@ -4,7 +4,7 @@ ghost use Rattle.dfu_device.specs.DeviceView.{DeviceView};
 ghost use Rattle.dfu_device.specs.Rows.{Elapses};
 ghost use Rattle.dfu_asks.specs.Asks.{device_in};
 ghost use Rattle.dfu_asks.specs.Lent.{lent};
-ghost use Rattle.dfu_asks.specs.Refused.{IsKeptOn};
+ghost use Rattle.dfu_asks.specs.Refused.{IsDeviceOn};
 ghost use Rattle.dfu_asks.specs.Times.{due_of, ChangesOnceDue};
 
 use crate::Asking;
@@ -49,11 +49,11 @@ impl Asking {
     /// None if no time changes the device: in every other state.
     pub fn due(&self) -> Option<u32>
         ensures some { IfSome result (λ due. (block held flash : List ℕ) (ms : ℕ) (d' : DeviceView)
-            → IsKeptOn self.now block held flash → Elapses ms (device_in (lent self.now block held) flash) d'
+            → IsDeviceOn self.now block held flash → Elapses ms (device_in (lent self.now block held) flash) d'
             → ChangesOnceDue due ms (device_in (lent self.now block held) flash) d') }
         ensures least { IfSome result (λ due. 0 < due) }
         ensures none { IfNone result ((block held flash : List ℕ) (ms : ℕ) (d' : DeviceView)
-            → IsKeptOn self.now block held flash → Elapses ms (device_in (lent self.now block held) flash) d'
+            → IsDeviceOn self.now block held flash → Elapses ms (device_in (lent self.now block held) flash) d'
             → d' ≡ device_in (lent self.now block held) flash) }
         ensures time { IfSome result (λ due. due ≡ due_of self.now.config self.now.mode self.now.block_len) }
     {

@@ -5,11 +5,11 @@ ghost use Rattle.dfu_slots.specs.Writes.{put_rest};
 ghost use Rattle.dfu_asks.specs.Mapped.{grain_of, mapped, Unseen};
 ghost use Rattle.dfu_asks.specs.Noted.{IsNoted};
 ghost use Rattle.dfu_asks.specs.Lent.{lent, HasRoom, IsSetUpAs};
-ghost use Rattle.dfu_asks.specs.Asks.{is_block, capped, done_mode, failed_mode, IsFinished, IsBrokenOff, NotesAfter, IsAnswered, GivesAnswer, device_of, unseen_in, device_with, IsWorking, writes_in, steps_in};
-ghost use Rattle.dfu_slots.specs.Seen.{SlotsState};
+ghost use Rattle.dfu_asks.specs.Asks.{is_block, capped, done_mode, failed_mode, IsFinished, IsBrokenOff, NotesAfter, IsAnswered, AnswerInBuffer, device_of, unseen_in, device_with, IsWorking, writes_in, steps_in};
+ghost use Rattle.dfu_slots.specs.StoreView.{SlotsState};
 ghost use Rattle.dfu_asks.specs.declared.pending_writes.PendingWrites.{PendingWrites};
 ghost use Rattle.dfu_asks.specs.Carried.{total, carried, IsReached};
-ghost use Rattle.dfu_asks.specs.Calls.{HasEnded, DueComes, HasAtMost};
+ghost use Rattle.dfu_asks.specs.Calls.{CallCompleted, DueOutcome, HasAtMost};
 ghost use Rattle.dfu_asks.specs.Due.{Works};
 ghost use Rattle.dfu_device.specs.declared.answer.Answer.{Answer};
 
@@ -159,7 +159,7 @@ impl Asking {
     /// Answers the GETSTATUS that asked for so many bytes, if one did, with its bytes at the front of a buffer.
     pub(crate) fn answer(&self, asked: Option<u16>, out: &mut [u8]) -> (Answer, usize)
         requires { 6 ≤ length out.old }
-        ensures { GivesAnswer (λ x sent. IsAnswered self.now.config self.now.mode asked x sent) result.0 result.1 out.old out.new }
+        ensures { AnswerInBuffer (λ x sent. IsAnswered self.now.config self.now.mode asked x sent) result.0 result.1 out.old out.new }
     {
         match asked {
             None => self.give(dfu_device::Reply::Ack, 0, out),
@@ -180,12 +180,12 @@ impl Asking {
         ensures outcome { let a = lent self.old block.now held.old in (work : PendingWrites) (len : ℕ) (s : SlotsState) (was : List ℕ) →
             self.old.work ≡ Some work → IsWorking a work len s was →
             flash.now ≡ carried was (writes_in a work) work.done → IsReached (steps_in a work) work.done →
-            DueComes (device_of a s) len s was flash.now out.old (lent self.new block.now held.new) out.new result }
+            DueOutcome (device_of a s) len s was flash.now out.old (lent self.new block.now held.new) out.new result }
         ensures begun { let a = lent self.old block.now held.old in
             let now = lent self.new block.now held.new in
             (work : PendingWrites) (len : ℕ) (s : SlotsState) (x : Answer) (count : ℕ) → self.old.work ≡ Some work →
             IsWorking a work len s flash.now → work.done ≡ 0 → result ≡ Reply.Answered x count →
-            HasEnded flash.now x count out.old out.new now
+            CallCompleted flash.now x count out.old out.new now
             (λ y sent. (u : Unseen) → Works len (device_of a (unseen_in u s)) y sent (device_with u now flash.now)) }
         ensures more { (work : PendingWrites) → self.old.work ≡ Some work →
             (result ≡ Reply.Asks) ↔ (work.done < total (writes_in (lent self.old block.now held.old) work)) }
@@ -218,7 +218,7 @@ impl Asking {
         requires { 6 ≤ length out.old }
         ensures broken { (block held : List ℕ) → IsBrokenOff fault (lent self.old block held) (lent self.new block held) }
         ensures notes { (block held : List ℕ) → NotesAfter self.old.mode flash.now (lent self.old block held) (lent self.new block held) }
-        ensures gives { GivesAnswer (λ x sent. IsAnswered self.old.config self.new.mode asked x sent) result.0 result.1 out.old out.new }
+        ensures gives { AnswerInBuffer (λ x sent. IsAnswered self.old.config self.new.mode asked x sent) result.0 result.1 out.old out.new }
         ensures same { IsSetUpAs self.old self.new }
         ensures block { self.new.block_len ≡ self.old.block_len }
     {

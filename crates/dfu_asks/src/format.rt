@@ -7,10 +7,10 @@ ghost use Rattle.dfu_slots.specs.Changes.{CanFormat, IsFormatFault};
 ghost use Rattle.dfu_asks.specs.Mapped.{grain_of, mapped};
 ghost use Rattle.dfu_asks.specs.Steps.{Step, step_writes};
 ghost use Rattle.dfu_asks.specs.Carried.{total, IsPiece, ErasesWhole};
-ghost use Rattle.dfu_asks.specs.Jobs.{asked, IsFit};
+ghost use Rattle.dfu_asks.specs.Jobs.{asked, PieceBounds};
 ghost use Rattle.dfu_asks.specs.Cuts.{step_of, IsCut};
-ghost use Rattle.dfu_asks.specs.Phases.{grain_within, part_left, steps_left, part_steps, steps_from};
-ghost use Rattle.dfu_asks.specs.Formats.{FormatUnderWay, AsksFormat, FormatComesTo, TookPiece, IsSameFormat};
+ghost use Rattle.dfu_asks.specs.Phases.{grain_within, steps_of_part, remaining_steps, part_steps, steps_from};
+ghost use Rattle.dfu_asks.specs.Formats.{FormatUnderWay, FormatPending, FormatOutcome, FormatPieceReported, IsSameFormat};
 ghost use Rattle.dfu_asks.specs.FormatFurther.{IsFurtherBy, FormatAsksFurther};
 
 use crate::cut::{Cut, cut_at, fill, stands};
@@ -97,7 +97,7 @@ impl Formatting {
         sector: Sector,
         image: &[u8],
     ) -> Result<Formatting, FormatFault>
-        ensures asks { IfOk result (λ f. AsksFormat f image.now flash.now flash.now) }
+        ensures asks { IfOk result (λ f. FormatPending f image.now flash.now flash.now) }
         ensures set { IfOk result (λ f. (f.unit ≡ unit) × (f.sector ≡ sector)) }
         ensures fault { IfErr result (λ e. (e ≢ FormatFault.Failed) × IsFormatFault e (mapped (grain_of unit sector) flash.now) image.now) }
     {
@@ -119,13 +119,13 @@ impl Formatting {
         requires unit { cut.old.stock.unit ≡ self.now.unit }
         requires sector { cut.old.stock.sector ≡ self.now.sector }
         ensures found { IsTrue result →
-            IsPiece (part_left self.now (length flash.now) cut.old.stock.block.now) cut.old.rest (step_of cut.new) }
+            IsPiece (steps_of_part self.now (length flash.now) cut.old.stock.block.now) cut.old.rest (step_of cut.new) }
         ensures is { IsTrue result → IsCut self.now.sector.size cut.new }
         ensures end { IsTrue result → cut.old.rest + cut.new.piece.len ≤ 2 ^ 20 }
         ensures flash { IsTrue result → length flash.now < 2 ^ 32 }
         ensures image { IsTrue result → length cut.old.stock.block.now ≤ 2 ^ 24 }
         ensures none { IsTrue (not result) → length flash.now < 2 ^ 32 → length cut.old.stock.block.now ≤ 2 ^ 24 →
-            total (step_writes (part_left self.now (length flash.now) cut.old.stock.block.now)) ≤ cut.old.rest }
+            total (step_writes (steps_of_part self.now (length flash.now) cut.old.stock.block.now)) ≤ cut.old.rest }
     {
         if flash.len() > 0xffff_ffff || cut.stock.block.len() > MOST_IMAGE {
             return false;
@@ -141,12 +141,12 @@ impl Formatting {
     /// not change.
     /// It is Some if `start` or `took` asked, and the pieces before this one are on the flash.
     pub fn next(&self, flash: &[u8], image: &[u8], out: &mut [u8; MAX_PROGRAM]) -> Option<FlashOp>
-        ensures piece { IfSome result (λ p. IsPiece (steps_left self.now (length flash.now) image.now) self.now.done (asked p out.new)) }
-        ensures most { IfSome result (λ p. IsFit self.now.sector.size p out.new) }
+        ensures piece { IfSome result (λ p. IsPiece (remaining_steps self.now (length flash.now) image.now) self.now.done (asked p out.new)) }
+        ensures most { IfSome result (λ p. PieceBounds self.now.sector.size p out.new) }
         ensures sector { IfSome result (λ p. ErasesWhole self.now.sector.size (asked p out.new)) }
         ensures within { IfSome result (λ p. (p.at + p.len ≤ length flash.now) × (length flash.now < 2 ^ 32)) }
         ensures unchanged { IfNone result (out.new ≡ out.old) }
-        ensures goes { IfNone result ((was : List ℕ) → ¬ AsksFormat self.now image.now was flash.now) }
+        ensures goes { IfNone result ((was : List ℕ) → ¬ FormatPending self.now image.now was flash.now) }
     {
         let mut cut = cut_at(stock_for(self, image), self.done);
         if !self.due(flash, &mut cut) {
@@ -167,14 +167,14 @@ impl Formatting {
     ///
     /// None if no write is due. Nothing changes then.
     pub fn took(&mut self, flash: &[u8], image: &[u8], failed: bool) -> Option<FormatProgress>
-        ensures outcome { IfSome result (λ r. (was before : List ℕ) → AsksFormat self.old image.now was before → (p : Step) →
-            IsPiece (steps_left self.old (length was) image.now) self.old.done p → Torn before p.write.at p.write.bytes flash.now →
-            TookPiece self.old self.new image.now was flash.now p.write failed r) }
+        ensures outcome { IfSome result (λ r. (was before : List ℕ) → FormatPending self.old image.now was before → (p : Step) →
+            IsPiece (remaining_steps self.old (length was) image.now) self.old.done p → Torn before p.write.at p.write.bytes flash.now →
+            FormatPieceReported self.old self.new image.now was flash.now p.write failed r) }
         ensures further { IfSome result (λ r. FormatAsksFurther self.old (length flash.now) image.now r self.new) }
         ensures same { IfSome result (λ r. IsSameFormat self.old self.new) }
         ensures ended { IfSome result (λ r. r ≢ FormatProgress.Asks → self.new.phase ≡ FormatStep.Ended) }
         ensures taken { IfNone result ((was before : List ℕ) → length before ≡ length flash.now
-            → ¬ AsksFormat self.old image.now was before) }
+            → ¬ FormatPending self.old image.now was before) }
         ensures unchanged { IfNone result (self.new ≡ self.old) }
     {
         let mut cut = cut_at(stock_for(self, image), self.done);
@@ -198,9 +198,9 @@ impl Formatting {
         requires flash { size < 2 ^ 32 }
         requires image { length image.now ≤ 2 ^ 24 }
         ensures outcome { (was flash : List ℕ) → length was ≡ size → FormatUnderWay self.old image.now was flash →
-            self.old.done ≤ total (step_writes (part_left self.old (length was) image.now)) →
-            FormatComesTo (grain_within self.old) self.new image.now was flash result }
-        ensures further { result ≡ FormatProgress.Asks → self.old.done ≤ total (step_writes (part_left self.old size image.now)) →
+            self.old.done ≤ total (step_writes (steps_of_part self.old (length was) image.now)) →
+            FormatOutcome (grain_within self.old) self.new image.now was flash result }
+        ensures further { result ≡ FormatProgress.Asks → self.old.done ≤ total (step_writes (steps_of_part self.old size image.now)) →
             IsFurtherBy self.old self.new size image.now 0 }
         ensures same { IsSameFormat self.old self.new }
         ensures ended { result ≢ FormatProgress.Asks → self.new.phase ≡ FormatStep.Ended }
@@ -216,10 +216,10 @@ impl Formatting {
     fn go_on(&mut self, image: &[u8]) -> FormatProgress
         requires { length image.now ≤ 2 ^ 24 }
         ensures outcome { (was flash : List ℕ) → FormatUnderWay self.old image.now was flash →
-            self.old.done ≡ total (step_writes (part_left self.old (length was) image.now)) →
-            FormatComesTo (grain_within self.old) self.new image.now was flash result }
+            self.old.done ≡ total (step_writes (steps_of_part self.old (length was) image.now)) →
+            FormatOutcome (grain_within self.old) self.new image.now was flash result }
         ensures further { (size : ℕ) → result ≡ FormatProgress.Asks →
-            self.old.done ≡ total (step_writes (part_left self.old size image.now)) → IsFurtherBy self.old self.new size image.now 0 }
+            self.old.done ≡ total (step_writes (steps_of_part self.old size image.now)) → IsFurtherBy self.old self.new size image.now 0 }
         ensures same { IsSameFormat self.old self.new }
         ensures ended { result ≢ FormatProgress.Asks → self.new.phase ≡ FormatStep.Ended }
     {

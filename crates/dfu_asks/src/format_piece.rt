@@ -9,7 +9,7 @@ ghost use Rattle.dfu_asks.specs.OpSteps.{steps_at};
 ghost use Rattle.dfu_asks.specs.Carried.{total, IsPiece};
 ghost use Rattle.dfu_asks.specs.Jobs.{grain_for};
 ghost use Rattle.dfu_asks.specs.Cuts.{step_of, IsCut};
-ghost use Rattle.dfu_asks.specs.Phases.{part_left};
+ghost use Rattle.dfu_asks.specs.Phases.{steps_of_part};
 
 use crate::cut::Cut;
 use crate::next_piece::{numbered_piece, sequence_piece};
@@ -74,11 +74,11 @@ pub(crate) fn part_piece(formatting: &Formatting, size: usize, cut: &mut Cut<'_>
     requires unit { cut.old.stock.unit ≡ formatting.now.unit }
     requires sector { cut.old.stock.sector ≡ formatting.now.sector }
     ensures found { IsTrue result →
-        IsPiece (part_left formatting.now size cut.old.stock.block.now) cut.old.rest (step_of cut.new) }
+        IsPiece (steps_of_part formatting.now size cut.old.stock.block.now) cut.old.rest (step_of cut.new) }
     ensures same { cut.new.stock ≡ cut.old.stock }
     ensures is { IsTrue result → IsCut cut.old.stock.sector.size cut.new }
     ensures end { IsTrue result → cut.old.rest + cut.new.piece.len ≤ 2 ^ 20 }
-    ensures none { IsTrue (not result) → total (step_writes (part_left formatting.now size cut.old.stock.block.now)) ≤ cut.old.rest }
+    ensures none { IsTrue (not result) → total (step_writes (steps_of_part formatting.now size cut.old.stock.block.now)) ≤ cut.old.rest }
 {
     match formatting.phase {
         FormatStep::CloseSecond => sequence_piece(

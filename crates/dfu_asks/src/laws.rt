@@ -4,7 +4,7 @@ ghost use Rattle.std.specs.Prelude.{◌≡◌, ◌⊎◌, ◌+◌, ◌≤◌, �
 ghost use Rattle.dfu_slots.specs.Units.{Grain};
 ghost use Rattle.dfu_slots.specs.declared.fault.WriteFault.{WriteFault};
 ghost use Rattle.dfu_slots.specs.Medium.{MediumState, Write, AllWrites, BrokenWrites, Torn, written};
-ghost use Rattle.dfu_slots.specs.Seen.{SlotsState, Commit, writes_of, store_on, room_of, is_shaped};
+ghost use Rattle.dfu_slots.specs.StoreView.{SlotsState, Commit, writes_of, store_on, room_of, is_shaped};
 ghost use Rattle.dfu_slots.specs.Store.{IsStore};
 ghost use Rattle.dfu_device.specs.Parts.{is_put};
 ghost use Rattle.dfu_device.specs.DeviceView.{DeviceView};
@@ -12,15 +12,15 @@ ghost use Rattle.dfu_device.specs.Errors.{IsMediumError};
 ghost use Rattle.dfu_device.specs.Rows.{Cause, Row};
 ghost use Rattle.dfu_device.specs.declared.answer.Answer.{Answer};
 ghost use Rattle.dfu_asks.specs.declared.reply.Reply.TheVariants.{Answered};
-ghost use Rattle.dfu_asks.specs.Lent.{LentAsking};
+ghost use Rattle.dfu_asks.specs.Lent.{LentDevice};
 ghost use Rattle.dfu_asks.specs.Asks.{device_in};
-ghost use Rattle.dfu_asks.specs.Calls.{DeviceCalled, DeviceTook};
+ghost use Rattle.dfu_asks.specs.Calls.{DeviceCalled, DevicePieceReported};
 ghost use Rattle.dfu_asks.specs.Mapped.{mapped};
 ghost use Rattle.dfu_asks.specs.declared.pending_writes.SlotWrite.{SlotWrite};
 ghost use Rattle.dfu_asks.specs.Steps.{Step, step_writes};
 ghost use Rattle.dfu_asks.specs.Jobs.{job_writes, job_steps};
 ghost use Rattle.dfu_asks.specs.Carried.{total, carried, AreWithin, IsPiece};
-ghost use Rattle.dfu_asks.specs.Series.{block_series, block_store, BlockWritten, BlockBroken, CommitDone, CommitBroken};
+ghost use Rattle.dfu_asks.specs.Series.{block_series, block_store, BlockWritten, BlockBroken, CommitCompleted, CommitBroken};
 
 use dfu_device::laws::rows_keep;
 
@@ -55,7 +55,7 @@ pub fn writes_are_the_calls()
         is_shaped s ≡ true → (n ≡ 0) ⊎ (is_put n s ≡ true) → n + length block ≤ room_of s →
         BrokenWrites fault s.medium (block_series s n block) now → BlockBroken fault s n block (store_on now) }
     ensures commit { (s : SlotsState) (n : ℕ) (now : MediumState) → IsStore s → is_shaped s ≡ true → is_put n s ≡ true → n ≤ room_of s →
-        AllWrites s.medium (writes_of s (Commit n)) now → CommitDone s n (store_on now) }
+        AllWrites s.medium (writes_of s (Commit n)) now → CommitCompleted s n (store_on now) }
     ensures commit_broken { (fault : WriteFault) (s : SlotsState) (n : ℕ) (now : MediumState) → IsStore s → is_shaped s ≡ true →
         is_put n s ≡ true → n ≤ room_of s →
         BrokenWrites fault s.medium (writes_of s (Commit n)) now → CommitBroken fault s n (store_on now) }
@@ -65,11 +65,11 @@ pub fn writes_are_the_calls()
 /// that is answered leads to none, since it has made no write; and a piece that was taken leads to one only if it failed, or if other
 /// bytes are there.
 pub fn errors_follow_failures()
-    ensures answered { (a now : LentAsking) (flash out out' : List ℕ) (cause : Cause) (x : Answer) (count : ℕ) →
+    ensures answered { (a now : LentDevice) (flash out out' : List ℕ) (cause : Cause) (x : Answer) (count : ℕ) →
         DeviceCalled a flash out (λ d y sent d'. Row d cause y sent d') now out' (Answered x count) →
         IsMediumError (device_in now flash).stage → IsMediumError (device_in a flash).stage }
-    ensures took { (d : DeviceView) (len : ℕ) (s : SlotsState) (was flash out out' : List ℕ) (p : Write) (failed : Bool) (now : LentAsking)
-        (x : Answer) (count : ℕ) → DeviceTook d len s was p failed flash out now out' (Answered x count) →
+    ensures took { (d : DeviceView) (len : ℕ) (s : SlotsState) (was flash out out' : List ℕ) (p : Write) (failed : Bool) (now : LentDevice)
+        (x : Answer) (count : ℕ) → DevicePieceReported d len s was p failed flash out now out' (Answered x count) →
         IsMediumError (device_in now flash).stage →
         (failed ≡ true) ⊎ ¬ (slice_range flash p.at (p.at + length p.bytes) ≡ p.bytes) }
 {

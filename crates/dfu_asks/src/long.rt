@@ -6,8 +6,8 @@ ghost use Rattle.dfu_asks.specs.AfterLong.{after_long, IsLong};
 ghost use Rattle.dfu_asks.specs.Mapped.{Unseen};
 ghost use Rattle.dfu_asks.specs.Asks.{device_with, IsDevice};
 ghost use Rattle.dfu_asks.specs.InMode.{IsDeviceIn};
-ghost use Rattle.dfu_asks.specs.Lent.{LentAsking, lent, IsSetUpAs};
-ghost use Rattle.dfu_asks.specs.Refused.{Fits};
+ghost use Rattle.dfu_asks.specs.Lent.{LentDevice, lent, IsSetUpAs};
+ghost use Rattle.dfu_asks.specs.Refused.{RoomForBlocks};
 ghost use Rattle.dfu_asks.specs.Verdict.{IsBodyOf};
 
 use crate::{Asking, Refusal};
@@ -38,7 +38,7 @@ fn is_long(setup: &Setup, transfer: u16) -> bool
 /// The mode to which this setup leads a device of this configuration in this mode, if the host sends more bytes with it than a block has,
 /// as `Asking::too_long`; None exactly if it does not.
 pub fn mode_after_long(config: &Config, mode: DeviceState, setup: &[u8; 8]) -> Option<DeviceState>
-    ensures row { IfSome result (λ after. (a : LentAsking) (flash : List ℕ) → IsDeviceIn config.now mode a flash →
+    ensures row { IfSome result (λ after. (a : LentDevice) (flash : List ℕ) → IsDeviceIn config.now mode a flash →
         IsDevice (record a { mode = after }) flash × ((body : List ℕ) → IsBodyOf setup.now body → (u : Unseen) →
         Handles setup.now body (device_with u a flash) Stall [] (device_with u (record a { mode = after }) flash))) }
     ensures long { OnSome result (IsLong config.now setup.now) }
@@ -74,7 +74,7 @@ impl Asking {
         ensures asked { IfErr result (λ e. (e ≡ Refusal.Asked) × IsSome self.old.work) }
         ensures other { IfOk result (λ b. IsTrue (not b) → self.new ≡ self.old) }
         ensures work { OnOk result ((self.old.work ≡ None) × (self.new.work ≡ None)) }
-        ensures fits { (room : ℕ) → OnOk result (Fits self.old room → Fits self.new room) }
+        ensures fits { (room : ℕ) → OnOk result (RoomForBlocks self.old room → RoomForBlocks self.new room) }
         ensures same { IsSetUpAs self.old self.new }
     {
         if self.work.is_some() {

@@ -3,15 +3,15 @@ ghost use Rattle.std.specs.Prelude.{◌≡◌, ◌≢◌, ◌+◌, ◌≤◌, �
 ghost use Rattle.dfu_slots.specs.declared.fault.WriteFault.TheVariants.{Failed, NotVerified};
 ghost use Rattle.dfu_slots.specs.Medium.{Torn};
 ghost use Rattle.dfu_slots.specs.Image.{Active};
-ghost use Rattle.dfu_slots.specs.Seen.{SlotsState};
-ghost use Rattle.dfu_asks.specs.Mapped.{grain_of, mapped, IsInSpare, IsSlotOf, IsHeldBack};
+ghost use Rattle.dfu_slots.specs.StoreView.{SlotsState};
+ghost use Rattle.dfu_asks.specs.Mapped.{grain_of, mapped, IsInSpare, IsSlotOf, IsProtectedRange};
 ghost use Rattle.dfu_asks.specs.Steps.{Step};
 ghost use Rattle.dfu_asks.specs.Carried.{IsPiece, ErasesWhole};
-ghost use Rattle.dfu_asks.specs.Jobs.{asked, IsFit};
+ghost use Rattle.dfu_asks.specs.Jobs.{asked, PieceBounds};
 ghost use Rattle.dfu_asks.specs.Lent.{lent, HasRoom, IsSetUpAs};
 ghost use Rattle.dfu_asks.specs.Asks.{grain_in, steps_in, device_of};
-ghost use Rattle.dfu_asks.specs.Calls.{AsksWrites, DeviceTook, AsksOn, HasAtMost};
-ghost use Rattle.dfu_asks.specs.Refused.{IsLeft, IsNotTaken, IsTaken};
+ghost use Rattle.dfu_asks.specs.Calls.{WritesPending, DevicePieceReported, PieceFollows, HasAtMost};
+ghost use Rattle.dfu_asks.specs.Refused.{HasRemainingWrites, ReportRefusedFor, ReportAccepted};
 ghost use Rattle.dfu_asks.specs.declared.pending_writes.PendingWrites.{PendingWrites};
 
 use crate::cut::{cut_at, fill};
@@ -35,7 +35,7 @@ fn is_spare(flash: &[u8], unit: Unit, sector: Sector, at: u64, len: u64) -> bool
     ensures yes { let m = mapped (grain_of unit sector) flash.now in
         IsTrue result → (image : List ℕ) → Active m image → IsInSpare m at len }
     ensures inside { IsTrue result → at + len ≤ length flash.now }
-    ensures no { IsTrue (not result) → IsHeldBack (mapped (grain_of unit sector) flash.now) at len }
+    ensures no { IsTrue (not result) → IsProtectedRange (mapped (grain_of unit sector) flash.now) at len }
 {
     let half = flash.len() as u64 / 2;
     let slot = slot_start(at, half);
@@ -106,20 +106,20 @@ impl Asking {
     ) -> Option<FlashOp>
         ensures piece { IfSome result (λ p. (w : PendingWrites) → self.now.work ≡ Some w →
             IsPiece (steps_in (lent self.now block.now held.now) w) w.done (asked p out.new)) }
-        ensures most { IfSome result (λ p. IsFit self.now.sector.size p out.new) }
+        ensures most { IfSome result (λ p. PieceBounds self.now.sector.size p out.new) }
         ensures sector { IfSome result (λ p. ErasesWhole self.now.sector.size (asked p out.new)) }
         ensures spare { IfSome result (λ p. (image : List ℕ) →
             Active (mapped (grain_in (lent self.now block.now held.now)) flash.now) image →
             IsInSpare (mapped (grain_in (lent self.now block.now held.now)) flash.now) p.at p.len) }
         ensures inside { IfSome result (λ p. p.at + p.len ≤ length flash.now) }
-        ensures due { IfSome result (λ p. (w : PendingWrites) × IsLeft (lent self.now block.now held.now) w) }
+        ensures due { IfSome result (λ p. (w : PendingWrites) × HasRemainingWrites (lent self.now block.now held.now) w) }
         ensures none { IfNone result ((w : PendingWrites) (p : Step) → self.now.work ≡ Some w →
             IsPiece (steps_in (lent self.now block.now held.now) w) w.done p →
             ErasesWhole self.now.sector.size p →
-            IsHeldBack (mapped (grain_in (lent self.now block.now held.now)) flash.now) p.write.at (length p.write.bytes)) }
+            IsProtectedRange (mapped (grain_in (lent self.now block.now held.now)) flash.now) p.write.at (length p.write.bytes)) }
         ensures unchanged { IfNone result (out.new ≡ out.old) }
         ensures goes { IfNone result ((len : ℕ) (s : SlotsState) (was : List ℕ) →
-            ¬ AsksWrites (lent self.now block.now held.now) len s was flash.now) }
+            ¬ WritesPending (lent self.now block.now held.now) len s was flash.now) }
     {
         let work = self.work?;
         let mut cut = cut_at(self.stock(block, held), work.done);
@@ -156,19 +156,19 @@ impl Asking {
         requires { HasRoom self.old.unit held.old }
         ensures outcome { IfOk result
             (λ r. (len : ℕ) (s : SlotsState) (was before : List ℕ)
-            (asks : AsksWrites (lent self.old block.now held.old) len s was before) (p : Step) →
+            (asks : WritesPending (lent self.old block.now held.old) len s was before) (p : Step) →
             IsPiece (steps_in (lent self.old block.now held.old) asks.work) asks.work.done p →
             Torn before p.write.at p.write.bytes flash.now →
-            DeviceTook (device_of (lent self.old block.now held.old) s) len s was p.write failed flash.now out.old
+            DevicePieceReported (device_of (lent self.old block.now held.old) s) len s was p.write failed flash.now out.old
             (lent self.new block.now held.new) out.new r) }
         ensures on { IfOk result (λ r. (w : PendingWrites) (p : Step) → self.old.work ≡ Some w →
             IsPiece (steps_in (lent self.old block.now held.old) w) w.done p →
-            (r ≡ Reply.Asks) ↔ AsksOn (lent self.old block.now held.old) w p.write failed flash.now) }
+            (r ≡ Reply.Asks) ↔ PieceFollows (lent self.old block.now held.old) w p.write failed flash.now) }
         ensures further { IfOk result (λ r. r ≡ Reply.Asks → (w : PendingWrites) (p : Step) → self.old.work ≡ Some w →
             IsPiece (steps_in (lent self.old block.now held.old) w) w.done p →
             self.new.work ≡ Some (record w { done = w.done + length p.write.bytes })) }
-        ensures refused { IfErr result (λ e. IsNotTaken e (lent self.old block.now held.old) (length out.old)) }
-        ensures taken { OnOk result (IsTaken (lent self.old block.now held.old) (length out.old)) }
+        ensures refused { IfErr result (λ e. ReportRefusedFor e (lent self.old block.now held.old) (length out.old)) }
+        ensures taken { OnOk result (ReportAccepted (lent self.old block.now held.old) (length out.old)) }
         ensures few { IfOk result (λ r. HasAtMost 6 r) }
         ensures same { IsSetUpAs self.old self.new }
         ensures block { self.new.block_len ≡ self.old.block_len }

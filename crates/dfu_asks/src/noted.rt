@@ -3,9 +3,9 @@ ghost use Rattle.std.specs.Prelude.{◌≡◌, ◌≤◌, ◌%◌, ◌↔◌, �
 ghost use Rattle.dfu_slots.specs.Units.{unit_size, in_place};
 ghost use Rattle.dfu_slots.specs.Image.{HasImage};
 ghost use Rattle.dfu_asks.specs.Mapped.{grain_of, mapped};
-ghost use Rattle.dfu_asks.specs.Noted.{IsNoted, NotedStands, IsView};
+ghost use Rattle.dfu_asks.specs.Noted.{IsNoted, NotedIsOnFlash, IsView};
 ghost use Rattle.dfu_asks.specs.Lent.{HasRoom};
-ghost use Rattle.dfu_asks.specs.Refused.{IsKeptOn, Fits};
+ghost use Rattle.dfu_asks.specs.Refused.{IsDeviceOn, RoomForBlocks};
 
 use crate::{Asking, Sector};
 use dfu_device::{PutSoFar, is_filled};
@@ -159,11 +159,11 @@ fn are_same(one: &[u8], other: &[u8; 16]) -> bool
 #[inline(never)]
 pub(crate) fn look(medium: &Mapped<'_>, noted: &Noted) -> Option<View>
     ensures stands { let m = mapped (grain_of medium.now.unit medium.now.sector) medium.now.bytes.now in
-        IfSome result (λ v. NotedStands noted.now m) }
+        IfSome result (λ v. NotedIsOnFlash noted.now m) }
     ensures view { let m = mapped (grain_of medium.now.unit medium.now.sector) medium.now.bytes.now in
         IfSome result (λ v. IsView v noted.now m) }
     ensures none { let m = mapped (grain_of medium.now.unit medium.now.sector) medium.now.bytes.now in
-        IfNone result (¬ NotedStands noted.now m) }
+        IfNone result (¬ NotedIsOnFlash noted.now m) }
 {
     if !is_sized(medium) {
         return None;
@@ -204,8 +204,8 @@ impl Asking {
         requires sector { medium.now.sector ≡ self.now.sector }
         requires view { IsView view.now self.now.noted (mapped (grain_of self.now.unit self.now.sector) medium.now.bytes.now) }
         ensures kept { (block held : List ℕ) → length block ≡ room → HasRoom self.now.unit held →
-            IsKeptOn self.now block held medium.now.bytes.now → IsTrue result }
-        ensures fits { IsTrue result → Fits self.now room }
+            IsDeviceOn self.now block held medium.now.bytes.now → IsTrue result }
+        ensures fits { IsTrue result → RoomForBlocks self.now room }
         ensures end { IsTrue result → self.now.put_end ≤ view.now.room }
         ensures held { IsTrue result → self.now.held_len ≤ self.now.put_end }
     {

@@ -5,7 +5,7 @@ ghost use Rattle.dfu_device.specs.Stage.{InError};
 ghost use Rattle.dfu_device.specs.Table.{objection_code, refuse_stage};
 ghost use Rattle.dfu_asks.specs.Lent.{lent, IsSetUpAs};
 ghost use Rattle.dfu_asks.specs.Asks.{device_in, IsDevice};
-ghost use Rattle.dfu_asks.specs.Refused.{Fits};
+ghost use Rattle.dfu_asks.specs.Refused.{RoomForBlocks};
 
 use crate::closes::mode_closes;
 use crate::{Asking, Refusal};
@@ -25,7 +25,7 @@ impl Asking {
             device_in (lent self.new block held) flash ≡ record before { stage = InError (objection_code objection) }) }
         ensures is { (block held flash : List ℕ) → OnOk result
             (IsDevice (lent self.old block held) flash → IsDevice (lent self.new block held) flash) }
-        ensures fits { (room : ℕ) → OnOk result (Fits self.old room → Fits self.new room) }
+        ensures fits { (room : ℕ) → OnOk result (RoomForBlocks self.old room → RoomForBlocks self.new room) }
         ensures other { IfOk result (λ b. IsTrue (not b) → self.new ≡ self.old) }
         ensures work { OnOk result ((self.old.work ≡ None) × (self.new.work ≡ None)) }
         ensures asked { IfErr result (λ e. (e ≡ Refusal.Asked) × IsSome self.old.work) }
@@ -52,7 +52,7 @@ impl Asking {
             (device_in (lent self.new block held) flash ≡ record before { stage = refuse_stage objection before.stage }) }
         ensures is { (block held flash : List ℕ) → OnOk result
             (IsDevice (lent self.old block held) flash → IsDevice (lent self.new block held) flash) }
-        ensures fits { (room : ℕ) → OnOk result (Fits self.old room → Fits self.new room) }
+        ensures fits { (room : ℕ) → OnOk result (RoomForBlocks self.old room → RoomForBlocks self.new room) }
         ensures work { OnOk result ((self.old.work ≡ None) × (self.new.work ≡ None)) }
         ensures asked { IfErr result (λ e. (e ≡ Refusal.Asked) × IsSome self.old.work) }
         ensures same { IsSetUpAs self.old self.new }

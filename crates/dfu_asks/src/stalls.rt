@@ -4,13 +4,13 @@ ghost use Rattle.dfu_device.specs.Stage.{Profile as TableProfile};
 ghost use Rattle.dfu_device.specs.Table.{plan};
 ghost use Rattle.dfu_device.specs.Rows.{meant};
 ghost use Rattle.dfu_device.specs.Parts.{stage_of};
-ghost use Rattle.dfu_device.specs.Decision.{profile_in, plan_of, HoldsWritten, HasLength};
+ghost use Rattle.dfu_device.specs.Decision.{profile_in, plan_of, HasWrittenBytes, HasLength};
 ghost use Rattle.dfu_slots.specs.Units.{gate_room};
 ghost use Rattle.dfu_asks.specs.Asks.{grain_in, device_in, IsDevice};
 ghost use Rattle.dfu_asks.specs.InMode.{IsDeviceIn};
-ghost use Rattle.dfu_asks.specs.Lent.{LentAsking, lent};
+ghost use Rattle.dfu_asks.specs.Lent.{LentDevice, lent};
 ghost use Rattle.dfu_asks.specs.Mapped.{grain_of};
-ghost use Rattle.dfu_asks.specs.Verdict.{verdict, TellsStall};
+ghost use Rattle.dfu_asks.specs.Verdict.{verdict, IsStallVerdict};
 
 use crate::gates::gate_room;
 use crate::{Asking, Refusal, Sector};
@@ -32,7 +32,7 @@ fn stalls(decision: Decision) -> bool
 
 // Returns whether a device of this profile stalls this request of the class in this mode, whatever body of the right length comes with it.
 fn will_stall(profile: &Profile, mode: DeviceState, request: Request) -> bool
-    ensures { (image spare unwritten body : List ℕ) → HoldsWritten mode spare → HasLength request body
+    ensures { (image spare unwritten body : List ℕ) → HasWrittenBytes mode spare → HasLength request body
         → Some result ≡ verdict (plan (profile_in profile.now) image (stage_of mode spare unwritten) (meant request body)) }
 {
     stalls(decide(profile, mode, request))
@@ -55,8 +55,8 @@ pub fn mode_stalls(
     size: usize,
     setup: &[u8; 8],
 ) -> bool
-    ensures { (a : LentAsking) (flash : List ℕ) → IsDeviceIn config.now mode a flash → grain_in a ≡ grain_of unit sector →
-        length flash ≡ size → TellsStall result setup.now (device_in a flash) }
+    ensures { (a : LentDevice) (flash : List ℕ) → IsDeviceIn config.now mode a flash → grain_in a ≡ grain_of unit sector →
+        length flash ≡ size → IsStallVerdict result setup.now (device_in a flash) }
 {
     let profile = config.profile(room_in(unit, sector, size));
     will_stall(&profile, mode, Setup::decode(setup).request())
@@ -71,7 +71,7 @@ impl Asking {
     /// `Asked` if writes are due.
     pub fn would_stall(&self, size: usize, setup: &[u8; 8]) -> Result<bool, Refusal>
         ensures told { (block held flash : List ℕ) → IsDevice (lent self.now block held) flash → length flash ≡ size →
-            IfOk result (λ b. TellsStall b setup.now (device_in (lent self.now block held) flash)) }
+            IfOk result (λ b. IsStallVerdict b setup.now (device_in (lent self.now block held) flash)) }
         ensures idle { OnOk result (self.now.work ≡ None) }
         ensures asked { IfErr result (λ e. (e ≡ Refusal.Asked) × IsSome self.now.work) }
     {

@@ -1,7 +1,7 @@
 -- A due operation is allowed.
 use Rattle.std.proofs.Common.{◌≡◌, ◌<◌, ◌+◌, ◌%◌, ℕ, List, length, Option, Some, None, sym, subst, arith}
 use Rattle.dfu_boot.specs.declared.install.due.Due.TheVariants.{Refuse, Erase, Program, Start}
-use Rattle.dfu_boot.specs.install.Allowed.{Differs, IsInLastSector, DoesOnlyAllowed}
+use Rattle.dfu_boot.specs.install.Allowed.{Differs, IsInLastSector, DueIsAllowed}
 use Rattle.dfu_boot.specs.install.Area.{AreBlank, start_of}
 use Rattle.dfu_boot.specs.install.Next.{IsNext, MayProgram, look_from}
 use Rattle.dfu_boot.proofs.Nexts.{next_is_inside, next_differs}
@@ -28,7 +28,7 @@ pub may_is_blank : (run : List ℕ) (sector piece : ℕ) (last : Option ℕ) →
 may_is_blank run sector piece None may = absurd may
 may_is_blank run sector piece (Some last) may = may.2
 
-pub does_only_allowed : DoesOnlyAllowed
+pub does_only_allowed : DueIsAllowed
 does_only_allowed image run sector last (Refuse refusal) does = _
 does_only_allowed image run sector last Start (ready, holds) = (holds, ready.some)
 does_only_allowed image run sector last (Erase at) (ready, (d, e)) = (

@@ -1,6 +1,6 @@
 -- A download leaves the confirmed image, and may bring one on trial.
 use Rattle.std.proofs.Common.{◌≡◌, ◌⊎◌, inl, inr, ⊎_elim, ℕ, ◌+◌, ◌≤◌, true, false, List, refl, sym, ◌∙◌, subst, arith}
-use Rattle.dfu_slots.specs.Medium.{MediumState, KeepsOutside}
+use Rattle.dfu_slots.specs.Medium.{MediumState, FrameOutside}
 use Rattle.dfu_slots.specs.Layout.{slot, slot_size, ArePlaces}
 use Rattle.dfu_slots.specs.Image.{gate_of, slot_of, IsNewest, Active, HasImage, IsSized}
 use Rattle.dfu_slots.proofs.Stands.{standing}
@@ -20,7 +20,7 @@ use Rattle.dfu_boot.proofs.Keeping.{mark_kept, image_kept}
 
 module _ (m now : MediumState) (tries : ℕ) (are : AreTries m.grain tries) (s : Settled) (spare : ℕ) (settled : IsSettled m s)
     (confirmed : s.is_confirmed ≡ true) (places : ArePlaces m.bytes s.slot spare)
-    (keeps : KeepsOutside spare (spare + slot_size m.bytes) m.bytes now.bytes) where
+    (keeps : FrameOutside spare (spare + slot_size m.bytes) m.bytes now.bytes) where
   abbrev g : ℕ
   g = gate_of m
 

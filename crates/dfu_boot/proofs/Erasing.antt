@@ -5,7 +5,7 @@ use Rattle.std.proofs.Math.Nat.{suc-mul}
 use Rattle.dfu_boot.specs.install.Allowed.{Differs}
 use Rattle.dfu_boot.specs.install.Area.{AreSame, AreBlank, start_of}
 use Rattle.dfu_boot.specs.install.Next.{IsReady, IsNext, MayProgram, IsEraseOf, look_from}
-use Rattle.dfu_boot.specs.install.Operations.{LeavesOthers}
+use Rattle.dfu_boot.specs.install.Operations.{OutsideUnchanged}
 use Rattle.dfu_boot.proofs.WholeStarts.{whole_in, start_is_whole, start_is_near, start_fits, start_keeps, start_is, starts_apart, part_fits, edge_is_whole, start_of_start}
 use Rattle.dfu_boot.proofs.Allowing.{next_differs_in}
 use Rattle.dfu_boot.proofs.Members.{take_away}
@@ -115,7 +115,7 @@ tidy_is_done image run sector begins at other (Some last) some next is apart (in
 
 -- A sector that is off after an erase of another sector was off before.
 off_was : (image run run' : List ℕ) (sector begins other : ℕ) → begins % sector ≡ 0 → other % sector ≡ 0 → ¬ (other ≡ begins)
-    → LeavesOthers run run' begins (begins + sector) → Differs image run' other (other + sector) → Differs image run other (other + sector)
+    → OutsideUnchanged run run' begins (begins + sector) → Differs image run' other (other + sector) → Differs image run other (other + sector)
 off_was image run run' sector begins other whole whole_other apart leaves off = record {
   at = off.at;
   after = off.after;
@@ -130,7 +130,7 @@ off_was image run run' sector begins other whole whole_other apart leaves off = 
 
 -- A sector that has to be erased after an erase of another one had to be before.
 to_erase_was : (image run run' : List ℕ) (sector begins at other : ℕ) (last : Option ℕ) → IsReady image run sector
-    → IsEraseOf image run sector last begins at → ¬ (other ≡ begins) → LeavesOthers run run' begins (begins + sector)
+    → IsEraseOf image run sector last begins at → ¬ (other ≡ begins) → OutsideUnchanged run run' begins (begins + sector)
     → IsToErase image run' sector (Some begins) other → IsToErase image run sector last other
 to_erase_was image run run' sector begins at other last ready e apart leaves to_erase =
     let whole : begins % sector ≡ 0 = subst (λ (x : ℕ). x % sector ≡ 0) (sym e.is) (start_is_whole sector at) in
@@ -142,7 +142,7 @@ to_erase_was image run run' sector begins at other last ready e apart leaves to_
 
 -- An erase costs one of the sectors, and gives the pieces of one.
 pub erase_costs : (image run run' : List ℕ) (sector k begins at most : ℕ) (last : Option ℕ) → sector ≡ 256 * k → IsReady image run sector
-    → IsEraseOf image run sector last begins at → LeavesOthers run run' begins (begins + sector)
+    → IsEraseOf image run sector last begins at → OutsideUnchanged run run' begins (begins + sector)
     → AreBlank run' begins (begins + sector) → Costs image run sector k last most
     → (least : ℕ) × ((suc least ≤ most) × Costs image run' sector k (Some begins) least)
 erase_costs image run run' sector k begins at most last size ready e leaves blank costs =

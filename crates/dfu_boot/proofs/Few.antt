@@ -4,7 +4,7 @@ use Rattle.dfu_boot.specs.declared.install.due.Due.{Due}
 use Rattle.dfu_boot.specs.declared.install.due.Due.TheVariants.{Refuse, Erase, Program, Start}
 use Rattle.dfu_boot.specs.install.Area.{IsRunArea, AreSame, AreBlank, program_piece}
 use Rattle.dfu_boot.specs.install.Next.{IsProgramOf, IsEraseOf}
-use Rattle.dfu_boot.specs.install.Took.{TookDue}
+use Rattle.dfu_boot.specs.install.OperationReport.{DueReported}
 use Rattle.dfu_boot.specs.install.Working.{CarriesOut, AllWork, FewOperations}
 use Rattle.dfu_boot.proofs.Filling.{piece_has}
 use Rattle.dfu_boot.proofs.Members.{multiples, multiples_count, below_is_in}
@@ -32,14 +32,14 @@ area_stays run run' sector area same = subst (λ (n : ℕ). IsRunArea n sector) 
 -- An erase that worked is noted.
 erase_is_noted : (image run : List ℕ) (sector at : ℕ) (last : Option ℕ) → IsRunArea (length run) sector
     → at + sector ≤ length run → AreBlank run at (at + sector)
-    → TookDue image run sector (Erase at) false last → last ≡ Some at
+    → DueReported image run sector (Erase at) false last → last ≡ Some at
 erase_is_noted image run sector at (Some x) area fits blank took = ap Some (sym took.2.0)
 erase_is_noted image run sector at None area fits blank took = absurd (took refl area at (refl, (fits, blank)))
 
 -- So is a program.
 program_is_noted : (image run : List ℕ) (sector at : ℕ) (last : Option ℕ) → IsRunArea (length run) sector
     → at + 256 ≤ length run → AreSame image run at (at + 256)
-    → TookDue image run sector (Program at) false last → last ≡ Some at
+    → DueReported image run sector (Program at) false last → last ≡ Some at
 program_is_noted image run sector at (Some x) area fits same took = ap Some (sym took.2.0)
 program_is_noted image run sector at None area fits same took = absurd (took refl area at (refl, (fits, same)))
 

@@ -6,8 +6,8 @@ use Rattle.dfu_slots.proofs.Sectors.{gate_most}
 use Rattle.dfu_slots.proofs.Stands.{standing}
 use Rattle.dfu_slots.proofs.Newest.{places_are}
 use Rattle.dfu_boot.specs.trial.Marks.{mark_size, mark_at, is_set, starts, AreTries}
-use Rattle.dfu_boot.specs.trial.Calls.{IsSettled, IsStanding, MediumTakes, MarkIsWithin, image_place}
-use Rattle.dfu_boot.specs.trial.Again.{Fits, IsWholeAt}
+use Rattle.dfu_boot.specs.trial.Calls.{IsSettled, IsStanding, MediumAccepts, MarkIsWithin, image_place}
+use Rattle.dfu_boot.specs.trial.Again.{MatchesMedium, IsWholeAt}
 use Rattle.dfu_boot.specs.trial.Trial.{IsFilled}
 use Rattle.dfu_boot.specs.declared.trial.standing.Settled.{Settled}
 use Rattle.dfu_boot.specs.declared.trial.standing.Trial.{Trial}
@@ -19,7 +19,7 @@ use Rattle.dfu_boot.proofs.Counting.{next_unset}
 use Rattle.dfu_boot.proofs.Slots.{active_filled}
 
 -- A standing of the medium's images fits its slots.
-pub stands_fits : (m : MediumState) (tries : ℕ) (s : Standing) → IsStanding m tries s → Fits m tries s
+pub stands_fits : (m : MediumState) (tries : ℕ) (s : Standing) → IsStanding m tries s → MatchesMedium m tries s
 stands_fits m tries (trials.Settled s) stands =
     let a : Active m stands.has.image = stands.has.active in
     let place : a.at ≡ s.slot =
@@ -40,7 +40,7 @@ pub filled_whole : (m : MediumState) (slot : ℕ) → IsFilled (slot_of m slot) 
 filled_whole m slot full other is =
     let same : slot ≡ other = omega (arith, is) in subst (λ (x : ℕ). IsFilled (slot_of m x)) same full
 
-module _ (m : MediumState) (tries : ℕ) (t : Trial) (are : AreTries m.grain tries) (fits : Fits m tries (trials.OnTrial t)) where
+module _ (m : MediumState) (tries : ℕ) (t : Trial) (are : AreTries m.grain tries) (fits : MatchesMedium m tries (trials.OnTrial t)) where
   -- The mark of the next start.
   module _ (lt : t.starts < tries) where
     next_is : is_set m t.slot (t.starts + 1) ≡ false
@@ -53,15 +53,15 @@ module _ (m : MediumState) (tries : ℕ) (t : Trial) (are : AreTries m.grain tri
 
     -- The medium takes it, and it lies within the medium.
     pub start_taken : (at len : ℕ) → at ≡ mark_at m.grain t.slot (t.starts + 1) → len ≡ mark_size m.grain
-        → MediumTakes m (Mark at len) × MarkIsWithin m (Mark at len)
+        → MediumAccepts m (Mark at len) × MarkIsWithin m (Mark at len)
     start_taken at len at_is len_is =
         let next = mark_at m.grain t.slot (t.starts + 1) in
-        subst (λ (k : ℕ). MediumTakes m (Mark k len) × MarkIsWithin m (Mark k len)) (sym at_is)
-        (subst (λ (n : ℕ). MediumTakes m (Mark next n) × MarkIsWithin m (Mark next n)) (sym len_is) (
+        subst (λ (k : ℕ). MediumAccepts m (Mark k len) × MarkIsWithin m (Mark k len)) (sym at_is)
+        (subst (λ (n : ℕ). MediumAccepts m (Mark next n) × MarkIsWithin m (Mark next n)) (sym len_is) (
           mark_taken m t.slot t.base fits.0 fits.1 tries (t.starts + 1) are (omega (arith, lt)) next_is,
           (start_in, gate_most m.grain.unit),
         ))
 
   -- The erase of the gate's sector.
-  pub erase_taken : MediumTakes m (Close t.slot)
+  pub erase_taken : MediumAccepts m (Close t.slot)
   erase_taken = close_taken m t.slot t.base fits.0 fits.1 are.sectors

@@ -5,8 +5,8 @@ use Rattle.dfu_boot.specs.declared.install.due.Due.{Due}
 use Rattle.dfu_boot.specs.declared.install.due.Due.TheVariants.{Refuse, Erase, Program, Start}
 use Rattle.dfu_boot.specs.install.Area.{AreSame, AreBlank, start_of}
 use Rattle.dfu_boot.specs.install.Allowed.{Differs}
-use Rattle.dfu_boot.specs.install.Next.{Does, MayProgram}
-use Rattle.dfu_boot.specs.install.Took.{TookDue}
+use Rattle.dfu_boot.specs.install.Next.{IsNextDue, MayProgram}
+use Rattle.dfu_boot.specs.install.OperationReport.{DueReported}
 use Rattle.dfu_boot.specs.install.Courses.{Moment, IsStep, InstallCourse, end_of_course, IsFresh, ProgramsOnlyFresh}
 use Rattle.dfu_boot.proofs.WholeStarts.{start_is_whole, start_of_start}
 use Rattle.dfu_boot.proofs.Allowing.{next_differs_in}
@@ -36,7 +36,7 @@ may_is_fresh run sector piece (Some last) since keeps (low, same, blank) = by_or
 
 -- After an erase all of its sector is.
 erase_keeps : (image run run' : List ℕ) (sector at : ℕ) (last last' : Option ℕ) (failed : Bool) (since : List Due)
-    → Does image run sector last (Erase at) → TookDue image run' sector (Erase at) failed last'
+    → IsNextDue image run sector last (Erase at) → DueReported image run' sector (Erase at) failed last'
     → KeepsFresh sector run' last' (Erase at ∷ since)
 erase_keeps image run run' sector at last None failed since does took = _
 erase_keeps image run run' sector at last (Some x) failed since (ready, (d, e)) (worked, area, (is, erased)) =
@@ -57,7 +57,7 @@ not_blank image run run' piece d blank same blank' =
 
 -- After a program what comes after its piece still is.
 program_keeps : (image run run' : List ℕ) (sector at : ℕ) (last last' : Option ℕ) (failed : Bool) (since : List Due)
-    → KeepsFresh sector run last since → Does image run sector last (Program at) → TookDue image run' sector (Program at) failed last'
+    → KeepsFresh sector run last since → IsNextDue image run sector last (Program at) → DueReported image run' sector (Program at) failed last'
     → KeepsFresh sector run' last' (Program at ∷ since)
 program_keeps image run run' sector at last None failed since keeps does took = _
 program_keeps image run run' sector at None (Some x) failed since keeps (ready, (d, e)) took = absurd e.may
@@ -74,7 +74,7 @@ program_keeps image run run' sector at (Some last) (Some x) failed since keeps (
 
 -- An operation that is carried out keeps it.
 carried_keeps : (image run run' : List ℕ) (sector : ℕ) (last last' : Option ℕ) (failed : Bool) (since : List Due) (due : Due)
-    → KeepsFresh sector run last since → Does image run sector last due → TookDue image run' sector due failed last'
+    → KeepsFresh sector run last since → IsNextDue image run sector last due → DueReported image run' sector due failed last'
     → KeepsFresh sector run' last' (due ∷ since)
 carried_keeps image run run' sector last last' failed since (Erase at) keeps does took =
     erase_keeps image run run' sector at last last' failed since does took

@@ -2,7 +2,7 @@
 use Rattle.std.proofs.Common.{◌≡◌, ◌⊎◌, inl, inr, ⊎_elim, ℕ, ◌+◌, ◌*◌, ◌≤◌, ◌<◌, true, false, length, take, slice_index, refl, sym, ◌∙◌, ap, subst, arith}
 use Rattle.std.proofs.Math.Nat.{mul-le-mul_right}
 use Rattle.std.proofs.lemmas.Bool.{cases_eq, cases_lt}
-use Rattle.dfu_slots.specs.Medium.{MediumState, KeepsOutside}
+use Rattle.dfu_slots.specs.Medium.{MediumState, FrameOutside}
 use Rattle.dfu_slots.specs.Layout.{Slot, slot, ArePlaces, OPEN, header_length}
 use Rattle.dfu_slots.specs.Image.{gate_of, slot_of, IsNewest, HasImage}
 use Rattle.dfu_slots.proofs.Torn.{range_outside}
@@ -12,7 +12,7 @@ use Rattle.dfu_slots.proofs.Newest.{places_newest}
 use Rattle.dfu_boot.specs.trial.Marks.{mark_size, mark_at, is_marked, is_set, starts, AreTries}
 use Rattle.dfu_boot.specs.trial.Trial.{IsFilled, IsOnTrial, image_at}
 use Rattle.dfu_boot.specs.trial.Calls.{IsStanding}
-use Rattle.dfu_boot.specs.trial.Laws.{KeepsImages, GoesOn, HasStarted, IsConfirmed, IsBack}
+use Rattle.dfu_boot.specs.trial.Laws.{ImagesSurvive, TrialContinues, HasStarted, IsConfirmed, IsBack}
 use Rattle.dfu_boot.specs.declared.trial.standing.Trial.{Trial}
 use Rattle.dfu_boot.specs.declared.trial.standing.Standing.TheVariants.{OnTrial}
 use Rattle.dfu_boot.proofs.Places.{turned, mark_room}
@@ -21,7 +21,7 @@ use Rattle.dfu_boot.proofs.Closing.{no_trial}
 use Rattle.dfu_boot.proofs.Counting.{at_most, each_set, count_least, count_same}
 
 -- A mark outside a change is as it was.
-pub mark_kept : (m now : MediumState) (p j from to : ℕ) → KeepsOutside from to m.bytes now.bytes
+pub mark_kept : (m now : MediumState) (p j from to : ℕ) → FrameOutside from to m.bytes now.bytes
     → (mark_at m.grain p j + mark_size m.grain ≤ from) ⊎ (to ≤ mark_at m.grain p j)
     → is_set (record now { grain = m.grain }) p j ≡ is_set m p j
 unfolding is_set
@@ -71,11 +71,11 @@ module _ (m now : MediumState) (tries : ℕ) (t : Trial) (are : AreTries m.grain
     confirmed = kept ∙ trial.confirmed;
   }
 
-  images_kept : slot g now.bytes at ≡ slot_of m at → slot g now.bytes base ≡ slot_of m base → KeepsImages m t n
+  images_kept : slot g now.bytes at ≡ slot_of m at → slot g now.bytes base ≡ slot_of m base → ImagesSurvive m t n
   images_kept mine other = record { new = image_kept _ _ mine; base = image_kept _ _ other }
 
   -- A mark was written, or it failed, lied or was cut.
-  module _ (i : ℕ) (le : i ≤ tries) (keeps : KeepsOutside (mark_at m.grain at i) (mark_at m.grain at i + u) m.bytes now.bytes) where
+  module _ (i : ℕ) (le : i ≤ tries) (keeps : FrameOutside (mark_at m.grain at i) (mark_at m.grain at i + u) m.bytes now.bytes) where
     abbrev from : ℕ
     from = mark_at m.grain at i
 
@@ -107,7 +107,7 @@ module _ (m now : MediumState) (tries : ℕ) (t : Trial) (are : AreTries m.grain
         product = grind arith
 
     -- Nothing changed for the trial if the mark of a start is not set afterwards.
-    pub mark_goes_on : is_set n at i ≡ is_set m at i → GoesOn m tries t n
+    pub mark_goes_on : is_set n at i ≡ is_set m at i → TrialContinues m tries t n
     mark_goes_on same = record {
       stands = (
         still keeps.size mine_is other_is (each 0 (omega arith) ∙ trial.unconfirmed) (other_marks 0 (omega arith)),
@@ -163,7 +163,7 @@ module _ (m now : MediumState) (tries : ℕ) (t : Trial) (are : AreTries m.grain
         }
 
   -- The sector of its gate was erased, or the erase failed, lied or was cut.
-  module _ (keeps : KeepsOutside at (at + g) m.bytes now.bytes) where
+  module _ (keeps : FrameOutside at (at + g) m.bytes now.bytes) where
     base_is : slot g now.bytes base ≡ slot_of m base
     base_is = other_left m now at base trial.sized trial.places keeps
 
@@ -177,7 +177,7 @@ module _ (m now : MediumState) (tries : ℕ) (t : Trial) (are : AreTries m.grain
         trial.places)
 
     -- The trial goes on if the gate reads open.
-    pub gate_open : slice_index now.bytes at ≡ OPEN → GoesOn m tries t n
+    pub gate_open : slice_index now.bytes at ≡ OPEN → TrialContinues m tries t n
     gate_open reads =
         let gate : slice_index now.bytes at ≡ slice_index m.bytes at = reads ∙ sym trial.mine.counts.is_open in
         let head = header_outside g at (at + g) m.bytes now.bytes at keeps (inr (omega arith)) in
@@ -210,7 +210,7 @@ module _ (m now : MediumState) (tries : ℕ) (t : Trial) (are : AreTries m.grain
           image = image_kept _ _ base_is;
         }
 
-    pub gate_either : GoesOn m tries t n ⊎ IsBack m t n
+    pub gate_either : TrialContinues m tries t n ⊎ IsBack m t n
     gate_either = elim (cases_eq (slice_index now.bytes at) OPEN) [
       | inl reads ↦ inl (gate_open reads)
       | inr shut ↦ inr (gate_shut shut)

@@ -7,8 +7,8 @@ use Rattle.dfu_slots.specs.Image.{HasImage}
 use Rattle.dfu_boot.specs.trial.Marks.{is_set, AreTries}
 use Rattle.dfu_boot.specs.trial.Trial.{image_at}
 use Rattle.dfu_boot.specs.trial.Calls.{IsStanding, image_place, sets, trial_start, confirm_of, end_of_trial, upload_of, upload_slot}
-use Rattle.dfu_boot.specs.trial.Laws.{Carried, CarriedIf, GoesOn, HasStarted, IsBack, Starts as StartsBy}
-use Rattle.dfu_boot.specs.trial.Lists.{TrialEvent, Starts, Confirms, Ends, Uploads, Downloads, TrialStep, RanBy, ConfirmedBy, GivenBy, IsDownload, NewPlaced, TrialGoes, CameAll, Trust, Alone, Tried, AreTrusted, IsOnOrBack, MayGive, MayBecome, AllTrusted}
+use Rattle.dfu_boot.specs.trial.Laws.{Carried, CarriedIf, TrialContinues, HasStarted, IsBack, Starts as StartsBy}
+use Rattle.dfu_boot.specs.trial.Lists.{TrialEvent, Starts, Confirms, Ends, Uploads, Downloads, TrialStep, RanBy, ConfirmedBy, UploadResult, IsDownload, NewPlaced, TrialStepResult, TrialCourse, Trust, Alone, Tried, AreTrusted, IsOnOrBack, MayUpload, MayBecome, AllTrusted}
 use Rattle.dfu_boot.specs.declared.trial.standing.Settled.{Settled}
 use Rattle.dfu_boot.specs.declared.trial.standing.Trial.{Trial}
 use Rattle.dfu_boot.specs.declared.trial.standing.Standing.{Standing}
@@ -39,7 +39,7 @@ trusted_first m tries s stands confirmed = (s, stands, confirmed, refl)
 
 -- The image that an upload gives is trusted.
 given_trusted : (now : MediumState) (tries : ℕ) (next : Trust) (given : Option (List ℕ)) → AreTrusted now tries next
-    → GivenBy now tries given → MayGive tries given next
+    → UploadResult now tries given → MayUpload tries given next
 given_trusted now tries next None has by = tt
 given_trusted now tries (Alone base) (Some image) has by =
     sym by.image_is ∙ ap (λ (x : Standing). image_at now (upload_slot x))
@@ -88,7 +88,7 @@ module _ (m now : MediumState) (tries : ℕ) (are : AreTries m.grain tries) wher
     alone_ends : CarriedIf m (end_of_trial (standing.Settled s)) now → Next m tries (Alone base) Ends now
     alone_ends carried = (Alone base, refl, stays carried)
 
-    alone_uploads : (given : Option (List ℕ)) → CarriedIf m (upload_of tries (standing.Settled s)) now → GivenBy now tries given
+    alone_uploads : (given : Option (List ℕ)) → CarriedIf m (upload_of tries (standing.Settled s)) now → UploadResult now tries given
         → Next m tries (Alone base) (Uploads given) now
     alone_uploads given carried by =
         (Alone base, (refl, given_trusted now tries (Alone base) given (stays carried) by), stays carried)
@@ -111,7 +111,7 @@ module _ (m now : MediumState) (tries : ℕ) (are : AreTries m.grain tries) wher
     abbrev t : Trial
     t = has.0
 
-    goes_on : GoesOn m tries t now → AreTrusted now tries (Tried base image runs)
+    goes_on : TrialContinues m tries t now → AreTrusted now tries (Tried base image runs)
     goes_on g = (t, g.stands, g.images.base ∙ has.2, g.images.new ∙ has.3, has.4, has.5)
 
     is_back : IsBack m t now → AreTrusted now tries (Alone base)
@@ -207,7 +207,7 @@ module _ (m now : MediumState) (tries : ℕ) (are : AreTries m.grain tries) wher
         (λ back. (Alone base, inr refl, is_back back))
         (ends_or_goes_on m now tries t are has.1 (subst (λ (o : Option Operation). CarriedIf m o now) (asks_by tries t false is) carried))
 
-    tried_uploads : (given : Option (List ℕ)) → CarriedIf m (upload_of tries (standing.OnTrial t)) now → GivenBy now tries given
+    tried_uploads : (given : Option (List ℕ)) → CarriedIf m (upload_of tries (standing.OnTrial t)) now → UploadResult now tries given
         → Next m tries (Tried base image runs) (Uploads given) now
     tried_uploads given carried by =
         let left = uploads_leave (nat_lt t.starts tries) refl carried in
@@ -218,7 +218,7 @@ module _ (m now : MediumState) (tries : ℕ) (are : AreTries m.grain tries) wher
     tried_downloads new d = d.stands.none (record { at = t.slot; base = t.base; trial = has.1.0 })
 
   -- Result of each event.
-  pub steps_on : (trust : Trust) (event : TrialEvent) → AreTrusted m tries trust → TrialGoes tries m event now
+  pub steps_on : (trust : Trust) (event : TrialEvent) → AreTrusted m tries trust → TrialStepResult tries m event now
       → Next m tries trust event now
   steps_on (Alone base) (Starts ran) has came =
       let same = same_standing m tries came.0 (standing.Settled has.0) came.1 has.1 in
@@ -268,7 +268,7 @@ grain_confirmed m now confirm.Confirmed same = ap (λ (x : MediumState). x.grain
 grain_confirmed m now confirm.Elsewhere same = ap (λ (x : MediumState). x.grain) same
 
 -- So does whatever comes.
-grain_stays : (tries : ℕ) (m now : MediumState) (event : TrialEvent) → TrialGoes tries m event now → now.grain ≡ m.grain
+grain_stays : (tries : ℕ) (m now : MediumState) (event : TrialEvent) → TrialStepResult tries m event now → now.grain ≡ m.grain
 grain_stays tries m now (Starts ran) came = grain_if m now (trial_start m.grain tries came.0).operation came.2
 grain_stays tries m now (Confirms at) came = grain_confirmed m now (confirm_of m.grain came.0 at) came.2
 grain_stays tries m now Ends came = grain_if m now (end_of_trial came.0) came.2
@@ -277,7 +277,7 @@ grain_stays tries m now (Downloads image) came = came.grain
 
 -- A list of them.
 pub all_trusted : (m : MediumState) (tries : ℕ) (trust : Trust) (steps : List TrialStep) → AreTries m.grain tries → AreTrusted m tries trust
-    → CameAll tries m steps → AllTrusted tries trust m steps
+    → TrialCourse tries m steps → AllTrusted tries trust m steps
 all_trusted m tries trust [] are has came = has
 all_trusted m tries trust (s ∷ rest) are has came =
     let on = steps_on m s.now tries are trust s.event has came.0 in

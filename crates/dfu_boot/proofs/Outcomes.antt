@@ -2,12 +2,12 @@
 use Rattle.std.proofs.Common.{◌≡◌, ◌⊎◌, inl, inr, ℕ, ◌+◌, ◌<◌, Bool, true, false, Some, refl, sym, ◌∙◌, ap, subst, arith, if◌then◌else◌}
 use Rattle.std.proofs.lemmas.Bool.{cases_Bool}
 use Rattle.dfu_slots.specs.Units.{Grain}
-use Rattle.dfu_slots.specs.Medium.{MediumState, KeepsOutside}
+use Rattle.dfu_slots.specs.Medium.{MediumState, FrameOutside}
 use Rattle.dfu_slots.specs.Image.{capacity_of}
 use Rattle.dfu_slots.proofs.Sectors.{room_sector}
 use Rattle.dfu_boot.specs.trial.Marks.{mark_size, mark_at, is_set, starts, AreTries}
 use Rattle.dfu_boot.specs.trial.Calls.{IsStanding, sets, runs_in}
-use Rattle.dfu_boot.specs.trial.Laws.{GoesOn, HasStarted, IsConfirmed, IsBack, AfterMark, Carried, IsUnmarked}
+use Rattle.dfu_boot.specs.trial.Laws.{TrialContinues, HasStarted, IsConfirmed, IsBack, AfterMark, Carried, IsUnmarked}
 use Rattle.dfu_boot.specs.declared.trial.starting.Starting.{Starting}
 use Rattle.dfu_boot.specs.declared.trial.operation.Operation.TheVariants.{Close}
 use Rattle.dfu_boot.specs.declared.trial.standing.Trial.{Trial}
@@ -18,7 +18,7 @@ use Rattle.dfu_boot.proofs.Keeping.{mark_goes_on, mark_starts, mark_confirms, ga
 -- Image that runs after the mark of a start.
 module _ (m now : MediumState) (tries : ℕ) (t : Trial) (are : AreTries m.grain tries) (stands : IsStanding m tries (OnTrial t))
     (lt : t.starts < tries) (grain : now.grain ≡ m.grain)
-    (keeps : KeepsOutside (mark_at m.grain t.slot (t.starts + 1)) (mark_at m.grain t.slot (t.starts + 1) + mark_size m.grain) m.bytes
+    (keeps : FrameOutside (mark_at m.grain t.slot (t.starts + 1)) (mark_at m.grain t.slot (t.starts + 1) + mark_size m.grain) m.bytes
     now.bytes) where
   abbrev w : MediumState
   w = record now { grain = m.grain }
@@ -44,7 +44,7 @@ module _ (m now : MediumState) (tries : ℕ) (t : Trial) (are : AreTries m.grain
 
   -- The image on trial runs; or its mark does not read set.
   pub mark_told : (HasStarted m tries t now × (runs_in now starting starting.operation ≡ t.slot))
-      ⊎ (GoesOn m tries t now × (runs_in now starting starting.operation ≡ t.base) × IsUnmarked now starting.operation)
+      ⊎ (TrialContinues m tries t now × (runs_in now starting starting.operation ≡ t.base) × IsUnmarked now starting.operation)
   mark_told = elim (cases_Bool (is_set w t.slot next)) [
     | inl set ↦ inl (
       subst (λ (x : Grain). HasStarted m tries t (record now { grain = x })) (sym grain)
@@ -52,7 +52,7 @@ module _ (m now : MediumState) (tries : ℕ) (t : Trial) (are : AreTries m.grain
       runs_so true set,
     )
     | inr unset ↦ inr (
-      subst (λ (x : Grain). GoesOn m tries t (record now { grain = x })) (sym grain)
+      subst (λ (x : Grain). TrialContinues m tries t (record now { grain = x })) (sym grain)
           (mark_goes_on m now tries t are stands next (omega (arith, lt)) keeps (unset ∙ sym was_unset)),
       runs_so false unset,
       unmarked unset,
@@ -67,17 +67,17 @@ module _ (m now : MediumState) (tries : ℕ) (t : Trial) (are : AreTries m.grain
 
 -- Result of a confirmation, and of an end.
 module _ (m now : MediumState) (tries : ℕ) (t : Trial) (are : AreTries m.grain tries) (stands : IsStanding m tries (OnTrial t)) where
-  pub confirms_or_goes_on : Carried m (sets m.grain t.slot 0) now → IsConfirmed m t now ⊎ GoesOn m tries t now
+  pub confirms_or_goes_on : Carried m (sets m.grain t.slot 0) now → IsConfirmed m t now ⊎ TrialContinues m tries t now
   confirms_or_goes_on carried =
-      subst (λ (x : Grain). IsConfirmed m t (record now { grain = x }) ⊎ GoesOn m tries t (record now { grain = x })) (sym carried.1)
+      subst (λ (x : Grain). IsConfirmed m t (record now { grain = x }) ⊎ TrialContinues m tries t (record now { grain = x })) (sym carried.1)
       (elim (cases_Bool (is_set (record now { grain = m.grain }) t.slot 0)) [
         | inl set ↦ inl (mark_confirms m now tries t are stands 0 (omega arith) carried.0 set)
         | inr unset ↦ inr (mark_goes_on m now tries t are stands 0 (omega arith) carried.0 (unset ∙ sym stands.0.unconfirmed))
       ])
 
-  pub ends_or_goes_on : Carried m (Close t.slot) now → GoesOn m tries t now ⊎ IsBack m t now
+  pub ends_or_goes_on : Carried m (Close t.slot) now → TrialContinues m tries t now ⊎ IsBack m t now
   ends_or_goes_on carried =
-      subst (λ (x : Grain). GoesOn m tries t (record now { grain = x }) ⊎ IsBack m t (record now { grain = x })) (sym carried.1)
+      subst (λ (x : Grain). TrialContinues m tries t (record now { grain = x }) ⊎ IsBack m t (record now { grain = x })) (sym carried.1)
       (gate_either m now tries t are stands
-      (subst (λ (k : ℕ). KeepsOutside t.slot (t.slot + k) m.bytes now.bytes)
+      (subst (λ (k : ℕ). FrameOutside t.slot (t.slot + k) m.bytes now.bytes)
       (sym (room_sector m.grain (capacity_of m) stands.0.sized.whole are.sectors)) carried.0))

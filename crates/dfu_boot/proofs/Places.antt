@@ -14,7 +14,7 @@ use Rattle.dfu_slots.proofs.Newest.{place_end}
 use Rattle.dfu_slots.proofs.Edges.{place_edge}
 use Rattle.dfu_slots.proofs.Sectors.{room_sector, room_multiple, multiple_gate}
 use Rattle.dfu_boot.specs.trial.Marks.{mark_size, mark_at, mark_bytes, is_erased, is_set, set_from, starts, AreTries}
-use Rattle.dfu_boot.specs.trial.Calls.{MediumTakes, sets}
+use Rattle.dfu_boot.specs.trial.Calls.{MediumAccepts, sets}
 use Rattle.dfu_boot.specs.declared.trial.operation.Operation.TheVariants.{Close}
 
 -- The places of the two slots, the other way round.
@@ -109,7 +109,7 @@ module _ (m : MediumState) (at other : ℕ) (sized : IsSized m) (places : ArePla
       (omega (arith, p.0, sized.room))) places
 
   -- The medium takes a mark that is not set.
-  pub mark_taken : (tries i : ℕ) → AreTries m.grain tries → i ≤ tries → is_set m at i ≡ false → MediumTakes m (sets m.grain at i)
+  pub mark_taken : (tries i : ℕ) → AreTries m.grain tries → i ≤ tries → is_set m at i ≡ false → MediumAccepts m (sets m.grain at i)
   mark_taken tries i t le unset =
       let place : ℕ = mark_at m.grain at i in
       let size : ℕ = mark_size m.grain in
@@ -121,7 +121,7 @@ module _ (m : MediumState) (at other : ℕ) (sized : IsSized m) (places : ArePla
       )
 
   -- And the erase of the sector of the gate.
-  pub close_taken : 0 < m.grain.sector → MediumTakes m (Close at)
+  pub close_taken : 0 < m.grain.sector → MediumAccepts m (Close at)
   close_taken some = (
     omega (arith, slot_in, sized.room, room_sector m.grain (capacity_of m) sized.whole some),
     place_edge m.grain m.bytes (two_slots m sized) sized.whole other at (turned m.bytes at other places) some,

@@ -4,7 +4,7 @@ use Rattle.std.proofs.lemmas.Bool.{cases_lt}
 use Rattle.dfu_boot.specs.install.Allowed.{Differs}
 use Rattle.dfu_boot.specs.install.Area.{AreSame, AreBlank, start_of}
 use Rattle.dfu_boot.specs.install.Next.{IsReady, IsNext, IsProgramOf, look_from}
-use Rattle.dfu_boot.specs.install.Operations.{LeavesOthers}
+use Rattle.dfu_boot.specs.install.Operations.{OutsideUnchanged}
 use Rattle.dfu_boot.proofs.WholeStarts.{whole_in, start_is_whole, start_is_near, start_keeps, part_fits, edge_is_whole}
 use Rattle.dfu_boot.proofs.Tidy.{IsTidy, IsToErase, HasLeft, Costs}
 
@@ -54,7 +54,7 @@ piece_fits image run sector last piece at p =
 
 -- A tidy sector stays tidy when its next piece is programmed.
 tidy_stays : (image run run' : List ℕ) (sector last piece at : ℕ) → IsInside image run sector last piece at
-    → LeavesOthers run run' piece (piece + 256) → AreSame image run' piece (piece + 256) → IsTidy image run sector last
+    → OutsideUnchanged run run' piece (piece + 256) → AreSame image run' piece (piece + 256) → IsTidy image run sector last
     → IsTidy image run' sector piece
 tidy_stays image run run' sector last piece at p leaves same tidy = record {
   whole = subst (λ (x : ℕ). x % 256 ≡ 0) (sym p.is) (start_is_whole 256 at);
@@ -75,7 +75,7 @@ tidy_stays image run run' sector last piece at p leaves same tidy = record {
         leaves.others i (inr low) ∙ tidy.blank i (omega (arith, low, p.after)) (omega (arith, high, p.sector_is))
 
 -- The byte that differs after the program differed before.
-off_stays : (image run run' : List ℕ) (sector piece begins : ℕ) → LeavesOthers run run' piece (piece + 256)
+off_stays : (image run run' : List ℕ) (sector piece begins : ℕ) → OutsideUnchanged run run' piece (piece + 256)
     → AreSame image run' piece (piece + 256) → Differs image run' begins (begins + sector) → Differs image run begins (begins + sector)
 off_stays image run run' sector piece begins leaves same off = record {
   at = off.at;
@@ -96,7 +96,7 @@ off_stays image run run' sector piece begins leaves same off = record {
 
 -- No sector has to be erased that had not to be before.
 erase_stays : (image run run' : List ℕ) (sector last piece at begins : ℕ) → IsInside image run sector last piece at
-    → LeavesOthers run run' piece (piece + 256) → AreSame image run' piece (piece + 256)
+    → OutsideUnchanged run run' piece (piece + 256) → AreSame image run' piece (piece + 256)
     → IsToErase image run' sector (Some piece) begins → IsToErase image run sector (Some last) begins
 erase_stays image run run' sector last piece at begins p leaves same to_erase = record {
   whole = to_erase.whole;
@@ -119,7 +119,7 @@ left_reaches image run sector last piece at left p (inr (whole, same, most)) =
 
 -- A program costs one of them.
 pub program_costs : (image run run' : List ℕ) (sector k last piece at most : ℕ) → IsInside image run sector last piece at
-    → LeavesOthers run run' piece (piece + 256) → AreSame image run' piece (piece + 256) → Costs image run sector k (Some last) most
+    → OutsideUnchanged run run' piece (piece + 256) → AreSame image run' piece (piece + 256) → Costs image run sector k (Some last) most
     → (least : ℕ) × ((suc least ≤ most) × Costs image run' sector k (Some piece) least)
 program_costs image run run' sector k last piece at most p leaves same costs =
     by_left costs.left (left_reaches image run sector last piece at costs.left p costs.has) costs.enough

@@ -4,7 +4,7 @@ use Rattle.std.specs.Int.{w32, from_le_bytes}
 use Rattle.std.proofs.lemmas.List.{length-take-le}
 use Rattle.std.proofs.lemmas.Nat.{from_le_bytes-to_le_bytes_4}
 use Rattle.dfu_slots.specs.Units.{IsWhole}
-use Rattle.dfu_slots.specs.Medium.{MediumState, KeepsOutside}
+use Rattle.dfu_slots.specs.Medium.{MediumState, FrameOutside}
 use Rattle.dfu_slots.specs.Layout.{Slot, slot, slot_size, ArePlaces, OPEN, header_length, HasHeader}
 use Rattle.dfu_slots.specs.Image.{gate_of, slot_of, IsSized, Counts, IsNewest, Active}
 use Rattle.dfu_slots.proofs.Newest.{places_newest}
@@ -80,7 +80,7 @@ module _ (m now : MediumState) (size : length now.bytes ≡ length m.bytes) wher
   places_left p q there = subst (λ (k : ℕ). ((p ≡ 0) × (q ≡ k)) ⊎ ((p ≡ k) × (q ≡ 0))) (sym half) there
 
 module _ (m now : MediumState) (at base : ℕ) (sized : IsSized m) (places : ArePlaces m.bytes at base)
-    (keeps : KeepsOutside at (at + gate_of m) m.bytes now.bytes) where
+    (keeps : FrameOutside at (at + gate_of m) m.bytes now.bytes) where
   abbrev w : MediumState
   w = record now { grain = m.grain }
 

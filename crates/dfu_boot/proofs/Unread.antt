@@ -7,7 +7,7 @@ use Rattle.dfu_slots.specs.Image.{gate_of, slot_of, IsSized, IsNewest, Active}
 use Rattle.dfu_slots.proofs.Sectors.{gate_wide, unit_wide}
 use Rattle.dfu_slots.proofs.Parts.{gate_outside, header_outside, data_outside, slot_outside}
 use Rattle.dfu_boot.specs.trial.Marks.{mark_size, mark_at, AreTries}
-use Rattle.dfu_boot.specs.trial.Unread.{IsUnread, IsMarked, MarksAreUnread, UnreadKeepsImages}
+use Rattle.dfu_boot.specs.trial.Unread.{IsUnread, IsMarked, MarksAreUnread, UnreadChangesNoImage}
 use Rattle.dfu_boot.proofs.Places.{turned, mark_room}
 use Rattle.dfu_boot.proofs.Slots.{sized_left, places_left}
 
@@ -89,6 +89,6 @@ back m now un = record {
   slots = λ a b there. sym (un.slots a b (places_left now m (sym un.size) a b there));
 }
 
-pub unread_keeps_images : UnreadKeepsImages
+pub unread_keeps_images : UnreadChangesNoImage
 unread_keeps_images m now image un =
     (λ a. active_again now m image (back m now un) a, λ a. active_again m now image un a)

@@ -3,5 +3,5 @@ pub mod Area
 pub mod Courses
 pub mod Next
 pub mod Operations
-pub mod Took
+pub mod OperationReport
 pub mod Working

@@ -1,9 +1,9 @@
 //! A run area beside a slot store is brought to the active image of the store: what is due next.
 ghost use Rattle.std.specs.Prelude.{◌≡◌, ℕ, List};
-ghost use Rattle.dfu_slots.specs.Seen.{image_of};
+ghost use Rattle.dfu_slots.specs.StoreView.{image_of};
 ghost use Rattle.dfu_slots.specs.Image.{Active};
-ghost use Rattle.dfu_boot.specs.install.Area.{Holds};
-ghost use Rattle.dfu_boot.specs.install.Next.{Does};
+ghost use Rattle.dfu_boot.specs.install.Area.{AreaStores};
+ghost use Rattle.dfu_boot.specs.install.Next.{IsNextDue};
 ghost use Rattle.dfu_boot.specs.declared.install.due.Due.TheVariants.{Start};
 
 use crate::install::{Due, next};
@@ -22,8 +22,8 @@ pub fn next_active<M: Medium>(
     last: Option<u32>,
 ) -> Due
     requires mapped { memory.now ≡ slots.now.medium.bytes }
-    ensures does { Does (image_of slots.now) run.now sector last result }
-    ensures started { (image : List ℕ) → Active slots.now.medium image → result ≡ Start → Holds run.now image }
+    ensures does { IsNextDue (image_of slots.now) run.now sector last result }
+    ensures started { (image : List ℕ) → Active slots.now.medium image → result ≡ Start → AreaStores run.now image }
 {
     active_image_is_one();
     let at = slots.image_at() as usize;

@@ -6,7 +6,7 @@ use Rattle.dfu_boot.specs.trial.Again.{AreWhole}
 use Rattle.dfu_boot.specs.declared.trial.standing.Standing.{Standing}
 use Rattle.dfu_boot.specs.declared.trial.standing.Standing.TheVariants as standing
 use Rattle.dfu_boot.proofs.Fitting.{settled_filled, filled_whole}
-use Rattle.dfu_boot_c.specs.trial.Told.{standing_told}
+use Rattle.dfu_boot_c.specs.trial.TrialRecords.{standing_told}
 use Rattle.dfu_boot_c.specs.trial.Again.{base_told}
 
 pub told_whole : (m : MediumState) (tries : ℕ) (s : Standing) → IsStanding m tries s

@@ -3,7 +3,7 @@ use Rattle.std.proofs.Common.{◌≡◌, ⊎_elim, ℕ, ◌+◌, ◌≤◌, Bool
 use Rattle.dfu_slots.specs.Medium.{MediumState}
 use Rattle.dfu_slots.specs.Layout.{slot_size}
 use Rattle.dfu_boot.specs.trial.Calls.{sets, trial_start}
-use Rattle.dfu_boot.specs.trial.Again.{Fits}
+use Rattle.dfu_boot.specs.trial.Again.{MatchesMedium}
 use Rattle.dfu_boot.specs.declared.trial.operation.Operation.TheVariants.{Close}
 use Rattle.dfu_boot.specs.declared.trial.standing.Trial.{Trial}
 use Rattle.dfu_boot.specs.declared.trial.standing.Standing.{Standing}
@@ -16,7 +16,7 @@ abbrev pub AreWithin : MediumState → Starting → Type 0
 AreWithin m s = (s.slot + slot_size m.bytes ≤ length m.bytes) × (s.otherwise + slot_size m.bytes ≤ length m.bytes)
 
 module _ (m : MediumState) (tries : ℕ) where
-  on_trial : (t : Trial) → Fits m tries (standing.OnTrial t) → (b : Bool) → nat_lt t.starts tries ≡ b
+  on_trial : (t : Trial) → MatchesMedium m tries (standing.OnTrial t) → (b : Bool) → nat_lt t.starts tries ≡ b
       → AreWithin m (trial_start m.grain tries (standing.OnTrial t))
   on_trial t fits b is =
       let marks : Starting = record { operation = Some (sets m.grain t.slot (t.starts + 1)); slot = t.slot; otherwise = t.base } in
@@ -31,7 +31,7 @@ module _ (m : MediumState) (tries : ℕ) where
       either true mine base = (mine, base)
       either false mine base = (base, base)
 
-  pub starts_within : (s : Standing) → Fits m tries s → AreWithin m (trial_start m.grain tries s)
+  pub starts_within : (s : Standing) → MatchesMedium m tries s → AreWithin m (trial_start m.grain tries s)
   starts_within (standing.Settled s) fits =
       let within : s.slot + slot_size m.bytes ≤ length m.bytes =
       ⊎_elim (λ p. omega (arith, p, fits.0.even)) (λ p. omega (arith, p, fits.0.even)) fits.1 in

@@ -1,2 +1,2 @@
 pub mod Flash
-pub mod Tells
+pub mod DueRecords

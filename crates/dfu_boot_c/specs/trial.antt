@@ -1,5 +1,5 @@
 pub mod Tries
-pub mod Told
+pub mod TrialRecords
 pub mod Numbers
 pub mod TrialCalls
 pub mod Again

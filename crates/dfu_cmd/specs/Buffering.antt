@@ -13,8 +13,8 @@ pub record HasFront (written : List ℕ) (new : Option (List ℕ)) : Type 0 wher
   pub out : new ≡ Some front
 
 -- The text that was written is out whole, and the end is that of the writing; or a prefix of it is out, and the end is a fault.
-abbrev pub ComesOut : (written new : Option (List ℕ)) (end result : Exit) → Type 0
-ComesOut written new end result =
+abbrev pub FlushResult : (written new : Option (List ℕ)) (end result : Exit) → Type 0
+FlushResult written new end result =
     (Keeps written new × (result ≡ end)) ⊎ (IfSome written (λ w. HasFront w new) × (result ≡ Fault))
 
 -- A script was run into a buffer, as it is run into a writer, and what was written comes out.
@@ -23,4 +23,4 @@ pub record RunsBuffered (file given old new : Option (List ℕ)) (result : Exit)
   pub end : Exit
   pub run : WritesRun file given old written end
   pub printed : WritesPrinted file given old written end
-  pub comes_out : ComesOut written new end result
+  pub comes_out : FlushResult written new end result

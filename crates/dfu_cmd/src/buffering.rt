@@ -2,7 +2,7 @@
 
 ghost use Rattle.std.specs.Prelude.{None};
 ghost use Rattle.std.specs.Io.Buffered.{writer_contents};
-ghost use Rattle.dfu_link.specs.Said.{given_bytes};
+ghost use Rattle.dfu_link.specs.LineContent.{given_bytes};
 ghost use Rattle.dfu_cmd.specs.Buffering.{RunsBuffered};
 
 use crate::running::run_with_fault;

@@ -1,8 +1,8 @@
 //! `dfu run`: what a script prints, and the line for one that stopped.
 
 ghost use Rattle.std.specs.Prelude.{◌≡◌, ℕ, List, Option, None, IfSome};
-ghost use Rattle.dfu_link.specs.Said.{given_bytes};
-ghost use Rattle.dfu_link.specs.Falls.{Ended};
+ghost use Rattle.dfu_link.specs.LineContent.{given_bytes};
+ghost use Rattle.dfu_link.specs.Falls.{ScriptEnding};
 ghost use Rattle.dfu_link.specs.Printed.{HasPrinted};
 ghost use Rattle.dfu_cmd.specs.RunText.{WritesStop, WritesRun, WritesPrinted};
 
@@ -43,7 +43,7 @@ pub(crate) fn end_text<W: Write>(
     answer: Result<(), ScriptFault>,
     writer: &mut W,
 ) -> (Exit, Option<ScriptFault>)
-    ensures run { (file given old : Option (List ℕ)) → IfSome given (λ text. Ended file text old (W.contents writer.old) answer) →
+    ensures run { (file given old : Option (List ℕ)) → IfSome given (λ text. ScriptEnding file text old (W.contents writer.old) answer) →
         WritesRun file given old (W.contents writer.new) result.0 }
     ensures printed { (file given old : Option (List ℕ)) → IfSome given (λ text. HasPrinted file text old (W.contents writer.old) answer) →
         WritesPrinted file given old (W.contents writer.new) result.0 }

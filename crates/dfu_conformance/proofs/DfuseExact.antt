@@ -11,51 +11,51 @@ use Rattle.dfu_conformance.specs.declared.marks.TheConstants.{MARKS}
 use Rattle.dfu_conformance.specs.declared.habits.TheConstants.{HABITS}
 use Rattle.dfu_conformance.specs.declared.drifts.TheConstants.{DRIFTS}
 use Rattle.dfu_conformance.specs.declared.dfuse.rows.TheConstants.{DFUSE}
-use Rattle.dfu_conformance.specs.dfuse.Runs.{dfuse_attributes, dfuse_habits, rests, DfuseAnswer, DfuseRun, DfuseComesTo, GoesByDfuse, MayMoveDfuse}
-use Rattle.dfu_conformance.specs.dfuse.Verdicts.{may_stand}
+use Rattle.dfu_conformance.specs.dfuse.Runs.{dfuse_attributes, dfuse_habits, rests, DfuseAnswer, DfuseRun, DfuseMayBeAt, DfuseRowStep, MayMoveDfuse}
+use Rattle.dfu_conformance.specs.dfuse.Verdicts.{is_candidate}
 use Rattle.dfu_conformance.specs.inside.DfuseStep.{leads_to, led_or_rests, after_event}
 use Rattle.dfu_conformance.proofs.Goings.{goes_by, led_by, moves_by, moved_by}
 
 -- Some row of four lists leads there, or the device stays.
 abbrev led_of : (s m h d : List Row) (at : List Bool) (e : LogEvent) (n : StandardState) → Bool
 led_of s m h d at e n =
-    ((((rests e && may_stand at n) || list_any (leads_to at e n) s) || list_any (leads_to at e n) m) || list_any (leads_to at e n) h)
+    ((((rests e && is_candidate at n) || list_any (leads_to at e n) s) || list_any (leads_to at e n) m) || list_any (leads_to at e n) h)
     || list_any (leads_to at e n) d
 
 -- Answers that four lists of rows allow.
 abbrev MayBy : (s m h d : List Row) → StandardState → LogEvent → StandardState → Type 0
 MayBy s m h d p e n =
-    GoesByDfuse s p e n ⊎ GoesByDfuse m p e n ⊎ GoesByDfuse h p e n
-    ⊎ GoesByDfuse d p e n ⊎ ((n ≡ p) × (rests e ≡ true))
+    DfuseRowStep s p e n ⊎ DfuseRowStep m p e n ⊎ DfuseRowStep h p e n
+    ⊎ DfuseRowStep d p e n ⊎ ((n ≡ p) × (rests e ≡ true))
 
 led_there : (s m h d : List Row) (at : List Bool) (e : LogEvent) (n : StandardState) → led_of s m h d at e n ≡ true
-    → (p : StandardState) × (may_stand at p ≡ true) × MayBy s m h d p e n
+    → (p : StandardState) × (is_candidate at p ≡ true) × MayBy s m h d p e n
 led_there s m h d at e n some = elim (or_cases _ _ some) [
-  | inr by_d ↦ let (p, is, g) = goes_by d (may_stand at) e n dfuse_attributes dfuse_habits by_d in (p, is, inr (inr (inr (inl g))))
+  | inr by_d ↦ let (p, is, g) = goes_by d (is_candidate at) e n dfuse_attributes dfuse_habits by_d in (p, is, inr (inr (inr (inl g))))
   | inl some ↦ elim (or_cases _ _ some) [
-    | inr by_h ↦ let (p, is, g) = goes_by h (may_stand at) e n dfuse_attributes dfuse_habits by_h in (p, is, inr (inr (inl g)))
+    | inr by_h ↦ let (p, is, g) = goes_by h (is_candidate at) e n dfuse_attributes dfuse_habits by_h in (p, is, inr (inr (inl g)))
     | inl some ↦ elim (or_cases _ _ some) [
-      | inr by_m ↦ let (p, is, g) = goes_by m (may_stand at) e n dfuse_attributes dfuse_habits by_m in (p, is, inr (inl g))
+      | inr by_m ↦ let (p, is, g) = goes_by m (is_candidate at) e n dfuse_attributes dfuse_habits by_m in (p, is, inr (inl g))
       | inl some ↦ elim (or_cases _ _ some) [
-        | inr by_s ↦ let (p, is, g) = goes_by s (may_stand at) e n dfuse_attributes dfuse_habits by_s in (p, is, inl g)
+        | inr by_s ↦ let (p, is, g) = goes_by s (is_candidate at) e n dfuse_attributes dfuse_habits by_s in (p, is, inl g)
         | inl stayed ↦ let both = and_parts _ _ stayed in (n, both.1, inr (inr (inr (inr (refl, both.0)))))
       ]
     ]
   ]
 ]
 
-led_back : (s m h d : List Row) (at : List Bool) (e : LogEvent) (p n : StandardState) → may_stand at p ≡ true → MayBy s m h d p e n
+led_back : (s m h d : List Row) (at : List Bool) (e : LogEvent) (p n : StandardState) → is_candidate at p ≡ true → MayBy s m h d p e n
     → led_of s m h d at e n ≡ true
-led_back s m h d at e p n is (inl g) = or_left _ _ (or_left _ _ (or_left _ _ (or_right _ _ (led_by s (may_stand at) e p n dfuse_attributes dfuse_habits is g))))
-led_back s m h d at e p n is (inr (inl g)) = or_left _ _ (or_left _ _ (or_right _ _ (led_by m (may_stand at) e p n dfuse_attributes dfuse_habits is g)))
-led_back s m h d at e p n is (inr (inr (inl g))) = or_left _ _ (or_right _ _ (led_by h (may_stand at) e p n dfuse_attributes dfuse_habits is g))
-led_back s m h d at e p n is (inr (inr (inr (inl g)))) = or_right _ _ (led_by d (may_stand at) e p n dfuse_attributes dfuse_habits is g)
+led_back s m h d at e p n is (inl g) = or_left _ _ (or_left _ _ (or_left _ _ (or_right _ _ (led_by s (is_candidate at) e p n dfuse_attributes dfuse_habits is g))))
+led_back s m h d at e p n is (inr (inl g)) = or_left _ _ (or_left _ _ (or_right _ _ (led_by m (is_candidate at) e p n dfuse_attributes dfuse_habits is g)))
+led_back s m h d at e p n is (inr (inr (inl g))) = or_left _ _ (or_right _ _ (led_by h (is_candidate at) e p n dfuse_attributes dfuse_habits is g))
+led_back s m h d at e p n is (inr (inr (inr (inl g)))) = or_right _ _ (led_by d (is_candidate at) e p n dfuse_attributes dfuse_habits is g)
 led_back s m h d at e p n is (inr (inr (inr (inr (same, stay))))) =
-    or_left _ _ (or_left _ _ (or_left _ _ (or_left _ _ (and_from _ _ stay (ap (λ (q : StandardState). may_stand at q) same ∙ is)))))
+    or_left _ _ (or_left _ _ (or_left _ _ (or_left _ _ (and_from _ _ stay (ap (λ (q : StandardState). is_candidate at q) same ∙ is)))))
 
 -- A device may be at a place after an event exactly if it might be somewhere before, and the event may lead it there.
 answered_exact : (at : List Bool) (e : LogEvent) (n : StandardState)
-    → (led_or_rests at e n ≡ true) ↔ ((p : StandardState) × (may_stand at p ≡ true) × DfuseAnswer p e n)
+    → (led_or_rests at e n ≡ true) ↔ ((p : StandardState) × (is_candidate at p ≡ true) × DfuseAnswer p e n)
 answered_exact at e n = (
   led_there STANDARD MARKS HABITS DFUSE at e n,
   λ x. led_back STANDARD MARKS HABITS DFUSE at e x.0 n x.1 x.2,
@@ -63,7 +63,7 @@ answered_exact at e n = (
 
 -- One event more: a run ends where the device might be, was led, and moved.
 stepped_exact : (at : List Bool) (e : LogEvent) (n : StandardState)
-    → (after_event at e n ≡ true) ↔ ((p q : StandardState) × (may_stand at p ≡ true) × DfuseAnswer p e q × MayMoveDfuse q n)
+    → (after_event at e n ≡ true) ↔ ((p q : StandardState) × (is_candidate at p ≡ true) × DfuseAnswer p e q × MayMoveDfuse q n)
 stepped_exact at e n = (
   λ some.
       let (q, is, moved) = moves_by DRIFTS (led_or_rests at e) n dfuse_attributes dfuse_habits some in
@@ -84,9 +84,9 @@ run_more p (f ∷ events) e n = (
 
 -- The places where a device may be are held, and only they: after one event more they are those of the step.
 pub held_more : (before after : List Bool) (events : List LogEvent) (e : LogEvent)
-    → ((p : StandardState) → (may_stand before p ≡ true) ↔ DfuseComesTo events p)
-    → ((n : StandardState) → may_stand after n ≡ after_event before e n)
-    → (n : StandardState) → (may_stand after n ≡ true) ↔ DfuseComesTo (events ++ e ∷ []) n
+    → ((p : StandardState) → (is_candidate before p ≡ true) ↔ DfuseMayBeAt events p)
+    → ((n : StandardState) → is_candidate after n ≡ after_event before e n)
+    → (n : StandardState) → (is_candidate after n ≡ true) ↔ DfuseMayBeAt (events ++ e ∷ []) n
 held_more before after events e so says n = (
   λ is.
       let (p, q, was, may, moved) = (stepped_exact before e n).0 (sym (says n) ∙ is) in

@@ -5,9 +5,9 @@ use Rattle.dfu_conformance.specs.declared.row.StandardState.{StandardState}
 use Rattle.dfu_conformance.specs.declared.event.LogEvent.{LogEvent}
 use Rattle.dfu_conformance.specs.declared.event.Response.{Response}
 use Rattle.dfu_conformance.specs.declared.event.Response.TheVariants as answer
-use Rattle.dfu_conformance.specs.Fits.{stays_at}
+use Rattle.dfu_conformance.specs.RowMatches.{stays_at}
 use Rattle.dfu_conformance.specs.MayAnswer.{MayAnswer as StandardAnswer, Run as StandardRun}
-use Rattle.dfu_conformance.specs.dfuse.Laws.{StandardIsKept}
+use Rattle.dfu_conformance.specs.dfuse.Laws.{StandardIsIncluded}
 use Rattle.dfu_conformance.specs.dfuse.Runs.{dfuse_attributes, dfuse_habits, tells, DfuseAnswer, DfuseRun}
 
 -- A device that may stay if more requests have to be answered may stay if fewer have to.
@@ -24,6 +24,6 @@ answers from next e (inr (inr (inl by_h))) = inr (inr (inl by_h))
 answers from next e (inr (inr (inr (same, stay)))) = inr (inr (inr (inr (same, still e.is_plain (tells e.asked) e.answer stay))))
 
 -- It is one, event by event.
-pub kept : StandardIsKept
+pub kept : StandardIsIncluded
 kept [] from last run = run
 kept (e ∷ events) from last (here, next, moved, may, rest) = (here, next, moved, answers here next e may, kept events next last rest)

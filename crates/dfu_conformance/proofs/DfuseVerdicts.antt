@@ -9,13 +9,13 @@ use Rattle.dfu_conformance.specs.declared.event.LogEvent.{LogEvent}
 use Rattle.dfu_conformance.specs.declared.verdict.Departure.{Departure}
 use Rattle.dfu_conformance.specs.declared.dfuse.judge.TheConstants.{EVERYWHERE}
 use Rattle.dfu_conformance.specs.dfuse.Runs.{DfuseCanAnswer, DfuseRun}
-use Rattle.dfu_conformance.specs.dfuse.Verdicts.{may_stand, AreHeld, DfuseDeparts, IsFirstDeparture}
+use Rattle.dfu_conformance.specs.dfuse.Verdicts.{is_candidate, PlacesExact, DfuseDeparts, IsFirstDeparture}
 use Rattle.dfu_conformance.specs.inside.DfuseStep.{after_event, is_somewhere}
 use Rattle.dfu_conformance.proofs.DfuseExact.{held_more, run_front}
 use Rattle.dfu_conformance.proofs.DfuseSomewhere.{held_can}
 
 -- A device may be at each place at first.
-everywhere : (p : StandardState) → may_stand EVERYWHERE p ≡ true
+everywhere : (p : StandardState) → is_candidate EVERYWHERE p ≡ true
 everywhere AppIdle = refl
 everywhere AppDetach = refl
 everywhere DfuIdle = refl
@@ -30,7 +30,7 @@ everywhere Error = refl
 everywhere Fresh = refl
 
 -- So the places where it may be after no event are held: all.
-pub held_first : AreHeld EVERYWHERE []
+pub held_first : PlacesExact EVERYWHERE []
 held_first p = (λ x. (p, inl refl), λ x. everywhere p)
 
 -- No event may have been answered so.
@@ -39,16 +39,16 @@ can_nothing = (AppIdle, (AppIdle, inl refl))
 
 -- A step.
 abbrev pub IsStep : List Bool → LogEvent → List Bool → Type 0
-IsStep before e after = (n : StandardState) → may_stand after n ≡ after_event before e n
+IsStep before e after = (n : StandardState) → is_candidate after n ≡ after_event before e n
 
 -- If a device may be somewhere after an event, it may have answered it so.
-pub goes_on : (before after : List Bool) (events : List LogEvent) (e : LogEvent) → IsStep before e after → AreHeld before events
-    → is_somewhere after ≡ true → DfuseCanAnswer (events ++ e ∷ []) × AreHeld after (events ++ e ∷ [])
+pub goes_on : (before after : List Bool) (events : List LogEvent) (e : LogEvent) → IsStep before e after → PlacesExact before events
+    → is_somewhere after ≡ true → DfuseCanAnswer (events ++ e ∷ []) × PlacesExact after (events ++ e ∷ [])
 goes_on before after events e says so left =
     let next = held_more before after events e so says in ((held_can after (events ++ e ∷ []) next).0 left, next)
 
 -- If it may be nowhere, the event is a departure.
-pub departs : (before after : List Bool) (events : List LogEvent) (e : LogEvent) → IsStep before e after → AreHeld before events
+pub departs : (before after : List Bool) (events : List LogEvent) (e : LogEvent) → IsStep before e after → PlacesExact before events
     → is_somewhere after ≡ false → DfuseDeparts events (record { before = before; event = e }) EVERYWHERE
 departs before after events e says so none = record {
   before = so;

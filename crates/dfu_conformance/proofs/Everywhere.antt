@@ -5,9 +5,9 @@ use Rattle.std.proofs.Common.{refl, ap, ◌∙◌, inl, arith}
 use Rattle.std.proofs.lemmas.Bool.{agree_below, agree_below_at, eqb-true}
 use Rattle.dfu_conformance.specs.declared.row.StandardState.{StandardState}
 use Rattle.dfu_conformance.specs.declared.judge.TheConstants.{EVERY}
-use Rattle.dfu_conformance.specs.Fits.{place_number}
-use Rattle.dfu_conformance.specs.Held.{stands}
-use Rattle.dfu_conformance.specs.MayAnswer.{IsHeld, IsHeldPlain}
+use Rattle.dfu_conformance.specs.RowMatches.{place_number}
+use Rattle.dfu_conformance.specs.Candidates.{stands}
+use Rattle.dfu_conformance.specs.MayAnswer.{CandidatesExact, PlainCandidatesExact}
 use Rattle.dfu_conformance.proofs.Places.{number_below}
 use Rattle.dfu_conformance.proofs.Words.{all}
 
@@ -20,9 +20,9 @@ everywhere p a r below within =
     ap (λ (w : ℕ). bit_at w r == 1) (eqb-true _ _ (agree_below_at (is_all (place_number p)) (λ k. true) 16 a at below)) ∙ all r within
 
 -- So at first the devices that may have answered nothing are held: all.
-pub held_first : IsHeld EVERY []
+pub held_first : CandidatesExact EVERY []
 held_first a r p below within = (λ x. (p, inl refl), λ x. everywhere p a r below within)
 
 -- The devices without habits are held so too.
-pub held_first_plain : IsHeldPlain EVERY []
+pub held_first_plain : PlainCandidatesExact EVERY []
 held_first_plain a p below = (λ x. (p, inl refl), λ x. everywhere p a 0 below (omega arith))

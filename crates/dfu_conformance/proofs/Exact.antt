@@ -10,9 +10,9 @@ use Rattle.dfu_conformance.specs.declared.standard.TheConstants.{STANDARD}
 use Rattle.dfu_conformance.specs.declared.marks.TheConstants.{MARKS}
 use Rattle.dfu_conformance.specs.declared.habits.TheConstants.{HABITS}
 use Rattle.dfu_conformance.specs.declared.drifts.TheConstants.{DRIFTS}
-use Rattle.dfu_conformance.specs.Fits.{stays}
-use Rattle.dfu_conformance.specs.Held.{stands}
-use Rattle.dfu_conformance.specs.MayAnswer.{GoesBy, MayAnswer, MayMove, Run, ComesTo}
+use Rattle.dfu_conformance.specs.RowMatches.{stays}
+use Rattle.dfu_conformance.specs.Candidates.{stands}
+use Rattle.dfu_conformance.specs.MayAnswer.{RowStep, MayAnswer, MayMove, Run, MayBeAt}
 use Rattle.dfu_conformance.proofs.Goings.{goes_by, led_by, moves_by, moved_by}
 use Rattle.dfu_conformance.specs.inside.Stepped.{leads, answered, stepped}
 
@@ -24,7 +24,7 @@ led_of s m h held e n a r =
 
 -- Answers that three lists of rows allow.
 abbrev MayBy : (s m h : List Row) (a r : ℕ) → StandardState → LogEvent → StandardState → Type 0
-MayBy s m h a r p e n = GoesBy s a r p e n ⊎ GoesBy m a r p e n ⊎ GoesBy h a r p e n ⊎ ((n ≡ p) × (stays e ≡ true))
+MayBy s m h a r p e n = RowStep s a r p e n ⊎ RowStep m a r p e n ⊎ RowStep h a r p e n ⊎ ((n ≡ p) × (stays e ≡ true))
 
 led_there : (s m h : List Row) (held : List (List ℕ)) (e : LogEvent) (n : StandardState) (a r : ℕ) → led_of s m h held e n a r ≡ true
     → (p : StandardState) × (stands held p a r ≡ true) × MayBy s m h a r p e n
@@ -81,9 +81,9 @@ run_more a r p (f ∷ events) e n = (
 
 -- The devices that may have answered so are held, and only they: after one event more they are those of the step.
 pub held_more : (held after : List (List ℕ)) (events : List LogEvent) (e : LogEvent) (a r : ℕ)
-    → ((p : StandardState) → (stands held p a r ≡ true) ↔ ComesTo a r events p)
+    → ((p : StandardState) → (stands held p a r ≡ true) ↔ MayBeAt a r events p)
     → ((n : StandardState) → stands after n a r ≡ stepped held e n a r)
-    → (n : StandardState) → (stands after n a r ≡ true) ↔ ComesTo a r (events ++ e ∷ []) n
+    → (n : StandardState) → (stands after n a r ≡ true) ↔ MayBeAt a r (events ++ e ∷ []) n
 held_more held after events e a r so says n = (
   λ is.
       let (p, q, was, may, moved) = (stepped_exact held e n a r).0 (sym (says n) ∙ is) in

@@ -15,9 +15,9 @@ use Rattle.dfu_conformance.specs.declared.row.Gives.{Gives}
 use Rattle.dfu_conformance.specs.declared.row.Gives.TheVariants as gives
 use Rattle.dfu_conformance.specs.declared.event.LogEvent.{LogEvent}
 use Rattle.dfu_conformance.specs.declared.drifts.TheConstants.{DRIFTS}
-use Rattle.dfu_conformance.specs.Fits.{place_number, asked_number, asks, row_shows}
-use Rattle.dfu_conformance.specs.Held.{meets, reading_bit}
-use Rattle.dfu_conformance.specs.MayAnswer.{GoesBy, MovesBy, MayMove, Run}
+use Rattle.dfu_conformance.specs.RowMatches.{place_number, request_number, asks, answer_matches}
+use Rattle.dfu_conformance.specs.Candidates.{meets, reading_bit}
+use Rattle.dfu_conformance.specs.MayAnswer.{RowStep, MovesBy, MayMove, Run}
 use Rattle.dfu_conformance.proofs.Places.{same_place}
 
 -- Answer that a row gives, by number.
@@ -67,7 +67,7 @@ when_back w = refl
 -- The row has these fields.
 abbrev pub is_row : StandardState → EventKind → When → Gives → StandardState → Row → Bool
 is_row from asked when g next row =
-    (place_number row.from == place_number from) && ((asked_number row.asked == asked_number asked)
+    (place_number row.from == place_number from) && ((request_number row.asked == request_number asked)
     && ((when_number row.when == when_number when) && ((gives_number row.gives == gives_number g)
     && (place_number row.next == place_number next))))
 
@@ -75,7 +75,7 @@ is_row from asked when g next row =
 pub by_row : (rows : List Row) (from : StandardState) (asked : EventKind) (when : When) (g : Gives) (next : StandardState) (a r : ℕ)
     (e : LogEvent)
     → list_any (is_row from asked when g next) rows ≡ true → meets when a r ≡ true → asks asked e ≡ true
-    → row_shows g from next e.length e.answer ≡ true → GoesBy rows a r from e next
+    → answer_matches g from next e.length e.answer ≡ true → RowStep rows a r from e next
 by_row rows from asked when g next a r e some of_it is_asked is_shown =
     let (k, row, in', is, fields) = Any-from_list_any (is_row from asked when g next) rows some in
     let f = and_parts _ _ fields in
@@ -92,8 +92,8 @@ by_row rows from asked when g next a r e some of_it is_asked is_shown =
       begins = same_from;
       ends = same_next;
       speaks = and_from _ _
-          (ap (λ (x : ℕ). (x == asked_number e.asked) || (not e.is_plain && (x == 8))) (eqb-true _ _ q.0) ∙ is_asked)
-          ((λ i. row_shows (same_gives i) (same_from i) (same_next i) e.length e.answer) ∙ is_shown);
+          (ap (λ (x : ℕ). (x == request_number e.asked) || (not e.is_plain && (x == 8))) (eqb-true _ _ q.0) ∙ is_asked)
+          ((λ i. answer_matches (same_gives i) (same_from i) (same_next i) e.length e.answer) ∙ is_shown);
       of_it = ap (λ (x : When). meets x a r) same_when ∙ of_it;
     }
 

@@ -8,9 +8,9 @@ use Rattle.dfu_conformance.specs.declared.row.StandardState.{StandardState}
 use Rattle.dfu_conformance.specs.declared.row.Row.{Row}
 use Rattle.dfu_conformance.specs.declared.row.Drift.{Drift}
 use Rattle.dfu_conformance.specs.declared.event.LogEvent.{LogEvent}
-use Rattle.dfu_conformance.specs.Fits.{place_number, fits}
-use Rattle.dfu_conformance.specs.Held.{meets}
-use Rattle.dfu_conformance.specs.MayAnswer.{GoesBy, MovesBy}
+use Rattle.dfu_conformance.specs.RowMatches.{place_number, fits}
+use Rattle.dfu_conformance.specs.Candidates.{meets}
+use Rattle.dfu_conformance.specs.MayAnswer.{RowStep, MovesBy}
 use Rattle.dfu_conformance.proofs.Places.{same_place}
 
 -- The row leads a device to this place, from where it may be.
@@ -20,7 +20,7 @@ leads_from held e n a r row = (place_number row.next == place_number n) && (fits
 -- A device goes by a row that leads there.
 pub goes_by : (rows : List Row) (held : StandardState → Bool) (e : LogEvent) (n : StandardState) (a r : ℕ)
     → list_any (leads_from held e n a r) rows ≡ true
-    → (p : StandardState) × (held p ≡ true) × GoesBy rows a r p e n
+    → (p : StandardState) × (held p ≡ true) × RowStep rows a r p e n
 goes_by rows held e n a r some =
     let (k, row, in', is, led) = Any-from_list_any (leads_from held e n a r) rows some in
     let there = and_parts _ _ led in
@@ -40,7 +40,7 @@ goes_by rows held e n a r some =
 
 -- If a device goes by a row, the row leads there.
 pub led_by : (rows : List Row) (held : StandardState → Bool) (e : LogEvent) (p n : StandardState) (a r : ℕ) → held p ≡ true
-    → GoesBy rows a r p e n
+    → RowStep rows a r p e n
     → list_any (leads_from held e n a r) rows ≡ true
 led_by rows held e p n a r is g =
     list_any-from_Any (leads_from held e n a r) rows (

@@ -4,7 +4,7 @@ use Rattle.std.specs.Int.{bit_at}
 use Rattle.std.proofs.Common.{refl, ap, ◌∙◌, arith, inl, inr, get_or-set_same, get_or-set_other}
 use Rattle.std.proofs.lemmas.Bool.{cases_eq}
 use Rattle.std.proofs.lemmas.Nat.Bits.{bit_at_and, bit_at_or, bit_at-lt}
-use Rattle.dfu_conformance.specs.Held.{word_has_bit}
+use Rattle.dfu_conformance.specs.Candidates.{word_has_bit}
 
 -- The greater of a bit and the smaller of two is 1 if the first is, or both others are.
 bits_join : (p q s : ℕ) → p < 2 → q < 2 → s < 2 → (max p (min q s) == 1) ≡ ((p == 1) || ((q == 1) && (s == 1)))

@@ -1,5 +1,5 @@
-pub mod Fits
-pub mod Held
+pub mod RowMatches
+pub mod Candidates
 pub mod Laws
 pub mod Line
 pub mod MayAnswer

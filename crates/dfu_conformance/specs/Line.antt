@@ -5,7 +5,7 @@ use Rattle.std.specs.Str.{bytes_eq}
 use Rattle.dfu_wire.specs.declared.setups.Setup.{Setup}
 use Rattle.dfu_wire.specs.declared.requests.Request.{Request}
 use Rattle.dfu_wire.specs.declared.requests.Request.TheVariants as request
-use Rattle.dfu_wire.specs.Request.{Asks}
+use Rattle.dfu_wire.specs.Request.{SetupRequest}
 use Rattle.dfu_conformance.specs.declared.event.Response.{Response}
 use Rattle.dfu_conformance.specs.declared.event.Response.TheVariants as answer
 use Rattle.dfu_conformance.specs.declared.log.Line.{Line}
@@ -94,17 +94,17 @@ IsRead request.NotDfu s body a read = read ≡ Some Elsewhere
 IsRead q s body a read = read ≡ Some (Came (event_of s q body a))
 
 -- A request by its fields: nothing is read if one of them can't be read; the interface is wIndex.
-abbrev pub SaysRequest : (interface : ℕ) → Option Setup → Option ℕ → Option Response → Option Line → Type 0
-SaysRequest interface (Some s) (Some body) (Some a) read =
+abbrev pub RequestLine : (interface : ℕ) → Option Setup → Option ℕ → Option Response → Option Line → Type 0
+RequestLine interface (Some s) (Some body) (Some a) read =
     MatchBool (s.index == interface)
-    ((q : Request) → Asks (record s { index = 0 }) q → IsRead q (record s { index = 0 }) body a read)
+    ((q : Request) → SetupRequest (record s { index = 0 }) q → IsRead q (record s { index = 0 }) body a read)
     (read ≡ Some Elsewhere)
-SaysRequest interface s body a read = read ≡ None
+RequestLine interface s body a read = read ≡ None
 
 -- A line is read as this, for this interface; nothing if it is not a line of a log.
-abbrev pub LineSays : (interface : ℕ) → List ℕ → Option Line → Type 0
-LineSays interface text read =
+abbrev pub LineMeaning : (interface : ℕ) → List ℕ → Option Line → Type 0
+LineMeaning interface text read =
     MatchBool (is_blank text) (read ≡ Some Blank)
     (MatchBool (bytes_eq text (codes "reset")) (read ≡ Some (Came reset))
     (MatchBool (bytes_eq text (codes "power")) (read ≡ Some (Came power))
-    (SaysRequest interface (setup_in (field_of text)) (body_in (field_of (rest_of text))) (answer_in (rest_of (rest_of text))) read)))
+    (RequestLine interface (setup_in (field_of text)) (body_in (field_of (rest_of text))) (answer_in (rest_of (rest_of text))) read)))

@@ -9,11 +9,11 @@ use Rattle.dfu_conformance.specs.declared.standard.TheConstants.{STANDARD}
 use Rattle.dfu_conformance.specs.declared.marks.TheConstants.{MARKS}
 use Rattle.dfu_conformance.specs.declared.habits.TheConstants.{HABITS}
 use Rattle.dfu_conformance.specs.declared.drifts.TheConstants.{DRIFTS}
-use Rattle.dfu_conformance.specs.Fits.{fits, stays}
-use Rattle.dfu_conformance.specs.Held.{meets, stands}
+use Rattle.dfu_conformance.specs.RowMatches.{fits, stays}
+use Rattle.dfu_conformance.specs.Candidates.{meets, stands}
 
 -- A device of these bmAttributes with this set of readings goes by one of these rows: an event leads it from one place to another.
-pub record GoesBy (rows : List Row) (attributes readings : ℕ) (from : StandardState) (e : LogEvent) (next : StandardState) : Type 0 where
+pub record RowStep (rows : List Row) (attributes readings : ℕ) (from : StandardState) (e : LogEvent) (next : StandardState) : Type 0 where
   pub row : Row
   pub listed : Contains rows row
   pub begins : row.from ≡ from
@@ -25,7 +25,7 @@ pub record GoesBy (rows : List Row) (attributes readings : ℕ) (from : Standard
 -- 3 has it and was stalled.
 abbrev pub MayAnswer : (attributes readings : ℕ) → StandardState → LogEvent → StandardState → Type 0
 MayAnswer a r from e next =
-    GoesBy STANDARD a r from e next ⊎ GoesBy MARKS a r from e next ⊎ GoesBy HABITS a r from e next ⊎ ((next ≡ from) × (stays e ≡ true))
+    RowStep STANDARD a r from e next ⊎ RowStep MARKS a r from e next ⊎ RowStep HABITS a r from e next ⊎ ((next ≡ from) × (stays e ≡ true))
 
 -- A device moves by itself, by one of these rows.
 pub record MovesBy (moves : List Drift) (attributes readings : ℕ) (from next : StandardState) : Type 0 where
@@ -46,17 +46,17 @@ Run a r from (e ∷ events) last =
     (here : StandardState) × (next : StandardState) × MayMove a r from here × MayAnswer a r here e next × Run a r next events last
 
 -- A device that began anywhere may be at this place after these events.
-abbrev pub ComesTo : (attributes readings : ℕ) → List LogEvent → StandardState → Type 0
-ComesTo a r events last = (from : StandardState) × Run a r from events last
+abbrev pub MayBeAt : (attributes readings : ℕ) → List LogEvent → StandardState → Type 0
+MayBeAt a r events last = (from : StandardState) × Run a r from events last
 
 -- Some device with this set of readings, with any bmAttributes, may have answered so.
 abbrev pub CanAnswer : (readings : ℕ) → List LogEvent → Type 0
-CanAnswer r events = (a : ℕ) × (a < 16) × (last : StandardState) × ComesTo a r events last
+CanAnswer r events = (a : ℕ) × (a < 16) × (last : StandardState) × MayBeAt a r events last
 
 -- The devices that may have answered so are held, and only they, each at the places where it may be.
-abbrev pub IsHeld : List (List ℕ) → List LogEvent → Type 0
-IsHeld held events = (a r : ℕ) (p : StandardState) → a < 16 → r < 64 → (stands held p a r ≡ true) ↔ ComesTo a r events p
+abbrev pub CandidatesExact : List (List ℕ) → List LogEvent → Type 0
+CandidatesExact held events = (a r : ℕ) (p : StandardState) → a < 16 → r < 64 → (stands held p a r ≡ true) ↔ MayBeAt a r events p
 
 -- Places of the devices that have no habit.
-abbrev pub IsHeldPlain : List (List ℕ) → List LogEvent → Type 0
-IsHeldPlain held events = (a : ℕ) (p : StandardState) → a < 16 → (stands held p a 0 ≡ true) ↔ ComesTo a 0 events p
+abbrev pub PlainCandidatesExact : List (List ℕ) → List LogEvent → Type 0
+PlainCandidatesExact held events = (a : ℕ) (p : StandardState) → a < 16 → (stands held p a 0 ≡ true) ↔ MayBeAt a 0 events p

@@ -10,16 +10,16 @@ use Rattle.dfu_conformance.specs.declared.event.Response.{Response}
 use Rattle.dfu_conformance.specs.declared.event.Response.TheVariants as answer
 
 -- A request as the table has it: a DNLOAD of no bytes is another one.
-abbrev pub asked_by : Request → EventKind
-asked_by (request.Detach timeout) = Detach
-asked_by (request.Dnload block len) = if len == 0 then Close else Block
-asked_by (request.Upload block len) = Upload
-asked_by (request.GetStatus len) = GetStatus
-asked_by request.ClrStatus = ClrStatus
-asked_by (request.GetState len) = GetState
-asked_by request.Abort = Abort
-asked_by request.OtherClass = Other
-asked_by request.NotDfu = Other
+abbrev pub kind_of_request : Request → EventKind
+kind_of_request (request.Detach timeout) = Detach
+kind_of_request (request.Dnload block len) = if len == 0 then Close else Block
+kind_of_request (request.Upload block len) = Upload
+kind_of_request (request.GetStatus len) = GetStatus
+kind_of_request request.ClrStatus = ClrStatus
+kind_of_request (request.GetState len) = GetState
+kind_of_request request.Abort = Abort
+kind_of_request request.OtherClass = Other
+kind_of_request request.NotDfu = Other
 
 -- The request has the wValue and the wLength of section 3, if it is one of the seven.
 abbrev pub has_its_numbers : Request → (value : ℕ) → Bool
@@ -36,7 +36,7 @@ is_plain s q body = (body == (if s.kind == 0x21 then s.length else 0)) && has_it
 
 -- Event of a setup that asks for this, with a body of this many bytes, and the answer that was seen.
 abbrev pub event_of : Setup → Request → (body : ℕ) → Response → LogEvent
-event_of s q body a = record { asked = asked_by q; is_plain = is_plain s q body; length = s.length; answer = a }
+event_of s q body a = record { asked = kind_of_request q; is_plain = is_plain s q body; length = s.length; answer = a }
 
 -- A reset of the bus came.
 abbrev pub reset : LogEvent

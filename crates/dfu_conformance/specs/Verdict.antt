@@ -5,8 +5,8 @@ use Rattle.dfu_conformance.specs.declared.event.LogEvent.{LogEvent}
 use Rattle.dfu_conformance.specs.declared.verdict.Verdict.{Verdict}
 use Rattle.dfu_conformance.specs.declared.verdict.Verdict.TheVariants.{Kept, KeptBy, NotKept}
 use Rattle.dfu_conformance.specs.declared.verdict.Departure.{Departure}
-use Rattle.dfu_conformance.specs.Fits.{place_number}
-use Rattle.dfu_conformance.specs.MayAnswer.{ComesTo, CanAnswer, IsHeldPlain}
+use Rattle.dfu_conformance.specs.RowMatches.{place_number}
+use Rattle.dfu_conformance.specs.MayAnswer.{MayBeAt, CanAnswer, PlainCandidatesExact}
 
 -- With this set of readings a device may have answered so; no other set has fewer readings, and of those with as many this one has the
 -- least
@@ -31,11 +31,11 @@ HasBits verdict = ⊤
 -- These are the places where a device with this set of readings may be after these events, with any bmAttributes.
 abbrev pub ArePlacesAfter : (readings : ℕ) → List LogEvent → List Bool → Type 0
 ArePlacesAfter r events at =
-    (p : StandardState) → (slice_index_or at (place_number p) false ≡ true) ↔ ((a : ℕ) × (a < 16) × ComesTo a r events p)
+    (p : StandardState) → (slice_index_or at (place_number p) false ≡ true) ↔ ((a : ℕ) × (a < 16) × MayBeAt a r events p)
 
 -- After these events another one is a departure: a device without habits might be at these places, and after it none may be anywhere; from
 -- then on it may be anywhere again.
 pub record Departs (events : List LogEvent) (d : Departure) (since : List (List ℕ)) : Type 0 where
   pub before : ArePlacesAfter 0 events d.before
   pub none : CanAnswer 0 (events ++ d.event ∷ []) → ⊥
-  pub anew : IsHeldPlain since []
+  pub anew : PlainCandidatesExact since []

@@ -1,8 +1,8 @@
 //! Events that come to a device, and the answers that are seen.
 
 ghost use Rattle.std.specs.Prelude.{◌≡◌, ◌↔◌, IfSome, IsNone};
-ghost use Rattle.dfu_conformance.specs.Fits.{fits, stays, asks, row_shows, has_code, number_of_state};
-ghost use Rattle.dfu_conformance.specs.Setups.{asked_by, has_its_numbers, is_plain};
+ghost use Rattle.dfu_conformance.specs.RowMatches.{fits, stays, asks, answer_matches, has_code, number_of_state};
+ghost use Rattle.dfu_conformance.specs.Setups.{kind_of_request, has_its_numbers, is_plain};
 
 use crate::{EventKind, Gives, Row, StandardState};
 use dfu_wire::{Request, Setup};
@@ -39,15 +39,15 @@ pub struct LogEvent {
 }
 
 impl LogEvent {
-    ghost use Rattle.dfu_wire.specs.Request.{Asks};
+    ghost use Rattle.dfu_wire.specs.Request.{SetupRequest};
     ghost use Rattle.dfu_wire.specs.declared.requests.Request.{Request};
     ghost use Rattle.dfu_conformance.specs.Setups.{event_of};
 
     /// A request by its setup, how many bytes of a body went with it, and its answer. `None` if it is no request of the class for
     /// interface 0.
     pub fn exchange(setup: &Setup, body: usize, answer: Response) -> Option<LogEvent>
-        ensures some { IfSome result (λ e. (q : Request) → Asks setup.now q → e ≡ event_of setup.now q body answer) }
-        ensures none { IsNone result ↔ Asks setup.now Request.NotDfu }
+        ensures some { IfSome result (λ e. (q : Request) → SetupRequest setup.now q → e ≡ event_of setup.now q body answer) }
+        ensures none { IsNone result ↔ SetupRequest setup.now Request.NotDfu }
     {
         let request = setup.request();
         match request {
@@ -64,7 +64,7 @@ impl LogEvent {
 
 /// A request as the table has it.
 fn asked_for(request: &Request) -> EventKind
-    ensures { result ≡ asked_by request.now }
+    ensures { result ≡ kind_of_request request.now }
 {
     match *request {
         Request::Detach { .. } => EventKind::Detach,
@@ -123,7 +123,7 @@ pub(crate) fn is_asked(asked: EventKind, event: &LogEvent) -> bool
 
 /// Returns whether the answer that was seen is what a row gives.
 fn is_shown(row: &Row, event: &LogEvent) -> bool
-    ensures { result ≡ row_shows row.now.gives row.now.from row.now.next event.now.length event.now.answer }
+    ensures { result ≡ answer_matches row.now.gives row.now.from row.now.next event.now.length event.now.answer }
 {
     let length = event.length as u32;
     match event.answer {

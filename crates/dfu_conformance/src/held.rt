@@ -3,9 +3,9 @@
 ghost use Rattle.std.specs.Prelude.{◌≡◌, ◌<◌, ◌≤◌, ℕ, ◌||◌, ◌&&◌, slice_index, length, ◌==◌, List, [], false, true, slice_index_or};
 ghost use Rattle.std.specs.Int.{bit_at};
 ghost use Rattle.std.specs.List.{list_any};
-ghost use Rattle.dfu_conformance.specs.Held.{meets, word_has_bit, reading_bit, stands};
-ghost use Rattle.dfu_conformance.specs.inside.Stepped.{Covers, leads, drifts, stepped, some_held, anywhere, better_of, least_below};
-ghost use Rattle.dfu_conformance.specs.Fits.{place_number, stays};
+ghost use Rattle.dfu_conformance.specs.Candidates.{meets, word_has_bit, reading_bit, stands};
+ghost use Rattle.dfu_conformance.specs.inside.Stepped.{Covers, leads, drifts, stepped, has_candidate, anywhere, better_of, least_below};
+ghost use Rattle.dfu_conformance.specs.RowMatches.{place_number, stays};
 ghost use Rattle.dfu_conformance.specs.declared.marks.TheConstants.{MARKS};
 
 use crate::drifts::DRIFTS;
@@ -81,7 +81,7 @@ fn join(to: &Devices, from: &Devices, when: When) -> Devices
 
 /// The sets of readings of all devices, whatever their bmAttributes.
 fn readings_of(devices: &Devices) -> u64
-    ensures { (r : ℕ) → r < 64 → (bit_at result r == 1) ≡ some_held devices.now r }
+    ensures { (r : ℕ) → r < 64 → (bit_at result r == 1) ≡ has_candidate devices.now r }
 {
     let mut all = 0;
     for a in 0..16 {
@@ -217,7 +217,7 @@ fn has_bit(word: u64, bit: u8) -> bool
 /// Returns whether a device with this set of readings is held, with any bmAttributes.
 fn is_held(devices: &Devices, readings: u8) -> bool
     requires { readings < 64 }
-    ensures { result ≡ some_held devices.now readings }
+    ensures { result ≡ has_candidate devices.now readings }
 {
     has_bit(readings_of(devices), readings)
 }
@@ -225,7 +225,7 @@ fn is_held(devices: &Devices, readings: u8) -> bool
 /// By place, whether a device with this set of readings may be there.
 pub(crate) fn places_of(places: &Places, readings: u8) -> [bool; 12]
     requires { readings < 64 }
-    ensures { (n : ℕ) → n < 12 → slice_index_or result n false ≡ some_held (slice_index_or places.now n []) readings }
+    ensures { (n : ℕ) → n < 12 → slice_index_or result n false ≡ has_candidate (slice_index_or places.now n []) readings }
 {
     let mut at = [false; 12];
     for n in 0..12 {

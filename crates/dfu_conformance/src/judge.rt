@@ -1,7 +1,7 @@
 //! The judge.
 
 ghost use Rattle.std.specs.Prelude.{◌≡◌, ◌<◌, ℕ, List, IsNone, IfSome, [], ◌∷◌, ◌++◌, slice_index_or, true, false};
-ghost use Rattle.dfu_conformance.specs.inside.Stepped.{anywhere, some_held};
+ghost use Rattle.dfu_conformance.specs.inside.Stepped.{anywhere, has_candidate};
 
 use crate::held::{Places, is_any_held, least_held, places_of, step};
 use crate::{Departure, LogEvent, Verdict};
@@ -22,7 +22,7 @@ pub struct Judge {
 
 // a clause sees the devices that are held, since the last departure and since the start
 impl Model for Judge {
-    ghost use Rattle.dfu_conformance.specs.Held.{Judged, since_of};
+    ghost use Rattle.dfu_conformance.specs.Candidates.{Judged, since_of};
 
     ghost Value = { Judged };
 
@@ -33,7 +33,7 @@ impl Model for Judge {
 fn departure(before: &Places, after: &Places, event: &LogEvent) -> Option<Departure>
     ensures none { IsNone result → anywhere after.now 0 ≡ true }
     ensures some { IfSome result (λ d. (d.event ≡ event.now) × (anywhere after.now 0 ≡ false)
-        × ((n : ℕ) → n < 12 → slice_index_or d.before n false ≡ some_held (slice_index_or before.now n []) 0)) }
+        × ((n : ℕ) → n < 12 → slice_index_or d.before n false ≡ has_candidate (slice_index_or before.now n []) 0)) }
 {
     if is_any_held(after, 0) {
         return None;
@@ -45,14 +45,14 @@ fn departure(before: &Places, after: &Places, event: &LogEvent) -> Option<Depart
 }
 
 impl Judge {
-    ghost use Rattle.dfu_conformance.specs.MayAnswer.{CanAnswer, IsHeld, IsHeldPlain};
+    ghost use Rattle.dfu_conformance.specs.MayAnswer.{CanAnswer, CandidatesExact, PlainCandidatesExact};
     ghost use Rattle.dfu_conformance.specs.Verdict.{IsVerdict, HasBits, ArePlacesAfter, Departs};
     ghost use Rattle.dfu_conformance.specs.declared.event.LogEvent.{LogEvent};
 
     /// A judge of a device about which nothing is known: it may be anywhere.
     pub fn new() -> Judge
-        ensures whole { IsHeld result.whole [] }
-        ensures since { IsHeldPlain result.since [] }
+        ensures whole { CandidatesExact result.whole [] }
+        ensures since { PlainCandidatesExact result.since [] }
     {
         Judge {
             has_departed: false,
@@ -64,10 +64,10 @@ impl Judge {
     /// An event comes. If no device of the standard is left, it returns the departure, and from then on the device may be
     /// anywhere again, for departures; for the verdict nothing changes.
     pub fn take(&mut self, event: &LogEvent) -> Option<Departure>
-        ensures whole { (es : List LogEvent) → IsHeld self.old.whole es → IsHeld self.new.whole (es ++ event.now ∷ []) }
-        ensures kept { IsNone result → (es : List LogEvent) → IsHeldPlain self.old.since es
-            → CanAnswer 0 (es ++ event.now ∷ []) × IsHeldPlain self.new.since (es ++ event.now ∷ []) }
-        ensures departs { IfSome result (λ d. (d.event ≡ event.now) × ((es : List LogEvent) → IsHeldPlain self.old.since es
+        ensures whole { (es : List LogEvent) → CandidatesExact self.old.whole es → CandidatesExact self.new.whole (es ++ event.now ∷ []) }
+        ensures kept { IsNone result → (es : List LogEvent) → PlainCandidatesExact self.old.since es
+            → CanAnswer 0 (es ++ event.now ∷ []) × PlainCandidatesExact self.new.since (es ++ event.now ∷ []) }
+        ensures departs { IfSome result (λ d. (d.event ≡ event.now) × ((es : List LogEvent) → PlainCandidatesExact self.old.since es
             → Departs es d self.new.since)) }
     {
         let whole = step(&self.whole, event);
@@ -103,7 +103,7 @@ impl Judge {
 
     /// The verdict on all events that came.
     pub fn verdict(&self) -> Verdict
-        ensures is { (es : List LogEvent) → IsHeld self.now.whole es → IsVerdict result es }
+        ensures is { (es : List LogEvent) → CandidatesExact self.now.whole es → IsVerdict result es }
         ensures bits { HasBits result }
     {
         if is_any_held(&self.whole, 0) {
@@ -118,7 +118,7 @@ impl Judge {
     /// If the device may be now if it has this set of readings, 0 to 63: by place, in the order of [`crate::StandardState`].
     pub fn places(&self, readings: u8) -> [bool; 12]
         requires { readings < 64 }
-        ensures { (es : List LogEvent) → IsHeld self.now.whole es → ArePlacesAfter readings es result }
+        ensures { (es : List LogEvent) → CandidatesExact self.now.whole es → ArePlacesAfter readings es result }
     {
         places_of(&self.whole, readings)
     }
@@ -126,7 +126,7 @@ impl Judge {
     /// The places where a device without habits may be now, by the events since the last departure, in the order of
     /// [`crate::StandardState`].
     pub fn standing(&self) -> [bool; 12]
-        ensures { (es : List LogEvent) → IsHeldPlain self.now.since es → ArePlacesAfter 0 es result }
+        ensures { (es : List LogEvent) → PlainCandidatesExact self.now.since es → ArePlacesAfter 0 es result }
     {
         if self.has_departed {
             places_of(&self.since, 0)

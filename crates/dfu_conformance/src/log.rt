@@ -1,9 +1,9 @@
 //! The lines of a log.
 
 ghost use Rattle.std.specs.Prelude.{◌≡◌, MatchBool, Some, None};
-ghost use Rattle.dfu_wire.specs.Request.{Asks};
+ghost use Rattle.dfu_wire.specs.Request.{SetupRequest};
 ghost use Rattle.dfu_wire.specs.declared.requests.Request.{Request};
-ghost use Rattle.dfu_conformance.specs.Line.{LineSays, SaysRequest, IsRead, field_of, rest_of, is_blank, why_unread};
+ghost use Rattle.dfu_conformance.specs.Line.{LineMeaning, RequestLine, IsRead, field_of, rest_of, is_blank, why_unread};
 ghost use Rattle.dfu_conformance.specs.Setups.{reset, power};
 
 use crate::line::{answer_of, body_of, field_end, setup_of};
@@ -64,7 +64,7 @@ fn parts(line: &[u8]) -> (&[u8], &[u8])
 ///
 /// `None` for any other line. Bytes are at most 65,535.
 pub fn read_line(interface: u8, line: &[u8]) -> Option<Line>
-    ensures { LineSays interface line.now result }
+    ensures { LineMeaning interface line.now result }
 {
     if begins_blank(line) {
         return Some(Line::Blank);
@@ -124,7 +124,7 @@ fn request_of(
     body: Option<usize>,
     answer: Option<Response>,
 ) -> Option<Line>
-    ensures { SaysRequest interface setup body answer result }
+    ensures { RequestLine interface setup body answer result }
 {
     match (setup, body, answer) {
         (Some(setup), Some(body), Some(answer)) => {
@@ -140,7 +140,7 @@ fn request_of(
 
 /// A request for interface 0.
 fn line_of(setup: &Setup, body: usize, answer: Response) -> Line
-    ensures { (q : Request) → Asks setup.now q → IsRead q setup.now body answer (Some result) }
+    ensures { (q : Request) → SetupRequest setup.now q → IsRead q setup.now body answer (Some result) }
 {
     match LogEvent::exchange(setup, body, answer) {
         Some(event) => Line::Came(event),

@@ -1,7 +1,7 @@
 //! A row of the table, and the words that it is written in.
 
 ghost use Rattle.std.specs.Prelude.{◌≡◌};
-ghost use Rattle.dfu_conformance.specs.Fits.{asked_number, place_number};
+ghost use Rattle.dfu_conformance.specs.RowMatches.{request_number, place_number};
 
 /// Place at which a device may be: a state of the standard (USB DFU 1.1, section 6.1.2), or dfuIDLE that a reset of the bus just entered.
 #[derive(Clone, Copy)]
@@ -71,7 +71,7 @@ pub enum EventKind {
 impl EventKind {
     /// Its place in a list of all eleven, 0 to 10.
     pub(crate) fn number(self) -> usize
-        ensures { result ≡ asked_number self }
+        ensures { result ≡ request_number self }
     {
         self as usize
     }

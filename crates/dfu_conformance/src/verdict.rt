@@ -1,7 +1,7 @@
 //! Verdict of a judge.
 
 ghost use Rattle.std.specs.Prelude.{◌≡◌, ◌&&◌, slice_index_or, false};
-ghost use Rattle.dfu_conformance.specs.Fits.{place_number, asks};
+ghost use Rattle.dfu_conformance.specs.RowMatches.{place_number, asks};
 
 use crate::event::is_asked;
 use crate::{LogEvent, Row};

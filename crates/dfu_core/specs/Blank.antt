@@ -8,9 +8,9 @@ use Rattle.dfu_core.specs.Config.{config_grain, IsConfig}
 use Rattle.dfu_core.specs.Numbers.{NO_CONFIG, NO_MEDIUM, WRONG_SIZE}
 
 -- The result is 1 if the flash, which two slots can have, is blank, and has no image then; and 0 if it is not blank.
-pub data ToldBlank (c : DfuConfig) (flash : List ℕ) (result : ℤ) : Type 0 where
-  told_blank : result ≡ pos 1 → IsUnwritten (config_grain c) flash → ¬ HasImage (mapped (config_grain c) flash) → ToldBlank c flash result
-  told_written : result ≡ pos 0 → ¬ IsUnwritten (config_grain c) flash → ToldBlank c flash result
+pub data BlankResult (c : DfuConfig) (flash : List ℕ) (result : ℤ) : Type 0 where
+  told_blank : result ≡ pos 1 → IsUnwritten (config_grain c) flash → ¬ HasImage (mapped (config_grain c) flash) → BlankResult c flash result
+  told_written : result ≡ pos 0 → ¬ IsUnwritten (config_grain c) flash → BlankResult c flash result
 
 -- The configuration is not allowed; or else the flash has 2^32 bytes or more; or else it has not as many as two slots can have.
 abbrev pub RefusesBlank : DfuConfig → List ℕ → ℤ → Type 0

@@ -10,8 +10,8 @@ use Rattle.dfu_asks.specs.declared.formatting.FormatProgress.TheVariants as form
 use Rattle.dfu_asks.specs.Mapped.{mapped}
 use Rattle.dfu_asks.specs.Steps.{Step}
 use Rattle.dfu_asks.specs.Carried.{IsPiece, ErasesWhole}
-use Rattle.dfu_asks.specs.Phases.{steps_left}
-use Rattle.dfu_asks.specs.Formats.{AsksFormat, TookPiece}
+use Rattle.dfu_asks.specs.Phases.{remaining_steps}
+use Rattle.dfu_asks.specs.Formats.{FormatPending, FormatPieceReported}
 use Rattle.dfu_asks.specs.FormatFurther.{FormatAsksFurther}
 use Rattle.dfu_core.specs.declared.config.DfuConfig.{DfuConfig}
 use Rattle.dfu_core.specs.Config.{config_grain, IsConfig}
@@ -28,7 +28,7 @@ pub record StartsFormat (c : DfuConfig) (flash image : List ℕ) (result : ℤ) 
   pub config : IsConfig c
   pub formatting : Formatting
   pub is : IsFormatting c r' formatting
-  pub asks : AsksFormat formatting image flash flash
+  pub asks : FormatPending formatting image flash flash
   pub rest : r' ≡ record blank { work = r'.work; spare = r'.spare; sum = r'.sum; done = r'.done; generation = r'.generation }
 
 -- This is the first thing that is wrong: the configuration is not allowed; or else the flash has 2^32 bytes or more; or else this fault.
@@ -45,7 +45,7 @@ pub record HandsFormat (c : DfuConfig) (r : DfuRecord) (flash image : List ℕ) 
   pub formatting : Formatting
   pub is : IsFormatting c r formatting
   pub kind : (ask.kind ≡ 1) ⊎ (ask.kind ≡ 2)
-  pub piece : IsPiece (steps_left formatting (length flash) image) formatting.done (ask_step ask)
+  pub piece : IsPiece (remaining_steps formatting (length flash) image) formatting.done (ask_step ask)
   pub some : 0 < ask.length
   pub most : ask.kind ≡ 2 → ask.length ≤ 256
   pub sector : ErasesWhole c.sector (ask_step ask)
@@ -64,7 +64,7 @@ progress_number (format_progress.Broken why) = format_number fault.Failed
 
 -- The program said how a piece of a format went, and the number says what came of it.
 -- The record is the format while it asks, and no format afterwards. Nothing else of it changes.
-pub record GoesFormat (c : DfuConfig) (r : DfuRecord) (flash image : List ℕ) (failed : Bool) (result : ℤ) (r' : DfuRecord) : Type 0 where
+pub record FormatReport (c : DfuConfig) (r : DfuRecord) (flash image : List ℕ) (failed : Bool) (result : ℤ) (r' : DfuRecord) : Type 0 where
   pub config : IsConfig c
   pub before : Formatting
   pub is : IsFormatting c r before
@@ -74,7 +74,7 @@ pub record GoesFormat (c : DfuConfig) (r : DfuRecord) (flash image : List ℕ) (
   pub on : came ≡ format_progress.Asks → IsFormatting c r' after
   pub over : came ≢ format_progress.Asks → r'.work ≡ 0
   pub rest : r' ≡ record r { work = r'.work; spare = r'.spare; sum = r'.sum; done = r'.done; generation = r'.generation }
-  pub took : (was mid : List ℕ) → AsksFormat before image was mid → (p : Step)
-      → IsPiece (steps_left before (length was) image) before.done p
-      → Torn mid p.write.at p.write.bytes flash → TookPiece before after image was flash p.write failed came
+  pub took : (was mid : List ℕ) → FormatPending before image was mid → (p : Step)
+      → IsPiece (remaining_steps before (length was) image) before.done p
+      → Torn mid p.write.at p.write.bytes flash → FormatPieceReported before after image was flash p.write failed came
   pub further : FormatAsksFurther before (length flash) image came after

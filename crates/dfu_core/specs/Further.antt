@@ -6,9 +6,9 @@ use Rattle.dfu_asks.specs.declared.reply.Reply.TheVariants.{Asks}
 use Rattle.dfu_asks.specs.Steps.{Step}
 use Rattle.dfu_asks.specs.Carried.{IsPiece}
 use Rattle.dfu_asks.specs.Asks.{steps_in}
-use Rattle.dfu_asks.specs.Lent.{LentAsking}
+use Rattle.dfu_asks.specs.Lent.{LentDevice}
 
 -- If a report is answered by more writes that are due, the piece that was due is behind them.
-abbrev pub AsksFurther : LentAsking → Reply → LentAsking → Type 0
-AsksFurther a r a' = r ≡ Asks → (w : PendingWrites) (p : Step) → a.work ≡ Some w → IsPiece (steps_in a w) w.done p
+abbrev pub PiecesAdvance : LentDevice → Reply → LentDevice → Type 0
+PiecesAdvance a r a' = r ≡ Asks → (w : PendingWrites) (p : Step) → a.work ≡ Some w → IsPiece (steps_in a w) w.done p
     → a'.work ≡ Some (record w { done = w.done + length p.write.bytes })

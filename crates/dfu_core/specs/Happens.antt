@@ -11,15 +11,15 @@ use Rattle.dfu_asks.specs.Asks.{device_in}
 use Rattle.dfu_core.specs.declared.records.DfuAsk.{DfuAsk}
 use Rattle.dfu_core.specs.Config.{setting_of, transfer_of}
 use Rattle.dfu_asks.specs.Addressed.{addressed}
-use Rattle.dfu_core.specs.Kept.{with_memory}
+use Rattle.dfu_core.specs.RecordMeaning.{with_memory}
 use Rattle.dfu_core.specs.Numbers.{reply_number, STALL, NOT_LONG}
-use Rattle.dfu_core.specs.Calls.{Goes, Replied, TimePassed, Went, CoreRefuses, HasNoRoom, IsIntact}
-use Rattle.dfu_core.specs.Writes.{ask_step, HandsOut, RefusesPiece, AsksOnSomeFlash}
+use Rattle.dfu_core.specs.Calls.{RecordCall, Replied, TimePassed, RecordReport, CoreRefuses, HasNoRoom, IsIntact}
+use Rattle.dfu_core.specs.Writes.{ask_step, HandsOut, RefusesPiece, IsPendingSomewhere}
 use Rattle.dfu_core.specs.Power.{Powers}
 use Rattle.dfu_core.specs.Idle.{IsIdleRecord, RefusesSetup}
 use Rattle.dfu_asks.specs.Verdict.{IsBodyOf}
 use Rattle.dfu_asks.specs.AfterLong.{IsLong}
-use Rattle.dfu_core.specs.Long.{TakesLong}
+use Rattle.dfu_core.specs.Long.{TooLongResult}
 use Rattle.dfu_core.specs.Refuse.{CloseRefused, WasRefused}
 use Rattle.dfu_core.specs.Board.{CoreBoard, CoreEvent, CoreHandle, CoreElapse, CoreReset, CoreTooLong, CoreRefuseClose, CoreRefuse, CoreWrite, CoreTook, CoreRestart}
 
@@ -31,7 +31,7 @@ pub record IsCalled (b b' : CoreBoard) : Type 0 where
 -- Result of dfu_core_handle, with this setup, body and buffer.
 abbrev pub Handled : CoreBoard → (setup body out : List ℕ) → ℤ → List ℕ → CoreBoard → Type 0
 Handled b setup body out n out' b' =
-    Goes b.config b.kept b.block b'.kept b'.block (λ a a'. let before = with_memory b.block a in
+    RecordCall b.config b.kept b.block b'.kept b'.block (λ a a'. let before = with_memory b.block a in
     Replied (IsIntact b.block b.flash a) before b.flash out
     (λ d x sent d'. Handles (addressed b.config.interface setup) body d x sent d') reply_number n
     (with_memory b'.block a') out')
@@ -41,7 +41,7 @@ Handled b setup body out n out' b' =
 -- Result of dfu_core_elapse, with so many milliseconds.
 abbrev pub Elapsed : CoreBoard → (ms : ℕ) → ℤ → CoreBoard → Type 0
 Elapsed b ms n b' =
-    Goes b.config b.kept b.block b'.kept b'.block (λ a a'. let before = with_memory b.block a in
+    RecordCall b.config b.kept b.block b'.kept b'.block (λ a a'. let before = with_memory b.block a in
     TimePassed (IsIntact b.block b.flash a) before b.flash
     (λ d x sent d'. (x ≡ answer.Ack) × (sent ≡ []) × Elapses ms d d') n (with_memory b'.block a'))
     ⊎ CoreRefuses b.config b.kept b.block b.flash n b'.kept b'.block
@@ -49,7 +49,7 @@ Elapsed b ms n b' =
 -- Result of dfu_core_usb_reset.
 abbrev pub Reset : CoreBoard → ℤ → CoreBoard → Type 0
 Reset b n b' =
-    Goes b.config b.kept b.block b'.kept b'.block (λ a a'. let before = device_in (with_memory b.block a) b.flash in
+    RecordCall b.config b.kept b.block b'.kept b'.block (λ a a'. let before = device_in (with_memory b.block a) b.flash in
     (a.work ≡ None) × (n ≡ pos 0) × (a'.work ≡ None)
     × (device_in (with_memory b'.block a') b.flash ≡ record before { stage = reset_stage before.stage })
     × (IsIntact b.block b.flash a → IsIntact b'.block b.flash a'))
@@ -59,16 +59,16 @@ Reset b n b' =
 abbrev pub TooLongCalled : CoreBoard → (setup : List ℕ) → ℤ → CoreBoard → Type 0
 TooLongCalled b setup n b' =
     let own = addressed b.config.interface setup in
-    ((n ≡ STALL) × IsIdleRecord b.config b.kept × IsLong (setting_of b.config) own × TakesLong b.config b.kept own b'.kept)
+    ((n ≡ STALL) × IsIdleRecord b.config b.kept × IsLong (setting_of b.config) own × TooLongResult b.config b.kept own b'.kept)
     ⊎ ((b'.kept ≡ b.kept) × (((n ≡ NOT_LONG) × IsIdleRecord b.config b.kept × ¬ IsLong (setting_of b.config) own)
     ⊎ RefusesSetup b.config b.kept n))
 
 -- Result of dfu_core_took, with this number for a failure and this buffer.
-abbrev pub Told : CoreBoard → (failed : ℕ) (out : List ℕ) → ℤ → List ℕ → CoreBoard → Type 0
-Told b failed out n out' b' =
-    Goes b.config b.kept b.block b'.kept b'.block
-    (λ a a'. Went (with_memory b.block a) b.flash (not (failed == 0)) out n (with_memory b'.block a') out')
-    ⊎ (RefusesPiece b.config b.kept b.block (λ a. ¬ AsksOnSomeFlash (with_memory b.block a)) n
+abbrev pub CoreTookResult : CoreBoard → (failed : ℕ) (out : List ℕ) → ℤ → List ℕ → CoreBoard → Type 0
+CoreTookResult b failed out n out' b' =
+    RecordCall b.config b.kept b.block b'.kept b'.block
+    (λ a a'. RecordReport (with_memory b.block a) b.flash (not (failed == 0)) out n (with_memory b'.block a') out')
+    ⊎ (RefusesPiece b.config b.kept b.block (λ a. ¬ IsPendingSomewhere (with_memory b.block a)) n
     × (b'.kept ≡ b.kept) × (b'.block ≡ b.block) × (out' ≡ out))
     ⊎ HasNoRoom 6 b.kept b.block out n b'.kept b'.block out'
 
@@ -98,7 +98,7 @@ CoreHappens b (CoreRefuseClose setup status) n out' b' = IsCalled b b' × (b'.bl
     × CloseRefused b.config b.kept (addressed b.config.interface setup) status n b'.kept
 CoreHappens b (CoreRefuse status) n out' b' = IsCalled b b' × (b'.block ≡ b.block) × WasRefused b.config b.kept status n b'.kept
 CoreHappens b CoreWrite n out' b' = CoreIsWritten b n b'
-CoreHappens b (CoreTook failed out) n out' b' = IsCalled b b' × Told b failed out n out' b'
+CoreHappens b (CoreTook failed out) n out' b' = IsCalled b b' × CoreTookResult b failed out n out' b'
 CoreHappens b (CoreRestart begins) n out' b' = IsCalled b b' × Powers b.config (start_mode begins) b.flash n b'.kept
 
 -- It just got power: dfu_core_power_on made its record of this flash, or dfu_core_begin if it begins for a host.

@@ -7,11 +7,11 @@ use Rattle.dfu_core.specs.declared.config.DfuConfig.{DfuConfig}
 use Rattle.dfu_core.specs.Config.{config_grain, IsConfig}
 
 -- This place as dfu_asks has it.
-abbrev pub place_told : DfuPlace → ImagePlace
-place_told place = record { at = place.at; len = place.length }
+abbrev pub place_of_record : DfuPlace → ImagePlace
+place_of_record place = record { at = place.at; len = place.length }
 
 -- The active image of the flash is there, and the number says so.
-pub record ImageIsFound (c : DfuConfig) (flash : List ℕ) (result : ℤ) (place : DfuPlace) : Type 0 where
+pub record ImageResult (c : DfuConfig) (flash : List ℕ) (result : ℤ) (place : DfuPlace) : Type 0 where
   pub number_is : result ≡ pos 0
   pub config : IsConfig c
-  pub there : ImageIsAt (config_grain c) flash (place_told place)
+  pub there : ImageIsAt (config_grain c) flash (place_of_record place)

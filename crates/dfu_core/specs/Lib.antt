@@ -1,6 +1,6 @@
 pub mod Config
 pub mod Mode
-pub mod Kept
+pub mod RecordMeaning
 pub mod Numbers
 pub mod Calls
 pub mod Writes

@@ -9,12 +9,12 @@ use Rattle.dfu_asks.specs.Mapped.{Unseen}
 use Rattle.dfu_asks.specs.Asks.{device_with, IsDevice}
 use Rattle.dfu_core.specs.declared.config.DfuConfig.{DfuConfig}
 use Rattle.dfu_core.specs.declared.record.DfuRecord.{DfuRecord}
-use Rattle.dfu_core.specs.Kept.{IsKept, with_memory}
+use Rattle.dfu_core.specs.RecordMeaning.{IsRecordOf, with_memory}
 
 -- Whatever that body is: a device that the record was, with no writes due, is now the one that its row makes of it, with a block
 -- as long as before, and the answer is a stall.
-abbrev pub TakesLong : DfuConfig → DfuRecord → List ℕ → DfuRecord → Type 0
-TakesLong c r setup r' = (a : Asking) → IsKept c r a → (a' : Asking) × IsKept c r' a' × (a'.work ≡ None)
+abbrev pub TooLongResult : DfuConfig → DfuRecord → List ℕ → DfuRecord → Type 0
+TooLongResult c r setup r' = (a : Asking) → IsRecordOf c r a → (a' : Asking) × IsRecordOf c r' a' × (a'.work ≡ None)
     × (a'.block_len ≡ a.block_len)
     × ((block flash : List ℕ) → IsDevice (with_memory block a) flash
     → (body : List ℕ) → ((p : Setup) → IsSetup p setup → length body ≡ body_length p)

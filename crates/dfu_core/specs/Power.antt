@@ -12,7 +12,7 @@ use Rattle.dfu_core.specs.declared.config.DfuConfig.{DfuConfig}
 use Rattle.dfu_core.specs.declared.record.DfuRecord.{DfuRecord}
 use Rattle.dfu_core.specs.Config.{setting_of, config_grain, IsConfig}
 use Rattle.dfu_core.specs.Mode.{blank}
-use Rattle.dfu_core.specs.Kept.{IsKept, with_memory}
+use Rattle.dfu_core.specs.RecordMeaning.{IsRecordOf, with_memory}
 use Rattle.dfu_core.specs.Numbers.{NO_CONFIG, NO_MEDIUM}
 
 -- The flash has no active image, or 2^32 bytes or more.
@@ -25,7 +25,7 @@ pub record Powers (c : DfuConfig) (mode : DeviceState) (flash : List ℕ) (resul
   pub number_is : result ≡ pos 0
   pub config : IsConfig c
   pub after : Asking
-  pub is : IsKept c r' after
+  pub is : IsRecordOf c r' after
   pub mode_is : after.mode ≡ mode
   pub work : after.work ≡ None
   pub device : (block : List ℕ) → IsDevice (with_memory block after) flash

@@ -12,7 +12,7 @@ use Rattle.dfu_asks.specs.Asks.{device_in, IsDevice}
 use Rattle.dfu_core.specs.declared.config.DfuConfig.{DfuConfig}
 use Rattle.dfu_core.specs.declared.record.DfuRecord.{DfuRecord}
 use Rattle.dfu_core.specs.Idle.{IsIdleRecord, RefusesSetup}
-use Rattle.dfu_core.specs.Kept.{IsKept, with_memory}
+use Rattle.dfu_core.specs.RecordMeaning.{IsRecordOf, with_memory}
 use Rattle.dfu_core.specs.Numbers.{STALL, NO_CLOSE, NO_STATUS}
 
 -- The objection of a status.
@@ -25,14 +25,14 @@ IsObjection status = code_byte (objection_code (objection_in status)) ≡ status
 
 -- A device that the record was is now the one that the row of this cause makes of it, with this answer without bytes and with a block as
 -- long as before.
-abbrev pub TakesCause : DfuConfig → DfuRecord → Cause → Answer → DfuRecord → Type 0
-TakesCause c r cause x r' = (a : Asking) → IsKept c r a → (a' : Asking) × IsKept c r' a' × (a'.work ≡ None) × (a'.block_len ≡ a.block_len)
+abbrev pub CauseResult : DfuConfig → DfuRecord → Cause → Answer → DfuRecord → Type 0
+CauseResult c r cause x r' = (a : Asking) → IsRecordOf c r a → (a' : Asking) × IsRecordOf c r' a' × (a'.work ≡ None) × (a'.block_len ≡ a.block_len)
     × ((block flash : List ℕ) → IsDevice (with_memory block a) flash → IsDevice (with_memory block a') flash
     × Row (device_in (with_memory block a) flash) cause x [] (device_in (with_memory block a') flash))
 
 -- No device that the record is has a download that this setup closes.
 abbrev pub ClosesNone : DfuConfig → DfuRecord → List ℕ → Type 0
-ClosesNone c r setup = (a : Asking) → IsKept c r a → (block flash : List ℕ) → IsDevice (with_memory block a) flash
+ClosesNone c r setup = (a : Asking) → IsRecordOf c r a → (block flash : List ℕ) → IsDevice (with_memory block a) flash
     → ¬ ClosesDownload setup (device_in (with_memory block a) flash)
 
 -- Refused as dfu_core_would_stall; or else the status is of no objection.
@@ -42,11 +42,11 @@ RefusesStatus c r status result = ((result ≡ NO_STATUS) × IsIdleRecord c r ×
 -- Result of dfu_core_refuse.
 abbrev pub WasRefused : DfuConfig → DfuRecord → ℕ → ℤ → DfuRecord → Type 0
 WasRefused c r status result r' =
-    ((result ≡ pos 0) × IsIdleRecord c r × IsObjection status × TakesCause c r (Refusing (objection_in status)) answer.Ack r')
+    ((result ≡ pos 0) × IsIdleRecord c r × IsObjection status × CauseResult c r (Refusing (objection_in status)) answer.Ack r')
     ⊎ ((r' ≡ r) × RefusesStatus c r status result)
 
 -- Result of dfu_core_refuse_close, with a setup as the table of the device knows it.
 abbrev pub CloseRefused : DfuConfig → DfuRecord → List ℕ → ℕ → ℤ → DfuRecord → Type 0
 CloseRefused c r setup status result r' =
-    ((result ≡ STALL) × IsIdleRecord c r × IsObjection status × TakesCause c r (RefusingClose setup (objection_in status)) answer.Stall r')
+    ((result ≡ STALL) × IsIdleRecord c r × IsObjection status × CauseResult c r (RefusingClose setup (objection_in status)) answer.Stall r')
     ⊎ ((r' ≡ r) × (((result ≡ NO_CLOSE) × IsIdleRecord c r × IsObjection status × ClosesNone c r setup) ⊎ RefusesStatus c r status result))

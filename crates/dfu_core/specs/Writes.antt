@@ -1,21 +1,21 @@
 -- The writes that a program in C is asked for.
 use Rattle.std.specs.Prelude.{◌≡◌, ◌⊎◌, ◌==◌, ◌^◌, ℕ, ℤ, pos, ◌<◌, ◌≤◌, List, length, take, replicate, Some, if◌then◌else◌}
 use Rattle.dfu_slots.specs.Image.{Active}
-use Rattle.dfu_slots.specs.Seen.{SlotsState}
+use Rattle.dfu_slots.specs.StoreView.{SlotsState}
 use Rattle.dfu_asks.specs.declared.asking.Asking.{Asking}
 use Rattle.dfu_asks.specs.declared.pending_writes.PendingWrites.{PendingWrites}
 use Rattle.dfu_asks.specs.Mapped.{grain_of, mapped, IsInSpare}
 use Rattle.dfu_asks.specs.Steps.{Step}
 use Rattle.dfu_asks.specs.Carried.{IsPiece, ErasesWhole}
 use Rattle.dfu_asks.specs.Asks.{steps_in}
-use Rattle.dfu_asks.specs.Lent.{LentAsking}
-use Rattle.dfu_asks.specs.Calls.{AsksWrites}
+use Rattle.dfu_asks.specs.Lent.{LentDevice}
+use Rattle.dfu_asks.specs.Calls.{WritesPending}
 use Rattle.dfu_core.specs.declared.records.DfuAsk.{DfuAsk}
 use Rattle.dfu_core.specs.declared.config.DfuConfig.{DfuConfig}
 use Rattle.dfu_core.specs.declared.record.DfuRecord.{DfuRecord}
 use Rattle.dfu_core.specs.declared.numbers.Refusal.{Refusal}
 use Rattle.dfu_core.specs.Config.{block_memory_size, IsConfig}
-use Rattle.dfu_core.specs.Kept.{IsKept, with_memory}
+use Rattle.dfu_core.specs.RecordMeaning.{IsRecordOf, with_memory}
 use Rattle.dfu_core.specs.Calls.{IsUnfound}
 use Rattle.dfu_core.specs.Numbers.{refusal_number, NO_DEVICE}
 
@@ -32,7 +32,7 @@ pub record HandsOut (c : DfuConfig) (r : DfuRecord) (block flash : List ℕ) (re
   pub config : IsConfig c
   pub room : block_memory_size c ≤ length block
   pub asking : Asking
-  pub is : IsKept c r asking
+  pub is : IsRecordOf c r asking
   pub work : PendingWrites
   pub work_is : asking.work ≡ Some work
   pub kind : (ask.kind ≡ 1) ⊎ (ask.kind ≡ 2)
@@ -44,19 +44,19 @@ pub record HandsOut (c : DfuConfig) (r : DfuRecord) (block flash : List ℕ) (re
       → IsInSpare (mapped (grain_of asking.unit asking.sector) flash) ask.at ask.length
 
 -- It asks for the writes of a row, and those before the next one are carried out on this flash.
-abbrev pub IsAsking : LentAsking → List ℕ → Type 0
-IsAsking a flash = (len : ℕ) × (s : SlotsState) × (was : List ℕ) × AsksWrites a len s was flash
+abbrev pub HasRowPending : LentDevice → List ℕ → Type 0
+HasRowPending a flash = (len : ℕ) × (s : SlotsState) × (was : List ℕ) × WritesPending a len s was flash
 
 -- No write is handed out: it does not ask for any on this flash, or the flash has 2^32 bytes or more.
-abbrev pub HandsNothing : LentAsking → List ℕ → Type 0
-HandsNothing a flash = ¬ IsAsking a flash ⊎ 2 ^ 32 ≤ length flash
+abbrev pub HandsNothing : LentDevice → List ℕ → Type 0
+HandsNothing a flash = ¬ HasRowPending a flash ⊎ 2 ^ 32 ≤ length flash
 
 -- There is a flash on which it asks for the writes of a row.
-abbrev pub AsksOnSomeFlash : LentAsking → Type 0
-AsksOnSomeFlash a = (flash : List ℕ) × IsAsking a flash
+abbrev pub IsPendingSomewhere : LentDevice → Type 0
+IsPendingSomewhere a = (flash : List ℕ) × HasRowPending a flash
 
 -- There is no device that asks; or else it is refused with DFU_NO_DEVICE, for this reason.
 pub data RefusesPiece (c : DfuConfig) (r : DfuRecord) (block : List ℕ) (Why : Asking → Type 0) (result : ℤ) : Type 0 where
   refuses_unfound : (e : Refusal) → result ≡ refusal_number e → IsUnfound e c r (length block) → RefusesPiece c r block Why result
-  refuses_piece : (a : Asking) → result ≡ NO_DEVICE → IsConfig c → block_memory_size c ≤ length block → IsKept c r a → Why a
+  refuses_piece : (a : Asking) → result ≡ NO_DEVICE → IsConfig c → block_memory_size c ≤ length block → IsRecordOf c r a → Why a
       → RefusesPiece c r block Why result

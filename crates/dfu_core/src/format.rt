@@ -3,7 +3,7 @@ ghost use Rattle.std.specs.Prelude.{◌≡◌, IfSome, IfNone};
 ghost use Rattle.dfu_asks.specs.declared.formatting.FormatStep.{FormatStep as Part};
 ghost use Rattle.dfu_asks.specs.declared.formatting.Formatting.{Formatting as Going};
 ghost use Rattle.dfu_core.specs.declared.config.DfuConfig.{DfuConfig as Given};
-ghost use Rattle.dfu_core.specs.Kept.{IsSetUp};
+ghost use Rattle.dfu_core.specs.RecordMeaning.{IsSetUp};
 ghost use Rattle.dfu_core.specs.Formatting.{FORMAT, HasPhase, IsFormatting, ChangesOnlyFormat};
 
 use crate::config::Settings;

@@ -4,7 +4,7 @@ ghost use Rattle.dfu_asks.specs.declared.asking.Asking.{Asking as Device};
 ghost use Rattle.dfu_asks.specs.declared.noted.Noted.{Noted as Note};
 ghost use Rattle.dfu_core.specs.declared.config.DfuConfig.{DfuConfig as Given};
 ghost use Rattle.dfu_core.specs.Config.{block_memory_size, IsConfig};
-ghost use Rattle.dfu_core.specs.Kept.{IsFlag, IsKept, IsSetUp, HasNote, HasJob, IsAskedNumber, HasWork, ChangesOnlyJob, ChangesOnlyWork};
+ghost use Rattle.dfu_core.specs.RecordMeaning.{IsFlag, IsRecordOf, IsSetUp, HasNote, HasJob, IsPendingNumber, HasWork, ChangesOnlyJob, ChangesOnlyWork};
 ghost use Rattle.dfu_core.specs.Calls.{IsUnfound};
 ghost use Rattle.dfu_asks.specs.declared.pending_writes.PendingWrites.{PendingWrites as Due};
 ghost use Rattle.dfu_asks.specs.declared.pending_writes.SlotWrite.{SlotWrite as Series};
@@ -19,8 +19,8 @@ use dfu_slots::MAX_UNIT;
 
 // wLength of the GETSTATUS that waits, by this number, if one waits; `None` if the number is not valid.
 fn asked_of(number: u32) -> Option<Option<u16>>
-    ensures some { IfSome result (λ asked. IsAskedNumber number asked) }
-    ensures only { (asked : Option ℕ) → IsAskedNumber number asked → result ≡ Some asked }
+    ensures some { IfSome result (λ asked. IsPendingNumber number asked) }
+    ensures only { (asked : Option ℕ) → IsPendingNumber number asked → result ≡ Some asked }
 {
     match number {
         0 => Some(None),
@@ -152,8 +152,8 @@ fn noted_in(kept: &DfuRecord) -> Option<Noted>
 // The device that asks which a record is, if its block is no longer than any may be.
 fn asking_of(settings: Settings, kept: &DfuRecord) -> Option<Asking>
     requires { kept.now.length ≤ 4096 }
-    ensures some { IfSome result (λ a. (c : Given) → IsSetUp c settings.config settings.unit settings.sector → IsKept c kept.now a) }
-    ensures none { IfNone result ((c : Given) (a : Device) → ¬ IsKept c kept.now a) }
+    ensures some { IfSome result (λ a. (c : Given) → IsSetUp c settings.config settings.unit settings.sector → IsRecordOf c kept.now a) }
+    ensures none { IfNone result ((c : Given) (a : Device) → ¬ IsRecordOf c kept.now a) }
 {
     if kept.held_length > MAX_UNIT as u16 {
         return None;
@@ -177,7 +177,7 @@ fn asking_of(settings: Settings, kept: &DfuRecord) -> Option<Asking>
 /// The device that asks which a record is, if the memory of its block has so much room; or why there is none.
 #[inline(never)]
 pub fn found(config: &DfuConfig, kept: &DfuRecord, room: usize, read: &mut Result<Asking, Refusal>)
-    ensures ok { IfOk read.new (λ a. IsKept config.now kept.now a) }
+    ensures ok { IfOk read.new (λ a. IsRecordOf config.now kept.now a) }
     ensures config { OnOk read.new (IsConfig config.now) }
     ensures room { OnOk read.new (block_memory_size config.now ≤ room) }
     ensures err { IfErr read.new (λ e. IsUnfound e config.now kept.now room) }
@@ -208,7 +208,7 @@ pub fn found(config: &DfuConfig, kept: &DfuRecord, room: usize, read: &mut Resul
 /// Keeps a device that asks in its record.
 #[inline(never)]
 pub fn keep(asking: &Asking, kept: &mut DfuRecord)
-    ensures { (c : Given) → IsSetUp c asking.now.config asking.now.unit asking.now.sector → IsKept c kept.new asking.now }
+    ensures { (c : Given) → IsSetUp c asking.now.config asking.now.unit asking.now.sector → IsRecordOf c kept.new asking.now }
 {
     set_mode(kept, asking.mode);
     set_work(kept, asking.work);

@@ -3,7 +3,7 @@ ghost use Rattle.std.specs.Prelude.{◌≡◌, IfSome, IfOk, IfErr, OnOk, IsTrue
 ghost use Rattle.dfu_wire.specs.Code.{code_byte};
 ghost use Rattle.dfu_device.specs.declared.device_state.DeviceState.{DeviceState as KeptMode};
 ghost use Rattle.dfu_core.specs.Config.{IsConfig};
-ghost use Rattle.dfu_core.specs.Kept.{IsSetUp};
+ghost use Rattle.dfu_core.specs.RecordMeaning.{IsSetUp};
 ghost use Rattle.dfu_core.specs.Mode.{HasMode, HasNumbers, ChangesOnlyMode};
 ghost use Rattle.dfu_core.specs.Numbers.{refusal_number};
 ghost use Rattle.dfu_core.specs.Idle.{IsIdleRecord, RefusesRecord, RefusesSetup};

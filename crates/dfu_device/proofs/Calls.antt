@@ -6,30 +6,30 @@ use Rattle.std.proofs.lemmas.Bool.{ne_eqb, and_parts}
 use Rattle.dfu_slots.specs.declared.fault.WriteFault.{WriteFault}
 use Rattle.dfu_slots.specs.declared.fault.PutFault.{PutFault}
 use Rattle.dfu_slots.specs.Medium.{Rose}
-use Rattle.dfu_slots.specs.Seen.{SlotsState, spare_of, is_begun, room_of, is_shaped, Call, Begin, Put, Ending, AllWorked, BrokenBy, DidCall, Called}
+use Rattle.dfu_slots.specs.StoreView.{SlotsState, spare_of, is_begun, room_of, is_shaped, Call, Begin, Put, Ending, AllWorked, BrokenBy, CallEnding, Called}
 use Rattle.dfu_slots.specs.Changes.{fault_of, ending_of}
 use Rattle.dfu_device.specs.Parts.{is_put}
 use Rattle.dfu_device.specs.Rows.{block_calls}
 
 -- One call that was made is a series of one call.
-pub called_one : (s now : SlotsState) (call : Call) (ending : Ending) → DidCall s call ending now → Called s (call ∷ []) ending now
+pub called_one : (s now : SlotsState) (call : Call) (ending : Ending) → CallEnding s call ending now → Called s (call ∷ []) ending now
 called_one s now call AllWorked d = (now, d.calls, refl)
 called_one s now call (BrokenBy fault) d = inl d.calls
 
-called_two : (s mid now : SlotsState) (first second : Call) (ending : Ending) → DidCall s first AllWorked mid
-    → DidCall mid second ending now → Called s (first ∷ second ∷ []) ending now
+called_two : (s mid now : SlotsState) (first second : Call) (ending : Ending) → CallEnding s first AllWorked mid
+    → CallEnding mid second ending now → Called s (first ∷ second ∷ []) ending now
 called_two s mid now first second AllWorked d e = (mid, d.calls, (now, e.calls, refl))
 called_two s mid now first second (BrokenBy fault) d e = inr (mid, d.calls, inl e.calls)
 
 -- The first block is a `begin` that worked and then a `put`, which may work or fail.
-pub block_begun : (s mid now : SlotsState) (n : ℕ) (block : List ℕ) (ending : Ending) → n ≡ 0 → DidCall s Begin AllWorked mid
-    → DidCall mid (Put 0 block) ending now → Called s (block_calls (take n (spare_of s)) block) ending now
+pub block_begun : (s mid now : SlotsState) (n : ℕ) (block : List ℕ) (ending : Ending) → n ≡ 0 → CallEnding s Begin AllWorked mid
+    → CallEnding mid (Put 0 block) ending now → Called s (block_calls (take n (spare_of s)) block) ending now
 block_begun s mid now n block ending none d e =
     subst (λ (k : ℕ). Called s (block_calls (take k (spare_of s)) block) ending now) (sym none)
     (called_two s mid now Begin (Put 0 block) ending d e)
 
 -- If the `begin` before the first block failed, nothing more is called.
-pub block_not_begun : (fault : WriteFault) (s now : SlotsState) (n : ℕ) (block : List ℕ) → n ≡ 0 → DidCall s Begin (BrokenBy fault) now
+pub block_not_begun : (fault : WriteFault) (s now : SlotsState) (n : ℕ) (block : List ℕ) → n ≡ 0 → CallEnding s Begin (BrokenBy fault) now
     → Called s (block_calls (take n (spare_of s)) block) (BrokenBy fault) now
 block_not_begun fault s now n block none d =
     subst (λ (k : ℕ). Called s (block_calls (take k (spare_of s)) block) (BrokenBy fault) now) (sym none)
@@ -37,7 +37,7 @@ block_not_begun fault s now n block none d =
 
 -- A block after others is one `put`, which may work or fail.
 pub block_further : (s now : SlotsState) (n : ℕ) (block : List ℕ) (ending : Ending) → 0 < n → n ≤ length (spare_of s)
-    → DidCall s (Put n block) ending now → Called s (block_calls (take n (spare_of s)) block) ending now
+    → CallEnding s (Put n block) ending now → Called s (block_calls (take n (spare_of s)) block) ending now
 block_further s now n block ending some fits d =
     let front : length (take n (spare_of s)) ≡ n = length-take-le n (spare_of s) fits in
     let behind : (n == 0) ≡ false = ne_eqb n 0 (λ e. omega (arith, some, e)) in

@@ -5,7 +5,7 @@ use Rattle.std.proofs.lemmas.List.{take-take, take_at, length-take-le}
 use Rattle.dfu_slots.specs.Units.{unit_size}
 use Rattle.dfu_slots.specs.Layout.{slot_size}
 use Rattle.dfu_slots.specs.Image.{gate_of, spare_at}
-use Rattle.dfu_slots.specs.Seen.{SlotsState, spare_slot, held_at, spare_of, room_of}
+use Rattle.dfu_slots.specs.StoreView.{SlotsState, spare_slot, tail_at, spare_of, room_of}
 use Rattle.dfu_slots.specs.Store.{IsStore}
 use Rattle.dfu_slots.proofs.Stands.{standing}
 use Rattle.dfu_slots.proofs.Newest.{spare_end}
@@ -37,7 +37,7 @@ module _ (s : SlotsState) (store : IsStore s) where
       ≡ slice_range s.medium.bytes (place + 2 * g) (place + 2 * g + (s.put_end - length s.held)) ++ s.held
   put_is =
       let d = (spare_slot s).data_bytes in
-      let k = held_at s in
+      let k = tail_at s in
       let le : k ≤ length d = omega (arith, data_size, store.puts.fits) in
       let e : s.put_end ≡ k + length s.held = sym (held_end s store.puts) in
       let p = place + 2 * g in

@@ -5,7 +5,7 @@ use Rattle.std.proofs.lemmas.List.{length-take-le}
 use Rattle.dfu_wire.specs.declared.requests.Request.{Request as Asked}
 use Rattle.dfu_wire.specs.declared.requests.Request.TheVariants as asked
 use Rattle.dfu_slots.specs.declared.fault.WriteFault.{WriteFault}
-use Rattle.dfu_slots.specs.Seen.{SlotsState, image_of, spare_of, room_of, is_shaped}
+use Rattle.dfu_slots.specs.StoreView.{SlotsState, image_of, spare_of, room_of, is_shaped}
 use Rattle.dfu_device.specs.declared.answer.Answer.{Answer}
 use Rattle.dfu_device.specs.declared.answer.Answer.TheVariants as answer
 use Rattle.dfu_device.specs.declared.decision.Reply.{Reply as ReplyRead}
@@ -21,9 +21,9 @@ use Rattle.dfu_device.specs.Table.{Plan, Sure, Writes, Commits, write_code, comm
 use Rattle.dfu_device.specs.DeviceView.{DeviceView, profile, profile_of}
 use Rattle.dfu_device.specs.Parts.{stage_of, is_put, is_filled, is_sound}
 use Rattle.dfu_device.specs.Rows.{Answers, Done, Handles, handled_as, Elapses, meant, asked_length, is_served, setup_plan, Committed, FailedCommit, WroteBlock, FailedBlock}
-use Rattle.dfu_device.specs.Decision.{profile_in, reply_in, plan_of, HoldsWritten, HoldsTime, HasLength, DecidesTime, Allows, AllowsAsked}
-use Rattle.dfu_device.specs.Asked.{DecidesSetup}
-use Rattle.dfu_device.specs.inside.PendingAnswer.{pending_answer_of, AnswersPending, DonePending}
+use Rattle.dfu_device.specs.Decision.{profile_in, reply_in, plan_of, HasWrittenBytes, HasTimeInputs, HasLength, DecidesTime, Allows, AllowsRequest}
+use Rattle.dfu_device.specs.SetupDecision.{DecidesSetup}
+use Rattle.dfu_device.specs.inside.PendingAnswer.{pending_answer_of, AnswersPending, CarriedOutPending}
 
 -- A reply is answered as its pending answer is.
 pub as_drafted : (r : ReplyRead) (asked : ℕ) (w : DeviceView) (a : Answer) (out : List ℕ)
@@ -52,7 +52,7 @@ pub block_done : {T : Type 0} (w w' : DeviceView) (before block : List ℕ) (nex
     (result : Result T WriteFault)
     → OnOk result (WroteBlock before block w.config w.slots next w')
     → IfErr result (λ fault. FailedBlock fault before block w.config w.slots w')
-    → DonePending (Writes before block (reply_in (profile w) next r) next (λ fault. reply_in (profile w) (InError (write_code fault)) r))
+    → CarriedOutPending (Writes before block (reply_in (profile w) next r) next (λ fault. reply_in (profile w) (InError (write_code fault)) r))
     asked w (pending_answer_of asked r) w'
 block_done w w' before block next r asked result good bad = λ a out says. either_way_ended result good bad
     (λ g. inl (as_entered r asked w w' next a out g.config_is g.room g.stage_is says, g))
@@ -63,20 +63,20 @@ pub commit_done : {T : Type 0} (w w' : DeviceView) (taken : List ℕ) (next : St
     (result : Result T WriteFault)
     → OnOk result (Committed taken w.config w.slots next w')
     → IfErr result (λ fault. FailedCommit fault taken w.config w.slots w')
-    → DonePending (Commits taken (reply_in (profile w) next r) next (λ fault. reply_in (profile w) (InError (commit_code fault)) r))
+    → CarriedOutPending (Commits taken (reply_in (profile w) next r) next (λ fault. reply_in (profile w) (InError (commit_code fault)) r))
     asked w (pending_answer_of asked r) w'
 commit_done w w' taken next r asked result good bad = λ a out says. either_way_ended result good bad
     (λ g. inl (as_entered r asked w w' next a out g.config_is g.room g.stage_is says, g))
     (λ fault b. inr (fault, as_entered r asked w w' (InError (commit_code fault)) a out b.config_is b.room b.stage_is says, b))
 
 -- In a device the bytes that count as written are in the spare slot.
-pub holds_written : (m : DeviceState) (b : ℕ) (s : SlotsState) → IsTrue (is_sound m b s) → HoldsWritten m (spare_of s)
+pub holds_written : (m : DeviceState) (b : ℕ) (s : SlotsState) → IsTrue (is_sound m b s) → HasWrittenBytes m (spare_of s)
 holds_written (device_state.DownloadIdle written number) b s sound = length-take-le written (spare_of s) (grind (arith, common_steps))
 holds_written m b s sound = tt
 
 -- So is what a time depends on.
 pub holds_time : (m : DeviceState) (b : List ℕ) (s : SlotsState) → IsTrue (is_sound m (length b) s)
-    → HoldsTime m (length b) (spare_of s) b
+    → HasTimeInputs m (length b) (spare_of s) b
 holds_time (device_state.DownloadBusy written number passed) b s sound =
     (length-take-le written (spare_of s) (grind (arith, common_steps)), refl)
 holds_time (device_state.Manifest written passed) b s sound = length-take-le written (spare_of s) (grind (arith, common_steps))
@@ -123,7 +123,7 @@ handled p m setup block body d asked w same sound stage decides a out w' done =
 pub passed : (p : ProfileRead) (ms : ℕ) (m : DeviceState) (block body : List ℕ) (d : Decision) (w w' : DeviceView) (x : PendingAnswer)
     → profile_in p ≡ profile w → IsTrue (is_sound m (length block) w.slots) → w.stage ≡ stage_of m (spare_of w.slots) block
     → DecidesTime p m (length block) ms d → body ≡ []
-    → DonePending (plan_of (profile w) (image_of w.slots) (spare_of w.slots) block body d) 0 w x w' → x ≡ pending_answer.Ack
+    → CarriedOutPending (plan_of (profile w) (image_of w.slots) (spare_of w.slots) block body d) 0 w x w' → x ≡ pending_answer.Ack
     → Elapses ms w w'
 passed p ms m block body d w w' x same sound stage decides none done silent =
     let image = image_of w.slots in
@@ -139,8 +139,8 @@ passed p ms m block body d w w' x same sound stage decides none done silent =
     (subst (λ (l : List ℕ). Done (plan_of (profile w) image spare block l d) 0 w answer.Ack [] w') none (done answer.Ack [] says))
 
 -- A decision that can be carried out in a mode can be in an equal one.
-pub allowed : (p : ProfileRead) (q : Asked) (d : Decision) {m n : DeviceState} → m ≡ n → AllowsAsked p n q d → AllowsAsked p m q d
-allowed p q d is can = subst (λ (k : DeviceState). AllowsAsked p k q d) (sym is) can
+pub allowed : (p : ProfileRead) (q : Asked) (d : Decision) {m n : DeviceState} → m ≡ n → AllowsRequest p n q d → AllowsRequest p m q d
+allowed p q d is can = subst (λ (k : DeviceState). AllowsRequest p k q d) (sym is) can
 
 -- So can what a time comes to.
 pub allowed_time : (p : ProfileRead) (d : Decision) {m n : DeviceState} → m ≡ n → Allows p n 0 d → Allows p m 0 d
@@ -149,7 +149,7 @@ allowed_time p d is can = subst (λ (k : DeviceState). Allows p k 0 d) (sym is) 
 -- A decision that can be carried out with so many bytes can be with the body of a DNLOAD of that length.
 pub allowed_block : (p : ProfileRead) (m : DeviceState) (d : Decision) {q : Asked} {block len : ℕ} → q ≡ asked.Dnload block len
     → Allows p m len d
-    → AllowsAsked p m q d
+    → AllowsRequest p m q d
 allowed_block p m d is can = λ body fits.
     subst (λ (n : ℕ). Allows p m n d) (sym (subst (λ (x : Asked). HasLength x body) is fits)) can
 

@@ -3,12 +3,12 @@ use Rattle.std.proofs.Common.{◌≡◌, ◌⊎◌, ◌&&◌, inl, inr, true, Is
 use Rattle.std.proofs.lemmas.Grind.{common_steps}
 use Rattle.std.proofs.lemmas.List.{length-take-le}
 use Rattle.dfu_slots.specs.declared.fault.WriteFault.{WriteFault}
-use Rattle.dfu_slots.specs.Seen.{SlotsState, image_of, spare_of, is_begun, room_of, is_shaped, Commit, Ending, AllWorked, BrokenBy, DidCall, Called}
+use Rattle.dfu_slots.specs.StoreView.{SlotsState, image_of, spare_of, is_begun, room_of, is_shaped, Commit, Ending, AllWorked, BrokenBy, CallEnding, Called}
 use Rattle.dfu_device.specs.Setting.{Setting}
 use Rattle.dfu_device.specs.declared.device_state.DeviceState.{DeviceState}
 use Rattle.dfu_device.specs.declared.device_state.DeviceState.TheVariants as device_state
 use Rattle.dfu_device.specs.Parts.{shows, stage_of, is_put, is_filled, is_sound}
-use Rattle.dfu_device.specs.Decision.{TakesNothing}
+use Rattle.dfu_device.specs.Decision.{AcceptsNothing}
 use Rattle.dfu_device.specs.Table.{commit_code}
 use Rattle.dfu_device.specs.Rows.{Committed, FailedCommit}
 use Rattle.dfu_device.proofs.Calls.{called_one}
@@ -34,12 +34,12 @@ commit_ready b n s shape filled = record {
 }
 
 -- A commit of the bytes taken is one call, whether it worked or not.
-commit_calls : (s now : SlotsState) (n : ℕ) (ending : Ending) → n ≤ length (spare_of s) → DidCall s (Commit n) ending now
+commit_calls : (s now : SlotsState) (n : ℕ) (ending : Ending) → n ≤ length (spare_of s) → CallEnding s (Commit n) ending now
     → Called s (Commit (length (take n (spare_of s))) ∷ []) ending now
 commit_calls s now n ending fits d =
     subst (λ (k : ℕ). Called s (Commit k ∷ []) ending now) (sym (length-take-le n (spare_of s) fits)) (called_one s now (Commit n) ending d)
 
-rested : (m : DeviceState) → TakesNothing m → (xs ys : List ℕ)
+rested : (m : DeviceState) → AcceptsNothing m → (xs ys : List ℕ)
     → stage_of m xs ys ≡ stage_of m [] []
 rested m three xs ys = elim three [ inl e ↦ rw e refl | inr other ↦ elim other [ inl e ↦ rw e refl | inr e ↦ rw e refl ] ]
 
@@ -47,7 +47,7 @@ shaped_sound : (s : SlotsState) → is_shaped s ≡ true → IsTrue (is_shaped s
 shaped_sound s shape = grind (arith, common_steps)
 
 -- A core that goes on to dfuIDLE, to dfuMANIFEST-SYNC when complete, or to dfuMANIFEST-WAIT-RESET is sound.
-pub rested_sound : (m : DeviceState) (b : ℕ) (s : SlotsState) → TakesNothing m
+pub rested_sound : (m : DeviceState) (b : ℕ) (s : SlotsState) → AcceptsNothing m
     → is_shaped s ≡ true → IsTrue (is_sound m b s)
 rested_sound m b s three shape =
     let sound : IsTrue (is_shaped s && true) = shaped_sound s shape in
@@ -87,8 +87,8 @@ block_room n b number s filled = record { some = grind (arith, common_steps); ro
 
 -- A commit that worked is what the table says of it.
 pub committed : (config : Setting) (s now : SlotsState) (next : DeviceState) (block : List ℕ) (n : ℕ) → IsReady s n
-    → DidCall s (Commit n) AllWorked now → image_of now ≡ take n (spare_of s) → room_of now ≡ room_of s
-    → TakesNothing next
+    → CallEnding s (Commit n) AllWorked now → image_of now ≡ take n (spare_of s) → room_of now ≡ room_of s
+    → AcceptsNothing next
     → Committed (take n (spare_of s)) config s (stage_of next [] []) (shows config now next block)
 committed config s now next block n ready d image room three = record {
   config_is = refl;
@@ -100,7 +100,7 @@ committed config s now next block n ready d image room three = record {
 
 -- A commit that failed is what the table says of it.
 pub not_committed : (fault : WriteFault) (config : Setting) (s now : SlotsState) (block : List ℕ) (n : ℕ) → IsReady s n
-    → DidCall s (Commit n) (BrokenBy fault) now
+    → CallEnding s (Commit n) (BrokenBy fault) now
     → (image_of now ≡ image_of s) ⊎ (image_of now ≡ take n (spare_of s)) → room_of now ≡ room_of s
     → FailedCommit fault (take n (spare_of s)) config s (shows config now (device_state.Error (commit_code fault)) block)
 not_committed fault config s now block n ready d image room = record {

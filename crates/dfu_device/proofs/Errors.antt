@@ -1,7 +1,7 @@
 -- The cause of an error of the medium.
 use Rattle.std.specs.Prelude.{◌⊎◌, ℕ, List, []}
 use Rattle.std.proofs.Common.{ap, inl, inr, subst}
-use Rattle.dfu_slots.specs.Seen.{image_of}
+use Rattle.dfu_slots.specs.StoreView.{image_of}
 use Rattle.dfu_device.specs.declared.answer.Answer.{Answer}
 use Rattle.dfu_device.specs.declared.answer.Answer.TheVariants as answer
 use Rattle.dfu_device.specs.declared.objection.Objection.{Objection}

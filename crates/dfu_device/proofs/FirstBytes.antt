@@ -6,7 +6,7 @@ use Rattle.dfu_wire.specs.declared.setups.Setup.{Setup}
 use Rattle.dfu_wire.specs.declared.requests.Request.{Request as Asked}
 use Rattle.dfu_wire.specs.declared.requests.Request.TheVariants as asked
 use Rattle.dfu_wire.specs.Setup.{IsSetup}
-use Rattle.dfu_wire.specs.Request.{IsClass, Asks}
+use Rattle.dfu_wire.specs.Request.{IsClass, SetupRequest}
 use Rattle.dfu_device.specs.Rows.{is_served}
 use Rattle.dfu_device.proofs.Cases.{by_cases}
 
@@ -42,7 +42,7 @@ module _ (kind number : ℕ) (p : Setup) (setup : List ℕ) (reads : IsSetup p s
       }
 
   -- A setup that goes by the table has these two bytes if its request does, provided that no unnamed request of the class has them.
-  pub begins_as : (q : Asked) (body : List ℕ) → (IsClass p kind number → Asks p asked.OtherClass → ⊥) → Asks p q
+  pub begins_as : (q : Asked) (body : List ℕ) → (IsClass p kind number → SetupRequest p asked.OtherClass → ⊥) → SetupRequest p q
       → is_served p q body ≡ true → begins kind number setup ≡ is_numbered kind number q
   begins_as (asked.Detach timeout) body own asks on = of_class 0x21 0 asks.0
   begins_as (asked.Dnload block len) body own asks on = of_class 0x21 1 asks.0

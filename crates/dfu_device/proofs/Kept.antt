@@ -5,18 +5,18 @@ use Rattle.dfu_wire.specs.declared.setups.Setup.{Setup}
 use Rattle.dfu_wire.specs.declared.requests.Request.{Request as Asked}
 use Rattle.dfu_wire.specs.declared.codes.Code.{Code}
 use Rattle.dfu_slots.specs.declared.fault.WriteFault.{WriteFault}
-use Rattle.dfu_slots.specs.Seen.{image_of, Commit, AllWorked, BrokenBy, Called}
+use Rattle.dfu_slots.specs.StoreView.{image_of, Commit, AllWorked, BrokenBy, Called}
 use Rattle.dfu_device.specs.declared.answer.Answer.{Answer}
 use Rattle.dfu_device.specs.declared.answer.Answer.TheVariants as answer
 use Rattle.dfu_device.specs.Stage.{Request, GetStatus, ClrStatus, GetState, Profile, Stage, InError}
 use Rattle.dfu_device.specs.Table.{Plan, Sure, Writes, Commits, plan, time_plan}
 use Rattle.dfu_device.specs.DeviceView.{DeviceView, profile, situation, written_in}
 use Rattle.dfu_device.specs.Rows.{meant, asked_length, Done, is_served, setup_plan, handled_as, Transfer, Passing, BusReset, RefusingClose, Refusing, PowerOn}
-use Rattle.dfu_device.specs.Taken.{taken_of}
+use Rattle.dfu_device.specs.AcceptedBytes.{accepted_of}
 use Rattle.dfu_device.specs.Cases.{either_way}
 use Rattle.dfu_device.specs.RowForms.{CallsFor}
 use Rattle.dfu_device.proofs.Leads.{row_leads, time_leads}
-use Rattle.dfu_device.specs.Kept.{KeepsImage, RowKeeps, ErrorKeeps}
+use Rattle.dfu_device.specs.StoreUse.{StoreUse, RowsUseStore, ErrorRowsUseNothing}
 
 -- The fault that broke a call off is one.
 ended_one : {f g : WriteFault} → BrokenBy f ≡ BrokenBy g → f ≡ g
@@ -25,7 +25,7 @@ ended_one q = cc
 -- The image.
 
 done_keeps : (p : Plan) (len : ℕ) (w : DeviceView) (a : Answer) (out : List ℕ) (w' : DeviceView)
-    → CallsFor (written_in w.stage) (taken_of (situation w)) p → Done p len w a out w' → KeepsImage w w'
+    → CallsFor (written_in w.stage) (accepted_of (situation w)) p → Done p len w a out w' → StoreUse w w'
 done_keeps (Sure reply stage) len w a out w' only (says, is) = inl (inl (ap (λ (z : DeviceView). z.slots) is))
 done_keeps (Writes before block reply stage bad) len w a out w' only (inl (says, h)) = inr (inl (record {
   before = before;
@@ -64,12 +64,12 @@ done_keeps (Commits taken reply stage bad) len w a out w' only (inr (fault, says
 }))
 
 setup_calls : (w : DeviceView) (p : Setup) (q : Asked) (body : List ℕ)
-    → CallsFor (written_in w.stage) (taken_of (situation w)) (setup_plan w p q body)
-setup_calls w p q body = either_way (CallsFor (written_in w.stage) (taken_of (situation w))) (is_served p q body) _ _
+    → CallsFor (written_in w.stage) (accepted_of (situation w)) (setup_plan w p q body)
+setup_calls w p q body = either_way (CallsFor (written_in w.stage) (accepted_of (situation w))) (is_served p q body) _ _
     (row_leads (profile w) (image_of w.slots) w.stage (meant q body)).0 tt
 
 -- Each row keeps the image, but for a commit of the bytes taken.
-pub image_kept : RowKeeps
+pub image_kept : RowsUseStore
 image_kept w (Transfer setup body) a out w' (handled_as p q reads asks done) =
     done_keeps (setup_plan w p q body) (asked_length q) w a out w' (setup_calls w p q body) done
 image_kept w (Passing ms) a out w' (is, none, row) =
@@ -99,7 +99,7 @@ error_sure c i code GetState = tt
 error_sure c i code r = tt
 
 -- In dfuERROR each row keeps the slot store.
-pub error_keeps : ErrorKeeps
+pub error_keeps : ErrorRowsUseNothing
 error_keeps code w (Transfer setup body) a out w' at (handled_as p q reads asks done) =
     inl (sure_keeps (setup_plan w p q body) (asked_length q) w a out w'
     (either_way IsSure (is_served p q body) _ _ (subst (λ (st : Stage). IsSure (plan (profile w) (image_of w.slots) st (meant q body)))

@@ -3,12 +3,12 @@ use Rattle.std.specs.Prelude.{ℕ, List}
 use Rattle.dfu_device.specs.Stage.{Request, OtherRequest, Profile, Stage}
 use Rattle.dfu_device.specs.Table.{Plan, plan, time_plan}
 use Rattle.dfu_device.specs.DeviceView.{written_in}
-use Rattle.dfu_device.specs.Taken.{taken_in}
+use Rattle.dfu_device.specs.AcceptedBytes.{accepted_in}
 use Rattle.dfu_device.specs.RowForms.{CallsFor, WorksWell, RowForm, quiet, takes, closes, sends, ends, row_form, time_form}
 
 -- A plan calls the slot store only for the bytes taken, and ends in an error of the medium only if that failed or the error was there.
 abbrev pub Leads : List ℕ → Stage → Plan → Type 0
-Leads i st p = CallsFor (written_in st) (taken_in i st) p × WorksWell st p
+Leads i st p = CallsFor (written_in st) (accepted_in i st) p × WorksWell st p
 
 form_leads : (c : Profile) (i : List ℕ) (st : Stage) (r : Request) (p : Plan) → RowForm c i st r p → Leads i st p
 form_leads c i st r p (quiet replies calls well counts) = (calls, well)

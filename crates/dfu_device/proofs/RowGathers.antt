@@ -5,8 +5,8 @@ use Rattle.dfu_wire.specs.declared.setups.Setup.{Setup}
 use Rattle.dfu_wire.specs.declared.requests.Request.{Request as Asked}
 use Rattle.dfu_wire.specs.declared.states.State.{State}
 use Rattle.dfu_wire.specs.Setup.{IsSetup}
-use Rattle.dfu_wire.specs.Request.{Asks}
-use Rattle.dfu_slots.specs.Seen.{store_on, image_of}
+use Rattle.dfu_wire.specs.Request.{SetupRequest}
+use Rattle.dfu_slots.specs.StoreView.{store_on, image_of}
 use Rattle.dfu_device.specs.declared.answer.Answer.{Answer}
 use Rattle.dfu_device.specs.declared.answer.Answer.TheVariants as answer
 use Rattle.dfu_device.specs.declared.objection.Objection.{Objection}
@@ -15,21 +15,21 @@ use Rattle.dfu_device.specs.Table.{Plan, plan, time_plan, reset_stage, objection
 use Rattle.dfu_device.specs.Outcome.{Luck, Outcome, outcome}
 use Rattle.dfu_device.specs.DeviceView.{DeviceView, profile}
 use Rattle.dfu_device.specs.Rows.{meant, asked_length, Answers, is_served, Handles, handled_as, Elapses, Cause, Transfer, Passing, BusReset, RefusingClose, Refusing, PowerOn, Row}
-use Rattle.dfu_device.specs.Came.{Came, asked_came, not_served, time_came}
-use Rattle.dfu_device.specs.RowForms.{ReplyFits, reply_given, RowForm, row_form, time_form, row_fits}
+use Rattle.dfu_device.specs.PlanOutcomes.{PlanOutcome, setups_have_outcomes, not_served, times_have_outcomes}
+use Rattle.dfu_device.specs.RowForms.{ReplyMatches, reply_of_plan, RowForm, row_form, time_form, row_matches}
 use Rattle.dfu_device.specs.History.{HistoryStep, IsRow, IsHistory, Gathered, from_start}
 use Rattle.dfu_device.proofs.History.{step_gathers, history_gathers}
 use Rattle.dfu_device.proofs.Cases.{by_cases}
 
 -- The reply to a setup that goes by the table is of the kind that its request has.
 pub reply_fits : (q : Asked) (body : List ℕ) (len : ℕ) (w : DeviceView) (a : Answer) (out : List ℕ) (w' : DeviceView)
-    (x : Came (plan (profile w) (image_of w.slots) w.stage (meant q body)) len w a out w')
-    → ReplyFits (profile w).transfer x.reply (meant q body)
+    (x : PlanOutcome (plan (profile w) (image_of w.slots) w.stage (meant q body)) len w a out w')
+    → ReplyMatches (profile w).transfer x.reply (meant q body)
 reply_fits q body len w a out w' x =
     let p : Plan = plan (profile w) (image_of w.slots) w.stage (meant q body) in
-    subst (λ (o : Outcome). ReplyFits (profile w).transfer o.reply (meant q body)) x.same
-    (reply_given (λ (reply : Reply). ReplyFits (profile w).transfer reply (meant q body)) (image_of w.slots) p x.luck
-    (row_fits (profile w) (image_of w.slots) w.stage (meant q body) p (row_form (profile w) (image_of w.slots) w.stage (meant q body))))
+    subst (λ (o : Outcome). ReplyMatches (profile w).transfer o.reply (meant q body)) x.same
+    (reply_of_plan (λ (reply : Reply). ReplyMatches (profile w).transfer reply (meant q body)) (image_of w.slots) p x.luck
+    (row_matches (profile w) (image_of w.slots) w.stage (meant q body) p (row_form (profile w) (image_of w.slots) w.stage (meant q body))))
 
 -- In which states bytes are held, which they are by image and state, what a reply makes of them, and what a cause with its answer adds.
 module _ (inside : State → Bool) (held : List ℕ → Stage → List ℕ) (joined : List ℕ → Request → Reply → List ℕ)
@@ -52,7 +52,7 @@ module _ (inside : State → Bool) (held : List ℕ → Stage → List ℕ) (joi
         → Joins (held i st) r (outcome i p luck)
     -- Bytes that a setup adds, by its answer.
     pub answered : (p : Setup) (q : Asked) (setup body before : List ℕ) (most len : ℕ) (reply : Reply) (a : Answer) (out : List ℕ)
-        → IsSetup p setup → Asks p q → is_served p q body ≡ true → ReplyFits most reply (meant q body) → Answers len reply a out
+        → IsSetup p setup → SetupRequest p q → is_served p q body ≡ true → ReplyMatches most reply (meant q body) → Answers len reply a out
         → joined before (meant q body) reply ≡ before ++ own (Transfer setup body) a out
     -- If it is stalled, or if nothing is asked, nothing is added.
     pub stalled : (setup body out : List ℕ) → own (Transfer setup body) answer.Stall out ≡ []
@@ -69,11 +69,11 @@ module _ (inside : State → Bool) (held : List ℕ → Stage → List ℕ) (joi
 
   module _ (known : Gathers) where
     served : (p : Setup) (q : Asked) (setup body : List ℕ) (w : DeviceView) (a : Answer) (out : List ℕ) (w' : DeviceView) → IsSetup p setup
-        → Asks p q → is_served p q body ≡ true → Handles setup body w a out w'
+        → SetupRequest p q → is_served p q body ≡ true → Handles setup body w a out w'
         → held_by w' ≡ left (state_of w'.stage) (held_by w ++ own (Transfer setup body) a out)
     served p q setup body w a out w' reads asks on h =
-        let x : Came (plan (profile w) (image_of w.slots) w.stage (meant q body)) (asked_length q) w a out w' =
-        asked_came p q setup body w a out w' reads asks on h in
+        let x : PlanOutcome (plan (profile w) (image_of w.slots) w.stage (meant q body)) (asked_length q) w a out w' =
+        setups_have_outcomes p q setup body w a out w' reads asks on h in
         subst (Joins (held_by w) (meant q body)) x.same
         (known.form (profile w) (image_of w.slots) w.stage (meant q body) (plan (profile w) (image_of w.slots) w.stage (meant q body))
         (row_form (profile w) (image_of w.slots) w.stage (meant q body)) x.luck)
@@ -90,7 +90,7 @@ module _ (inside : State → Bool) (held : List ℕ → Stage → List ℕ) (joi
     waited : (ms : ℕ) (w : DeviceView) (a : Answer) (out : List ℕ) (w' : DeviceView) → Elapses ms w w'
         → held_by w' ≡ left (state_of w'.stage) (held_by w ++ own (Passing ms) a out)
     waited ms w a out w' row =
-        let x : Came (time_plan (profile w) w.stage ms) 0 w answer.Ack [] w' = time_came ms w w' row in
+        let x : PlanOutcome (time_plan (profile w) w.stage ms) 0 w answer.Ack [] w' = times_have_outcomes ms w w' row in
         subst (Joins (held_by w) OtherRequest) x.same
         (known.form (profile w) (image_of w.slots) w.stage OtherRequest (time_plan (profile w) w.stage ms)
         (time_form (profile w) (image_of w.slots) w.stage ms) x.luck)

@@ -6,14 +6,14 @@ use Rattle.dfu_wire.specs.declared.setups.Setup.{Setup}
 use Rattle.dfu_wire.specs.declared.requests.Request.{Request as Asked}
 use Rattle.dfu_wire.specs.declared.requests.Request.TheVariants as asked
 use Rattle.dfu_wire.specs.Setup.{IsSetup}
-use Rattle.dfu_wire.specs.Request.{Asks}
+use Rattle.dfu_wire.specs.Request.{SetupRequest}
 use Rattle.dfu_device.specs.declared.answer.Answer.{Answer}
 use Rattle.dfu_device.specs.declared.answer.Answer.TheVariants as answer
 use Rattle.dfu_device.specs.declared.objection.Objection.{Objection}
 use Rattle.dfu_device.specs.Stage.{Request, Reply, Data, Stall, Stage, InAppDetach, InManifestSync, InManifest, InUploadIdle, state_of}
 use Rattle.dfu_device.specs.Table.{reset_stage, refuse_stage}
 use Rattle.dfu_device.specs.Rows.{meant, Answers, is_served, Refusing, Transfer}
-use Rattle.dfu_device.specs.RowForms.{ReplyFits}
+use Rattle.dfu_device.specs.RowForms.{ReplyMatches}
 use Rattle.dfu_device.specs.Sent.{is_uploading, sent_in, upload_sent, still_sent, is_upload, piece}
 use Rattle.dfu_device.proofs.SentRow.{form_sends}
 use Rattle.dfu_device.proofs.FirstBytes.{is_numbered, begins_as}
@@ -22,7 +22,7 @@ use Rattle.dfu_device.proofs.RowGathers.{Gathers}
 -- Bytes that a setup sends.
 
 -- A setup that goes by the table is an UPLOAD by its bytes if it asks for one.
-pub upload_as : (p : Setup) (q : Asked) (setup body : List ℕ) → IsSetup p setup → Asks p q → is_served p q body ≡ true
+pub upload_as : (p : Setup) (q : Asked) (setup body : List ℕ) → IsSetup p setup → SetupRequest p q → is_served p q body ≡ true
     → is_upload setup ≡ is_numbered 0xa1 2 q
 upload_as p q setup body reads asks on = begins_as 0xa1 2 p setup reads q body
     (λ class other. other.1 (asked.Upload p.value p.length) (class, refl, refl)) asks on
@@ -33,7 +33,7 @@ no_piece setup body answer.Bytes out off = ap (λ (b : Bool). if b then out else
 no_piece setup body a out off = refl
 
 answered : (p : Setup) (q : Asked) (setup body t : List ℕ) (most len : ℕ) (reply : Reply) (a : Answer) (out : List ℕ) → IsSetup p setup
-    → Asks p q → is_served p q body ≡ true → ReplyFits most reply (meant q body) → Answers len reply a out
+    → SetupRequest p q → is_served p q body ≡ true → ReplyMatches most reply (meant q body) → Answers len reply a out
     → t ++ upload_sent (meant q body) reply ≡ t ++ piece (Transfer setup body) a out
 answered p (asked.Upload block count) setup body t most len (Data bytes) a out reads asks on fits says =
     ap (λ (l : List ℕ). t ++ l) (sym (ap (λ (x : Answer). piece (Transfer setup body) x out) says.0

@@ -8,7 +8,7 @@ use Rattle.dfu_device.specs.Stage.{Data, Request, Upload, Reply, Profile, Stage,
 use Rattle.dfu_device.specs.Table.{Plan}
 use Rattle.dfu_device.specs.Outcome.{Luck, Outcome, outcome}
 use Rattle.dfu_device.specs.Sent.{sent_in, sent_of, upload_sent, still_sent, sent_after}
-use Rattle.dfu_device.specs.RowForms.{IsQuiet, counted, quiet_given, RowForm, quiet, takes, closes, sends, ends}
+use Rattle.dfu_device.specs.RowForms.{IsQuiet, counted, quiet_of_plan, RowForm, quiet, takes, closes, sends, ends}
 
 -- Whatever the medium does, what counts as sent after a plan is what was sent before with what it sends.
 abbrev pub Sends : List ℕ → Stage → Request → Plan → Type 0
@@ -25,7 +25,7 @@ pub form_sends : (c : Profile) (i : List ℕ) (st : Stage) (r : Request) (p : Pl
 form_sends c i st r p (quiet replies calls well counts) luck =
     (counted i st p luck counts).1
     ∙ ap (still_sent (state_of (outcome i p luck).after.stage)) (sym (append-nil (sent_in i st))
-    ∙ ap (λ (l : List ℕ). sent_in i st ++ l) (sym (none_sent r (outcome i p luck).reply (quiet_given c i r p luck replies))))
+    ∙ ap (λ (l : List ℕ). sent_in i st ++ l) (sym (none_sent r (outcome i p luck).reply (quiet_of_plan c i r p luck replies))))
 form_sends c i st r p takes luck = refl
 form_sends c i st r p closes luck = refl
 form_sends c i st r p (sends place size is small) luck =
@@ -51,7 +51,7 @@ Completes i st o = (bytes : List ℕ) → o.reply ≡ Data bytes → o.after.sta
 pub form_completes : (c : Profile) (i : List ℕ) (st : Stage) (r : Request) (p : Plan) (luck : Luck) → RowForm c i st r p
     → Completes i st (outcome i p luck)
 form_completes c i st r p luck (quiet replies calls well counts) bytes is idle =
-    absurd (subst (λ (reply : Reply). IsQuiet reply r) is (quiet_given c i r p luck replies))
+    absurd (subst (λ (reply : Reply). IsQuiet reply r) is (quiet_of_plan c i r p luck replies))
 form_completes c i st r p luck takes bytes is idle = absurd cc
 form_completes c i st r p luck closes bytes is idle = absurd cc
 form_completes c i st r p luck (sends place size at small) bytes is idle = absurd cc

@@ -5,12 +5,12 @@ use Rattle.std.proofs.lemmas.List.{append-nil}
 use Rattle.dfu_device.specs.Stage.{Request, Dnload, Reply, Ack, Profile, Stage, state_of}
 use Rattle.dfu_device.specs.Table.{Plan}
 use Rattle.dfu_device.specs.Outcome.{Luck, outcome}
-use Rattle.dfu_device.specs.Taken.{taken_in, taken_of, dnload_added, held_in, taken_after}
-use Rattle.dfu_device.specs.RowForms.{IsQuiet, counted, quiet_given, RowForm, quiet, takes, closes, sends, ends}
+use Rattle.dfu_device.specs.AcceptedBytes.{accepted_in, accepted_of, dnload_added, held_in, accepted_after}
+use Rattle.dfu_device.specs.RowForms.{IsQuiet, counted, quiet_of_plan, RowForm, quiet, takes, closes, sends, ends}
 
 -- Whatever the medium does, what a plan leaves taken is what was taken with what it acknowledged.
 abbrev pub Keeps : List ℕ → Stage → Request → Plan → Type 0
-Keeps i st r p = (luck : Luck) → taken_of (outcome i p luck).after ≡ taken_after (taken_in i st) r (outcome i p luck)
+Keeps i st r p = (luck : Luck) → accepted_of (outcome i p luck).after ≡ accepted_after (accepted_in i st) r (outcome i p luck)
 
 -- A quiet reply adds nothing.
 none_added : (t : List ℕ) (r : Request) (reply : Reply) → IsQuiet reply r → dnload_added t r reply ≡ t
@@ -23,7 +23,7 @@ pub form_keeps : (c : Profile) (i : List ℕ) (st : Stage) (r : Request) (p : Pl
 form_keeps c i st r p (quiet replies calls well counts) luck =
     (counted i st p luck counts).0
     ∙ ap (held_in (state_of (outcome i p luck).after.stage))
-    (sym (none_added (taken_in i st) r (outcome i p luck).reply (quiet_given c i r p luck replies)))
+    (sym (none_added (accepted_in i st) r (outcome i p luck).reply (quiet_of_plan c i r p luck replies)))
 form_keeps c i st r p takes luck = refl
 form_keeps c i st r p (closes {taken = taken}) luck = sym (append-nil taken)
 form_keeps c i st r p (sends place size is small) luck = refl

@@ -3,7 +3,7 @@ use Rattle.std.specs.Prelude.{◌≡◌, ◌⊎◌, ℕ, ◌==◌, Bool, true, f
 use Rattle.std.proofs.Common.{refl, sym, ap, inl, inr, subst}
 use Rattle.std.proofs.lemmas.Bool.{false≢true}
 use Rattle.dfu_wire.specs.declared.requests.Request.TheVariants as asked
-use Rattle.dfu_slots.specs.Seen.{image_of}
+use Rattle.dfu_slots.specs.StoreView.{image_of}
 use Rattle.dfu_device.specs.declared.answer.Answer.{Answer}
 use Rattle.dfu_device.specs.declared.answer.Answer.TheVariants as answer
 use Rattle.dfu_device.specs.Stage.{GetStatus, GetState, Reply, StateOf, Stall, Profile, Stage, InAppIdle, InAppDetach, InDfuIdle, InDownloadSync, InDownloadSyncWritten, InDownloadBusy, InDownloadIdle, InManifestSync, InManifestSyncComplete, InManifest, InManifestWaitReset, InUploadIdle, InError, state_of, status_of}
@@ -11,9 +11,9 @@ use Rattle.dfu_device.specs.Table.{write_and_report, Plan, plan, commit_and_repo
 use Rattle.dfu_device.specs.Outcome.{Luck, Works, FailsOld, FailsNew, Outcome, outcome}
 use Rattle.dfu_device.specs.DeviceView.{profile, situation}
 use Rattle.dfu_device.specs.Rows.{Answers}
-use Rattle.dfu_device.specs.Came.{Came, asked_came}
+use Rattle.dfu_device.specs.PlanOutcomes.{PlanOutcome, setups_have_outcomes}
 use Rattle.dfu_device.specs.Cases.{either_way}
-use Rattle.dfu_device.specs.Told.{StatusTold, StateTold}
+use Rattle.dfu_device.specs.ReportLaws.{StatusReportMatches, StateReportMatches}
 
 -- The status and the state that are reported.
 
@@ -92,10 +92,10 @@ pub bytes_no_stall : answer.Bytes ≡ answer.Stall → ⊥
 bytes_no_stall e = false≢true (ap (λ (a : Answer). is_stall a) e)
 
 -- A status that was answered is that of the state entered.
-pub status_told : StatusTold
+pub status_told : StatusReportMatches
 status_told p len setup body w out w' reads asks on h =
-    let x : Came (plan (profile w) (image_of w.slots) w.stage GetStatus) len w answer.Bytes out w' =
-    asked_came p (asked.GetStatus len) setup body w answer.Bytes out w' reads asks on h in
+    let x : PlanOutcome (plan (profile w) (image_of w.slots) w.stage GetStatus) len w answer.Bytes out w' =
+    setups_have_outcomes p (asked.GetStatus len) setup body w answer.Bytes out w' reads asks on h in
     let told : Tells (profile w) (record { reply = x.reply; after = situation w' }) =
     subst (λ (o : Outcome). Tells (profile w) o) x.same (status_tells (profile w) (image_of w.slots) w.stage x.luck) in
     elim told [
@@ -105,10 +105,10 @@ status_told p len setup body w out w' reads asks on h =
     ]
 
 -- A state that was answered is that of the state entered.
-pub state_told : StateTold
+pub state_told : StateReportMatches
 state_told p len setup body w out w' reads asks on h =
-    let x : Came (plan (profile w) (image_of w.slots) w.stage GetState) len w answer.Bytes out w' =
-    asked_came p (asked.GetState len) setup body w answer.Bytes out w' reads asks on h in
+    let x : PlanOutcome (plan (profile w) (image_of w.slots) w.stage GetState) len w answer.Bytes out w' =
+    setups_have_outcomes p (asked.GetState len) setup body w answer.Bytes out w' reads asks on h in
     let told : TellsState w.stage (record { reply = x.reply; after = situation w' }) =
     subst (λ (o : Outcome). TellsState w.stage o) x.same (state_tells (profile w) (image_of w.slots) w.stage x.luck) in
     elim told [

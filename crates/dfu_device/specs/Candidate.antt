@@ -1,6 +1,6 @@
 -- An image that was received and is not in place yet, which the program of a device may check where it is stored.
 use Rattle.std.specs.Prelude.{◌≡◌, ℕ, ◌+◌, ◌≤◌, List, ◌++◌, length, slice_range, Option, Some, None}
-use Rattle.dfu_slots.specs.Seen.{data_place}
+use Rattle.dfu_slots.specs.StoreView.{data_place}
 use Rattle.dfu_device.specs.declared.candidate.Candidate.{Candidate}
 use Rattle.dfu_device.specs.declared.device_state.DeviceState.{DeviceState}
 use Rattle.dfu_device.specs.declared.device_state.DeviceState.TheVariants as device_state

@@ -2,7 +2,7 @@
 use Rattle.std.specs.Prelude.{◌≡◌, ◌⊎◌, ℕ, ◌+◌, ◌≤◌, nat_lt, Bool, IsTrue, if◌then◌else◌, List, [], ◌++◌, length, take, drop}
 use Rattle.dfu_wire.specs.declared.requests.Request.{Request as Asked}
 use Rattle.dfu_wire.specs.declared.requests.Request.TheVariants as asked
-use Rattle.dfu_slots.specs.Seen.{SlotsState, room_of}
+use Rattle.dfu_slots.specs.StoreView.{SlotsState, room_of}
 use Rattle.dfu_device.specs.declared.decision.Reply.{Reply as ReplyRead}
 use Rattle.dfu_device.specs.declared.decision.Reply.TheVariants as reply
 use Rattle.dfu_device.specs.declared.config.Profile.{Profile as ProfileRead}
@@ -57,15 +57,15 @@ IsSilent (decision.Writes r written number late) = r ≡ reply.Ack
 IsSilent (decision.Commits r written m) = r ≡ reply.Ack
 
 -- The bytes that count as written are in the spare slot.
-abbrev pub HoldsWritten : DeviceState → (spare : List ℕ) → Type 0
-HoldsWritten (device_state.DownloadIdle written number) spare = length (take written spare) ≡ written
-HoldsWritten m spare = Unit {0}
+abbrev pub HasWrittenBytes : DeviceState → (spare : List ℕ) → Type 0
+HasWrittenBytes (device_state.DownloadIdle written number) spare = length (take written spare) ≡ written
+HasWrittenBytes m spare = Unit {0}
 
 -- The time of a decision depends on these facts: the bytes that count as written are in the spare slot, and the block has so many bytes.
-abbrev pub HoldsTime : DeviceState → ℕ → (spare block : List ℕ) → Type 0
-HoldsTime (device_state.DownloadBusy written number passed) n spare block = (length (take written spare) ≡ written) × (length block ≡ n)
-HoldsTime (device_state.Manifest written passed) n spare block = length (take written spare) ≡ written
-HoldsTime m n spare block = Unit {0}
+abbrev pub HasTimeInputs : DeviceState → ℕ → (spare block : List ℕ) → Type 0
+HasTimeInputs (device_state.DownloadBusy written number passed) n spare block = (length (take written spare) ≡ written) × (length block ≡ n)
+HasTimeInputs (device_state.Manifest written passed) n spare block = length (take written spare) ≡ written
+HasTimeInputs m n spare block = Unit {0}
 
 -- A body has the length that its request says.
 abbrev pub HasLength : Asked → (body : List ℕ) → Type 0
@@ -74,17 +74,17 @@ HasLength q body = Unit {0}
 
 -- The decision on a request in this mode is its row.
 abbrev pub Decides : ProfileRead → DeviceState → Asked → Decision → Type 0
-Decides p m q d = (image spare block body : List ℕ) → HoldsWritten m spare → HasLength q body
+Decides p m q d = (image spare block body : List ℕ) → HasWrittenBytes m spare → HasLength q body
     → plan_of (profile_in p) image spare block body d ≡ plan (profile_in p) image (stage_of m spare block) (meant q body)
 
 -- The decision on so many milliseconds in this mode, with a block of n bytes, is their row.
 abbrev pub DecidesTime : ProfileRead → DeviceState → (n ms : ℕ) → Decision → Type 0
-DecidesTime p m n ms d = (image spare block : List ℕ) → HoldsTime m n spare block
+DecidesTime p m n ms d = (image spare block : List ℕ) → HasTimeInputs m n spare block
     → plan_of (profile_in p) image spare block [] d ≡ time_plan (profile_in p) (stage_of m spare block) ms
 
 -- A mode in which nothing is taken.
-abbrev pub TakesNothing : DeviceState → Type 0
-TakesNothing m = (m ≡ device_state.DfuIdle) ⊎ (m ≡ device_state.ManifestSyncComplete) ⊎ (m ≡ device_state.ManifestWaitReset)
+abbrev pub AcceptsNothing : DeviceState → Type 0
+AcceptsNothing m = (m ≡ device_state.DfuIdle) ⊎ (m ≡ device_state.ManifestSyncComplete) ⊎ (m ≡ device_state.ManifestWaitReset)
 
 -- A decision can be carried out, with blocks of at most `transfer` bytes, if the block that is not written and the body have so many.
 abbrev pub IsPossible : (transfer block body : ℕ) → SlotsState → Decision → Type 0
@@ -94,7 +94,7 @@ IsPossible transfer block body s (decision.Sends place size number) = Unit {0}
 IsPossible transfer block body s (decision.Writes r written number late) =
     IsTrue (is_filled (device_state.DownloadSync written number) block s)
 IsPossible transfer block body s (decision.Commits r written m) =
-    IsTrue (is_filled (device_state.ManifestSync written) block s) × TakesNothing m
+    IsTrue (is_filled (device_state.ManifestSync written) block s) × AcceptsNothing m
 
 -- The decision in this mode, on a body of so many bytes, can be carried out.
 abbrev pub Allows : ProfileRead → DeviceState → (body : ℕ) → Decision → Type 0
@@ -102,5 +102,5 @@ Allows p m body d = (block : ℕ) (s : SlotsState) → room_of s ≡ p.capacity 
     → IsPossible p.functional.transfer block body s d
 
 -- The decision on a request in this mode can be carried out with each body of the right length.
-abbrev pub AllowsAsked : ProfileRead → DeviceState → Asked → Decision → Type 0
-AllowsAsked p m q d = (body : List ℕ) → HasLength q body → Allows p m (length body) d
+abbrev pub AllowsRequest : ProfileRead → DeviceState → Asked → Decision → Type 0
+AllowsRequest p m q d = (body : List ℕ) → HasLength q body → Allows p m (length body) d

@@ -2,7 +2,7 @@
 use Rattle.std.specs.Prelude.{◌≡◌, ℕ, List, [], length, take}
 use Rattle.dfu_wire.specs.declared.functionals.Functional.{Functional}
 use Rattle.dfu_slots.specs.Medium.{MediumState}
-use Rattle.dfu_slots.specs.Seen.{SlotsState, store_on, image_of, spare_of, room_of}
+use Rattle.dfu_slots.specs.StoreView.{SlotsState, store_on, image_of, spare_of, room_of}
 use Rattle.dfu_device.specs.Stage.{Profile, Stage, InAppIdle, InDownloadSync, InDownloadSyncWritten, InDownloadBusy, InDownloadIdle, InManifestSync, InManifest}
 use Rattle.dfu_device.specs.declared.config.Pace.{Pace}
 use Rattle.dfu_device.specs.Setting.{Setting}

@@ -1,6 +1,6 @@
 -- The parts of a device beside its configuration: its slot store, its mode (`DeviceState`), and a block that is not written.
 use Rattle.std.specs.Prelude.{ℕ, ◌+◌, Bool, true, nat_le, nat_lt, ◌&&◌, ◌||◌, ◌==◌, List, take}
-use Rattle.dfu_slots.specs.Seen.{SlotsState, spare_of, is_begun, room_of, is_shaped}
+use Rattle.dfu_slots.specs.StoreView.{SlotsState, spare_of, is_begun, room_of, is_shaped}
 use Rattle.dfu_device.specs.declared.device_state.DeviceState.{DeviceState}
 use Rattle.dfu_device.specs.declared.device_state.DeviceState.TheVariants as device_state
 use Rattle.dfu_device.specs.Stage.{Stage, InAppIdle, InAppDetach, InDfuIdle, InDownloadSync, InDownloadSyncWritten, InDownloadBusy, InDownloadIdle, InManifestSync, InManifestSyncComplete, InManifest, InManifestWaitReset, InUploadIdle, InError}

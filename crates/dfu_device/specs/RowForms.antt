@@ -11,7 +11,7 @@ use Rattle.dfu_device.specs.Stage.{Request, Dnload, Upload, GetStatus, ClrStatus
 use Rattle.dfu_device.specs.Table.{Plan, Sure, Writes, Commits, ack, error, has_no_bytes, block_plan, further_plan, upload_plan, plan, time_plan}
 use Rattle.dfu_device.specs.Outcome.{Situation, Luck, Works, FailsOld, FailsNew, outcome}
 use Rattle.dfu_device.specs.DeviceView.{written_in}
-use Rattle.dfu_device.specs.Taken.{taken_in, taken_of, held_in}
+use Rattle.dfu_device.specs.AcceptedBytes.{accepted_in, accepted_of, held_in}
 use Rattle.dfu_device.specs.Sent.{sent_in, sent_of, still_sent}
 use Rattle.dfu_device.specs.Errors.{IsMediumError}
 use Rattle.dfu_device.specs.Cases.{either_way}
@@ -25,26 +25,26 @@ EachReply P (Writes before block reply stage bad) = P reply × ((fault : WriteFa
 EachReply P (Commits taken reply stage bad) = P reply × ((fault : WriteFault) → P (bad fault))
 
 -- A fact of each reply that a plan may give holds of the one that is given, also if the medium fails.
-pub reply_given : (P : Reply → Type 0) (image : List ℕ) (p : Plan) (luck : Luck) → EachReply P p → P (outcome image p luck).reply
-reply_given P image (Sure reply stage) luck each = each
-reply_given P image (Writes before block reply stage bad) Works each = each.0
-reply_given P image (Writes before block reply stage bad) (FailsOld fault) each = each.1 fault
-reply_given P image (Writes before block reply stage bad) (FailsNew fault) each = each.1 fault
-reply_given P image (Commits taken reply stage bad) Works each = each.0
-reply_given P image (Commits taken reply stage bad) (FailsOld fault) each = each.1 fault
-reply_given P image (Commits taken reply stage bad) (FailsNew fault) each = each.1 fault
+pub reply_of_plan : (P : Reply → Type 0) (image : List ℕ) (p : Plan) (luck : Luck) → EachReply P p → P (outcome image p luck).reply
+reply_of_plan P image (Sure reply stage) luck each = each
+reply_of_plan P image (Writes before block reply stage bad) Works each = each.0
+reply_of_plan P image (Writes before block reply stage bad) (FailsOld fault) each = each.1 fault
+reply_of_plan P image (Writes before block reply stage bad) (FailsNew fault) each = each.1 fault
+reply_of_plan P image (Commits taken reply stage bad) Works each = each.0
+reply_of_plan P image (Commits taken reply stage bad) (FailsOld fault) each = each.1 fault
+reply_of_plan P image (Commits taken reply stage bad) (FailsNew fault) each = each.1 fault
 
 -- A reply is of the kind that the request has, and has at most so many bytes of an image.
-abbrev pub ReplyFits : ℕ → Reply → Request → Type 0
-ReplyFits most Stall r = Unit {0}
-ReplyFits most Ack GetStatus = ⊥
-ReplyFits most Ack GetState = ⊥
-ReplyFits most Ack (Upload number size) = ⊥
-ReplyFits most Ack r = Unit {0}
-ReplyFits most (StatusOf code poll state) GetStatus = Unit {0}
-ReplyFits most (StateOf state) GetState = Unit {0}
-ReplyFits most (Data bytes) (Upload number size) = length bytes ≤ most
-ReplyFits most reply r = ⊥
+abbrev pub ReplyMatches : ℕ → Reply → Request → Type 0
+ReplyMatches most Stall r = Unit {0}
+ReplyMatches most Ack GetStatus = ⊥
+ReplyMatches most Ack GetState = ⊥
+ReplyMatches most Ack (Upload number size) = ⊥
+ReplyMatches most Ack r = Unit {0}
+ReplyMatches most (StatusOf code poll state) GetStatus = Unit {0}
+ReplyMatches most (StateOf state) GetState = Unit {0}
+ReplyMatches most (Data bytes) (Upload number size) = length bytes ≤ most
+ReplyMatches most reply r = ⊥
 
 -- A reply takes no block and sends no piece.
 abbrev pub IsQuiet : Reply → Request → Type 0
@@ -53,13 +53,13 @@ IsQuiet Ack (Dnload number body) = ⊥
 IsQuiet reply r = Unit {0}
 
 -- A quiet reply of the kind that the request has.
-abbrev pub FitsQuietly : ℕ → Request → Reply → Type 0
-FitsQuietly most r reply = ReplyFits most reply r × IsQuiet reply r
+abbrev pub QuietReplyMatches : ℕ → Request → Reply → Type 0
+QuietReplyMatches most r reply = ReplyMatches most reply r × IsQuiet reply r
 
 -- If each reply of a plan is quiet, so is the one that is given.
-pub quiet_given : (c : Profile) (image : List ℕ) (r : Request) (p : Plan) (luck : Luck) → EachReply (FitsQuietly c.transfer r) p
+pub quiet_of_plan : (c : Profile) (image : List ℕ) (r : Request) (p : Plan) (luck : Luck) → EachReply (QuietReplyMatches c.transfer r) p
     → IsQuiet (outcome image p luck).reply r
-quiet_given c image r p luck each = (reply_given (FitsQuietly c.transfer r) image p luck each).1
+quiet_of_plan c image r p luck each = (reply_of_plan (QuietReplyMatches c.transfer r) image p luck each).1
 
 -- Effects of a plan.
 
@@ -76,7 +76,7 @@ WorksWell st p = IsMediumError (outcome [] p Works).after.stage → IsMediumErro
 -- The bytes taken and sent are those of this image and stage, or none if a state has none.
 abbrev pub CountsOn : List ℕ → Stage → Situation → Type 0
 CountsOn image st s =
-    (taken_of s ≡ held_in (state_of s.stage) (taken_in image st)) × (sent_of s ≡ still_sent (state_of s.stage) (sent_in image st))
+    (accepted_of s ≡ held_in (state_of s.stage) (accepted_in image st)) × (sent_of s ≡ still_sent (state_of s.stage) (sent_in image st))
 
 -- If a plan changes no count when the medium works, it changes none when it fails.
 pub counted : (image : List ℕ) (st : Stage) (p : Plan) (luck : Luck) → CountsOn image st (outcome image p Works).after
@@ -91,12 +91,12 @@ counted image st p luck on = (refl, refl)
 -- Form that a row of the table can have, by its state, its request and its plan.
 pub data RowForm (c : Profile) (image : List ℕ) : Stage → Request → Plan → Type 0 where
   -- It takes no block and sends no piece; it may write the last block, or commit the bytes taken.
-  quiet : {st : Stage} {r : Request} {p : Plan} → EachReply (FitsQuietly c.transfer r) p
-      → CallsFor (written_in st) (taken_in image st) p → WorksWell st p → CountsOn image st (outcome image p Works).after
+  quiet : {st : Stage} {r : Request} {p : Plan} → EachReply (QuietReplyMatches c.transfer r) p
+      → CallsFor (written_in st) (accepted_in image st) p → WorksWell st p → CountsOn image st (outcome image p Works).after
       → RowForm c image st r p
   -- It takes a block after the bytes taken before.
   takes : {st : Stage} {body : List ℕ} {number next : ℕ}
-      → RowForm c image st (Dnload number body) (ack (InDownloadSync (taken_in image st) body next))
+      → RowForm c image st (Dnload number body) (ack (InDownloadSync (accepted_in image st) body next))
   -- The host closes the download.
   closes : {taken : List ℕ} {number k : ℕ} → RowForm c image (InDownloadIdle taken number) (Dnload k []) (ack (InManifestSync taken))
   -- It sends a piece of the size that was asked for.
@@ -114,12 +114,12 @@ fails : (c : Profile) (image : List ℕ) (st : Stage) (r : Request) (code : Code
 fails c image st r code own = quiet (tt, tt) tt (λ y. absurd (own y)) (refl, refl)
 
 block_form : (c : Profile) (image : List ℕ) (st : Stage) (expected number : ℕ) (body : List ℕ)
-    → RowForm c image st (Dnload number body) (block_plan c (taken_in image st) expected number body)
+    → RowForm c image st (Dnload number body) (block_plan c (accepted_in image st) expected number body)
 block_form c image st expected number body =
     let P : Plan → Type 0 = RowForm c image st (Dnload number body) in
     either_way P (nat_lt c.transfer (length body)) _ _ (fails c image st _ ErrStalledPkt (λ y. y))
     (either_way P (not (number == expected)) _ _ (fails c image st _ ErrAddress (λ y. y))
-    (either_way P (nat_lt c.capacity (length (taken_in image st) + length body)) _ _ (fails c image st _ ErrAddress (λ y. y)) takes))
+    (either_way P (nat_lt c.capacity (length (accepted_in image st) + length body)) _ _ (fails c image st _ ErrAddress (λ y. y)) takes))
 
 further_form : (c : Profile) (image taken : List ℕ) (expected number : ℕ) (body : List ℕ)
     → RowForm c image (InDownloadIdle taken expected) (Dnload number body) (further_plan c taken expected number body)
@@ -185,15 +185,15 @@ time_form c image (InError code) ms = quiet (tt, tt) tt (λ y. y) (refl, refl)
 time_form c image st ms = quiet (tt, tt) tt (λ y. absurd y) (refl, refl)
 
 -- Each reply of a row is of the kind that its request has.
-pub row_fits : (c : Profile) (image : List ℕ) (st : Stage) (r : Request) (p : Plan) → RowForm c image st r p
-    → EachReply (λ reply. ReplyFits c.transfer reply r) p
-row_fits c image st r p (quiet replies calls well counts) = each p replies
+pub row_matches : (c : Profile) (image : List ℕ) (st : Stage) (r : Request) (p : Plan) → RowForm c image st r p
+    → EachReply (λ reply. ReplyMatches c.transfer reply r) p
+row_matches c image st r p (quiet replies calls well counts) = each p replies
   where
-    each : (p : Plan) → EachReply (FitsQuietly c.transfer r) p → EachReply (λ reply. ReplyFits c.transfer reply r) p
+    each : (p : Plan) → EachReply (QuietReplyMatches c.transfer r) p → EachReply (λ reply. ReplyMatches c.transfer reply r) p
     each (Sure reply next) replies = replies.0
     each (Writes before block reply next bad) replies = (replies.0.0, λ fault. (replies.1 fault).0)
     each (Commits taken reply next bad) replies = (replies.0.0, λ fault. (replies.1 fault).0)
-row_fits c image st r p takes = tt
-row_fits c image st r p closes = tt
-row_fits c image st r p (sends place size is small) = omega (arith, small, length-take size (drop place image))
-row_fits c image st r p (ends place size is small short) = omega (arith, small, length-take size (drop place image))
+row_matches c image st r p takes = tt
+row_matches c image st r p closes = tt
+row_matches c image st r p (sends place size is small) = omega (arith, small, length-take size (drop place image))
+row_matches c image st r p (ends place size is small short) = omega (arith, small, length-take size (drop place image))

@@ -4,12 +4,12 @@ use Rattle.dfu_wire.specs.declared.setups.Setup.{Setup}
 use Rattle.dfu_wire.specs.declared.requests.Request.{Request as Asked}
 use Rattle.dfu_wire.specs.declared.requests.Request.TheVariants as asked
 use Rattle.dfu_wire.specs.Setup.{IsSetup}
-use Rattle.dfu_wire.specs.Request.{Asks}
+use Rattle.dfu_wire.specs.Request.{SetupRequest}
 use Rattle.dfu_wire.specs.Status.{IsStatus}
 use Rattle.dfu_wire.specs.State.{state_byte}
 use Rattle.dfu_slots.specs.declared.fault.WriteFault.{WriteFault}
 use Rattle.dfu_slots.specs.Medium.{Rose}
-use Rattle.dfu_slots.specs.Seen.{SlotsState, store_on, image_of, room_of, Call, Begin, Put, Commit, AllWorked, BrokenBy, Called}
+use Rattle.dfu_slots.specs.StoreView.{SlotsState, store_on, image_of, room_of, Call, Begin, Put, Commit, AllWorked, BrokenBy, Called}
 use Rattle.dfu_device.specs.declared.objection.Objection.{Objection}
 use Rattle.dfu_device.specs.declared.answer.Answer.{Answer}
 use Rattle.dfu_device.specs.declared.answer.Answer.TheVariants as answer
@@ -117,7 +117,7 @@ setup_plan w p q body = if is_served p q body then plan (profile w) (image_of w.
 
 -- The row of a setup with its body: as these eight bytes are read.
 pub data Handles (setup body : List ℕ) (w : DeviceView) (a : Answer) (out : List ℕ) (w' : DeviceView) : Type 0 where
-  handled_as : (p : Setup) (q : Asked) → IsSetup p setup → Asks p q → Done (setup_plan w p q body) (asked_length q) w a out w'
+  handled_as : (p : Setup) (q : Asked) → IsSetup p setup → SetupRequest p q → Done (setup_plan w p q body) (asked_length q) w a out w'
       → Handles setup body w a out w'
 
 -- The row of so many milliseconds.
@@ -131,7 +131,7 @@ is_close q = false
 
 -- These eight bytes are the setup of such a request.
 abbrev pub IsCloseSetup : List ℕ → Type 0
-IsCloseSetup setup = (p : Setup) × (q : Asked) × IsSetup p setup × Asks p q × (is_close q ≡ true)
+IsCloseSetup setup = (p : Setup) × (q : Asked) × IsSetup p setup × SetupRequest p q × (is_close q ≡ true)
 
 -- The setup closes the download of this device.
 abbrev pub ClosesDownload : List ℕ → DeviceView → Type 0

@@ -64,7 +64,7 @@ abbrev pub Sent : List HistoryStep → List ℕ → Type 0
 Sent h bytes = Gathered uploads upload_piece h bytes
 
 -- A step is the last one of an upload: an UPLOAD that is answered by bytes, and ends in dfuIDLE.
-pub record EndsUpload (s : HistoryStep) : Type 0 where
+pub record LastUploadStep (s : HistoryStep) : Type 0 where
   pub setup : List ℕ
   pub body : List ℕ
   pub cause : s.cause ≡ Transfer setup body

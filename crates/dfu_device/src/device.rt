@@ -1,7 +1,7 @@
 //! A device, as a bootloader would run it.
 
 ghost use Rattle.std.specs.Prelude.{◌≡◌, ◌<◌, ◌≤◌, length, take, OnOk, OnErr, IfOk, IfErr, IfSome, IfNone};
-ghost use Rattle.dfu_slots.specs.Seen.{fused};
+ghost use Rattle.dfu_slots.specs.StoreView.{fused};
 ghost use Rattle.dfu_slots.specs.Medium.Fuse.{Whole, Armed, Lying};
 ghost use Rattle.dfu_slots.specs.Image.{HasImage};
 ghost use Rattle.dfu_slots.specs.Changes.{IsOpenFault};

@@ -1,14 +1,14 @@
 //! The core of a device.
 
 ghost use Rattle.std.specs.Prelude.{◌≡◌, ◌<◌, ◌≤◌, ◌+◌, length, take, drop, nat_lt, ℕ, List, [], IsTrue, if◌then◌else◌};
-ghost use Rattle.dfu_slots.specs.Seen.{image_of, spare_of, room_of};
+ghost use Rattle.dfu_slots.specs.StoreView.{image_of, spare_of, room_of};
 ghost use Rattle.dfu_device.specs.Stage.{InAppIdle};
 ghost use Rattle.dfu_device.specs.DeviceView.{DeviceView, profile};
 ghost use Rattle.dfu_device.specs.Parts.{is_sound};
 ghost use Rattle.dfu_device.specs.Rows.{Elapses};
 ghost use Rattle.dfu_device.specs.Borrowed.{answer_room};
 ghost use Rattle.dfu_device.specs.Decision.{profile_in, plan_of, IsPossible, IsSilent};
-ghost use Rattle.dfu_device.specs.inside.PendingAnswer.{AnswersPending, DonePending, HandledPending};
+ghost use Rattle.dfu_device.specs.inside.PendingAnswer.{AnswersPending, CarriedOutPending, HandledPending};
 
 use crate::answer::{PendingAnswer, pending_answer_of};
 use crate::config::Profile;
@@ -80,7 +80,7 @@ impl<M: Medium> DeviceCore<M> {
     pub(crate) fn carry_out(&mut self, decision: Decision, asked: u16, body: &[u8]) -> PendingAnswer
         requires { IsPossible self.old.config.functional.transfer (length self.old.block.items) (length body.now) self.old.slots decision }
         ensures row { let w = shown self.old in let spare = spare_of w.slots in
-            DonePending (plan_of (profile w) (image_of w.slots) spare self.old.block.items body.now decision) asked w result
+            CarriedOutPending (plan_of (profile w) (image_of w.slots) spare self.old.block.items body.now decision) asked w result
             (shown self.new) }
         ensures silent { IsSilent decision → result ≡ PendingAnswer.Ack }
     {

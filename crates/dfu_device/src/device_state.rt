@@ -1,12 +1,12 @@
 //! The mode of a device: its state with what it keeps there, and the status that it reports (USB DFU 1.1, section 6.1.2).
 
 ghost use Rattle.std.specs.Prelude.{◌≡◌, ◌<◌, ◌^◌, ℕ, List, true, length, take};
-ghost use Rattle.dfu_slots.specs.Seen.{SlotsState};
+ghost use Rattle.dfu_slots.specs.StoreView.{SlotsState};
 ghost use Rattle.dfu_device.specs.Stage.{state_of, code_of, InError, status_of};
 ghost use Rattle.dfu_device.specs.DeviceView.{profile_of};
 ghost use Rattle.dfu_device.specs.Rows.{Answers};
 ghost use Rattle.dfu_device.specs.Candidate.{candidate_length};
-ghost use Rattle.dfu_device.specs.Decision.{HoldsWritten, HoldsTime};
+ghost use Rattle.dfu_device.specs.Decision.{HasWrittenBytes, HasTimeInputs};
 ghost use Rattle.dfu_device.specs.Table.{reset_stage, may_close, refuse_stage, objection_code};
 ghost use Rattle.dfu_device.specs.Parts.{stage_of, is_filled};
 
@@ -153,7 +153,7 @@ impl DeviceState {
     /// Returns whether a DNLOAD of no bytes closes a download in this mode, if an image has so many bytes at least: in dfuDNLOAD-IDLE, once
     /// as many were taken.
     pub fn may_close(self, least: u32) -> bool
-        ensures { (spare block : List ℕ) → HoldsWritten self spare → result ≡ may_close least (stage_of self spare block) }
+        ensures { (spare block : List ℕ) → HasWrittenBytes self spare → result ≡ may_close least (stage_of self spare block) }
     {
         match self {
             DeviceState::DownloadIdle { written, .. } => least <= written,
@@ -188,7 +188,7 @@ impl DeviceState {
 
 /// The six bytes of the status of a device that is set up like this, in a mode, with a block of so many bytes.
 pub fn status_in(config: &Config, mode: DeviceState, block_len: usize) -> [u8; 6]
-    ensures answers { (room : ℕ) (spare block : List ℕ) (len : ℕ) → HoldsTime mode block_len spare block →
+    ensures answers { (room : ℕ) (spare block : List ℕ) (len : ℕ) → HasTimeInputs mode block_len spare block →
         Answers len (status_of (profile_of config.now room) (stage_of mode spare block)) Answer.Bytes (take len result) }
     ensures size { length result ≡ 6 }
 {

@@ -2,12 +2,12 @@
 
 ghost use Rattle.std.specs.Prelude.{◌≡◌, ◌<◌, ◌≤◌, ◌+◌, ◌++◌, ◌⊎◌, length, take, [], IsTrue, true, OnOk, OnErr, IfErr};
 ghost use Rattle.dfu_slots.specs.Medium.{Rose};
-ghost use Rattle.dfu_slots.specs.Seen.{image_of, spare_of, room_of, is_shaped, Called};
+ghost use Rattle.dfu_slots.specs.StoreView.{image_of, spare_of, room_of, is_shaped, Called};
 ghost use Rattle.dfu_slots.specs.Changes.{fault_of, ending_of};
 ghost use Rattle.dfu_device.specs.Table.{write_code, commit_code};
 ghost use Rattle.dfu_device.specs.Parts.{is_put, is_filled, stage_of};
 ghost use Rattle.dfu_device.specs.Rows.{WroteBlock, FailedBlock, Committed, FailedCommit, block_calls};
-ghost use Rattle.dfu_device.specs.Decision.{written_stage, TakesNothing};
+ghost use Rattle.dfu_device.specs.Decision.{written_stage, AcceptsNothing};
 ghost use Rattle.dfu_device.specs.inside.View.{shown};
 
 use crate::device_core::DeviceCore;
@@ -56,7 +56,7 @@ impl<M: Medium> DeviceCore<M> {
     /// write had one.
     pub(crate) fn commit_taken(&mut self, written: u32, next: DeviceState) -> Result<(), WriteFault>
         requires taken { IsTrue (is_filled (DeviceState.ManifestSync written) (length self.old.block.items) self.old.slots) }
-        requires next { TakesNothing next }
+        requires next { AcceptsNothing next }
         ensures done { OnOk result (Committed (take written (spare_of self.old.slots)) self.old.config self.old.slots
             (stage_of next [] []) (shown self.new)) }
         ensures failed { IfErr result (λ fault. FailedCommit fault (take written (spare_of self.old.slots)) self.old.config self.old.slots

@@ -1,7 +1,7 @@
 //! Fit of a mode with what was put in a slot store.
 
 ghost use Rattle.std.specs.Prelude.{◌≡◌, ◌^◌, ◌<◌, ◌+◌, ◌==◌, ◌&&◌, ◌||◌, nat_lt, nat_le};
-ghost use Rattle.dfu_slots.specs.Seen.{SlotsState, room_of, is_begun};
+ghost use Rattle.dfu_slots.specs.StoreView.{SlotsState, room_of, is_begun};
 ghost use Rattle.dfu_device.specs.Parts.{is_filled};
 
 use crate::device_state::DeviceState;

@@ -1,35 +1,35 @@
 //! Laws of the rows of a device. Each is the contract of a function with an empty body, which is proved
 //! and not to be called.
 
-ghost use Rattle.dfu_device.specs.Came.{PlanCame, RowOf, AskedCame, NotServed, TimeCame, StatusWhole};
-ghost use Rattle.dfu_device.specs.TakenHistory.{AskedTook, TimeTook, RowTakes, StepTakes, HistoryTakes, StartTakes, OneTaken};
+ghost use Rattle.dfu_device.specs.PlanOutcomes.{PlansHaveOutcomes, RowOf, SetupsHaveOutcomes, NotServed, TimesHaveOutcomes, StatusWhole};
+ghost use Rattle.dfu_device.specs.AcceptedHistory.{SetupAcceptsBody, TimeAcceptsNothing, RowAcceptsBody, StepAcceptsBody, HistoryAcceptsBodies, StartAcceptsBodies, AcceptedUnique};
 ghost use Rattle.dfu_device.specs.SentHistory.{RowSends, StepSends, HistorySends, OneSent};
-ghost use Rattle.dfu_device.specs.Uploaded.{UploadEnds, UploadGives};
-ghost use Rattle.dfu_device.specs.Told.{StatusTold, StateTold};
-ghost use Rattle.dfu_device.specs.Kept.{RowKeeps, ErrorKeeps};
+ghost use Rattle.dfu_device.specs.Uploaded.{UploadIsImage, UploadsAreImages};
+ghost use Rattle.dfu_device.specs.ReportLaws.{StatusReportMatches, StateReportMatches};
+ghost use Rattle.dfu_device.specs.StoreUse.{RowsUseStore, ErrorRowsUseNothing};
 ghost use Rattle.dfu_device.specs.Errors.{ErrorsHaveCause};
 
 /// Each row leads to the outcome of its plan, at some luck of the medium. A setup whose reading is known goes by that reading; one that
 /// does not go by the table is stalled and changes nothing. If six bytes are asked for, the answer to GETSTATUS is read back as the status.
 pub fn rows_come_to_outcomes()
-    ensures plan { PlanCame }
+    ensures plan { PlansHaveOutcomes }
     ensures row_of { RowOf }
-    ensures asked { AskedCame }
+    ensures asked { SetupsHaveOutcomes }
     ensures not_served { NotServed }
-    ensures time { TimeCame }
+    ensures time { TimesHaveOutcomes }
     ensures status { StatusWhole }
 {}
 
 /// The bytes taken: a row takes the body that it acknowledges, and a device has taken what its
 /// history says, one row or many. A history says it of no other bytes.
 pub fn rows_take()
-    ensures asked { AskedTook }
-    ensures time { TimeTook }
-    ensures row { RowTakes }
-    ensures step { StepTakes }
-    ensures history { HistoryTakes }
-    ensures from_start { StartTakes }
-    ensures one { OneTaken }
+    ensures asked { SetupAcceptsBody }
+    ensures time { TimeAcceptsNothing }
+    ensures row { RowAcceptsBody }
+    ensures step { StepAcceptsBody }
+    ensures history { HistoryAcceptsBodies }
+    ensures from_start { StartAcceptsBodies }
+    ensures one { AcceptedUnique }
 {}
 
 /// The bytes sent: a row sends the bytes with which it answers an UPLOAD, and a device has sent what
@@ -39,22 +39,22 @@ pub fn rows_send()
     ensures row { RowSends }
     ensures step { StepSends }
     ensures history { HistorySends }
-    ensures ends { UploadEnds }
-    ensures gives { UploadGives }
+    ensures ends { UploadIsImage }
+    ensures gives { UploadsAreImages }
     ensures one { OneSent }
 {}
 
 /// A status or a state that was answered is that of the state entered.
 pub fn rows_tell()
-    ensures status { StatusTold }
-    ensures state { StateTold }
+    ensures status { StatusReportMatches }
+    ensures state { StateReportMatches }
 {}
 
 /// A row calls nothing of the slot store, or writes the last block taken after the bytes written, or
 /// commits the bytes taken. Only such a commit changes the image, and in dfuERROR it stays. errWRITE,
 /// errPROG and errVERIFY come only if the medium failed.
 pub fn rows_keep()
-    ensures image { RowKeeps }
-    ensures error { ErrorKeeps }
+    ensures image { RowsUseStore }
+    ensures error { ErrorRowsUseNothing }
     ensures errors { ErrorsHaveCause }
 {}

@@ -1,7 +1,7 @@
 //! The words in which the device table says what is done, and the rows of DNLOAD and UPLOAD.
 
 ghost use Rattle.std.specs.Prelude.{◌≡◌, ◌⊎◌, ◌<◌, true, ℕ, List, [], length, take};
-ghost use Rattle.dfu_slots.specs.Seen.{SlotsState, room_of};
+ghost use Rattle.dfu_slots.specs.StoreView.{SlotsState, room_of};
 ghost use Rattle.dfu_device.specs.Table.{block_plan, first_plan, further_plan, upload_plan};
 ghost use Rattle.dfu_device.specs.Parts.{is_put};
 ghost use Rattle.dfu_device.specs.Decision.{profile_in, plan_of, Allows, IsPossible};

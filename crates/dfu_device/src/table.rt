@@ -4,8 +4,8 @@
 
 ghost use Rattle.std.specs.Prelude.{◌≡◌, ◌==◌, length};
 ghost use Rattle.dfu_device.specs.Rows.{body_length, asked_length, is_served};
-ghost use Rattle.dfu_device.specs.Asked.{DecidesSetup};
-ghost use Rattle.dfu_device.specs.Decision.{Decides, Allows, AllowsAsked};
+ghost use Rattle.dfu_device.specs.SetupDecision.{DecidesSetup};
+ghost use Rattle.dfu_device.specs.Decision.{Decides, Allows, AllowsRequest};
 
 use crate::config::Profile;
 use crate::decision::{Decision, Reply};
@@ -48,7 +48,7 @@ fn is_served(setup: &Setup, request: Request, body: &[u8]) -> bool
 // appIDLE. The timer of appDETACH is the smaller of the host's timeout and the device's.
 fn in_app_idle(profile: &Profile, request: Request) -> Decision
     ensures row { Decides profile.now DeviceState.AppIdle request result }
-    ensures possible { AllowsAsked profile.now DeviceState.AppIdle request result }
+    ensures possible { AllowsRequest profile.now DeviceState.AppIdle request result }
 {
     match request {
         Request::Detach { timeout } => ack(DeviceState::AppDetach {
@@ -64,7 +64,7 @@ fn in_app_idle(profile: &Profile, request: Request) -> Decision
 // appDETACH. Any other request, a second DETACH too, goes back to the application.
 fn in_app_detach(timer: u32, passed: u32, request: Request) -> Decision
     ensures row { (p : Profile) → Decides p (DeviceState.AppDetach timer passed) request result }
-    ensures possible { (p : Profile) → AllowsAsked p (DeviceState.AppDetach timer passed) request result }
+    ensures possible { (p : Profile) → AllowsRequest p (DeviceState.AppDetach timer passed) request result }
 {
     match request {
         Request::GetStatus { .. } => report(DeviceState::AppDetach { timer, passed }),
@@ -76,7 +76,7 @@ fn in_app_detach(timer: u32, passed: u32, request: Request) -> Decision
 // dfuIDLE. A device that can't download or upload takes DNLOAD or UPLOAD as any other request.
 fn in_dfu_idle(profile: &Profile, request: Request) -> Decision
     ensures row { Decides profile.now DeviceState.DfuIdle request result }
-    ensures possible { AllowsAsked profile.now DeviceState.DfuIdle request result }
+    ensures possible { AllowsRequest profile.now DeviceState.DfuIdle request result }
 {
     match request {
         Request::Dnload { block, length } => first(profile, block, length),
@@ -93,7 +93,7 @@ fn in_dfu_idle(profile: &Profile, request: Request) -> Decision
 // dfuDNLOAD-SYNC, block not written. With a busy time of 0 the block is written now.
 fn in_download_sync(profile: &Profile, written: u32, number: u16, request: Request) -> Decision
     ensures row { Decides profile.now (DeviceState.DownloadSync written number) request result }
-    ensures possible { AllowsAsked profile.now (DeviceState.DownloadSync written number) request result }
+    ensures possible { AllowsRequest profile.now (DeviceState.DownloadSync written number) request result }
 {
     match request {
         Request::GetStatus { .. } if profile.busy_ms == 0 => Decision::Writes {
@@ -115,7 +115,7 @@ fn in_download_sync(profile: &Profile, written: u32, number: u16, request: Reque
 // dfuDNLOAD-SYNC, block written.
 fn in_download_sync_written(written: u32, number: u16, request: Request) -> Decision
     ensures row { (p : Profile) → Decides p (DeviceState.DownloadSyncWritten written number) request result }
-    ensures possible { (p : Profile) → AllowsAsked p (DeviceState.DownloadSyncWritten written number) request result }
+    ensures possible { (p : Profile) → AllowsRequest p (DeviceState.DownloadSyncWritten written number) request result }
 {
     match request {
         Request::GetStatus { .. } => report(DeviceState::DownloadIdle { written, number }),
@@ -127,7 +127,7 @@ fn in_download_sync_written(written: u32, number: u16, request: Request) -> Deci
 // dfuDNLOAD-IDLE
 fn in_download_idle(profile: &Profile, written: u32, number: u16, request: Request) -> Decision
     ensures row { Decides profile.now (DeviceState.DownloadIdle written number) request result }
-    ensures possible { AllowsAsked profile.now (DeviceState.DownloadIdle written number) request result }
+    ensures possible { AllowsRequest profile.now (DeviceState.DownloadIdle written number) request result }
 {
     match request {
         Request::Dnload { block, length } => further(profile, written, number, block, length),
@@ -141,7 +141,7 @@ fn in_download_idle(profile: &Profile, written: u32, number: u16, request: Reque
 // dfuMANIFEST-SYNC, not complete. With a manifestation time of 0 the image is put in place now.
 fn in_manifest_sync(profile: &Profile, written: u32, request: Request) -> Decision
     ensures row { Decides profile.now (DeviceState.ManifestSync written) request result }
-    ensures possible { AllowsAsked profile.now (DeviceState.ManifestSync written) request result }
+    ensures possible { AllowsRequest profile.now (DeviceState.ManifestSync written) request result }
 {
     match request {
         Request::GetStatus { .. } if profile.manifest_ms == 0 => Decision::Commits {
@@ -158,7 +158,7 @@ fn in_manifest_sync(profile: &Profile, written: u32, request: Request) -> Decisi
 // dfuMANIFEST-SYNC, complete
 fn in_manifest_sync_complete(request: Request) -> Decision
     ensures row { (p : Profile) → Decides p DeviceState.ManifestSyncComplete request result }
-    ensures possible { (p : Profile) → AllowsAsked p DeviceState.ManifestSyncComplete request result }
+    ensures possible { (p : Profile) → AllowsRequest p DeviceState.ManifestSyncComplete request result }
 {
     match request {
         Request::GetStatus { .. } => report(DeviceState::DfuIdle),
@@ -170,7 +170,7 @@ fn in_manifest_sync_complete(request: Request) -> Decision
 // dfuUPLOAD-IDLE
 fn in_upload_idle(profile: &Profile, place: u32, number: u16, request: Request) -> Decision
     ensures row { Decides profile.now (DeviceState.UploadIdle place number) request result }
-    ensures possible { AllowsAsked profile.now (DeviceState.UploadIdle place number) request result }
+    ensures possible { AllowsRequest profile.now (DeviceState.UploadIdle place number) request result }
 {
     match request {
         Request::Upload { block, length } => upload(profile, place, number, block, length),
@@ -184,7 +184,7 @@ fn in_upload_idle(profile: &Profile, place: u32, number: u16, request: Request) 
 // dfuERROR
 fn in_error(code: Code, request: Request) -> Decision
     ensures row { (p : Profile) → Decides p (DeviceState.Error code) request result }
-    ensures possible { (p : Profile) → AllowsAsked p (DeviceState.Error code) request result }
+    ensures possible { (p : Profile) → AllowsRequest p (DeviceState.Error code) request result }
 {
     match request {
         Request::ClrStatus => ack(DeviceState::DfuIdle),
@@ -201,7 +201,7 @@ fn in_error(code: Code, request: Request) -> Decision
 #[rattlefmt::skip]
 pub fn decide(profile: &Profile, mode: DeviceState, request: Request) -> Decision
     ensures row { Decides profile.now mode request result }
-    ensures possible { AllowsAsked profile.now mode request result }
+    ensures possible { AllowsRequest profile.now mode request result }
 {
     match mode {
         DeviceState::AppIdle => in_app_idle(profile, request),

@@ -6,7 +6,7 @@ ghost use Rattle.dfu_device.specs.Pace.{edges, erases_ms, programs_ms, writes_ms
 ghost use Rattle.dfu_device.specs.Stage.{poll_of};
 ghost use Rattle.dfu_device.specs.Parts.{stage_of, mode_ms};
 ghost use Rattle.dfu_device.specs.DeviceView.{profile_of};
-ghost use Rattle.dfu_device.specs.Decision.{IsSilent, DecidesTime, Allows, HoldsTime};
+ghost use Rattle.dfu_device.specs.Decision.{IsSilent, DecidesTime, Allows, HasTimeInputs};
 
 use crate::config::{Config, Pace, Profile};
 use crate::decision::{Decision, Reply};
@@ -86,7 +86,7 @@ fn image_ms(pace: Pace, base: u32, written: u32) -> u32
 
 /// Returns the time that the host must wait in a mode with a block of so many bytes, in milliseconds (bwPollTimeout).
 pub fn poll_ms(config: &Config, mode: DeviceState, block_len: usize) -> u32
-    ensures value { (room : ℕ) (spare block : List ℕ) → HoldsTime mode block_len spare block
+    ensures value { (room : ℕ) (spare block : List ℕ) → HasTimeInputs mode block_len spare block
         → result ≡ poll_of (profile_of config.now room) (stage_of mode spare block) }
     ensures time { result ≡ mode_ms config.now mode block_len }
     ensures fits { result < 2 ^ 24 }

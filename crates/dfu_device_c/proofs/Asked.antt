@@ -9,12 +9,12 @@ use Rattle.dfu_asks.specs.declared.sector.Sector.{Sector}
 use Rattle.dfu_asks.specs.Mapped.{Unseen}
 use Rattle.dfu_asks.specs.Asks.{device_with, IsDevice}
 use Rattle.dfu_asks.specs.InMode.{IsDeviceIn}
-use Rattle.dfu_asks.specs.Lent.{LentAsking}
+use Rattle.dfu_asks.specs.Lent.{LentDevice}
 use Rattle.dfu_asks.specs.Verdict.{IsBodyOf}
 use Rattle.dfu_core.specs.declared.config.DfuConfig.{DfuConfig}
 use Rattle.dfu_core.specs.declared.record.DfuRecord.{DfuRecord}
-use Rattle.dfu_core.specs.Kept.{IsSetUp, with_memory}
-use Rattle.dfu_core.specs.Long.{TakesLong}
+use Rattle.dfu_core.specs.RecordMeaning.{IsSetUp, with_memory}
+use Rattle.dfu_core.specs.Long.{TooLongResult}
 use Rattle.dfu_core.specs.Mode.{HasMode}
 use Rattle.dfu_device_c.proofs.Moved.{none_kept, moved_kept}
 use Rattle.dfu_device_c.proofs.Told.{kept_in}
@@ -23,10 +23,10 @@ use Rattle.dfu_device_c.proofs.Told.{kept_in}
 pub takes_long : (c : DfuConfig) (r r' : DfuRecord) {config : Setting} {unit : WriteUnit} {sector : Sector} (setup : List ℕ)
     (m m' : DeviceState) → IsSetUp c config unit sector → ((x : DeviceState) → HasMode r x → m ≡ x) → r.work ≡ 0 → HasMode r' m'
     → r' ≡ record r { version = r'.version; mode = r'.mode; first = r'.first; second = r'.second; number = r'.number }
-    → ((l : LentAsking) (flash : List ℕ) → IsDeviceIn config m l flash → IsDevice (record l { mode = m' }) flash
+    → ((l : LentDevice) (flash : List ℕ) → IsDeviceIn config m l flash → IsDevice (record l { mode = m' }) flash
     × ((body : List ℕ) → IsBodyOf setup body → (u : Unseen)
     → Handles setup body (device_with u l flash) answer.Stall [] (device_with u (record l { mode = m' }) flash)))
-    → TakesLong c r setup r'
+    → TooLongResult c r setup r'
 takes_long c r r' setup m m' set_up the_mode idle moved rest row a kept = (
   record a { mode = m' },
   moved_kept c r r' m m' the_mode idle moved rest a kept,

@@ -1,6 +1,6 @@
 -- The record that a device that gets power leaves is that device.
 use Rattle.std.proofs.Common.{◌≡◌, ◌⊎◌, inl, inr, Bool, ℕ, ℤ, List, [], pos, None, refl, sym, ap, ◌∙◌, subst, arith}
-use Rattle.dfu_slots.specs.Seen.{store_on}
+use Rattle.dfu_slots.specs.StoreView.{store_on}
 use Rattle.dfu_slots.specs.Store.{IsStore}
 use Rattle.dfu_slots.specs.Image.{HasImage}
 use Rattle.dfu_slots.proofs.Seeing.{fresh_leaves}
@@ -20,7 +20,7 @@ use Rattle.dfu_core.specs.declared.config.DfuConfig.{DfuConfig}
 use Rattle.dfu_core.specs.declared.record.DfuRecord.{DfuRecord}
 use Rattle.dfu_core.specs.Config.{IsConfig}
 use Rattle.dfu_core.specs.Mode.{blank}
-use Rattle.dfu_core.specs.Kept.{HasNote, IsSetUp}
+use Rattle.dfu_core.specs.RecordMeaning.{HasNote, IsSetUp}
 use Rattle.dfu_core.specs.Power.{Powers, RefusesPower}
 use Rattle.dfu_core.specs.Board.{CoreRestart, core_board}
 use Rattle.dfu_core.specs.Happens.{start_mode, CoreHappens, IsCoreOn}

@@ -1,6 +1,6 @@
 -- Device of a record after a refusal of the program.
 use Rattle.std.proofs.Common.{◌≡◌, ℕ, true, IsTrue, List, [], length, refl, sym, ap, ◌∙◌, subst}
-use Rattle.dfu_slots.specs.Seen.{SlotsState, spare_of}
+use Rattle.dfu_slots.specs.StoreView.{SlotsState, spare_of}
 use Rattle.dfu_device.specs.declared.answer.Answer.TheVariants as answer
 use Rattle.dfu_device.specs.declared.device_state.DeviceState.{DeviceState}
 use Rattle.dfu_device.specs.declared.objection.Objection.{Objection}
@@ -9,12 +9,12 @@ use Rattle.dfu_device.specs.Rows.{ClosesDownload, RefusingClose, Refusing, Row}
 use Rattle.dfu_device.specs.Stage.{InError}
 use Rattle.dfu_device.specs.Table.{objection_code, refuse_stage}
 use Rattle.dfu_device.proofs.Carried.{filled}
-use Rattle.dfu_asks.specs.Lent.{LentAsking}
+use Rattle.dfu_asks.specs.Lent.{LentDevice}
 use Rattle.dfu_asks.specs.Asks.{store_in, device_in, IsDevice}
 use Rattle.dfu_core.specs.declared.config.DfuConfig.{DfuConfig}
 use Rattle.dfu_core.specs.Config.{setting_of}
 
-module _ (c : DfuConfig) (m m' : DeviceState) (why : Objection) (l : LentAsking) (flash : List ℕ) (config : l.config ≡ setting_of c)
+module _ (c : DfuConfig) (m m' : DeviceState) (why : Objection) (l : LentDevice) (flash : List ℕ) (config : l.config ≡ setting_of c)
     (mode : m ≡ l.mode) (device : IsDevice l flash) where
   abbrev s : SlotsState
   s = store_in l flash

@@ -8,22 +8,22 @@ use Rattle.dfu_slots.specs.Units.{unit_size}
 use Rattle.dfu_device.specs.Setting.{Setting}
 use Rattle.dfu_asks.specs.declared.asking.Asking.{Asking}
 use Rattle.dfu_asks.specs.declared.sector.Sector.{Sector}
-use Rattle.dfu_asks.specs.Lent.{LentAsking, lent, HasRoom, IsSetUpAs}
-use Rattle.dfu_asks.specs.Refused.{Fits, IsKeptOn, IsRefusedCall as IsRefusedFor}
+use Rattle.dfu_asks.specs.Lent.{LentDevice, lent, HasRoom, IsSetUpAs}
+use Rattle.dfu_asks.specs.Refused.{RoomForBlocks, IsDeviceOn, IsRefusedCall as IsRefusedFor}
 use Rattle.dfu_asks.specs.declared.reply.Refusal.{Refusal as Why}
 use Rattle.dfu_core.specs.declared.config.DfuConfig.{DfuConfig}
 use Rattle.dfu_core.specs.declared.record.DfuRecord.{DfuRecord}
 use Rattle.dfu_core.specs.declared.numbers.Refusal.{Refusal}
 use Rattle.dfu_core.specs.Config.{transfer_of, block_memory_size, IsConfig}
-use Rattle.dfu_core.specs.Kept.{IsKept, IsSetUp, block_in, held_back_in, with_memory}
-use Rattle.dfu_core.specs.Calls.{Goes, CoreRefuses, IsIntact, IsRefusedAsking}
+use Rattle.dfu_core.specs.RecordMeaning.{IsRecordOf, IsSetUp, block_in, tail_memory, with_memory}
+use Rattle.dfu_core.specs.Calls.{RecordCall, CoreRefuses, IsIntact, CallRefusal}
 use Rattle.dfu_core.specs.Numbers.{refusal_of, refusal_number}
 use Rattle.dfu_device_c.proofs.Found.{cause_of}
 
 -- These are the two parts.
 pub record IsSplit (a : Asking) (memory front held : List ℕ) : Type 0 where
   pub front_is : block_in a memory ≡ front
-  pub held_is : held_back_in a memory ≡ held
+  pub held_is : tail_memory a memory ≡ held
 
 split : (a : Asking) (memory front held : List ℕ) → memory ≡ front ++ held → length front ≡ a.config.functional.transfer
     → IsSplit a memory front held
@@ -42,33 +42,33 @@ module _ {a : Asking} {memory front held : List ℕ} (s : IsSplit a memory front
   lent_is = λ i. lent a (s.front_is i) (s.held_is i)
 
   -- If it is as the last call left it, so it is with the two parts.
-  pub whole : (flash : List ℕ) → IsIntact memory flash a → IsKeptOn a front held flash
-  whole flash is = subst (λ (h : List ℕ). IsKeptOn a front h flash) s.held_is
-      (subst (λ (f : List ℕ). IsKeptOn a f (held_back_in a memory) flash) s.front_is is)
+  pub whole : (flash : List ℕ) → IsIntact memory flash a → IsDeviceOn a front held flash
+  whole flash is = subst (λ (h : List ℕ). IsDeviceOn a front h flash) s.held_is
+      (subst (λ (f : List ℕ). IsDeviceOn a f (tail_memory a memory) flash) s.front_is is)
 
   -- And the other way round.
-  pub intact : (flash : List ℕ) → IsKeptOn a front held flash → IsIntact memory flash a
-  intact flash is = subst (λ (f : List ℕ). IsKeptOn a f (held_back_in a memory) flash) (sym s.front_is)
-      (subst (λ (h : List ℕ). IsKeptOn a front h flash) (sym s.held_is) is)
+  pub intact : (flash : List ℕ) → IsDeviceOn a front held flash → IsIntact memory flash a
+  intact flash is = subst (λ (f : List ℕ). IsDeviceOn a f (tail_memory a memory) flash) (sym s.front_is)
+      (subst (λ (h : List ℕ). IsDeviceOn a front h flash) (sym s.held_is) is)
 
   -- Refusal of a call with the two parts.
   refused_for : (e : Why) (flash : List ℕ) (need room : ℕ) → IsRefusedFor e a front held flash need room
-      → IsRefusedFor e a (block_in a memory) (held_back_in a memory) flash need room
-  refused_for e flash need room is = subst (λ (f : List ℕ). IsRefusedFor e a f (held_back_in a memory) flash need room) (sym s.front_is)
+      → IsRefusedFor e a (block_in a memory) (tail_memory a memory) flash need room
+  refused_for e flash need room is = subst (λ (f : List ℕ). IsRefusedFor e a f (tail_memory a memory) flash need room) (sym s.front_is)
       (subst (λ (h : List ℕ). IsRefusedFor e a front h flash need room) (sym s.held_is) is)
 
 -- A call does with the memory what it does with the two parts.
-pub in_memory : {a a' : Asking} {memory front held memory' front' held' : List ℕ} (Does : LentAsking → LentAsking → Type 0)
+pub in_memory : {a a' : Asking} {memory front held memory' front' held' : List ℕ} (Does : LentDevice → LentDevice → Type 0)
     → IsSplit a memory front held → IsSplit a' memory' front' held' → Does (lent a front held) (lent a' front' held')
     → Does (with_memory memory a) (with_memory memory' a')
 in_memory {a} {a'} {memory} {front} {held} {memory'} Does s s' is =
-    subst (λ (l : LentAsking). Does l (with_memory memory' a')) (sym (lent_is s))
-    (subst (λ (l : LentAsking). Does (lent a front held) l) (sym (lent_is s')) is)
+    subst (λ (l : LentDevice). Does l (with_memory memory' a')) (sym (lent_is s))
+    (subst (λ (l : LentDevice). Does (lent a front held) l) (sym (lent_is s')) is)
 
 -- A record is this device, the configuration is allowed, and the memory of the block has room, and was split at the
 -- transfer size.
 pub record IsParted (k : DfuConfig) (r : DfuRecord) (a : Asking) (memory front held : List ℕ) : Type 0 where
-  pub kept : IsKept k r a
+  pub kept : IsRecordOf k r a
   pub config : IsConfig k
   pub room : block_memory_size k ≤ length memory
   pub parts : memory ≡ front ++ held
@@ -76,7 +76,7 @@ pub record IsParted (k : DfuConfig) (r : DfuRecord) (a : Asking) (memory front h
 
 -- So it is if `found` gave that device.
 pub is_parted : (k : DfuConfig) (r : DfuRecord) (a : Asking) (memory front held : List ℕ) (said : Result Asking Refusal) → said ≡ Ok a
-    → IfOk said (λ x. IsKept k r x) → OnOk said (IsConfig k) → OnOk said (block_memory_size k ≤ length memory)
+    → IfOk said (λ x. IsRecordOf k r x) → OnOk said (IsConfig k) → OnOk said (block_memory_size k ≤ length memory)
     → memory ≡ front ++ held → length front ≡ transfer_of k → IsParted k r a memory front held
 is_parted k r a memory front held said is kept config room parts size = record {
   kept = IfOk-at_ok _ is kept;
@@ -110,8 +110,8 @@ module _ {k : DfuConfig} {r : DfuRecord} {a : Asking} {memory front held : List 
       (long ∙ p.size ∙ sym (ap (λ (s : Setting). s.functional.transfer) (same.config ∙ p.kept.set_up.config_is)))
 
   -- Bytes that fit in a first part that long fit in the transfer size.
-  pub fits_front : {a' : Asking} (front' : List ℕ) → length front' ≡ length front → Fits a' (length front') → Fits a' (transfer_of k)
-  fits_front {a'} front' long fits = subst (λ (n : ℕ). Fits a' n) (long ∙ p.size) fits
+  pub fits_front : {a' : Asking} (front' : List ℕ) → length front' ≡ length front → RoomForBlocks a' (length front') → RoomForBlocks a' (transfer_of k)
+  fits_front {a'} front' long fits = subst (λ (n : ℕ). RoomForBlocks a' n) (long ∙ p.size) fits
 
   -- If both parts are as they were, the memory is.
   pub unchanged : (front' held' : List ℕ) → front' ≡ front → held' ≡ held → front' ++ held' ≡ memory
@@ -125,8 +125,8 @@ module _ {k : DfuConfig} {r : DfuRecord} {a : Asking} {memory front held : List 
 
   -- A call took the device to one that was kept.
   pub goes : {r' : DfuRecord} {a' : Asking} {memory' : List ℕ} {Does : Asking → Asking → Type 0} → IsSetUpAs a a'
-      → (IsSetUp k a'.config a'.unit a'.sector → IsKept k r' a') → (Fits a (transfer_of k) → Fits a' (transfer_of k))
-      → Does a a' → Goes k r memory r' memory' Does
+      → (IsSetUp k a'.config a'.unit a'.sector → IsRecordOf k r' a') → (RoomForBlocks a (transfer_of k) → RoomForBlocks a' (transfer_of k))
+      → Does a a' → RecordCall k r memory r' memory' Does
   goes {a' = a'} same kept fits does = record {
     config = p.config;
     room = p.room;
@@ -154,7 +154,7 @@ module _ {k : DfuConfig} {r : DfuRecord} {a : Asking} {memory front held : List 
       p.config,
       p.kept,
       p.room,
-      subst (λ (x : Refusal). IsRefusedAsking x memory flash a) (sym e_is)
+      subst (λ (x : Refusal). CallRefusal x memory flash a) (sym e_is)
           (cause_of why memory flash a need room fits (refused_for split_in why flash need room is)),
     );
     unchanged = same;

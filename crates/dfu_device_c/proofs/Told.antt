@@ -1,7 +1,7 @@
 -- An answer about the devices of a setting in a mode is one about each device that a record is.
 use Rattle.std.proofs.Common.{◌≡◌, ◌⊎◌, inl, inr, min, Bool, true, false, ℕ, ℤ, pos, List, sym, ◌∙◌, refl, subst, length, arith}
 use Rattle.dfu_slots.specs.declared.layout.Unit.{Unit as WriteUnit}
-use Rattle.dfu_slots.specs.Seen.{spare_of}
+use Rattle.dfu_slots.specs.StoreView.{spare_of}
 use Rattle.dfu_device.specs.declared.device_state.DeviceState.{DeviceState}
 use Rattle.dfu_device.specs.DeviceView.{DeviceView}
 use Rattle.dfu_device.specs.Setting.{Setting}
@@ -9,18 +9,18 @@ use Rattle.dfu_asks.specs.declared.asking.Asking.{Asking}
 use Rattle.dfu_asks.specs.declared.sector.Sector.{Sector}
 use Rattle.dfu_asks.specs.Asks.{grain_in, store_in, device_in, IsDevice}
 use Rattle.dfu_asks.specs.InMode.{IsDeviceIn}
-use Rattle.dfu_asks.specs.Lent.{LentAsking}
+use Rattle.dfu_asks.specs.Lent.{LentDevice}
 use Rattle.dfu_asks.specs.Mapped.{grain_of}
 use Rattle.dfu_asks.specs.Times.{due_of, ChangesOnceDue}
 use Rattle.dfu_asks.proofs.DueTimes.{time_due}
 use Rattle.dfu_core.specs.declared.config.DfuConfig.{DfuConfig}
 use Rattle.dfu_core.specs.declared.record.DfuRecord.{DfuRecord}
-use Rattle.dfu_core.specs.Due.{LATEST, ToldDue}
-use Rattle.dfu_core.specs.Kept.{IsKept, IsSetUp, with_memory, block_in}
+use Rattle.dfu_core.specs.Due.{LATEST, DueResult}
+use Rattle.dfu_core.specs.RecordMeaning.{IsRecordOf, IsSetUp, with_memory, block_in}
 use Rattle.dfu_core.specs.Mode.{HasMode}
 use Rattle.dfu_core.specs.Numbers.{told_number}
 use Rattle.std.proofs.lemmas.List.{length-take}
-use Rattle.dfu_device.specs.Decision.{HoldsTime}
+use Rattle.dfu_device.specs.Decision.{HasTimeInputs}
 use Rattle.dfu_device.proofs.Carried.{holds_time}
 
 -- A yes or a no has one of two numbers.
@@ -30,7 +30,7 @@ two false n is = inl is
 
 module _ (c : DfuConfig) (r : DfuRecord) {config : Setting} {unit : WriteUnit} {sector : Sector} (m : DeviceState)
     (set_up : IsSetUp c config unit sector) (the_mode : (x : DeviceState) → HasMode r x → m ≡ x) (block flash : List ℕ) (a : Asking)
-    (kept : IsKept c r a) where
+    (kept : IsRecordOf c r a) where
   -- The record is a device of this setting in this mode.
   pub kept_in : IsDevice (with_memory block a) flash → IsDeviceIn config m (with_memory block a) flash
   kept_in device = record {
@@ -49,17 +49,17 @@ module _ (c : DfuConfig) (r : DfuRecord) {config : Setting} {unit : WriteUnit} {
 -- A change of its state is due when it is said to be.
 pub told_due : (c : DfuConfig) (r : DfuRecord) {config : Setting} {unit : WriteUnit} {sector : Sector} (m : DeviceState) (result : ℤ)
     → IsSetUp c config unit sector → ((x : DeviceState) → HasMode r x → m ≡ x) → result ≡ pos (min LATEST (due_of config m r.length))
-    → ToldDue c r result
+    → DueResult c r result
 told_due c r {config = config} m result set_up the_mode says = record {
   due = due_of config m r.length;
   number_is = says;
   told = λ memory flash a kept on ms d' went.
-      let l : LentAsking = with_memory memory a in
+      let l : LentDevice = with_memory memory a in
       let d : DeviceView = device_in l flash in
       let s = store_in l flash in
       let in_mode : IsDeviceIn config m l flash = kept_in c r m set_up the_mode memory flash a kept on.is in
       let whole : length l.block ≡ a.block_len = omega (arith, length-take a.block_len (block_in a memory), on.fits.block) in
       subst (λ (k : ℕ). ChangesOnceDue k ms d d') (λ i. due_of (in_mode.config_is i) (in_mode.mode_is i) (kept.block i))
       (time_due ms d d' l.mode a.block_len (spare_of s) l.block
-      (subst (λ (n : ℕ). HoldsTime l.mode n (spare_of s) l.block) whole (holds_time l.mode l.block s on.is.sound)) refl went);
+      (subst (λ (n : ℕ). HasTimeInputs l.mode n (spare_of s) l.block) whole (holds_time l.mode l.block s on.is.sound)) refl went);
 }

@@ -1,6 +1,6 @@
 //! Look at a flash that may never have been written, by which a program can tell a new board from a damaged one.
 ghost use Rattle.std.specs.Prelude.{◌⊎◌};
-ghost use Rattle.dfu_core.specs.Blank.{ToldBlank, RefusesBlank};
+ghost use Rattle.dfu_core.specs.Blank.{BlankResult, RefusesBlank};
 
 use crate::tells::told_number;
 use dfu_asks::Mapped;
@@ -13,7 +13,7 @@ use dfu_core::{DfuConfig, settings_of};
 /// many as two slots can have.
 #[unsafe(no_mangle)]
 pub extern "C" fn dfu_core_is_blank(config: &DfuConfig, flash: &[u8]) -> i32
-    ensures outcome { ToldBlank config.now flash.now result ⊎ RefusesBlank config.now flash.now result }
+    ensures outcome { BlankResult config.now flash.now result ⊎ RefusesBlank config.now flash.now result }
 {
     let Some(settings) = settings_of(config) else {
         return -2;

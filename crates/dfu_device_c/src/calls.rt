@@ -9,7 +9,7 @@ ghost use Rattle.dfu_device.specs.Borrowed.{answer_room};
 ghost use Rattle.dfu_core.specs.Board.{CoreHandle, CoreElapse, CoreReset, CoreWrite, CoreTook, core_board};
 ghost use Rattle.dfu_core.specs.Config.{setting_of, transfer_of};
 ghost use Rattle.dfu_core.specs.Happens.{CoreHappens};
-ghost use Rattle.dfu_core.specs.Kept.{with_memory};
+ghost use Rattle.dfu_core.specs.RecordMeaning.{with_memory};
 ghost use Rattle.dfu_core.specs.Numbers.{NO_ROOM};
 ghost use Rattle.dfu_core.specs.Writes.{ask_step, HandsOut, RefusesPiece, HandsNothing};
 

@@ -1,7 +1,7 @@
 //! Tells before a setup is handed in whether it closes a download, because the program's own check of the image comes then.
 ghost use Rattle.std.specs.Prelude.{◌≡◌, ◌⊎◌, pos};
 ghost use Rattle.dfu_asks.specs.Addressed.{addressed};
-ghost use Rattle.dfu_core.specs.Closes.{ToldClose};
+ghost use Rattle.dfu_core.specs.Closes.{CloseResult};
 ghost use Rattle.dfu_core.specs.Idle.{IsIdleRecord, RefusesSetup};
 
 use crate::tells::told_number;
@@ -15,7 +15,7 @@ use dfu_core::{DfuConfig, DfuRecord, idle_mode};
 #[unsafe(no_mangle)]
 pub extern "C" fn dfu_core_closes(config: &DfuConfig, device: &DfuRecord, setup: &[u8; 8]) -> i32
     ensures outcome { (((result ≡ pos 0) ⊎ (result ≡ pos 1)) × IsIdleRecord config.now device.now
-        × ToldClose config.now device.now (addressed config.now.interface setup.now) result)
+        × CloseResult config.now device.now (addressed config.now.interface setup.now) result)
         ⊎ RefusesSetup config.now device.now result }
 {
     let (settings, mode) = match idle_mode(config, device) {

@@ -1,7 +1,7 @@
 //! A format that asks for its writes, as a program in C makes it: `include/dfu_core.h` says each call for a reader of C.
 ghost use Rattle.std.specs.Prelude.{◌≡◌, ◌⊎◌, ◌==◌, not, ℕ, List, length};
-ghost use Rattle.dfu_asks.specs.Formats.{AsksFormat};
-ghost use Rattle.dfu_core.specs.Formats.{StartsFormat, IsNoStart, HandsFormat, RefusesFormat, GoesFormat};
+ghost use Rattle.dfu_asks.specs.Formats.{FormatPending};
+ghost use Rattle.dfu_core.specs.Formats.{StartsFormat, IsNoStart, HandsFormat, RefusesFormat, FormatReport};
 
 use crate::tells::{format_number, kind_of};
 use dfu_asks::{FormatProgress, Formatting};
@@ -52,7 +52,7 @@ pub extern "C" fn dfu_core_format_next(
     ask: &mut DfuAsk,
 ) -> i32
     ensures outcome { HandsFormat config.now device.now flash.now image.now result ask.new
-        ⊎ (RefusesFormat config.now device.now (λ f. (was : List ℕ) → ¬ AsksFormat f image.now was flash.now) result
+        ⊎ (RefusesFormat config.now device.now (λ f. (was : List ℕ) → ¬ FormatPending f image.now was flash.now) result
         × (ask.new ≡ ask.old)) }
 {
     let Some(settings) = settings_of(config) else {
@@ -80,9 +80,9 @@ pub extern "C" fn dfu_core_format_took(
     image: &[u8],
     failed: u32,
 ) -> i32
-    ensures outcome { GoesFormat config.now device.old flash.now image.now (not (failed == 0)) result device.new
+    ensures outcome { FormatReport config.now device.old flash.now image.now (not (failed == 0)) result device.new
         ⊎ (RefusesFormat config.now device.old
-        (λ f. (was before : List ℕ) → length before ≡ length flash.now → ¬ AsksFormat f image.now was before) result
+        (λ f. (was before : List ℕ) → length before ≡ length flash.now → ¬ FormatPending f image.now was before) result
         × (device.new ≡ device.old)) }
 {
     let Some(settings) = settings_of(config) else {

@@ -2,7 +2,7 @@
 ghost use Rattle.std.specs.Prelude.{◌≡◌, ◌⊎◌};
 ghost use Rattle.dfu_core.specs.Candidate.{HasCandidate, HasNone, RefusesCandidate};
 ghost use Rattle.dfu_core.specs.Power.{RefusesPower};
-ghost use Rattle.dfu_core.specs.Image.{ImageIsFound};
+ghost use Rattle.dfu_core.specs.Image.{ImageResult};
 
 use crate::tells::refused;
 use dfu_asks::ImagePlace;
@@ -13,7 +13,7 @@ use dfu_core::{DfuConfig, DfuPlace, DfuRecord, Refusal, found, settings_of};
 /// Refused as `dfu_core_power_on`.
 #[unsafe(no_mangle)]
 pub extern "C" fn dfu_core_image(config: &DfuConfig, flash: &[u8], place: &mut DfuPlace) -> i32
-    ensures outcome { ImageIsFound config.now flash.now result place.new
+    ensures outcome { ImageResult config.now flash.now result place.new
         ⊎ (RefusesPower config.now flash.now result × (place.new ≡ place.old)) }
 {
     let Some(settings) = settings_of(config) else {

@@ -7,7 +7,7 @@ ghost use Rattle.dfu_core.specs.Board.{CoreTooLong, core_board};
 ghost use Rattle.dfu_core.specs.Config.{setting_of, transfer_of};
 ghost use Rattle.dfu_core.specs.Happens.{CoreHappens};
 ghost use Rattle.dfu_core.specs.Numbers.{STALL, NOT_LONG};
-ghost use Rattle.dfu_core.specs.Long.{TakesLong};
+ghost use Rattle.dfu_core.specs.Long.{TooLongResult};
 ghost use Rattle.dfu_core.specs.Idle.{IsIdleRecord, RefusesSetup};
 
 use dfu_asks::{addressed, mode_after_long};
@@ -24,7 +24,7 @@ pub extern "C" fn dfu_core_too_long(
 ) -> i32
     ensures outcome { let own = addressed config.now.interface setup.now in
         ((result ≡ STALL) × IsIdleRecord config.now device.old × IsLong (setting_of config.now) own
-        × TakesLong config.now device.old own device.new)
+        × TooLongResult config.now device.old own device.new)
         ⊎ ((device.new ≡ device.old) × (((result ≡ NOT_LONG) × IsIdleRecord config.now device.old × ¬ IsLong (setting_of config.now) own)
         ⊎ RefusesSetup config.now device.old result)) }
     ensures step { (block flash body : List ℕ) → transfer_of config.now ≤ length block →

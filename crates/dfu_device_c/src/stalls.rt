@@ -1,7 +1,7 @@
 //! Tells before the body of a setup is there whether a device will stall it.
 ghost use Rattle.std.specs.Prelude.{◌≡◌, ◌⊎◌, pos};
 ghost use Rattle.dfu_asks.specs.Addressed.{addressed};
-ghost use Rattle.dfu_core.specs.Stalls.{ToldStall};
+ghost use Rattle.dfu_core.specs.Stalls.{StallResult};
 ghost use Rattle.dfu_core.specs.Idle.{IsIdleRecord, RefusesSetup};
 
 use crate::tells::told_number;
@@ -20,7 +20,7 @@ pub extern "C" fn dfu_core_would_stall(
     setup: &[u8; 8],
 ) -> i32
     ensures outcome { (((result ≡ pos 0) ⊎ (result ≡ pos 1)) × IsIdleRecord config.now device.now
-        × ToldStall config.now device.now size (addressed config.now.interface setup.now) result)
+        × StallResult config.now device.now size (addressed config.now.interface setup.now) result)
         ⊎ RefusesSetup config.now device.now result }
 {
     let (settings, mode) = match idle_mode(config, device) {

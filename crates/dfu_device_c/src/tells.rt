@@ -6,7 +6,7 @@ ghost use Rattle.dfu_device.specs.declared.device_state.DeviceState.{DeviceState
 ghost use Rattle.dfu_device.specs.Parts.{stage_of};
 ghost use Rattle.dfu_device.specs.Stage.{state_of, code_of};
 ghost use Rattle.dfu_core.specs.Config.{IsConfig, setting_of};
-ghost use Rattle.dfu_core.specs.Due.{LATEST, ToldDue};
+ghost use Rattle.dfu_core.specs.Due.{LATEST, DueResult};
 ghost use Rattle.dfu_core.specs.Idle.{RefusesRecord};
 ghost use Rattle.dfu_core.specs.Mode.{HasMode};
 ghost use Rattle.dfu_core.specs.Numbers.{NO_DEVICE, answer_number, format_number, refusal_of, told_number};
@@ -137,7 +137,7 @@ fn due_number(due: Option<u32>) -> i32
 /// Refused with -2 if the configuration is not allowed; -4 if the record has no mode.
 #[unsafe(no_mangle)]
 pub extern "C" fn dfu_core_due(config: &DfuConfig, device: &DfuRecord) -> i32
-    ensures outcome { (IsConfig config.now × ToldDue config.now device.now result) ⊎ RefusesRecord config.now device.now result }
+    ensures outcome { (IsConfig config.now × DueResult config.now device.now result) ⊎ RefusesRecord config.now device.now result }
 {
     let (settings, mode) = match mode_in(config, device) {
         Ok(found) => found,

@@ -2,7 +2,7 @@
 
 ghost use Rattle.std.specs.Prelude.{◌≡◌};
 ghost use Rattle.dfu_host.specs.Host.{Act};
-ghost use Rattle.dfu_host.specs.Budget.{takes_left};
+ghost use Rattle.dfu_host.specs.Budget.{remaining_inputs};
 
 use dfu_host::{Action, Host, Report, Seen};
 
@@ -23,7 +23,7 @@ pub trait UsbHost {
 /// Carries out a session to its end, and returns the host's report.
 pub fn flash<U: UsbHost>(host: &mut Host<'_>, usb: &mut U) -> Report
     ensures report { Act host.new (Action.Done result) }
-    ensures over { takes_left host.new ≡ 0 }
+    ensures over { remaining_inputs host.new ≡ 0 }
 {
     loop {
         match host.next() {

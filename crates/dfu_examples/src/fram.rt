@@ -1,7 +1,7 @@
 //! A medium on a chip that is overwritten without erase, as an FRAM on SPI.
 
 ghost use Rattle.std.specs.Prelude.{◌≡◌, ◌+◌, ◌≤◌, ℕ, List, length, slice_range};
-ghost use Rattle.dfu_slots.specs.Medium.{KeepsOutside};
+ghost use Rattle.dfu_slots.specs.Medium.{FrameOutside};
 
 use dfu_slots::{Failed, Medium, Unit};
 
@@ -36,7 +36,7 @@ pub trait Chip: Drop {
     /// range afterwards, all other bytes and the size are as they were.
     fn write(&mut self, at: u32, bytes: &[u8]) -> Result<(), ChipFault>
         requires { at + length bytes.now ≤ length (cells self.old) }
-        ensures { KeepsOutside at (at + length bytes.now) (cells self.old) (cells self.new) };
+        ensures { FrameOutside at (at + length bytes.now) (cells self.old) (cells self.new) };
 }
 
 /// The medium of a chip.

@@ -1,7 +1,7 @@
 //! An image that is installed in one piece, and a device whose power goes and comes back.
 
 ghost use Rattle.std.specs.Prelude.{◌≡◌, ◌⊎◌, ◌≤◌, length, OnOk, OnErr};
-ghost use Rattle.dfu_slots.specs.Seen.{image_of, store_on};
+ghost use Rattle.dfu_slots.specs.StoreView.{image_of, store_on};
 ghost use Rattle.dfu_device.specs.Stage.{InAppIdle};
 
 use dfu_device::Device;

@@ -2,7 +2,7 @@
 
 ghost use Rattle.std.specs.Prelude.{◌≡◌, ◌+◌, ◌%◌, ◌<◌, ◌≤◌, ℕ, List, length, slice_index, slice_range};
 ghost use Rattle.dfu_slots.specs.Units.{Grain, IsMultiple};
-ghost use Rattle.dfu_slots.specs.Medium.{KeepsOutside};
+ghost use Rattle.dfu_slots.specs.Medium.{FrameOutside};
 
 use crate::ChipFault;
 use dfu_slots::{Failed, Medium, Unit};
@@ -45,7 +45,7 @@ pub trait Flash: Drop {
         requires whole { IsMultiple (grain self.old).unit (length bytes.now) }
         requires blank { 0 < (grain self.old).sector → (p : ℕ) → at ≤ p → p < at + length bytes.now →
             slice_index (cells self.old) p ≡ 255 }
-        ensures cells { KeepsOutside at (at + length bytes.now) (cells self.old) (cells self.new) }
+        ensures cells { FrameOutside at (at + length bytes.now) (cells self.old) (cells self.new) }
         ensures grain { grain self.new ≡ grain self.old };
 
     /// Erases the sector that begins at `at`, which must lie within the size. With any answer, and any bytes in the sector
@@ -53,7 +53,7 @@ pub trait Flash: Drop {
     fn erase(&mut self, at: u32) -> Result<(), ChipFault>
         requires within { at + (grain self.old).sector ≤ length (cells self.old) }
         requires place { at % (grain self.old).sector ≡ 0 }
-        ensures cells { KeepsOutside at (at + (grain self.old).sector) (cells self.old) (cells self.new) }
+        ensures cells { FrameOutside at (at + (grain self.old).sector) (cells self.old) (cells self.new) }
         ensures grain { grain self.new ≡ grain self.old };
 }
 

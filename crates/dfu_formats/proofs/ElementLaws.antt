@@ -8,14 +8,14 @@ use Rattle.dfu_formats.specs.images.Elements.{Piece}
 use Rattle.dfu_formats.specs.declared.dfuse.fault.FileFault.{FileFault}
 use Rattle.dfu_formats.specs.declared.dfuse.fault.FileFault.TheVariants.{ElementPastTheTarget, EmptyElement, AddressPastTheEnd}
 use Rattle.dfu_formats.specs.dfuse.Reading.{Split, ◌>>=◌, number_at, front_element, before_elements, elements_at}
-use Rattle.dfu_formats.specs.dfuse.Grammar.{four, spelled_elements, ElementFits, ElementsFit}
+use Rattle.dfu_formats.specs.dfuse.Grammar.{four, spelled_elements, ElementInRange, ElementsInRange}
 use Rattle.dfu_formats.proofs.FileSteps.{bound, passed, skip, same_ok, not_zero, zero_not}
 use Rattle.dfu_formats.proofs.FileFields.{cut, number_fits, number_is}
 
 -- The bytes begin with an element, and others follow it.
 pub record Begins (b : List ℕ) (s : Split) : Type 0 where
   pub spelled : b ≡ four s.element.address ++ (four (length s.element.bytes) ++ (s.element.bytes ++ s.rest))
-  pub fits : ElementFits s.element
+  pub fits : ElementInRange s.element
   pub bytes : AreBytes s.rest
 
 -- What is taken off was there.
@@ -51,7 +51,7 @@ split_same : (a c : ℕ) (d e r s : List ℕ) → a ≡ c → d ≡ e → r ≡ 
 split_same a c d e r s h0 h1 h2 = cc
 
 -- Each element is taken off.
-pub element_read : (e : Piece) (rest : List ℕ) → ElementFits e →
+pub element_read : (e : Piece) (rest : List ℕ) → ElementInRange e →
     front_element (four e.address ++ (four (length e.bytes) ++ (e.bytes ++ rest))) ≡ Ok (record { element = e; rest = rest })
 unfolding front_element
 element_read e rest h =
@@ -85,10 +85,10 @@ none_of spelled_as Fit xs spelled fit h =
 
 -- The bytes are these elements, so many, and nothing else.
 abbrev pub AreElements : ℕ → List ℕ → List Piece → Type 0
-AreElements count b es = AreAll spelled_elements ElementsFit count b es
+AreElements count b es = AreAll spelled_elements ElementsInRange count b es
 
 one_more : (n : ℕ) (b : List ℕ) (s : Split) (es : List Piece) → Begins b s → AreElements n s.rest es → AreElements (suc n) b (s.element ∷ es)
-unfolding spelled_elements ElementsFit
+unfolding spelled_elements ElementsInRange
 one_more n b s es h r = record {
   spelled = h.spelled ∙ ap (λ (z : List ℕ). four s.element.address ++ (four (length s.element.bytes) ++ (s.element.bytes ++ z))) r.spelled;
   number = omega (arith, r.number);
@@ -97,8 +97,8 @@ one_more n b s es h r = record {
 
 -- What was read was there.
 pub elements_found : (count : ℕ) (b : List ℕ) (es : List Piece) → AreBytes b → elements_at count b ≡ Ok es → AreElements count b es
-unfolding elements_at spelled_elements ElementsFit
-elements_found zero [] es f h = none_of spelled_elements ElementsFit es refl tt h
+unfolding elements_at spelled_elements ElementsInRange
+elements_found zero [] es f h = none_of spelled_elements ElementsInRange es refl tt h
 elements_found zero (x ∷ b) es f h = cc
 elements_found (suc n) b es f h =
     let p = bound (front_element b) _ es h in
@@ -109,8 +109,8 @@ elements_found (suc n) b es f h =
     subst (λ (z : List Piece). AreElements (suc n) b z) (same_ok _ es q.2) (one_more n b s q.0 begins more)
 
 -- Elements are read.
-pub elements_read : (es : List Piece) → ElementsFit es → elements_at (length es) (spelled_elements es) ≡ Ok es
-unfolding elements_at spelled_elements ElementsFit
+pub elements_read : (es : List Piece) → ElementsInRange es → elements_at (length es) (spelled_elements es) ≡ Ok es
+unfolding elements_at spelled_elements ElementsInRange
 elements_read [] h = refl
 elements_read (e ∷ es) h =
     ap (λ (r : Result Split FileFault). r >>= λ s. before_elements s.element (elements_at (length es) s.rest))

@@ -9,7 +9,7 @@ use Rattle.dfu_formats.specs.declared.memory.fault.MapFault.{MapFault}
 use Rattle.dfu_formats.specs.declared.memory.fault.MapFault.TheVariants.{NoMap, TooManyRanges, Overlaps}
 use Rattle.dfu_formats.specs.memory.Ranges.{end_of_range, are_apart}
 use Rattle.dfu_formats.specs.memory.Reading.{NumberRead, MapContent, Grouped, Named, ◌>>=◌, or, behind, going, group_at, address_at, next_at, ranges_at, trimmed, is_stroke, cut_at, map_name_at, map_if_apart, map_at}
-use Rattle.dfu_formats.specs.memory.Grammar.{IsMap, AreRanges, last, following, elsewhere, HasNoStroke, EndsInNoSpace}
+use Rattle.dfu_formats.specs.memory.Grammar.{IsMap, AreRanges, last, following, elsewhere, HasNoStroke, NoTrailingSpace}
 use Rattle.dfu_formats.proofs.MapSteps.{then_ok, or_ok, behind_found}
 use Rattle.dfu_formats.proofs.GroupsFound.{GroupSpelled, group_found}
 use Rattle.dfu_formats.proofs.PlacesFound.{Leads, address_found, next_found}
@@ -77,19 +77,19 @@ ranges_found (suc n) start ps text h =
 record Trimmed (kept bytes : List ℕ) : Type 0 where
   spaces : ℕ
   bytes_are : bytes ≡ kept ++ replicate spaces 32
-  no_space : EndsInNoSpace kept
+  no_space : NoTrailingSpace kept
 
 none_left : (bs : List ℕ) → eqb (length bs) 0 ≡ true → bs ≡ []
 none_left [] h = refl
 none_left (b ∷ bs) h = absurd (omega (arith, eqb-true (length (b ∷ bs)) 0 h))
 
-ends_so : (b : ℕ) (kept : List ℕ) → (eqb b 32 && eqb (length kept) 0) ≡ false → EndsInNoSpace kept → EndsInNoSpace (b ∷ kept)
-unfolding EndsInNoSpace
+ends_so : (b : ℕ) (kept : List ℕ) → (eqb b 32 && eqb (length kept) 0) ≡ false → NoTrailingSpace kept → NoTrailingSpace (b ∷ kept)
+unfolding NoTrailingSpace
 ends_so b [] h k = λ e. let yes = eq-eqb b 32 e in cc
 ends_so b (c ∷ cs) h k = k
 
-nothing_ends : EndsInNoSpace []
-unfolding EndsInNoSpace
+nothing_ends : NoTrailingSpace []
+unfolding NoTrailingSpace
 nothing_ends = tt
 
 trimmed_by : (b : ℕ) (bs kept : List ℕ) (t : Bool) → (eqb b 32 && eqb (length kept) 0) ≡ t → Trimmed kept bs → Trimmed (cond t [] (b ∷ kept)) (b ∷ bs)
@@ -165,7 +165,7 @@ record NameSpelled (n : Named) (text : List ℕ) : Type 0 where
   spaces : ℕ
   text_is : text ≡ 64 ∷ (n.name ++ (replicate spaces 32 ++ 47 ∷ n.rest))
   no_stroke : HasNoStroke n.name
-  no_space : EndsInNoSpace n.name
+  no_space : NoTrailingSpace n.name
 
 cut_found : (text : List ℕ) (o : Option ℕ) (n : Named) → ((k : ℕ) → o ≡ Some k → Stroke k text) → cut_at text o ≡ Some n → NameSpelled n (64 ∷ text)
 cut_found text None n s h = cc

@@ -7,7 +7,7 @@ use Rattle.std.proofs.lemmas.Bool.{lt-ltb, ne_eqb}
 use Rattle.dfu_formats.specs.declared.memory.pages.Pages.{Pages}
 use Rattle.dfu_formats.specs.memory.Ranges.{end_of_range}
 use Rattle.dfu_formats.specs.memory.Reading.{MapContent, Named, group_at, next_at, ranges_at, trimmed, is_stroke, cut_at, map_name_at, map_at}
-use Rattle.dfu_formats.specs.memory.Grammar.{IsMap, IsGroup, AreRanges, HasNoStroke, EndsInNoSpace}
+use Rattle.dfu_formats.specs.memory.Grammar.{IsMap, IsGroup, AreRanges, HasNoStroke, NoTrailingSpace}
 use Rattle.dfu_formats.specs.memory.Grammar.{last, following, elsewhere}
 use Rattle.dfu_formats.proofs.GroupsRead.{behind_read, group_read}
 use Rattle.dfu_formats.proofs.PlacesRead.{address_read, comma_read, stroke_read, end_read}
@@ -73,8 +73,8 @@ spaces_off : (n : ℕ) → trimmed (replicate n 32) ≡ []
 spaces_off zero = trimmed_nil
 spaces_off (suc n) = trimmed_cons 32 (replicate n 32) ∙ (ap (first_of 32) (spaces_off n) ∙ goes_off 32 refl)
 
-name_kept : (name : List ℕ) (n : ℕ) → EndsInNoSpace name → trimmed (name ++ replicate n 32) ≡ name
-unfolding EndsInNoSpace
+name_kept : (name : List ℕ) (n : ℕ) → NoTrailingSpace name → trimmed (name ++ replicate n 32) ≡ name
+unfolding NoTrailingSpace
 name_kept [] n h = spaces_off n
 name_kept (b ∷ []) n h = trimmed_cons b (replicate n 32) ∙ (ap (first_of b) (spaces_off n) ∙ stays_so b [] h)
 name_kept (a ∷ b ∷ bs) n h = trimmed_cons a ((b ∷ bs) ++ replicate n 32) ∙ (ap (first_of a) (name_kept (b ∷ bs) n h) ∙ stays a (b ∷ bs) (omega arith))
@@ -83,7 +83,7 @@ same_named : (a b c d : List ℕ) → a ≡ b → c ≡ d → ◌≡◌ {A = Opt
 same_named a b c d h e = cc
 
 -- A name that is spelled is read.
-cut_read : (name : List ℕ) (spaces : ℕ) (rest : List ℕ) → HasNoStroke name → EndsInNoSpace name →
+cut_read : (name : List ℕ) (spaces : ℕ) (rest : List ℕ) → HasNoStroke name → NoTrailingSpace name →
     cut_at (name ++ (replicate spaces 32 ++ 47 ∷ rest)) (position is_stroke (name ++ (replicate spaces 32 ++ 47 ∷ rest)))
     ≡ Some (record { name = name; rest = rest })
 cut_read name spaces rest h k =
@@ -94,7 +94,7 @@ cut_read name spaces rest h k =
     ap (drop (length front + 1)) (sym (append_assoc front (47 ∷ []) rest)) ∙ drop_at (front ++ 47 ∷ []) rest (length front + 1) (length-append front (47 ∷ [])) in
     rw (whole, at) (same_named _ _ _ _ (ap trimmed (take_at front (47 ∷ rest) (length front) refl) ∙ name_kept name spaces k) behind)
 
-name_read : (name : List ℕ) (spaces : ℕ) (rest : List ℕ) → HasNoStroke name → EndsInNoSpace name →
+name_read : (name : List ℕ) (spaces : ℕ) (rest : List ℕ) → HasNoStroke name → NoTrailingSpace name →
     map_name_at (64 ∷ (name ++ (replicate spaces 32 ++ 47 ∷ rest))) ≡ Ok (record { name = name; rest = rest })
 unfolding map_name_at
 name_read name spaces rest h k = rw (behind_read 64 (name ++ (replicate spaces 32 ++ 47 ∷ rest)), cut_read name spaces rest h k) refl

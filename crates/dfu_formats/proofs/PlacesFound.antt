@@ -3,7 +3,7 @@ use Rattle.std.proofs.Common.{◌≡◌, ℕ, ◌&&◌, ◌||◌, ◌⊎◌, inl
 use Rattle.std.proofs.lemmas.Bool.{eqb-true, and_parts, or_cases}
 use Rattle.dfu_formats.specs.declared.memory.fault.MapFault.{MapFault}
 use Rattle.dfu_formats.specs.declared.memory.fault.MapFault.TheVariants.{BadAddress, Trailing}
-use Rattle.dfu_formats.specs.memory.Reading.{NumberRead, ◌>>=◌, or, behind, map_number_at, behind_prefix, address_at, place_found, next_at}
+use Rattle.dfu_formats.specs.memory.Reading.{NumberRead, ◌>>=◌, or, behind, map_number_at, behind_prefix, address_at, place_read, next_at}
 use Rattle.dfu_formats.specs.memory.Grammar.{IsNumber, IsPrefix, IsAddress}
 use Rattle.dfu_formats.proofs.NumbersRead.{number_found}
 use Rattle.dfu_formats.proofs.MapSteps.{then_ok, or_ok, behind_found}
@@ -78,7 +78,7 @@ leads_comma end b bs (Some p) e h =
     let rest : bs ≡ p.rest = ap (λ (m : NumberRead). m.rest) same in
     inl (cc, sym (ap (λ (m : NumberRead). m.value) same))
 
-leads_stroke : (end b : ℕ) (bs : List ℕ) (o : Option NumberRead) → b ≡ 47 → place_found (address_at bs) ≡ Ok o → Leads end o (b ∷ bs)
+leads_stroke : (end b : ℕ) (bs : List ℕ) (o : Option NumberRead) → b ≡ 47 → place_read (address_at bs) ≡ Ok o → Leads end o (b ∷ bs)
 unfolding Leads
 leads_stroke end b bs None e h =
     let s = then_ok (address_at bs) (λ (p : NumberRead). Ok (Some p)) None h in
@@ -89,7 +89,7 @@ leads_stroke end b bs (Some p) e h =
     inr (bs, ap (λ (k : ℕ). k ∷ bs) e, address_found p bs (s.1 ∙ ap Ok same))
 
 leads_by : (end b : ℕ) (bs : List ℕ) (o : Option NumberRead) (t u : Bool) → eqb b 44 ≡ t → eqb b 47 ≡ u →
-    cond t (Ok (Some (record { value = end; rest = bs }))) (cond u (place_found (address_at bs)) (Err Trailing)) ≡ Ok o →
+    cond t (Ok (Some (record { value = end; rest = bs }))) (cond u (place_read (address_at bs)) (Err Trailing)) ≡ Ok o →
     Leads end o (b ∷ bs)
 leads_by end b bs o true u e f h = leads_comma end b bs o (eqb-true b 44 e) h
 leads_by end b bs o false true e f h = leads_stroke end b bs o (eqb-true b 47 f) h

@@ -11,7 +11,7 @@ use Rattle.dfu_suffix.proofs.OneReading.{IsSpelled}
 use Rattle.dfu_suffix.proofs.NoFault.{Formed, IsIntact, extra_fits, extra_of, field_fits, formed, intact, spelled}
 use Rattle.dfu_formats.specs.declared.dfuse.fault.FileFault.TheVariants.{BadCrc, NotDfuSe}
 use Rattle.dfu_formats.specs.dfuse.Reading.{Suffixed, suffixed_by, is_dfuse, refusal, signed_by, suffix_by, suffix_at}
-use Rattle.dfu_formats.specs.dfuse.Grammar.{EndsInSuffix}
+use Rattle.dfu_formats.specs.dfuse.Grammar.{SuffixedFile}
 use Rattle.dfu_formats.proofs.FileSteps.{same_ok, passed as passed_over}
 
 -- ---- what was found
@@ -77,7 +77,7 @@ signed b h =
     }
 
 -- Bytes with only the fault DfuSe end in such a suffix.
-ends : (b : List ℕ) → AreBytes b → Signed b → IsIntact b → EndsInSuffix b (suffixed_by b)
+ends : (b : List ℕ) → AreBytes b → Signed b → IsIntact b → SuffixedFile b (suffixed_by b)
 ends b f s right = record {
   extra = extra_of b;
   spelled = subst (λ (dfu : ℕ). IsSpelled (suffixed_by b).payload (suffixed_by b).ids dfu (extra_of b) b) s.version (spelled b s.formed right f);
@@ -114,7 +114,7 @@ unfolding suffix_by
 is_other b = refl
 
 -- What was read of a suffix was there.
-pub suffix_found : (b : List ℕ) (s : Suffixed) → AreBytes b → suffix_at b ≡ Ok s → EndsInSuffix b s
+pub suffix_found : (b : List ℕ) (s : Suffixed) → AreBytes b → suffix_at b ≡ Ok s → SuffixedFile b s
 suffix_found b s f h =
     let p = only_dfuse (find (has_fault b) fault_order) b s h in
-    subst (λ (x : Suffixed). EndsInSuffix b x) p.2 (ends b f (signed b p.0) (intact b p.1))
+    subst (λ (x : Suffixed). SuffixedFile b x) p.2 (ends b f (signed b p.0) (intact b p.1))

@@ -9,7 +9,7 @@ use Rattle.dfu_suffix.specs.declared.fault.SuffixFault.TheVariants as suffix
 use Rattle.dfu_suffix.proofs.OneReading.{reads}
 use Rattle.dfu_formats.specs.declared.dfuse.fault.FileFault.TheVariants.{BadCrc}
 use Rattle.dfu_formats.specs.dfuse.Reading.{Suffixed, suffixed_by, suffix_by, suffix_at}
-use Rattle.dfu_formats.specs.dfuse.Grammar.{EndsInSuffix}
+use Rattle.dfu_formats.specs.dfuse.Grammar.{SuffixedFile}
 
 by_dfuse : (o : Option SuffixFault) (b : List ℕ) (x : Suffixed) → o ≡ Some suffix.DfuSe → has_fault b suffix.BadCrc ≡ false → suffixed_by b ≡ x →
     suffix_by o b ≡ Ok x
@@ -21,7 +21,7 @@ abbrev suffixed : Content → Suffixed
 suffixed c = record { payload = c.payload; ids = c.ids }
 
 -- Each suffix in which a file may end is read.
-pub suffix_read : (b : List ℕ) (x : Suffixed) → EndsInSuffix b x → suffix_at b ≡ Ok x
+pub suffix_read : (b : List ℕ) (x : Suffixed) → SuffixedFile b x → suffix_at b ≡ Ok x
 suffix_read b x h =
     let r = reads x.payload x.ids 0x011A h.extra b h.spelled h.device_fits h.product_fits h.vendor_fits (omega arith) h.small in
     let other : has_fault b suffix.DfuSe ≡ true = eq-eqb (little_number 2 (drop 6 (tail_of b))) 0x011A r.version in

@@ -9,7 +9,7 @@ use Rattle.dfu_formats.specs.images.Elements.{Piece}
 use Rattle.dfu_formats.specs.declared.dfuse.fault.FileFault.{FileFault}
 use Rattle.dfu_formats.specs.declared.dfuse.fault.FileFault.TheVariants.{NoTarget, BadTargetSize}
 use Rattle.dfu_formats.specs.dfuse.Reading.{Target, Heading, ◌>>=◌, number_at, elements_at, is_target, heading_at, target_of, before_targets, targets_at}
-use Rattle.dfu_formats.specs.dfuse.Grammar.{four, spelled_elements, ElementsFit, target_letters, spelled_targets, TargetsFit}
+use Rattle.dfu_formats.specs.dfuse.Grammar.{four, spelled_elements, ElementsInRange, target_letters, spelled_targets, TargetsInRange}
 use Rattle.dfu_formats.proofs.FileSteps.{bound, passed, skip, same_ok}
 use Rattle.dfu_formats.proofs.FileFields.{cut, letters_are, number_fits, number_is, six_cut}
 use Rattle.dfu_formats.proofs.ElementLaws.{AreAll, none_of, elements_found, elements_read}
@@ -120,7 +120,7 @@ heading_read h fits =
 
 -- The bytes are these targets, so many, and nothing else.
 abbrev pub AreTargets : ℕ → List ℕ → List Target → Type 0
-AreTargets count b ts = AreAll spelled_targets TargetsFit count b ts
+AreTargets count b ts = AreAll spelled_targets TargetsInRange count b ts
 
 -- A target with its elements is spelled as its heading is.
 one_spelled : (h : Heading) (es : List Piece) (ts : List Target) → h.content ≡ spelled_elements es → length es ≡ h.count → h.rest ≡ spelled_targets ts →
@@ -129,8 +129,8 @@ unfolding spelled_targets
 one_spelled h es ts content count rest = cc
 
 one_more : (n : ℕ) (b : List ℕ) (h : Heading) (es : List Piece) (ts : List Target) → Heads b h → h.content ≡ spelled_elements es →
-    length es ≡ h.count → ElementsFit es → AreTargets n h.rest ts → AreTargets (suc n) b (target_of h es ∷ ts)
-unfolding TargetsFit
+    length es ≡ h.count → ElementsInRange es → AreTargets n h.rest ts → AreTargets (suc n) b (target_of h es ∷ ts)
+unfolding TargetsInRange
 one_more n b h es ts heads content count fit r = record {
   spelled = heads.spelled ∙ one_spelled h es ts content count r.spelled;
   number = omega (arith, r.number);
@@ -149,8 +149,8 @@ one_more n b h es ts heads content count fit r = record {
 
 -- What was read was there.
 pub targets_found : (count : ℕ) (b : List ℕ) (ts : List Target) → AreBytes b → targets_at count b ≡ Ok ts → AreTargets count b ts
-unfolding targets_at spelled_targets TargetsFit
-targets_found zero [] ts f h = none_of spelled_targets TargetsFit ts refl tt h
+unfolding targets_at spelled_targets TargetsInRange
+targets_found zero [] ts f h = none_of spelled_targets TargetsInRange ts refl tt h
 targets_found zero (x ∷ b) ts f h = cc
 targets_found (suc n) b ts f e =
     let p = bound (heading_at b) _ ts e in
@@ -175,8 +175,8 @@ heading_of t rest = record {
 }
 
 -- Targets are read.
-pub targets_read : (ts : List Target) → TargetsFit ts → targets_at (length ts) (spelled_targets ts) ≡ Ok ts
-unfolding targets_at spelled_targets TargetsFit
+pub targets_read : (ts : List Target) → TargetsInRange ts → targets_at (length ts) (spelled_targets ts) ≡ Ok ts
+unfolding targets_at spelled_targets TargetsInRange
 targets_read [] h = refl
 targets_read (t ∷ ts) h =
     let k = heading_of t (spelled_targets ts) in

@@ -6,7 +6,7 @@ use Rattle.dfu_home.specs.declared.due.Due.{Due}
 use Rattle.dfu_home.specs.declared.due.Due.TheVariants.{Refuse, Home, Erase, Program}
 use Rattle.dfu_home.specs.declared.due.Progress.{Progress}
 use Rattle.dfu_home.specs.Places.{IsAway}
-use Rattle.dfu_home.specs.Next.{IsCopying, MayAsk, IsCopyDue, Does}
+use Rattle.dfu_home.specs.Next.{IsCopying, HasRoomForOperation, IsCopyDue, IsNextDue}
 
 -- The image is in the second slot if it was not found in the first.
 pub found_away : (m : MediumState) (home : Bool) → home ≡ false → (IsTrue (not home) → IsAway m) → IsAway m
@@ -16,7 +16,7 @@ found_away m home is away = away (there home is)
     there b e = grind (arith, common_steps)
 
 -- An operation that is due of a copy is due.
-pub copy_does : (m : MediumState) (p : Progress) (due : Due) → MayAsk m p → IsCopying m → IsCopyDue m p.last due → Does m p due
+pub copy_does : (m : MediumState) (p : Progress) (due : Due) → HasRoomForOperation m p → IsCopying m → IsCopyDue m p.last due → IsNextDue m p due
 copy_does m p (Refuse refusal) may c due = absurd due
 copy_does m p Home may c due = absurd due
 copy_does m p (Erase at) may c due = (may, inr (c, due))

@@ -3,7 +3,7 @@ use Rattle.std.proofs.Common.{◌≡◌, inl, inr, ⊎_elim, ℕ, ◌≤◌, ◌
 use Rattle.std.proofs.lemmas.Bool.{cases_eq}
 use Rattle.dfu_suffix.specs.Register.{register}
 use Rattle.dfu_slots.specs.Units.{IsWhole}
-use Rattle.dfu_slots.specs.Medium.{MediumState, KeepsOutside}
+use Rattle.dfu_slots.specs.Medium.{MediumState, FrameOutside}
 use Rattle.dfu_slots.specs.Layout.{Slot, slot, slot_size, IsOpen, OPEN, generation, next_generation, header, header_length, HasHeader}
 use Rattle.dfu_slots.specs.Image.{gate_of, capacity_of, Counts, IsNewest, Active}
 use Rattle.dfu_slots.proofs.Stands.{ActiveAt}
@@ -18,7 +18,7 @@ use Rattle.dfu_home.proofs.Away.{away_length, away_is, away_fits}
 
 -- A range of the first slot is changed while the image is in the second.
 module _ (m now : MediumState) (image : List ℕ) (from to : ℕ) (a : ActiveAt (gate_of m) m.bytes (slot_size m.bytes) 0 image)
-    (whole : IsWhole m.grain (capacity_of m)) (keeps : KeepsOutside from to m.bytes now.bytes) (grain : now.grain ≡ m.grain)
+    (whole : IsWhole m.grain (capacity_of m)) (keeps : FrameOutside from to m.bytes now.bytes) (grain : now.grain ≡ m.grain)
     (below : to ≤ slot_size m.bytes) where
   abbrev g : ℕ
   g = gate_of m

@@ -10,7 +10,7 @@ use Rattle.dfu_slots.specs.Layout.{OPEN, generation, next_generation, header_len
 use Rattle.dfu_slots.specs.Image.{gate_of}
 use Rattle.dfu_slots.proofs.Sectors.{gate_wide}
 use Rattle.dfu_boot.specs.install.Area.{program_piece}
-use Rattle.dfu_boot.specs.install.Next.{Does as Fills}
+use Rattle.dfu_boot.specs.install.Next.{IsNextDue as Fills}
 use Rattle.dfu_boot.specs.declared.install.due.Due.{Due as FillDue}
 use Rattle.dfu_home.specs.declared.due.Due.{Due}
 use Rattle.dfu_home.specs.declared.due.Due.TheVariants.{Refuse, Home, Erase, Program}

@@ -1,6 +1,6 @@
 -- Facts of each operation, whatever becomes of it.
 use Rattle.std.specs.Prelude.{◌≡◌, ℕ, ◌+◌, ◌%◌, ◌≤◌, List}
-use Rattle.dfu_slots.specs.Medium.{MediumState, KeepsOutside}
+use Rattle.dfu_slots.specs.Medium.{MediumState, FrameOutside}
 use Rattle.dfu_slots.specs.Layout.{slot_size}
 use Rattle.dfu_slots.specs.Image.{Active, gate_of, spare_at}
 use Rattle.dfu_boot.specs.install.Area.{AreBlank}
@@ -8,7 +8,7 @@ use Rattle.dfu_home.specs.declared.due.Due.{Due}
 use Rattle.dfu_home.specs.declared.due.Due.TheVariants.{Refuse, Home, Erase, Program}
 use Rattle.dfu_home.specs.declared.due.Progress.{Progress}
 use Rattle.dfu_home.specs.Places.{IsHome}
-use Rattle.dfu_home.specs.Next.{Does}
+use Rattle.dfu_home.specs.Next.{IsNextDue}
 
 -- The range of what is due begins there.
 abbrev pub place_of : Due → ℕ
@@ -27,12 +27,12 @@ end_of sector Home = 0
 -- An operation that was due is carried out, and worked, failed, lied or was cut: its range has any bytes, and elsewhere there are the old
 -- ones.
 pub record IsCarried (m : MediumState) (due : Due) (now : MediumState) : Type 0 where
-  pub bytes : KeepsOutside (place_of due) (end_of m.grain.sector due) m.bytes now.bytes
+  pub bytes : FrameOutside (place_of due) (end_of m.grain.sector due) m.bytes now.bytes
   pub grain : now.grain ≡ m.grain
 
 -- Whatever becomes of what is due, the same image is the active one.
 abbrev pub ImageStays : Type 0
-ImageStays = (m now : MediumState) (image : List ℕ) (p : Progress) (due : Due) → Active m image → Does m p due → IsCarried m due now →
+ImageStays = (m now : MediumState) (image : List ℕ) (p : Progress) (due : Due) → Active m image → IsNextDue m p due → IsCarried m due now →
     Active now image
 
 -- An operation that is due lies in the first slot. It erases a whole sector, or programs what is blank.
@@ -43,7 +43,7 @@ IsAllowed m (Refuse refusal) = Unit {0}
 IsAllowed m Home = Unit {0}
 
 abbrev pub WritesTheFirstSlot : Type 0
-WritesTheFirstSlot = (m : MediumState) (p : Progress) (due : Due) → Does m p due → IsAllowed m due
+WritesTheFirstSlot = (m : MediumState) (p : Progress) (due : Due) → IsNextDue m p due → IsAllowed m due
 
 -- As long as the active image is in the first slot, the second one is spare: each operation of a download lies in it.
 abbrev pub SecondIsSpare : Type 0

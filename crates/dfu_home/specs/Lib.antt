@@ -1,4 +1,4 @@
 pub mod Places
 pub mod Next
 pub mod Laws
-pub mod Took
+pub mod OperationReport

@@ -6,7 +6,7 @@ use Rattle.dfu_slots.specs.Medium.{MediumState}
 use Rattle.dfu_slots.specs.Layout.{OPEN, IsOpen, generation, next_generation, header_length, gate_unit, header_unit}
 use Rattle.dfu_slots.specs.Image.{gate_of, capacity_of, IsSized, HasImage}
 use Rattle.dfu_boot.specs.install.Area.{program_piece}
-use Rattle.dfu_boot.specs.install.Next.{Does as Fills}
+use Rattle.dfu_boot.specs.install.Next.{IsNextDue as Fills}
 use Rattle.dfu_boot.specs.declared.install.due.Due.{Due as FillDue}
 use Rattle.dfu_boot.specs.declared.install.due.Due.TheVariants as fill
 use Rattle.dfu_home.specs.declared.due.Due.{Due}
@@ -47,19 +47,19 @@ ProgramsForCopy m last at len = ((d : ℕ) × (at ≡ 2 * gate_of m + d) × (len
     ⊎ IsGateDue m × (at ≡ 0) × (len ≡ gate_size m.grain.unit) × IsErasedAt m last at)
 
 -- The medium was looked at since the power came, and there is room for an operation.
-pub record MayAsk (m : MediumState) (p : Progress) : Type 0 where
+pub record HasRoomForOperation (m : MediumState) (p : Progress) : Type 0 where
   pub looked : p.count ≡ 0 → HasImage m
   pub left : p.count < most_operations m
 
 -- What is due. The gate of the first slot is closed first: from then on only the second slot can have the image.
-abbrev pub Does : MediumState → Progress → Due → Type 0
-Does m p (Refuse NoSectors) = m.grain.sector ≡ 0
-Does m p (Refuse NoImage) = (0 < m.grain.sector) × (¬ HasImage m)
-Does m p (Refuse NotWritten) = (0 < m.grain.sector) × (¬ IsHome m) × (most_operations m ≤ p.count)
-Does m p Home = (0 < m.grain.sector) × IsHome m
-Does m p (Erase at) = MayAsk m p × (IsAway m × IsOpen (first_of m) × (0 < m.grain.sector) × (at ≡ 0)
+abbrev pub IsNextDue : MediumState → Progress → Due → Type 0
+IsNextDue m p (Refuse NoSectors) = m.grain.sector ≡ 0
+IsNextDue m p (Refuse NoImage) = (0 < m.grain.sector) × (¬ HasImage m)
+IsNextDue m p (Refuse NotWritten) = (0 < m.grain.sector) × (¬ IsHome m) × (most_operations m ≤ p.count)
+IsNextDue m p Home = (0 < m.grain.sector) × IsHome m
+IsNextDue m p (Erase at) = HasRoomForOperation m p × (IsAway m × IsOpen (first_of m) × (0 < m.grain.sector) × (at ≡ 0)
     ⊎ IsCopying m × ErasesForCopy m p.last at)
-Does m p (Program at len) = MayAsk m p × IsCopying m × ProgramsForCopy m p.last at len
+IsNextDue m p (Program at len) = HasRoomForOperation m p × IsCopying m × ProgramsForCopy m p.last at len
 
 -- The bytes of a program there: the gate's unit, the header's, or a piece of the image.
 abbrev pub program_bytes : MediumState → ℕ → List ℕ
@@ -71,11 +71,11 @@ program_bytes m at =
     else program_piece (away_image m) (at - 2 * gate_of m)
 
 -- They are at the front of a buffer; without a program that is as it was.
-abbrev pub GivesBytes : MediumState → Due → List ℕ → List ℕ → Type 0
-GivesBytes m (Program at len) before after = take len after ≡ program_bytes m at
-GivesBytes m (Refuse refusal) before after = after ≡ before
-GivesBytes m Home before after = after ≡ before
-GivesBytes m (Erase at) before after = after ≡ before
+abbrev pub ProgramBytes : MediumState → Due → List ℕ → List ℕ → Type 0
+ProgramBytes m (Program at len) before after = take len after ≡ program_bytes m at
+ProgramBytes m (Refuse refusal) before after = after ≡ before
+ProgramBytes m Home before after = after ≡ before
+ProgramBytes m (Erase at) before after = after ≡ before
 
 -- Operation that is due of a copy.
 abbrev pub IsCopyDue : MediumState → Option ℕ → Due → Type 0
@@ -101,8 +101,8 @@ IsUnitDue m last place (Refuse refusal) = ⊥
 IsUnitDue m last place Home = ⊥
 
 -- A program of a unit has these bytes, with zeros after them; without one a buffer is as it was.
-abbrev pub GivesUnit : List ℕ → Due → List ℕ → List ℕ → Type 0
-GivesUnit front (Program at len) before after = take len after ≡ front ++ replicate (len - length front) 0
-GivesUnit front (Erase at) before after = after ≡ before
-GivesUnit front (Refuse refusal) before after = after ≡ before
-GivesUnit front Home before after = after ≡ before
+abbrev pub ProgramUnit : List ℕ → Due → List ℕ → List ℕ → Type 0
+ProgramUnit front (Program at len) before after = take len after ≡ front ++ replicate (len - length front) 0
+ProgramUnit front (Erase at) before after = after ≡ before
+ProgramUnit front (Refuse refusal) before after = after ≡ before
+ProgramUnit front Home before after = after ≡ before

@@ -5,7 +5,7 @@ ghost use Rattle.dfu_suffix.specs.Register.{register};
 ghost use Rattle.dfu_slots.specs.Units.{gate_size};
 ghost use Rattle.dfu_slots.specs.Layout.{next_generation, header};
 ghost use Rattle.dfu_home.specs.Places.{first_of, away_image, last_in_data};
-ghost use Rattle.dfu_home.specs.Next.{IsCopying, IsCopyDue, IsHeadDue, IsUnitDue, GivesUnit, GivesBytes};
+ghost use Rattle.dfu_home.specs.Next.{IsCopying, IsCopyDue, IsHeadDue, IsUnitDue, ProgramUnit, ProgramBytes};
 
 use crate::Due;
 use crate::bytes::{are_same, fill_up};
@@ -84,7 +84,7 @@ fn unit_due<M: Medium>(
     requires bound { length flash.now < 2 ^ 32 }
     requires few { length front.now ≤ 16 }
     ensures due { IsUnitDue (M.state medium.now) last at result }
-    ensures bytes { GivesUnit front.now result out.old out.new }
+    ensures bytes { ProgramUnit front.now result out.old out.new }
 {
     let len = gate_size(medium);
     if last != Some(at) {
@@ -109,7 +109,7 @@ fn head<M: Medium>(
     requires copying { IsCopying (M.state medium.now) }
     requires image { image.now ≡ away_image (M.state medium.now) }
     ensures due { IsHeadDue (M.state medium.now) last result }
-    ensures bytes { GivesBytes (M.state medium.now) result out.old out.new }
+    ensures bytes { ProgramBytes (M.state medium.now) result out.old out.new }
 {
     let header = copy_header(&header_of(medium, medium.len() / 2), image);
     if are_same(&header_of(medium, 0), &header) {
@@ -128,7 +128,7 @@ pub(crate) fn copy<M: Medium>(
     requires mapped { flash.now ≡ (M.state medium.now).bytes }
     requires copying { IsCopying (M.state medium.now) }
     ensures due { IsCopyDue (M.state medium.now) last result }
-    ensures bytes { GivesBytes (M.state medium.now) result out.old out.new }
+    ensures bytes { ProgramBytes (M.state medium.now) result out.old out.new }
 {
     let gates = 2 * gate_of(medium);
     let run = first_data(medium, flash);

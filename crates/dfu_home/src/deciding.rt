@@ -3,7 +3,7 @@ ghost use Rattle.std.specs.Prelude.{◌≡◌, ◌<◌, not, ℕ, List, IsTrue};
 ghost use Rattle.dfu_slots.specs.Layout.{IsOpen};
 ghost use Rattle.dfu_slots.specs.Image.{IsSized, HasImage};
 ghost use Rattle.dfu_home.specs.Places.{first_of, most_operations};
-ghost use Rattle.dfu_home.specs.Next.{Does, IsCopying, GivesBytes};
+ghost use Rattle.dfu_home.specs.Next.{IsNextDue, IsCopying, ProgramBytes};
 
 use crate::asking::is_home;
 use crate::copying::copy;
@@ -50,8 +50,8 @@ fn is_looked<M: Medium>(medium: &M, count: u32) -> bool
 fn opened<M: Medium>(medium: &M, progress: Progress) -> Due
     requires sectors { 0 < (M.state medium.now).grain.sector }
     requires open { IsOpen (first_of (M.state medium.now)) }
-    ensures does { Does (M.state medium.now) progress result }
-    ensures quiet { (bytes : List ℕ) → GivesBytes (M.state medium.now) result bytes bytes }
+    ensures does { IsNextDue (M.state medium.now) progress result }
+    ensures quiet { (bytes : List ℕ) → ProgramBytes (M.state medium.now) result bytes bytes }
 {
     match is_home(medium) {
         None => Due::Refuse(Refusal::NoImage),
@@ -71,8 +71,8 @@ fn shut<M: Medium>(medium: &M, flash: &[u8], progress: Progress, out: &mut [u8; 
     requires sized { IsSized (M.state medium.now) }
     requires sectors { 0 < (M.state medium.now).grain.sector }
     requires shut { ¬ IsOpen (first_of (M.state medium.now)) }
-    ensures does { Does (M.state medium.now) progress result }
-    ensures bytes { GivesBytes (M.state medium.now) result out.old out.new }
+    ensures does { IsNextDue (M.state medium.now) progress result }
+    ensures bytes { ProgramBytes (M.state medium.now) result out.old out.new }
 {
     if !is_looked(medium, progress.count) {
         return Due::Refuse(Refusal::NoImage);
@@ -96,8 +96,8 @@ fn shut<M: Medium>(medium: &M, flash: &[u8], progress: Progress, out: &mut [u8; 
 /// Refused, in this order: `NoSectors`, `NoImage`, `NotWritten`.
 pub fn next<M: Medium>(medium: &M, flash: &[u8], progress: Progress, out: &mut [u8; 256]) -> Due
     requires mapped { flash.now ≡ (M.state medium.now).bytes }
-    ensures does { Does (M.state medium.now) progress result }
-    ensures bytes { GivesBytes (M.state medium.now) result out.old out.new }
+    ensures does { IsNextDue (M.state medium.now) progress result }
+    ensures bytes { ProgramBytes (M.state medium.now) result out.old out.new }
 {
     if medium.sector() == 0 {
         return Due::Refuse(Refusal::NoSectors);

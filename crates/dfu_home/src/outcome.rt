@@ -1,6 +1,6 @@
 //! Outcome of an operation.
 ghost use Rattle.std.specs.Prelude.{◌≡◌, ◌+◌, ◌-◌, ◌^◌, ◌<◌, ◌↔◌, min, IsTrue, length};
-ghost use Rattle.dfu_home.specs.Took.{Worked, Noted};
+ghost use Rattle.dfu_home.specs.OperationReport.{Worked, Noted};
 
 use crate::bytes::are_same;
 use crate::{Due, Progress};

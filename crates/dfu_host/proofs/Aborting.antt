@@ -3,8 +3,8 @@ use Rattle.std.proofs.Common.{◌≡◌, refl, sym, ap, ◌∙◌, subst}
 use Rattle.dfu_host.specs.declared.report.Report.TheVariants as report
 use Rattle.dfu_host.specs.Phases.{Phase, Over, OverUploaded, GiveUp, Heard, Restarted, Left}
 use Rattle.dfu_host.specs.Host.{HostState, IsOn, after_phase, aborted_in, aborted}
-use Rattle.dfu_host.specs.Budget.{takes_in, takes_left}
-use Rattle.dfu_host.specs.Aborting.{EndsAborted, SpendsNothing}
+use Rattle.dfu_host.specs.Budget.{most_inputs_in, remaining_inputs}
+use Rattle.dfu_host.specs.Aborting.{AbortIsFinal, SpendsNothing}
 
 gives_up : (h : HostState) (phase : Phase) → IsOn phase → (aborted_in h phase).phase ≡ GiveUp
 gives_up h (Over r) on = elim on [ ]
@@ -17,14 +17,14 @@ then_ends h Left = refl
 then_ends h heard = refl
 
 -- A session that is given up ends as Aborted.
-pub ends_aborted : EndsAborted
+pub ends_aborted : AbortIsFinal
 ends_aborted h h' seen on step =
     ap (λ (z : HostState). z.phase) step.same
     ∙ subst (λ (p : Phase). (after_phase (aborted h) p step.heard).phase ≡ Over report.Aborted) (sym (gives_up h h.phase on))
     (then_ends (aborted h) step.heard)
 
-spent_in : (h : HostState) (phase : Phase) → takes_in phase h.actions ≡ takes_left h
-    → takes_left (aborted_in h phase) ≡ takes_in phase h.actions
+spent_in : (h : HostState) (phase : Phase) → most_inputs_in phase h.actions ≡ remaining_inputs h
+    → remaining_inputs (aborted_in h phase) ≡ most_inputs_in phase h.actions
 spent_in h (Over r) e = sym e
 spent_in h (OverUploaded kept) e = sym e
 spent_in h phase e = refl

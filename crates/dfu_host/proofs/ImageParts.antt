@@ -9,10 +9,10 @@ use Rattle.dfu_host.specs.declared.heard.Heard.TheVariants as heard
 use Rattle.dfu_host.specs.declared.seen.Seen.{Seen}
 use Rattle.dfu_host.specs.declared.seen.Seen.TheVariants as seen
 use Rattle.dfu_host.specs.Table as table
-use Rattle.dfu_host.specs.Wire.{Hears, NeedsRoom, ReadsAnswer}
+use Rattle.dfu_host.specs.Wire.{SeenMeaning, NeedsRoom, ReadsAnswer}
 use Rattle.dfu_host.specs.Host.{HostState, after, wants_memory}
-use Rattle.dfu_host.specs.Uploading.{TakesPart}
-use Rattle.dfu_host.specs.inside.HeardParts.{RefusedRoom}
+use Rattle.dfu_host.specs.Uploading.{FetchResult}
+use Rattle.dfu_host.specs.inside.PartMemory.{RefusedRoom}
 use Rattle.dfu_host.specs.declared.task.Task.{Task}
 use Rattle.dfu_host.specs.declared.progress.Progress.{Progress}
 use Rattle.dfu_host.specs.declared.goal.Goal.{Goal}
@@ -39,15 +39,15 @@ reads_part t k part word less (inr e) room =
 
 -- A part that was asked for is taken as it is, or there was no memory for it, and it needed some.
 pub takes_part : (memory : List ℕ) (t : Task) (p : Progress) (what : Seen) (word : Heard) (h' : HostState)
-    → Hears (table.deed (task_of t) (phase_of memory p.phase)) what (heard_of (part_of what) word)
+    → SeenMeaning (table.deed (task_of t) (phase_of memory p.phase)) what (heard_of (part_of what) word)
     → RefusedRoom t p.phase (part_of what) word → h' ≡ after (state_with memory t p) (heard_of (part_of what) word)
-    → TakesPart (state_with memory t p) (phase_of memory p.phase) what h'
+    → FetchResult (state_with memory t p) (phase_of memory p.phase) what h'
 takes_part memory t p what word h' hears room same = by_phase p.phase what word hears room same
   where
     by_phase : (phase : Phase) (what : Seen) (word : Heard)
-        → Hears (table.deed (task_of t) (phase_of memory phase)) what (heard_of (part_of what) word)
+        → SeenMeaning (table.deed (task_of t) (phase_of memory phase)) what (heard_of (part_of what) word)
         → RefusedRoom t phase (part_of what) word → h' ≡ after (state_with memory t p) (heard_of (part_of what) word)
-        → TakesPart (state_with memory t p) (phase_of memory phase) what h'
+        → FetchResult (state_with memory t p) (phase_of memory phase) what h'
     by_phase (phase.Fetch k) (seen.Bytes bytes) (heard.Part len) hears room same = inl same
     by_phase (phase.Fetch k) (seen.Bytes bytes) (heard.Compared same len) hears room taken = inl taken
     by_phase (phase.Fetch k) (seen.Bytes bytes) heard.NoRoom hears room same = inr (same, fetches t.goal room.0, room.1)

@@ -5,9 +5,9 @@ use Rattle.dfu_host.specs.declared.report.Report.{Report}
 use Rattle.dfu_host.specs.declared.report.Report.TheVariants as report
 use Rattle.dfu_host.specs.Phases.{Goal, ToLoad, ToFetch, ToVerify, ToCompare, Task, Phase, Fetch, LastUploaded, Compare, Last, Over, OverUploaded, Heard, Part, NoRoom, WasReset}
 use Rattle.dfu_host.specs.Table.{work_start, on_reset, after_last, on_part, host_row}
-use Rattle.dfu_host.specs.CommonPhases.{IsDownloading, DownloadHolds}
+use Rattle.dfu_host.specs.CommonPhases.{IsDownloading, DownloadInvariant}
 use Rattle.dfu_host.specs.RowLaws.{after_choice, after_compared, after_reset, after_download}
-use Rattle.dfu_host.specs.Installing.{IsInstalled, IsVerified, IsEnding, ToldDfuIdle, OnlyConfirmed, IsMatched, OnlyMatched}
+use Rattle.dfu_host.specs.Installing.{IsInstalled, IsVerified, IsEnding, DfuIdleReported, OnlyConfirmed, IsMatched, OnlyMatched}
 
 -- A report that says of no payload that it is in place.
 abbrev IsOther : Report → Type 0
@@ -33,7 +33,7 @@ module _ (P : Report → Type 0) (none : (r : Report) → IsOther r → P r → 
   anywhere_plain phase d = λ h. h
 
   -- Whatever is claimed about such a report holds of the phases of a download, since none of them has one.
-  download_plain : (Q : Type 0) → DownloadHolds task (λ phase. IsEnding P phase → Q)
+  download_plain : (Q : Type 0) → DownloadInvariant task (λ phase. IsEnding P phase → Q)
   download_plain Q = record {
     anywhere = λ phase d h. absurd (anywhere_plain phase d h);
     begins = λ h. absurd (start_plain task.goal h);
@@ -58,7 +58,7 @@ module _ (P : Report → Type 0) (none : (r : Report) → IsOther r → P r → 
   -- Such a report was there already, or comes as Installed when the device confirms it, or as Verified when the payload came back.
   abbrev Told : Phase → Heard → Type 0
   Told phase heard = (IsEnding P phase)
-      ⊎ ((P report.Installed × ToldDfuIdle task phase heard) ⊎ (P report.Verified × IsMatched task phase heard))
+      ⊎ ((P report.Installed × DfuIdleReported task phase heard) ⊎ (P report.Verified × IsMatched task phase heard))
 
   rows_only : (phase : Phase) (heard : Heard) → IsEnding P (host_row task phase heard) → Told phase heard
   rows_only (Compare k) heard h = after_compared task (λ next. IsEnding P next → Told (Compare k) heard) k heard (λ f. absurd f)

@@ -13,15 +13,15 @@ use Rattle.dfu_host.specs.Table as table
 use Rattle.dfu_host.specs.Host.{HostState, after, after_phase, budgeted}
 use Rattle.dfu_host.specs.InParts.{phase_of}
 use Rattle.dfu_host.specs.RowLaws.{after_choice}
-use Rattle.dfu_host.specs.Rooms.{OnlyWhereFull, TakesPartIn, overflows}
-use Rattle.dfu_host.specs.inside.Refusing.{HearsBy, RefusesIn}
+use Rattle.dfu_host.specs.Rooms.{OnlyWhereFull, FetchResultIn, overflows}
+use Rattle.dfu_host.specs.inside.Refusing.{SeenMeaningIn, RefusesIn}
 use Rattle.dfu_host.specs.inside.View.{heard_of, part_of, state_with}
 
 -- The result when a part is fetched is taken as its room has it, if it was refused as the room says.
 pub takes_part_in : (room : ℕ) (memory : List ℕ) (t : Task) (p : Progress) (what : Seen) (refused : Bool) (word : Heard) (h' : HostState)
-    → HearsBy p.phase what refused word → RefusesIn room t.transfer p.phase memory what refused
+    → SeenMeaningIn p.phase what refused word → RefusesIn room t.transfer p.phase memory what refused
     → h' ≡ after (state_with memory t p) (heard_of (part_of what) word)
-    → TakesPartIn room (state_with memory t p) (phase_of memory p.phase) what h'
+    → FetchResultIn room (state_with memory t p) (phase_of memory p.phase) what h'
 takes_part_in room memory t p what refused word h' by full same = by_phase p.phase what by full same
   where
     -- The word for a part by whether it was refused, as the table has it.
@@ -30,9 +30,9 @@ takes_part_in room memory t p what refused word h' by full same = by_phase p.pha
     by_refusal part true = refl
     by_refusal part false = refl
 
-    by_phase : (phase : Phase) (what : Seen) → HearsBy phase what refused word → RefusesIn room t.transfer phase memory what refused
+    by_phase : (phase : Phase) (what : Seen) → SeenMeaningIn phase what refused word → RefusesIn room t.transfer phase memory what refused
         → h' ≡ after (state_with memory t p) (heard_of (part_of what) word)
-        → TakesPartIn room (state_with memory t p) (phase_of memory phase) what h'
+        → FetchResultIn room (state_with memory t p) (phase_of memory phase) what h'
     by_phase (phase.Fetch k) (seen.Bytes bytes) by full same =
         same ∙ ap (after (state_with memory t p)) (ap (heard_of bytes.now) by ∙ by_refusal bytes.now refused
         ∙ ap (λ (b : Bool). if b then table.NoRoom else table.Part bytes.now) full)
@@ -71,8 +71,8 @@ only_where_full room h h' k kept bytes at takes = by_room (overflows room h.task
     -- The phase that follows this word.
     follows : (b : Bool) → overflows room h.task.transfer k kept bytes.now ≡ b
         → h'.phase ≡ (after_phase h (table.Fetch k kept) (if b then table.NoRoom else table.Part bytes.now)).phase
-    follows b e = let taken : TakesPartIn room h (table.Fetch k kept) (seen.Bytes bytes) h' =
-        subst (λ (p : table.Phase). TakesPartIn room h p (seen.Bytes bytes) h') at takes in
+    follows b e = let taken : FetchResultIn room h (table.Fetch k kept) (seen.Bytes bytes) h' =
+        subst (λ (p : table.Phase). FetchResultIn room h p (seen.Bytes bytes) h') at takes in
         ap (λ (s : HostState). s.phase) taken ∙ rw (at, e) refl
 
     by_room : (b : Bool) → overflows room h.task.transfer k kept bytes.now ≡ b

@@ -9,7 +9,7 @@ use Rattle.dfu_host.specs.declared.report.Report.TheVariants as report
 use Rattle.dfu_host.specs.declared.phase.Phase.{Phase}
 use Rattle.dfu_host.specs.declared.phase.Phase.TheVariants as phase
 use Rattle.dfu_host.specs.Table as table
-use Rattle.dfu_host.specs.Host.{HostState, budgeted, spent, restarted, host_heard, after_phase}
+use Rattle.dfu_host.specs.Host.{HostState, budgeted, spent, restarted, host_after, after_phase}
 use Rattle.dfu_host.specs.InParts.{phase_of}
 
 -- A tolerant device's status that neither confirms an install nor asks for a wait is trouble.
@@ -61,7 +61,7 @@ restarted_some h memory p (suc restarts) on never = let e : suc restarts - 1 ≡
 
 -- A host that is not done takes what was heard.
 pub after_told : (h : HostState) (memory : List ℕ) (p : Phase) (heard : table.Heard) → ((r : Report) → p ≡ phase.Over r → ⊥)
-    → (p ≡ phase.OverUploaded → ⊥) → host_heard h (phase_of memory p) heard ≡ after_phase h (phase_of memory p) heard
+    → (p ≡ phase.OverUploaded → ⊥) → host_after h (phase_of memory p) heard ≡ after_phase h (phase_of memory p) heard
 after_told h memory (phase.Over r) heard never on = absurd (never r refl)
 after_told h memory phase.OverUploaded heard never on = absurd (on refl)
 after_told h memory p heard never on = refl

@@ -5,9 +5,9 @@ use Rattle.dfu_host.specs.declared.report.Report.TheVariants as report
 use Rattle.dfu_host.specs.Phases.{Goal, ToVerify, ToCompare, Task, Phase, Find, Manifest, WaitManifest, WaitLast, Fetch, LastUploaded, Compare, Last, Over, OverUploaded, Heard, WasReset}
 use Rattle.dfu_host.specs.BehindClose.{is_behind_close}
 use Rattle.dfu_host.specs.Table.{work_start, on_reset, after_last, goal_after, host_row}
-use Rattle.dfu_host.specs.CommonPhases.{Any, IsCommon, IsDownloading, CommonHolds, DownloadHolds}
+use Rattle.dfu_host.specs.CommonPhases.{Any, IsCommon, IsDownloading, CommonInvariant, DownloadInvariant}
 use Rattle.dfu_host.specs.RowLaws.{after_compared, after_common, after_download}
-use Rattle.dfu_host.specs.HostLaws.{IsCutShort, RowsKeep, keeps_rows}
+use Rattle.dfu_host.specs.HostLaws.{IsCutShort, RowsPreserve, keeps_rows}
 use Rattle.dfu_host.specs.Verifying.{IsOwn, IsInstalling, IsComparing, ReportsItsOwn}
 
 -- A goal and a phase of such a session.
@@ -24,7 +24,7 @@ module _ (p : List ℕ) (task : Task) (is : task.goal ≡ ToVerify p) where
   installs_anywhere (OverUploaded kept) c = elim c [ ]
   installs_anywhere phase c = tt
 
-  installs_download : DownloadHolds task IsInstalling
+  installs_download : DownloadInvariant task IsInstalling
   installs_download = record {
     anywhere = installs_anywhere;
     begins = subst (λ (g : Goal). IsInstalling (work_start g)) (sym is) tt;
@@ -58,7 +58,7 @@ module _ (p : List ℕ) (task : Task) (is : task.goal ≡ ToCompare p) where
   compares_anywhere (Over r) c = elim c [ ]
   compares_anywhere phase c = c
 
-  compares_common : CommonHolds task IsComparing Any
+  compares_common : CommonInvariant task IsComparing Any
   compares_common = record {
     anywhere = compares_anywhere;
     begins = λ c poll k. subst (λ (g : Goal). IsComparing (work_start g)) (sym is) tt;
@@ -111,7 +111,7 @@ module _ (p : List ℕ) where
   last_fits g from behind (inl h) = inl (h.0, tt)
   last_fits g from behind (inr h) = absurd (never_compares from (subst (λ (x : Goal). IsTrue (is_behind_close x from)) h.0 behind) h.1)
 
-  rows_fit : RowsKeep (λ task phase. Fits p task.goal phase)
+  rows_fit : RowsPreserve (λ task phase. Fits p task.goal phase)
   rows_fit = record {
     next = row_fits;
     anew = λ task phase f. find_fits task.goal phase f;

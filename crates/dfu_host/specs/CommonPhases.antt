@@ -53,7 +53,7 @@ IsSeeking phase = ⊥
 
 -- A property of a session's phases that holds of the common ones, of the one in which the work begins once dfuIDLE is heard, and of the
 -- two ends that common phases lead to. Of what is heard something may be known.
-pub record CommonHolds (task : Task) (P : Phase → Type 0) (Known : Heard → Type 0) : Type 0 where
+pub record CommonInvariant (task : Task) (P : Phase → Type 0) (Known : Heard → Type 0) : Type 0 where
   pub anywhere : (phase : Phase) → IsCommon phase → P phase
   pub begins : (code : Code) (poll : ℕ) → Known (Status code poll DfuIdle) → P (work_start task.goal)
   pub refused : (code : Code) → P (Over (Refused code))
@@ -65,7 +65,7 @@ Any heard = Unit {0}
 
 -- A property that holds of a download's phases, of the one in which the work begins, and of the ends that may follow. Of a confirmed
 -- install it says nothing.
-pub record DownloadHolds (task : Task) (P : Phase → Type 0) : Type 0 where
+pub record DownloadInvariant (task : Task) (P : Phase → Type 0) : Type 0 where
   pub anywhere : (phase : Phase) → IsDownloading phase → P phase
   pub begins : P (work_start task.goal)
   pub refused : (code : Code) → P (Over (Refused code))

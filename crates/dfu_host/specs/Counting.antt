@@ -9,18 +9,18 @@ use Rattle.dfu_host.specs.PhaseClasses.{Common, Sending, Closing, Manifesting, F
 use Rattle.dfu_host.specs.Host.{HostState, HostRows}
 
 -- A report that gives no bytes: any but Uploaded.
-abbrev pub GivesNothing : Report → Type 0
-GivesNothing report.Uploaded = ⊥
-GivesNothing report.Installed = Unit {0}
-GivesNothing report.Unconfirmed = Unit {0}
-GivesNothing report.Aborted = Unit {0}
-GivesNothing report.GaveUp = Unit {0}
-GivesNothing (report.Refused code) = Unit {0}
-GivesNothing report.RestartsSpent = Unit {0}
-GivesNothing report.TooManyBlocks = Unit {0}
-GivesNothing report.NoMemory = Unit {0}
-GivesNothing report.Verified = Unit {0}
-GivesNothing report.Different = Unit {0}
+abbrev pub ReportsNoBytes : Report → Type 0
+ReportsNoBytes report.Uploaded = ⊥
+ReportsNoBytes report.Installed = Unit {0}
+ReportsNoBytes report.Unconfirmed = Unit {0}
+ReportsNoBytes report.Aborted = Unit {0}
+ReportsNoBytes report.GaveUp = Unit {0}
+ReportsNoBytes (report.Refused code) = Unit {0}
+ReportsNoBytes report.RestartsSpent = Unit {0}
+ReportsNoBytes report.TooManyBlocks = Unit {0}
+ReportsNoBytes report.NoMemory = Unit {0}
+ReportsNoBytes report.Verified = Unit {0}
+ReportsNoBytes report.Different = Unit {0}
 
 -- The bytes that are kept in a phase are counted: k full parts of an upload while part k is fetched, and at the end fewer bytes than 65,535
 -- full parts have. A phase that keeps nothing ends in no Uploaded.
@@ -32,9 +32,9 @@ IsCounted task phase = elim (class_of phase) [
   | Manifesting ↦ Unit {0}
   | Fetching k kept ↦ (task.goal ≡ ToFetch) × (k < 65535) × (length kept ≡ k * task.transfer)
   | Comparing k ↦ Unit {0}
-  | Ending report ↦ GivesNothing report
+  | Ending report ↦ ReportsNoBytes report
   | EndingUpload kept ↦ (task.goal ≡ ToFetch) × (length kept < 65535 * task.transfer)
-  | Ended report ↦ GivesNothing report
+  | Ended report ↦ ReportsNoBytes report
   | EndedUpload kept ↦ (task.goal ≡ ToFetch) × (length kept < 65535 * task.transfer)
 ]
 

@@ -7,10 +7,10 @@ use Rattle.dfu_host.specs.declared.report.Report.TheVariants as report
 use Rattle.dfu_host.specs.Phases.{Goal, ToLoad, ToFetch, ToVerify, ToCompare, Task, Phase, Fetch, LastUploaded, Compare, Last, Over, OverUploaded, Heard, Part}
 use Rattle.dfu_host.specs.Table.{work_start, after_last, on_part, host_row, task_after}
 use Rattle.dfu_host.specs.Host.{HostState, after}
-use Rattle.dfu_host.specs.CommonPhases.{IsDownloading, DownloadHolds}
+use Rattle.dfu_host.specs.CommonPhases.{IsDownloading, DownloadInvariant}
 use Rattle.dfu_host.specs.RowLaws.{after_choice, after_reset, after_compared, after_download}
-use Rattle.dfu_host.specs.HostLaws.{IsCutShort, RowsKeep, keeps_after, keeps_rows}
-use Rattle.dfu_host.specs.Counting.{GivesNothing, IsCounted, StaysCounted}
+use Rattle.dfu_host.specs.HostLaws.{IsCutShort, RowsPreserve, keeps_after, keeps_rows}
+use Rattle.dfu_host.specs.Counting.{ReportsNoBytes, IsCounted, StaysCounted}
 
 start_counted : (task : Task) (goal : Goal) → task.goal ≡ goal → IsCounted task (work_start goal)
 start_counted task (ToLoad payload) e = tt
@@ -26,7 +26,7 @@ anywhere_counted task (Over r) h = elim h [ ]
 anywhere_counted task (OverUploaded kept) h = elim h [ ]
 anywhere_counted task phase h = tt
 
-download_counted : (task : Task) → DownloadHolds task (IsCounted task)
+download_counted : (task : Task) → DownloadInvariant task (IsCounted task)
 download_counted task = record {
   anywhere = anywhere_counted task;
   begins = start_counted task task.goal refl;
@@ -53,7 +53,7 @@ part_counted task k kept (Part bytes) some c =
     (λ long. tt))
 part_counted task k kept heard some c = tt
 
-last_counted : (task : Task) (goal : Goal) (r : Report) → GivesNothing r → IsCounted task (after_last goal r)
+last_counted : (task : Task) (goal : Goal) (r : Report) → ReportsNoBytes r → IsCounted task (after_last goal r)
 last_counted task (ToVerify payload) r c = tt
 last_counted task goal r c = c
 
@@ -68,7 +68,7 @@ row_counted task (Over r) heard some c = c
 row_counted task (OverUploaded kept) heard some c = c
 row_counted task phase heard some c = after_download task (IsCounted task) (download_counted task) phase heard tt (λ confirmed. tt)
 
-short_counted : (report : Report) → IsCutShort report → GivesNothing report
+short_counted : (report : Report) → IsCutShort report → ReportsNoBytes report
 short_counted report.GaveUp is = tt
 short_counted report.RestartsSpent is = tt
 short_counted report.Aborted is = tt
@@ -78,7 +78,7 @@ short_counted report is = elim is [ ]
 abbrev CountsParts : Task → Phase → Type 0
 CountsParts task phase = (0 < task.transfer) × IsCounted task phase
 
-rows_count : RowsKeep CountsParts
+rows_count : RowsPreserve CountsParts
 rows_count = record {
   next = λ task phase heard c. (c.0, row_counted task phase heard c.0 c.1);
   anew = λ task phase c. (c.0, tt);

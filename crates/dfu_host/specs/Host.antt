@@ -9,7 +9,7 @@ use Rattle.dfu_host.specs.Phases.{Goal, Task, Phase, Find, Fetch, Last, GiveUp, 
 use Rattle.dfu_host.specs.PhaseClasses.{Common, Sending, Closing, Manifesting, Fetching, Comparing, Ending, EndingUpload, Ended, EndedUpload, class_of}
 use Rattle.dfu_host.specs.BehindClose.{is_behind_close}
 use Rattle.dfu_host.specs.Table.{deed, host_row, task_after}
-use Rattle.dfu_host.specs.Wire.{Hears, Spells}
+use Rattle.dfu_host.specs.Wire.{SeenMeaning, Spells}
 
 -- A host: its task, its phase, the actions that it has left, and the restarts of its device that it still takes.
 pub record HostState : Type 0 where
@@ -19,8 +19,8 @@ pub record HostState : Type 0 where
   pub restarts : ℕ
 
 -- A session that begins: in phase Find, with a budget of at least one action.
-abbrev pub host_begun : Task → (actions restarts : ℕ) → HostState
-host_begun task actions restarts = record { task = task; phase = Find; actions = max 1 actions; restarts = restarts }
+abbrev pub initial_host : Task → (actions restarts : ℕ) → HostState
+initial_host task actions restarts = record { task = task; phase = Find; actions = max 1 actions; restarts = restarts }
 
 -- The task of a session with this goal: all else goes by what its device's descriptor says.
 abbrev pub task_by_descriptor : Functional → Goal → Task
@@ -34,7 +34,7 @@ task_by_descriptor functional goal = record {
 
 -- A session with this goal that begins, by its device's descriptor and the limits.
 abbrev pub started : Functional → Goal → Limits → HostState
-started functional goal limits = host_begun (task_by_descriptor functional goal) limits.actions limits.restarts
+started functional goal limits = initial_host (task_by_descriptor functional goal) limits.actions limits.restarts
 
 -- The host is not done.
 abbrev pub IsOn : Phase → Type 0
@@ -84,21 +84,21 @@ abbrev pub by_row : HostState → Phase → Heard → HostState
 by_row h phase heard = spent (record h { task = task_after h.task phase heard }) (host_row h.task phase heard) h.restarts
 
 -- The device left of itself. After the close that is the last reset, which confirms nothing; in every other phase it is a restart.
-abbrev pub left_by : HostState → Phase → (behind_close : Bool) → HostState
-left_by h phase true = by_row h (Last report.Unconfirmed) WasReset
-left_by h phase false = restarted h phase h.restarts
+abbrev pub host_after_leaving : HostState → Phase → (behind_close : Bool) → HostState
+host_after_leaving h phase true = by_row h (Last report.Unconfirmed) WasReset
+host_after_leaving h phase false = restarted h phase h.restarts
 
 -- Host after something is heard: a restart, or that the device left of itself, or else what the table's row takes.
-abbrev pub host_heard : HostState → Phase → Heard → HostState
-host_heard h phase Restarted = restarted h phase h.restarts
-host_heard h phase Left = left_by h phase (is_behind_close h.task.goal phase)
-host_heard h phase heard = by_row h phase heard
+abbrev pub host_after : HostState → Phase → Heard → HostState
+host_after h phase Restarted = restarted h phase h.restarts
+host_after h phase Left = host_after_leaving h phase (is_behind_close h.task.goal phase)
+host_after h phase heard = by_row h phase heard
 
 -- A host that is done doesn't change, and every other takes what it hears.
 abbrev pub after_phase : HostState → Phase → Heard → HostState
 after_phase h (Over r) heard = h
 after_phase h (OverUploaded kept) heard = h
-after_phase h phase heard = host_heard h phase heard
+after_phase h phase heard = host_after h phase heard
 
 -- A host after it hears this.
 abbrev pub after : HostState → Heard → HostState
@@ -127,7 +127,7 @@ wants_memory phase = false
 -- is wanting only in a phase that wants some.
 pub record HostRow (h : HostState) (seen : Seen) (h' : HostState) : Type 0 where
   pub heard : Heard
-  pub hears : Hears (deed h.task h.phase) seen heard
+  pub hears : SeenMeaning (deed h.task h.phase) seen heard
   pub room : heard ≡ NoRoom → IsTrue (wants_memory h.phase)
   pub same : h' ≡ after h heard
 

@@ -6,7 +6,7 @@ use Rattle.dfu_host.specs.declared.seen.Seen.{Seen}
 use Rattle.dfu_host.specs.Phases.{Task, Phase, Find, Last, GiveUp, Over, OverUploaded, Heard, WasReset, Restarted, Left}
 use Rattle.dfu_host.specs.BehindClose.{is_behind_close}
 use Rattle.dfu_host.specs.Table.{host_row, task_after}
-use Rattle.dfu_host.specs.Host.{HostState, HostRows, budgeted, restarted, by_row, left_by, host_heard, after_phase, after, seen_all, sees}
+use Rattle.dfu_host.specs.Host.{HostState, HostRows, budgeted, restarted, by_row, host_after_leaving, host_after, after_phase, after, seen_all, sees}
 
 -- The report is one with which a host ends by its budget, by its restarts, or by its caller.
 abbrev pub IsCutShort : Report → Type 0
@@ -17,13 +17,13 @@ IsCutShort report = ⊥
 
 -- A property of a host's task and phase that each row keeps. If it held, it holds of the first phase and of an early end; if it held after
 -- the close, it holds of the last reset that confirms nothing.
-pub record RowsKeep (Q : Task → Phase → Type 0) : Type 0 where
+pub record RowsPreserve (Q : Task → Phase → Type 0) : Type 0 where
   pub next : (task : Task) (phase : Phase) (heard : Heard) → Q task phase → Q (task_after task phase heard) (host_row task phase heard)
   pub anew : (task : Task) (phase : Phase) → Q task phase → Q task Find
   pub short : (task : Task) (phase : Phase) (report : Report) → IsCutShort report → Q task phase → Q task (Over report)
   pub leaves : (task : Task) (phase : Phase) → IsTrue (is_behind_close task.goal phase) → Q task phase → Q task (Last Unconfirmed)
 
-module _ (Q : Task → Phase → Type 0) (keep : RowsKeep Q) where
+module _ (Q : Task → Phase → Type 0) (keep : RowsPreserve Q) where
   keeps_budget : (task : Task) (left : ℕ) (phase : Phase) → Q task phase → Q task (budgeted left phase)
   keeps_budget task left (Over r) q = q
   keeps_budget task left (OverUploaded kept) q = q
@@ -41,11 +41,11 @@ module _ (Q : Task → Phase → Type 0) (keep : RowsKeep Q) where
       keeps_budget (task_after h.task phase heard) (pred h.actions) (host_row h.task phase heard) (keep.next h.task phase heard q)
 
   keeps_left : (h : HostState) (phase : Phase) (behind : Bool) → is_behind_close h.task.goal phase ≡ behind → Q h.task phase
-      → let g = left_by h phase behind in Q g.task g.phase
+      → let g = host_after_leaving h phase behind in Q g.task g.phase
   keeps_left h phase true e q = keeps_row h (Last Unconfirmed) WasReset (keep.leaves h.task phase e q)
   keeps_left h phase false e q = keeps_restart h phase h.restarts q
 
-  keeps_told : (h : HostState) (phase : Phase) (heard : Heard) → Q h.task phase → let g = host_heard h phase heard in Q g.task g.phase
+  keeps_told : (h : HostState) (phase : Phase) (heard : Heard) → Q h.task phase → let g = host_after h phase heard in Q g.task g.phase
   keeps_told h phase Restarted q = keeps_restart h phase h.restarts q
   keeps_told h phase Left q = keeps_left h phase (is_behind_close h.task.goal phase) refl q
   keeps_told h phase heard q = keeps_row h phase heard q

@@ -12,9 +12,9 @@ use Rattle.dfu_host.specs.Table as table
 use Rattle.dfu_host.specs.Host.{HostState}
 
 -- Bytes in memory that are kept when a part is asked for: before the first part none are.
-abbrev pub kept_at : ℕ → List ℕ → List ℕ
-kept_at zero memory = []
-kept_at (suc k) memory = memory
+abbrev pub buffered_at : ℕ → List ℕ → List ℕ
+buffered_at zero memory = []
+buffered_at (suc k) memory = memory
 
 -- The phase that a phase of the code is, with these bytes in memory.
 abbrev pub phase_of : List ℕ → Phase → table.Phase
@@ -37,7 +37,7 @@ phase_of memory (phase.WaitManifest poll) = table.WaitManifest poll
 phase_of memory (phase.WaitLast poll) = table.WaitLast poll
 phase_of memory phase.Trouble = table.Trouble
 phase_of memory (phase.Last report) = table.Last report
-phase_of memory (phase.Fetch k) = table.Fetch k (kept_at k memory)
+phase_of memory (phase.Fetch k) = table.Fetch k (buffered_at k memory)
 phase_of memory phase.LastUploaded = table.LastUploaded memory
 phase_of memory (phase.Compare k) = table.Compare k
 phase_of memory phase.GiveUp = table.GiveUp
@@ -88,9 +88,9 @@ host_of memory p = record {
 
 -- The place in the payload at which the body of a phase's request begins: the block's first byte. All other requests have no body, and it
 -- counts as 0.
-abbrev pub begins_at : (t : ℕ) → Phase → ℕ
-begins_at t (phase.Block n) = n * t
-begins_at t other = 0
+abbrev pub body_offset : (t : ℕ) → Phase → ℕ
+body_offset t (phase.Block n) = n * t
+body_offset t other = 0
 
 -- The body of a request of a session is the payload from there on, as far as the body goes.
 abbrev pub BodyIsCut : (payload : List ℕ) (from : ℕ) → Action → Type 0

@@ -32,7 +32,7 @@ IsEnding P phase = elim (class_of phase) [
 ]
 
 -- A tolerant device reported dfuIDLE with OK after the close.
-pub record ToldDfuIdle (task : Task) (phase : Phase) (heard : Heard) : Type 0 where
+pub record DfuIdleReported (task : Task) (phase : Phase) (heard : Heard) : Type 0 where
   pub closed : phase ≡ Manifest
   pub tolerant : task.tolerant ≡ true
   pub poll : ℕ
@@ -42,7 +42,7 @@ pub record ToldDfuIdle (task : Task) (phase : Phase) (heard : Heard) : Type 0 wh
 abbrev pub OnlyConfirmed : Type 0
 OnlyConfirmed =
     (task : Task) (phase : Phase) (heard : Heard)
-    → IsEnding IsInstalled (host_row task phase heard) → (IsEnding IsInstalled phase) ⊎ ToldDfuIdle task phase heard
+    → IsEnding IsInstalled (host_row task phase heard) → (IsEnding IsInstalled phase) ⊎ DfuIdleReported task phase heard
 
 -- While the image is compared, the last of the payload came back: its shorter block, or nothing after its last full one.
 pub record IsMatched (task : Task) (phase : Phase) (heard : Heard) : Type 0 where

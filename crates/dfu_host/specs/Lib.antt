@@ -13,14 +13,14 @@ pub mod Download
 pub mod Installing
 pub mod Verifying
 pub mod Budget
-pub mod Leaving
+pub mod Departure
 pub mod Aborting
 pub mod WireLaws
 pub mod Uploading
 pub mod Rooms
 pub mod Storing
-pub mod Keeping
-pub mod Taking
+pub mod UploadBuffer
+pub mod TakeCall
 pub mod TaskLaws
 pub mod CommonPhases
 pub mod RowLaws

@@ -19,25 +19,25 @@ heard_in room t k kept part = if overflows room t k kept part then NoRoom else P
 
 -- Bytes that come for part k are taken as one for which there was no room exactly if it overflows, and else as the part. Nothing is said
 -- here about anything else that is seen.
-abbrev pub TakesAsPartIn : (room : ℕ) → HostState → (k : ℕ) → (kept : List ℕ) → Seen → HostState → Type 0
-TakesAsPartIn room h k kept (seen.Bytes bytes) h' = h' ≡ after h (heard_in room h.task.transfer k kept bytes.now)
-TakesAsPartIn room h k kept seen.Ack h' = Unit {0}
-TakesAsPartIn room h k kept seen.Stall h' = Unit {0}
-TakesAsPartIn room h k kept seen.Nothing h' = Unit {0}
-TakesAsPartIn room h k kept seen.Waited h' = Unit {0}
-TakesAsPartIn room h k kept seen.WasReset h' = Unit {0}
-TakesAsPartIn room h k kept seen.Restarted h' = Unit {0}
-TakesAsPartIn room h k kept seen.Left h' = Unit {0}
+abbrev pub PartResultIn : (room : ℕ) → HostState → (k : ℕ) → (kept : List ℕ) → Seen → HostState → Type 0
+PartResultIn room h k kept (seen.Bytes bytes) h' = h' ≡ after h (heard_in room h.task.transfer k kept bytes.now)
+PartResultIn room h k kept seen.Ack h' = Unit {0}
+PartResultIn room h k kept seen.Stall h' = Unit {0}
+PartResultIn room h k kept seen.Nothing h' = Unit {0}
+PartResultIn room h k kept seen.Waited h' = Unit {0}
+PartResultIn room h k kept seen.WasReset h' = Unit {0}
+PartResultIn room h k kept seen.Restarted h' = Unit {0}
+PartResultIn room h k kept seen.Left h' = Unit {0}
 
 -- An answer that comes when a part is fetched is taken as that part, in a room of this many bytes. Nothing is said here about phases that
 -- fetch no part.
-abbrev pub TakesPartIn : (room : ℕ) → HostState → Phase → Seen → HostState → Type 0
-TakesPartIn room h phase seen h' = elim (class_of phase) [
+abbrev pub FetchResultIn : (room : ℕ) → HostState → Phase → Seen → HostState → Type 0
+FetchResultIn room h phase seen h' = elim (class_of phase) [
   | Common ↦ Unit {0}
   | Sending n ↦ Unit {0}
   | Closing ↦ Unit {0}
   | Manifesting ↦ Unit {0}
-  | Fetching k kept ↦ TakesAsPartIn room h k kept seen h'
+  | Fetching k kept ↦ PartResultIn room h k kept seen h'
   | Comparing k ↦ Unit {0}
   | Ending report ↦ Unit {0}
   | EndingUpload kept ↦ Unit {0}
@@ -48,5 +48,5 @@ TakesPartIn room h phase seen h' = elim (class_of phase) [
 -- An upload in a room that gets bytes when it fetches a part is over with NoMemory exactly if that part overflows.
 abbrev pub OnlyWhereFull : Type 0
 OnlyWhereFull = (room : ℕ) (h h' : HostState) (k : ℕ) (kept : List ℕ) (bytes : Bor (List ℕ))
-    → h.phase ≡ Fetch k kept → TakesPartIn room h h.phase (seen.Bytes bytes) h'
+    → h.phase ≡ Fetch k kept → FetchResultIn room h h.phase (seen.Bytes bytes) h'
     → (h'.phase ≡ Over report.NoMemory) ↔ IsTrue (overflows room h.task.transfer k kept bytes.now)

@@ -10,8 +10,8 @@ use Rattle.dfu_wire.specs.declared.states.State.TheVariants as state
 use Rattle.dfu_host.specs.declared.report.Report.TheVariants.{Different, Installed, TooManyBlocks, Unconfirmed, Verified}
 use Rattle.dfu_host.specs.Phases.{Task, Phase, Find, FindAgain, Detach, Enter, Clear, Quit, WaitFind, ResetFind, Block, Ask, Poll, WaitPoll, Close, AskLast, Manifest, WaitManifest, WaitLast, Trouble, Fetch, LastUploaded, Compare, Last, GiveUp, Over, OverUploaded, Heard, Acked, Status, Part, StateIs, Stalled, Waited, WasReset}
 use Rattle.dfu_host.specs.Table.{work_start, pieces, listed, troubled, polled_phase, manifested, asked_phase, asked_last, on_status, on_state, on_ack, on_waited, on_reset, host_row}
-use Rattle.dfu_host.specs.CommonPhases.{Any, IsCommon, IsDownloading, IsSeeking, CommonHolds, DownloadHolds}
-use Rattle.dfu_host.specs.Installing.{ToldDfuIdle, IsMatched}
+use Rattle.dfu_host.specs.CommonPhases.{Any, IsCommon, IsDownloading, IsSeeking, CommonInvariant, DownloadInvariant}
+use Rattle.dfu_host.specs.Installing.{DfuIdleReported, IsMatched}
 
 module _ (P : Phase → Type 0) where
   -- After a choice, by the phase of each branch.
@@ -51,7 +51,7 @@ module _ (P : Phase → Type 0) where
   after_state Known Stalled told stalled nothing p q r k = q
   after_state Known heard told stalled nothing p q r k = r
 
-module _ (task : Task) (P : Phase → Type 0) (Known : Heard → Type 0) (holds : CommonHolds task P Known) where
+module _ (task : Task) (P : Phase → Type 0) (Known : Heard → Type 0) (holds : CommonInvariant task P Known) where
   after_list : (c : Code) (poll : ℕ) (s : State) → Known (Status c poll s) → P (listed (work_start task.goal) s poll)
   after_list c poll state.DfuIdle k = holds.begins c poll k
   after_list c poll s k = holds.anywhere (listed (work_start task.goal) s poll) tt
@@ -84,7 +84,7 @@ module _ (task : Task) (P : Phase → Type 0) (Known : Heard → Type 0) (holds 
   after_common GiveUp heard a k = holds.aborted
   after_common phase heard a k = elim a [ ]
 
-module _ (task : Task) (P : Phase → Type 0) (holds : DownloadHolds task P) where
+module _ (task : Task) (P : Phase → Type 0) (holds : DownloadInvariant task P) where
   common_downloads : (phase : Phase) → IsCommon phase → IsDownloading phase
   common_downloads (Fetch k kept) c = c
   common_downloads (LastUploaded kept) c = c
@@ -95,7 +95,7 @@ module _ (task : Task) (P : Phase → Type 0) (holds : DownloadHolds task P) whe
   common_downloads phase c = tt
 
   -- A fact of a download's phases holds of the common ones.
-  pub of_common : CommonHolds task P Any
+  pub of_common : CommonInvariant task P Any
   of_common = record {
     anywhere = λ phase c. holds.anywhere phase (common_downloads phase c);
     begins = λ code poll k. holds.begins;
@@ -135,7 +135,7 @@ module _ (task : Task) (P : Phase → Type 0) (holds : DownloadHolds task P) whe
   after_manifest false c poll s confirmed = after_trouble task P Any of_common c poll s tt
 
   -- After each phase of a download, if the property holds of the last reset when the device confirms the install.
-  pub after_download : (phase : Phase) (heard : Heard) → IsDownloading phase → (ToldDfuIdle task phase heard → P (Last Installed))
+  pub after_download : (phase : Phase) (heard : Heard) → IsDownloading phase → (DfuIdleReported task phase heard → P (Last Installed))
       → P (host_row task phase heard)
   after_download (Block n) heard d confirmed = after_ack P heard (Poll n) Trouble (Ask n) (holds.anywhere (Poll n) tt)
       (holds.anywhere Trouble tt) (holds.anywhere (Ask n) tt)

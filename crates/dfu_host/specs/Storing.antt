@@ -4,7 +4,7 @@ use Rattle.dfu_host.specs.declared.phase.Phase.{Phase}
 use Rattle.dfu_host.specs.declared.phase.Phase.TheVariants as phase
 use Rattle.dfu_host.specs.declared.seen.Seen.{Seen}
 use Rattle.dfu_host.specs.declared.seen.Seen.TheVariants as seen
-use Rattle.dfu_host.specs.InParts.{kept_at}
+use Rattle.dfu_host.specs.InParts.{buffered_at}
 use Rattle.dfu_host.specs.Wire.{is_kept}
 
 -- A part is stored: it follows what was kept by then, it counts as kept, and nothing after it has changed.
@@ -24,13 +24,13 @@ StoredIf true kept part count room count' room' = IsStored kept part room count'
 StoredIf false kept part count room count' room' = IsAsBefore count room count' room'
 
 -- Part k is stored in a room of this many bytes: it is one that is kept, and fits after what is kept by then.
-abbrev pub finds_room : (room t k : ℕ) → (kept part : List ℕ) → Bool
-finds_room room t k kept part = is_kept t k (length part) && not (nat_lt room (length kept + length part))
+abbrev pub part_has_room : (room t k : ℕ) → (kept part : List ℕ) → Bool
+part_has_room room t k kept part = is_kept t k (length part) && not (nat_lt room (length kept + length part))
 
 -- Bytes came for part k: if they are kept and fit, they are stored after the bytes of the room that count by then.
 abbrev pub StoresPart : (t k : ℕ) → (part : List ℕ) → (count : ℕ) → (room : List ℕ) → (count' : ℕ) → (room' : List ℕ) → Type 0
 StoresPart t k part count room count' room' =
-    StoredIf (finds_room (length room) t k (kept_at k (take count room)) part) (kept_at k (take count room)) part count room count' room'
+    StoredIf (part_has_room (length room) t k (buffered_at k (take count room)) part) (buffered_at k (take count room)) part count room count' room'
 
 -- Bytes came in a phase: but for a part that was asked for, the room stays as it was.
 abbrev pub StoresBytes : (t : ℕ) → Phase → (bytes : List ℕ) → (count : ℕ) → (room : List ℕ) → (count' : ℕ) → (room' : List ℕ) → Type 0

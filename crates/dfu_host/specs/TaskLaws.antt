@@ -3,7 +3,7 @@ use Rattle.std.proofs.Common.{◌≡◌, ℕ, zero, suc, Bool, true, false, refl
 use Rattle.dfu_host.specs.Phases.{Task, Phase, Find, GiveUp, Last, Over, OverUploaded, Heard, Restarted, Left}
 use Rattle.dfu_host.specs.BehindClose.{is_behind_close}
 use Rattle.dfu_host.specs.Table.{task_after}
-use Rattle.dfu_host.specs.Host.{HostState, restarted, left_by, host_heard, after_phase, after}
+use Rattle.dfu_host.specs.Host.{HostState, restarted, host_after_leaving, host_after, after_phase, after}
 
 -- Two tasks go by the same descriptor.
 pub record SameDescriptor (a b : Task) : Type 0 where
@@ -21,7 +21,7 @@ restarted_task h phase zero = refl
 restarted_task h phase (suc restarts) = refl
 
 told_task : (h : HostState) (phase : Phase) (heard : Heard) → (heard ≡ Left → ⊥)
-    → (host_heard h phase heard).task ≡ task_after h.task phase heard
+    → (host_after h phase heard).task ≡ task_after h.task phase heard
 told_task h (Last report) Restarted never = restarted_task h (Last report) h.restarts
 told_task h phase Restarted never = restarted_task h phase h.restarts
 told_task h phase Left never = absurd (never refl)
@@ -45,11 +45,11 @@ task_after_same task phase heard = record { transfer = refl; tolerant = refl; wi
 restarted_same : (h : HostState) (phase : Phase) (restarts : ℕ) → SameDescriptor h.task (restarted h phase restarts).task
 restarted_same h phase restarts = subst (SameDescriptor h.task) (sym (restarted_task h phase restarts)) (same_device h.task)
 
-left_same : (h : HostState) (phase : Phase) (behind : Bool) → SameDescriptor h.task (left_by h phase behind).task
+left_same : (h : HostState) (phase : Phase) (behind : Bool) → SameDescriptor h.task (host_after_leaving h phase behind).task
 left_same h phase true = record { transfer = refl; tolerant = refl; will_detach = refl; detach_ms = refl }
 left_same h phase false = restarted_same h phase h.restarts
 
-told_same : (h : HostState) (phase : Phase) (heard : Heard) → SameDescriptor h.task (host_heard h phase heard).task
+told_same : (h : HostState) (phase : Phase) (heard : Heard) → SameDescriptor h.task (host_after h phase heard).task
 told_same h phase Restarted = restarted_same h phase h.restarts
 told_same h phase Left = left_same h phase (is_behind_close h.task.goal phase)
 told_same h phase heard = task_after_same h.task phase heard

@@ -28,25 +28,25 @@ first_upload_fault functional = find (refuses_upload functional) upload_faults
 
 -- Bytes that come for part k are taken as the part, or there was no memory for them: only in uploads, and only if they needed some.
 -- Nothing is said here about anything else that is seen.
-abbrev pub TakesAsPart : HostState → (k : ℕ) → Seen → HostState → Type 0
-TakesAsPart h k (seen.Bytes bytes) h' =
+abbrev pub PartResult : HostState → (k : ℕ) → Seen → HostState → Type 0
+PartResult h k (seen.Bytes bytes) h' =
     (h' ≡ after h (Part bytes.now)) ⊎ ((h' ≡ after h NoRoom) × (h.task.goal ≡ ToFetch) × NeedsRoom h.task.transfer k (length bytes.now))
-TakesAsPart h k seen.Ack h' = Unit {0}
-TakesAsPart h k seen.Stall h' = Unit {0}
-TakesAsPart h k seen.Nothing h' = Unit {0}
-TakesAsPart h k seen.Waited h' = Unit {0}
-TakesAsPart h k seen.WasReset h' = Unit {0}
-TakesAsPart h k seen.Restarted h' = Unit {0}
-TakesAsPart h k seen.Left h' = Unit {0}
+PartResult h k seen.Ack h' = Unit {0}
+PartResult h k seen.Stall h' = Unit {0}
+PartResult h k seen.Nothing h' = Unit {0}
+PartResult h k seen.Waited h' = Unit {0}
+PartResult h k seen.WasReset h' = Unit {0}
+PartResult h k seen.Restarted h' = Unit {0}
+PartResult h k seen.Left h' = Unit {0}
 
 -- An answer that comes when a part is fetched is taken as that part. Nothing is said here about phases that fetch no part.
-abbrev pub TakesPart : HostState → Phase → Seen → HostState → Type 0
-TakesPart h phase seen h' = elim (class_of phase) [
+abbrev pub FetchResult : HostState → Phase → Seen → HostState → Type 0
+FetchResult h phase seen h' = elim (class_of phase) [
   | Common ↦ Unit {0}
   | Sending n ↦ Unit {0}
   | Closing ↦ Unit {0}
   | Manifesting ↦ Unit {0}
-  | Fetching k kept ↦ TakesAsPart h k seen h'
+  | Fetching k kept ↦ PartResult h k seen h'
   | Comparing k ↦ Unit {0}
   | Ending report ↦ Unit {0}
   | EndingUpload kept ↦ Unit {0}
@@ -56,8 +56,8 @@ TakesPart h phase seen h' = elim (class_of phase) [
 
 -- Bytes that an upload keeps: the parts that came since it last began, until it goes back to find the device. In all other phases nothing
 -- is kept.
-abbrev pub kept_in : Phase → List ℕ
-kept_in phase = elim (class_of phase) [
+abbrev pub buffered_in : Phase → List ℕ
+buffered_in phase = elim (class_of phase) [
   | Common ↦ []
   | Sending n ↦ []
   | Closing ↦ []

@@ -6,7 +6,7 @@ use Rattle.dfu_wire.specs.declared.requests.Request.{Request}
 use Rattle.dfu_wire.specs.declared.requests.Request.TheVariants as request
 use Rattle.dfu_wire.specs.Status.{StatusFields, IsStatus}
 use Rattle.dfu_wire.specs.Setup.{IsSetup}
-use Rattle.dfu_wire.specs.Request.{Asks, IsPlain}
+use Rattle.dfu_wire.specs.Request.{SetupRequest, IsPlain}
 use Rattle.dfu_wire.specs.State.{state_byte}
 use Rattle.dfu_host.specs.declared.action.Action.{Action}
 use Rattle.dfu_host.specs.declared.action.Action.TheVariants as action
@@ -15,15 +15,15 @@ use Rattle.dfu_host.specs.declared.seen.Seen.TheVariants as seen
 use Rattle.dfu_host.specs.Phases.{Deed, Send, Wait, Reset, Done, Heard, Acked, Status, StateIs, Part, NoRoom, Stalled, Nothing, Waited, WasReset, Restarted, Left}
 
 -- The eight bytes are a setup that asks for this request. A field without a meaning is 0.
-pub record IsAsked (q : Request) (bytes : List ℕ) : Type 0 where
+pub record IsSetupOf (q : Request) (bytes : List ℕ) : Type 0 where
   pub setup : Setup
   pub fields : IsSetup setup bytes
-  pub asks : Asks setup q
+  pub asks : SetupRequest setup q
   pub plain : IsPlain setup q
 
 -- An action as the caller gets it: a request is the bytes of its setup, with its body. No other pair spells.
 abbrev pub Spells : Deed → Action → Type 0
-Spells (Send q body) (action.Send setup given) = IsAsked q setup × (given.now ≡ body)
+Spells (Send q body) (action.Send setup given) = IsSetupOf q setup × (given.now ≡ body)
 Spells (Wait ms) (action.Wait given) = given ≡ ms
 Spells Reset action.Reset = Unit {0}
 Spells (Done report) (action.Done given) = given ≡ report
@@ -61,17 +61,17 @@ ReadsAnswer (request.Upload block len) bytes heard = (heard ≡ Part bytes) ⊎ 
 ReadsAnswer q bytes heard = heard ≡ Nothing
 
 -- Bytes that come of an action: if the action is not a request, it is as if nothing came.
-abbrev pub HearsBytes : Deed → List ℕ → Heard → Type 0
-HearsBytes (Send q body) bytes heard = ReadsAnswer q bytes heard
-HearsBytes deed bytes heard = heard ≡ Nothing
+abbrev pub BytesMeaning : Deed → List ℕ → Heard → Type 0
+BytesMeaning (Send q body) bytes heard = ReadsAnswer q bytes heard
+BytesMeaning deed bytes heard = heard ≡ Nothing
 
 -- The result of an action, as it is understood. The table decides whether it fits the action.
-abbrev pub Hears : Deed → Seen → Heard → Type 0
-Hears deed (seen.Bytes bytes) heard = HearsBytes deed bytes.now heard
-Hears deed seen.Ack heard = heard ≡ Acked
-Hears deed seen.Stall heard = heard ≡ Stalled
-Hears deed seen.Nothing heard = heard ≡ Nothing
-Hears deed seen.Waited heard = heard ≡ Waited
-Hears deed seen.WasReset heard = heard ≡ WasReset
-Hears deed seen.Restarted heard = heard ≡ Restarted
-Hears deed seen.Left heard = heard ≡ Left
+abbrev pub SeenMeaning : Deed → Seen → Heard → Type 0
+SeenMeaning deed (seen.Bytes bytes) heard = BytesMeaning deed bytes.now heard
+SeenMeaning deed seen.Ack heard = heard ≡ Acked
+SeenMeaning deed seen.Stall heard = heard ≡ Stalled
+SeenMeaning deed seen.Nothing heard = heard ≡ Nothing
+SeenMeaning deed seen.Waited heard = heard ≡ Waited
+SeenMeaning deed seen.WasReset heard = heard ≡ WasReset
+SeenMeaning deed seen.Restarted heard = heard ≡ Restarted
+SeenMeaning deed seen.Left heard = heard ≡ Left

@@ -10,7 +10,7 @@ use Rattle.dfu_wire.specs.OneValue.{IsStatus-one}
 use Rattle.dfu_host.specs.declared.seen.Seen.{Seen}
 use Rattle.dfu_host.specs.declared.seen.Seen.TheVariants as seen
 use Rattle.dfu_host.specs.Phases.{Deed, Send, Wait, Reset, Done, Heard, Status, StateIs, Nothing}
-use Rattle.dfu_host.specs.Wire.{ReadsStatus, ReadsState, ReadsAnswer, HearsBytes, Hears}
+use Rattle.dfu_host.specs.Wire.{ReadsStatus, ReadsState, ReadsAnswer, BytesMeaning, SeenMeaning}
 
 -- Bytes that spell a status are understood as that status.
 abbrev pub StatusUnderstood : Type 0
@@ -49,15 +49,15 @@ IsReadOnce request.OtherClass = Unit {0}
 IsReadOnce request.NotDfu = Unit {0}
 
 -- An action whose result is understood in one way: any but an UPLOAD.
-abbrev pub IsHeardOnce : Deed → Type 0
-IsHeardOnce (Send q body) = IsReadOnce q
-IsHeardOnce (Wait ms) = Unit {0}
-IsHeardOnce Reset = Unit {0}
-IsHeardOnce (Done report) = Unit {0}
+abbrev pub HasOneMeaning : Deed → Type 0
+HasOneMeaning (Send q body) = IsReadOnce q
+HasOneMeaning (Wait ms) = Unit {0}
+HasOneMeaning Reset = Unit {0}
+HasOneMeaning (Done report) = Unit {0}
 
 -- The result of an action is understood in one way, but for a part of an upload.
 abbrev pub OneMeaning : Type 0
-OneMeaning = (d : Deed) (what : Seen) (x y : Heard) → IsHeardOnce d → Hears d what x → Hears d what y → x ≡ y
+OneMeaning = (d : Deed) (what : Seen) (x y : Heard) → HasOneMeaning d → SeenMeaning d what x → SeenMeaning d what y → x ≡ y
 
 status_once : (bytes : List ℕ) (x y : Heard) → ReadsStatus bytes x → ReadsStatus bytes y → x ≡ y
 status_once bytes (Status code poll state) y a b =
@@ -80,7 +80,7 @@ reads_once (request.GetState len) bytes x y o a b = state_once bytes x y a b
 reads_once (request.Upload block len) bytes x y o a b = absurd o
 reads_once q bytes x y o a b = a ∙ sym b
 
-bytes_once : (d : Deed) (bytes : List ℕ) (x y : Heard) → IsHeardOnce d → HearsBytes d bytes x → HearsBytes d bytes y → x ≡ y
+bytes_once : (d : Deed) (bytes : List ℕ) (x y : Heard) → HasOneMeaning d → BytesMeaning d bytes x → BytesMeaning d bytes y → x ≡ y
 bytes_once (Send q body) bytes x y o a b = reads_once q bytes x y o a b
 bytes_once d bytes x y o a b = a ∙ sym b
 

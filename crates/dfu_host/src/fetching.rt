@@ -1,10 +1,10 @@
 //! The rows of the phases that fetch the image, and its parts in memory.
 
 ghost use Rattle.std.specs.Prelude.{◌≡◌, ◌⊎◌, ◌+◌, ◌<◌, nat_lt, Bool, true, false, if◌then◌else◌, IfSome, None, List, ℕ, length, take};
-ghost use Rattle.dfu_host.specs.inside.HeardParts.{Joined, Keeps, KeepsPart, RefusedRoom};
+ghost use Rattle.dfu_host.specs.inside.PartMemory.{Joined, MemoryAfter, PartMemory, RefusedRoom};
 ghost use Rattle.dfu_host.specs.Table as table;
-ghost use Rattle.dfu_host.specs.Keeping.{KeptPart, Stored};
-ghost use Rattle.dfu_host.specs.InParts.{IsWithin, kept_at, phase_of};
+ghost use Rattle.dfu_host.specs.UploadBuffer.{PartBuffered, Stored};
+ghost use Rattle.dfu_host.specs.InParts.{IsWithin, buffered_at, phase_of};
 ghost use Rattle.dfu_host.specs.Rooms.{overflows};
 ghost use Rattle.dfu_host.specs.Storing.{IsAsBefore, IsStored, StoresPart};
 ghost use Rattle.dfu_host.specs.inside.View.{heard_of, task_of};
@@ -25,10 +25,10 @@ impl Task<'_> {
     pub(crate) fn received(&self, number: u16, part: &[u8], refused: bool) -> Heard
         requires { IsWithin self.now.goal self.now.transfer (Phase.Fetch number) }
         ensures heard { (result ≡ Heard.Part (length part.now)) ⊎ (result ≡ Heard.NoRoom) }
-        ensures keeps { (memory memory' : List ℕ) → KeptPart self.now.transfer number part.now refused memory memory'
-            → KeepsPart self.now.transfer number memory part.now result memory' }
+        ensures keeps { (memory memory' : List ℕ) → PartBuffered self.now.transfer number part.now refused memory memory'
+            → PartMemory self.now.transfer number memory part.now result memory' }
         ensures room { RefusedRoom self.now (Phase.Fetch number) part.now result }
-        ensures by { (memory memory' : List ℕ) → KeptPart self.now.transfer number part.now refused memory memory'
+        ensures by { (memory memory' : List ℕ) → PartBuffered self.now.transfer number part.now refused memory memory'
             → result ≡ (if refused then Heard.NoRoom else Heard.Part (length part.now)) }
     {
         if refused && !part.is_empty() && self.is_kept(number, part.len()) {
@@ -43,19 +43,19 @@ impl Task<'_> {
         requires { number < 65535 }
         ensures some { IfSome result (λ part. (refused : Bool) (memory memory' : List ℕ)
             → Stored part.number part.bytes.now refused memory memory'
-            → KeptPart self.now.transfer number bytes.now refused memory memory') }
-        ensures none { result ≡ None → (memory : List ℕ) → KeptPart self.now.transfer number bytes.now false memory memory }
+            → PartBuffered self.now.transfer number bytes.now refused memory memory') }
+        ensures none { result ≡ None → (memory : List ℕ) → PartBuffered self.now.transfer number bytes.now false memory memory }
         ensures some_refused { IfSome result (λ part. (refused : Bool) (memory : List ℕ) (room : ℕ)
-            → refused ≡ nat_lt room (length (kept_at part.number memory) + length part.bytes.now)
-            → refused ≡ overflows room self.now.transfer number (kept_at number memory) bytes.now) }
+            → refused ≡ nat_lt room (length (buffered_at part.number memory) + length part.bytes.now)
+            → refused ≡ overflows room self.now.transfer number (buffered_at number memory) bytes.now) }
         ensures none_refused { result ≡ None → (memory : List ℕ) (room : ℕ)
-            → false ≡ overflows room self.now.transfer number (kept_at number memory) bytes.now }
+            → false ≡ overflows room self.now.transfer number (buffered_at number memory) bytes.now }
         ensures some_stored { IfSome result (λ part. (count : ℕ) (room : List ℕ) (count' : ℕ) (room' : List ℕ)
-            → false ≡ nat_lt (length room) (length (kept_at part.number (take count room)) + length part.bytes.now)
-            → IsStored (kept_at part.number (take count room)) part.bytes.now room count' room'
+            → false ≡ nat_lt (length room) (length (buffered_at part.number (take count room)) + length part.bytes.now)
+            → IsStored (buffered_at part.number (take count room)) part.bytes.now room count' room'
             → StoresPart self.now.transfer number bytes.now count room count' room') }
         ensures some_full { IfSome result (λ part. (count : ℕ) (room : List ℕ)
-            → true ≡ nat_lt (length room) (length (kept_at part.number (take count room)) + length part.bytes.now)
+            → true ≡ nat_lt (length room) (length (buffered_at part.number (take count room)) + length part.bytes.now)
             → StoresPart self.now.transfer number bytes.now count room count room) }
         ensures none_stored { result ≡ None → (count : ℕ) (room : List ℕ)
             → StoresPart self.now.transfer number bytes.now count room count room }
@@ -81,9 +81,9 @@ impl Task<'_> {
     pub(crate) fn after_fetch(&self, number: u16, heard: Heard) -> Phase
         requires { IsWithin self.now.goal self.now.transfer (Phase.Fetch number) }
         ensures next { (memory memory' part : List ℕ)
-            → Keeps self.now.transfer memory (Phase.Fetch number) part heard memory'
+            → MemoryAfter self.now.transfer memory (Phase.Fetch number) part heard memory'
             → phase_of memory' result
-            ≡ table.host_row (task_of self.now) (table.Fetch number (kept_at number memory)) (heard_of part heard) }
+            ≡ table.host_row (task_of self.now) (table.Fetch number (buffered_at number memory)) (heard_of part heard) }
         ensures within { IsWithin self.now.goal self.now.transfer result }
     {
         match heard {
@@ -98,7 +98,7 @@ impl Task<'_> {
         requires { IsWithin self.now.goal self.now.transfer (Phase.Fetch number) }
         ensures next { (memory memory' part : List ℕ)
             → Joined self.now.transfer number memory part len memory'
-            → phase_of memory' result ≡ table.fetched self.now.transfer number (kept_at number memory) part }
+            → phase_of memory' result ≡ table.fetched self.now.transfer number (buffered_at number memory) part }
         ensures within { IsWithin self.now.goal self.now.transfer result }
     {
         let transfer = self.transfer as usize;

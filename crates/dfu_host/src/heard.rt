@@ -2,13 +2,13 @@
 
 ghost use Rattle.std.specs.Prelude.{◌≡◌, List, ℕ, length};
 ghost use Rattle.dfu_host.specs.inside.Comparing.{Compares};
-ghost use Rattle.dfu_host.specs.inside.HeardParts.{Keeps, RefusedRoom};
-ghost use Rattle.dfu_host.specs.inside.Refusing.{HearsBy, HearsBytesBy};
+ghost use Rattle.dfu_host.specs.inside.PartMemory.{MemoryAfter, RefusedRoom};
+ghost use Rattle.dfu_host.specs.inside.Refusing.{SeenMeaningIn, BytesMeaningIn};
 ghost use Rattle.dfu_host.specs.Table.{deed};
-ghost use Rattle.dfu_host.specs.Keeping.{Kept, KeptBytes};
+ghost use Rattle.dfu_host.specs.UploadBuffer.{PartsBuffered, BytesBuffered};
 ghost use Rattle.dfu_host.specs.InParts.{IsWithin, phase_of};
 ghost use Rattle.dfu_host.specs.inside.View.{heard_of, part_of, task_of};
-ghost use Rattle.dfu_host.specs.Wire.{Hears, HearsBytes, ReadsStatus, ReadsState};
+ghost use Rattle.dfu_host.specs.Wire.{SeenMeaning, BytesMeaning, ReadsStatus, ReadsState};
 ghost use Rattle.dfu_host.specs.declared.phase.Phase.{Phase};
 ghost use Rattle.dfu_host.specs.declared.task.Task.{Task};
 
@@ -42,14 +42,14 @@ impl Task<'_> {
     /// answer, it is as if nothing came. A part of an upload is kept or refused by now; one of a comparison is compared.
     pub(crate) fn hear(&self, phase: Phase, seen: Seen<'_>, refused: bool) -> Heard
         requires { IsWithin self.now.goal self.now.transfer phase }
-        ensures hears { (memory : List ℕ) → Hears (deed (task_of self.now) (phase_of memory phase)) seen.entry
+        ensures hears { (memory : List ℕ) → SeenMeaning (deed (task_of self.now) (phase_of memory phase)) seen.entry
             (heard_of (part_of seen.entry) result) }
-        ensures keeps { (memory memory' : List ℕ) → Kept self.now.transfer phase seen.entry refused memory memory'
-            → Keeps self.now.transfer memory phase (part_of seen.entry) result memory' }
+        ensures keeps { (memory memory' : List ℕ) → PartsBuffered self.now.transfer phase seen.entry refused memory memory'
+            → MemoryAfter self.now.transfer memory phase (part_of seen.entry) result memory' }
         ensures compares { Compares (task_of self.now) phase (part_of seen.entry) result }
         ensures room { RefusedRoom self.now phase (part_of seen.entry) result }
-        ensures by { (memory memory' : List ℕ) → Kept self.now.transfer phase seen.entry refused memory memory'
-            → HearsBy phase seen.entry refused result }
+        ensures by { (memory memory' : List ℕ) → PartsBuffered self.now.transfer phase seen.entry refused memory memory'
+            → SeenMeaningIn phase seen.entry refused result }
     {
         match seen {
             Seen::Ack => Heard::Acked,
@@ -66,14 +66,14 @@ impl Task<'_> {
     /// Returns the meaning of bytes that come in a phase.
     fn answered(&self, phase: Phase, bytes: &[u8], refused: bool) -> Heard
         requires { IsWithin self.now.goal self.now.transfer phase }
-        ensures hears { (memory : List ℕ) → HearsBytes (deed (task_of self.now) (phase_of memory phase)) bytes.now
+        ensures hears { (memory : List ℕ) → BytesMeaning (deed (task_of self.now) (phase_of memory phase)) bytes.now
             (heard_of bytes.now result) }
-        ensures keeps { (memory memory' : List ℕ) → KeptBytes self.now.transfer phase bytes.now refused memory memory'
-            → Keeps self.now.transfer memory phase bytes.now result memory' }
+        ensures keeps { (memory memory' : List ℕ) → BytesBuffered self.now.transfer phase bytes.now refused memory memory'
+            → MemoryAfter self.now.transfer memory phase bytes.now result memory' }
         ensures compares { Compares (task_of self.now) phase bytes.now result }
         ensures room { RefusedRoom self.now phase bytes.now result }
-        ensures by { (memory memory' : List ℕ) → KeptBytes self.now.transfer phase bytes.now refused memory memory'
-            → HearsBytesBy phase (length bytes.now) refused result }
+        ensures by { (memory memory' : List ℕ) → BytesBuffered self.now.transfer phase bytes.now refused memory memory'
+            → BytesMeaningIn phase (length bytes.now) refused result }
     {
         match phase {
             Phase::Find | Phase::FindAgain | Phase::Poll(_) | Phase::Manifest | Phase::Trouble => {

@@ -1,8 +1,8 @@
 //! The host machine, and its memory.
 
 ghost use Rattle.std.specs.Prelude.{◌≡◌, ◌≤◌, ◌-◌, ◌↔◌, IsTrue, IfOk, Err, Some, ◌+◌, ◌<◌, length, vec_capacity};
-ghost use Rattle.dfu_host.specs.InParts.{kept_at};
-ghost use Rattle.dfu_host.specs.Keeping.{Kept, Stored};
+ghost use Rattle.dfu_host.specs.InParts.{buffered_at};
+ghost use Rattle.dfu_host.specs.UploadBuffer.{PartsBuffered, Stored};
 ghost use Rattle.dfu_host.specs.inside.Memories.{bytes_of};
 
 use crate::action::Action;
@@ -42,11 +42,11 @@ impl<'f> Model for Host<'f> {
 
 impl<'f> Host<'f> {
     ghost use Rattle.dfu_host.specs.Host.{Act, HostRow, IsOver, aborted, started};
-    ghost use Rattle.dfu_host.specs.Budget.{is_done, takes_left};
+    ghost use Rattle.dfu_host.specs.Budget.{is_done, remaining_inputs};
     ghost use Rattle.dfu_host.specs.Download.{first_download_fault, first_verify_fault};
     ghost use Rattle.dfu_host.specs.InParts.{IsPhase};
     ghost use Rattle.dfu_host.specs.Phases.{ToFetch, ToLoad, ToVerify};
-    ghost use Rattle.dfu_host.specs.Uploading.{TakesPart, first_upload_fault, kept_in};
+    ghost use Rattle.dfu_host.specs.Uploading.{FetchResult, first_upload_fault, buffered_in};
     ghost use Rattle.dfu_host.specs.declared.fault.HostFault.{HostFault};
 
     /// A host that is to install a file on the device with this descriptor and these
@@ -125,7 +125,7 @@ impl<'f> Host<'f> {
     /// Returns the action that the host wants next. It changes nothing, so it may be asked again.
     pub fn next(&self) -> Action<'f>
         ensures act { Act self.now result }
-        ensures done { IsTrue (is_done result) ↔ (takes_left self.now ≡ 0) }
+        ensures done { IsTrue (is_done result) ↔ (remaining_inputs self.now ≡ 0) }
     {
         self.session.next()
     }
@@ -144,9 +144,9 @@ impl<'f> Host<'f> {
     /// refused, the session ends with the report NoMemory.
     pub fn take(&mut self, seen: Seen<'_>)
         ensures row { HostRow self.old seen.entry self.new }
-        ensures budget { takes_left self.new ≤ takes_left self.old - 1 }
+        ensures budget { remaining_inputs self.new ≤ remaining_inputs self.old - 1 }
         ensures over { IsOver self.old.phase → self.new ≡ self.old }
-        ensures part { TakesPart self.old self.old.phase seen.entry self.new }
+        ensures part { FetchResult self.old self.old.phase seen.entry self.new }
     {
         let refused = self.memory.refuses(&self.session, seen);
         self.session.on_result(seen, refused);
@@ -165,7 +165,7 @@ impl<'f> Host<'f> {
     /// came since the fetching last began; and nothing in a download, or after the session went back to find the device, was given up or
     /// ended in another way.
     pub fn uploaded(&self) -> &[u8]
-        ensures { result.now ≡ kept_in self.now.phase }
+        ensures { result.now ≡ buffered_in self.now.phase }
     {
         match self.session.parts().phase {
             Phase::Fetch(0) => &[],
@@ -183,9 +183,9 @@ pub(crate) enum Memory {
 }
 
 impl Memory {
-    /// Keeps the part in what a session sees, and returns whether it was refused.
+    /// MemoryAfter the part in what a session sees, and returns whether it was refused.
     pub(crate) fn refuses(&mut self, session: &Session<'_>, seen: Seen<'_>) -> bool
-        ensures { Kept session.now.transfer session.now.phase seen.entry result (bytes_of self.old) (bytes_of self.new) }
+        ensures { PartsBuffered session.now.transfer session.now.phase seen.entry result (bytes_of self.old) (bytes_of self.new) }
     {
         match session.part(seen) {
             Some(part) => self.refuses_part(&part),
@@ -218,7 +218,7 @@ impl Memory {
 /// Stores a part in a vector, and returns whether the vector was full.
 fn is_full(kept: &mut Vec<u8>, part: &UploadPart<'_>) -> bool
     ensures stored { Stored part.now.number part.now.bytes.now result kept.old.items kept.new.items }
-    ensures full { IsTrue result → vec_capacity kept.old < length (kept_at part.now.number kept.old.items) + length part.now.bytes.now }
+    ensures full { IsTrue result → vec_capacity kept.old < length (buffered_at part.now.number kept.old.items) + length part.now.bytes.now }
 {
     if part.number == 0 {
         kept.clear();

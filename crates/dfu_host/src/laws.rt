@@ -1,12 +1,12 @@
 //! Laws of sessions. Each is the contract of a function with an empty body, which is proved and not to
 //! be called.
 
-ghost use Rattle.dfu_host.specs.Aborting.{EndsAborted, SpendsNothing};
+ghost use Rattle.dfu_host.specs.Aborting.{AbortIsFinal, SpendsNothing};
 ghost use Rattle.dfu_host.specs.BlockLaws.{OneCut};
-ghost use Rattle.dfu_host.specs.Budget.{DoneInTime, StaysDone};
+ghost use Rattle.dfu_host.specs.Budget.{FinishesInTime, FinalIsStable};
 ghost use Rattle.dfu_host.specs.Counting.{StaysCounted};
 ghost use Rattle.dfu_host.specs.Installing.{OnlyConfirmed, OnlyMatched};
-ghost use Rattle.dfu_host.specs.Leaving.{BeginsToCompare, EndsUnconfirmed, IsRestartElsewhere};
+ghost use Rattle.dfu_host.specs.Departure.{CompareFollowsClose, NothingConfirmsAfterClose, IsRestartElsewhere};
 ghost use Rattle.dfu_host.specs.Rooms.{OnlyWhereFull};
 ghost use Rattle.dfu_host.specs.Verifying.{ReportsItsOwn};
 ghost use Rattle.dfu_host.specs.WireLaws.{OneMeaning, StateUnderstood, StatusUnderstood};
@@ -21,9 +21,9 @@ pub fn one_cut()
 /// one if it has none. Then nothing changes any more. An abort spends no action, and unless
 /// the session was done, the next `take` ends it with the report Aborted.
 pub fn sessions_end()
-    ensures in_time { DoneInTime }
-    ensures stays { StaysDone }
-    ensures aborted { EndsAborted }
+    ensures in_time { FinishesInTime }
+    ensures stays { FinalIsStable }
+    ensures aborted { AbortIsFinal }
     ensures spends { SpendsNothing }
 {}
 
@@ -50,8 +50,8 @@ pub fn reports_once_known()
 /// Unconfirmed, and one that is verified begins to compare, with the restarts that it had. In every
 /// other phase it is a restart.
 pub fn left_is_the_last_reset()
-    ensures ends { EndsUnconfirmed }
-    ensures compares { BeginsToCompare }
+    ensures ends { NothingConfirmsAfterClose }
+    ensures compares { CompareFollowsClose }
     ensures elsewhere { IsRestartElsewhere }
 {}
 

@@ -3,7 +3,7 @@
 ghost use Rattle.std.specs.Prelude.{◌≡◌, if◌then◌else◌, List, ℕ, max};
 ghost use Rattle.dfu_host.specs.Host as host;
 ghost use Rattle.dfu_host.specs.inside.Comparing.{Compares};
-ghost use Rattle.dfu_host.specs.inside.HeardParts.{Keeps};
+ghost use Rattle.dfu_host.specs.inside.PartMemory.{MemoryAfter};
 ghost use Rattle.dfu_host.specs.Table as table;
 ghost use Rattle.dfu_host.specs.InParts.{IsWithin, phase_of};
 ghost use Rattle.dfu_host.specs.inside.View.{heard_of, state_with, task_of};
@@ -45,7 +45,7 @@ impl Progress {
     pub(crate) fn after(self, task: &mut Task<'_>, heard: Heard) -> Progress
         requires { IsWithin task.old.goal task.old.transfer self.phase }
         ensures state { (memory memory' part : List ℕ)
-            → Keeps task.old.transfer memory self.phase part heard memory'
+            → MemoryAfter task.old.transfer memory self.phase part heard memory'
             → Compares (task_of task.old) self.phase part heard
             → state_with memory' task.new result ≡ host.after (state_with memory task.old self) (heard_of part heard) }
         ensures payload { (payload : Bor (List ℕ)) → Carries payload task.old.goal → Carries payload task.new.goal }
@@ -65,7 +65,7 @@ impl Progress {
     fn by_row(self, task: &mut Task<'_>, heard: Heard) -> Progress
         requires { IsWithin task.old.goal task.old.transfer self.phase }
         ensures state { (memory memory' part : List ℕ)
-            → Keeps task.old.transfer memory self.phase part heard memory'
+            → MemoryAfter task.old.transfer memory self.phase part heard memory'
             → Compares (task_of task.old) self.phase part heard
             → state_with memory' task.new result
             ≡ host.by_row (state_with memory task.old self) (phase_of memory self.phase) (heard_of part heard) }
@@ -82,7 +82,7 @@ impl Progress {
     /// nothing; in every other phase it is a restart.
     fn left(self, task: &mut Task<'_>) -> Progress
         ensures state { (memory old : List ℕ) → state_with memory task.new result
-            ≡ host.left_by (state_with old task.old self) (phase_of old self.phase)
+            ≡ host.host_after_leaving (state_with old task.old self) (phase_of old self.phase)
             (is_behind_close (goal_of task.old.goal) (phase_of old self.phase)) }
         ensures payload { (payload : Bor (List ℕ)) → Carries payload task.old.goal → Carries payload task.new.goal }
         ensures within { IsWithin task.new.goal task.new.transfer result.phase }

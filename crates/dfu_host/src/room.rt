@@ -1,10 +1,10 @@
 //! Bytes that an upload keeps, in a caller's room.
 
 ghost use Rattle.std.specs.Prelude.{◌≡◌, ◌+◌, ◌<◌, ◌≤◌, ◌++◌, nat_lt, IfSome, None, drop, false, length, take, true, List, ℕ};
-ghost use Rattle.dfu_host.specs.InParts.{host_of, kept_at};
-ghost use Rattle.dfu_host.specs.Keeping.{Kept};
-ghost use Rattle.dfu_host.specs.Taking.{Takes};
-ghost use Rattle.dfu_host.specs.Rooms.{TakesPartIn};
+ghost use Rattle.dfu_host.specs.InParts.{host_of, buffered_at};
+ghost use Rattle.dfu_host.specs.UploadBuffer.{PartsBuffered};
+ghost use Rattle.dfu_host.specs.TakeCall.{TakeResult};
+ghost use Rattle.dfu_host.specs.Rooms.{FetchResultIn};
 ghost use Rattle.dfu_host.specs.Storing.{IsStored, Stores};
 ghost use Rattle.dfu_host.specs.inside.Refusing.{RefusesIn};
 ghost use Rattle.dfu_host.specs.Goals.{Carries};
@@ -23,8 +23,8 @@ impl Session<'_> {
     /// and the session ends with the report NoMemory.
     pub fn take(&mut self, room: &mut [u8], kept: usize, seen: Seen<'_>) -> usize
         requires { kept ≤ length room.old }
-        ensures takes { Takes (host_of (take kept room.old) self.old) seen.entry (host_of (take result room.new) self.new) }
-        ensures room { TakesPartIn (length room.old) (host_of (take kept room.old) self.old) (host_of (take kept room.old) self.old).phase
+        ensures takes { TakeResult (host_of (take kept room.old) self.old) seen.entry (host_of (take result room.new) self.new) }
+        ensures room { FetchResultIn (length room.old) (host_of (take kept room.old) self.old) (host_of (take kept room.old) self.old).phase
             seen.entry (host_of (take result room.new) self.new) }
         ensures payload { (payload : Bor (List ℕ)) → Carries payload self.old.goal → Carries payload self.new.goal }
         ensures stores { Stores self.old.transfer self.old.phase seen.entry kept room.old result room.new }
@@ -50,8 +50,8 @@ impl Session<'_> {
 fn keep(session: &Session<'_>, room: &mut [u8], kept: usize, seen: Seen<'_>) -> Option<usize>
     requires { kept ≤ length room.old }
     ensures some { IfSome result (λ n.
-        Kept session.now.transfer session.now.phase seen.entry false (take kept room.old) (take n room.new)) }
-    ensures none { result ≡ None → Kept session.now.transfer session.now.phase seen.entry true (take kept room.old) (take kept room.old) }
+        PartsBuffered session.now.transfer session.now.phase seen.entry false (take kept room.old) (take n room.new)) }
+    ensures none { result ≡ None → PartsBuffered session.now.transfer session.now.phase seen.entry true (take kept room.old) (take kept room.old) }
     ensures taken { IfSome result (λ n.
         RefusesIn (length room.old) session.now.transfer session.now.phase (take kept room.old) seen.entry false) }
     ensures stored { IfSome result (λ n. Stores session.now.transfer session.now.phase seen.entry kept room.old n room.new) }
@@ -76,15 +76,15 @@ fn store(room: &mut [u8], kept: usize, part: &UploadPart<'_>) -> Option<usize>
     requires { kept ≤ length room.old }
     ensures len { length room.new ≡ length room.old }
     ensures fits { IfSome result (λ n. n ≤ length room.old) }
-    ensures joins { IfSome result (λ n. take n room.new ≡ kept_at part.now.number (take kept room.old) ++ part.now.bytes.now) }
+    ensures joins { IfSome result (λ n. take n room.new ≡ buffered_at part.now.number (take kept room.old) ++ part.now.bytes.now) }
     ensures beyond { IfSome result (λ n. drop n room.new ≡ drop n room.old) }
-    ensures stored { IfSome result (λ n. IsStored (kept_at part.now.number (take kept room.old)) part.now.bytes.now room.old n room.new) }
+    ensures stored { IfSome result (λ n. IsStored (buffered_at part.now.number (take kept room.old)) part.now.bytes.now room.old n room.new) }
     ensures some { result ≡ None → 0 < length part.now.bytes.now }
     ensures same { result ≡ None → room.new ≡ room.old }
     ensures fitted { IfSome result (λ n.
-        false ≡ nat_lt (length room.old) (length (kept_at part.now.number (take kept room.old)) + length part.now.bytes.now)) }
+        false ≡ nat_lt (length room.old) (length (buffered_at part.now.number (take kept room.old)) + length part.now.bytes.now)) }
     ensures full { result ≡ None
-        → true ≡ nat_lt (length room.old) (length (kept_at part.now.number (take kept room.old)) + length part.now.bytes.now) }
+        → true ≡ nat_lt (length room.old) (length (buffered_at part.now.number (take kept room.old)) + length part.now.bytes.now) }
 {
     let from = if part.number == 0 { 0 } else { kept };
     if room.len() - from < part.bytes.len() {

@@ -3,7 +3,7 @@
 
 ghost use Rattle.std.specs.Prelude.{◌≡◌, ◌*◌, ◌<◌, length, List, ℕ};
 ghost use Rattle.dfu_host.specs.inside.Comparing.{Compares};
-ghost use Rattle.dfu_host.specs.inside.HeardParts.{Keeps};
+ghost use Rattle.dfu_host.specs.inside.PartMemory.{MemoryAfter};
 ghost use Rattle.dfu_host.specs.Table as table;
 ghost use Rattle.dfu_host.specs.InParts.{IsWithin, phase_of};
 ghost use Rattle.dfu_host.specs.declared.goal.Goal.{Goal};
@@ -48,7 +48,7 @@ impl Task<'_> {
     pub(crate) fn row(&self, phase: Phase, heard: Heard) -> Phase
         requires { IsWithin self.now.goal self.now.transfer phase }
         ensures next { (memory memory' part : List ℕ)
-            → Keeps self.now.transfer memory phase part heard memory'
+            → MemoryAfter self.now.transfer memory phase part heard memory'
             → Compares (task_of self.now) phase part heard
             → phase_of memory' result ≡ table.host_row (task_of self.now) (phase_of memory phase) (heard_of part heard) }
         ensures within { IsWithin self.now.goal self.now.transfer result }

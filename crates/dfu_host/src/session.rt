@@ -40,15 +40,15 @@ impl<'f> Model for Session<'f> {
 
 impl<'f> Session<'f> {
     ghost use Rattle.dfu_host.specs.Host.{Act, aborted, started};
-    ghost use Rattle.dfu_host.specs.Budget.{is_done, takes_left};
+    ghost use Rattle.dfu_host.specs.Budget.{is_done, remaining_inputs};
     ghost use Rattle.dfu_host.specs.Download.{first_download_fault, first_verify_fault};
     ghost use Rattle.dfu_host.specs.Phases.{ToFetch, ToLoad, ToVerify};
     ghost use Rattle.dfu_host.specs.Uploading.{first_upload_fault};
     ghost use Rattle.dfu_host.specs.Goals.{Carries, goal_of, payload_of, size_of};
-    ghost use Rattle.dfu_host.specs.InParts.{BodyIsCut, IsSession, begins_at, host_of, kept_at};
-    ghost use Rattle.dfu_host.specs.Keeping.{Kept, Stored};
-    ghost use Rattle.dfu_host.specs.Taking.{Takes};
-    ghost use Rattle.dfu_host.specs.Rooms.{TakesPartIn};
+    ghost use Rattle.dfu_host.specs.InParts.{BodyIsCut, IsSession, body_offset, host_of, buffered_at};
+    ghost use Rattle.dfu_host.specs.UploadBuffer.{PartsBuffered, Stored};
+    ghost use Rattle.dfu_host.specs.TakeCall.{TakeResult};
+    ghost use Rattle.dfu_host.specs.Rooms.{FetchResultIn};
     ghost use Rattle.dfu_host.specs.Storing.{IsStored, Stores};
     ghost use Rattle.dfu_host.specs.inside.Refusing.{RefusesIn};
     ghost use Rattle.dfu_host.specs.declared.fault.HostFault.{HostFault};
@@ -159,8 +159,8 @@ impl<'f> Session<'f> {
     /// Returns the action that the session wants next. It changes nothing, so it may be asked again.
     pub fn next(&self) -> Action<'f>
         ensures act { (memory : List ℕ) → Act (host_of memory self.now) result }
-        ensures done { (memory : List ℕ) → IsTrue (is_done result) ↔ (takes_left (host_of memory self.now) ≡ 0) }
-        ensures cut { BodyIsCut (payload_of self.now.goal) (begins_at self.now.transfer self.now.phase) result }
+        ensures done { (memory : List ℕ) → IsTrue (is_done result) ↔ (remaining_inputs (host_of memory self.now) ≡ 0) }
+        ensures cut { BodyIsCut (payload_of self.now.goal) (body_offset self.now.transfer self.now.phase) result }
     {
         self.task.action(self.progress.phase)
     }
@@ -168,7 +168,7 @@ impl<'f> Session<'f> {
     /// The place in the payload at which the body of what `next` sends begins; 0 if that has no
     /// body. The body is the payload from there on, as far as it goes.
     pub fn sends_from(&self) -> usize
-        ensures { result ≡ begins_at self.now.transfer self.now.phase }
+        ensures { result ≡ body_offset self.now.transfer self.now.phase }
     {
         match self.progress.phase {
             Phase::Block(number) => self.task.begins(number),
@@ -180,19 +180,19 @@ impl<'f> Session<'f> {
     pub(crate) fn part<'s>(&self, seen: Seen<'s>) -> Option<UploadPart<'s>>
         ensures some { IfSome result (λ part. (refused : Bool) (memory memory' : List ℕ)
             → Stored part.number part.bytes.now refused memory memory'
-            → Kept self.now.transfer self.now.phase seen.entry refused memory memory') }
-        ensures none { result ≡ None → (memory : List ℕ) → Kept self.now.transfer self.now.phase seen.entry false memory memory }
+            → PartsBuffered self.now.transfer self.now.phase seen.entry refused memory memory') }
+        ensures none { result ≡ None → (memory : List ℕ) → PartsBuffered self.now.transfer self.now.phase seen.entry false memory memory }
         ensures some_refused { IfSome result (λ part. (refused : Bool) (memory : List ℕ) (room : ℕ)
-            → refused ≡ nat_lt room (length (kept_at part.number memory) + length part.bytes.now)
+            → refused ≡ nat_lt room (length (buffered_at part.number memory) + length part.bytes.now)
             → RefusesIn room self.now.transfer self.now.phase memory seen.entry refused) }
         ensures none_refused { result ≡ None → (memory : List ℕ) (room : ℕ)
             → RefusesIn room self.now.transfer self.now.phase memory seen.entry false }
         ensures some_stored { IfSome result (λ part. (count : ℕ) (room : List ℕ) (count' : ℕ) (room' : List ℕ)
-            → false ≡ nat_lt (length room) (length (kept_at part.number (take count room)) + length part.bytes.now)
-            → IsStored (kept_at part.number (take count room)) part.bytes.now room count' room'
+            → false ≡ nat_lt (length room) (length (buffered_at part.number (take count room)) + length part.bytes.now)
+            → IsStored (buffered_at part.number (take count room)) part.bytes.now room count' room'
             → Stores self.now.transfer self.now.phase seen.entry count room count' room') }
         ensures some_full { IfSome result (λ part. (count : ℕ) (room : List ℕ)
-            → true ≡ nat_lt (length room) (length (kept_at part.number (take count room)) + length part.bytes.now)
+            → true ≡ nat_lt (length room) (length (buffered_at part.number (take count room)) + length part.bytes.now)
             → Stores self.now.transfer self.now.phase seen.entry count room count room) }
         ensures none_stored { result ≡ None → (count : ℕ) (room : List ℕ)
             → Stores self.now.transfer self.now.phase seen.entry count room count room }
@@ -207,11 +207,11 @@ impl<'f> Session<'f> {
     /// the image in it.
     pub(crate) fn on_result(&mut self, seen: Seen<'_>, refused: bool)
         ensures payload { (payload : Bor (List ℕ)) → Carries payload self.old.goal → Carries payload self.new.goal }
-        ensures takes { (memory memory' : List ℕ) → Kept self.old.transfer self.old.phase seen.entry refused memory memory'
-            → Takes (host_of memory self.old) seen.entry (host_of memory' self.new) }
-        ensures room { (memory memory' : List ℕ) (room : ℕ) → Kept self.old.transfer self.old.phase seen.entry refused memory memory'
+        ensures takes { (memory memory' : List ℕ) → PartsBuffered self.old.transfer self.old.phase seen.entry refused memory memory'
+            → TakeResult (host_of memory self.old) seen.entry (host_of memory' self.new) }
+        ensures room { (memory memory' : List ℕ) (room : ℕ) → PartsBuffered self.old.transfer self.old.phase seen.entry refused memory memory'
             → RefusesIn room self.old.transfer self.old.phase memory seen.entry refused
-            → TakesPartIn room (host_of memory self.old) (host_of memory self.old).phase seen.entry (host_of memory' self.new) }
+            → FetchResultIn room (host_of memory self.old) (host_of memory self.old).phase seen.entry (host_of memory' self.new) }
     {
         let phase = self.progress.phase;
         let heard = self.task.hear(phase, seen, refused);

@@ -32,7 +32,7 @@ impl<'f> Task<'f> {
     ghost use Rattle.dfu_host.specs.Goals.{goal_of, payload_of};
     ghost use Rattle.dfu_host.specs.Table.{pieces};
     ghost use Rattle.dfu_host.specs.declared.phase.Phase.{Phase};
-    ghost use Rattle.dfu_host.specs.InParts.{IsWithin, begins_at, phase_of};
+    ghost use Rattle.dfu_host.specs.InParts.{IsWithin, body_offset, phase_of};
     ghost use Rattle.dfu_host.specs.inside.View.{task_of};
 
     /// The payload that is sent or compared; empty for an upload.
@@ -101,7 +101,7 @@ impl<'f> Task<'f> {
     pub(crate) fn action(&self, phase: Phase) -> Action<'f>
         requires { IsWithin self.now.goal self.now.transfer phase }
         ensures spells { (memory : List ℕ) → Spells (table.deed (task_of self.now) (phase_of memory phase)) result }
-        ensures cut { BodyIsCut (payload_of self.now.goal) (begins_at self.now.transfer phase) result }
+        ensures cut { BodyIsCut (payload_of self.now.goal) (body_offset self.now.transfer phase) result }
     {
         match phase {
             Phase::Find | Phase::FindAgain | Phase::Poll(_) | Phase::Manifest | Phase::Trouble => {

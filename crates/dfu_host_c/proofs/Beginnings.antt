@@ -8,7 +8,7 @@ use Rattle.dfu_host.specs.declared.fault.HostFault.{HostFault}
 use Rattle.dfu_host.specs.declared.limits.Limits.{Limits}
 use Rattle.dfu_host.specs.Host.{started}
 use Rattle.dfu_host.specs.Phases.{Goal}
-use Rattle.dfu_host_core.specs.Beginning.{BeginsSession, HasBegunAs, IsContent}
+use Rattle.dfu_host_core.specs.BeginCalls.{BeginResult, IsInitialRecord, IsContent}
 use Rattle.dfu_host_c.specs.Refusing.{HostRefuses}
 use Rattle.dfu_host_c.specs.Refusals.{refused_number}
 use Rattle.dfu_host_c.specs.declared.refusals.Refusal.TheVariants as refusal
@@ -27,8 +27,8 @@ pub begins : {T : Type 0} {file descriptor : List ℕ} {asked device : Ids} {lim
     (first : Content → Functional → Ids → Option HostFault) (made : Result T HostFault)
     → IsContent content file → IsFunctional functional descriptor → asked ≡ device → made ≡ Ok host
     → ((fault : HostFault) → (made ≡ Err fault) ↔ (first content functional asked ≡ Some fault))
-    → HasBegunAs r' (started functional (to content.payload) limits) → result ≡ pos 0
-    → BeginsSession to first file descriptor device limits result r'
+    → IsInitialRecord r' (started functional (to content.payload) limits) → result ≡ pos 0
+    → BeginResult to first file descriptor device limits result r'
 begins {content = content} {functional = functional} to first made is_content is_functional same is refused begun number = record {
   content = content;
   functional = functional;

@@ -7,7 +7,7 @@ use Rattle.dfuse_host.specs.declared.phase.Phase.{Phase}
 use Rattle.dfuse_host.specs.declared.plan.Plan.{Plan}
 use Rattle.dfuse_host.specs.declared.session.Session.{Session}
 use Rattle.std.specs.Prelude.{Option, None, option_map}
-use Rattle.dfu_host_c.specs.dfuse.Sessions.{DfuseIsHeld, phase_in, session_in, session_with}
+use Rattle.dfu_host_c.specs.dfuse.Sessions.{IsDfuseRecordOf, phase_in, session_in, session_with}
 use Rattle.dfu_host_c.specs.declared.dfuse.session.DfuseSession.{DfuseSession}
 
 -- The session of a record has the map and the image that it is read over.
@@ -19,8 +19,8 @@ plan_with r map image (Some phase) s e =
     (sym (ap (λ (t : Session). t.plan.map) same), sym (ap (λ (t : Session). t.plan.image) same))
 
 -- The record written after a step holds the next session, over the same string and image.
-pub held_on : (r r' : DfuseSession) (text : List ℕ) (image : Bor (List Element)) (s next : Session) → DfuseIsHeld r text image s →
-    next.plan ≡ s.plan → session_in r' next.plan.map next.plan.image ≡ Some next → DfuseIsHeld r' text image next
+pub held_on : (r r' : DfuseSession) (text : List ℕ) (image : Bor (List Element)) (s next : Session) → IsDfuseRecordOf r text image s →
+    next.plan ≡ s.plan → session_in r' next.plan.map next.plan.image ≡ Some next → IsDfuseRecordOf r' text image next
 held_on r r' text image s next held plan says =
     let both : (s.plan.map ≡ held.map) × (s.plan.image ≡ image) = plan_with r held.map image (phase_in r) s held.says in
     let map : next.plan.map ≡ held.map = ap (λ (p : Plan). p.map) plan ∙ both.0 in

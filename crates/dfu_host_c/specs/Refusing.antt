@@ -5,7 +5,7 @@ use Rattle.dfu_wire.specs.declared.ids.Ids.{Ids}
 use Rattle.dfu_wire.specs.Functional.{IsFunctional, FirstFunctionalFault}
 use Rattle.dfu_suffix.specs.Grammar.{Content, First}
 use Rattle.dfu_host.specs.declared.fault.HostFault.{HostFault}
-use Rattle.dfu_host_core.specs.Beginning.{IsContent}
+use Rattle.dfu_host_core.specs.BeginCalls.{IsContent}
 use Rattle.dfu_host_c.specs.Refusals.{IsRefusedFor}
 use Rattle.dfu_host_c.specs.declared.refusals.Refusal.TheVariants as refusal
 

@@ -97,8 +97,8 @@ course_after watch facts =
     else 0
 
 -- Record with this result: if it is 1, also that another session was begun.
-abbrev pub begun_anew : (result : ℕ) → DfuWatch → DfuWatch
-begun_anew result watch = if result == 1 then record {
+abbrev pub watch_restarted : (result : ℕ) → DfuWatch → DfuWatch
+watch_restarted result watch = if result == 1 then record {
   silent = watch.silent;
   resets = watch.resets;
   stalled = watch.stalled;

@@ -1,7 +1,7 @@
 pub mod ReportNumbers
 pub mod PhaseNumbers
 pub mod Sessions
-pub mod Told
+pub mod SeenNumbers
 pub mod Maps
 pub mod Files
 pub mod Actions

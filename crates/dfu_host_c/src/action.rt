@@ -4,8 +4,8 @@ ghost use Rattle.std.specs.Prelude.{◌≤◌, List, length, ℕ};
 ghost use Rattle.dfu_host.specs.Phases.{Deed};
 ghost use Rattle.dfu_host.specs.InParts.{BodyIsCut};
 ghost use Rattle.dfu_host.specs.Wire.{Spells};
-ghost use Rattle.dfu_host_core.specs.Actions.{TellsAction};
-ghost use Rattle.dfu_host_core.specs.Calls.{NextComes};
+ghost use Rattle.dfu_host_core.specs.Actions.{ActionRecord};
+ghost use Rattle.dfu_host_core.specs.Calls.{HostNextResult};
 
 use crate::holding::session_of;
 use crate::refusals::NO_SESSION;
@@ -17,7 +17,7 @@ use dfu_host_core::{DfuAction, DfuSession};
 #[tactic(auto, using(crate::proofs::Bodies::cut_ends))]
 fn record_of(action: Action<'_>, from: usize) -> DfuAction
     ensures { (deed : Deed) (payload : List ℕ) → Spells deed action.entry → BodyIsCut payload from action.entry → from ≤ length payload
-        → TellsAction payload from deed result }
+        → ActionRecord payload from deed result }
 {
     let none = DfuAction {
         what: 2,
@@ -57,7 +57,7 @@ fn record_of(action: Action<'_>, from: usize) -> DfuAction
 #[tactic(auto, using(crate::proofs::Bodies::begins_within))]
 #[unsafe(no_mangle)]
 pub extern "C" fn dfu_host_next(session: &DfuSession, payload: &[u8], action: &mut DfuAction) -> i32
-    ensures outcome { NextComes session.now payload.entry result action.old action.new }
+    ensures outcome { HostNextResult session.now payload.entry result action.old action.new }
 {
     let Some(host) = session_of(session, payload) else {
         return NO_SESSION;

@@ -8,7 +8,7 @@ ghost use Rattle.dfu_host.specs.InParts.{host_of};
 ghost use Rattle.dfu_host.specs.Phases.{ToFetch, ToLoad, ToVerify};
 ghost use Rattle.dfu_host.specs.Uploading.{first_upload_fault};
 ghost use Rattle.dfu_host.specs.declared.fault.HostFault.{HostFault};
-ghost use Rattle.dfu_host_core.specs.Beginning.{BeginsSession, BeginsUpload, HasBegunAs, IsContent};
+ghost use Rattle.dfu_host_core.specs.BeginCalls.{BeginResult, BeginUploadResult, IsInitialRecord, IsContent};
 ghost use Rattle.dfu_host_c.specs.Refusing.{HostRefuses, IsNoDescriptor, IsUnread, RefusesUpload};
 ghost use Rattle.dfu_host_core.specs.Sessions.{limits_of};
 ghost use Rattle.dfu_host_c.specs.Ids.{ids_of};
@@ -48,7 +48,7 @@ fn read_both<'f>(file: &'f [u8], descriptor: &[u8]) -> Result<Wanted<'f>, i32>
 /// Writes the record of a session that begins.
 fn start(session: &mut DfuSession, host: &Session<'_>) -> i32
     ensures number { result ≡ pos 0 }
-    ensures begun { (start : HostState) → ((memory : List ℕ) → host_of memory host.now ≡ start) → HasBegunAs session.new start }
+    ensures begun { (start : HostState) → ((memory : List ℕ) → host_of memory host.now ≡ start) → IsInitialRecord session.new start }
 {
     *session = record_of(host, 0);
     0
@@ -81,7 +81,7 @@ fn install(
     limits: Limits,
     compares: bool,
 ) -> i32
-    ensures outcome { BeginsSession (to_install compares) (first_install_fault compares) file.now descriptor.now device limits
+    ensures outcome { BeginResult (to_install compares) (first_install_fault compares) file.now descriptor.now device limits
         result session.new
         ⊎ (IsUnread file.now descriptor.now result × (session.new ≡ session.old))
         ⊎ (HostRefuses (first_install_fault compares) file.now descriptor.now device result × (session.new ≡ session.old)) }
@@ -106,7 +106,7 @@ pub extern "C" fn dfu_host_download(
     actions: u32,
     restarts: u16,
 ) -> i32
-    ensures outcome { BeginsSession ToLoad first_download_fault file.now descriptor.now (ids_of device.now)
+    ensures outcome { BeginResult ToLoad first_download_fault file.now descriptor.now (ids_of device.now)
         (limits_of actions restarts) result session.new
         ⊎ (IsUnread file.now descriptor.now result × (session.new ≡ session.old))
         ⊎ (HostRefuses first_download_fault file.now descriptor.now (ids_of device.now) result × (session.new ≡ session.old)) }
@@ -125,7 +125,7 @@ pub extern "C" fn dfu_host_verified(
     actions: u32,
     restarts: u16,
 ) -> i32
-    ensures outcome { BeginsSession ToVerify first_verify_fault file.now descriptor.now (ids_of device.now)
+    ensures outcome { BeginResult ToVerify first_verify_fault file.now descriptor.now (ids_of device.now)
         (limits_of actions restarts) result session.new
         ⊎ (IsUnread file.now descriptor.now result × (session.new ≡ session.old))
         ⊎ (HostRefuses first_verify_fault file.now descriptor.now (ids_of device.now) result × (session.new ≡ session.old)) }
@@ -142,7 +142,7 @@ pub extern "C" fn dfu_host_upload(
     actions: u32,
     restarts: u16,
 ) -> i32
-    ensures outcome { BeginsUpload ToFetch first_upload_fault descriptor.now (limits_of actions restarts) result session.new
+    ensures outcome { BeginUploadResult ToFetch first_upload_fault descriptor.now (limits_of actions restarts) result session.new
         ⊎ (IsNoDescriptor descriptor.now result × (session.new ≡ session.old))
         ⊎ (RefusesUpload first_upload_fault descriptor.now result × (session.new ≡ session.old)) }
 {

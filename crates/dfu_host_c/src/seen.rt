@@ -1,8 +1,8 @@
 //! Results of actions, by their numbers.
 
 ghost use Rattle.std.specs.Prelude.{◌≡◌};
-ghost use Rattle.dfu_host_core.specs.Told.{seen_at};
-ghost use Rattle.dfu_host_c.specs.dfuse.Told.{dfuse_seen_at};
+ghost use Rattle.dfu_host_core.specs.SeenNumbers.{seen_at};
+ghost use Rattle.dfu_host_c.specs.dfuse.SeenNumbers.{dfuse_seen_at};
 
 use dfu_host::Seen;
 use dfuse_host::Seen as DfuseSeen;

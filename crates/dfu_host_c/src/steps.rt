@@ -4,10 +4,10 @@ ghost use Rattle.std.specs.Prelude.{◌≤◌, List, ℕ, length};
 ghost use Rattle.std.specs.Borrow.{Bor};
 ghost use Rattle.dfu_host.specs.Goals.{Carries};
 ghost use Rattle.dfu_host.specs.Host.{HostRow};
-ghost use Rattle.dfu_host.specs.Rooms.{TakesPartIn};
+ghost use Rattle.dfu_host.specs.Rooms.{FetchResultIn};
 ghost use Rattle.dfu_host.specs.Storing.{Stores};
-ghost use Rattle.dfu_host_core.specs.Calls.{AbortComes, TakeComes};
-ghost use Rattle.dfu_host_core.specs.Sessions.{IsHeldSession, IsWritten, host_in};
+ghost use Rattle.dfu_host_core.specs.Calls.{HostAbortResult, HostTakeResult};
+ghost use Rattle.dfu_host_core.specs.Sessions.{IsRecordWithParts, IsWritten, host_in};
 
 use crate::holding::{record_of, session_of};
 use crate::refusals::{NO_SEEN, NO_SESSION};
@@ -19,12 +19,12 @@ use dfu_host_core::DfuSession;
 fn step(given: &DfuSession, host: &mut Session<'_>, kept: &mut [u8], seen: Seen<'_>) -> DfuSession
     requires { given.now.kept ≤ length kept.old }
     ensures row { HostRow (host_in given.now kept.old host.old) seen.entry (host_in result kept.new host.new) }
-    ensures room { TakesPartIn (length kept.old) (host_in given.now kept.old host.old)
+    ensures room { FetchResultIn (length kept.old) (host_in given.now kept.old host.old)
         (host_in given.now kept.old host.old).phase seen.entry
         (host_in result kept.new host.new) }
     ensures stores { Stores host.old.transfer host.old.phase seen.entry given.now.kept kept.old result.kept kept.new }
     ensures written { IsWritten result host.new }
-    ensures held { (payload : Bor (List ℕ)) → Carries payload host.old.goal → IsHeldSession result payload kept.new host.new }
+    ensures held { (payload : Bor (List ℕ)) → Carries payload host.old.goal → IsRecordWithParts result payload kept.new host.new }
 {
     let count = host.take(kept, given.kept as usize, seen);
     record_of(host, count as u64)
@@ -39,7 +39,7 @@ pub extern "C" fn dfu_host_take(
     seen: u32,
     bytes: &[u8],
 ) -> i32
-    ensures outcome { TakeComes session.old payload.entry kept.old seen bytes.entry result session.new kept.new }
+    ensures outcome { HostTakeResult session.old payload.entry kept.old seen bytes.entry result session.new kept.new }
 {
     let Some(mut host) = session_of(session, payload) else {
         return NO_SESSION;
@@ -57,7 +57,7 @@ pub extern "C" fn dfu_host_take(
 /// Gives a session up: 0 or `DFU_NO_SESSION`.
 #[unsafe(no_mangle)]
 pub extern "C" fn dfu_host_abort(session: &mut DfuSession, payload: &[u8]) -> i32
-    ensures outcome { AbortComes session.old payload.entry result session.new }
+    ensures outcome { HostAbortResult session.old payload.entry result session.new }
 {
     let Some(mut host) = session_of(session, payload) else {
         return NO_SESSION;

@@ -3,7 +3,7 @@
 ghost use Rattle.std.specs.Prelude.{◌≡◌, ◌<◌, ◌≢◌, if◌then◌else◌};
 ghost use Rattle.dfu_host_c.specs.Watch.{
   as_number,
-  begun_anew,
+  watch_restarted,
   counted_to,
   course_after,
   course_before,
@@ -197,7 +197,7 @@ pub extern "C" fn dfu_watch_after(
     facts: &DfuFacts,
 ) -> u32
     ensures course { result ≡ course_after (watched watch.old action.now seen facts.now) facts.now }
-    ensures kept { watch.new ≡ begun_anew result (watched watch.old action.now seen facts.now) }
+    ensures kept { watch.new ≡ watch_restarted result (watched watch.old action.now seen facts.now) }
     // A device that has answered nothing 24 times in a row gets no further request.
     ensures silence { result < 2 → watch.new.silent < 24 }
     // Another session is begun once, and only before anything of an image was sent.

@@ -12,13 +12,13 @@ use Rattle.dfu_host.specs.Phases as table
 use Rattle.dfu_host.specs.Phases.{Deed, Send, Wait, Reset, Done}
 use Rattle.dfu_host.specs.Table.{deed}
 use Rattle.dfu_host.specs.Host.{HostState, HostRow, aborted}
-use Rattle.dfu_host.specs.InParts.{host_of, begins_at}
-use Rattle.dfu_host_core.specs.Actions.{TellsAction}
+use Rattle.dfu_host.specs.InParts.{host_of, body_offset}
+use Rattle.dfu_host_core.specs.Actions.{ActionRecord}
 use Rattle.dfu_host_core.specs.ReportNumbers.{report_at}
-use Rattle.dfu_host_core.specs.Sessions.{IsRecord, IsHeldSession, parts_of, host_in}
-use Rattle.dfu_host_core.specs.Beginning.{HasBegunAs}
-use Rattle.dfu_host_core.specs.Calls.{TakeComes, AbortComes}
-use Rattle.dfu_host_core.specs.Runs.{CoreHost, IsCoreHost, HostCall, CoreTake, CoreAbort, HostCalled, HostMoves, stays, moves, HostsRefine, HasPayload, HostsBegin, HostsAreOne, HostsTell}
+use Rattle.dfu_host_core.specs.Sessions.{IsRecord, IsRecordWithParts, parts_of, host_in}
+use Rattle.dfu_host_core.specs.BeginCalls.{IsInitialRecord}
+use Rattle.dfu_host_core.specs.Calls.{HostTakeResult, HostAbortResult}
+use Rattle.dfu_host_core.specs.Runs.{CoreHost, IsCoreHost, HostCall, CoreTake, CoreAbort, HostCalled, HostMoves, stays, moves, HostsRefine, HasPayload, BeginIsInitial, HostsAreOne, NextsOfHosts}
 use Rattle.dfu_host_core.specs.declared.action.DfuAction.{DfuAction}
 use Rattle.dfu_host_core.specs.declared.session.DfuSession.{DfuSession}
 use Rattle.dfu_host_core.proofs.Placed.{Alike, moved, carried_by}
@@ -31,7 +31,7 @@ module _ (payload : List ℕ) (x : CoreHost) (h : HostState) (here : IsCoreHost 
   standing : IsRecord x.kept q there.parts
   standing = record { version_is = here.held.stands.version_is; says = there.says; sound = there.sound }
 
-  holding : IsHeldSession x.kept q x.buffer there.parts
+  holding : IsRecordWithParts x.kept q x.buffer there.parts
   holding = record { stands = standing; room = here.held.room }
 
   -- Parts that the record says are those, so the host is this one.
@@ -57,7 +57,7 @@ record Moved (payload : List ℕ) (h : HostState) (call : HostCall) (n : ℤ) (x
 
 takes : (payload : List ℕ) (x x' : CoreHost) (h : HostState) (seen : ℕ) (bytes : List ℕ) (n : ℤ) (slice given : Bor (List ℕ))
     → IsCoreHost payload x h → slice.now ≡ payload → given.now ≡ bytes
-    → TakeComes x.kept slice x.buffer seen given n x'.kept x'.buffer → Moved payload h (CoreTake seen bytes) n x'
+    → HostTakeResult x.kept slice x.buffer seen given n x'.kept x'.buffer → Moved payload h (CoreTake seen bytes) n x'
 takes payload x x' h seen bytes n slice given here same said (inl (number, t)) = record {
   now = host_in x'.kept x'.buffer t.next;
   is = record { slice = slice; same = same; parts = t.next; held = t.later; is = refl };
@@ -82,7 +82,7 @@ takes payload x x' h seen bytes n slice given here same said (inr (inr (number, 
 }
 
 gives_up : (payload : List ℕ) (x x' : CoreHost) (h : HostState) (n : ℤ) (slice : Bor (List ℕ)) → IsCoreHost payload x h
-    → slice.now ≡ payload → x'.buffer ≡ x.buffer → AbortComes x.kept slice n x'.kept → Moved payload h CoreAbort n x'
+    → slice.now ≡ payload → x'.buffer ≡ x.buffer → HostAbortResult x.kept slice n x'.kept → Moved payload h CoreAbort n x'
 gives_up payload x x' h n slice here same buffer (inl (number, g)) =
     let memory = take x'.kept.kept x'.buffer in
     let as_before : memory ≡ take x.kept.kept x.buffer = λ i. take (g.kept i) (buffer i) in
@@ -124,7 +124,7 @@ hosts_refine payload x x' h (s ∷ rest) here run =
     record { now = all.now; is = all.is; goes = moves one.moves all.goes }
 
 -- The begin.
-begun_over : (payload buffer : List ℕ) (r : DfuSession) (start : HostState) → HasBegunAs r start → (slice : Bor (List ℕ))
+begun_over : (payload buffer : List ℕ) (r : DfuSession) (start : HostState) → IsInitialRecord r start → (slice : Bor (List ℕ))
     → slice.now ≡ payload → (p : Parts) → IsRecord r slice p → ((memory : List ℕ) → host_of memory p ≡ start)
     → r.kept ≡ 0 → IsCoreHost payload (record { kept = r; buffer = buffer }) start
 begun_over payload buffer r start begun slice same p is host none = record {
@@ -145,7 +145,7 @@ carried payload (goal.Verify given) to e has =
 carried payload (goal.Compare given) to e has =
     (given, subst (λ (z : table.Goal). HasPayload z payload) (sym e) has, refl)
 
-pub hosts_begin : HostsBegin
+pub hosts_begin : BeginIsInitial
 hosts_begin payload buffer r start begun has =
     let c = carried payload begun.parts.goal start.task.goal (ap (λ (z : HostState). z.task.goal) (begun.begins [])) has in
     begun_over payload buffer r start begun c.0 c.1 begun.parts (begun.stands c.0 c.2) begun.begins begun.nothing
@@ -155,7 +155,7 @@ hosts_are_one payload x h h' here other =
     sym other.is ∙ said_here payload x h here other.slice other.same other.parts other.held.stands
 
 -- An action that says that a session is over says so of the host.
-told : (payload : List ℕ) (from : ℕ) (d : Deed) (a : DfuAction) (report : Report) → TellsAction payload from d a → a.what ≡ 3
+told : (payload : List ℕ) (from : ℕ) (d : Deed) (a : DfuAction) (report : Report) → ActionRecord payload from d a → a.what ≡ 3
     → report_at a.value a.code ≡ Some report → d ≡ Done report
 told payload from (Send q body) a report t what is = absurd (omega (arith, t.what, what))
 told payload from (Wait ms) a report t what is = absurd (omega (arith, t.what_is, what))
@@ -163,7 +163,7 @@ told payload from Reset a report t what is = absurd (omega (arith, t.what_is, wh
 told payload from (Done other) a report t what is = ap Done (same_Some _ _ (sym t.report_is ∙ is))
 
 -- An action of a host without a payload says the same over any.
-over_any : (payload : List ℕ) (d : Deed) (a : DfuAction) (from : ℕ) → TellsAction [] from d a → TellsAction payload from d a
+over_any : (payload : List ℕ) (d : Deed) (a : DfuAction) (from : ℕ) → ActionRecord [] from d a → ActionRecord payload from d a
 over_any payload (Send q []) a from t = record {
   what = t.what;
   value = t.value;
@@ -180,19 +180,19 @@ over_any payload Reset a from t = t
 over_any payload (Done report) a from t = t
 
 -- So an action of a session says what it does over the payload that the program has.
-over_it : (mine payload : List ℕ) (d : Deed) (a : DfuAction) (from : ℕ) → (mine ≡ payload) ⊎ (mine ≡ []) → TellsAction mine from d a
-    → TellsAction payload from d a
-over_it mine payload d a from (inl same) t = subst (λ (l : List ℕ). TellsAction l from d a) same t
-over_it mine payload d a from (inr none) t = over_any payload d a from (subst (λ (l : List ℕ). TellsAction l from d a) none t)
+over_it : (mine payload : List ℕ) (d : Deed) (a : DfuAction) (from : ℕ) → (mine ≡ payload) ⊎ (mine ≡ []) → ActionRecord mine from d a
+    → ActionRecord payload from d a
+over_it mine payload d a from (inl same) t = subst (λ (l : List ℕ). ActionRecord l from d a) same t
+over_it mine payload d a from (inr none) t = over_any payload d a from (subst (λ (l : List ℕ). ActionRecord l from d a) none t)
 
-pub hosts_tell : HostsTell
+pub hosts_tell : NextsOfHosts
 hosts_tell payload x h slice n a a' here same (inl (number, t)) =
     let memory = take x.kept.kept x.buffer in
     let e : host_of memory t.parts ≡ h = said_here payload x h here slice same t.parts t.stands in
-    let from = begins_at t.parts.transfer t.parts.phase in
+    let from = body_offset t.parts.transfer t.parts.phase in
     let mine = payload_of t.parts.goal in
-    let says : TellsAction mine from (deed h.task h.phase) a' =
-    subst (λ (g : HostState). TellsAction mine from (deed g.task g.phase) a') e (t.tells memory) in
+    let says : ActionRecord mine from (deed h.task h.phase) a' =
+    subst (λ (g : HostState). ActionRecord mine from (deed g.task g.phase) a') e (t.tells memory) in
     record {
       number = number;
       from = from;

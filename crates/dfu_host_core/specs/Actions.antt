@@ -3,7 +3,7 @@ use Rattle.std.specs.Prelude.{◌≡◌, ◌+◌, ◌≤◌, ℕ, List, Some, le
 use Rattle.dfu_wire.specs.declared.requests.Request.{Request}
 use Rattle.dfu_host.specs.declared.report.Report.{Report}
 use Rattle.dfu_host.specs.Phases.{Deed, Send, Wait, Reset, Done}
-use Rattle.dfu_host.specs.Wire.{IsAsked}
+use Rattle.dfu_host.specs.Wire.{IsSetupOf}
 use Rattle.dfu_host_core.specs.ReportNumbers.{report_at, report_numbers}
 use Rattle.dfu_host_core.specs.declared.action.DfuAction.{DfuAction}
 
@@ -12,7 +12,7 @@ use Rattle.dfu_host_core.specs.declared.action.DfuAction.{DfuAction}
 pub record IsSend (payload : List ℕ) (from : ℕ) (q : Request) (body : List ℕ) (r : DfuAction) : Type 0 where
   pub what : r.what ≡ 0
   pub value : r.value ≡ 0
-  pub asked : IsAsked q r.setup
+  pub asked : IsSetupOf q r.setup
   pub place : r.from ≡ from
   pub size : r.length ≡ length body
   pub cut : body ≡ take (length body) (drop from payload)
@@ -29,14 +29,14 @@ pub record IsOther (what value code : ℕ) (r : DfuAction) : Type 0 where
   pub setup : r.setup ≡ replicate 8 0
 
 -- The record says that a session is over, with this report.
-pub record IsDone (report : Report) (r : DfuAction) : Type 0 where
+pub record IsFinalAction (report : Report) (r : DfuAction) : Type 0 where
   pub other : IsOther 3 r.value (report_numbers report).1 r
   pub report_is : report_at r.value r.code ≡ Some report
 
 -- The record says what a host with this payload does: 0 to send a request, 1 to wait that many milliseconds, 2 to reset the bus, and 3
 -- that it is done. A body begins at this place in the payload. A number that an action does not have is 0.
-abbrev pub TellsAction : (payload : List ℕ) → (from : ℕ) → Deed → DfuAction → Type 0
-TellsAction payload from (Send q body) r = IsSend payload from q body r
-TellsAction payload from (Wait ms) r = IsOther 1 ms 0 r
-TellsAction payload from Reset r = IsOther 2 0 0 r
-TellsAction payload from (Done report) r = IsDone report r
+abbrev pub ActionRecord : (payload : List ℕ) → (from : ℕ) → Deed → DfuAction → Type 0
+ActionRecord payload from (Send q body) r = IsSend payload from q body r
+ActionRecord payload from (Wait ms) r = IsOther 1 ms 0 r
+ActionRecord payload from Reset r = IsOther 2 0 0 r
+ActionRecord payload from (Done report) r = IsFinalAction report r

@@ -5,46 +5,46 @@ use Rattle.dfu_host.specs.declared.parts.Parts.{Parts}
 use Rattle.dfu_host.specs.declared.seen.Seen.{Seen}
 use Rattle.dfu_host.specs.Host.{HostRow, aborted}
 use Rattle.dfu_host.specs.Goals.{payload_of}
-use Rattle.dfu_host.specs.InParts.{begins_at, host_of}
-use Rattle.dfu_host.specs.Rooms.{TakesPartIn}
+use Rattle.dfu_host.specs.InParts.{body_offset, host_of}
+use Rattle.dfu_host.specs.Rooms.{FetchResultIn}
 use Rattle.dfu_host.specs.Storing.{Stores}
 use Rattle.dfu_host.specs.Table.{deed}
-use Rattle.dfu_host_core.specs.Actions.{TellsAction}
+use Rattle.dfu_host_core.specs.Actions.{ActionRecord}
 use Rattle.dfu_host_core.specs.Numbers.{no_session, no_seen}
-use Rattle.dfu_host_core.specs.Sessions.{IsRecord, IsHeldSession, IsWritten, host_in}
-use Rattle.dfu_host_core.specs.Told.{seen_at}
+use Rattle.dfu_host_core.specs.Sessions.{IsRecord, IsRecordWithParts, IsWritten, host_in}
+use Rattle.dfu_host_core.specs.SeenNumbers.{seen_at}
 use Rattle.dfu_host_core.specs.declared.action.DfuAction.{DfuAction}
 use Rattle.dfu_host_core.specs.declared.session.DfuSession.{DfuSession}
 
 -- The session of a record took what was seen, as a row of the host's table. A part of an upload was stored if the buffer has room for it;
 -- else the host took it as a part for which there is no memory.
-pub record TookSeen (r r' : DfuSession) (payload : Bor (List ℕ)) (buffer buffer' : List ℕ) (seen : ℕ) (bytes : Bor (List ℕ)) : Type 0 where
+pub record TakeSeenResult (r r' : DfuSession) (payload : Bor (List ℕ)) (buffer buffer' : List ℕ) (seen : ℕ) (bytes : Bor (List ℕ)) : Type 0 where
   pub parts : Parts
   pub word : Seen
   pub next : Parts
-  pub before : IsHeldSession r payload buffer parts
+  pub before : IsRecordWithParts r payload buffer parts
   pub seen_is : seen_at seen bytes ≡ Some word
-  pub later : IsHeldSession r' payload buffer' next
+  pub later : IsRecordWithParts r' payload buffer' next
   pub written : IsWritten r' next
   pub row : HostRow (host_in r buffer parts) word (host_in r' buffer' next)
-  pub room : TakesPartIn (length buffer) (host_in r buffer parts) (host_in r buffer parts).phase word (host_in r' buffer' next)
+  pub room : FetchResultIn (length buffer) (host_in r buffer parts) (host_in r buffer parts).phase word (host_in r' buffer' next)
   pub stores : Stores parts.transfer parts.phase word r.kept buffer r'.kept buffer'
 
 -- The record and the buffer are those of a session over this payload.
-pub record SessionStands (r : DfuSession) (payload : Bor (List ℕ)) (buffer : List ℕ) : Type 0 where
+pub record IsSessionRecord (r : DfuSession) (payload : Bor (List ℕ)) (buffer : List ℕ) : Type 0 where
   pub parts : Parts
-  pub held : IsHeldSession r payload buffer parts
+  pub held : IsRecordWithParts r payload buffer parts
 
 -- The record and the buffer are not those of a session over this payload.
-abbrev pub NotHeld : DfuSession → Bor (List ℕ) → (buffer : List ℕ) → Type 0
-NotHeld r payload buffer = (parts : Parts) → IsHeldSession r payload buffer parts → ⊥
+abbrev pub IsNoRecord : DfuSession → Bor (List ℕ) → (buffer : List ℕ) → Type 0
+IsNoRecord r payload buffer = (parts : Parts) → IsRecordWithParts r payload buffer parts → ⊥
 
 -- The record is not that of a session over this payload.
 abbrev pub NoRecord : DfuSession → Bor (List ℕ) → Type 0
 NoRecord r payload = (parts : Parts) → IsRecord r payload parts → ⊥
 
 -- The session of a record was given up. It keeps as many bytes as before.
-pub record GivenUp (r r' : DfuSession) (payload : Bor (List ℕ)) : Type 0 where
+pub record AbortedRecord (r r' : DfuSession) (payload : Bor (List ℕ)) : Type 0 where
   pub parts : Parts
   pub next : Parts
   pub before : IsRecord r payload parts
@@ -58,20 +58,20 @@ pub record IsNextAction (r : DfuSession) (payload : Bor (List ℕ)) (a : DfuActi
   pub parts : Parts
   pub stands : IsRecord r payload parts
   pub tells : (memory : List ℕ)
-      → TellsAction (payload_of parts.goal) (begins_at parts.transfer parts.phase)
+      → ActionRecord (payload_of parts.goal) (body_offset parts.transfer parts.phase)
       (deed (host_of memory parts).task (host_of memory parts).phase) a
 
 -- Result of dfu_host_take: the session took what was seen; or the record is no session's, or there is no such `seen`, and nothing changes.
-abbrev pub TakeComes : DfuSession → Bor (List ℕ) → (buffer : List ℕ) → (seen : ℕ) → Bor (List ℕ) → ℤ → DfuSession → (buffer' : List ℕ)
+abbrev pub HostTakeResult : DfuSession → Bor (List ℕ) → (buffer : List ℕ) → (seen : ℕ) → Bor (List ℕ) → ℤ → DfuSession → (buffer' : List ℕ)
     → Type 0
-TakeComes r payload buffer seen bytes n r' buffer' = ((n ≡ pos 0) × TookSeen r r' payload buffer buffer' seen bytes)
-    ⊎ ((n ≡ no_session) × NotHeld r payload buffer × (r' ≡ r) × (buffer' ≡ buffer))
-    ⊎ ((n ≡ no_seen) × SessionStands r payload buffer × (seen_at seen bytes ≡ None) × (r' ≡ r) × (buffer' ≡ buffer))
+HostTakeResult r payload buffer seen bytes n r' buffer' = ((n ≡ pos 0) × TakeSeenResult r r' payload buffer buffer' seen bytes)
+    ⊎ ((n ≡ no_session) × IsNoRecord r payload buffer × (r' ≡ r) × (buffer' ≡ buffer))
+    ⊎ ((n ≡ no_seen) × IsSessionRecord r payload buffer × (seen_at seen bytes ≡ None) × (r' ≡ r) × (buffer' ≡ buffer))
 
 -- Result of dfu_host_abort: the session was given up; or the record is no session's, and nothing changes.
-abbrev pub AbortComes : DfuSession → Bor (List ℕ) → ℤ → DfuSession → Type 0
-AbortComes r payload n r' = ((n ≡ pos 0) × GivenUp r r' payload) ⊎ ((n ≡ no_session) × NoRecord r payload × (r' ≡ r))
+abbrev pub HostAbortResult : DfuSession → Bor (List ℕ) → ℤ → DfuSession → Type 0
+HostAbortResult r payload n r' = ((n ≡ pos 0) × AbortedRecord r r' payload) ⊎ ((n ≡ no_session) × NoRecord r payload × (r' ≡ r))
 
 -- Result of dfu_host_next: the record of the action says what the session does next; or the record is no session's, and nothing changes.
-abbrev pub NextComes : DfuSession → Bor (List ℕ) → ℤ → (a a' : DfuAction) → Type 0
-NextComes r payload n a a' = ((n ≡ pos 0) × IsNextAction r payload a') ⊎ ((n ≡ no_session) × NoRecord r payload × (a' ≡ a))
+abbrev pub HostNextResult : DfuSession → Bor (List ℕ) → ℤ → (a a' : DfuAction) → Type 0
+HostNextResult r payload n a a' = ((n ≡ pos 0) × IsNextAction r payload a') ⊎ ((n ≡ no_session) × NoRecord r payload × (a' ≡ a))

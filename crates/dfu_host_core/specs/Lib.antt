@@ -3,8 +3,8 @@ pub mod PhaseNumbers
 pub mod WrittenNumbers
 pub mod Numbers
 pub mod Sessions
-pub mod Told
+pub mod SeenNumbers
 pub mod Actions
 pub mod Calls
-pub mod Beginning
+pub mod BeginCalls
 pub mod Runs

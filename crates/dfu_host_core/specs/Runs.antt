@@ -8,12 +8,12 @@ use Rattle.dfu_host.specs.Phases.{Goal, ToLoad, ToFetch, ToVerify, ToCompare, Do
 use Rattle.dfu_host.specs.Table.{deed}
 use Rattle.dfu_host.specs.Host.{HostState, HostRow, aborted}
 use Rattle.dfu_host_core.specs.ReportNumbers.{report_at}
-use Rattle.dfu_host_core.specs.Actions.{TellsAction}
+use Rattle.dfu_host_core.specs.Actions.{ActionRecord}
 use Rattle.dfu_host_core.specs.Numbers.{no_seen}
-use Rattle.dfu_host_core.specs.Told.{seen_at}
-use Rattle.dfu_host_core.specs.Sessions.{IsHeldSession, host_in}
-use Rattle.dfu_host_core.specs.Beginning.{HasBegunAs}
-use Rattle.dfu_host_core.specs.Calls.{TakeComes, AbortComes, NextComes}
+use Rattle.dfu_host_core.specs.SeenNumbers.{seen_at}
+use Rattle.dfu_host_core.specs.Sessions.{IsRecordWithParts, host_in}
+use Rattle.dfu_host_core.specs.BeginCalls.{IsInitialRecord}
+use Rattle.dfu_host_core.specs.Calls.{HostTakeResult, HostAbortResult, HostNextResult}
 use Rattle.dfu_host_core.specs.declared.action.DfuAction.{DfuAction}
 use Rattle.dfu_host_core.specs.declared.session.DfuSession.{DfuSession}
 
@@ -27,7 +27,7 @@ pub record IsCoreHost (payload : List ℕ) (x : CoreHost) (h : HostState) : Type
   pub slice : Bor (List ℕ)
   pub same : slice.now ≡ payload
   pub parts : Parts
-  pub held : IsHeldSession x.kept slice x.buffer parts
+  pub held : IsRecordWithParts x.kept slice x.buffer parts
   pub is : host_in x.kept x.buffer parts ≡ h
 
 -- A call that changes a session: dfu_host_take with this number and these bytes, or dfu_host_abort.
@@ -45,9 +45,9 @@ pub record HostStep : Type 0 where
 -- Result of a call with a payload and bytes that are these, wherever they are in memory: what its clause says.
 abbrev pub HostCalled : (payload : List ℕ) → CoreHost → HostCall → ℤ → CoreHost → Type 0
 HostCalled payload x (CoreTake seen bytes) n x' = (slice : Bor (List ℕ)) × (given : Bor (List ℕ)) × (slice.now ≡ payload)
-    × (given.now ≡ bytes) × TakeComes x.kept slice x.buffer seen given n x'.kept x'.buffer
+    × (given.now ≡ bytes) × HostTakeResult x.kept slice x.buffer seen given n x'.kept x'.buffer
 HostCalled payload x CoreAbort n x' = (slice : Bor (List ℕ)) × (slice.now ≡ payload) × (x'.buffer ≡ x.buffer)
-    × AbortComes x.kept slice n x'.kept
+    × HostAbortResult x.kept slice n x'.kept
 
 -- Calls come one after the other, each with the record and the buffer as the last one left them.
 abbrev pub IsHostRun : (payload : List ℕ) → CoreHost → List HostStep → CoreHost → Type 0
@@ -56,7 +56,7 @@ IsHostRun payload x (s ∷ rest) x' =
     (s.before ≡ x) × HostCalled payload s.before s.call s.number s.after × IsHostRun payload s.after rest x'
 
 -- A host sees what this number and these bytes say, and becomes what its table makes of it.
-pub record SeesSo (seen : ℕ) (bytes : List ℕ) (h h' : HostState) : Type 0 where
+pub record SeenResult (seen : ℕ) (bytes : List ℕ) (h h' : HostState) : Type 0 where
   pub slice : Bor (List ℕ)
   pub same : slice.now ≡ bytes
   pub word : Seen
@@ -64,30 +64,30 @@ pub record SeesSo (seen : ℕ) (bytes : List ℕ) (h h' : HostState) : Type 0 wh
   pub row : HostRow h word h'
 
 -- There is no such number of what is seen.
-abbrev pub SeesNone : (seen : ℕ) → (bytes : List ℕ) → Type 0
-SeesNone seen bytes = (slice : Bor (List ℕ)) × (slice.now ≡ bytes) × (seen_at seen slice ≡ None)
+abbrev pub NoSuchSeen : (seen : ℕ) → (bytes : List ℕ) → Type 0
+NoSuchSeen seen bytes = (slice : Bor (List ℕ)) × (slice.now ≡ bytes) × (seen_at seen slice ≡ None)
 
 -- Effect of a call on a host. It is never refused as one of no session; and a number that says nothing changes nothing.
 abbrev pub HostMoves : HostState → HostCall → ℤ → HostState → Type 0
-HostMoves h (CoreTake seen bytes) n h' = ((n ≡ pos 0) × SeesSo seen bytes h h') ⊎ ((n ≡ no_seen) × SeesNone seen bytes × (h' ≡ h))
+HostMoves h (CoreTake seen bytes) n h' = ((n ≡ pos 0) × SeenResult seen bytes h h') ⊎ ((n ≡ no_seen) × NoSuchSeen seen bytes × (h' ≡ h))
 HostMoves h CoreAbort n h' = (n ≡ pos 0) × (h' ≡ aborted h)
 
 -- Effect of calls on it, one after the other.
-pub data HostGoes : HostState → List HostStep → HostState → Type 0 where
-  stays : {h : HostState} → HostGoes h [] h
-  moves : {h mid h' : HostState} {s : HostStep} {rest : List HostStep} → HostMoves h s.call s.number mid → HostGoes mid rest h'
-      → HostGoes h (s ∷ rest) h'
+pub data HostCourse : HostState → List HostStep → HostState → Type 0 where
+  stays : {h : HostState} → HostCourse h [] h
+  moves : {h mid h' : HostState} {s : HostStep} {rest : List HostStep} → HostMoves h s.call s.number mid → HostCourse mid rest h'
+      → HostCourse h (s ∷ rest) h'
 
 -- A session in C went through these calls as a host does.
-pub record HasGone (payload : List ℕ) (h : HostState) (steps : List HostStep) (x' : CoreHost) : Type 0 where
+pub record SessionOfSteps (payload : List ℕ) (h : HostState) (steps : List HostStep) (x' : CoreHost) : Type 0 where
   pub now : HostState
   pub is : IsCoreHost payload x' now
-  pub goes : HostGoes h steps now
+  pub goes : HostCourse h steps now
 
 -- Whatever calls come to a session in C, it goes through them as the host does that it is.
 abbrev pub HostsRefine : Type 0
 HostsRefine = (payload : List ℕ) (x x' : CoreHost) (h : HostState) (steps : List HostStep) → IsCoreHost payload x h
-    → IsHostRun payload x steps x' → HasGone payload h steps x'
+    → IsHostRun payload x steps x' → SessionOfSteps payload h steps x'
 
 -- A session with this goal has a payload of these bytes, or none.
 abbrev pub HasPayload : Goal → (payload : List ℕ) → Type 0
@@ -97,8 +97,8 @@ HasPayload (ToVerify p) payload = p ≡ payload
 HasPayload (ToCompare p) payload = p ≡ payload
 
 -- A session that a call has begun is the host that begins, over the bytes of the file's payload, wherever they are in memory.
-abbrev pub HostsBegin : Type 0
-HostsBegin = (payload buffer : List ℕ) (r : DfuSession) (start : HostState) → HasBegunAs r start → HasPayload start.task.goal payload
+abbrev pub BeginIsInitial : Type 0
+BeginIsInitial = (payload buffer : List ℕ) (r : DfuSession) (start : HostState) → IsInitialRecord r start → HasPayload start.task.goal payload
     → IsCoreHost payload (record { kept = r; buffer = buffer }) start
 
 -- A session in C is one host.
@@ -107,13 +107,13 @@ HostsAreOne = (payload : List ℕ) (x : CoreHost) (h h' : HostState) → IsCoreH
 
 -- Answer of dfu_host_next for a session in C: it is not refused, and the record of the action says what the host does. A body is cut from
 -- the payload. If it says that the session is over with a report, the host is done with that report.
-pub record TellsOfHost (payload : List ℕ) (h : HostState) (n : ℤ) (a : DfuAction) : Type 0 where
+pub record NextOfHost (payload : List ℕ) (h : HostState) (n : ℤ) (a : DfuAction) : Type 0 where
   pub number : n ≡ pos 0
   pub from : ℕ
-  pub tells : TellsAction payload from (deed h.task h.phase) a
+  pub tells : ActionRecord payload from (deed h.task h.phase) a
   pub report : (report : Report) → a.what ≡ 3 → report_at a.value a.code ≡ Some report → deed h.task h.phase ≡ Done report
 
 -- So it is of each session in C.
-abbrev pub HostsTell : Type 0
-HostsTell = (payload : List ℕ) (x : CoreHost) (h : HostState) (slice : Bor (List ℕ)) (n : ℤ) (a a' : DfuAction) → IsCoreHost payload x h
-    → slice.now ≡ payload → NextComes x.kept slice n a a' → TellsOfHost payload h n a'
+abbrev pub NextsOfHosts : Type 0
+NextsOfHosts = (payload : List ℕ) (x : CoreHost) (h : HostState) (slice : Bor (List ℕ)) (n : ℤ) (a a' : DfuAction) → IsCoreHost payload x h
+    → slice.now ≡ payload → HostNextResult x.kept slice n a a' → NextOfHost payload h n a'

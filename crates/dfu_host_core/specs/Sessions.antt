@@ -61,7 +61,7 @@ pub record IsWritten (r : DfuSession) (parts : Parts) : Type 0 where
   pub will_detach : r.will_detach ≤ 1
 
 -- The record is that of a session over this payload, with these parts, and the buffer has the bytes that it keeps.
-pub record IsHeldSession (r : DfuSession) (payload : Bor (List ℕ)) (buffer : List ℕ) (parts : Parts) : Type 0 where
+pub record IsRecordWithParts (r : DfuSession) (payload : Bor (List ℕ)) (buffer : List ℕ) (parts : Parts) : Type 0 where
   pub stands : IsRecord r payload parts
   pub room : r.kept ≤ length buffer
 

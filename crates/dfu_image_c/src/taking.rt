@@ -1,7 +1,7 @@
 //! The image of a file of a format, at the front of the caller's room.
 
 ghost use Rattle.std.specs.Prelude.{◌≡◌};
-ghost use Rattle.dfu_image_c.specs.Taking.{Leaves, TakesImage, filling_of, format_of};
+ghost use Rattle.dfu_image_c.specs.TakeCall.{ImageCallResult, TakeImageResult, filling_of, format_of};
 
 use crate::refusals::{NO_FORMAT, NO_ROOM, image_refusal};
 use dfu_formats::images::{Format, Image, ImageFileFault, image_of};
@@ -49,7 +49,7 @@ fn filling_of(number: u32) -> Option<u8>
 
 /// Puts what was read of a file into the room, and says it.
 fn leave(read: Result<Image, ImageFileFault>, room: &mut [u8], taken: &mut DfuTaken) -> i32
-    ensures { Leaves read room.old room.new taken.new result }
+    ensures { ImageCallResult read room.old room.new taken.new result }
 {
     match read {
         Ok(image) => {
@@ -89,7 +89,7 @@ pub extern "C" fn dfu_image_take(
     room: &mut [u8],
     taken: &mut DfuTaken,
 ) -> i32
-    ensures { TakesImage (format_of format) (filling_of fill) file.now room.old room.new taken.old taken.new result }
+    ensures { TakeImageResult (format_of format) (filling_of fill) file.now room.old room.new taken.old taken.new result }
 {
     let Some(format) = format_of(format) else {
         return NO_FORMAT;

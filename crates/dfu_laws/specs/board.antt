@@ -1,6 +1,6 @@
 pub mod Board
 pub mod Happens
-pub mod Keeps
+pub mod ImageSurvival
 pub mod Accepts
 pub mod Refines
 pub mod Steps

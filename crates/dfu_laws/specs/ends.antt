@@ -1,4 +1,4 @@
 pub mod Sessions
-pub mod Comes
+pub mod EndsSteps
 pub mod Plays
 pub mod Stays

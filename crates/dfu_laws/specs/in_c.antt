@@ -1,6 +1,6 @@
 pub mod Steps
 pub mod Marks
-pub mod Fits
+pub mod ReplyKinds
 pub mod Counts
 pub mod Runs
 pub mod Plays

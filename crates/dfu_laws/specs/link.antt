@@ -1,5 +1,5 @@
 pub mod Calls
-pub mod Comes
+pub mod LinkSteps
 pub mod Plays
 pub mod Stays
 pub mod Marks

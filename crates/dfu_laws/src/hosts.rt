@@ -1,7 +1,7 @@
 //! The law of both ends in C: of a host that a program keeps in the record of dfu_host_core, and of a board that another keeps in the
 //! record of dfu_core. It is the contract of a function that only calls other laws. It is proved, and has no effect when called.
 
-ghost use Rattle.dfu_laws.specs.ends.Plays.{EndsAreSessions, EndsInstall, EndsGive, EndsKnow, EndsKnowWithin, EndsGoOn};
+ghost use Rattle.dfu_laws.specs.ends.Plays.{EndsAreSessions, EndsInstall, EndsUploadImages, EndsKnow, EndsKnowWithin, EndsContinue};
 ghost use Rattle.dfu_laws.specs.ends.Stays.{EndsStay};
 
 use crate::laws::core_boards_install;
@@ -18,9 +18,9 @@ pub fn core_ends_install()
     ensures stays { EndsStay }
     ensures known { EndsKnow }
     ensures known_within { EndsKnowWithin }
-    ensures gives { EndsGive }
+    ensures gives { EndsUploadImages }
     ensures are { EndsAreSessions }
-    ensures goes_on { EndsGoOn }
+    ensures goes_on { EndsContinue }
 {
     core_boards_install();
     core_hosts_are_hosts();

@@ -2,19 +2,19 @@
 //! over the answers of a device. Each is the contract of a function that only calls other laws. It is proved, and has no effect when
 //! called.
 
-ghost use Rattle.dfu_laws.specs.board.Keeps.{RunKeeps, RunStays, RunInstalls};
-ghost use Rattle.dfu_laws.specs.board.Counts.{RunAsksFew};
+ghost use Rattle.dfu_laws.specs.board.ImageSurvival.{RunsKeepImage, RunStays, RunInstalls};
+ghost use Rattle.dfu_laws.specs.board.Counts.{RunOperationsBounded};
 ghost use Rattle.dfu_laws.specs.board.Accepts.{RunAccepts, HistoryAccepts};
 ghost use Rattle.dfu_laws.specs.board.Refines.{RunRefines, IdleRefines};
-ghost use Rattle.dfu_laws.specs.link.Plays.{PlaysGive, PlaysInstall, PlaysKnow, PlaysKnowWithin, PlaysRun};
+ghost use Rattle.dfu_laws.specs.link.Plays.{UploadsOfPlays, PlaysInstall, PlaysKnow, PlaysKnowWithin, PlaysRun};
 ghost use Rattle.dfu_laws.specs.link.Stays.{PlaysStay};
-ghost use Rattle.dfu_laws.specs.judge.Kept.{HistoryIsKept, StartIsKept};
+ghost use Rattle.dfu_laws.specs.judge.Conformity.{HistoriesConform, StartsConform};
 ghost use Rattle.dfu_laws.specs.in_c.Closes.{ClosesIfRefused};
-ghost use Rattle.dfu_laws.specs.in_c.Runs.{CoreRefines, CoreKeeps, CoreStays, CoreInstalls, CoreStarts};
-ghost use Rattle.dfu_laws.specs.in_c.FormatCalls.{FormatsEnd, FormatsBeginAnew};
+ghost use Rattle.dfu_laws.specs.in_c.Runs.{CoreRefines, CoreRunsKeepImage, CoreStays, CoreInstalls, CoreStarts};
+ghost use Rattle.dfu_laws.specs.in_c.FormatCalls.{FormatsEnd, FormatsRestart};
 ghost use Rattle.dfu_laws.specs.in_c.FormatCounts.{FormatsAskFew};
-ghost use Rattle.dfu_laws.specs.in_c.Plays.{CorePlaysInstall, CorePlaysKnow, CorePlaysKnowWithin, CorePlaysGive, CorePlaysRun, CorePlaysGoOn};
-ghost use Rattle.dfu_laws.specs.in_c.Counts.{CoreAsksFew};
+ghost use Rattle.dfu_laws.specs.in_c.Plays.{CorePlaysInstall, CorePlaysKnow, CorePlaysKnowWithin, CoreUploadsAreImages, CorePlaysRun, CorePlaysContinue};
+ghost use Rattle.dfu_laws.specs.in_c.Counts.{CoreOperationsBounded};
 ghost use Rattle.dfu_laws.specs.in_c.Stays.{CorePlaysStay};
 
 use dfu_asks::laws::{pieces_are_the_writes, steps_are_the_writes, writes_are_the_calls};
@@ -27,7 +27,7 @@ use dfu_slots::laws::active_image_is_one;
 fn boards_make_rows()
     ensures power { RunRefines }
     ensures idle { IdleRefines }
-    ensures keeps { RunKeeps }
+    ensures keeps { RunsKeepImage }
     ensures stays { RunStays }
     ensures installs { RunInstalls }
 {
@@ -54,7 +54,7 @@ pub fn boards_are_devices()
 /// downloads from that time on. If a step leads from one of these two states to dfuIDLE or dfuMANIFEST-WAIT-RESET, all bytes taken are the
 /// active image.
 pub fn boards_keep_an_image()
-    ensures keeps { RunKeeps }
+    ensures keeps { RunsKeepImage }
     ensures stays { RunStays }
     ensures installs { RunInstalls }
 {
@@ -77,7 +77,7 @@ pub fn boards_take_what_is_accepted()
 /// as `DFU_BLOCK_ERASES` and `DFU_BLOCK_PROGRAMS` say together, and one that puts an image in place at most as often as
 /// `DFU_COMMIT_ERASES` and `DFU_COMMIT_PROGRAMS` do. So the loop that carries out what is asked for ends.
 pub fn boards_ask_few_times()
-    ensures { RunAsksFew }
+    ensures { RunOperationsBounded }
 {
     boards_are_devices();
     steps_are_the_writes();
@@ -94,7 +94,7 @@ pub fn boards_install()
     ensures stays { PlaysStay }
     ensures known { PlaysKnow }
     ensures known_within { PlaysKnowWithin }
-    ensures gives { PlaysGive }
+    ensures gives { UploadsOfPlays }
     ensures run { PlaysRun }
 {
     boards_are_devices();
@@ -108,8 +108,8 @@ pub fn boards_install()
 /// the device's first place to its last; no habit is needed. So no judge ever reports a departure of it. It is a law, the contract of a
 /// function with an empty body, which is not to be called.
 pub fn answers_are_kept()
-    ensures history { HistoryIsKept }
-    ensures start { StartIsKept }
+    ensures history { HistoriesConform }
+    ensures start { StartsConform }
 {}
 
 /// Whatever steps come to a board in C that just got power, they are a run of a board, event by event, and so rows of the
@@ -125,7 +125,7 @@ pub fn core_boards_are_devices()
 /// a step leads from one of these two states to dfuIDLE or dfuMANIFEST-WAIT-RESET, all bytes taken are the active image. So power that
 /// comes back is never refused.
 pub fn core_boards_keep_an_image()
-    ensures keeps { CoreKeeps }
+    ensures keeps { CoreRunsKeepImage }
     ensures stays { CoreStays }
     ensures installs { CoreInstalls }
     ensures starts { CoreStarts }
@@ -138,7 +138,7 @@ pub fn core_boards_keep_an_image()
 /// `DFU_COMMIT_ERASES` and `DFU_COMMIT_PROGRAMS` do while an image is put in place. So a loop that goes on while the number is DFU_ASKS
 /// ends, after at most so many operations.
 pub fn core_boards_ask_few_times()
-    ensures { CoreAsksFew }
+    ensures { CoreOperationsBounded }
 {
     boards_ask_few_times();
 }
@@ -153,9 +153,9 @@ pub fn core_boards_install()
     ensures stays { CorePlaysStay }
     ensures known { CorePlaysKnow }
     ensures known_within { CorePlaysKnowWithin }
-    ensures gives { CorePlaysGive }
+    ensures gives { CoreUploadsAreImages }
     ensures run { CorePlaysRun }
-    ensures goes_on { CorePlaysGoOn }
+    ensures goes_on { CorePlaysContinue }
 {
     boards_install();
     what_was_confirmed_runs_or_the_newest_on_trial();
@@ -166,7 +166,7 @@ pub fn core_boards_install()
 /// have an active image, and a new format may begin on it as on any other.
 pub fn core_formats_make_an_image()
     ensures formatted { FormatsEnd }
-    ensures anew { FormatsBeginAnew }
+    ensures anew { FormatsRestart }
 {}
 
 /// Whatever becomes of the writes of a format: at most so many of its calls return DFU_ASKS as `DFU_FORMAT_ERASES` and

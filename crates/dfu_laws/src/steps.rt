@@ -5,17 +5,17 @@
 ghost use Rattle.std.specs.Prelude.{◌≡◌, ℕ, false, List, [], length, IfErr, IfSome, IfNone, IsSome};
 ghost use Rattle.dfu_slots.specs.Medium.{Torn};
 ghost use Rattle.dfu_slots.specs.Image.{HasImage};
-ghost use Rattle.dfu_slots.specs.Seen.{SlotsState};
+ghost use Rattle.dfu_slots.specs.StoreView.{SlotsState};
 ghost use Rattle.dfu_device.specs.Borrowed.{answer_room};
 ghost use Rattle.dfu_asks.specs.Lent.{lent, IsSetUpAs};
-ghost use Rattle.dfu_asks.specs.Calls.{AsksWrites};
-ghost use Rattle.dfu_asks.specs.Refused.{IsRefusedCall, IsNotTaken};
+ghost use Rattle.dfu_asks.specs.Calls.{WritesPending};
+ghost use Rattle.dfu_asks.specs.Refused.{IsRefusedCall, ReportRefusedFor};
 ghost use Rattle.dfu_asks.specs.Mapped.{grain_of, mapped};
 ghost use Rattle.dfu_asks.specs.Jobs.{asked};
 ghost use Rattle.dfu_laws.specs.board.Board.{Board, BoardStep, Handle, Elapse, UsbReset, RefuseClose, Refuse, Write, Took, Restart, Nothing, medium_on};
 ghost use Rattle.dfu_laws.specs.board.Happens.{IsHanded, IsPoweredOn, BoardStarts, Happens, IsRun};
-ghost use Rattle.dfu_laws.specs.board.Counts.{GoesFurther};
-ghost use Rattle.dfu_laws.specs.board.Steps.{board, result_said, said_of_reset, said_of_close};
+ghost use Rattle.dfu_laws.specs.board.Counts.{PieceAdvances};
+ghost use Rattle.dfu_laws.specs.board.Steps.{board, reply_of_result, reply_of_reset, reply_of_close};
 
 use crate::laws::boards_keep_an_image;
 use dfu_asks::{Asking, FlashOp, Refusal, Reply, Sector};
@@ -32,7 +32,7 @@ pub fn handle(
     body: &[u8],
     out: &mut [u8],
 ) -> Result<Reply, Refusal>
-    ensures step { Happens (board asking.old block.old held.old flash.now) (Handle setup.now body.now) (result_said result out.new)
+    ensures step { Happens (board asking.old block.old held.old flash.now) (Handle setup.now body.now) (reply_of_result result out.new)
         (board asking.new block.new held.new flash.now) }
     ensures refused { IfErr result (λ e.
         IsRefusedCall e asking.old block.old held.old flash.now (answer_room asking.old.config) (length out.old)) }
@@ -49,7 +49,7 @@ pub fn elapse(
     flash: &[u8],
     ms: u32,
 ) -> Result<Reply, Refusal>
-    ensures step { Happens (board asking.old block.old held.old flash.now) (Elapse ms) (result_said result [])
+    ensures step { Happens (board asking.old block.old held.old flash.now) (Elapse ms) (reply_of_result result [])
         (board asking.new block.new held.new flash.now) }
     ensures refused { IfErr result (λ e. IsRefusedCall e asking.old block.old held.old flash.now 0 0) }
     ensures same { IsSetUpAs asking.old asking.new }
@@ -64,7 +64,7 @@ pub fn usb_reset(
     held: &[u8; 256],
     flash: &[u8],
 ) -> Result<(), Refusal>
-    ensures step { Happens (board asking.old block.now held.now flash.now) UsbReset (said_of_reset result)
+    ensures step { Happens (board asking.old block.now held.now flash.now) UsbReset (reply_of_reset result)
         (board asking.new block.now held.now flash.now) }
     ensures refused { IfErr result (λ e. IsRefusedCall e asking.old block.now held.now flash.now 0 0) }
     ensures same { IsSetUpAs asking.old asking.new }
@@ -79,7 +79,7 @@ pub fn refuse_close(
     objection: Objection,
 ) -> Result<bool, Refusal>
     ensures step { (block held flash : List ℕ) → Happens (board asking.old block held flash) (RefuseClose setup.now objection)
-        (said_of_close result) (board asking.new block held flash) }
+        (reply_of_close result) (board asking.new block held flash) }
     ensures refused { IfErr result (λ e. (e ≡ Refusal.Asked) × IsSome asking.old.work) }
     ensures same { IsSetUpAs asking.old asking.new }
 {
@@ -88,7 +88,7 @@ pub fn refuse_close(
 
 /// `Asking::refuse` is a step of a board, with any bytes in its memories and on its flash.
 pub fn refuse(asking: &mut Asking, objection: Objection) -> Result<(), Refusal>
-    ensures step { (block held flash : List ℕ) → Happens (board asking.old block held flash) (Refuse objection) (said_of_reset result)
+    ensures step { (block held flash : List ℕ) → Happens (board asking.old block held flash) (Refuse objection) (reply_of_reset result)
         (board asking.new block held flash) }
     ensures refused { IfErr result (λ e. (e ≡ Refusal.Asked) × IsSome asking.old.work) }
     ensures same { IsSetUpAs asking.old asking.new }
@@ -108,7 +108,7 @@ pub fn next(
     ensures written { IfSome result (λ p. (now : List ℕ) → Torn flash.now (asked p out.new).write.at (asked p out.new).write.bytes now →
         Happens (board asking.now block.now held.now flash.now) Write Nothing (board asking.now block.now held.now now)) }
     ensures goes { IfNone result ((len : ℕ) (s : SlotsState) (was : List ℕ) →
-        ¬ AsksWrites (lent asking.now block.now held.now) len s was flash.now) }
+        ¬ WritesPending (lent asking.now block.now held.now) len s was flash.now) }
 {
     asking.next(block, held, flash, out)
 }
@@ -122,11 +122,11 @@ pub fn took(
     failed: bool,
     out: &mut [u8],
 ) -> Result<Reply, Refusal>
-    ensures step { Happens (board asking.old block.now held.old flash.now) (Took failed) (result_said result out.new)
+    ensures step { Happens (board asking.old block.now held.old flash.now) (Took failed) (reply_of_result result out.new)
         (board asking.new block.now held.new flash.now) }
-    ensures further { GoesFurther (board asking.old block.now held.old flash.now) (Took failed) (result_said result out.new)
+    ensures further { PieceAdvances (board asking.old block.now held.old flash.now) (Took failed) (reply_of_result result out.new)
         (board asking.new block.now held.new flash.now) }
-    ensures refused { IfErr result (λ e. IsNotTaken e (lent asking.old block.now held.old) (length out.old)) }
+    ensures refused { IfErr result (λ e. ReportRefusedFor e (lent asking.old block.now held.old) (length out.old)) }
     ensures same { IsSetUpAs asking.old asking.new }
 {
     asking.took(block, held, flash, failed, out)

@@ -8,19 +8,19 @@ use Rattle.dfu_link.specs.Words.{lines_of}
 use Rattle.dfu_link.specs.Lines.{line_of}
 use Rattle.dfu_link.specs.ScriptRun.{Point}
 use Rattle.dfu_sim.specs.LinkView.{Nobody}
-use Rattle.dfu_link.specs.Said.{Does, EventLine, HasTear}
+use Rattle.dfu_link.specs.LineContent.{Does, EventLine, HasTear}
 use Rattle.dfu_link.specs.Expecting.{Expectation, FailsToPrint}
 use Rattle.dfu_link.specs.Falls.{BreaksIn, in_events, in_passes, in_show, for_file, for_tear, LineFalls, NextFalls}
-use Rattle.dfu_link.specs.TextLimit.{GoesOver, IsStopped, GivesNone}
+use Rattle.dfu_link.specs.TextLimit.{ExceedsLimit, IsStopped, NoLineRead}
 use Rattle.dfu_link.specs.inside.Expected.{PrintsNext}
-use Rattle.dfu_link.specs.inside.Source.{SourceState, TakesLines, GivesLine, StopsSource}
-use Rattle.dfu_link.specs.inside.Moving.{Moves, MovesAndFalls, FindsNoRoom}
+use Rattle.dfu_link.specs.inside.Source.{SourceState, LinesReadFrom, SourceLine, StopsSource}
+use Rattle.dfu_link.specs.inside.Moving.{Moves, MovesAndFalls, NoRoomForFile}
 use Rattle.dfu_link.specs.declared.scripting.fault.ScriptFault.{ScriptFault}
 use Rattle.dfu_link.specs.declared.scripting.fault.ScriptFault.TheVariants.{BadLine, LateConfig, Expected, NonePrinted, TooLarge, NoMemory, Read, Write}
 use Rattle.dfu_link.proofs.MoveLaws.{moves_trans}
 
 -- A line that falls is within the limit of the text.
-line_stops : (p : Point) (k room : ℕ) (line left : List ℕ) (old new : Option (List ℕ)) (f : ScriptFault) → ¬ GoesOver room left
+line_stops : (p : Point) (k room : ℕ) (line left : List ℕ) (old new : Option (List ℕ)) (f : ScriptFault) → ¬ ExceedsLimit room left
     → LineFalls p k line old new f → IsStopped room left f
 line_stops p k room line left old new (BadLine n) ends falls = ends
 line_stops p k room line left old new (LateConfig n) ends falls = ends
@@ -41,7 +41,7 @@ line_is_next p k line lines old new (NonePrinted n) falls = falls
 line_is_next p k line lines old new f falls = absurd falls
 
 taken_falls : (p : Point) (a b : Option (List ℕ)) (room room' k n : ℕ) (line : List ℕ) (old new : Option (List ℕ)) (f : ScriptFault)
-    → TakesLines a room (line ∷ []) b room' → IfSome a (λ left. ¬ GoesOver room left) → n ≡ k → LineFalls p n line old new f
+    → LinesReadFrom a room (line ∷ []) b room' → IfSome a (λ left. ¬ ExceedsLimit room left) → n ≡ k → LineFalls p n line old new f
     → IfSome a (λ left. IsStopped room left f × NextFalls p k (lines_of left) old new f)
 taken_falls p None b room room' k n line old new f took ends is falls = tt
 taken_falls p (Some a) None room room' k n line old new f took ends is falls = absurd took
@@ -52,7 +52,7 @@ taken_falls p (Some a) (Some b) room room' k n line old new f took ends is falls
 
 -- The line that a source gave falls.
 pub given_falls : {p q : Point} {s t u : SourceState} {old mid new : Option (List ℕ)} {n : ℕ} {line : List ℕ} {f : ScriptFault}
-    → Moves p s old q t mid → GivesLine t u → n ≡ u.number → line ≡ u.line → LineFalls q n line mid new f → MovesAndFalls p s old new f
+    → Moves p s old q t mid → SourceLine t u → n ≡ u.number → line ≡ u.line → LineFalls q n line mid new f → MovesAndFalls p s old new f
 given_falls {q = q} {t = t} {u = u} {mid = mid} {new = new} {n = n} {f = f} m given at is falls = record {
   to = q;
   at = t;
@@ -62,7 +62,7 @@ given_falls {q = q} {t = t} {u = u} {mid = mid} {new = new} {n = n} {f = f} m gi
       (at ∙ given.gives.count) (subst (λ (xs : List ℕ). LineFalls q n xs mid new f) is falls);
 }
 
-none_over : (room : ℕ) → ¬ GoesOver room []
+none_over : (room : ℕ) → ¬ ExceedsLimit room []
 none_over room over = absurd (omega (arith, over.over))
 
 -- The faults at which a text stops.
@@ -106,7 +106,7 @@ image_falls {q = q} {t = t} {mid = mid} {new = new} {f = f} m ended prints = rec
   falls = image_breaks q t.left t.room (t.number + 1) mid new f ended prints.fault prints.err;
 }
 
-none_falls : (p : Point) (k : ℕ) (lines : List (List ℕ)) (old : Option (List ℕ)) (f : ScriptFault) → GivesNone p.given k lines f
+none_falls : (p : Point) (k : ℕ) (lines : List (List ℕ)) (old : Option (List ℕ)) (f : ScriptFault) → NoLineRead p.given k lines f
     → NextFalls p k lines old old f
 none_falls p k lines old TooLarge h = refl
 none_falls p k lines old Read h = refl
@@ -114,7 +114,7 @@ none_falls p k (line ∷ lines) old (BadLine n) h = (h.0, h.1, refl)
 none_falls p k lines old f h = absurd h
 
 stops_here : (p : Point) (a : Option (List ℕ)) (room k : ℕ) (old : Option (List ℕ)) (f : ScriptFault)
-    → IfSome a (λ left. IsStopped room left f × GivesNone p.given k (lines_of left) f)
+    → IfSome a (λ left. IsStopped room left f × NoLineRead p.given k (lines_of left) f)
     → IfSome a (λ left. IsStopped room left f × NextFalls p k (lines_of left) old old f)
 stops_here p None room k old f h = tt
 stops_here p (Some left) room k old f h = (h.0, none_falls p k (lines_of left) old f h.1)
@@ -159,7 +159,7 @@ tear_falls p k line old d f e has is =
     subst (λ (g : ScriptFault). LineFalls p k line old old g) (sym is) (inl (for_tear e has, refl))
 
 -- There is no memory for the file that a line offers.
-pub offer_falls : (p : Point) (k : ℕ) (line : List ℕ) (old : Option (List ℕ)) (f : ScriptFault) → FindsNoRoom p.given line f
+pub offer_falls : (p : Point) (k : ℕ) (line : List ℕ) (old : Option (List ℕ)) (f : ScriptFault) → NoRoomForFile p.given line f
     → p.at.session ≡ Nobody → LineFalls p k line old old f
 offer_falls p k line old f none free =
     subst (λ (g : ScriptFault). LineFalls p k line old old g) (sym none.is) (inl (for_file none.offers free, refl))

@@ -9,13 +9,13 @@ use Rattle.dfu_slots.specs.Medium.Fuse.{Whole}
 use Rattle.dfu_sim.specs.LinkView.{WorldView}
 use Rattle.dfu_sim.specs.Bytes.{armed}
 use Rattle.dfu_link.specs.Texts.{image_line}
-use Rattle.dfu_link.specs.Said.{Said}
+use Rattle.dfu_link.specs.LineContent.{LineContent}
 use Rattle.dfu_link.specs.Lines.{line_of}
 use Rattle.dfu_link.specs.ScriptRun.{Settings, nothing, then_prepares, prepared, at_rest, Point, LineActs, LinesRun, stays, then_runs}
 use Rattle.dfu_link.specs.Expecting.{Expectation}
 use Rattle.dfu_link.specs.inside.Expected.{PrintsNext}
-use Rattle.dfu_link.specs.inside.Source.{SourceState, GivesLine}
-use Rattle.dfu_link.specs.inside.Moving.{Steps, Moves, Ends, IsUnarmed, Prepared}
+use Rattle.dfu_link.specs.inside.Source.{SourceState, SourceLine}
+use Rattle.dfu_link.specs.inside.Moving.{Steps, Moves, SourceExhausted, IsUnarmed, Prepared}
 use Rattle.dfu_link.proofs.GivenLaws.{gives_none, gives_trans}
 
 -- No line was done.
@@ -30,7 +30,7 @@ moves_none p s old = record {
 
 -- One line more was done.
 pub moves_then : {p q r : Point} {s t u : SourceState} {old mid new : Option (List ℕ)} {n : ℕ} {line : List ℕ} → Moves p s old q t mid
-    → GivesLine t u → n ≡ u.number → line ≡ u.line → Steps n q line mid r new → Moves p s old r u new
+    → SourceLine t u → n ≡ u.number → line ≡ u.line → Steps n q line mid r new → Moves p s old r u new
 moves_then {q = q} {r = r} {s = s} {t = t} {u = u} {old = old} {mid = mid} {new = new} {n = n} m given at is did =
     let number : n ≡ s.number + 1 + length m.done = omega (arith, at, given.gives.count, m.gives.count) in
     let step = subst (λ (xs : List ℕ). Steps n q xs mid r new) is did in
@@ -67,7 +67,7 @@ moves_trans {p = p} {q = q} {r = r} {s = s} {t = t} {old = old} {mid = mid} {new
 
 -- All lines were done, and the line of the image is out.
 pub ends_now : {p q : Point} {s t : SourceState} {old mid new : Option (List ℕ)} {x : Option Expectation} {done : Unit {0}}
-    → Moves p s old q t mid → IsAtEnd t.left → PrintsNext q.next mid (image_line q.at.device) x new (Ok done) → Ends p s old new
+    → Moves p s old q t mid → IsAtEnd t.left → PrintsNext q.next mid (image_line q.at.device) x new (Ok done) → SourceExhausted p s old new
 ends_now {p = p} {q = q} {s = s} {t = t} {old = old} {mid = mid} {new = new} m ended prints = record {
   done = m.done;
   last = t;
@@ -81,8 +81,8 @@ ends_now {p = p} {q = q} {s = s} {t = t} {old = old} {mid = mid} {new = new} m e
 }
 
 -- Lines were done, and then all that were left.
-pub ends_after : {p q : Point} {s t : SourceState} {old mid new : Option (List ℕ)} → Moves p s old q t mid → Ends q t mid new
-    → Ends p s old new
+pub ends_after : {p q : Point} {s t : SourceState} {old mid new : Option (List ℕ)} → Moves p s old q t mid → SourceExhausted q t mid new
+    → SourceExhausted p s old new
 ends_after {p = p} {q = q} {s = s} {t = t} {old = old} {mid = mid} {new = new} m e =
     let image = image_line e.end.at.device in
     record {
@@ -105,7 +105,7 @@ pub prepared_none : (x : Settings) (s : SourceState) → Prepared x s x s
 prepared_none x s = record { done = []; gives = gives_none s; prepares = nothing }
 
 -- One line more has set something.
-pub prepared_then : {x y z : Settings} {s t u : SourceState} {line : List ℕ} (w : Said) → Prepared x s y t → GivesLine t u → line ≡ u.line
+pub prepared_then : {x y z : Settings} {s t u : SourceState} {line : List ℕ} (w : LineContent) → Prepared x s y t → SourceLine t u → line ≡ u.line
     → line_of y.given line ≡ Some w → prepared y w ≡ Some z → Prepared x s z u
 prepared_then {y = y} {u = u} w p given same is does = record {
   done = p.done ++ u.line ∷ [];

@@ -4,17 +4,17 @@ use Rattle.std.proofs.lemmas.List.{append_assoc, append-nil}
 use Rattle.std.specs.Prelude.{replicate, Result, Ok, Err}
 use Rattle.dfu_host.specs.declared.limits.Limits.{Limits}
 use Rattle.dfu_host.specs.declared.report.Report.{Report}
-use Rattle.dfu_sim.specs.LinkView.{LinkView, ShowsActive, WorldView}
+use Rattle.dfu_sim.specs.LinkView.{LinkView, BenchMatchesFlash, WorldView}
 use Rattle.dfu_sim.specs.declared.offering.Purpose.{Purpose}
 use Rattle.dfu_sim.specs.Happening.{Happening, Offers}
 use Rattle.dfu_sim.specs.LinkView.{IsLive}
 use Rattle.dfu_sim.specs.Play.{Answered}
-use Rattle.dfu_sim.specs.Comes.{Comes, refuses, HasCome}
+use Rattle.dfu_sim.specs.EventResults.{EventResult, refuses, WorldEventResult}
 use Rattle.dfu_sim.specs.declared.fault.LinkFault.{LinkFault}
 use Rattle.dfu_sim.specs.declared.fault.LinkFault.TheVariants.{HostBusy}
 use Rattle.dfu_link.specs.declared.scripting.fault.ScriptFault.{ScriptFault}
-use Rattle.dfu_link.specs.Texts.{told_line, answer_line}
-use Rattle.dfu_link.specs.ScriptRun.{checked, AllCome, none_comes, then_comes}
+use Rattle.dfu_link.specs.Texts.{outcome_line, answer_line}
+use Rattle.dfu_link.specs.ScriptRun.{checked, EventsPlayed, none_comes, then_comes}
 use Rattle.dfu_link.specs.Expecting.{Expectation}
 use Rattle.dfu_link.specs.Falls.{HasBroken}
 use Rattle.dfu_link.specs.inside.Expected.{PrintsNext}
@@ -33,10 +33,10 @@ replicate_more n x = ap (λ (k : ℕ). replicate k x) (add-one n) ∙ suc_more n
 
 -- One event more.
 pub plays_one : (z : List ℕ) (b : LinkView) (c c' : WorldView) (events : List Happening) (e : Happening) (out : List ℕ)
-    (r : Result (Option Report) LinkFault) → AllCome z b events out c.bench → HasCome c (checked z c.bench e) c' r → ShowsActive c'.bench
-    → AllCome z b (events ++ e ∷ []) (out ++ told_line r c'.up) c'.bench
+    (r : Result (Option Report) LinkFault) → EventsPlayed z b events out c.bench → WorldEventResult c (checked z c.bench e) c' r → BenchMatchesFlash c'.bench
+    → EventsPlayed z b (events ++ e ∷ []) (out ++ outcome_line r c'.up) c'.bench
 plays_one z b c c' events e out r p h active =
-    subst (λ (text : List ℕ). AllCome z b (events ++ e ∷ []) (out ++ text) c'.bench) (sym (told_line_is c c' r h))
+    subst (λ (text : List ℕ). EventsPlayed z b (events ++ e ∷ []) (out ++ text) c'.bench) (sym (told_line_is c c' r h))
     (then_comes e p h.comes active)
 
 -- Nothing was played.
@@ -49,8 +49,8 @@ played_none z b x h = record {
 
 played_then : (done : Result Unit ScriptFault) (e : Happening) {check : List ℕ} {b c c' : LinkView} {events : List Happening}
     {answer : Result Answered LinkFault} {x y z : Option Expectation} {old mid new : Option (List ℕ)}
-    → HasPlayed check b x events old c y mid → Comes c (checked check c e) c' answer
-    → ShowsActive c' → PrintsNext y mid (answer_line answer) z new done → PlaysEvents check b x (events ++ e ∷ []) old c' z new done
+    → HasPlayed check b x events old c y mid → EventResult c (checked check c e) c' answer
+    → BenchMatchesFlash c' → PrintsNext y mid (answer_line answer) z new done → PlaysEvents check b x (events ++ e ∷ []) old c' z new done
 played_then (Ok it) e {answer = answer} before come active prints = record {
   ok = record {
     out = before.out ++ answer_line answer;
@@ -77,8 +77,8 @@ played_then (Err f) e {c' = c'} {events = events} {answer = answer} {old = old} 
 -- Events were played, and one more comes.
 pub plays_next : (e : Happening) {check : List ℕ} {b : LinkView} {c c' : WorldView} {events : List Happening}
     (r : Result (Option Report) LinkFault) {x y z : Option Expectation} {old mid new : Option (List ℕ)} {done : Result Unit ScriptFault}
-    → HasPlayed check b x events old c.bench y mid → HasCome c (checked check c.bench e) c' r → ShowsActive c'.bench
-    → PrintsNext y mid (told_line r c'.up) z new done
+    → HasPlayed check b x events old c.bench y mid → WorldEventResult c (checked check c.bench e) c' r → BenchMatchesFlash c'.bench
+    → PrintsNext y mid (outcome_line r c'.up) z new done
     → PlaysEvents check b x (events ++ e ∷ []) old c'.bench z new done
 plays_next e {c = c} {c' = c'} r {y = y} {z = z} {mid = mid} {new = new} {done = done} before come active prints =
     played_then done e before come.comes active
@@ -87,23 +87,23 @@ plays_next e {c = c} {c' = c'} r {y = y} {z = z} {mid = mid} {new = new} {done =
 -- One more comes of which nothing is printed, and nothing is written.
 pub plays_silent : (e : Happening) {check : List ℕ} {b : LinkView} {c c' : WorldView} {events : List Happening}
     (r : Result (Option Report) LinkFault) {x y : Option Expectation} {old new : Option (List ℕ)}
-    → HasPlayed check b x events old c.bench y new → HasCome c (checked check c.bench e) c' r → ShowsActive c'.bench → r ≡ Ok None
+    → HasPlayed check b x events old c.bench y new → WorldEventResult c (checked check c.bench e) c' r → BenchMatchesFlash c'.bench → r ≡ Ok None
     → HasPlayed check b x (events ++ e ∷ []) old c'.bench y new
 plays_silent e {c' = c'} r {y = y} {new = new} before come active none =
-    let prints : PrintsNext y new (told_line r c'.up) y new (Ok tt) =
-    subst (λ (x : Result (Option Report) LinkFault). PrintsNext y new (told_line x c'.up) y new (Ok tt)) (sym none)
+    let prints : PrintsNext y new (outcome_line r c'.up) y new (Ok tt) =
+    subst (λ (x : Result (Option Report) LinkFault). PrintsNext y new (outcome_line x c'.up) y new (Ok tt)) (sym none)
     (record { ok = prints_none y new; err = tt; fault = tt }) in
     (plays_next e r before come active prints).ok
 
 -- An offer while a session is live.
 busy_offer : (b : LinkView) (purpose : Purpose) (file : List ℕ) (limits : Limits) → IsLive b.session
-    → Comes b (Offers purpose file limits) b (Err HostBusy)
+    → EventResult b (Offers purpose file limits) b (Err HostBusy)
 busy_offer b purpose file limits live = refuses live
 
 -- An offer while a session is live is refused, for each file, and that is printed.
 pub busy_plays : (check : List ℕ) {b : LinkView} (purpose : Purpose) (file : List ℕ) (limits : Limits) {e e' : Option Expectation}
     {old new : Option (List ℕ)}
-    {done : Result Unit ScriptFault} → IsLive b.session → ShowsActive b → PrintsNext e old (answer_line (Err HostBusy)) e' new done
+    {done : Result Unit ScriptFault} → IsLive b.session → BenchMatchesFlash b → PrintsNext e old (answer_line (Err HostBusy)) e' new done
     → PlaysEvents check b e (Offers purpose file limits ∷ []) old b e' new done
 busy_plays check {b = b} purpose file limits {e = e} {old = old} {done = done} live active prints =
     played_then done (Offers purpose file limits) (played_none check b e old) (busy_offer b purpose file limits live) active prints

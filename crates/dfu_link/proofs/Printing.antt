@@ -6,12 +6,12 @@ use Rattle.dfu_host.specs.declared.report.Report.{Report}
 use Rattle.dfu_host.specs.declared.limits.Limits.{Limits}
 use Rattle.dfu_sim.specs.Happening.{Happening, Offers, Uploads, Goes}
 use Rattle.dfu_sim.specs.LinkView.{LinkView}
-use Rattle.dfu_link.specs.Texts.{told_line}
-use Rattle.dfu_link.specs.Said.{ConfigLine, TheIds, TheImage, EventLine, Go, Said, Blank, Sets, LimitsTo, Does, GoesOn, Show, Expects}
+use Rattle.dfu_link.specs.Texts.{outcome_line}
+use Rattle.dfu_link.specs.LineContent.{ConfigLine, TheIds, TheImage, EventLine, Go, LineContent, Blank, Sets, LimitsTo, Does, GoesOn, Show, Expects}
 use Rattle.dfu_link.specs.Lines.{line_of}
 use Rattle.dfu_link.specs.ScriptRun.{Settings, set as set_by, checked, events_of, Prepares, prepared, nothing, then_prepares, HasToStart, HasToAct}
-use Rattle.dfu_sim.specs.Headline.{Begun, WithOffer, AsUpload, HeadlineHolds}
-use Rattle.dfu_sim.specs.BegunBy.{begun_by}
+use Rattle.dfu_sim.specs.Headline.{Begun, WithOffer, AsUpload, HeadlineInvariant}
+use Rattle.dfu_sim.specs.SessionStarts.{sessions_by}
 use Rattle.dfu_link.specs.Printed.{brought, report_text, EventsPrint, then_prints, NeedsDevice, StartsWith, at_end, at_line, after_nothing, after_image}
 use Rattle.dfu_link.proofs.LineBrings.{sessions_in, set_brings, said_brings, line_brings}
 
@@ -36,15 +36,15 @@ pub same_events : (limits : Limits) (events : EventLine) → map session_by (eve
 same_events limits (Go f harm times) = same_each times (Goes f harm)
 same_events limits events = refl
 
-pub same_text : (report : Option Report) (image : List ℕ) → report_text report image ≡ told_line (Ok report) image
+pub same_text : (report : Option Report) (image : List ℕ) → report_text report image ≡ outcome_line (Ok report) image
 same_text None image = refl
 same_text (Some report) image = refl
 
 -- One event more after which the headline holds.
 pub one_prints : {factory : List ℕ} {past : List Begun} {b : LinkView} {events : List (Option Begun)} {printed : List ℕ} {mid : List Begun}
     {c c' : LinkView} {report : Option Report} (h : Happening) → EventsPrint factory past b events printed mid c
-    → (holds : HeadlineHolds factory (begun_by h mid) report c')
-    → EventsPrint factory past b (events ++ session_by h ∷ []) (printed ++ report_text report holds.says.image) (begun_by h mid) c'
+    → (holds : HeadlineInvariant factory (sessions_by h mid) report c')
+    → EventsPrint factory past b (events ++ session_by h ∷ []) (printed ++ report_text report holds.says.image) (sessions_by h mid) c'
 one_prints (Offers purpose file limits) prints holds = then_prints (Some (WithOffer file)) prints holds
 one_prints (Uploads limits) prints holds = then_prints (Some AsUpload) prints holds
 one_prints h prints holds = then_prints None prints holds
@@ -64,7 +64,7 @@ line_sets s (TheImage image) is starts = after_image is starts
 line_sets s x is starts = after_nothing is starts
 
 line_starts : {g : Option (List ℕ)} {t : Settings} {factory : List ℕ} {lines after : List (List ℕ)} (line : List ℕ) (s : Settings)
-    (said : Said)
+    (said : LineContent)
     → brought g line ≡ said_brings said → prepared s said ≡ Some t → StartsWith g t.image lines after factory
     → StartsWith g s.image (line ∷ lines) after factory
 line_starts line s Blank is set starts = after_nothing is (set_starts s set starts)
@@ -81,7 +81,7 @@ set_keeps s (TheIds ids) = refl
 set_keeps s x = refl
 
 -- A line that sets something leaves the bytes that are given.
-said_keeps : {t : Settings} (s : Settings) (said : Said) → prepared s said ≡ Some t → t.given ≡ s.given
+said_keeps : {t : Settings} (s : Settings) (said : LineContent) → prepared s said ≡ Some t → t.given ≡ s.given
 said_keeps {t = t} s Blank sets = ap (λ (u : Settings). u.given) (sym (same_Some s t sets))
 said_keeps {t = t} s (Sets x) sets = ap (λ (u : Settings). u.given) (sym (same_Some (set_by s x) t sets)) ∙ set_keeps s x
 said_keeps {t = t} s (LimitsTo actions restarts) sets =
@@ -104,14 +104,14 @@ prepares_start {s = s} {factory = factory} {lines = lines} {after = after}
     subst (λ (all : List (List ℕ)). StartsWith s.given s.image all after factory) (sym (append_assoc before (line ∷ []) lines))
     (prepares_start prepares (line_starts line t said (line_brings s.given line said says) sets starts))
 
-said_needs : (said : Said) → HasToAct (Some said) → NeedsDevice (said_brings said)
+said_needs : (said : LineContent) → HasToAct (Some said) → NeedsDevice (said_brings said)
 said_needs (Does events) acts = tt
 said_needs GoesOn acts = tt
 said_needs Show acts = tt
 said_needs (Expects text) acts = tt
 said_needs said acts = absurd acts
 
-line_needs : (g : Option (List ℕ)) (line : List ℕ) (said : Option Said) → line_of g line ≡ said → HasToAct said
+line_needs : (g : Option (List ℕ)) (line : List ℕ) (said : Option LineContent) → line_of g line ≡ said → HasToAct said
     → NeedsDevice (brought g line)
 line_needs g line None is acts = absurd acts
 line_needs g line (Some said) is acts = subst NeedsDevice (sym (line_brings g line said is)) (said_needs said acts)

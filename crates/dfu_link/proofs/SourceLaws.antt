@@ -8,8 +8,8 @@ use Rattle.std.specs.List.{position}
 use Rattle.std.specs.Io.KnownBytes.{Consumes, IsAtEnd, Keeps, prepend_known}
 use Rattle.dfu_link.specs.Words.{lines_of, endless, is_newline}
 use Rattle.dfu_link.specs.Lines.{read_line, line_of}
-use Rattle.dfu_link.specs.TextLimit.{GoesOver, IsStopped, GivesNone}
-use Rattle.dfu_link.specs.inside.Source.{source_state, TakesLines, TakesPiece, Next, GivesLine, StopsSource}
+use Rattle.dfu_link.specs.TextLimit.{ExceedsLimit, IsStopped, NoLineRead}
+use Rattle.dfu_link.specs.inside.Source.{source_state, LinesReadFrom, PieceRead, Next, SourceLine, StopsSource}
 use Rattle.dfu_link.specs.declared.scripting.fault.ScriptFault.TheVariants.{BadLine}
 use Rattle.dfu_link.proofs.LineLaws.{endless_none, endless_before, endless_more, line_ended, line_last, line_long, ends_within}
 
@@ -32,7 +32,7 @@ front_consumed (Some r) ready ready' n e = ap (λ (xs : List ℕ). xs ++ r) (sym
 -- A piece in which the line ends.
 pub piece_ends : (left left' : Option (List ℕ)) (line line' ready window : List ℕ) (k n : ℕ) → window ≡ take k ready
     → position is_newline window ≡ Some n → Consumes left left' (take (n + 1) ready) → line' ≡ line ++ take n window
-    → length line + k ≤ 65537 → TakesPiece left line (n + 1) true left' line'
+    → length line + k ≤ 65537 → PieceRead left line (n + 1) true left' line'
 piece_ends left left' line line' ready window k n w p taken longer le =
     let at = position-Some is_newline window n 0 p in
     let size : length window ≡ min k (length ready) = ap length w ∙ length-take k ready in
@@ -53,7 +53,7 @@ piece_ends left left' line line' ready window k n w p taken longer le =
 -- A piece in which it doesn't.
 pub piece_goes_on : (left left' : Option (List ℕ)) (line line' ready window : List ℕ) (k : ℕ) → window ≡ take k ready
     → position is_newline window ≡ None → Consumes left left' (take (length window) ready) → line' ≡ line ++ window
-    → length line + k ≤ 65537 → 0 < k → 0 < length ready → TakesPiece left line (length window) false left' line'
+    → length line + k ≤ 65537 → 0 < k → 0 < length ready → PieceRead left line (length window) false left' line'
 piece_goes_on left left' line line' ready window k w p taken longer le some ready_some =
     let size : length window ≡ min k (length ready) = ap length w ∙ length-take k ready in
     let same : take (length window) ready ≡ window = ap (λ (m : ℕ). take m ready) size ∙ (take_min k ready ∙ sym w) in
@@ -88,7 +88,7 @@ so_far_filled {left = left} {left1 = left1} {left2 = left2} {line = line} r kept
 
 -- A piece more was read.
 pub so_far_more : {left left1 left2 : Option (List ℕ)} {room room1 : ℕ} {line line' : List ℕ} {bytes : ℕ}
-    → ReadSoFar left room left1 room1 line → TakesPiece left1 line bytes false left2 line' → bytes ≤ room1 → length line' ≤ 65536
+    → ReadSoFar left room left1 room1 line → PieceRead left1 line bytes false left2 line' → bytes ≤ room1 → length line' ≤ 65536
     → ReadSoFar left room left2 (room1 - bytes) line'
 so_far_more {left = left} {left1 = left1} {left2 = left2} {line = line} r t le short = record {
   given = subst (λ (xs : List ℕ). Consumes left left2 xs) (sym t.longer)
@@ -101,7 +101,7 @@ so_far_more {left = left} {left1 = left1} {left2 = left2} {line = line} r t le s
 -- The end of a line.
 
 ends_at_newline : (a b : Option (List ℕ)) (room room' : ℕ) (line : List ℕ) → endless line ≡ true → room ≡ length line + 1 + room'
-    → Consumes a b (line ++ 10 ∷ []) → TakesLines a room (line ∷ []) b room' × IfSome a (λ left. ¬ GoesOver room left)
+    → Consumes a b (line ++ 10 ∷ []) → LinesReadFrom a room (line ∷ []) b room' × IfSome a (λ left. ¬ ExceedsLimit room left)
 ends_at_newline None b room room' line none rooms h = (tt, tt)
 ends_at_newline (Some a) None room room' line none rooms h = absurd h
 ends_at_newline (Some a) (Some b) room room' line none rooms h =
@@ -118,8 +118,8 @@ ends_at_newline (Some a) (Some b) room room' line none rooms h =
 
 -- A line was read up to its 0Ah.
 pub line_given : {left left1 left2 : Option (List ℕ)} {room room1 : ℕ} (n : ℕ) (x : List ℕ) {line line' : List ℕ} {bytes : ℕ}
-    → ReadSoFar left room left1 room1 line → TakesPiece left1 line bytes true left2 line' → bytes ≤ room1
-    → GivesLine (source_state left room n x) (source_state left2 (room1 - bytes) (n + 1) line')
+    → ReadSoFar left room left1 room1 line → PieceRead left1 line bytes true left2 line' → bytes ≤ room1
+    → SourceLine (source_state left room n x) (source_state left2 (room1 - bytes) (n + 1) line')
 line_given {left = left} {left1 = left1} {left2 = left2} {room = room} {room1 = room1} n x {line = line} {line' = line'} {bytes = bytes} r t
     le =
     let none : endless line' ≡ true = ap endless t.longer ∙ endless_more line t.piece r.no_end t.no_end in
@@ -137,7 +137,7 @@ line_given {left = left} {left1 = left1} {left2 = left2} {room = room} {room1 = 
 
 ends_with_text : (a b : Option (List ℕ)) (room room' : ℕ) (line : List ℕ) → endless line ≡ true → 0 < length line
     → room ≡ length line + room' → Consumes a b line → IsAtEnd b
-    → TakesLines a room (line ∷ []) b room' × IfSome a (λ left. ¬ GoesOver room left)
+    → LinesReadFrom a room (line ∷ []) b room' × IfSome a (λ left. ¬ ExceedsLimit room left)
 ends_with_text None b room room' line none some rooms h e = (tt, tt)
 ends_with_text (Some a) None room room' line none some rooms h e = absurd h
 ends_with_text (Some a) (Some b) room room' line none some rooms h e =
@@ -182,20 +182,20 @@ unfolding line_of read_line
 too_long_is_none given line long = grind (arith, long)
 
 long_line : (g a b : Option (List ℕ)) (room n : ℕ) (line : List ℕ) → Consumes a b line → length line ≡ 65537 → endless line ≡ true
-    → length line ≤ room → IfSome a (λ left. IsStopped room left (BadLine (n + 1)) × GivesNone g (n + 1) (lines_of left) (BadLine (n + 1)))
+    → length line ≤ room → IfSome a (λ left. IsStopped room left (BadLine (n + 1)) × NoLineRead g (n + 1) (lines_of left) (BadLine (n + 1)))
 long_line g None b room n line h size none le = tt
 long_line g (Some a) None room n line h size none le = absurd h
 long_line g (Some a) (Some b) room n line h size none le =
     let long = line_long line b (omega (arith, size)) none in
     let is : lines_of a ≡ long.0 ∷ long.1 = ap lines_of h ∙ long.2 in (
       λ over. absurd (omega (arith, over.short, size, le)),
-      subst (λ (ls : List (List ℕ)). GivesNone g (n + 1) ls (BadLine (n + 1))) (sym is)
+      subst (λ (ls : List (List ℕ)). NoLineRead g (n + 1) ls (BadLine (n + 1))) (sym is)
           (refl, too_long_is_none g long.0 (omega (arith, size, long.3))),
     )
 
 -- The line has over 65,536 bytes.
 pub line_too_long : {left left1 left2 : Option (List ℕ)} {room room1 : ℕ} (n : ℕ) (x : List ℕ) {line line' : List ℕ} {bytes : ℕ}
-    → ReadSoFar left room left1 room1 line → TakesPiece left1 line bytes false left2 line' → bytes ≤ room1 → 65536 < length line'
+    → ReadSoFar left room left1 room1 line → PieceRead left1 line bytes false left2 line' → bytes ≤ room1 → 65536 < length line'
     → (g : Option (List ℕ)) → StopsSource g (source_state left room n x) (BadLine (n + 1))
 line_too_long {left = left} {left1 = left1} {left2 = left2} {room = room} n x {line = line} {line' = line'} r t le long g =
     let size = ap length t.longer ∙ length-append line t.piece in

@@ -5,13 +5,13 @@ use Rattle.dfu_host.specs.declared.report.Report.TheVariants.{Unconfirmed, Abort
 use Rattle.dfu_host.specs.Phases.{Phase, Find, Last, GiveUp, Over, OverUploaded, Heard, WasReset, Restarted, Left}
 use Rattle.dfu_host.specs.BehindClose.{is_behind_close}
 use Rattle.dfu_host.specs.Table.{host_row}
-use Rattle.dfu_host.specs.Host.{HostState, IsOver, budgeted, restarted, left_by, host_heard, after_phase, after}
+use Rattle.dfu_host.specs.Host.{HostState, IsOver, budgeted, restarted, host_after_leaving, host_after, after_phase, after}
 use Rattle.dfu_sim.specs.declared.fault.LinkFault.{LinkFault}
 use Rattle.dfu_sim.specs.LinkView.{Session, Nobody, Hosted, LinkView, WorldView}
 use Rattle.dfu_sim.specs.Bytes.{BytePlay}
 use Rattle.dfu_sim.specs.Play.{Answered, settled, took}
 use Rattle.dfu_sim.specs.Happening.{Happening, Fate, Harm, Goes}
-use Rattle.dfu_sim.specs.Comes.{Comes, refuses, happens, shown_as, HasCome}
+use Rattle.dfu_sim.specs.EventResults.{EventResult, refuses, happens, report_of_result, WorldEventResult}
 
 -- How many actions the live session has left.
 abbrev pub actions_in : Session → ℕ
@@ -37,13 +37,13 @@ restarted_less h GiveUp restarts on = spent_less h.actions (Over Aborted) on
 restarted_less h phase zero on = spent_less h.actions (Over RestartsSpent) on
 restarted_less h phase (suc restarts) on = spent_less h.actions Find on
 
-left_less : (h : HostState) (phase : Phase) (behind : Bool) → (IsOver (left_by h phase behind).phase → ⊥)
-    → (left_by h phase behind).actions < h.actions
+left_less : (h : HostState) (phase : Phase) (behind : Bool) → (IsOver (host_after_leaving h phase behind).phase → ⊥)
+    → (host_after_leaving h phase behind).actions < h.actions
 left_less h phase true on = spent_less h.actions (host_row h.task (Last Unconfirmed) WasReset) on
 left_less h phase false on = restarted_less h phase h.restarts on
 
-told_less : (h : HostState) (phase : Phase) (heard : Heard) → (IsOver (host_heard h phase heard).phase → ⊥)
-    → (host_heard h phase heard).actions < h.actions
+told_less : (h : HostState) (phase : Phase) (heard : Heard) → (IsOver (host_after h phase heard).phase → ⊥)
+    → (host_after h phase heard).actions < h.actions
 told_less h phase Restarted on = restarted_less h phase h.restarts on
 told_less h phase Left on = left_less h phase (is_behind_close h.task.goal phase) on
 told_less h phase heard on = spent_less h.actions (host_row h.task phase heard) on
@@ -62,8 +62,8 @@ took_less h heard e =
 ok_same : {A E : Type 0} {x y : A} → ◌≡◌ {A = Result A E} (Ok x) (Ok y) → x ≡ y
 ok_same e = cc
 
-comes_less : {b b' : LinkView} {fate : Fate} {harm : Harm} {answer : Result Answered LinkFault} → Comes b (Goes fate harm) b' answer
-    → shown_as answer ≡ Ok None → actions_in b'.session < actions_in b.session
+comes_less : {b b' : LinkView} {fate : Fate} {harm : Harm} {answer : Result Answered LinkFault} → EventResult b (Goes fate harm) b' answer
+    → report_of_result answer ≡ Ok None → actions_in b'.session < actions_in b.session
 comes_less (refuses why) e = absurd cc
 comes_less {b = b} {b' = b'} (happens {answer = answer} means play) e =
     let next = (subst (λ (event : Happening). BytePlay b event b' answer) means play).happens in
@@ -73,6 +73,6 @@ comes_less {b = b} {b' = b'} (happens {answer = answer} means play) e =
     (subst (λ (s : Session). actions_in s < next.host.actions) (sym next.session) (took_less next.host heard none))
 
 -- An action that is not refused and reports nothing leaves fewer.
-pub action_less : {w w' : WorldView} {fate : Fate} {harm : Harm} (host_heard : Result (Option Report) LinkFault)
-    → HasCome w (Goes fate harm) w' host_heard → host_heard ≡ Ok None → actions_in w'.bench.session < actions_in w.bench.session
-action_less host_heard come e = comes_less come.comes (sym come.told ∙ e)
+pub action_less : {w w' : WorldView} {fate : Fate} {harm : Harm} (host_after : Result (Option Report) LinkFault)
+    → WorldEventResult w (Goes fate harm) w' host_after → host_after ≡ Ok None → actions_in w'.bench.session < actions_in w.bench.session
+action_less host_after come e = comes_less come.comes (sym come.told ∙ e)

@@ -7,13 +7,13 @@ use Rattle.dfu_sim.specs.LinkView.{LinkView}
 use Rattle.dfu_sim.specs.Happening.{Happening}
 use Rattle.dfu_link.specs.declared.scripting.fault.ScriptFault.{ScriptFault}
 use Rattle.dfu_link.specs.Texts.{show_line}
-use Rattle.dfu_link.specs.Said.{Said, Blank, LimitsTo, Does, Show, Expects, EventLine}
+use Rattle.dfu_link.specs.LineContent.{LineContent, Blank, LimitsTo, Does, Show, Expects, EventLine}
 use Rattle.dfu_link.specs.Lines.{line_of}
 use Rattle.dfu_link.specs.ScriptRun.{Point, events_of, LineActs, skips, limits_to, plays, shows, expects}
 use Rattle.dfu_link.specs.Expecting.{Expectation}
 use Rattle.dfu_link.specs.Falls.{in_events}
 use Rattle.dfu_link.specs.inside.Expected.{point_at, Prints}
-use Rattle.dfu_link.specs.inside.Moving.{PlaysEvents, HasDoneLine, DoesLine, Steps}
+use Rattle.dfu_link.specs.inside.Moving.{PlaysEvents, LineCarriedOut, LineOutcome, Steps}
 use Rattle.dfu_link.proofs.FallLaws.{breaks_fall}
 
 -- A line that says nothing does nothing.
@@ -38,13 +38,13 @@ step_limits {old = old} {a = a} {r = r} e = record {
 }
 
 -- What an event line says was done.
-pub step_acts : {k : ℕ} {p p' : Point} {line : List ℕ} {old new : Option (List ℕ)} {said : Said} → line_of p.given line ≡ Some said
-    → HasDoneLine p said old p' new → Steps k p line old p' new
+pub step_acts : {k : ℕ} {p p' : Point} {line : List ℕ} {old new : Option (List ℕ)} {said : LineContent} → line_of p.given line ≡ Some said
+    → LineCarriedOut p said old p' new → Steps k p line old p' new
 step_acts {k = k} {said = said} e a = record { said = said; is = e; out = a.out; acts = a.acts k; told = a.told }
 
 events_act : (r : Result Unit ScriptFault) {g : Option (List ℕ)} {check : List ℕ} {l : Limits} {x x' : Option Expectation} {b b' : LinkView}
     {old new : Option (List ℕ)} (d : EventLine) → PlaysEvents check b x (events_of l d) old b' x' new r
-    → DoesLine (point_at g check l x b) (Does d) old (point_at g check l x' b') new r
+    → LineOutcome (point_at g check l x b) (Does d) old (point_at g check l x' b') new r
 events_act (Ok done) {g = g} {check = check} {l = l} {x = x} {b = b} {b' = b'} d p = record {
   ok = record {
     out = p.ok.out;
@@ -60,10 +60,10 @@ events_act (Err f) {g = g} {check = check} {l = l} {x = x} {b = b} d p =
 -- What an event line says is done by its events.
 pub line_acts : {r : Result Unit ScriptFault} {g : Option (List ℕ)} {check : List ℕ} {l : Limits} {x x' : Option Expectation}
     {b b' : LinkView}
-    {old new : Option (List ℕ)} {said : Said} {events : List Happening} (d : EventLine) → said ≡ Does d → events ≡ events_of l d
-    → PlaysEvents check b x events old b' x' new r → DoesLine (point_at g check l x b) said old (point_at g check l x' b') new r
+    {old new : Option (List ℕ)} {said : LineContent} {events : List Happening} (d : EventLine) → said ≡ Does d → events ≡ events_of l d
+    → PlaysEvents check b x events old b' x' new r → LineOutcome (point_at g check l x b) said old (point_at g check l x' b') new r
 line_acts {r = r} {g = g} {check = check} {l = l} {x = x} {x' = x'} {b = b} {b' = b'} {old = old} {new = new} d is same played =
-    subst (λ (y : Said). DoesLine (point_at g check l x b) y old (point_at g check l x' b') new r) (sym is)
+    subst (λ (y : LineContent). LineOutcome (point_at g check l x b) y old (point_at g check l x' b') new r) (sym is)
     (events_act r d (subst (λ (es : List Happening). PlaysEvents check b x es old b' x' new r) same played))
 
 -- A line that shows prints the line of the device.

@@ -7,11 +7,11 @@ use Rattle.dfu_suffix.proofs.ReadLaws.{if_some}
 use Rattle.dfu_device.specs.DeviceView.{DeviceView}
 use Rattle.dfu_link.specs.Words.{lines_of}
 use Rattle.dfu_link.specs.Texts.{image_line}
-use Rattle.dfu_link.specs.TextLimit.{IsStopped, GivesNone}
+use Rattle.dfu_link.specs.TextLimit.{IsStopped, NoLineRead}
 use Rattle.dfu_link.specs.ScriptRun.{Settings, beginning, Prepares, DeviceStarts, at_rest, Point, point, HasToStart, SetsUp, LinesRun, WroteRun}
-use Rattle.dfu_link.specs.Falls.{NextFalls, RunFalls, StartFalls, Falls, Ended, no_memory, in_setting, at_start, in_run}
-use Rattle.dfu_link.specs.inside.Source.{SourceState, Next, TookLines, GivesLines}
-use Rattle.dfu_link.specs.inside.Moving.{Ends, MovesAndFalls, LinesConfigured, StopsSetting, CannotConfigure}
+use Rattle.dfu_link.specs.Falls.{NextFalls, RunFalls, StartFalls, Falls, ScriptEnding, no_memory, in_setting, at_start, in_run}
+use Rattle.dfu_link.specs.inside.Source.{SourceState, Next, LinesRead, SourceLines}
+use Rattle.dfu_link.specs.inside.Moving.{SourceExhausted, MovesAndFalls, LinesConfigured, StopsSetting, CannotConfigure}
 use Rattle.dfu_link.specs.declared.scripting.fault.ScriptFault.{ScriptFault}
 use Rattle.dfu_link.specs.declared.scripting.fault.ScriptFault.TheVariants.{BadLine, LateConfig, BadConfig, Expected, NonePrinted, TooLarge, NoMemory, Read, Write}
 use Rattle.dfu_link.proofs.GivenLaws.{of_some, took, took_trans, stops_after}
@@ -33,11 +33,11 @@ for_text given s P (left, room, number) holds = if_some given P (λ text e. hold
 }))
 
 -- Of a fresh source these lines were taken.
-fresh_took : {text : List ℕ} {s s' : SourceState} {xs : List (List ℕ)} → IsFresh text s → GivesLines s xs s'
-    → (left : List ℕ) × (s'.left ≡ Some left) × TookLines text 16777216 xs left s'.room
+fresh_took : {text : List ℕ} {s s' : SourceState} {xs : List (List ℕ)} → IsFresh text s → SourceLines s xs s'
+    → (left : List ℕ) × (s'.left ≡ Some left) × LinesRead text 16777216 xs left s'.room
 fresh_took {text = text} {s = s} {s' = s'} {xs = xs} fresh gives =
     let t = took s s' xs gives fresh.left in
-    (t.0, t.1, subst (λ (room : ℕ). TookLines text room xs t.0 s'.room) fresh.room t.2)
+    (t.0, t.1, subst (λ (room : ℕ). LinesRead text room xs t.0 s'.room) fresh.room t.2)
 
 -- No more lines set.
 setting_ends : {g : Option (List ℕ)} {text : List ℕ} {s : SourceState} {x : Settings} (old : Option (List ℕ)) (f : ScriptFault)
@@ -47,7 +47,7 @@ setting_ends {text = text} old f fresh e stops =
     let p = stops.prepared in
     let t = fresh_took fresh p.gives in
     let here = of_some stops.at.left
-    (λ left. IsStopped stops.at.room left f × GivesNone stops.to.given (stops.at.number + 1) (lines_of left) f) t.0 t.1
+    (λ left. IsStopped stops.at.room left f × NoLineRead stops.to.given (stops.at.number + 1) (lines_of left) f) t.0 t.1
     stops.stops in
     in_setting (record {
       done = p.done;
@@ -55,7 +55,7 @@ setting_ends {text = text} old f fresh e stops =
       split = t.2.are;
       settings = stops.to;
       prepares = subst (λ (y : Settings). Prepares y p.done stops.to) e p.prepares;
-      falls = subst (λ (n : ℕ). GivesNone stops.to.given n (lines_of t.0) f) (omega (arith, p.gives.count, fresh.number)) here.1;
+      falls = subst (λ (n : ℕ). NoLineRead stops.to.given n (lines_of t.0) f) (omega (arith, p.gives.count, fresh.number)) here.1;
       stops = stops_after f t.2 here.0;
     }) refl
 
@@ -115,7 +115,7 @@ at_end (Some left) h = h
 
 -- The lines that were done are all those after the lines that set.
 done_all : {text : List ℕ} {s s' : SourceState} {x y : Settings} {more : Bool} {old new : Option (List ℕ)} {p : Point}
-    → (fresh : IsFresh text s) → (c : LinesConfigured x s y more s') → (ends : Ends p c.at old new)
+    → (fresh : IsFresh text s) → (c : LinesConfigured x s y more s') → (ends : SourceExhausted p c.at old new)
     → ends.done ≡ lines_of (fresh_took fresh c.prepared.gives).0
 done_all fresh c ends =
     let t = fresh_took fresh c.prepared.gives in
@@ -125,7 +125,7 @@ done_all fresh c ends =
 
 run_ends : {g : Option (List ℕ)} {text : List ℕ} {s s' : SourceState} {x y : Settings} {more : Bool} {old new : Option (List ℕ)}
     (d : DeviceView)
-    → IsFresh text s → x ≡ beginning g → (c : LinesConfigured x s y more s') → DeviceStarts y d → Ends (point y (at_rest d)) c.at old new
+    → IsFresh text s → x ≡ beginning g → (c : LinesConfigured x s y more s') → DeviceStarts y d → SourceExhausted (point y (at_rest d)) c.at old new
     → WroteRun g text old new
 run_ends {text = text} {y = y} d fresh e c starts ends =
     let t = fresh_took fresh c.prepared.gives in
@@ -183,9 +183,9 @@ run_falls {y = y} {new = new} d f fresh e c starts falls =
 pub run_ended : (r : Result Unit ScriptFault) {g : Option (List ℕ)} (given old new : Option (List ℕ)) (d : DeviceView) {s s' : SourceState}
     {x y : Settings} {more : Bool} → (s.left ≡ prepend_known [] given) × (s.room ≡ 16777216) × (s.number ≡ 0) → x ≡ beginning g
     → LinesConfigured x s y more s' → DeviceStarts y d
-    → OnOk r ((t : SourceState) → Next t more s' → Ends (point y (at_rest d)) t old new)
+    → OnOk r ((t : SourceState) → Next t more s' → SourceExhausted (point y (at_rest d)) t old new)
     → IfErr r (λ f. (t : SourceState) → Next t more s' → MovesAndFalls (point y (at_rest d)) t old new f)
-    → IfSome given (λ text. Ended g text old new r)
+    → IfSome given (λ text. ScriptEnding g text old new r)
 run_ended (Ok it) {g = g} given old new d {s = s} first e c starts ends falls =
     for_text given s (λ text. WroteRun g text old new) first (λ text fresh. run_ends d fresh e c starts (ends c.at c.next))
 run_ended (Err f) {g = g} given old new d {s = s} first e c starts ends falls =

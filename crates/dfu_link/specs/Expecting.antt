@@ -10,7 +10,7 @@ pub record Expectation : Type 0 where
   pub text : List ℕ
 
 -- The text begins with the line that is expected.
-pub record BeginsAsExpected (e : Expectation) (text : List ℕ) : Type 0 where
+pub record HasExpectedFront (e : Expectation) (text : List ℕ) : Type 0 where
   pub rest : List ℕ
   pub is : text ≡ (e.text ++ 10 ∷ []) ++ rest
 
@@ -18,7 +18,7 @@ pub record BeginsAsExpected (e : Expectation) (text : List ℕ) : Type 0 where
 abbrev pub Meets : Option Expectation → (text : List ℕ) → Type 0
 Meets None text = Unit {0}
 Meets (Some e) [] = Unit {0}
-Meets (Some e) (byte ∷ bytes) = BeginsAsExpected e (byte ∷ bytes)
+Meets (Some e) (byte ∷ bytes) = HasExpectedFront e (byte ∷ bytes)
 
 -- Line that is expected still once a text was printed: none, if the text has a byte.
 abbrev pub still : Option Expectation → (text : List ℕ) → Option Expectation

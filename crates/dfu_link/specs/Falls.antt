@@ -11,11 +11,11 @@ use Rattle.dfu_sim.specs.Happening.{Happening}
 use Rattle.dfu_suffix.specs.Writing.{IsOutInPart}
 use Rattle.dfu_link.specs.Texts.{image_line, show_line}
 use Rattle.dfu_link.specs.Words.{lines_of}
-use Rattle.dfu_link.specs.Said.{ConfigLine, EventLine, Offer, HasTear, Sets, Does, GoesOn, Show, Expects}
+use Rattle.dfu_link.specs.LineContent.{ConfigLine, EventLine, Offer, HasTear, Sets, Does, GoesOn, Show, Expects}
 use Rattle.dfu_link.specs.Lines.{line_of}
 use Rattle.dfu_link.specs.Expecting.{Expectation, FailsToPrint}
-use Rattle.dfu_link.specs.TextLimit.{GivesNone, StopsAfter}
-use Rattle.dfu_link.specs.ScriptRun.{Settings, beginning, Prepares, DeviceStarts, at_rest, AllCome, Point, point, events_of, LineActs, LinesRun, SetsUp, WroteRun}
+use Rattle.dfu_link.specs.TextLimit.{NoLineRead, StopsAfter}
+use Rattle.dfu_link.specs.ScriptRun.{Settings, beginning, Prepares, DeviceStarts, at_rest, EventsPlayed, Point, point, events_of, LineActs, LinesRun, SetsUp, WroteRun}
 use Rattle.dfu_link.specs.declared.scripting.fault.ScriptFault.{ScriptFault}
 use Rattle.dfu_link.specs.declared.scripting.fault.ScriptFault.TheVariants.{BadLine, LateConfig, BadConfig, Expected, NonePrinted, TooLarge, NoMemory, Read, Write}
 
@@ -29,7 +29,7 @@ pub record HasBroken (check : List ℕ) (b : LinkView) (next : Option Expectatio
   pub split : events ≡ played ++ left
   pub after : LinkView
   pub out : List ℕ
-  pub plays : AllCome check b played out after
+  pub plays : EventsPlayed check b played out after
   pub broke : IsOutInPart old new out
   pub fails : FailsToPrint next out old new fault
 
@@ -111,7 +111,7 @@ pub record SettingFalls (given : Option (List ℕ)) (text : List ℕ) (fault : S
   pub split : lines_of text ≡ done ++ rest
   pub settings : Settings
   pub prepares : Prepares (beginning given) done settings
-  pub falls : GivesNone settings.given (1 + length done) rest fault
+  pub falls : NoLineRead settings.given (1 + length done) rest fault
   pub stops : StopsAfter text done fault
 
 -- No device can be set up like this, or the room has no whole units or no whole sectors,
@@ -142,6 +142,6 @@ pub data Falls (given : Option (List ℕ)) (text : List ℕ) (old new : Option (
       → StopsAfter text (sets_up.before ++ falls.done) fault → Falls given text old new fault
 
 -- The script ended like this: with Ok all of it ran, and with a fault it fell.
-abbrev pub Ended : (given : Option (List ℕ)) → (text : List ℕ) → (old new : Option (List ℕ)) → Result Unit ScriptFault → Type 0
-Ended given text old new (Ok done) = WroteRun given text old new
-Ended given text old new (Err fault) = Falls given text old new fault
+abbrev pub ScriptEnding : (given : Option (List ℕ)) → (text : List ℕ) → (old new : Option (List ℕ)) → Result Unit ScriptFault → Type 0
+ScriptEnding given text old new (Ok done) = WroteRun given text old new
+ScriptEnding given text old new (Err fault) = Falls given text old new fault

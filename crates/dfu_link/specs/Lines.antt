@@ -8,7 +8,7 @@ use Rattle.dfu_sim.specs.declared.offering.Purpose.TheVariants.{Install, Verify}
 use Rattle.dfu_sim.specs.Happening.{Fate, Pass, LostOut, LostBack, Twice, TwiceLostBack, Slip, CutIn, Fail, Lie, unharmed, harmed}
 use Rattle.dfu_link.specs.Words.{ok_of, hex_word_bytes, number_of, first_word, text_behind, words_of}
 use Rattle.dfu_link.specs.Fields.{small_of, count_of, attributes_of_word, unit_of_word, sector_of, objection_of, named_bytes}
-use Rattle.dfu_link.specs.Said.{Said, Blank, Sets, LimitsTo, Does, GoesOn, Show, Expects, TheIds, TheDevice, TheUnit, TheSector, ThePace, TheCapacity, TheImage, TheCheck, Offer, Upload, Abort, Go, Time, Reset, Cut, Refuse}
+use Rattle.dfu_link.specs.LineContent.{LineContent, Blank, Sets, LimitsTo, Does, GoesOn, Show, Expects, TheIds, TheDevice, TheUnit, TheSector, ThePace, TheCapacity, TheImage, TheCheck, Offer, Upload, Abort, Go, Time, Reset, Cut, Refuse}
 use Rattle.dfu_link.specs.Keywords.{keyword_of, fate_keyword_of}
 use Rattle.dfu_link.specs.declared.scripting.words.Keyword.{Keyword}
 use Rattle.dfu_link.specs.declared.scripting.words.Keyword.TheVariants as key
@@ -30,9 +30,9 @@ abbrev pub ◌>>=◌ : {A B : Type 0} → Read A → (A → Read B) → Read B
 (Err e) >>= f = Err e
 
 -- The code's reading, seen for its meaning, is the reading that is wanted; and if it read nothing, the fault is the one that is wanted.
-abbrev pub Tells : {X Y : Type 0} → (X → Y) → Read X → Read Y → Type 0
-Tells view (Ok x) read = read ≡ Ok (view x)
-Tells view (Err e) read = read ≡ Err e
+abbrev pub ReadMatches : {X Y : Type 0} → (X → Y) → Read X → Read Y → Type 0
+ReadMatches view (Ok x) read = read ≡ Ok (view x)
+ReadMatches view (Err e) read = read ≡ Err e
 
 -- Word n of a line of so many, as this reads it, and the words after it.
 abbrev pub field : {A : Type 0} → Field → (List ℕ → Option A) → (n of : ℕ) → List (List ℕ) → Read (A × List (List ℕ))
@@ -75,16 +75,16 @@ ends x of [] = Ok x
 ends x of (word ∷ words) = Err (if is_comment word then wrong.Comment else wrong.Count of)
 
 -- After `ids`: the vendor, the product and the device.
-unfoldable pub said_ids : List (List ℕ) → Read Said
-said_ids words = do
+unfoldable pub ids_content : List (List ℕ) → Read LineContent
+ids_content words = do
   vendor ← identifier_at 2 4 words
   product ← identifier_at 3 4 vendor.1
   device ← identifier_at 4 4 product.1
   ends (Sets (TheIds (record { device = device.0; product = product.0; vendor = vendor.0 }))) 4 device.1
 
 -- After `device`: the attributes, the detach timeout, the transfer size, the fewest bytes of an image, and two times.
-unfoldable pub said_device : List (List ℕ) → Read Said
-said_device words = do
+unfoldable pub device_content : List (List ℕ) → Read LineContent
+device_content words = do
   attributes ← field a.Attributes attributes_of_word 2 7 words
   detach ← short_at 3 7 attributes.1
   transfer ← short_at 4 7 detach.1
@@ -94,94 +94,94 @@ said_device words = do
   ends (Sets (TheDevice (functional_of attributes.0 detach.0 transfer.0 0x0110) least.0 busy.0 manifest.0)) 7 manifest.1
 
 -- After `unit`: how many bytes the medium writes at a time.
-unfoldable pub unit_line : List (List ℕ) → Read Said
+unfoldable pub unit_line : List (List ℕ) → Read LineContent
 unit_line words = do
   unit ← field a.Unit unit_of_word 2 2 words
   ends (Sets (TheUnit unit.0)) 2 unit.1
 
 -- After `erase`: how many bytes the medium erases at a time.
-unfoldable pub erase_of : List (List ℕ) → Read Said
+unfoldable pub erase_of : List (List ℕ) → Read LineContent
 erase_of words = do
   sector ← field a.Sector sector_of 2 2 words
   ends (Sets (TheSector sector.0)) 2 sector.1
 
 -- After `pace`: how many milliseconds an erase and a program of 256 bytes take.
-unfoldable pub pace_line : List (List ℕ) → Read Said
+unfoldable pub pace_line : List (List ℕ) → Read LineContent
 pace_line words = do
   erase ← short_at 2 3 words
   program ← short_at 3 3 erase.1
   ends (Sets (ThePace erase.0 program.0)) 3 program.1
 
 -- After `capacity`: how many bytes an image may have.
-unfoldable pub said_capacity : List (List ℕ) → Read Said
-said_capacity words = do
+unfoldable pub capacity_content : List (List ℕ) → Read LineContent
+capacity_content words = do
   n ← field a.Capacity (count_of 1048576) 2 2 words
   ends (Sets (TheCapacity n.0)) 2 n.1
 
 -- After `image`: the bytes.
-unfoldable pub said_image : List (List ℕ) → Read Said
-said_image words = do
+unfoldable pub image_content : List (List ℕ) → Read LineContent
+image_content words = do
   image ← hex_at 2 2 words
   ends (Sets (TheImage image.0)) 2 image.1
 
 -- After `check`: the bytes.
-unfoldable pub check_of : List (List ℕ) → Read Said
+unfoldable pub check_of : List (List ℕ) → Read LineContent
 check_of words = do
   front ← hex_at 2 2 words
   ends (Sets (TheCheck front.0)) 2 front.1
 
 -- After `limits`: the actions, and the restarts.
-unfoldable pub said_limits : List (List ℕ) → Read Said
-said_limits words = do
+unfoldable pub limits_content : List (List ℕ) → Read LineContent
+limits_content words = do
   actions ← number_field 2 3 words
   restarts ← short_at 3 3 actions.1
   ends (LimitsTo actions.0 restarts.0) 3 restarts.1
 
 -- After `offer` and `verify`: the bytes of the file.
-unfoldable pub offer_of : (given : Option (List ℕ)) → Purpose → List (List ℕ) → Read Said
+unfoldable pub offer_of : (given : Option (List ℕ)) → Purpose → List (List ℕ) → Read LineContent
 offer_of given purpose words = do
   file ← offered_file given 2 2 words
   ends (Does (Offer purpose file.0)) 2 file.1
 
 -- After `time`: the milliseconds.
-unfoldable pub time_of : List (List ℕ) → Read Said
+unfoldable pub time_of : List (List ℕ) → Read LineContent
 time_of words = do
   ms ← number_field 2 2 words
   ends (Does (Time ms.0)) 2 ms.1
 
 -- After `refuse`: why.
-unfoldable pub refuse_of : List (List ℕ) → Read Said
+unfoldable pub refuse_of : List (List ℕ) → Read LineContent
 refuse_of words = do
   why ← field a.Objection objection_of 2 2 words
   ends (Does (Refuse why.0)) 2 why.1
 
 -- After `go pass`: how often, 1 to 1,000,000 times.
-unfoldable pub pass_of : List (List ℕ) → Read Said
+unfoldable pub pass_of : List (List ℕ) → Read LineContent
 pass_of words = do
   times ← field a.Times (count_of 1000000) 3 3 words
   ends (Does (Go Pass unharmed times.0)) 3 times.1
 
 -- After `go slip`: the milliseconds.
-unfoldable pub slip_of : List (List ℕ) → Read Said
+unfoldable pub slip_of : List (List ℕ) → Read LineContent
 slip_of words = do
   ms ← number_field 3 3 words
   ends (Does (Go (Slip ms.0) unharmed 1)) 3 ms.1
 
 -- After `go cut`, `go fail` and `go lie`: how many writes work, and the tear.
-unfoldable pub harmed_of : Fate → List (List ℕ) → Read Said
+unfoldable pub harmed_of : Fate → List (List ℕ) → Read LineContent
 harmed_of f words = do
   writes ← number_field 3 4 words
   tear ← hex_at 4 4 writes.1
   ends (Does (Go f (harmed writes.0 tear.0) 1)) 4 tear.1
 
 -- After `go until`: the word `report`.
-unfoldable pub until_of : List (List ℕ) → Read Said
+unfoldable pub until_of : List (List ℕ) → Read LineContent
 until_of words = do
   word ← ok_or (first_word words) (wrong.Count 3)
   if bytes_eq word.0 (codes "report") then ends GoesOn 3 word.1 else Err (wrong.Word a.Report 3)
 
 -- After the word of a fate, or `until`.
-abbrev pub by_fate : FateKeyword → List (List ℕ) → Read Said
+abbrev pub by_fate : FateKeyword → List (List ℕ) → Read LineContent
 by_fate fate.Pass words = pass_of words
 by_fate fate.LostOut words = ends (Does (Go LostOut unharmed 1)) 2 words
 by_fate fate.LostBack words = ends (Does (Go LostBack unharmed 1)) 2 words
@@ -194,28 +194,28 @@ by_fate fate.Lie words = harmed_of Lie words
 by_fate fate.Until words = until_of words
 
 -- After `go`: a fate, or `until`.
-unfoldable pub go_of : List (List ℕ) → Read Said
+unfoldable pub go_of : List (List ℕ) → Read LineContent
 go_of words = do
   word ← ok_or (first_word words) wrong.NoFate
   k ← ok_or (fate_keyword_of word.0) wrong.Fate
   by_fate k word.1
 
 -- `expect`: the line that is to be printed next, which has a byte.
-unfoldable pub expect_of : List ℕ → Read Said
+unfoldable pub expect_of : List ℕ → Read LineContent
 expect_of line = do
   text ← ok_or (text_behind line) wrong.NoText
   if length text == 0 then Err wrong.NoText else Ok (Expects text)
 
 -- After the first word of a line, or with all of it.
-abbrev pub by_keyword : (given : Option (List ℕ)) → Keyword → (line : List ℕ) → List (List ℕ) → Read Said
-by_keyword given key.Ids line words = said_ids words
-by_keyword given key.Device line words = said_device words
+abbrev pub by_keyword : (given : Option (List ℕ)) → Keyword → (line : List ℕ) → List (List ℕ) → Read LineContent
+by_keyword given key.Ids line words = ids_content words
+by_keyword given key.Device line words = device_content words
 by_keyword given key.Unit line words = unit_line words
 by_keyword given key.Erase line words = erase_of words
 by_keyword given key.Pace line words = pace_line words
-by_keyword given key.Capacity line words = said_capacity words
-by_keyword given key.Image line words = said_image words
-by_keyword given key.Limits line words = said_limits words
+by_keyword given key.Capacity line words = capacity_content words
+by_keyword given key.Image line words = image_content words
+by_keyword given key.Limits line words = limits_content words
 by_keyword given key.Offer line words = offer_of given Install words
 by_keyword given key.Verify line words = offer_of given Verify words
 by_keyword given key.Upload line words = ends (Does Upload) 1 words
@@ -230,15 +230,15 @@ by_keyword given key.Check line words = check_of words
 by_keyword given key.Refuse line words = refuse_of words
 
 -- Meaning of the words of a line: nothing if there are none, or if they are a comment.
-abbrev pub says : (given : Option (List ℕ)) → (line : List ℕ) → List (List ℕ) → Read Said
+abbrev pub says : (given : Option (List ℕ)) → (line : List ℕ) → List (List ℕ) → Read LineContent
 says given line [] = Ok Blank
 says given line (word ∷ words) =
     if is_comment word then Ok Blank else (ok_or (keyword_of word) wrong.Keyword >>= λ k. by_keyword given k line words)
 
 -- Meaning of a line, if these bytes are given, or its fault: a line over 65,536 bytes says nothing.
-unfoldable pub read_line : (given : Option (List ℕ)) → List ℕ → Read Said
+unfoldable pub read_line : (given : Option (List ℕ)) → List ℕ → Read LineContent
 read_line given line = if nat_le (length line) 65536 then says given line (words_of line) else Err wrong.Long
 
 -- Meaning of a line, with these bytes given, if it is one of the language.
-unfoldable pub line_of : (given : Option (List ℕ)) → List ℕ → Option Said
+unfoldable pub line_of : (given : Option (List ℕ)) → List ℕ → Option LineContent
 line_of given line = ok_of (read_line given line)

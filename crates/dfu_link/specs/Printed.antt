@@ -9,7 +9,7 @@ use Rattle.dfu_link.specs.Words.{hex_word_bytes, number_of, endless, lines_of, w
 use Rattle.dfu_link.specs.Texts.{report_line, line_of_image}
 use Rattle.dfu_sim.specs.LinkView.{LinkView}
 use Rattle.dfu_link.specs.ScriptRun.{at_rest}
-use Rattle.dfu_sim.specs.Headline.{WasOffered, Begun, WithOffer, AsUpload, HeadlineHolds}
+use Rattle.dfu_sim.specs.Headline.{WasOffered, Begun, WithOffer, AsUpload, HeadlineInvariant}
 use Rattle.dfu_slots.specs.Image.{Active}
 use Rattle.dfu_link.specs.declared.scripting.fault.ScriptFault.{ScriptFault}
 
@@ -78,9 +78,9 @@ pub record IsKnownImage (factory : List ℕ) (past : List Begun) (b : LinkView) 
   pub known : (image ≡ factory) ⊎ WasOffered past image
 
 -- The sessions that have begun after an event, the last one first.
-abbrev pub begun_after : Option Begun → List Begun → List Begun
-begun_after None past = past
-begun_after (Some begun) past = begun ∷ past
+abbrev pub sessions_after : Option Begun → List Begun → List Begun
+sessions_after None past = past
+sessions_after (Some begun) past = begun ∷ past
 
 -- Text of a report, or of none, while this image is active.
 abbrev pub report_text : Option Report → (image : List ℕ) → List ℕ
@@ -98,8 +98,8 @@ pub data EventsPrint (factory : List ℕ) (past : List Begun) (b : LinkView) :
   no_event : EventsPrint factory past b [] [] past b
   then_prints : {events : List (Option Begun)} {printed : List ℕ} {mid : List Begun} {c c' : LinkView} {report : Option Report}
       (event : Option Begun) → EventsPrint factory past b events printed mid c
-      → (holds : HeadlineHolds factory (begun_after event mid) report c')
-      → EventsPrint factory past b (events ++ event ∷ []) (printed ++ report_text report holds.says.image) (begun_after event mid) c'
+      → (holds : HeadlineInvariant factory (sessions_after event mid) report c')
+      → EventsPrint factory past b (events ++ event ∷ []) (printed ++ report_text report holds.says.image) (sessions_after event mid) c'
   then_refused : {events : List (Option Begun)} {printed : List ℕ} {mid : List Begun} {c : LinkView} (event : Option Begun)
       (reason : List ℕ)
       → EventsPrint factory past b events printed mid c → endless reason ≡ true
@@ -151,7 +151,7 @@ pub record TextPrints (given : Option (List ℕ)) (text : List ℕ) (after done 
   pub factory : List ℕ
   pub starts : StartsWith given (0 ∷ []) (lines_of text) after factory
   pub first : DeviceView
-  pub holds : HeadlineHolds factory [] None (at_rest first)
+  pub holds : HeadlineInvariant factory [] None (at_rest first)
   pub lines : LinesPrint given factory [] (at_rest first) done printed past end
   pub known : IsKnownImage factory past end image
 

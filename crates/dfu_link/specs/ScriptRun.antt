@@ -7,21 +7,21 @@ use Rattle.dfu_slots.specs.declared.layout.Unit.TheVariants.{Byte}
 use Rattle.dfu_slots.specs.Units.{Grain, in_place, gate_room, IsWhole}
 use Rattle.dfu_slots.specs.Medium.{MediumState, AllWrites, blank_medium}
 use Rattle.dfu_slots.specs.Image.{Active}
-use Rattle.dfu_slots.specs.Seen.{image_of, format_series}
+use Rattle.dfu_slots.specs.StoreView.{image_of, format_series}
 use Rattle.dfu_device.specs.declared.objection.Objection.TheVariants.{File as FailsCheck}
 use Rattle.dfu_device.specs.Candidate.{candidate_in}
 use Rattle.dfu_device.specs.Stage.{InAppIdle}
 use Rattle.dfu_device.specs.Pace.{no_pace}
 use Rattle.dfu_device.specs.Setting.{Setting, IsAllowed, of_this_version}
 use Rattle.dfu_device.specs.DeviceView.{DeviceView}
-use Rattle.dfu_sim.specs.LinkView.{Nobody, LinkView, ShowsActive}
+use Rattle.dfu_sim.specs.LinkView.{Nobody, LinkView, BenchMatchesFlash}
 use Rattle.dfu_sim.specs.Play.{Answered}
 use Rattle.dfu_sim.specs.Happening.{Happening, Offers, Uploads, Aborts, Goes, Passes, Resets, Cuts, Refuses, Fate, Pass, Refusing, unharmed}
-use Rattle.dfu_sim.specs.Comes.{Comes}
+use Rattle.dfu_sim.specs.EventResults.{EventResult}
 use Rattle.dfu_sim.specs.declared.fault.LinkFault.{LinkFault}
 use Rattle.dfu_link.specs.Texts.{answer_line, image_line, show_line}
 use Rattle.dfu_link.specs.Words.{lines_of}
-use Rattle.dfu_link.specs.Said.{ConfigLine, TheIds, TheDevice, TheUnit, TheSector, ThePace, TheCapacity, TheImage, TheCheck, EventLine, Offer, Upload, Abort, Go, Time, Reset, Cut, Refuse, Said, Blank, Sets, LimitsTo, Does, GoesOn, Show, Expects}
+use Rattle.dfu_link.specs.LineContent.{ConfigLine, TheIds, TheDevice, TheUnit, TheSector, ThePace, TheCapacity, TheImage, TheCheck, EventLine, Offer, Upload, Abort, Go, Time, Reset, Cut, Refuse, LineContent, Blank, Sets, LimitsTo, Does, GoesOn, Show, Expects}
 use Rattle.dfu_link.specs.Lines.{line_of}
 use Rattle.dfu_link.specs.Expecting.{Expectation, Meets, still}
 
@@ -77,7 +77,7 @@ set s (TheImage bytes) = record s { image = bytes }
 set s (TheCheck bytes) = record s { check = bytes }
 
 -- Settings after a line before the first event line or `show`.
-abbrev pub prepared : Settings → Said → Option Settings
+abbrev pub prepared : Settings → LineContent → Option Settings
 prepared s Blank = Some s
 prepared s (Sets x) = Some (set s x)
 prepared s (LimitsTo actions restarts) = Some (record s { limits = record { actions = actions; restarts = restarts } })
@@ -86,11 +86,11 @@ prepared s said = None
 -- Lines that set, one after the other.
 pub data Prepares : Settings → List (List ℕ) → Settings → Type 0 where
   nothing : {s : Settings} → Prepares s [] s
-  then_prepares : {s t t' : Settings} {lines : List (List ℕ)} (line : List ℕ) {said : Said} →
+  then_prepares : {s t t' : Settings} {lines : List (List ℕ)} (line : List ℕ) {said : LineContent} →
       Prepares s lines t → line_of t.given line ≡ Some said → prepared t said ≡ Some t' → Prepares s (lines ++ line ∷ []) t'
 
 -- An event line, `show` or `expect` is read.
-abbrev pub HasToAct : Option Said → Type 0
+abbrev pub HasToAct : Option LineContent → Type 0
 HasToAct (Some (Does events)) = Unit {0}
 HasToAct (Some GoesOn) = Unit {0}
 HasToAct (Some Show) = Unit {0}
@@ -123,15 +123,15 @@ abbrev pub at_rest : DeviceView → LinkView
 at_rest d = record { device = d; session = Nobody }
 
 -- Bytes begin with these.
-abbrev pub begins_with : (front bytes : List ℕ) → Bool
-begins_with [] bytes = true
-begins_with (x ∷ front) [] = false
-begins_with (x ∷ front) (byte ∷ bytes) = if x == byte then begins_with front bytes else false
+abbrev pub has_front : (front bytes : List ℕ) → Bool
+has_front [] bytes = true
+has_front (x ∷ front) [] = false
+has_front (x ∷ front) (byte ∷ bytes) = if x == byte then has_front front bytes else false
 
 -- A program that takes only images that begin with these bytes has nothing against the image that was taken, or none was.
 abbrev pub is_accepted : (check : List ℕ) → Option (List ℕ) → Bool
 is_accepted check None = true
-is_accepted check (Some taken) = begins_with check taken
+is_accepted check (Some taken) = has_front check taken
 
 -- An action of this fate on a device with such a program: it refuses an image that begins otherwise, if the action closes it.
 abbrev pub checked_fate : (check : List ℕ) → DeviceView → Fate → Fate
@@ -144,11 +144,11 @@ checked check b event = event
 
 -- Events one after the other, if the program takes only images that begin with these bytes, with what they print; after each the image
 -- that the bench shows is the active one of its medium's bytes.
-pub data AllCome (check : List ℕ) : LinkView → List Happening → List ℕ → LinkView → Type 0 where
-  none_comes : {b : LinkView} → AllCome check b [] [] b
+pub data EventsPlayed (check : List ℕ) : LinkView → List Happening → List ℕ → LinkView → Type 0 where
+  none_comes : {b : LinkView} → EventsPlayed check b [] [] b
   then_comes : {b c c' : LinkView} {events : List Happening} {out : List ℕ} {answer : Result Answered LinkFault} (event : Happening) →
-      AllCome check b events out c → Comes c (checked check c event) c' answer → ShowsActive c'
-      → AllCome check b (events ++ event ∷ []) (out ++ answer_line answer) c'
+      EventsPlayed check b events out c → EventResult c (checked check c event) c' answer → BenchMatchesFlash c'
+      → EventsPlayed check b (events ++ event ∷ []) (out ++ answer_line answer) c'
 
 -- Point at which a script is once the device is started: the bytes that FILE means, those with which an image begins that the program
 -- takes, the limits of the next session, the line that is expected next, and the link.
@@ -180,15 +180,15 @@ events_of limits (Refuse why) = Refuses why ∷ []
 
 -- Line k acts like this once the device is started, and its text is as expected. A configuration line has no place there. `go until report`
 -- lets so many actions pass that print nothing, and then one that prints something. `expect` has no place while a line is expected already.
-pub data LineActs (k : ℕ) : Point → Said → List ℕ → Point → Type 0 where
+pub data LineActs (k : ℕ) : Point → LineContent → List ℕ → Point → Type 0 where
   skips : {p : Point} → LineActs k p Blank [] p
   limits_to : {p : Point} {actions restarts : ℕ} → LineActs k p (LimitsTo actions restarts) []
       (record p { limits = record { actions = actions; restarts = restarts } })
-  plays : {p : Point} {events : EventLine} {b : LinkView} {out : List ℕ} → AllCome p.check p.at (events_of p.limits events) out b
+  plays : {p : Point} {events : EventLine} {b : LinkView} {out : List ℕ} → EventsPlayed p.check p.at (events_of p.limits events) out b
       → Meets p.next out → LineActs k p (Does events) out (printed p out b)
   goes_on : {p : Point} {mid b : LinkView} {answer : Result Answered LinkFault} (times : ℕ)
-      → AllCome p.check p.at (replicate times (Goes Pass unharmed)) [] mid → Comes mid (checked p.check mid (Goes Pass unharmed)) b answer
-      → ShowsActive b
+      → EventsPlayed p.check p.at (replicate times (Goes Pass unharmed)) [] mid → EventResult mid (checked p.check mid (Goes Pass unharmed)) b answer
+      → BenchMatchesFlash b
       → answer_line answer ≢ [] → Meets p.next (answer_line answer)
       → LineActs k p GoesOn (answer_line answer) (printed p (answer_line answer) b)
   shows : {p : Point} → Meets p.next (show_line p.at.device)
@@ -199,7 +199,7 @@ pub data LineActs (k : ℕ) : Point → Said → List ℕ → Point → Type 0 w
 -- Lines one after the other, the first of them line k, with what they print.
 pub data LinesRun (k : ℕ) : Point → List (List ℕ) → List ℕ → Point → Type 0 where
   stays : {p : Point} → LinesRun k p [] [] p
-  then_runs : {p q q' : Point} {lines : List (List ℕ)} (line : List ℕ) {said : Said} {out more : List ℕ} →
+  then_runs : {p q q' : Point} {lines : List (List ℕ)} (line : List ℕ) {said : LineContent} {out more : List ℕ} →
       LinesRun k p lines out q → line_of q.given line ≡ Some said → LineActs (k + length lines) q said more q'
       → LinesRun k p (lines ++ line ∷ []) (out ++ more) q'
 

@@ -8,11 +8,11 @@ use Rattle.dfu_host.specs.FaultName.{host_fault_name}
 use Rattle.dfu_host.specs.ReportName.{report_name}
 use Rattle.dfu_host.specs.declared.report.Report.{Report}
 use Rattle.dfu_host.specs.declared.report.Report.TheVariants as report
-use Rattle.dfu_slots.specs.Seen.{image_of}
+use Rattle.dfu_slots.specs.StoreView.{image_of}
 use Rattle.dfu_device.specs.Stage.{state_of, code_of}
 use Rattle.dfu_device.specs.DeviceView.{DeviceView}
 use Rattle.dfu_sim.specs.Play.{Answered}
-use Rattle.dfu_sim.specs.Comes.{shown_as, gave_of}
+use Rattle.dfu_sim.specs.EventResults.{report_of_result, upload_of_result}
 use Rattle.dfu_sim.specs.declared.fault.OfferFault.{OfferFault}
 use Rattle.dfu_sim.specs.declared.fault.OfferFault.TheVariants as offer
 use Rattle.dfu_sim.specs.declared.fault.LinkFault.{LinkFault}
@@ -58,14 +58,14 @@ refusal_line (link.BadOffer fault) = codes "refused BadOffer " ++ offer_fault_na
 refusal_line link.NoMemory = codes "refused NoMemory\n"
 
 -- Text for the result that an event's caller got: the line of its refusal or of its report, or nothing.
-abbrev pub told_line : Result (Option Report) LinkFault → (uploaded : List ℕ) → List ℕ
-told_line (Ok None) uploaded = []
-told_line (Ok (Some r)) uploaded = report_line r uploaded
-told_line (Err fault) uploaded = refusal_line fault
+abbrev pub outcome_line : Result (Option Report) LinkFault → (uploaded : List ℕ) → List ℕ
+outcome_line (Ok None) uploaded = []
+outcome_line (Ok (Some r)) uploaded = report_line r uploaded
+outcome_line (Err fault) uploaded = refusal_line fault
 
 -- Text for the result of an event.
 abbrev pub answer_line : Result Answered LinkFault → List ℕ
-answer_line answer = told_line (shown_as answer) (unwrap_or (gave_of answer) [])
+answer_line answer = outcome_line (report_of_result answer) (unwrap_or (upload_of_result answer) [])
 
 -- The line of an image.
 abbrev pub line_of_image : List ℕ → List ℕ

@@ -4,4 +4,4 @@ pub mod SetupFaults
 pub mod Expected
 pub mod Moving
 pub mod Forming
-pub mod Taken
+pub mod AcceptedImage

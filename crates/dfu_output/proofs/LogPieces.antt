@@ -9,9 +9,9 @@ use Rattle.dfu_conformance.specs.declared.verdict.Departure.{Departure}
 use Rattle.dfu_output.specs.declared.judge.fault.LogFault.{LogFault}
 use Rattle.dfu_output.specs.declared.judge.fault.LogFault.TheVariants.{BadLine, TooLarge, NoMemory, Read, Write}
 use Rattle.dfu_output.specs.judge.Course.{LogCourse, begins, at_first}
-use Rattle.dfu_output.specs.judge.Judging.{CannotGo, CannotTell, LogStops, StopsWith}
+use Rattle.dfu_output.specs.judge.Judging.{CannotJudge, CannotReport, LogStops, StopsWith}
 use Rattle.dfu_output.specs.judge.Texts.{departure_text}
-use Rattle.dfu_output.specs.judge.inside.Going.{JudgingState, IsAt, JudgedText, Going, told_text}
+use Rattle.dfu_output.specs.judge.inside.JudgeState.{JudgingState, IsAt, JudgedText, Going, departure_words}
 
 -- No byte came.
 pub going_first : (interface : ℕ) (old : Option (List ℕ)) (s : JudgingState) → IsAt s [] at_first → Going interface old old [] s
@@ -25,7 +25,7 @@ on_quiet interface old new text c o s out none took = record {
   judged = took.judged;
   at = took.at;
   out = subst (λ (xs : List ℕ). Appends old new xs)
-      (sym (took.out ∙ ap (λ (x : Option Departure). c.out ++ told_text s.lines.number x) none ∙ append-nil c.out)) out;
+      (sym (took.out ∙ ap (λ (x : Option Departure). c.out ++ departure_words s.lines.number x) none ∙ append-nil c.out)) out;
 }
 
 -- A byte came at which a departure was written.
@@ -38,7 +38,7 @@ on_told interface old mid new text c n d o s out told is some took = record {
   at = took.at;
   out = subst (λ (xs : List ℕ). Appends old new xs)
       (ap (λ (k : ℕ). c.out ++ departure_text k d) is
-      ∙ ap (λ (x : Option Departure). c.out ++ told_text s.lines.number x) (sym some) ∙ sym took.out)
+      ∙ ap (λ (x : Option Departure). c.out ++ departure_words s.lines.number x) (sym some) ∙ sym took.out)
       (Appends-trans old mid new c.out (departure_text n d) out told);
 }
 
@@ -55,7 +55,7 @@ broke_after old mid new xs ys told part = record {
 -- A byte came at which a departure wasn't written.
 pub falls_untold : (interface : ℕ) (old mid new : Option (List ℕ)) (text tail : List ℕ) (byte n : ℕ) (d : Departure)
     (o : Option Departure) (s s' : JudgingState) (f : LogFault) (g : Going interface old mid text s)
-    → JudgedText interface (text ++ byte ∷ []) g.course o s' → o ≡ Some d → n ≡ s'.lines.number → CannotTell (departure_text n d) mid new f
+    → JudgedText interface (text ++ byte ∷ []) g.course o s' → o ≡ Some d → n ≡ s'.lines.number → CannotReport (departure_text n d) mid new f
     → LogStops interface old new (text ++ byte ∷ tail) f
 falls_untold interface old mid new text tail byte n d o s s' NoMemory g took some is same = record {
   front = text;
@@ -72,7 +72,7 @@ falls_untold interface old mid new text tail byte n d o s s' Write g took some i
   course = took.next;
   judged = took.judged;
   stops = subst (λ (xs : List ℕ). IsOutInPart old new xs) (ap (λ (k : ℕ). g.course.out ++ departure_text k d) is
-      ∙ ap (λ (x : Option Departure). g.course.out ++ told_text s'.lines.number x) (sym some) ∙ sym took.out)
+      ∙ ap (λ (x : Option Departure). g.course.out ++ departure_words s'.lines.number x) (sym some) ∙ sym took.out)
       (broke_after old mid new g.course.out (departure_text n d) g.out part);
 }
 falls_untold interface old mid new text tail byte n d o s s' (BadLine k why) g took some is why_not = absurd why_not
@@ -80,7 +80,7 @@ falls_untold interface old mid new text tail byte n d o s s' TooLarge g took som
 falls_untold interface old mid new text tail byte n d o s s' Read g took some is why_not = absurd why_not
 
 stops_from : (interface : ℕ) (front : List ℕ) (c : LogCourse) (rest : List ℕ) (old new : Option (List ℕ)) (f : LogFault)
-    → Appends old new c.out → CannotGo interface front c rest f → StopsWith interface front c rest old new f
+    → Appends old new c.out → CannotJudge interface front c rest f → StopsWith interface front c rest old new f
 stops_from interface front c rest old new (BadLine n why) out why_not = (out, why_not)
 stops_from interface front c rest old new TooLarge out why_not = (out, why_not)
 stops_from interface front c rest old new NoMemory out why_not = absurd why_not
@@ -89,7 +89,7 @@ stops_from interface front c rest old new Write out why_not = absurd why_not
 
 -- A byte can't come.
 pub falls_at : (interface : ℕ) (old new : Option (List ℕ)) (text tail : List ℕ) (byte : ℕ) (s : JudgingState) (f : LogFault)
-    (g : Going interface old new text s) → CannotGo interface text g.course (byte ∷ tail) f
+    (g : Going interface old new text s) → CannotJudge interface text g.course (byte ∷ tail) f
     → LogStops interface old new (text ++ byte ∷ tail) f
 falls_at interface old new text tail byte s f g why_not = record {
   front = text;

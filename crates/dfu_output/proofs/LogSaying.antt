@@ -2,10 +2,10 @@
 use Rattle.std.specs.Prelude.{◌≡◌, ℕ, List, Option}
 use Rattle.std.proofs.Common.{subst}
 use Rattle.dfu_conformance.specs.declared.log.Line.{Line}
-use Rattle.dfu_conformance.specs.Line.{LineSays}
+use Rattle.dfu_conformance.specs.Line.{LineMeaning}
 
 -- What is read of a line that is this one, and is this.
-pub says_of : (interface : ℕ) (given text : List ℕ) (o p : Option Line) → given ≡ text → o ≡ p → LineSays interface given o
-    → LineSays interface text p
+pub says_of : (interface : ℕ) (given text : List ℕ) (o p : Option Line) → given ≡ text → o ≡ p → LineMeaning interface given o
+    → LineMeaning interface text p
 says_of interface given text o p same is says =
-    subst (λ (x : Option Line). LineSays interface text x) is (subst (λ (t : List ℕ). LineSays interface t o) same says)
+    subst (λ (x : Option Line). LineMeaning interface text x) is (subst (λ (t : List ℕ). LineMeaning interface t o) same says)

@@ -8,17 +8,17 @@ use Rattle.dfu_conformance.specs.declared.event.LogEvent.{LogEvent}
 use Rattle.dfu_conformance.specs.declared.verdict.Departure.{Departure}
 use Rattle.dfu_conformance.specs.declared.log.Line.{Line}
 use Rattle.dfu_conformance.specs.declared.log.Line.TheVariants as line
-use Rattle.dfu_conformance.specs.Line.{LineSays}
-use Rattle.dfu_conformance.specs.MayAnswer.{CanAnswer, IsHeld, IsHeldPlain}
+use Rattle.dfu_conformance.specs.Line.{LineMeaning}
+use Rattle.dfu_conformance.specs.MayAnswer.{CanAnswer, CandidatesExact, PlainCandidatesExact}
 use Rattle.dfu_conformance.specs.Verdict.{ArePlacesAfter, Departs}
 use Rattle.dfu_output.specs.judge.Course.{LogCourse, goes_on, departs, LineEndLeads, says_event, Judges, goes, ends, course_line_ended, departing, going_on}
 use Rattle.dfu_output.specs.judge.Texts.{is_single}
 use Rattle.dfu_conformance.specs.declared.log.LineFault.{LineFault}
 use Rattle.dfu_output.specs.declared.judge.fault.LogFault.{LogFault}
 use Rattle.dfu_output.specs.declared.judge.fault.LogFault.TheVariants.{BadLine, TooLarge, NoMemory, Read, Write}
-use Rattle.dfu_output.specs.judge.Lines.{LinesState, GoToLine, GoesToLine, is_end, EndsLine, TakesByte, IsBadLine, CannotTake}
-use Rattle.dfu_output.specs.judge.Judging.{CannotGo}
-use Rattle.dfu_output.specs.judge.inside.Going.{JudgingState, IsAt, EventCame, JudgedText}
+use Rattle.dfu_output.specs.judge.Lines.{LinesState, BytesInLine, ByteInLine, is_end, ByteEndsLine, ByteAccepted, IsBadLine, CannotRead}
+use Rattle.dfu_output.specs.judge.Judging.{CannotJudge}
+use Rattle.dfu_output.specs.judge.inside.JudgeState.{JudgingState, IsAt, LogEventResult, JudgedText}
 
 or_none : (x y : Bool) → (x || y) ≡ false → (x ≡ false) × (y ≡ false)
 or_none false y none = (refl, none)
@@ -30,9 +30,9 @@ counted events e n is = omega (arith, is, length-append events (e ∷ []))
 -- An event goes on.
 pub come_on : (s : JudgingState) (w v : List (List ℕ)) (n : ℕ) (text : List ℕ) (c : LogCourse) (e : LogEvent) (at : List Bool)
     → IsAt s text c
-    → IsHeld w (c.events ++ e ∷ []) → CanAnswer 0 (c.since ++ e ∷ []) × IsHeldPlain v (c.since ++ e ∷ [])
+    → CandidatesExact w (c.events ++ e ∷ []) → CanAnswer 0 (c.since ++ e ∷ []) × PlainCandidatesExact v (c.since ++ e ∷ [])
     → ArePlacesAfter 0 (c.since ++ e ∷ []) at → n ≡ s.single + cond (is_single at) 1 0
-    → EventCame text c e None (record s { whole = w; since = v; events = s.events + 1; single = n })
+    → LogEventResult text c e None (record s { whole = w; since = v; events = s.events + 1; single = n })
 come_on s w v n text c e at is held plain places single = record {
   next = going_on c e at;
   comes = goes_on at plain.0 places;
@@ -50,13 +50,13 @@ come_on s w v n text c e at is held plain places single = record {
 
 -- An event departs.
 pub come_off : (s : JudgingState) (w v : List (List ℕ)) (text : List ℕ) (c : LogCourse) (e : LogEvent) (d : Departure) → IsAt s text c
-    → IsHeld w (c.events ++ e ∷ []) → d.event ≡ e → Departs c.since d v
-    → EventCame text c e (Some d) (record s { whole = w; since = v; events = s.events + 1 })
+    → CandidatesExact w (c.events ++ e ∷ []) → d.event ≡ e → Departs c.since d v
+    → LogEventResult text c e (Some d) (record s { whole = w; since = v; events = s.events + 1 })
 come_off s w v text c e d is held same off = record {
   next = departing c d;
   comes = departs d same (subst (λ (x : LogEvent). CanAnswer 0 (c.since ++ x ∷ []) → ⊥) same off.none) off.before;
   at = record {
-    whole = subst (λ (x : LogEvent). IsHeld w (c.events ++ x ∷ [])) (sym same) held;
+    whole = subst (λ (x : LogEvent). CandidatesExact w (c.events ++ x ∷ [])) (sym same) held;
     since = off.anew;
     line = is.line;
     room = is.room;
@@ -68,13 +68,13 @@ come_off s w v text c e d is held same off = record {
 }
 
 -- What was taken at a byte that ended this line, or none.
-pub takes_as : (interface : ℕ) (s t : LinesState) (byte : ℕ) (o p : Option Line) → o ≡ p → TakesByte interface s t byte o
-    → TakesByte interface s t byte p
-takes_as interface s t byte o p same took = subst (λ (x : Option Line). TakesByte interface s t byte x) same took
+pub takes_as : (interface : ℕ) (s t : LinesState) (byte : ℕ) (o p : Option Line) → o ≡ p → ByteAccepted interface s t byte o
+    → ByteAccepted interface s t byte p
+takes_as interface s t byte o p same took = subst (λ (x : Option Line). ByteAccepted interface s t byte x) same took
 
 -- Where a line was ended the state is at its end.
 pub at_end : (interface byte : ℕ) (s : JudgingState) (lines : LinesState) (text : List ℕ) (c : LogCourse) (says : Line) → IsAt s text c
-    → EndsLine interface s.lines lines byte says → IsAt (record s { lines = lines }) (text ++ 10 ∷ []) (course_line_ended c)
+    → ByteEndsLine interface s.lines lines byte says → IsAt (record s { lines = lines }) (text ++ 10 ∷ []) (course_line_ended c)
 at_end interface byte s lines text c says is e = record {
   whole = is.whole;
   since = is.since;
@@ -87,8 +87,8 @@ at_end interface byte s lines text c says is e = record {
 
 -- What is said of the line that was ended.
 pub said : (interface byte : ℕ) (s : JudgingState) (lines : LinesState) (text : List ℕ) (c : LogCourse) (says : Line) → IsAt s text c
-    → EndsLine interface s.lines lines byte says → LineSays interface c.line (Some says)
-said interface byte s lines text c says is e = subst (λ (t : List ℕ). LineSays interface t (Some says)) is.line e.said
+    → ByteEndsLine interface s.lines lines byte says → LineMeaning interface c.line (Some says)
+said interface byte s lines text c says is e = subst (λ (t : List ℕ). LineMeaning interface t (Some says)) is.line e.said
 
 -- What was taken at a byte that is a 0Ah.
 ended_by : (interface byte : ℕ) (text : List ℕ) (c : LogCourse) (o : Option Departure) (s : JudgingState) → byte ≡ 10
@@ -97,8 +97,8 @@ ended_by interface byte text c o s end took = subst (λ (k : ℕ). JudgedText in
 
 -- The end of a line at which an event came.
 pub took_event : (interface byte : ℕ) (s t : JudgingState) (lines : LinesState) (text : List ℕ) (c : LogCourse) (e : LogEvent)
-    (o : Option Departure) → IsAt s text c → Judges interface text c → EndsLine interface s.lines lines byte (line.Came e)
-    → EventCame (text ++ 10 ∷ []) (course_line_ended c) e o t → JudgedText interface (text ++ byte ∷ []) c o t
+    (o : Option Departure) → IsAt s text c → Judges interface text c → ByteEndsLine interface s.lines lines byte (line.Came e)
+    → LogEventResult (text ++ 10 ∷ []) (course_line_ended c) e o t → JudgedText interface (text ++ byte ∷ []) c o t
 took_event interface byte s t lines text c e o is judged end came = ended_by interface byte text c o t end.end (record {
   next = came.next;
   judged = ends judged (says_event e (said interface byte s lines text c (line.Came e) is end) came.comes);
@@ -109,11 +109,11 @@ took_event interface byte s t lines text c e o is judged end came = ended_by int
 -- The end of a line that is passed over.
 pub took_passed : (interface byte : ℕ) (s : JudgingState) (lines : LinesState) (text : List ℕ) (c : LogCourse) (says : Line)
     (o : Option Line)
-    → (LineSays interface c.line (Some says) → LineEndLeads interface c (course_line_ended c)) → IsAt s text c → Judges interface text c
-    → o ≡ Some says → TakesByte interface s.lines lines byte o
+    → (LineMeaning interface c.line (Some says) → LineEndLeads interface c (course_line_ended c)) → IsAt s text c → Judges interface text c
+    → o ≡ Some says → ByteAccepted interface s.lines lines byte o
     → JudgedText interface (text ++ byte ∷ []) c None (record s { lines = lines })
 took_passed interface byte s lines text c says o leads is judged same took =
-    let end : EndsLine interface s.lines lines byte says = takes_as interface s.lines lines byte o (Some says) same took in
+    let end : ByteEndsLine interface s.lines lines byte says = takes_as interface s.lines lines byte o (Some says) same took in
     ended_by interface byte text c None (record s { lines = lines }) end.end (record {
       next = course_line_ended c;
       judged = ends judged (leads (said interface byte s lines text c says is end));
@@ -123,7 +123,7 @@ took_passed interface byte s lines text c says o leads is judged same took =
 
 -- A byte that goes to its line.
 pub kept_byte : (interface byte : ℕ) (s : JudgingState) (lines : LinesState) (text : List ℕ) (c : LogCourse) → IsAt s text c
-    → Judges interface text c → GoesToLine s.lines lines byte → JudgedText interface (text ++ byte ∷ []) c None (record s { lines = lines })
+    → Judges interface text c → ByteInLine s.lines lines byte → JudgedText interface (text ++ byte ∷ []) c None (record s { lines = lines })
 kept_byte interface byte s lines text c is judged g = record {
   next = record c { line = c.line ++ byte ∷ [] };
   judged = goes byte judged g.inner (subst (λ (x : List ℕ). length x < 262158) is.line g.short);
@@ -155,7 +155,7 @@ goes_all interface (byte ∷ bytes) text c judged inner short =
 
 -- Bytes that go to their line.
 pub kept_bytes : (interface : ℕ) (bytes : List ℕ) (s : JudgingState) (lines : LinesState) (text : List ℕ) (c : LogCourse) → IsAt s text c
-    → Judges interface text c → GoToLine s.lines lines bytes → JudgedText interface (text ++ bytes) c None (record s { lines = lines })
+    → Judges interface text c → BytesInLine s.lines lines bytes → JudgedText interface (text ++ bytes) c None (record s { lines = lines })
 kept_bytes interface bytes s lines text c is judged g = record {
   next = record c { line = c.line ++ bytes };
   judged = goes_all interface bytes text c judged g.inner (subst (λ (x : List ℕ). length x + length bytes ≤ 262158) is.line g.short);
@@ -177,7 +177,7 @@ bad_line interface line text rest why same bad = subst (λ (t : List ℕ). IsBad
 
 -- Why a byte isn't taken is why the next byte of the text isn't judged.
 pub cannot_go : (interface : ℕ) (s : JudgingState) (text : List ℕ) (c : LogCourse) (rest : List ℕ) (fault : LogFault) → IsAt s text c
-    → CannotTake interface s.lines rest fault → CannotGo interface text c rest fault
+    → CannotRead interface s.lines rest fault → CannotJudge interface text c rest fault
 cannot_go interface s text c rest (BadLine n why) is (number, bad) = (
   number ∙ ap (λ (k : ℕ). k + 1) is.number,
   bad_line interface s.lines.line c.line rest why is.line bad,

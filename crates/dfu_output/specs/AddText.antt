@@ -1,7 +1,7 @@
 -- Text that `dfu add` writes.
 use Rattle.std.specs.Prelude.{◌⊎◌, ℕ, List, [], ◌∷◌, ◌++◌, Option, IfSome, Result, IsOk, codes}
 use Rattle.std.specs.Fmt.{decimal}
-use Rattle.dfu_suffix.specs.Adding.{Adds, KeepsAtFault}
+use Rattle.dfu_suffix.specs.Adding.{Adds, UnchangedAtFault}
 use Rattle.dfu_wire.specs.declared.ids.Ids.{Ids}
 use Rattle.dfu_suffix.specs.declared.fault.SuffixFault.{SuffixFault}
 use Rattle.dfu_suffix.specs.declared.fault.SuffixFault.TheVariants.{NoMemory}
@@ -18,7 +18,7 @@ wrote_line count = codes "wrote" ++ (codes " " ++ decimal count) ++ 10 ∷ []
 -- file that was made, it says that there was no memory for it.
 abbrev pub WritesAdd : (given : Option (List ℕ)) → Ids → (file written old new : Option (List ℕ)) → Exit → Type 0
 WritesAdd given ids file written old new result =
-    (answer : Result ℕ SuffixFault) × IfSome given (λ all. Adds all ids file written answer) × KeepsAtFault file written answer
+    (answer : Result ℕ SuffixFault) × IfSome given (λ all. Adds all ids file written answer) × UnchangedAtFault file written answer
     × (Wrote old new (line_or_fault wrote_line answer) (exit_or_fault answer) result
     ⊎ (IsOk answer × Wrote old new (fault_line NoMemory) Refused result))
 

@@ -1,6 +1,6 @@
 -- Text that `dfu check` writes.
 use Rattle.std.specs.Prelude.{◌⊎◌, ℕ, List, Option, IfSome, Result, IsOk}
-use Rattle.dfu_suffix.specs.Checking.{Checks, FindsFile, UnlessRead}
+use Rattle.dfu_suffix.specs.Checking.{Checks, FindingsOfFile, UnlessRead}
 use Rattle.dfu_suffix.specs.declared.findings.Findings.{Findings}
 use Rattle.dfu_suffix.specs.declared.summary.Summary.{Summary}
 use Rattle.dfu_suffix.specs.declared.fault.SuffixFault.{SuffixFault}
@@ -25,4 +25,4 @@ HasCheckFault given fault =
 -- The findings are of all that the reader gave, unless the answer that has this fault is Read.
 abbrev pub HasFindings : Option (List ℕ) → Option SuffixFault → Findings → Type 0
 HasFindings given fault findings =
-    (answer : Result Summary SuffixFault) × IfSome given (λ all. UnlessRead answer (FindsFile all findings)) × IsFaultOf answer fault
+    (answer : Result Summary SuffixFault) × IfSome given (λ all. UnlessRead answer (FindingsOfFile all findings)) × IsFaultOf answer fault

@@ -1,6 +1,6 @@
 pub mod AddText
 pub mod AnswerLines
-pub mod Asked
+pub mod FormatOptions
 pub mod CheckText
 pub mod Configuration
 pub mod Exits

@@ -3,7 +3,7 @@ use Rattle.std.specs.Prelude.{◌≡◌, ◌≢◌, ◌⊎◌, ◌<◌, ◌%◌,
 use Rattle.hex.specs.Hex.{decode_of}
 use Rattle.hex.specs.declared.error.FromHexError.{FromHexError}
 use Rattle.dfu_wire.specs.Functional.{IsFunctional, FirstFunctionalFault}
-use Rattle.dfu_wire.specs.Request.{Asks}
+use Rattle.dfu_wire.specs.Request.{SetupRequest}
 use Rattle.dfu_wire.specs.Setup.{IsSetup}
 use Rattle.dfu_wire.specs.State.{state_byte}
 use Rattle.dfu_wire.specs.Status.{StatusFields, IsStatus, FirstStatusFault}
@@ -42,7 +42,7 @@ ReadsStateBytes bytes (Err e) = ⊥
 -- The bytes are these eight of a setup, which asks for this at any interface; or this is their first fault: they are
 -- fewer than eight, or more.
 abbrev pub ReadsSetup : List ℕ → Result AskedBy WireFault → Type 0
-ReadsSetup bytes (Ok s) = (length bytes ≡ 8) × IsSetup s.setup bytes × Asks (record s.setup { index = 0 }) s.asked
+ReadsSetup bytes (Ok s) = (length bytes ≡ 8) × IsSetup s.setup bytes × SetupRequest (record s.setup { index = 0 }) s.asked
 ReadsSetup bytes (Err wire_fault.Short) = length bytes < 8
 ReadsSetup bytes (Err wire_fault.Long) = 8 < length bytes
 ReadsSetup bytes (Err e) = ⊥

@@ -7,5 +7,5 @@ abbrev pub plain : ℕ → ℕ
 plain c = if is_control c then 63 else c
 
 -- So many characters of a text are shown, at most.
-unfoldable pub shown_of : ℕ → List ℕ → List ℕ
-shown_of most text = encode_utf8_all (map plain (take most (chars text)))
+unfoldable pub visible_of : ℕ → List ℕ → List ℕ
+visible_of most text = encode_utf8_all (map plain (take most (chars text)))

@@ -3,7 +3,7 @@
 ghost use Rattle.std.specs.Prelude.{◌≡◌, ◌∷◌, [], IfOk, MatchOption, chars};
 ghost use Rattle.std.specs.String.{string_bytes};
 ghost use Rattle.dfu_output.specs.ReasonLines.{name_before, reason_line};
-ghost use Rattle.dfu_output.specs.ShownText.{plain, shown_of};
+ghost use Rattle.dfu_output.specs.ShownText.{plain, visible_of};
 
 use crate::numbers::{field, push};
 use std::alloc::{AllocError, Global};
@@ -32,7 +32,7 @@ fn first_of(text: &str) -> Option<(char, &str)>
 /// The text with `?` for each control character, so that it is one line and no terminal obeys it; at most
 /// 4,096 characters of it.
 fn shown(alloc: Global, text: &str) -> Result<String, AllocError>
-    ensures { IfOk result (λ t. string_bytes t ≡ shown_of 4096 text.now) }
+    ensures { IfOk result (λ t. string_bytes t ≡ visible_of 4096 text.now) }
 {
     let mut line = String::new(alloc);
     let mut rest = text;

@@ -1,7 +1,7 @@
 -- Facts that a link keeps whose program heeds a check.
 use Rattle.std.proofs.Common.{◌≡◌, ◌⊎◌, inl, inr, ℕ, Bool, true, List, [], ◌∷◌, Result, refl, sym, ap, ◌∙◌, subst}
 use Rattle.dfu_slots.specs.Image.{Active}
-use Rattle.dfu_slots.specs.Seen.{SlotsState, image_of}
+use Rattle.dfu_slots.specs.StoreView.{SlotsState, image_of}
 use Rattle.dfu_device.specs.Setting.{Setting}
 use Rattle.dfu_device.specs.DeviceView.{profile}
 use Rattle.dfu_sim.specs.declared.fault.LinkFault.{LinkFault}
@@ -9,7 +9,7 @@ use Rattle.dfu_sim.specs.Happening.{Happening, Offers, Uploads, Aborts, Goes, Pa
 use Rattle.dfu_sim.specs.LinkView.{LinkView, WorldView}
 use Rattle.dfu_sim.specs.Play.{Answered}
 use Rattle.dfu_sim.specs.Bytes.{link_of}
-use Rattle.dfu_sim.specs.Comes.{Means, Comes, refuses, happens, HasCome}
+use Rattle.dfu_sim.specs.EventResults.{Means, EventResult, refuses, happens, WorldEventResult}
 use Rattle.dfu_sim.specs.Headline.{WasOffered, IsWaiting}
 use Rattle.dfu_sim.specs.Accepting.{MayPlace, LinkStep, HeedsStep, image_on, LinkAccepts, OffersAccepted}
 use Rattle.dfu_sim.proofs.Placing.{IsFree}
@@ -32,7 +32,7 @@ may_as s Resets e m may = subst MayPlace m may
 may_as s Cuts e m may = subst MayPlace m may
 may_as s (Refuses why) e m may = subst MayPlace m may
 
-comes_placed : (h : Happening) (b b' : LinkView) (told : Result Answered LinkFault) → Comes b h b' told → OnBench h b b'
+comes_placed : (h : Happening) (b b' : LinkView) (told : Result Answered LinkFault) → EventResult b h b' told → OnBench h b b'
 comes_placed h b b' told (refuses why) = inl refl
 comes_placed h b b' told (happens {event = e} {answer = answer} means play) =
     elim (play_placed (profile b.device) (link_of b) (link_of b') e answer (bytes_show b b' e answer play).play) [
@@ -40,7 +40,7 @@ comes_placed h b b' told (happens {event = e} {answer = answer} means play) =
       | inr placed ↦ inr (may_as b.device.config h e means placed.0, placed.1, placed.2)
     ]
 
-step_accepts : (check : List ℕ → Bool) (w : WorldView) (s : LinkStep) → HasCome w s.happening s.after s.told → HeedsStep check w s
+step_accepts : (check : List ℕ → Bool) (w : WorldView) (s : LinkStep) → WorldEventResult w s.happening s.after s.told → HeedsStep check w s
     → (image_on s.after ≡ image_on w) ⊎ (check (image_on s.after) ≡ true)
 step_accepts check w s come heeds = elim (comes_placed s.happening w.bench s.after.bench come.answer come.comes) [
   | inl same ↦ inl same

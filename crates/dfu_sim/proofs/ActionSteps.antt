@@ -6,7 +6,7 @@ use Rattle.dfu_host.specs.Blocks.{blocks, first}
 use Rattle.dfu_host.specs.Phases.{Goal, ToLoad, ToFetch, ToVerify, ToCompare, Task, Phase, Deed}
 use Rattle.dfu_host.specs.Table.{deed, host_row, goal_after_reset}
 use Rattle.dfu_host.specs.Host.{HostState, IsOn}
-use Rattle.dfu_sim.specs.Session.{Machine, Live, Loading, IsFirst, SaysInPlace, Begins, begins_not, takes, installs, MayDrop, ends_not, drops, Kind, AGo, MachineStep, goes}
+use Rattle.dfu_sim.specs.Session.{Machine, Live, Loading, IsFirst, IsInPlaceReport, Begins, begins_not, takes, installs, MayDrop, ends_not, drops, Kind, AGo, MachineStep, goes}
 use Rattle.dfu_sim.specs.Happening.{Fate}
 use Rattle.dfu_sim.specs.Delivery.{Delivery, delivery_of}
 use Rattle.dfu_sim.specs.Opening.{task_for}
@@ -60,11 +60,11 @@ pub record Simulated (c : Profile) (offers : List (List ℕ)) (w : Link) (up : L
   pub sound : IsSound offers' r.link.device.stage
   pub offer : IsLiveOffer offers' (live_of r.link.session)
   pub fact : SessionFact c r.link.device r.link.session
-  pub done : SaysInPlace r.answer.report → r.link.device.stage ≡ InAppIdle
+  pub done : IsInPlaceReport r.answer.report → r.link.device.stage ≡ InAppIdle
 
 module _ (c : Profile) (sized : 0 < c.transfer) (offers : List (List ℕ)) where
   -- Result of an action by its fate: the view moves as it may, and the facts hold after what is heard.
-  record Comes (g : Goal) (phase : Phase) (s : Situation) (up : List ℕ) (d : Passed) : Type 0 where
+  record EventResult (g : Goal) (phase : Phase) (s : Situation) (up : List ℕ) (d : Passed) : Type 0 where
     moves : Moved c.transfer (shown offers s.image (pending_of s.stage) (live_goal g) up)
         (shown offers d.device.image (pending_of d.device.stage) (live_goal g) up)
     sound : IsSound offers d.device.stage
@@ -72,7 +72,7 @@ module _ (c : Profile) (sized : 0 < c.transfer) (offers : List (List ℕ)) where
 
   comes_quietly : (g : Goal) (phase : Phase) (s : Situation) (up : List ℕ) (d : Passed)
       → ((x : Phase) (y : Situation) → GoalFact c g x y → GoalFact c (goal_after_reset g) x y)
-      → GoesQuietly c offers g (host_row (task_for c g) phase) s d → Comes g phase s up d
+      → GoesQuietly c offers g (host_row (task_for c g) phase) s d → EventResult g phase s up d
   comes_quietly g phase s up d f q = record {
     moves = moved_quiet (live_goal g) up q.quiet.moves;
     sound = q.quiet.sound;
@@ -81,7 +81,7 @@ module _ (c : Profile) (sized : 0 < c.transfer) (offers : List (List ℕ)) where
 
   comes : (s : Situation) (g : Goal) (phase : Phase) (up : List ℕ) (delivery : Delivery) (l k : Luck) → IsSound offers s.stage
       → IsLiveOffer offers (live_goal g) → IsOn phase → GoalFact c g phase s → HasBlocks c g
-      → Comes g phase s up (acted c s (deed (task_for c g) phase) delivery l k)
+      → EventResult g phase s up (acted c s (deed (task_for c g) phase) delivery l k)
   comes s (ToLoad p) phase up delivery l k q o on f some =
       let d = acted c s (deed (task_for c (ToLoad p)) phase) delivery l k in
       let x = go_download c offers p some sized phase s on f q o delivery l k in
@@ -95,7 +95,7 @@ module _ (c : Profile) (sized : 0 < c.transfer) (offers : List (List ℕ)) where
   comes s (ToVerify p) phase up delivery l k q o on f some =
       let d = acted c s (deed (task_for c (ToLoad p)) phase) delivery l k in
       let x = go_download c offers p some sized phase s on f q o delivery l k in
-      subst (λ (z : Deed). Comes (ToVerify p) phase s up (acted c s z delivery l k)) (sym (same_deed c p phase)) (record {
+      subst (λ (z : Deed). EventResult (ToVerify p) phase s up (acted c s z delivery l k)) (sym (same_deed c p phase)) (record {
         moves = moved up x.moves;
         sound = x.sound;
         next = if_heard d.heard (λ heard. verify_next c p d.device phase heard) x.next;

@@ -3,12 +3,12 @@ use Rattle.std.proofs.Common.{◌≡◌, ℕ, Bool, true, false, List, Option, S
 use Rattle.dfu_wire.specs.declared.setups.Setup.{Setup}
 use Rattle.dfu_wire.specs.declared.requests.Request.{Request as Asked}
 use Rattle.dfu_wire.specs.Setup.{IsSetup}
-use Rattle.dfu_wire.specs.Request.{Asks}
-use Rattle.dfu_wire.specs.OneRequest.{Asks-one}
+use Rattle.dfu_wire.specs.Request.{SetupRequest}
+use Rattle.dfu_wire.specs.OneRequest.{SetupRequest-one}
 use Rattle.dfu_wire.specs.OneValue.{IsSetup-one}
 use Rattle.dfu_slots.specs.Medium.{Fuse}
 use Rattle.dfu_slots.specs.Medium.Fuse.{Whole}
-use Rattle.dfu_slots.specs.Seen.{image_of, shows_same}
+use Rattle.dfu_slots.specs.StoreView.{image_of, same_visible}
 use Rattle.dfu_device.specs.declared.answer.Answer.{Answer}
 use Rattle.dfu_device.specs.declared.objection.Objection.{Objection}
 use Rattle.dfu_device.specs.Stage.{Profile, Reply}
@@ -16,9 +16,9 @@ use Rattle.dfu_device.specs.Table.{Plan, error, plan, objection_code}
 use Rattle.dfu_device.specs.Outcome.{Situation, Luck, Works, Outcome, outcome, handled, elapsed}
 use Rattle.dfu_device.specs.DeviceView.{DeviceView, profile, situation}
 use Rattle.dfu_device.specs.Rows.{meant, asked_length, Answers, Done as RowDone, is_close, IsCloseSetup, ClosesDownload, Handles}
-use Rattle.dfu_device.specs.Came.{Came, came, row_of, time_came}
+use Rattle.dfu_device.specs.PlanOutcomes.{PlanOutcome, came, row_of, times_have_outcomes}
 use Rattle.dfu_host.specs.Phases.{Deed, Send, Wait, Reset, Done, Heard, Waited, WasReset}
-use Rattle.dfu_host.specs.Wire.{IsAsked}
+use Rattle.dfu_host.specs.Wire.{IsSetupOf}
 use Rattle.dfu_sim.specs.declared.delivery.Response.{Response}
 use Rattle.dfu_sim.specs.declared.delivery.Handled.{Handled}
 use Rattle.dfu_sim.specs.declared.delivery.Handled.TheVariants.{Late}
@@ -26,18 +26,18 @@ use Rattle.dfu_sim.specs.declared.delivery.MediumFault.{MediumFault}
 use Rattle.dfu_sim.specs.declared.delivery.MediumFault.TheVariants.{CutsPower}
 use Rattle.dfu_sim.specs.Delivery.{Delivery}
 use Rattle.dfu_sim.specs.Play.{heard_as, remembered, reached, heard_back, heard_over, over, waits_for, slipped, plan_by, acted}
-use Rattle.dfu_sim.specs.Bytes.{armed, bus_was_reset, HearsAnswer, HearsBack, TakesSetup, ReachesDevice, unseen, once, again, late, came_back, ended_back, Sends, Waits, Slips, ResetsBus, Acts}
+use Rattle.dfu_sim.specs.Bytes.{armed, bus_was_reset, HeardOfAnswer, HeardOfResponse, SetupResult, ReachesDevice, unseen, once, again, late, response_if_delivered, response_if_powered, Sends, Waits, Slips, ResetsBus, Acts}
 use Rattle.dfu_sim.proofs.Fates.{all_remembered}
 use Rattle.dfu_sim.proofs.Replies.{IsHosts, HostsDeed, plan_heard, served}
 use Rattle.dfu_sim.proofs.Closing.{by_table, by_objection, host_closes, host_open}
 
 -- The fuse of the medium is no part of what is shown.
 pub armed_profile : (w : DeviceView) (fuse : Fuse) → profile (armed w fuse) ≡ profile w
-armed_profile w fuse = λ k. record (profile w) { capacity = (shows_same w.slots fuse w.slots.held w.slots.put_end).room k }
+armed_profile w fuse = λ k. record (profile w) { capacity = (same_visible w.slots fuse w.slots.held w.slots.put_end).room k }
 
 -- To arm a medium changes nothing in a device's situation.
 pub armed_situation : (w : DeviceView) (fuse : Fuse) → situation (armed w fuse) ≡ situation w
-armed_situation w fuse = λ k. record { image = (shows_same w.slots fuse w.slots.held w.slots.put_end).image k; stage = w.stage }
+armed_situation w fuse = λ k. record { image = (same_visible w.slots fuse w.slots.held w.slots.put_end).image k; stage = w.stage }
 
 -- The device went through what its situation goes through by the table; with a medium that is not armed, at the luck that it works.
 pub record Went (fuse : Fuse) (c : Profile) (s : Situation) (d : Deed) (delivery : Delivery) (w' : DeviceView) (heard : Heard)
@@ -52,24 +52,24 @@ pub record Went (fuse : Fuse) (c : Profile) (s : Situation) (d : Deed) (delivery
 
 -- The response is heard, or nothing, or the restart.
 heard_by_delivery : (d : Deed) (harming : MediumFault) (back : Bool) (came : Response) (out : List ℕ) (heard x : Heard)
-    → ((h : Heard) → HearsBack d came out h → (room : Bool) × (h ≡ remembered x room))
-    → HearsBack d (ended_back harming (came_back back came)) out heard
+    → ((h : Heard) → HeardOfResponse d came out h → (room : Bool) × (h ≡ remembered x room))
+    → HeardOfResponse d (response_if_powered harming (response_if_delivered back came)) out heard
     → (room : Bool) × (heard ≡ remembered (heard_over harming (heard_back back x)) room)
 heard_by_delivery d CutsPower back came out heard x f h = (true, h)
 heard_by_delivery d harming true came out heard x f h = f heard h
 heard_by_delivery d harming false came out heard x f h = (true, h)
 
 -- A setup that closes a download asks for a DNLOAD of no bytes, whichever request it is read as.
-close_read : (setup : List ℕ) (p : Setup) (q : Asked) → IsSetup p setup → Asks p q → IsCloseSetup setup → is_close q ≡ true
+close_read : (setup : List ℕ) (p : Setup) (q : Asked) → IsSetup p setup → SetupRequest p q → IsCloseSetup setup → is_close q ≡ true
 close_read setup p q reads asks (p2, q2, reads2, asks2, close) =
     let same : p2 ≡ p = IsSetup-one p2 p setup reads2 reads in
-    subst (λ (r : Asked). is_close r ≡ true) (Asks-one p q2 q (subst (λ (x : Setup). Asks x q2) same asks2) asks) close
+    subst (λ (r : Asked). is_close r ≡ true) (SetupRequest-one p q2 q (subst (λ (x : Setup). SetupRequest x q2) same asks2) asks) close
 
 -- The plan of a request on a device whose program refuses the image that it closes, or refuses none.
 abbrev pub plan_on : Asked → (body : List ℕ) → Option Objection → DeviceView → Plan
 plan_on q body x w = plan_by x (profile w) (image_of w.slots) w.stage (meant q body)
 
-module _ (q : Asked) (setup body : List ℕ) (is : IsHosts q body) (asked : IsAsked q setup) where
+module _ (q : Asked) (setup body : List ℕ) (is : IsHosts q body) (asked : IsSetupOf q setup) where
   closed_plan : (why : Objection) (w : DeviceView) → ClosesDownload setup w → plan_on q body (Some why) w ≡ error (objection_code why)
   closed_plan why w (close, may) =
       by_objection why (profile w) (image_of w.slots) w.stage (meant q body)
@@ -88,7 +88,7 @@ module _ (q : Asked) (setup body : List ℕ) (is : IsHosts q body) (asked : IsAs
       rw (served asked.setup q body is asked.asks) at (row_of asked.setup q setup body w a out w' asked.fields asked.asks h)
 
   -- And so does one that the program of the device may refuse.
-  pub takes_by : (x : Option Objection) (w w' : DeviceView) (a : Answer) (out : List ℕ) → TakesSetup x setup body w a out w'
+  pub takes_by : (x : Option Objection) (w w' : DeviceView) (a : Answer) (out : List ℕ) → SetupResult x setup body w a out w'
       → RowDone (plan_on q body x w) (asked_length q) w a out w'
   takes_by None w w' a out h = goes_by w w' a out h
   takes_by (Some why) w w' a out (inl (stalls, none, closing, same)) =
@@ -96,14 +96,14 @@ module _ (q : Asked) (setup body : List ℕ) (is : IsHosts q body) (asked : IsAs
   takes_by (Some why) w w' a out (inr (other, h)) =
       subst (λ (p : Plan). RowDone p (asked_length q) w a out w') (sym (open_plan why w other)) (goes_by w w' a out h)
 
-  takes_came : (x : Option Objection) (w w' : DeviceView) (a : Answer) (out : List ℕ) → TakesSetup x setup body w a out w'
-      → Came (plan_on q body x w) (asked_length q) w a out w'
+  takes_came : (x : Option Objection) (w w' : DeviceView) (a : Answer) (out : List ℕ) → SetupResult x setup body w a out w'
+      → PlanOutcome (plan_on q body x w) (asked_length q) w a out w'
   takes_came x w w' a out h = came (plan_on q body x w) (asked_length q) w a out w' (takes_by x w w' a out h)
 
   -- Meaning that was heard of a row.
   heard_by : (x : Option Objection) (w w' : DeviceView) (a : Answer) (out : List ℕ) (heard : Heard)
-      (y : Came (plan_on q body x w) (asked_length q) w a out w')
-      → HearsAnswer (Send q body) a out heard
+      (y : PlanOutcome (plan_on q body x w) (asked_length q) w a out w')
+      → HeardOfAnswer (Send q body) a out heard
       → (room : Bool) × (heard ≡ remembered (heard_as (outcome (image_of w.slots) (plan_on q body x w) y.luck).reply) room)
   heard_by x w w' a out heard y h =
       plan_heard x q body (profile w) (image_of w.slots) w.stage y.luck a out heard is
@@ -114,7 +114,7 @@ module _ (q : Asked) (setup body : List ℕ) (is : IsHosts q body) (asked : IsAs
     first : Luck
     second : Luck
     device : (reached (profile w) (situation w) (meant q body) (plan_on q body x w) how first second).device ≡ situation w'
-    hears : (heard : Heard) → HearsBack (Send q body) came out heard → (room : Bool) × (heard ≡ remembered (reached (profile w)
+    hears : (heard : Heard) → HeardOfResponse (Send q body) came out heard → (room : Bool) × (heard ≡ remembered (reached (profile w)
         (situation w) (meant q body) (plan_on q body x w) how first second).heard room)
     fixed : profile w' ≡ profile w
     lucky : w.slots.medium.fuse ≡ Whole → (first ≡ Works) × (second ≡ Works)
@@ -156,7 +156,7 @@ module _ (q : Asked) (setup body : List ℕ) (is : IsHosts q body) (asked : IsAs
       }
   reaches_go {x = x} (late {w = w} {w' = w'} {a = a} {out = out} {ms = ms} mid h e) =
       let y = takes_came x w mid a out h in
-      let z = time_came ms mid w' e in
+      let z = times_have_outcomes ms mid w' e in
       record {
         first = y.luck;
         second = z.luck;
@@ -183,7 +183,7 @@ module _ (q : Asked) (setup body : List ℕ) (is : IsHosts q body) (asked : IsAs
 
 waits_go : (ms : ℕ) (delivery : Delivery) (w w' : DeviceView) (heard : Heard) → Waits ms delivery w w' heard
     → Went w.slots.medium.fuse (profile w) (situation w) (Wait ms) delivery w' heard
-waits_go ms delivery w w' heard (e, h) = let y = time_came (waits_for delivery.handling ms) w w' e in
+waits_go ms delivery w w' heard (e, h) = let y = times_have_outcomes (waits_for delivery.handling ms) w w' e in
     record {
       first = y.luck;
       second = Works;
@@ -202,7 +202,7 @@ record Slid (fuse : Fuse) (c : Profile) (s : Situation) (how : Handled) (w' : De
   lucky : fuse ≡ Whole → luck ≡ Works
 
 slips_go : (how : Handled) (w w' : DeviceView) → Slips how w w' → Slid w.slots.medium.fuse (profile w) (situation w) how w'
-slips_go (Late ms) w w' e = let y = time_came ms w w' e in
+slips_go (Late ms) w w' e = let y = times_have_outcomes ms w w' e in
     record { luck = y.luck; device = ap (λ (o : Outcome). o.after) y.same; fixed = y.fixed; lucky = λ whole. (y.unarmed whole).0 }
 slips_go how w w' e = record { luck = Works; device = sym (ap situation e); fixed = ap profile e; lucky = λ whole. refl }
 

@@ -7,10 +7,10 @@ use Rattle.dfu_host.specs.Phases.{Goal, ToLoad, ToFetch, ToVerify, ToCompare}
 use Rattle.dfu_sim.specs.Session.{Machine, IsOneOf}
 use Rattle.dfu_sim.specs.Play.{Link}
 use Rattle.dfu_sim.specs.LinkView.{Session, Nobody, Hosted, LinkView}
-use Rattle.dfu_sim.specs.LinkAgreement.{IsSound, Agrees, NothingClosed, SomeAgrees, FreshAgrees, LinkAgreesOn, SessionsGoOn}
+use Rattle.dfu_sim.specs.LinkAgreement.{IsSound, Agrees, NothingClosed, SomeAgrees, FreshAgrees, LinkAgreesOn, SessionsContinue}
 use Rattle.dfu_sim.specs.Agreement.{intake_of, pending_in, live_goal, live_of, IsShutOffer, IsLiveOffer, AgreesOn}
 use Rattle.dfu_sim.specs.Bytes.{link_of}
-use Rattle.dfu_sim.specs.Understood.{ImageShown}
+use Rattle.dfu_sim.specs.Understood.{BenchImageIsActive}
 
 -- Some machine agrees with each link.
 
@@ -111,7 +111,7 @@ agrees_on b up m shows agrees = record {
 }
 
 -- If a bench agrees, its link does: no image but the one that is shown is active.
-pub link_agrees : ImageShown → (b : LinkView) (up : List ℕ) (m : Machine) → AgreesOn b up m → Agrees (link_of b) up m
+pub link_agrees : BenchImageIsActive → (b : LinkView) (up : List ℕ) (m : Machine) → AgreesOn b up m → Agrees (link_of b) up m
 link_agrees shown b up m agrees = record {
   cur = (shown b).1 m.cur agrees.active;
   pending = agrees.pending;
@@ -122,7 +122,7 @@ link_agrees shown b up m agrees = record {
 }
 
 -- The session machine goes on from one world to the next.
-pub sessions_go_on : SessionsGoOn
+pub sessions_go_on : SessionsContinue
 sessions_go_on w m none agrees = record {
   active = active_fused w.bench.device.slots.medium Whole m.cur agrees.active;
   pending = agrees.pending;

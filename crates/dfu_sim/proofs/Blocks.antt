@@ -19,7 +19,7 @@ use Rattle.dfu_sim.specs.Delivery.{Delivery}
 use Rattle.dfu_sim.specs.Opening.{task_for}
 use Rattle.dfu_sim.specs.Play.{Passed, reached, heard_back, ends_by, sent_by, sent}
 use Rattle.dfu_sim.specs.LinkAgreement.{pending_of, IsSound}
-use Rattle.dfu_sim.specs.Fact.{AtBlock, AllTaken, Fact}
+use Rattle.dfu_sim.specs.Fact.{AtBlock, WholePayloadAccepted, Fact}
 use Rattle.dfu_sim.proofs.Quiet.{Quiet, stays, forgets, quiet_on}
 use Rattle.dfu_sim.proofs.Closing.{by_table, block_closes, close_cases}
 use Rattle.dfu_sim.proofs.Fates.{IfHeard, if_some}
@@ -164,7 +164,7 @@ module _ (c : Profile) (sized : 0 < c.transfer) (offers : List (List ℕ)) (p : 
       (block_goes n i stage b g h delivery l k)
 
   -- The phase that closes the download goes well by each delivery.
-  pub go_close : (num : ℕ) (i : List ℕ) (stage : Stage) → AllTaken p stage → IsSound offers stage → IsOneOf p offers
+  pub go_close : (num : ℕ) (i : List ℕ) (stage : Stage) → WholePayloadAccepted p stage → IsSound offers stage → IsOneOf p offers
       → (delivery : Delivery) (l k : Luck) → let s : Situation = record { image = i; stage = stage } in
       GoesWell c offers p Close s (sent c s (Dnload num []) delivery l k)
   go_close num i (InDownloadIdle taken number) w h o delivery l k =

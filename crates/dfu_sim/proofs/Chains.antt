@@ -14,10 +14,10 @@ use Rattle.dfu_sim.specs.Play.{Answered, given}
 use Rattle.dfu_sim.specs.Agreement.{AgreesOn}
 use Rattle.dfu_sim.proofs.Saying.{only_offered}
 use Rattle.dfu_sim.specs.LinkView.{LinkView, WorldView, linked}
-use Rattle.dfu_sim.specs.Giving.{GivesOrKeeps}
+use Rattle.dfu_sim.specs.UploadResults.{UploadOrUnchanged}
 use Rattle.dfu_sim.specs.Happening.{Happening, Resets, happening}
 use Rattle.dfu_sim.specs.Refusing.{IsRefused}
-use Rattle.dfu_sim.specs.Comes.{Comes, refuses, happens, shown_as, gave_of, HasCome}
+use Rattle.dfu_sim.specs.EventResults.{EventResult, refuses, happens, report_of_result, upload_of_result, WorldEventResult}
 use Rattle.dfu_sim.specs.Following.{IsFollowed}
 use Rattle.dfu_sim.specs.Sure.{IsSame, IsSureEvent}
 use Rattle.dfu_sim.specs.Running.{Runs, rests, comes, happenings, IsStop, StopsAt}
@@ -25,10 +25,10 @@ use Rattle.dfu_sim.specs.FollowingRun.{AreOfKinds, IsFollowedRun}
 
 -- Result of one event that was not refused.
 pub record Stepped (w : WorldView) (h : Happening) (w' : WorldView) (report : Option Report) : Type 0 where
-  pub play : HasCome w h w' (Ok report)
+  pub play : WorldEventResult w h w' (Ok report)
   pub legal : (m : Machine) → AgreesOn w.bench w.up m → IsFollowed w h w' report m
   pub sure : IsSureEvent w.bench h w'.bench report
-  pub gives : GivesOrKeeps w w' (Ok report)
+  pub gives : UploadOrUnchanged w w' (Ok report)
 
 -- And of one after the other.
 pub data Chain : WorldView → List Happening → List Report → WorldView → Type 0 where
@@ -90,15 +90,15 @@ chain_follows {b = b} (one_more {mid = mid} {hs = hs} {reports = reports} s more
 
 -- Refusals.
 
-refused_of : {b b' : LinkView} {h : Happening} {answer : Result Answered LinkFault} (up : List ℕ) (why : LinkFault) → Comes b h b' answer
-    → ◌≡◌ {A = Result (Option Report) LinkFault} (Err why) (shown_as answer)
-    → (linked b' (given (gave_of answer) up) ≡ linked b up) × IsRefused b h why
+refused_of : {b b' : LinkView} {h : Happening} {answer : Result Answered LinkFault} (up : List ℕ) (why : LinkFault) → EventResult b h b' answer
+    → ◌≡◌ {A = Result (Option Report) LinkFault} (Err why) (report_of_result answer)
+    → (linked b' (given (upload_of_result answer) up) ≡ linked b up) × IsRefused b h why
 refused_of {b = b} {h = h} up why (refuses {fault = f} x) e = let same : f ≡ why = cc in
     (refl, subst (λ (y : LinkFault). IsRefused b h y) same x)
 refused_of up why (happens means play) e = absurd cc
 
 -- An event that is refused changes nothing, and its fault is the one whose condition holds.
-pub refused_by : {b b' : WorldView} {h : Happening} {why : LinkFault} → HasCome b h b' (Err why) → (b' ≡ b) × IsRefused b.bench h why
+pub refused_by : {b b' : WorldView} {h : Happening} {why : LinkFault} → WorldEventResult b h b' (Err why) → (b' ≡ b) × IsRefused b.bench h why
 refused_by {b = b} {b' = b'} {why = why} x =
     let r = refused_of b.up why x.comes x.told in
     (ap (λ (up : List ℕ). linked b'.bench up) x.up_is ∙ r.0, r.1)
@@ -139,7 +139,7 @@ stopped_full events n h chain =
 -- A run that stops at an event that is refused.
 pub stopped_refused : {b mid b' : WorldView} {reports : List Report} {why : LinkFault} (events : List GivenEvent) (n : ℕ) (d : GivenEvent)
     → n < length events → Ran b events n reports mid
-    → HasCome mid (happening (get_or events n d)) b' (Err why) → Stopped b (happenings events) why n reports b'
+    → WorldEventResult mid (happening (get_or events n d)) b' (Err why) → Stopped b (happenings events) why n reports b'
 stopped_refused {b = b} {mid = mid} {reports = reports} {why = why} events n d h chain x =
     let r = refused_by x in
     subst (λ (z : WorldView). Stopped b (happenings events) why n reports z) (sym r.0) (record {

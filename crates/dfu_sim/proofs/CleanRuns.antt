@@ -15,7 +15,7 @@ use Rattle.dfu_sim.specs.Opening.{goal_of_purpose, opened}
 use Rattle.dfu_sim.specs.Play.{Link, Answered, silent, Played, played}
 use Rattle.dfu_sim.specs.LinkView.{LinkView, WorldView}
 use Rattle.dfu_sim.specs.Bytes.{link_of}
-use Rattle.dfu_sim.specs.CleanRun.{report_of_purpose, CanDo, PassesTo, Quietly, here, there, resting, InstalledAfter}
+use Rattle.dfu_sim.specs.CleanRun.{report_of_purpose, CanServe, PassesTo, Quietly, here, there, resting, InstalledAfter}
 use Rattle.dfu_sim.specs.Refusing.{IsOffered}
 use Rattle.dfu_sim.specs.Sure.{IsHarmless, IsAsPlayed, IsSureEvent}
 use Rattle.dfu_sim.specs.CleanSteps.{SureSteps, no_step, one_step, StepsInstall}
@@ -106,12 +106,12 @@ last_pass {b = b} {c = c} {before = before} (suc n) (one_step {mid = mid} {repor
 
 -- A device to which a file is offered can do what the session asks for.
 can_do : (purpose : Purpose) {s : Setting} {file payload : List ℕ} (room : ℕ) → IsOffered s purpose file payload
-    → CanDo purpose (profile_of s room)
+    → CanServe purpose (profile_of s room)
 can_do Install room offered = can_download offered
 can_do Verify room offered = (can_download offered, can_upload offered)
 
 -- The offer: the passes of a clean run are left.
-pub record HasBegun (b : LinkView) (purpose : Purpose) (payload : List ℕ) (mid : LinkView) (report : Option Report) : Type 0 where
+pub record SessionOpened (b : LinkView) (purpose : Purpose) (payload : List ℕ) (mid : LinkView) (report : Option Report) : Type 0 where
   pub before : Link
   pub quiet : Quietly (profile b.device) (link_of mid) (clean_passes purpose b.device.config payload - 1) before
   pub last : PassesTo (profile b.device) before (resting payload) (record { report = Some (report_of_purpose purpose); gave = None })
@@ -121,7 +121,7 @@ pub record HasBegun (b : LinkView) (purpose : Purpose) (payload : List ℕ) (mid
 -- After an offer that can be installed its session has begun, and nothing is reported.
 pub has_begun : (b mid : LinkView) (report : Option Report) (purpose : Purpose) (file : List ℕ) (limits : Limits) (payload : List ℕ)
     → CanInstall b purpose file limits payload
-    → IsSureEvent b (Offers purpose file limits) mid report → HasBegun b purpose payload mid report
+    → IsSureEvent b (Offers purpose file limits) mid report → SessionOpened b purpose payload mid report
 has_begun b mid report purpose file limits payload can s =
     let c : Profile = profile b.device in
     let n : ℕ = clean_passes purpose b.device.config payload in

@@ -19,7 +19,7 @@ use Rattle.dfu_sim.specs.declared.fault.LinkFault.TheVariants as fault
 use Rattle.dfu_sim.specs.Running.{IsStop}
 use Rattle.dfu_sim.proofs.Refusals.{offered_not_bad}
 use Rattle.dfu_sim.proofs.Chains.{Stopped, stop_why}
-use Rattle.dfu_sim.specs.CleanSteps.{SureSteps, no_step, one_step, StepsStand}
+use Rattle.dfu_sim.specs.CleanSteps.{SureSteps, no_step, one_step, CleanStepsSucceed}
 use Rattle.dfu_sim.proofs.CleanRuns.{sure_chain, pass, quiet_passes, has_begun}
 
 -- With no session passes lead nowhere.
@@ -102,7 +102,7 @@ stopped_clean {w = w} {w' = w'} {at = at} {reports = reports} s purpose file lim
     (subst (λ (hs : List Happening). SureSteps w.bench (take at hs) reports w'.bench) is (sure_chain s.chain)) s.runs.why
 
 -- No step of a clean run is refused.
-pub steps_stand : StepsStand
+pub steps_stand : CleanStepsSucceed
 steps_stand b b' purpose file limits payload count at reports next more why can most steps next_is refused =
     let x = clean_stop purpose file limits payload count at can most next_is steps (stop_why b' next why refused) in
     never_full b' next (subst (λ (f : LinkFault). IsRefused b' next f) x.0 refused)

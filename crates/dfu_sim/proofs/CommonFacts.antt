@@ -7,10 +7,10 @@ use Rattle.dfu_host.specs.declared.report.Report.{Report}
 use Rattle.dfu_host.specs.declared.report.Report.TheVariants.{Installed, Aborted, Refused}
 use Rattle.dfu_host.specs.Phases.{Goal, ToLoad, ToFetch, ToVerify, ToCompare, Phase, Find, Over}
 use Rattle.dfu_host.specs.Table.{work_start}
-use Rattle.dfu_host.specs.CommonPhases.{IsCommon, CommonHolds}
+use Rattle.dfu_host.specs.CommonPhases.{IsCommon, CommonInvariant}
 use Rattle.dfu_sim.specs.Opening.{task_for}
 use Rattle.dfu_sim.specs.Session.{PromisesNothing}
-use Rattle.dfu_sim.specs.Fact.{IsInApp, AtBlock, EndsAs, Fetches, GoalFact, HasBlocks}
+use Rattle.dfu_sim.specs.Fact.{IsInApp, AtBlock, ReportMeaning, Fetches, GoalFact, HasBlocks}
 use Rattle.dfu_sim.proofs.Tells.{Tells, ToldBy}
 
 module _ (c : Profile) where
@@ -30,7 +30,7 @@ module _ (c : Profile) where
 
   -- The facts of a session with this goal, of this device, are such as hold after the common phases.
   abbrev pub CommonFacts : Goal → Situation → Type 0
-  CommonFacts g d = CommonHolds (task_for c g) (λ phase. GoalFact c g phase d) (λ heard. ToldBy heard d.stage)
+  CommonFacts g d = CommonInvariant (task_for c g) (λ phase. GoalFact c g phase d) (λ heard. ToldBy heard d.stage)
 
   goal_begins : (g : Goal) → HasBlocks c g → (d : Situation) → Tells DfuIdle d.stage → GoalFact c g (work_start g) d
   goal_begins ToFetch some d t = (omega arith, fetch_begins d.image d.stage t)
@@ -38,7 +38,7 @@ module _ (c : Profile) where
   goal_begins (ToLoad p) some d t = (some, load_begins p d.stage t)
   goal_begins (ToVerify p) some d t = (some, load_begins p d.stage t)
 
-  ends_plain : (p : List ℕ) (d : Situation) (report : Report) → PromisesNothing report → EndsAs c p d IsInApp report
+  ends_plain : (p : List ℕ) (d : Situation) (report : Report) → PromisesNothing report → ReportMeaning c p d IsInApp report
   ends_plain p d Installed h = elim h [ ]
   ends_plain p d report h = search
 

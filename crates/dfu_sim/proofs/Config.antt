@@ -16,7 +16,7 @@ use Rattle.dfu_sim.specs.declared.delivery.MediumFault.TheVariants.{CutsPower}
 use Rattle.dfu_sim.specs.Delivery.{Delivery, delivery_of}
 use Rattle.dfu_sim.specs.Happening.{Happening, Goes, Passes}
 use Rattle.dfu_sim.specs.Play.{waits_for, Answered}
-use Rattle.dfu_sim.specs.Bytes.{fuse_of, armed, bus_was_reset, TakesSetup, ReachesDevice, unseen, once, again, late, Slips, Acts, device_left_by, HappensOnBench}
+use Rattle.dfu_sim.specs.Bytes.{fuse_of, armed, bus_was_reset, SetupResult, ReachesDevice, unseen, once, again, late, Slips, Acts, device_after_action, HappensOnBench}
 use Rattle.dfu_sim.specs.LinkView.{LinkView}
 use Rattle.dfu_sim.proofs.DoneOnce.{done_ends}
 
@@ -27,7 +27,7 @@ handles_config {body = body} {out = out} {w = w} {w' = w'} {a = a} (handled_as p
 elapses_config : (ms : ℕ) (w w' : DeviceView) → Elapses ms w w' → w'.config ≡ w.config
 elapses_config ms w w' h = (done_ends (time_plan (profile w) w.stage ms) 0 w answer.Ack [] w' h).config
 
-takes_config : (x : Option Objection) (setup body out : List ℕ) (w w' : DeviceView) (a : Answer) → TakesSetup x setup body w a out w'
+takes_config : (x : Option Objection) (setup body out : List ℕ) (w w' : DeviceView) (a : Answer) → SetupResult x setup body w a out w'
     → w'.config ≡ w.config
 takes_config None setup body out w w' a h = handles_config h
 takes_config (Some why) setup body out w w' a (inl (stalls, none, closing, same)) = ap (λ (x : DeviceView). x.config) same
@@ -50,7 +50,7 @@ acts_config (Wait ms) f w w' heard h = elapses_config (waits_for f.handling ms) 
 acts_config Reset f w w' heard h = slips_config f.handling (bus_was_reset w) w' h.0
 acts_config (IsDone report) f w w' heard h = elim h [ ]
 
-after_config : (harming : MediumFault) (w : DeviceView) → (device_left_by harming w).config ≡ w.config
+after_config : (harming : MediumFault) (w : DeviceView) → (device_after_action harming w).config ≡ w.config
 after_config CutsPower w = refl
 after_config harming w = refl
 

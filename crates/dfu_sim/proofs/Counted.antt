@@ -16,8 +16,8 @@ use Rattle.dfu_sim.specs.LinkView.{Session, Nobody, Hosted, LinkView}
 use Rattle.dfu_sim.specs.Fact.{SessionFact}
 use Rattle.dfu_sim.specs.Bytes.{HappensOnBench, HostActs}
 use Rattle.dfu_device.specs.DeviceView.{DeviceView}
-use Rattle.dfu_sim.specs.Comes.{ComesWith, GivesWithUploaded}
-use Rattle.dfu_sim.specs.Standing.{SendsBytes, IsCountedIn}
+use Rattle.dfu_sim.specs.EventResults.{BytesMatchReport, BytesOnlyWithUploaded}
+use Rattle.dfu_sim.specs.LinkInvariant.{SendsBytes, IsCountedIn}
 
 -- Bytes are given only with Uploaded, and then fewer than 65,535 blocks of them.
 abbrev pub FitsIn : (t : ℕ) → Option Report → Option (List ℕ) → Type 0
@@ -76,7 +76,7 @@ aborted_counted : (session : Session) → IsCountedIn session → IsCountedIn (s
 aborted_counted Nobody c = tt
 aborted_counted (Hosted h) c = aborted_in_counted h h.phase refl c
 
-fits_whole : (t : ℕ) (report : Option Report) (gave : Option (List ℕ)) → FitsIn t report gave → ComesWith report gave
+fits_whole : (t : ℕ) (report : Option Report) (gave : Option (List ℕ)) → FitsIn t report gave → BytesMatchReport report gave
 fits_whole t (Some Uploaded) (Some bytes) fits = tt
 fits_whole t (Some Uploaded) None fits = elim fits [ ]
 fits_whole t report (Some bytes) fits = elim fits [ ]
@@ -84,12 +84,12 @@ fits_whole t report None fits = tt
 
 -- Bytes come only with Uploaded.
 pub took_whole : (h : HostState) (heard : Heard) → SendsBytes (Hosted h) → IsCountedIn (Hosted h)
-    → GivesWithUploaded (Ok (took h heard).answer)
+    → BytesOnlyWithUploaded (Ok (took h heard).answer)
 took_whole h heard some c = let answer = (took h heard).answer in
     fits_whole h.task.transfer answer.report answer.gave (took_fits h heard some c)
 
 -- The answer of a session to a restart gives bytes only with Uploaded.
-pub told_whole : (session : Session) → SendsBytes session → IsCountedIn session → GivesWithUploaded (Ok (notify_restart session).answer)
+pub told_whole : (session : Session) → SendsBytes session → IsCountedIn session → BytesOnlyWithUploaded (Ok (notify_restart session).answer)
 told_whole Nobody some c = tt
 told_whole (Hosted h) some c = took_whole h Restarted some c
 

@@ -1,7 +1,7 @@
 -- A plan that is carried out twice from one device: there is one reply, and the devices are the same.
 use Rattle.std.proofs.Common.{◌≡◌, inl, inr, ℕ, List, ◌∷◌, [], length, refl, sym, ap, ◌∙◌, subst}
 use Rattle.dfu_slots.specs.Medium.Fuse.{Whole}
-use Rattle.dfu_slots.specs.Seen.{SlotsState, image_of, Call, Commit, Ending, AllWorked, BrokenBy, Called}
+use Rattle.dfu_slots.specs.StoreView.{SlotsState, image_of, Call, Commit, Ending, AllWorked, BrokenBy, Called}
 use Rattle.dfu_slots.specs.OneWrite.{IsKnown}
 use Rattle.dfu_slots.specs.Determined.{SameStore, called_one, called_same_end}
 use Rattle.dfu_device.specs.declared.answer.Answer.{Answer}

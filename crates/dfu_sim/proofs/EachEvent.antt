@@ -9,7 +9,7 @@ use Rattle.dfu_host.specs.Phases.{ToFetch, Phase, Find, GiveUp, Over, OverUpload
 use Rattle.dfu_host.specs.Host.{HostState, IsOn, aborted_in}
 use Rattle.dfu_sim.specs.declared.offering.Purpose.{Purpose}
 use Rattle.dfu_sim.specs.declared.offering.Purpose.TheVariants.{Install, Verify}
-use Rattle.dfu_sim.specs.Session.{Machine, Live, NoOne, Loading, SaysReport, says_not, AnOffer, ARestart, MachineStep, offered, uploads, aborts, restarts, refuses}
+use Rattle.dfu_sim.specs.Session.{Machine, Live, NoOne, Loading, ReportStep, says_not, AnOffer, ARestart, MachineStep, offered, uploads, aborts, restarts, refuses}
 use Rattle.dfu_sim.specs.Happening.{Happening, Offers, Uploads, Aborts, Goes, Passes, Resets, Cuts, Refuses}
 use Rattle.dfu_sim.specs.Opening.{goal_of_purpose}
 use Rattle.dfu_sim.specs.Play.{kind_of, Link, Answered, silent, given, Played, took, restarted_to, played, MayHappen, Play}
@@ -41,7 +41,7 @@ module _ (c : Profile) (offers : List (List ℕ)) where
       (restarted_to (record { image = s.image; stage = next }) session) offers
   restart_simulated s next Nobody up n q o f =
       record {
-        step = restarts (subst (λ r. SaysReport c.tolerant (shown offers s.image None NoOne up) None (shown offers s.image r NoOne up))
+        step = restarts (subst (λ r. ReportStep c.tolerant (shown offers s.image None NoOne up) None (shown offers s.image r NoOne up))
             (sym n) says_not) tt;
         sound = q;
         offer = tt;
@@ -52,7 +52,7 @@ module _ (c : Profile) (offers : List (List ℕ)) where
       let taken = took h Restarted in
       let t = restart_taken c offers (record { image = s.image; stage = next }) h up f.on f.task_is o f.some in
       record {
-        step = restarts (subst (λ r. SaysReport c.tolerant (shown offers s.image r (live_goal h.task.goal) up) taken.answer.report
+        step = restarts (subst (λ r. ReportStep c.tolerant (shown offers s.image r (live_goal h.task.goal) up) taken.answer.report
             (shown offers s.image (pending_of next) (live_of taken.session) (given taken.answer.gave up))) n t.says)
             (restart_plain c offers h f.on);
         sound = q;

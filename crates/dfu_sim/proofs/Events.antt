@@ -26,9 +26,9 @@ use Rattle.dfu_sim.specs.Play.{Answered, given, silent, Took, notify_restart, to
 use Rattle.dfu_sim.specs.LinkView.{Session, Nobody, Hosted, LinkView, linked}
 use Rattle.dfu_sim.specs.Bytes.{was_refused, HostActsArmed, HappensOnBench, BytePlay}
 use Rattle.dfu_sim.specs.Refusing.{first_offer_fault, IsOffered, IsBadOffer, IsRefused}
-use Rattle.dfu_sim.specs.Comes.{Means, refuses, happens, GivesWithUploaded, HasCome, HasComeAlone}
-use Rattle.dfu_sim.specs.Standing.{session_of, given_by, bench_of, link_state, SendsBytes, IsCountedIn}
-use Rattle.dfu_sim.specs.inside.Acting.{ended, HasBegun}
+use Rattle.dfu_sim.specs.EventResults.{Means, refuses, happens, BytesOnlyWithUploaded, WorldEventResult, WorldEventAlone}
+use Rattle.dfu_sim.specs.LinkInvariant.{session_of, given_by, bench_of, link_state, SendsBytes, IsCountedIn}
+use Rattle.dfu_sim.specs.inside.Acting.{ended, SessionOpened}
 use Rattle.dfu_sim.proofs.Counted.{took_whole, told_whole}
 
 -- An event that may come with a session and without one may come.
@@ -37,19 +37,19 @@ any_session Nobody h none live = none
 any_session (Hosted k) h none live = live k
 
 -- An event that is refused changes nothing.
-pub refused_comes : (b : LinkView) (h : Happening) (why : LinkFault) → IsRefused b h why → HasComeAlone b h b (Err why)
+pub refused_comes : (b : LinkView) (h : Happening) (why : LinkFault) → IsRefused b h why → WorldEventAlone b h b (Err why)
 refused_comes b h why is up = record { answer = Err why; comes = refuses is; whole = tt; up_is = refl; told = refl }
 
 -- An event that is not refused, with its answer.
 pub event_comes : {b b' : LinkView} {h : Happening} {up up' : List ℕ} {report : Option Report} (event : Happening) (answer : Answered)
-    → Means b.device.config h event → BytePlay b event b' answer → GivesWithUploaded (Ok answer) → up' ≡ given answer.gave up
-    → report ≡ answer.report → HasCome (linked b up) h (linked b' up') (Ok report)
+    → Means b.device.config h event → BytePlay b event b' answer → BytesOnlyWithUploaded (Ok answer) → up' ≡ given answer.gave up
+    → report ≡ answer.report → WorldEventResult (linked b up) h (linked b' up') (Ok report)
 event_comes event answer means play whole kept says =
     record { answer = Ok answer; comes = happens {event = event} means play; whole = whole; up_is = kept; told = ap Ok says }
 
 -- Time that passes.
 pub time_comes : (ms : ℕ) (w w' : DeviceView) (host gave : Option HostState) → w.slots.medium.fuse ≡ Whole → Elapses ms w w'
-    → HasCome (link_state w host gave) (Passes ms) (link_state w' host gave) (Ok None)
+    → WorldEventResult (link_state w host gave) (Passes ms) (link_state w' host gave) (Ok None)
 time_comes ms w w' host gave e row = event_comes (Passes ms) silent refl (record {
   allowed = any_session (session_of host) (Passes ms) tt (λ k. tt);
   unarmed = e;
@@ -59,7 +59,7 @@ time_comes ms w w' host gave e row = event_comes (Passes ms) silent refl (record
 -- The program refuses the image that was closed, if one was.
 pub refusal_comes : (why : Objection) (w w' : DeviceView) (host gave : Option HostState) → w.slots.medium.fuse ≡ Whole
     → w' ≡ was_refused why w
-    → HasCome (link_state w host gave) (Refuses why) (link_state w' host gave) (Ok None)
+    → WorldEventResult (link_state w host gave) (Refuses why) (link_state w' host gave) (Ok None)
 refusal_comes why w w' host gave e row = event_comes (Refuses why) silent refl (record {
   allowed = any_session (session_of host) (Refuses why) tt (λ k. tt);
   unarmed = e;
@@ -73,7 +73,7 @@ pub restart_comes : (h : Happening) (w w' : DeviceView) (host host' gave gave' :
     → HappensOnBench h (bench_of w host) (bench_of w' host') (notify_restart (session_of host)).answer
     → given_by gave' ≡ given (notify_restart (session_of host)).answer.gave (given_by gave)
     → report ≡ (notify_restart (session_of host)).answer.report
-    → HasCome (link_state w host gave) h (link_state w' host' gave') (Ok report)
+    → WorldEventResult (link_state w host gave) h (link_state w' host' gave') (Ok report)
 restart_comes h w w' host host' gave gave' report means none live sized counted e row kept says =
     event_comes h (notify_restart (session_of host)).answer means
     (record { allowed = any_session (session_of host) h none live; unarmed = e; happens = row })
@@ -85,7 +85,7 @@ pub go_comes : (fate : Fate) (harm : Harm) (w w' : DeviceView) (h h' : HostState
     → SendsBytes (Hosted h) → IsCountedIn (Hosted h) → w.slots.medium.fuse ≡ Whole → HostActsArmed h (delivery_of fate) harm w w' h'
     → session_of host' ≡ (ended (Hosted h')).session → given_by gave' ≡ given (ended (Hosted h')).answer.gave (given_by gave)
     → report ≡ (ended (Hosted h')).answer.report
-    → HasCome (link_state w (Some h) gave) (Goes fate harm) (link_state w' host' gave') (Ok report)
+    → WorldEventResult (link_state w (Some h) gave) (Goes fate harm) (link_state w' host' gave') (Ok report)
 go_comes fate harm w w' h h' host' gave gave' report sized counted e gone session kept says =
     let same : ended (Hosted h') ≡ took h gone.acted.heard = ap (λ (x : HostState). settled x x.phase) gone.acted.same in
     event_comes (Goes fate harm) (took h gone.acted.heard).answer refl (record {
@@ -104,7 +104,7 @@ go_comes fate harm w w' h h' host' gave gave' report sized counted e gone sessio
 
 -- An action while no session is live.
 pub go_refused : (f : Fate) (harm : Harm) (w : DeviceView) (gave : Option HostState)
-    → HasCome (link_state w None gave) (Goes f harm) (link_state w None gave) (Err fault.NoHost)
+    → WorldEventResult (link_state w None gave) (Goes f harm) (link_state w None gave) (Err fault.NoHost)
 go_refused f harm w gave = refused_comes (bench_of w None) (Goes f harm) fault.NoHost refl (given_by gave)
 
 -- There is no first of these faults, so it is not one of them.
@@ -161,20 +161,20 @@ can_upload offered = (offered_so offered).gives refl
 -- An event that can't come while a session is live.
 pub busy_comes : (h : Happening) (w : DeviceView) (host : Option HostState)
     → ((k : HostState) → IsRefused (bench_of w (Some k)) h fault.HostBusy) → is_some host ≡ true
-    → HasComeAlone (bench_of w host) h (bench_of w host) (Err fault.HostBusy)
+    → WorldEventAlone (bench_of w host) h (bench_of w host) (Err fault.HostBusy)
 busy_comes h w (Some k) busy e = refused_comes (bench_of w (Some k)) h fault.HostBusy (busy k)
 busy_comes h w None busy e = absurd cc
 
 -- An event that is refused while no session is live.
 pub idle_refused : (h : Happening) (why : LinkFault) (w : DeviceView) (host : Option HostState) → is_some host ≡ false
-    → IsRefused (bench_of w None) h why → HasComeAlone (bench_of w host) h (bench_of w host) (Err why)
+    → IsRefused (bench_of w None) h why → WorldEventAlone (bench_of w host) h (bench_of w host) (Err why)
 idle_refused h why w None e is = refused_comes (bench_of w None) h why is
 idle_refused h why w (Some k) e is = absurd cc
 
 -- An event with which a session begins.
 pub begins_comes : (h event : Happening) (w : DeviceView) (host : Option HostState) (k : HostState) → is_some host ≡ false
     → w.slots.medium.fuse ≡ Whole → Means w.config h event → MayHappen Nobody event
-    → HappensOnBench event (bench_of w None) (bench_of w (Some k)) silent → HasComeAlone (bench_of w host) h (bench_of w (Some k)) (Ok None)
+    → HappensOnBench event (bench_of w None) (bench_of w (Some k)) silent → WorldEventAlone (bench_of w host) h (bench_of w (Some k)) (Ok None)
 begins_comes h event w None k n e means allowed row up =
     event_comes event silent means (record { allowed = allowed; unarmed = e; happens = row }) tt refl refl
 begins_comes h event w (Some j) k n e means allowed row up = absurd cc
@@ -182,8 +182,8 @@ begins_comes h event w (Some j) k n e means allowed row up = absurd cc
 -- An offer with which a session begins.
 pub offer_comes : (purpose : Purpose) (file : List ℕ) (limits : Limits) (w : DeviceView) (host : Option HostState) (h : HostState)
     → is_some host ≡ false
-    → w.slots.medium.fuse ≡ Whole → HasBegun w.config purpose file limits h
-    → HasComeAlone (bench_of w host) (Offers purpose file limits) (bench_of w (Some h)) (Ok None)
+    → w.slots.medium.fuse ≡ Whole → SessionOpened w.config purpose file limits h
+    → WorldEventAlone (bench_of w host) (Offers purpose file limits) (bench_of w (Some h)) (Ok None)
 offer_comes purpose file limits w host h n e begun =
     begins_comes (Offers purpose file limits) (Offers purpose begun.content.payload limits) w host h n e
     (begun.content.payload, begun.offered, refl) (bytes_of begun.offered)
@@ -222,7 +222,7 @@ pub offer_begins : (s : Setting) (purpose : Purpose) (file : List ℕ) (limits :
     (h : HostState)
     → f ≡ s.functional → ids ≡ s.ids → Found file content
     → ((why : HostFault) → (◌≡◌ {A = Result HostState HostFault} (Ok h) (Err why)) ↔ (first_offer_fault purpose content f ids ≡ Some why))
-    → h ≡ started f (goal_of_purpose purpose content.payload) limits → HasBegun s purpose file limits h
+    → h ≡ started f (goal_of_purpose purpose content.payload) limits → SessionOpened s purpose file limits h
 offer_begins s purpose file limits content f ids h e k found none is =
     let taken : first_offer_fault purpose content s.functional s.ids ≡ None =
     subst (λ (x : Functional). first_offer_fault purpose content x s.ids ≡ None) e

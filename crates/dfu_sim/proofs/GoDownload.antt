@@ -16,7 +16,7 @@ use Rattle.dfu_sim.specs.declared.delivery.Handled.{Handled}
 use Rattle.dfu_sim.specs.Opening.{task_for}
 use Rattle.dfu_sim.specs.Play.{Passed, waits_for, slipped, sent, acted}
 use Rattle.dfu_sim.specs.LinkAgreement.{IsSound}
-use Rattle.dfu_sim.specs.Fact.{IsDfuIdle, IsInApp, EndsAs, Fact}
+use Rattle.dfu_sim.specs.Fact.{IsDfuIdle, IsInApp, ReportMeaning, Fact}
 use Rattle.dfu_sim.proofs.Quiet.{IsPolite}
 use Rattle.dfu_sim.proofs.Tells.{ToldBy, Asks}
 use Rattle.dfu_sim.proofs.Kept.{fact_time}
@@ -45,15 +45,15 @@ module _ (c : Profile) (offers : List (List ℕ)) (p : List ℕ) (some : 0 < len
   reset_in_place s InDfuIdle h = h
   reset_in_place s stage h = elim h.1 [ ]
 
-  reset_ends : (s : Situation) (stage : Stage) (report : Report) → EndsAs c p (record { image = s.image; stage = stage }) IsDfuIdle report
-      → EndsAs c p (record { image = s.image; stage = reset_stage stage }) IsInApp report
+  reset_ends : (s : Situation) (stage : Stage) (report : Report) → ReportMeaning c p (record { image = s.image; stage = stage }) IsDfuIdle report
+      → ReportMeaning c p (record { image = s.image; stage = reset_stage stage }) IsInApp report
   reset_ends s stage Installed h = let x = reset_in_place s stage (h.1, h.2) in (h.0, x.0, x.1)
   reset_ends s stage Verified h = reset_in_place s stage h
   reset_ends s stage report h = h
 
   -- A session that ends in dfuIDLE ends in appIDLE after the last reset, whatever time slips in.
-  pub last_ends : (s : Situation) (report : Report) (how : Handled) (l : Luck) → EndsAs c p s IsDfuIdle report
-      → EndsAs c p (slipped c (was_reset s) how l) IsInApp report
+  pub last_ends : (s : Situation) (report : Report) (how : Handled) (l : Luck) → ReportMeaning c p s IsDfuIdle report
+      → ReportMeaning c p (slipped c (was_reset s) how l) IsInApp report
   last_ends s report how l h = slipped_fact c offers p (Over report) s how l (reset_ends s s.stage report h)
 
   passes : (phase : Phase) (s : Situation) (ms : ℕ) (delivery : Delivery) (l : Luck) → Fact c p phase s

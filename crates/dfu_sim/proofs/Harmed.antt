@@ -1,7 +1,7 @@
 -- An action in which a write is harmed has one result.
 use Rattle.std.proofs.Common.{◌≡◌, ℕ, Bool, true, List, [], Option, refl, sym, ap, ◌∙◌, subst}
 use Rattle.dfu_wire.specs.declared.requests.Request.{Request as Asked}
-use Rattle.dfu_slots.specs.Seen.{image_of}
+use Rattle.dfu_slots.specs.StoreView.{image_of}
 use Rattle.dfu_slots.specs.OneWrite.{IsKnown}
 use Rattle.dfu_device.specs.declared.answer.Answer.{Answer}
 use Rattle.dfu_device.specs.declared.answer.Answer.TheVariants as answer
@@ -13,7 +13,7 @@ use Rattle.dfu_device.specs.Rows.{asked_length}
 use Rattle.dfu_host.specs.Phases.{Deed, Send, Wait, Reset, Done as IsDone, Heard, Waited, WasReset, Restarted}
 use Rattle.dfu_host.specs.Table.{deed}
 use Rattle.dfu_host.specs.Host.{HostState}
-use Rattle.dfu_host.specs.Wire.{IsAsked}
+use Rattle.dfu_host.specs.Wire.{IsSetupOf}
 use Rattle.dfu_sim.specs.declared.delivery.Response.{Response}
 use Rattle.dfu_sim.specs.declared.delivery.Response.TheVariants as response
 use Rattle.dfu_sim.specs.declared.delivery.Handled.{Handled}
@@ -24,8 +24,8 @@ use Rattle.dfu_sim.specs.Delivery.{delivery_of}
 use Rattle.dfu_sim.specs.Happening.{Fate, CutIn, Fail, Lie, Refusing, Harm, Happening}
 use Rattle.dfu_sim.specs.LinkView.{Hosted, LinkView}
 use Rattle.dfu_sim.specs.Play.{Answered, took, heard_as, remembered, heard_over, waits_for}
-use Rattle.dfu_sim.specs.Bytes.{fuse_of, armed, bus_was_reset, HearsBack, TakesSetup, ReachesDevice, once, Sends, Slips, Acts, device_left_by, NextAction, HappensOnBench}
-use Rattle.dfu_sim.specs.Comes.{happens}
+use Rattle.dfu_sim.specs.Bytes.{fuse_of, armed, bus_was_reset, HeardOfResponse, SetupResult, ReachesDevice, once, Sends, Slips, Acts, device_after_action, NextAction, HappensOnBench}
+use Rattle.dfu_sim.specs.EventResults.{happens}
 use Rattle.dfu_sim.specs.OneAnswer.{SameDevice, AreOne, HarmsAWrite, OneResult}
 use Rattle.dfu_sim.proofs.Fates.{all_remembered}
 use Rattle.dfu_sim.proofs.DoneOnce.{same_device, powered_same, disarmed_same, DoneOnce, done_once}
@@ -45,13 +45,13 @@ one_heard x same e f =
 
 -- A request that comes once: there is one answer.
 reached_once : {x : Option Objection} {setup body : List ℕ} {w w' : DeviceView} {came : Response} {out : List ℕ}
-    → ReachesDevice x setup body Once w came out w' → (a : Answer) × (came ≡ response.Answered a) × TakesSetup x setup body w a out w'
+    → ReachesDevice x setup body Once w came out w' → (a : Answer) × (came ≡ response.Answered a) × SetupResult x setup body w a out w'
 reached_once (once {a = a} h) = (a, refl, h)
 
 module _ (q : Asked) (body : List ℕ) (is : IsHosts q body) (w : DeviceView) (known : IsKnown w.slots.medium.fuse)
     (x : Option Objection) where
-  taken_once : (setup setup2 : List ℕ) (w' v' : DeviceView) (a b : Answer) (out other : List ℕ) → IsAsked q setup → IsAsked q setup2
-      → TakesSetup x setup body w a out w' → TakesSetup x setup2 body w b other v'
+  taken_once : (setup setup2 : List ℕ) (w' v' : DeviceView) (a b : Answer) (out other : List ℕ) → IsSetupOf q setup → IsSetupOf q setup2
+      → SetupResult x setup body w a out w' → SetupResult x setup2 body w b other v'
       → DoneOnce (plan_on q body x w) (asked_length q) w w' v' a b out other
   taken_once setup setup2 w' v' a b out other asked asked2 h k =
       done_once (plan_on q body x w) (asked_length q) w w' v' a b out other known
@@ -59,9 +59,9 @@ module _ (q : Asked) (body : List ℕ) (is : IsHosts q body) (w : DeviceView) (k
 
   -- A request whose answer comes back: one thing is heard of it.
   answered_once : (setup setup2 : List ℕ) (w' v' : DeviceView) (heard heard2 : Heard) (came came2 : Response) (out out2 : List ℕ)
-      → IsAsked q setup → IsAsked q setup2 → ReachesDevice x setup body Once w came out w' →
+      → IsSetupOf q setup → IsSetupOf q setup2 → ReachesDevice x setup body Once w came out w' →
       ReachesDevice x setup2 body Once w came2 out2 v'
-      → HearsBack (Send q body) came out heard → HearsBack (Send q body) came2 out2 heard2 → ActedOnce w' v' heard heard2
+      → HeardOfResponse (Send q body) came out heard → HeardOfResponse (Send q body) came2 out2 heard2 → ActedOnce w' v' heard heard2
   answered_once setup setup2 w' v' heard heard2 came came2 out out2 asked asked2 h k says says2 =
       let a = reached_once h in
       let b = reached_once k in
@@ -70,13 +70,13 @@ module _ (q : Asked) (body : List ℕ) (is : IsHosts q body) (w : DeviceView) (k
         device = y.device;
         hears = heard_as (outcome (image_of w.slots) (plan_on q body x w) y.luck).reply;
         first = plan_heard x q body (profile w) (image_of w.slots) w.stage y.luck a.0 out heard is y.first
-            (subst (λ (c : Response). HearsBack (Send q body) c out heard) a.1 says);
+            (subst (λ (c : Response). HeardOfResponse (Send q body) c out heard) a.1 says);
         second = plan_heard x q body (profile w) (image_of w.slots) w.stage y.luck b.0 out2 heard2 is y.second
-            (subst (λ (c : Response). HearsBack (Send q body) c out2 heard2) b.1 says2);
+            (subst (λ (c : Response). HeardOfResponse (Send q body) c out2 heard2) b.1 says2);
       }
 
   sends_as : (fate : Fate) (setup setup2 : List ℕ) (w' v' : DeviceView) (heard heard2 : Heard) → HarmsAWrite (delivery_of fate).harming
-      → IsAsked q setup → IsAsked q setup2 → Sends q setup body (record (delivery_of fate) { refusing = x }) w w' heard
+      → IsSetupOf q setup → IsSetupOf q setup2 → Sends q setup body (record (delivery_of fate) { refusing = x }) w w' heard
       → Sends q setup2 body (record (delivery_of fate) { refusing = x }) w v' heard2
       → ActedOnce w' v' heard heard2
   sends_as CutIn setup setup2 w' v' heard heard2 harms asked asked2 h k =
@@ -116,7 +116,7 @@ fuse_known : (harming : MediumFault) (harm : Harm) → HarmsAWrite harming → I
 fuse_known NoWrite harm harms = elim harms [ ]
 fuse_known harming harm harms = tt
 
-left_same : (harming : MediumFault) {w v : DeviceView} → SameDevice w v → SameDevice (device_left_by harming w) (device_left_by harming v)
+left_same : (harming : MediumFault) {w v : DeviceView} → SameDevice w v → SameDevice (device_after_action harming w) (device_after_action harming v)
 left_same CutsPower same = powered_same same
 left_same harming same = disarmed_same same
 
@@ -137,7 +137,7 @@ action_once fate harm b c d x y harms g k =
     (fuse_known harming harm harms) g.gone.acted.acts acts in
     record {
       device = subst (λ (z : DeviceView). SameDevice z d.device) (sym g.gone.device)
-          (subst (λ (z : DeviceView). SameDevice (device_left_by harming g.gone.last) z) (sym k.gone.device)
+          (subst (λ (z : DeviceView). SameDevice (device_after_action harming g.gone.last) z) (sym k.gone.device)
           (left_same harming one.device));
       rule = λ room. took g.host (remembered one.hears room);
       first = (

@@ -7,13 +7,13 @@ use Rattle.dfu_host.specs.declared.report.Report.{Report}
 use Rattle.dfu_sim.specs.declared.event.Event.{Event}
 use Rattle.dfu_sim.specs.declared.event.Event.TheVariants.{Abort}
 use Rattle.dfu_sim.specs.declared.fault.LinkFault.{LinkFault}
-use Rattle.dfu_sim.specs.Session.{Machine, Loading, IsOneOf, SaysInPlace}
+use Rattle.dfu_sim.specs.Session.{Machine, Loading, IsOneOf, IsInPlaceReport}
 use Rattle.dfu_sim.specs.Agreement.{AgreesOn, intake_of, live_of, live_goal, IsShutOffer}
 use Rattle.dfu_sim.specs.LinkView.{Session, Nobody, Hosted, LinkView, WorldView}
 use Rattle.dfu_sim.specs.Happening.{Happening, happening}
 use Rattle.dfu_sim.specs.Following.{IsFollowed, AllFollow}
-use Rattle.dfu_sim.specs.Headline.{Begun, WithOffer, AsUpload, begun_now, WasOffered, IsLastPayload, IsWaiting, IsGoalPayload, IsLivePayload, HeadlineHolds, StepKeepsHeadline, no_event, one_event, EventsKeepHeadline, HoldsAtRest}
-use Rattle.dfu_sim.specs.BegunBy.{begun_by}
+use Rattle.dfu_sim.specs.Headline.{Begun, WithOffer, AsUpload, sessions_now, WasOffered, IsLastPayload, IsWaiting, IsGoalPayload, IsLivePayload, HeadlineInvariant, StepPreservesHeadline, no_event, one_event, EventsPreserveHeadline, HeadlineAtStart}
+use Rattle.dfu_sim.specs.SessionStarts.{sessions_by}
 use Rattle.dfu_sim.proofs.Offered.{IsOfPast, past_on, in_place_on}
 use Rattle.dfu_sim.proofs.Agreeing.{closed_in, goal_in, session_in, closed_sound, live_offered, machine_with}
 use Rattle.dfu_sim.proofs.Chains.{Chain, no_more, one_more}
@@ -83,7 +83,7 @@ abbrev machine_at : WorldView → List ℕ → Machine
 machine_at w image = machine_with image w.bench.device.stage w.bench.session w.up
 
 agrees_then : {factory : List ℕ} {past : List Begun} {before : Option Report} {w : WorldView}
-    (k : HeadlineHolds factory past before w.bench) → AgreesOn w.bench w.up (machine_at w k.says.image)
+    (k : HeadlineInvariant factory past before w.bench) → AgreesOn w.bench w.up (machine_at w k.says.image)
 agrees_then {w = w} k = record {
   active = k.says.active;
   pending = refl;
@@ -94,7 +94,7 @@ agrees_then {w = w} k = record {
 }
 
 past_then : {factory : List ℕ} {past : List Begun} {before : Option Report} {w : WorldView}
-    (k : HeadlineHolds factory past before w.bench) → IsOfPast factory past (machine_at w k.says.image)
+    (k : HeadlineInvariant factory past before w.bench) → IsOfPast factory past (machine_at w k.says.image)
 past_then {past = past} {w = w} k = record {
   known = k.says.known;
   offers = λ x one. elim (one_apart (closed_in w.bench.device.stage) (session_in w.bench.session) x one) [
@@ -106,8 +106,8 @@ past_then {past = past} {w = w} k = record {
 
 -- The headline holds if a session machine that has what was offered agrees, and if what is reported is so.
 abbrev pub holds_by : {factory : List ℕ} {past : List Begun} {report : Option Report} {b : LinkView} {up : List ℕ} {m : Machine}
-    → AgreesOn b up m → IsOfPast factory past m → (SaysInPlace report → (b.device.stage ≡ InAppIdle) × IsLastPayload past m.cur)
-    → HeadlineHolds factory past report b
+    → AgreesOn b up m → IsOfPast factory past m → (IsInPlaceReport report → (b.device.stage ≡ InAppIdle) × IsLastPayload past m.cur)
+    → HeadlineInvariant factory past report b
 holds_by {b = b} {m = m} agrees of_past in_place = record {
   says = record { image = m.cur; active = agrees.active; known = of_past.known; in_place = in_place };
   kept = record {
@@ -118,50 +118,50 @@ holds_by {b = b} {m = m} agrees of_past in_place = record {
 
 -- The headline holds after an event that such a session machine follows.
 abbrev pub holds_after : {factory : List ℕ} {past : List Begun} {m : Machine} {w w' : WorldView} (h : Happening) {report : Option Report}
-    → IsOfPast factory past m → IsFollowed w h w' report m → HeadlineHolds factory (begun_by h past) report w'.bench
+    → IsOfPast factory past m → IsFollowed w h w' report m → HeadlineInvariant factory (sessions_by h past) report w'.bench
 holds_after h of_past f = holds_by f.agrees (past_on h of_past f) (λ e. ((f.in_place e).0, in_place_on h of_past f e))
 
 -- Each event that a session machine follows keeps the headline.
 pub keeps_on : {factory : List ℕ} {past : List Begun} {before : Option Report} {w w' : WorldView} (h : Happening) {report : Option Report}
-    → ((m : Machine) → AgreesOn w.bench w.up m → IsFollowed w h w' report m) → HeadlineHolds factory past before w.bench
-    → HeadlineHolds factory (begun_by h past) report w'.bench
+    → ((m : Machine) → AgreesOn w.bench w.up m → IsFollowed w h w' report m) → HeadlineInvariant factory past before w.bench
+    → HeadlineInvariant factory (sessions_by h past) report w'.bench
 keeps_on {w = w} h follow k = holds_after h (past_then k) (follow (machine_at w k.says.image) (agrees_then k))
 
 -- The events of callers.
 
-begun_same : (event : Event) (past : List Begun) → begun_by (happening event) past ≡ begun_now event past
+begun_same : (event : Event) (past : List Begun) → sessions_by (happening event) past ≡ sessions_now event past
 begun_same Abort past = refl
 begun_same event past = refl
 
 keeps : {factory : List ℕ} {past : List Begun} {before : Option Report} {w w' : WorldView} (event : Event) {report : Option Report}
-    → ((m : Machine) → AgreesOn w.bench w.up m → IsFollowed w (happening event) w' report m) → HeadlineHolds factory past before w.bench
-    → HeadlineHolds factory (begun_now event past) report w'.bench
+    → ((m : Machine) → AgreesOn w.bench w.up m → IsFollowed w (happening event) w' report m) → HeadlineInvariant factory past before w.bench
+    → HeadlineInvariant factory (sessions_now event past) report w'.bench
 keeps {factory = factory} {past = past} {w' = w'} event {report = report} follow k =
-    subst (λ (sessions : List Begun). HeadlineHolds factory sessions report w'.bench) (begun_same event past)
+    subst (λ (sessions : List Begun). HeadlineInvariant factory sessions report w'.bench) (begun_same event past)
     (keeps_on (happening event) follow k)
 
 -- An event that each session machine follows keeps the headline.
 pub step_keeps : (w w' : WorldView) (event : Event) (result : Result (Option Report) LinkFault) → AllFollow w (happening event) w' result
-    → StepKeepsHeadline w event w' result
+    → StepPreservesHeadline w event w' result
 step_keeps w w' event (Ok report) follow = λ factory past before k. keeps event follow k
 step_keeps w w' event (Err fault) follow = follow
 
 -- So does a run.
 pub chain_keeps : {w w' : WorldView} {reports : List Report} (events : List Event) → Chain w (map happening events) reports w'
-    → EventsKeepHeadline w events reports w'
+    → EventsPreserveHeadline w events reports w'
 chain_keeps [] no_more factory past before k = no_event
 chain_keeps (event ∷ events) (one_more {report = report} s more) factory past before k =
     let next = keeps event s.legal k in
-    one_event next (chain_keeps events more factory (begun_now event past) report next)
+    one_event next (chain_keeps events more factory (sessions_now event past) report next)
 
 -- And one that stopped.
 pub stopped_keeps : {w w' : WorldView} {reports : List Report} (n : ℕ) (events : List Event)
-    → Chain w (take n (map happening events)) reports w' → EventsKeepHeadline w (take n events) reports w'
+    → Chain w (take n (map happening events)) reports w' → EventsPreserveHeadline w (take n events) reports w'
 stopped_keeps {w = w} {w' = w'} {reports = reports} n events chain =
     chain_keeps (take n events) (subst (λ (hs : List Happening). Chain w hs reports w') (take-map happening n events) chain)
 
 -- The headline holds at the start.
-pub holds_at_rest : HoldsAtRest
+pub holds_at_rest : HeadlineAtStart
 holds_at_rest b factory active none still = record {
   says = record { image = factory; active = active; known = inl refl; in_place = λ e. absurd e };
   kept = record {

@@ -12,7 +12,7 @@ use Rattle.dfu_sim.specs.Session.{Live, MayDrop, ends_not, drops}
 use Rattle.dfu_sim.specs.Play.{image_refused}
 use Rattle.dfu_sim.specs.LinkView.{Session, Nobody, Hosted}
 use Rattle.dfu_sim.specs.LinkAgreement.{pending_of, IsSound}
-use Rattle.dfu_sim.specs.Fact.{IsDfuIdle, EndsAs, Fact, FetchFact, CompareFact, GoalFact, SessionFact}
+use Rattle.dfu_sim.specs.Fact.{IsDfuIdle, ReportMeaning, Fact, FetchFact, CompareFact, GoalFact, SessionFact}
 use Rattle.dfu_sim.proofs.Taking.{shown}
 
 module _ (why : Objection) (offers : List (List ℕ)) where
@@ -42,14 +42,14 @@ module _ (c : Profile) (why : Objection) (i : List ℕ) where
   stage_refused F sync busy (InManifest taken passed) h = busy taken passed h
   stage_refused F sync busy stage h = h
 
-  ends_sync : (p : List ℕ) (report : Report) (taken : List ℕ) → EndsAs c p (At (InManifestSync taken)) IsDfuIdle report
-      → EndsAs c p (At (InError (objection_code why))) IsDfuIdle report
+  ends_sync : (p : List ℕ) (report : Report) (taken : List ℕ) → ReportMeaning c p (At (InManifestSync taken)) IsDfuIdle report
+      → ReportMeaning c p (At (InError (objection_code why))) IsDfuIdle report
   ends_sync p Installed taken h = elim h.2 [ ]
   ends_sync p Verified taken h = elim h.1 [ ]
   ends_sync p report taken h = h
 
-  ends_busy : (p : List ℕ) (report : Report) (taken : List ℕ) (passed : ℕ) → EndsAs c p (At (InManifest taken passed)) IsDfuIdle report
-      → EndsAs c p (At (InError (objection_code why))) IsDfuIdle report
+  ends_busy : (p : List ℕ) (report : Report) (taken : List ℕ) (passed : ℕ) → ReportMeaning c p (At (InManifest taken passed)) IsDfuIdle report
+      → ReportMeaning c p (At (InError (objection_code why))) IsDfuIdle report
   ends_busy p Installed taken passed h = elim h.2 [ ]
   ends_busy p Verified taken passed h = elim h.1 [ ]
   ends_busy p report taken passed h = h

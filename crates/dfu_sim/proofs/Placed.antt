@@ -142,10 +142,10 @@ module _ (c : Profile) where
   gone_placed w (Hosted h) fate l k room = acted_placed w.device (deed h.task h.phase) (delivery_of fate) l k
 
   -- The image stays after an event; or it is what waited, none waits then, and the event may put one in place.
-  abbrev pub Comes : Happening → Situation → Situation → Type 0
-  Comes h s s' = (s'.image ≡ s.image) ⊎ (MayPlace h × IsWaiting s.stage s'.image × IsFree s'.stage)
+  abbrev pub EventResult : Happening → Situation → Situation → Type 0
+  EventResult h s s' = (s'.image ≡ s.image) ⊎ (MayPlace h × IsWaiting s.stage s'.image × IsFree s'.stage)
 
-  played_placed : (w : Link) (h : Happening) (l k : Luck) (room : Bool) → Comes h w.device (played c w h l k room).link.device
+  played_placed : (w : Link) (h : Happening) (l k : Luck) (room : Bool) → EventResult h w.device (played c w h l k room).link.device
   played_placed w (Goes fate harm) l k room = elim (gone_placed w w.session fate l k room) [
     | inl same ↦ inl same
     | inr placed ↦ inr (tt, placed.0, placed.1)
@@ -161,6 +161,6 @@ module _ (c : Profile) where
   played_placed w Cuts l k room = inl refl
   played_placed w (Refuses why) l k room = inl refl
 
-  pub play_placed : (w w' : Link) (h : Happening) (answer : Answered) → Play c w h w' answer → Comes h w.device w'.device
+  pub play_placed : (w w' : Link) (h : Happening) (answer : Answered) → Play c w h w' answer → EventResult h w.device w'.device
   play_placed w w' h answer p =
-      subst (λ (x : Played). Comes h w.device x.link.device) p.same (played_placed w h p.first p.second p.room)
+      subst (λ (x : Played). EventResult h w.device x.link.device) p.same (played_placed w h p.first p.second p.room)

@@ -3,11 +3,11 @@ use Rattle.std.proofs.Common.{◌≡◌, Bool, true, false, IsTrue, refl, sym, a
 use Rattle.dfu_slots.specs.Medium.{Fuse}
 use Rattle.dfu_slots.specs.Medium.Fuse.{Whole}
 use Rattle.std.specs.Prelude.{[]}
-use Rattle.dfu_slots.specs.Seen.{shows_same}
+use Rattle.dfu_slots.specs.StoreView.{same_visible}
 use Rattle.dfu_device.specs.Stage.{Profile, InAppIdle}
 use Rattle.dfu_device.specs.Outcome.{Situation, Luck, Works, Outcome, elapsed, powered}
 use Rattle.dfu_device.specs.DeviceView.{DeviceView, profile, situation}
-use Rattle.dfu_device.specs.Came.{time_came}
+use Rattle.dfu_device.specs.PlanOutcomes.{times_have_outcomes}
 use Rattle.dfu_host.specs.Phases.{Phase, Fetch, Deed, Heard, Part, NoRoom}
 use Rattle.dfu_host.specs.Table.{deed}
 use Rattle.dfu_host.specs.Host.{wants_memory}
@@ -17,8 +17,8 @@ use Rattle.dfu_sim.specs.declared.delivery.MediumFault.TheVariants.{CutsPower}
 use Rattle.dfu_sim.specs.Delivery.{Delivery, delivery_of}
 use Rattle.dfu_sim.specs.Play.{Answered, remembered, has_room, over, acted, took, notify_restart, played, gone, MayHappen}
 use Rattle.dfu_sim.specs.LinkView.{Session, LinkView}
-use Rattle.dfu_sim.specs.Bytes.{fuse_of, armed, powered_up, device_left_by, link_of, NextAction, HappensOnBench, BytePlay}
-use Rattle.dfu_sim.specs.Understood.{Shows, BytesShow}
+use Rattle.dfu_sim.specs.Bytes.{fuse_of, armed, powered_up, device_after_action, link_of, NextAction, HappensOnBench, BytePlay}
+use Rattle.dfu_sim.specs.Understood.{Shows, PlaysMatchLinks}
 use Rattle.dfu_sim.proofs.Replies.{hosts_deed}
 use Rattle.dfu_sim.proofs.Actions.{armed_profile, armed_situation, Went, acts_go}
 
@@ -31,20 +31,20 @@ armed_goes d delivery fuse w w' heard x =
     (subst (λ (c : Profile). Went fuse c (situation (armed w fuse)) d delivery w' heard) (armed_profile w fuse) x)
 
 powered_situation : (w : DeviceView) → situation (powered_up w) ≡ powered (situation w)
-powered_situation w = λ k. record { image = (shows_same w.slots Whole [] 0).image k; stage = InAppIdle }
+powered_situation w = λ k. record { image = (same_visible w.slots Whole [] 0).image k; stage = InAppIdle }
 
 powered_profile : (w : DeviceView) → profile (powered_up w) ≡ profile w
-powered_profile w = λ k. record (profile w) { capacity = (shows_same w.slots Whole [] 0).room k }
+powered_profile w = λ k. record (profile w) { capacity = (same_visible w.slots Whole [] 0).room k }
 
-after_situation : (harming : MediumFault) (w : DeviceView) → situation (device_left_by harming w) ≡ over harming (situation w)
+after_situation : (harming : MediumFault) (w : DeviceView) → situation (device_after_action harming w) ≡ over harming (situation w)
 after_situation CutsPower w = powered_situation w
 after_situation harming w = armed_situation w Whole
 
-after_profile : (harming : MediumFault) (w : DeviceView) → profile (device_left_by harming w) ≡ profile w
+after_profile : (harming : MediumFault) (w : DeviceView) → profile (device_after_action harming w) ≡ profile w
 after_profile CutsPower w = powered_profile w
 after_profile harming w = armed_profile w Whole
 
-after_whole : (harming : MediumFault) (w : DeviceView) → (device_left_by harming w).slots.medium.fuse ≡ Whole
+after_whole : (harming : MediumFault) (w : DeviceView) → (device_after_action harming w).slots.medium.fuse ≡ Whole
 after_whole CutsPower w = refl
 after_whole harming w = refl
 
@@ -127,7 +127,7 @@ shows : (event : Happening) (b b' : LinkView) (answer : Answered) → MayHappen 
     → HappensOnBench event b b' answer → Showed b event (fuse_in event) b' answer
 shows (Goes fate harm) b b' answer allowed unarmed g = goes_show fate harm b b' answer allowed g
 shows (Passes ms) b b' answer allowed unarmed (e, s, n) =
-    let y = time_came ms b.device b'.device e in
+    let y = times_have_outcomes ms b.device b'.device e in
     let works = y.unarmed unarmed in
     let there : elapsed (profile b.device) (situation b.device) ms Works
     ≡ situation b'.device = ap (λ (l : Luck). elapsed (profile b.device) (situation b.device) ms l) (sym works.0)
@@ -141,7 +141,7 @@ shows Cuts b b' answer allowed unarmed (e, f) =
 shows event b b' answer allowed unarmed h = at_once b b' _ event answer _ allowed refl refl unarmed h.0 h.1
 
 -- Each play with its bytes is a play of the links that are shown.
-pub bytes_show : BytesShow
+pub bytes_show : PlaysMatchLinks
 bytes_show b b' event answer p = (shows event b b' answer p.allowed p.unarmed p.happens).shown
 
 -- If no write is harmed, the play is the one in which the medium works.

@@ -11,7 +11,7 @@ use Rattle.dfu_sim.specs.declared.fault.OfferFault.TheVariants as offer_fault
 use Rattle.dfu_sim.specs.Play.{MayHappen}
 use Rattle.dfu_sim.specs.LinkView.{Session, Nobody, Hosted, IsLive}
 use Rattle.dfu_sim.specs.Happening.{Happening, Offers, Uploads, Aborts, Goes}
-use Rattle.dfu_sim.specs.Refusing.{first_offer_fault, IsOffered, IsBadOffer, CanGive, IsBadUpload}
+use Rattle.dfu_sim.specs.Refusing.{first_offer_fault, IsOffered, IsBadOffer, ServesUpload, IsBadUpload}
 use Rattle.dfu_sim.proofs.Events.{same_fault}
 use Rattle.dfu_sim.specs.OneAnswer.{OneRefusal, RefusedIsNoPlay, OneEvent}
 
@@ -46,7 +46,7 @@ one_bad_upload s (offer_fault.Host f) (offer_fault.Host g) x y = let e : Some f 
 one_bad_upload s (offer_fault.Host f) other x y = elim y [ ]
 one_bad_upload s why other x y = elim x [ ]
 
-bad_or_given : (s : Setting) (why : OfferFault) → IsBadUpload s why → CanGive s → ⊥
+bad_or_given : (s : Setting) (why : OfferFault) → IsBadUpload s why → ServesUpload s → ⊥
 bad_or_given s (offer_fault.Host f) x gives = let e : ◌≡◌ {A = Option HostFault} (Some f) None = sym x ∙ gives in absurd cc
 bad_or_given s why x gives = x
 

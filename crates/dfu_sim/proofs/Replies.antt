@@ -12,17 +12,17 @@ use Rattle.dfu_sim.specs.Play.{heard_as, remembered, closes, plan_by}
 use Rattle.dfu_wire.specs.declared.requests.Request.{Request as Asked}
 use Rattle.dfu_wire.specs.declared.requests.Request.TheVariants as request
 use Rattle.dfu_wire.specs.declared.setups.Setup.{Setup}
-use Rattle.dfu_wire.specs.Request.{Asks}
+use Rattle.dfu_wire.specs.Request.{SetupRequest}
 use Rattle.dfu_wire.specs.Status.{IsStatus}
 use Rattle.dfu_wire.specs.State.{state_byte}
 use Rattle.dfu_device.specs.declared.answer.Answer.{Answer}
 use Rattle.dfu_device.specs.declared.answer.Answer.TheVariants as answer
 use Rattle.dfu_device.specs.Rows.{meant, asked_length, Answers, body_length, is_served}
-use Rattle.dfu_device.specs.Came.{status_whole}
-use Rattle.dfu_device.specs.RowForms.{reply_given, ReplyFits, row_form, row_fits}
+use Rattle.dfu_device.specs.PlanOutcomes.{status_whole}
+use Rattle.dfu_device.specs.RowForms.{reply_of_plan, ReplyMatches, row_form, row_matches}
 use Rattle.dfu_host.specs.Wire.{ReadsState}
 use Rattle.dfu_host.specs.WireLaws.{status_understood, state_understood}
-use Rattle.dfu_sim.specs.Bytes.{HearsAnswer}
+use Rattle.dfu_sim.specs.Bytes.{HeardOfAnswer}
 use Rattle.dfu_sim.specs.Understood.{Understood}
 
 -- A request as a host sends it.
@@ -51,16 +51,16 @@ pub hosts : (task : Task) (phase : Phase) (q : Asked) (body : List ℕ) → deed
 hosts task phase q body e = subst HostsDeed e (hosts_deed task phase)
 
 -- The meaning of an answer is that of an equal answer, by another name.
-heard_same : (d : Deed) (a x : Answer) (out : List ℕ) (heard : Heard) → a ≡ x → HearsAnswer d a out heard → HearsAnswer d x out heard
-heard_same d a x out heard e h = subst (λ (y : Answer). HearsAnswer d y out heard) e h
+heard_same : (d : Deed) (a x : Answer) (out : List ℕ) (heard : Heard) → a ≡ x → HeardOfAnswer d a out heard → HeardOfAnswer d x out heard
+heard_same d a x out heard e h = subst (λ (y : Answer). HeardOfAnswer d y out heard) e h
 
 abbrev HeardAs : Reply → Heard → Type 0
 HeardAs reply heard = (room : Bool) × (heard ≡ remembered (heard_as reply) room)
 
 -- A reply that fits, as its bytes.
 pub reply_heard : (most : ℕ) (q : Asked) (body : List ℕ) (reply : Reply) (a : Answer) (out : List ℕ) (heard : Heard) → IsHosts q body
-    → ReplyFits most reply (meant q body)
-    → Answers (asked_length q) reply a out → HearsAnswer (Send q body) a out heard → HeardAs reply heard
+    → ReplyMatches most reply (meant q body)
+    → Answers (asked_length q) reply a out → HeardOfAnswer (Send q body) a out heard → HeardAs reply heard
 reply_heard most q body Stall a out heard i f says h = (true, heard_same (Send q body) a answer.Stall out heard says.0 h)
 reply_heard most q body Ack a out heard i f says h = (true, heard_same (Send q body) a answer.Ack out heard says.0 h)
 reply_heard most (request.GetStatus len) body (StatusOf code poll state) a out heard i f says h =
@@ -85,17 +85,17 @@ reply_heard most q body reply a out heard i f says h = search
 
 -- The reply to a request fits it, whatever the program of the device refuses.
 reply_fits : (x : Option Objection) (c : Profile) (i : List ℕ) (st : Stage) (r : Meant) (luck : Luck)
-    → ReplyFits c.transfer (outcome i (plan_by x c i st r) luck).reply r
+    → ReplyMatches c.transfer (outcome i (plan_by x c i st r) luck).reply r
 reply_fits None c i st r luck =
-    reply_given (λ reply. ReplyFits c.transfer reply r) i (plan c i st r) luck (row_fits c i st r (plan c i st r) (row_form c i st r))
+    reply_of_plan (λ reply. ReplyMatches c.transfer reply r) i (plan c i st r) luck (row_matches c i st r (plan c i st r) (row_form c i st r))
 reply_fits (Some why) c i st r luck =
-    either_way (λ (p : Plan). ReplyFits c.transfer (outcome i p luck).reply r) (closes c.least st r) _ _ tt
-    (reply_given (λ reply. ReplyFits c.transfer reply r) i (plan c i st r) luck (row_fits c i st r (plan c i st r) (row_form c i st r)))
+    either_way (λ (p : Plan). ReplyMatches c.transfer (outcome i p luck).reply r) (closes c.least st r) _ _ tt
+    (reply_of_plan (λ reply. ReplyMatches c.transfer reply r) i (plan c i st r) luck (row_matches c i st r (plan c i st r) (row_form c i st r)))
 
 -- Answer of a plan, of the table or of a program that refuses an image.
 pub plan_heard : (x : Option Objection) (q : Asked) (body : List ℕ) (c : Profile) (i : List ℕ) (st : Stage) (luck : Luck) (a : Answer)
     (out : List ℕ) (heard : Heard) → IsHosts q body → let reply = (outcome i (plan_by x c i st (meant q body)) luck).reply in
-    Answers (asked_length q) reply a out → HearsAnswer (Send q body) a out heard → HeardAs reply heard
+    Answers (asked_length q) reply a out → HeardOfAnswer (Send q body) a out heard → HeardAs reply heard
 plan_heard x q body c i st luck a out heard is says h =
     reply_heard c.transfer q body _ a out heard is (reply_fits x c i st (meant q body) luck) says h
 
@@ -113,7 +113,7 @@ in_served p body k e = let f : (p.kind == 0x21) ≡ false = grind (arith, nat_te
     let g : (length body == 0) ≡ true = grind (arith, nat_tests) in rw f g
 
 -- The request that a host sends goes by the device's table.
-pub served : (p : Setup) (q : Asked) (body : List ℕ) → IsHosts q body → Asks p q → is_served p q body ≡ true
+pub served : (p : Setup) (q : Asked) (body : List ℕ) → IsHosts q body → SetupRequest p q → is_served p q body ≡ true
 served p (request.Dnload block len) body i a = out_served p body a.0.kind (sym i ∙ a.2)
 served p (request.Upload block len) body i a = in_served p body a.0.kind (ap length i)
 served p (request.GetStatus len) body i a = in_served p body a.0.kind (ap length i.1)

@@ -2,7 +2,7 @@
 use Rattle.std.proofs.Common.{◌≡◌, ◌⊎◌, ℕ, Bool, List, [], ◌∷◌, Option, Some, refl, sym, ap, ◌∙◌, subst, inl, inr}
 use Rattle.dfu_host.specs.declared.report.Report.{Report}
 use Rattle.dfu_host.specs.declared.report.Report.TheVariants.{Installed, Uploaded, Verified}
-use Rattle.dfu_sim.specs.Session.{Machine, Loading, IsOneOf, Begins, begins_not, installs, MayDrop, ends_not, drops, SaysReport, says_not, says_installed, says_verified, says_uploaded, says_other, Kind, AnOffer, SaysInPlace, SaysNoPromise, MachineStep, passes_installed, restarts, refuses, goes, stops, and_then}
+use Rattle.dfu_sim.specs.Session.{Machine, Loading, IsOneOf, Begins, begins_not, installs, MayDrop, ends_not, drops, ReportStep, says_not, says_installed, says_verified, says_uploaded, says_other, Kind, AnOffer, IsInPlaceReport, ReportsNoPromise, MachineStep, passes_installed, restarts, refuses, goes, stops, and_then}
 use Rattle.dfu_sim.specs.Simulation.{offers_after, OnlyOffered}
 
 -- Taking or installing leaves the live session unchanged.
@@ -16,12 +16,12 @@ ends_live ends_not = refl
 ends_live drops = refl
 
 -- A report that promises nothing doesn't say that the payload is in place.
-pub not_in_place : (report : Option Report) → SaysNoPromise report → SaysInPlace report → ⊥
+pub not_in_place : (report : Option Report) → ReportsNoPromise report → IsInPlaceReport report → ⊥
 not_in_place (Some Installed) plain e = plain
 not_in_place (Some Verified) plain e = plain
 not_in_place report plain e = e
 
-says_live : {tolerant : Bool} {m m' : Machine} {report : Option Report} → SaysReport tolerant m report m' → SaysInPlace report
+says_live : {tolerant : Bool} {m m' : Machine} {report : Option Report} → ReportStep tolerant m report m' → IsInPlaceReport report
     → m.live ≡ Loading m'.cur
 says_live (says_installed live none tolerant) e = live
 says_live (says_verified live none) e = live
@@ -30,29 +30,29 @@ says_live s e = elim e [ ]
 
 -- If Installed or Verified is said, the payload of the live session is the active image.
 pub step_live : {tolerant : Bool} {t : ℕ} {kind : Kind} {m m' : Machine} {report : Option Report} → MachineStep tolerant t kind m report m'
-    → SaysInPlace report → m.live ≡ Loading m'.cur
+    → IsInPlaceReport report → m.live ≡ Loading m'.cur
 step_live {report = report} (restarts s plain) e = absurd (not_in_place report plain e)
 step_live (goes b d s) e = sym (ends_live d ∙ begins_live b) ∙ says_live s e
 step_live s e = elim e [ ]
 
-says_up : {tolerant : Bool} {m m' : Machine} {report : Option Report} → SaysReport tolerant m report m' → report ≡ Some Uploaded →
+says_up : {tolerant : Bool} {m m' : Machine} {report : Option Report} → ReportStep tolerant m report m' → report ≡ Some Uploaded →
     m'.up ≡ m'.cur
 says_up (says_uploaded live) e = refl
-says_up (says_other plain one) e = absurd (subst SaysNoPromise e plain)
+says_up (says_other plain one) e = absurd (subst ReportsNoPromise e plain)
 says_up s e = absurd cc
 
 -- If Uploaded is said, what was uploaded is the active image.
 pub step_up : {tolerant : Bool} {t : ℕ} {kind : Kind} {m m' : Machine} {report : Option Report} → MachineStep tolerant t kind m report m'
     → report ≡ Some Uploaded → m'.up ≡ m'.cur
-step_up (restarts s plain) e = absurd (subst SaysNoPromise e plain)
+step_up (restarts s plain) e = absurd (subst ReportsNoPromise e plain)
 step_up (goes b d s) e = says_up s e
 step_up s e = absurd cc
 
 -- The active image stays, or becomes one of these.
-abbrev Comes : List (List ℕ) → Machine → Machine → Type 0
-Comes offers m m' = (m'.cur ≡ m.cur) ⊎ IsOneOf m'.cur offers
+abbrev EventResult : List (List ℕ) → Machine → Machine → Type 0
+EventResult offers m m' = (m'.cur ≡ m.cur) ⊎ IsOneOf m'.cur offers
 
-begins_comes : {t : ℕ} {m m' : Machine} → Begins t m m' → (m'.offers ≡ m.offers) × Comes m.offers m m'
+begins_comes : {t : ℕ} {m m' : Machine} → Begins t m m' → (m'.offers ≡ m.offers) × EventResult m.offers m m'
 begins_comes (installs some h) = (refl, inr h)
 begins_comes b = (refl, inl refl)
 
@@ -60,7 +60,7 @@ ends_same : {m m' : Machine} → MayDrop m m' → (m'.offers ≡ m.offers) × (m
 ends_same ends_not = (refl, refl)
 ends_same drops = (refl, refl)
 
-says_same : {tolerant : Bool} {m m' : Machine} {report : Option Report} → SaysReport tolerant m report m'
+says_same : {tolerant : Bool} {m m' : Machine} {report : Option Report} → ReportStep tolerant m report m'
     → (m'.offers ≡ m.offers) × (m'.cur ≡ m.cur)
 says_same says_not = (refl, refl)
 says_same s = (refl, refl)
@@ -75,7 +75,7 @@ comes_on offers x y z (inl e) f = inl (f ∙ e)
 comes_on offers x y z (inr h) f = inr (subst (λ w. IsOneOf w offers) (sym f) h)
 
 step_comes : {tolerant : Bool} {t : ℕ} {kind : Kind} {m m' : Machine} {report : Option Report} → MachineStep tolerant t kind m report m'
-    → (m'.offers ≡ one_more kind m.offers) × Comes m.offers m m'
+    → (m'.offers ≡ one_more kind m.offers) × EventResult m.offers m m'
 step_comes (passes_installed some h) = (refl, inr h)
 step_comes (restarts s plain) = ((says_same s).0, inl (says_same s).1)
 step_comes (refuses d) = ((ends_same d).0, inl (ends_same d).1)
@@ -106,7 +106,7 @@ only_offered tolerant t m m' [] [] stops = (refl, inl refl)
 only_offered tolerant t m m' [] (report ∷ reports) run = elim run [ ]
 only_offered tolerant t m m' (kind ∷ kinds) reports (and_then {mid = mid} {reports = rest} step more) =
     let one = step_comes step in
-    let all : (m'.offers ≡ offers_after kinds mid.offers) × Comes (offers_after kinds mid.offers) mid m' = only_offered tolerant t mid m'
+    let all : (m'.offers ≡ offers_after kinds mid.offers) × EventResult (offers_after kinds mid.offers) mid m' = only_offered tolerant t mid m'
     kinds rest more in
     let same : offers_after kinds mid.offers ≡ offers_after (kind ∷ kinds) m.offers = ap (offers_after kinds) one.0
     ∙ sym (after_one kind kinds m.offers) in (

@@ -13,16 +13,16 @@ use Rattle.dfu_sim.specs.declared.delivery.MediumFault.{MediumFault}
 use Rattle.dfu_sim.specs.declared.delivery.MediumFault.TheVariants.{NoWrite}
 use Rattle.dfu_sim.specs.Delivery.{delivery_of}
 use Rattle.dfu_sim.specs.Happening.{Harm, Happening, Offers, Uploads, Goes, Passes, Resets, Cuts, Refuses}
-use Rattle.dfu_sim.specs.LinkView.{Session, Nobody, Hosted, LinkView, ShowsActive, WorldView, linked}
+use Rattle.dfu_sim.specs.LinkView.{Session, Nobody, Hosted, LinkView, BenchMatchesFlash, WorldView, linked}
 use Rattle.dfu_sim.specs.LinkAgreement.{Agrees}
 use Rattle.dfu_sim.specs.Fact.{SessionFact}
 use Rattle.dfu_sim.specs.Simulation.{Follows}
 use Rattle.dfu_sim.specs.Bytes.{fuse_of, link_of, HappensOnBench, BytePlay}
-use Rattle.dfu_sim.specs.Understood.{Shows, ImageShown}
-use Rattle.dfu_sim.specs.Comes.{Means, Comes, refuses, happens, shown_as, gave_of, HasCome}
-use Rattle.dfu_sim.specs.Standing.{SendsBytes, IsSteady}
+use Rattle.dfu_sim.specs.Understood.{Shows, BenchImageIsActive}
+use Rattle.dfu_sim.specs.EventResults.{Means, EventResult, refuses, happens, report_of_result, upload_of_result, WorldEventResult}
+use Rattle.dfu_sim.specs.LinkInvariant.{SendsBytes, IsSteady}
 use Rattle.dfu_sim.specs.Following.{IsOfKind, AllFollow}
-use Rattle.dfu_sim.specs.Giving.{GivesOrKeeps, UploadsGive, RestIsSteady}
+use Rattle.dfu_sim.specs.UploadResults.{UploadOrUnchanged, UploadsAreActive, RestIsSteady}
 use Rattle.dfu_sim.specs.Sure.{HarmsNothing, IsHarmless, IsAsPlayed, AllSure}
 use Rattle.dfu_sim.proofs.Config.{happens_config}
 use Rattle.dfu_sim.proofs.Projected.{fuse_in, bytes_show, bytes_sure}
@@ -112,26 +112,26 @@ module _ {b b' : LinkView} {event : Happening} {answer : Answered} (steady : IsS
 
 -- A fact of the result of an event holds of what its caller gets.
 told_so : {w w' : WorldView} {h : Happening} {result : Result (Option Report) LinkFault}
-    (P : WorldView → Result (Option Report) LinkFault → Type 0) (x : HasCome w h w' result)
-    → P (linked w'.bench (given (gave_of x.answer) w.up)) (shown_as x.answer) → P w' result
+    (P : WorldView → Result (Option Report) LinkFault → Type 0) (x : WorldEventResult w h w' result)
+    → P (linked w'.bench (given (upload_of_result x.answer) w.up)) (report_of_result x.answer) → P w' result
 told_so {w = w} {w' = w'} {result = result} P x p =
     subst (λ (up : List ℕ). P (linked w'.bench up) result) (sym x.up_is)
-    (subst (λ (r : Result (Option Report) LinkFault). P (linked w'.bench (given (gave_of x.answer) w.up)) r) (sym x.told) p)
+    (subst (λ (r : Result (Option Report) LinkFault). P (linked w'.bench (given (upload_of_result x.answer) w.up)) r) (sym x.told) p)
 
-comes_steady : {b b' : LinkView} {h : Happening} {answer : Result Answered LinkFault} → IsSteady b → Comes b h b' answer → IsSteady b'
+comes_steady : {b b' : LinkView} {h : Happening} {answer : Result Answered LinkFault} → IsSteady b → EventResult b h b' answer → IsSteady b'
 comes_steady steady (refuses why) = steady
 comes_steady {b = b} {h = h} steady (happens {event = event} means play) =
     play_steady steady (begins_sized b.device.config h event means) play
 
 -- Facts of a link between events hold after each event that comes.
-pub come_steady : {w w' : WorldView} {h : Happening} {result : Result (Option Report) LinkFault} → IsSteady w.bench → HasCome w h w' result
+pub come_steady : {w w' : WorldView} {h : Happening} {result : Result (Option Report) LinkFault} → IsSteady w.bench → WorldEventResult w h w' result
     → IsSteady w'.bench
 come_steady steady x = comes_steady steady x.comes
 
 -- The session machine follows what comes of an event.
-pub comes_follow : ImageShown → {b b' : LinkView} {h : Happening} {answer : Result Answered LinkFault} (up : List ℕ) → IsSteady b
-    → ShowsActive b'
-    → Comes b h b' answer → AllFollow (linked b up) h (linked b' (given (gave_of answer) up)) (shown_as answer)
+pub comes_follow : BenchImageIsActive → {b b' : LinkView} {h : Happening} {answer : Result Answered LinkFault} (up : List ℕ) → IsSteady b
+    → BenchMatchesFlash b'
+    → EventResult b h b' answer → AllFollow (linked b up) h (linked b' (given (upload_of_result answer) up)) (report_of_result answer)
 comes_follow shown up steady shows (refuses why) = refl
 comes_follow shown {b = b} {b' = b'} {h = h} up steady shows (happens {event = event} {answer = answer} means play) = λ m agrees.
     let f = follows_play steady (begins_sized b.device.config h event means) play up m (link_agrees shown b up m agrees) in
@@ -145,8 +145,8 @@ comes_follow shown {b = b} {b' = b'} {h = h} up steady shows (happens {event = e
     }
 
 -- The session machine follows each event that comes.
-pub come_follow : ImageShown → {w w' : WorldView} {h : Happening} {result : Result (Option Report) LinkFault} → IsSteady w.bench
-    → ShowsActive w'.bench → HasCome w h w' result → AllFollow w h w' result
+pub come_follow : BenchImageIsActive → {w w' : WorldView} {h : Happening} {result : Result (Option Report) LinkFault} → IsSteady w.bench
+    → BenchMatchesFlash w'.bench → WorldEventResult w h w' result → AllFollow w h w' result
 come_follow shown {w = w} {h = h} steady shows x =
     told_so (λ v r. AllFollow w h v r) x (comes_follow shown w.up steady shows x.comes)
 
@@ -154,14 +154,14 @@ come_follow shown {w = w} {h = h} steady shows x =
 
 gives_in : (b' : LinkView) (up : List ℕ) (report : Option Report) (gave : Option (List ℕ)) (w : WorldView) → w.up ≡ up
     → FitsIn b'.device.config.functional.transfer report gave → (report ≡ Some Uploaded → given gave up ≡ (link_of b').device.image)
-    → GivesOrKeeps w (linked b' (given gave up)) (Ok report)
+    → UploadOrUnchanged w (linked b' (given gave up)) (Ok report)
 gives_in b' up (Some Uploaded) (Some bytes) w same fits image = record { image = image refl; short = fits }
 gives_in b' up (Some Uploaded) None w same fits image = elim fits [ ]
 gives_in b' up report (Some bytes) w same fits image = elim fits [ ]
 gives_in b' up report None w same fits image = sym same
 
-comes_give : {b b' : LinkView} {h : Happening} {answer : Result Answered LinkFault} (up : List ℕ) → IsSteady b → Comes b h b' answer
-    → GivesOrKeeps (linked b up) (linked b' (given (gave_of answer) up)) (shown_as answer)
+comes_give : {b b' : LinkView} {h : Happening} {answer : Result Answered LinkFault} (up : List ℕ) → IsSteady b → EventResult b h b' answer
+    → UploadOrUnchanged (linked b up) (linked b' (given (upload_of_result answer) up)) (report_of_result answer)
 comes_give up steady (refuses why) = refl
 comes_give {b = b} {b' = b'} {h = h} up steady (happens {event = event} {answer = answer} means play) =
     let begins = begins_sized b.device.config h event means in
@@ -171,9 +171,9 @@ comes_give {b = b} {b' = b'} {h = h} up steady (happens {event = event} {answer 
     (subst (λ (n : ℕ). FitsIn n answer.report answer.gave) same (play_fits steady begins play)) (image_given steady begins play up)
 
 -- Each event that comes gives what it should.
-pub come_gives : {w w' : WorldView} {h : Happening} {result : Result (Option Report) LinkFault} → IsSteady w.bench → HasCome w h w' result
-    → GivesOrKeeps w w' result
-come_gives {w = w} steady x = told_so (λ v r. GivesOrKeeps w v r) x (comes_give w.up steady x.comes)
+pub come_gives : {w w' : WorldView} {h : Happening} {result : Result (Option Report) LinkFault} → IsSteady w.bench → WorldEventResult w h w' result
+    → UploadOrUnchanged w w' result
+come_gives {w = w} steady x = told_so (λ v r. UploadOrUnchanged w v r) x (comes_give w.up steady x.comes)
 
 gave_image : (t : ℕ) (up image : List ℕ) (report : Option Report) (gave : Option (List ℕ)) → FitsIn t report gave → given gave up ≡ image
     → report ≡ Some Uploaded → gave ≡ Some image
@@ -184,7 +184,7 @@ abbrev GivesThen : LinkView → Result Answered LinkFault → Type 0
 GivesThen b (Ok answer) = answer.report ≡ Some Uploaded → answer.gave ≡ Some (link_of b).device.image
 GivesThen b (Err fault) = Unit {0}
 
-gives_then : {b b' : LinkView} {h : Happening} {result : Result Answered LinkFault} → IsSteady b → Comes b h b' result → GivesThen b' result
+gives_then : {b b' : LinkView} {h : Happening} {result : Result Answered LinkFault} → IsSteady b → EventResult b h b' result → GivesThen b' result
 gives_then steady (refuses why) = tt
 gives_then {b = b} {b' = b'} {h = h} steady (happens {event = event} {answer = answer} means play) = λ e.
     let begins = begins_sized b.device.config h event means in
@@ -192,7 +192,7 @@ gives_then {b = b} {b' = b'} {h = h} steady (happens {event = event} {answer = a
     (image_given steady begins play [] e) e
 
 -- With Uploaded come the bytes of the active image.
-pub uploads_give : UploadsGive
+pub uploads_give : UploadsAreActive
 uploads_give b b' h answer steady comes = (comes_steady steady comes, gives_then steady comes)
 
 -- Facts of a link between events hold of a device with no session that is not armed.
@@ -216,8 +216,8 @@ as_played b b' event answer play h =
     record { room = s.0; answer = answer; same = s.1; told = refl }
 
 -- The result of an event goes as the table of fates says, if no write is harmed.
-pub comes_sure : {b b' : LinkView} {h : Happening} {answer : Result Answered LinkFault} → Comes b h b' answer
-    → AllSure b h b' (shown_as answer)
+pub comes_sure : {b b' : LinkView} {h : Happening} {answer : Result Answered LinkFault} → EventResult b h b' answer
+    → AllSure b h b' (report_of_result answer)
 comes_sure (refuses why) = tt
 comes_sure {b = b} {b' = b'} {h = h} (happens {event = event} {answer = answer} means play) = record {
   event = event;
@@ -230,6 +230,6 @@ comes_sure {b = b} {b' = b'} {h = h} (happens {event = event} {answer = answer} 
 }
 
 -- Each event that comes goes as the table of fates says, if no write is harmed.
-pub come_sure : {w w' : WorldView} {h : Happening} {result : Result (Option Report) LinkFault} → HasCome w h w' result
+pub come_sure : {w w' : WorldView} {h : Happening} {result : Result (Option Report) LinkFault} → WorldEventResult w h w' result
     → AllSure w.bench h w'.bench result
 come_sure {w = w} {h = h} x = told_so (λ v r. AllSure w.bench h v.bench r) x (comes_sure x.comes)

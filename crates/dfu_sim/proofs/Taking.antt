@@ -7,14 +7,14 @@ use Rattle.dfu_host.specs.declared.report.Report.TheVariants.{Installed, Unconfi
 use Rattle.dfu_host.specs.Phases.{Goal, ToLoad, ToFetch, ToVerify, ToCompare, Task, Phase, Find, Fetch, GiveUp, Over, OverUploaded, Heard, Part, Restarted, Left}
 use Rattle.dfu_host.specs.BehindClose.{is_behind_close}
 use Rattle.dfu_host.specs.Table.{host_row, goal_after_reset, goal_after}
-use Rattle.dfu_host.specs.Host.{HostState, IsOn, budgeted, restarted, left_by, after_phase, host_heard as host_told}
-use Rattle.dfu_sim.specs.Session.{Machine, Live, NoOne, Loading, Fetching, PromisesNothing, SaysReport, says_not, says_installed, says_verified, says_uploaded, says_other, SaysInPlace, SaysNoPromise}
+use Rattle.dfu_host.specs.Host.{HostState, IsOn, budgeted, restarted, host_after_leaving, after_phase, host_after as host_told}
+use Rattle.dfu_sim.specs.Session.{Machine, Live, NoOne, Loading, Fetching, PromisesNothing, ReportStep, says_not, says_installed, says_verified, says_uploaded, says_other, IsInPlaceReport, ReportsNoPromise}
 use Rattle.dfu_sim.specs.LinkView.{Nobody}
 use Rattle.dfu_sim.specs.Opening.{task_for}
 use Rattle.dfu_sim.specs.Play.{given, Took, settled, took, remembered, has_room}
 use Rattle.dfu_sim.specs.LinkAgreement.{pending_of}
 use Rattle.dfu_sim.specs.Agreement.{live_goal, live_of, IsLiveOffer}
-use Rattle.dfu_sim.specs.Fact.{IsInApp, EndsAs, GoalFact, HasBlocks, TaskGoesBy, SessionFact}
+use Rattle.dfu_sim.specs.Fact.{IsInApp, ReportMeaning, GoalFact, HasBlocks, TaskMatchesProfile, SessionFact}
 use Rattle.dfu_sim.proofs.Saying.{not_in_place}
 use Rattle.dfu_sim.proofs.Fates.{IfHeard, all_remembered}
 use Rattle.dfu_sim.proofs.CommonFacts.{goal_anywhere}
@@ -31,11 +31,11 @@ after_on h (OverUploaded kept) heard on = elim on [ ]
 after_on h phase heard on = refl
 
 -- A task made by the descriptor goes by it, and is the only one of its goal that does.
-pub goes_by : (c : Profile) (goal : Goal) → TaskGoesBy c (task_for c goal)
+pub goes_by : (c : Profile) (goal : Goal) → TaskMatchesProfile c (task_for c goal)
 goes_by c goal = record { transfer = refl; tolerant = refl; will_detach = refl; detach_ms = refl }
 
 -- A task that goes by the descriptor is the one that is made of it.
-pub task_by : (c : Profile) (task : Task) → TaskGoesBy c task → task ≡ task_for c task.goal
+pub task_by : (c : Profile) (task : Task) → TaskMatchesProfile c task → task ≡ task_for c task.goal
 task_by c task g = λ i. record {
   goal = task.goal;
   transfer = g.transfer i;
@@ -47,11 +47,11 @@ task_by c task g = λ i. record {
 module _ (c : Profile) (offers : List (List ℕ)) where
   -- Session that a host took, over a device, if this session was live.
   pub record TookWell (s : Situation) (live : Live) (up : List ℕ) (t : Took) : Type 0 where
-    pub says : SaysReport c.tolerant (shown offers s.image (pending_of s.stage) live up) t.answer.report
+    pub says : ReportStep c.tolerant (shown offers s.image (pending_of s.stage) live up) t.answer.report
         (shown offers s.image (pending_of s.stage) (live_of t.session) (given t.answer.gave up))
     pub fact : SessionFact c s t.session
     pub offer : IsLiveOffer offers (live_of t.session)
-    pub done : SaysInPlace t.answer.report → s.stage ≡ InAppIdle
+    pub done : IsInPlaceReport t.answer.report → s.stage ≡ InAppIdle
 
   live_goal_one : (g : Goal) → live_goal g ≢ NoOne
   live_goal_one ToFetch e = cc
@@ -62,7 +62,7 @@ module _ (c : Profile) (offers : List (List ℕ)) where
   Ended report = record { session = Nobody; answer = record { report = Some report; gave = None } }
 
   over_well : (i : List ℕ) (stage : Stage) (p up : List ℕ) (report : Report)
-      → EndsAs c p (record { image = i; stage = stage }) IsInApp report
+      → ReportMeaning c p (record { image = i; stage = stage }) IsInApp report
       → TookWell (record { image = i; stage = stage }) (Loading p) up (Ended report)
   over_well i InAppIdle p up Installed h = record {
     says = says_installed (ap Loading (sym h.1)) refl h.0;
@@ -98,7 +98,7 @@ module _ (c : Profile) (offers : List (List ℕ)) where
       → TookWell s Fetching up (record { session = Nobody; answer = record { report = Some Uploaded; gave = Some kept } })
   uploaded_well s up kept e =
       record {
-        says = subst (λ x. SaysReport c.tolerant (shown offers s.image (pending_of s.stage) Fetching up) (Some Uploaded)
+        says = subst (λ x. ReportStep c.tolerant (shown offers s.image (pending_of s.stage) Fetching up) (Some Uploaded)
             (shown offers s.image (pending_of s.stage) NoOne x)) (sym e) (says_uploaded refl);
         fact = tt;
         offer = tt;
@@ -111,7 +111,7 @@ module _ (c : Profile) (offers : List (List ℕ)) where
       settled (record { task = task; phase = next; actions = left; restarts = again }) next
 
   record Lives (task : Task) : Type 0 where
-    task_is : TaskGoesBy c task
+    task_is : TaskMatchesProfile c task
     offer : IsLiveOffer offers (live_goal task.goal)
     some : HasBlocks c task.goal
 
@@ -156,7 +156,7 @@ module _ (c : Profile) (offers : List (List ℕ)) where
       (goal_anywhere c h.task.goal s Find tt)
 
   -- A restart of the device, of which a live host hears.
-  pub restart_taken : (s : Situation) (h : HostState) (up : List ℕ) → IsOn h.phase → TaskGoesBy c h.task
+  pub restart_taken : (s : Situation) (h : HostState) (up : List ℕ) → IsOn h.phase → TaskMatchesProfile c h.task
       → IsLiveOffer offers (live_goal h.task.goal)
       → HasBlocks c h.task.goal → TookWell s (live_goal h.task.goal) up (took h Restarted)
   restart_taken s h up on e o some =
@@ -168,7 +168,7 @@ module _ (c : Profile) (offers : List (List ℕ)) where
   lives_checked g v = v
 
   last_well : (s : Situation) (g : Goal) (up : List ℕ) (phase : Phase) (left again : ℕ) → Lives (task_for c g)
-      → let q = left_by (record { task = task_for c g; phase = phase; actions = left; restarts = again }) phase true in
+      → let q = host_after_leaving (record { task = task_for c g; phase = phase; actions = left; restarts = again }) phase true in
       TookWell s (live_goal g) up (settled q q.phase)
   last_well s (ToVerify p) up phase left again v = budget_well s (task_for c (ToCompare p)) up Find (pred left) again
       (lives_checked (ToVerify p) v) tt (goal_anywhere c (ToCompare p) s Find tt)
@@ -176,7 +176,7 @@ module _ (c : Profile) (offers : List (List ℕ)) where
 
   -- In no event of a link a host hears that its device left by itself. It would keep what holds.
   left_well : (s : Situation) (g : Goal) (up : List ℕ) (phase : Phase) (left again : ℕ) (behind : Bool) → Lives (task_for c g)
-      → let q = left_by (record { task = task_for c g; phase = phase; actions = left; restarts = again }) phase behind in
+      → let q = host_after_leaving (record { task = task_for c g; phase = phase; actions = left; restarts = again }) phase behind in
       TookWell s (live_goal g) up (settled q q.phase)
   left_well s g up phase left again true v = last_well s g up phase left again v
   left_well s g up phase left again false v =
@@ -192,15 +192,15 @@ module _ (c : Profile) (offers : List (List ℕ)) where
 
   -- It says nothing that promises.
   restarted_plain : (h : HostState) (phase : Phase) (again : ℕ) → let q = restarted h phase again in
-      SaysNoPromise (settled q q.phase).answer.report
+      ReportsNoPromise (settled q q.phase).answer.report
   restarted_plain h GiveUp again = tt
   restarted_plain h phase zero = tt
-  restarted_plain h phase (suc again) = elim (pred h.actions) as (λ left. SaysNoPromise (budget h.task Find left again).answer.report)
+  restarted_plain h phase (suc again) = elim (pred h.actions) as (λ left. ReportsNoPromise (budget h.task Find left again).answer.report)
       [ zero ↦ tt | suc left ↦ tt ]
 
   -- The report of a host on a restart promises nothing.
-  pub restart_plain : (h : HostState) → IsOn h.phase → SaysNoPromise (took h Restarted).answer.report
-  restart_plain h on = subst (λ (q : HostState). SaysNoPromise (settled q q.phase).answer.report) (sym (after_on h h.phase Restarted on))
+  pub restart_plain : (h : HostState) → IsOn h.phase → ReportsNoPromise (took h Restarted).answer.report
+  restart_plain h on = subst (λ (q : HostState). ReportsNoPromise (settled q q.phase).answer.report) (sym (after_on h h.phase Restarted on))
       (restarted_plain h h.phase h.restarts)
 
   module _ (g : Goal) where

@@ -17,14 +17,14 @@ use Rattle.dfu_sim.specs.declared.fault.OfferFault.TheVariants as offer_fault
 use Rattle.dfu_sim.specs.Play.{silent, session_aborted}
 use Rattle.dfu_sim.specs.LinkView.{Session, Hosted, linked}
 use Rattle.dfu_sim.specs.Happening.{Uploads, Aborts}
-use Rattle.dfu_sim.specs.Refusing.{CanGive}
-use Rattle.dfu_sim.specs.Comes.{HasCome, HasComeAlone}
-use Rattle.dfu_sim.specs.Standing.{session_of, given_by, bench_of, link_state}
-use Rattle.dfu_sim.specs.inside.Acting.{abort_told}
+use Rattle.dfu_sim.specs.Refusing.{ServesUpload}
+use Rattle.dfu_sim.specs.EventResults.{WorldEventResult, WorldEventAlone}
+use Rattle.dfu_sim.specs.LinkInvariant.{session_of, given_by, bench_of, link_state}
+use Rattle.dfu_sim.specs.inside.Acting.{abort_answer}
 use Rattle.dfu_sim.proofs.Events.{refused_comes, event_comes, not_first, idle_refused, begins_comes, none_of}
 
 -- A device that gives its image has blocks of some bytes.
-pub gives_transfer : (s : Setting) → CanGive s → 0 < s.functional.transfer
+pub gives_transfer : (s : Setting) → ServesUpload s → 0 < s.functional.transfer
 gives_transfer s gives =
     let a = not_first (not s.functional.can_upload) _ _ gives in
     let z = not_first (s.functional.transfer == 0) _ _ a.1 in
@@ -34,7 +34,7 @@ gives_transfer s gives =
 -- An upload from a device that gives no image.
 pub upload_refused : (limits : Limits) (w : DeviceView) (host : Option HostState) (f : Functional) (why : HostFault) → is_some host ≡ false
     → f ≡ w.config.functional → first_upload_fault f ≡ Some why
-    → HasComeAlone (bench_of w host) (Uploads limits) (bench_of w host) (Err (fault.BadOffer (offer_fault.Host why)))
+    → WorldEventAlone (bench_of w host) (Uploads limits) (bench_of w host) (Err (fault.BadOffer (offer_fault.Host why)))
 upload_refused limits w host f why n e bad = idle_refused (Uploads limits) (fault.BadOffer (offer_fault.Host why)) w host n
     (refl, subst (λ (x : Functional). first_upload_fault x ≡ Some why) e bad)
 
@@ -43,7 +43,7 @@ pub upload_comes : (limits : Limits) (w : DeviceView) (host : Option HostState) 
     → w.slots.medium.fuse ≡ Whole → f ≡ w.config.functional
     → ((why : HostFault) → (◌≡◌ {A = Result HostState HostFault} (Ok h) (Err why)) ↔ (first_upload_fault f ≡ Some why))
     → h ≡ started f ToFetch limits
-    → HasComeAlone (bench_of w host) (Uploads limits) (bench_of w (Some h)) (Ok None)
+    → WorldEventAlone (bench_of w host) (Uploads limits) (bench_of w (Some h)) (Ok None)
 upload_comes limits w host h f n e k none is =
     let begun : h ≡ started w.config.functional ToFetch limits = is ∙ ap (λ (x : Functional). started x ToFetch limits) k in
     begins_comes (Uploads limits) (Uploads limits) w host h n e
@@ -53,13 +53,13 @@ upload_comes limits w host h f n e k none is =
 -- An abort.
 pub abort_comes : (w : DeviceView) (host host' gave : Option HostState) (result : Result (Option Report) LinkFault)
     → w.slots.medium.fuse ≡ Whole
-    → session_of host' ≡ session_aborted (session_of host) → result ≡ abort_told (session_of host)
-    → HasCome (link_state w host gave) Aborts (link_state w host' gave) result
+    → session_of host' ≡ session_aborted (session_of host) → result ≡ abort_answer (session_of host)
+    → WorldEventResult (link_state w host gave) Aborts (link_state w host' gave) result
 abort_comes w None host' gave result e session says =
-    subst (λ (r : Result (Option Report) LinkFault). HasCome (link_state w None gave) Aborts (link_state w host' gave) r) (sym says)
-    (subst (λ (s : Session). HasCome (link_state w None gave) Aborts (linked (record { device = w; session = s }) (given_by gave))
+    subst (λ (r : Result (Option Report) LinkFault). WorldEventResult (link_state w None gave) Aborts (link_state w host' gave) r) (sym says)
+    (subst (λ (s : Session). WorldEventResult (link_state w None gave) Aborts (linked (record { device = w; session = s }) (given_by gave))
     (Err fault.NoHost)) (sym session) (refused_comes (bench_of w None) Aborts fault.NoHost refl (given_by gave)))
 abort_comes w (Some h) host' gave result e session says =
-    subst (λ (r : Result (Option Report) LinkFault). HasCome (link_state w (Some h) gave) Aborts (link_state w host' gave) r) (sym says)
+    subst (λ (r : Result (Option Report) LinkFault). WorldEventResult (link_state w (Some h) gave) Aborts (link_state w host' gave) r) (sym says)
     (event_comes Aborts silent refl
     (record { allowed = tt; unarmed = e; happens = ((λ i. record { device = w; session = session i }), refl) }) tt refl refl)

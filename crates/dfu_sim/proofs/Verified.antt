@@ -7,7 +7,7 @@ use Rattle.dfu_device.specs.Rows.{meant}
 use Rattle.dfu_host.specs.declared.report.Report.{Report}
 use Rattle.dfu_host.specs.Phases.{Goal, ToLoad, ToVerify, Task, Phase, Find, Last, GiveUp, Over, OverUploaded, Deed, Send, Heard, Part, WasReset, Restarted, Left}
 use Rattle.dfu_host.specs.Table.{deed, goal_after, host_row}
-use Rattle.dfu_host.specs.Host.{HostState, restarted, host_heard, after_phase, after}
+use Rattle.dfu_host.specs.Host.{HostState, restarted, host_after, after_phase, after}
 use Rattle.dfu_host.specs.TaskLaws.{after_task}
 use Rattle.dfu_sim.specs.Happening.{Pass}
 use Rattle.dfu_sim.specs.Delivery.{delivery_of}
@@ -69,7 +69,7 @@ module _ (c : Profile) (p : List ℕ) where
   restarted_alike phase left again (suc restarts) = refl
 
   told_alike : (phase : Phase) (heard : Heard) (left again : ℕ) → IsBefore phase → (heard ≡ Left → ⊥)
-      → host_heard (host checked phase left again) phase heard ≡ verifying (host_heard (host plain phase left again) phase heard)
+      → host_after (host checked phase left again) phase heard ≡ verifying (host_after (host plain phase left again) phase heard)
   told_alike phase Restarted left again b never = restarted_alike phase left again again
   told_alike phase Left left again b never = absurd (never refl)
   told_alike phase heard left again b never = rw (same_row phase heard b, stays_checked phase heard b) refl

@@ -1,13 +1,13 @@
 -- Images that a link keeps, whose device has a program that checks each one.
 use Rattle.std.specs.Prelude.{◌≡◌, ◌⊎◌, ℕ, Bool, true, List, [], ◌∷◌, Option, Result}
 use Rattle.dfu_slots.specs.Image.{Active}
-use Rattle.dfu_slots.specs.Seen.{image_of}
+use Rattle.dfu_slots.specs.StoreView.{image_of}
 use Rattle.dfu_host.specs.declared.report.Report.{Report}
 use Rattle.dfu_sim.specs.declared.fault.LinkFault.{LinkFault}
 use Rattle.dfu_sim.specs.Happening.{Happening, Goes, Passes}
 use Rattle.dfu_sim.specs.LinkView.{WorldView}
-use Rattle.dfu_sim.specs.Comes.{HasCome}
-use Rattle.dfu_sim.specs.Headline.{Begun, WasOffered, IsWaiting, HeadlineSays}
+use Rattle.dfu_sim.specs.EventResults.{WorldEventResult}
+use Rattle.dfu_sim.specs.Headline.{Begun, WasOffered, IsWaiting, HeadlineStatement}
 
 -- An image that waits to be put in place may be put there by what happens: an action of the host, or a time that passes. All else puts none
 -- in place: the program refuses the image, the bus is reset, the power goes, or nothing comes to the device.
@@ -23,9 +23,9 @@ pub record LinkStep : Type 0 where
   pub after : WorldView
 
 -- These came one after the other.
-abbrev pub AllCame : WorldView → List LinkStep → WorldView → Type 0
-AllCame w [] w' = w' ≡ w
-AllCame w (s ∷ rest) w' = HasCome w s.happening s.after s.told × AllCame s.after rest w'
+abbrev pub LinkStepsPlayed : WorldView → List LinkStep → WorldView → Type 0
+LinkStepsPlayed w [] w' = w' ≡ w
+LinkStepsPlayed w (s ∷ rest) w' = WorldEventResult w s.happening s.after s.told × LinkStepsPlayed s.after rest w'
 
 -- The program heeds the check at a step: of an image that waits before what may put it in place, the check accepts it, or it waits
 -- afterwards too.
@@ -45,12 +45,12 @@ image_on w = image_of w.bench.device.slots
 
 -- Whatever comes to a link, and whatever the check is that its program heeds: the image is the one before, or one that the check accepts.
 abbrev pub LinkAccepts : Type 0
-LinkAccepts = (check : List ℕ → Bool) (w w' : WorldView) (steps : List LinkStep) → AllCame w steps w' → HeedsSteps check w steps
+LinkAccepts = (check : List ℕ → Bool) (w w' : WorldView) (steps : List LinkStep) → LinkStepsPlayed w steps w' → HeedsSteps check w steps
     → (image_on w' ≡ image_on w) ⊎ (check (image_on w') ≡ true)
 
 -- If the headline says what is active then, it is the factory image, or one whole payload that was offered and that the check accepts.
 abbrev pub OffersAccepted : Type 0
 OffersAccepted = (check : List ℕ → Bool) (w w' : WorldView) (steps : List LinkStep) (factory image : List ℕ) (past : List Begun)
-    (report : Option Report) → Active w.bench.device.slots.medium factory → AllCame w steps w' → HeedsSteps check w steps
-    → HeadlineSays factory past report w'.bench → Active w'.bench.device.slots.medium image
+    (report : Option Report) → Active w.bench.device.slots.medium factory → LinkStepsPlayed w steps w' → HeedsSteps check w steps
+    → HeadlineStatement factory past report w'.bench → Active w'.bench.device.slots.medium image
     → (image ≡ factory) ⊎ (WasOffered past image × (check image ≡ true))

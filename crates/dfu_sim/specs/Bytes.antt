@@ -3,7 +3,7 @@ use Rattle.std.specs.Prelude.{◌≡◌, ◌⊎◌, ℕ, Bool, true, false, IsTr
 use Rattle.dfu_wire.specs.declared.requests.Request.{Request as Asked}
 use Rattle.dfu_slots.specs.Medium.{Fuse}
 use Rattle.dfu_slots.specs.Medium.Fuse.{Whole, Armed, Lying}
-use Rattle.dfu_slots.specs.Seen.{fused, store_restarted}
+use Rattle.dfu_slots.specs.StoreView.{fused, store_restarted}
 use Rattle.dfu_device.specs.declared.answer.Answer.{Answer}
 use Rattle.dfu_device.specs.declared.answer.Answer.TheVariants as answer
 use Rattle.dfu_device.specs.declared.objection.Objection.{Objection}
@@ -14,7 +14,7 @@ use Rattle.dfu_device.specs.Rows.{Handles, Elapses, ClosesDownload, RefusingClos
 use Rattle.dfu_host.specs.Phases.{ToFetch, Deed, Send, Wait, Reset, Done, Heard, Acked, NoRoom, Stalled, Nothing, Waited, WasReset, Restarted}
 use Rattle.dfu_host.specs.Table.{deed}
 use Rattle.dfu_host.specs.Host.{HostState, after, wants_memory}
-use Rattle.dfu_host.specs.Wire.{IsAsked, HearsBytes}
+use Rattle.dfu_host.specs.Wire.{IsSetupOf, BytesMeaning}
 use Rattle.dfu_sim.specs.declared.delivery.Response.{Response}
 use Rattle.dfu_sim.specs.declared.delivery.Response.TheVariants as response
 use Rattle.dfu_sim.specs.declared.delivery.Handled.{Handled}
@@ -51,21 +51,21 @@ abbrev pub was_refused : Objection → DeviceView → DeviceView
 was_refused why w = record w { stage = refuse_stage why w.stage }
 
 -- The meaning that a host gives to an answer: bytes as its table reads them.
-abbrev pub HearsAnswer : Deed → Answer → List ℕ → Heard → Type 0
-HearsAnswer d answer.Ack out heard = heard ≡ Acked
-HearsAnswer d answer.Stall out heard = heard ≡ Stalled
-HearsAnswer d answer.Bytes out heard = HearsBytes d out heard
+abbrev pub HeardOfAnswer : Deed → Answer → List ℕ → Heard → Type 0
+HeardOfAnswer d answer.Ack out heard = heard ≡ Acked
+HeardOfAnswer d answer.Stall out heard = heard ≡ Stalled
+HeardOfAnswer d answer.Bytes out heard = BytesMeaning d out heard
 
 -- The meaning that a host gives to the response to a request.
-abbrev pub HearsBack : Deed → Response → List ℕ → Heard → Type 0
-HearsBack d (response.Answered a) out heard = HearsAnswer d a out heard
-HearsBack d response.Lost out heard = heard ≡ Nothing
-HearsBack d response.Restarted out heard = heard ≡ Restarted
+abbrev pub HeardOfResponse : Deed → Response → List ℕ → Heard → Type 0
+HeardOfResponse d (response.Answered a) out heard = HeardOfAnswer d a out heard
+HeardOfResponse d response.Lost out heard = heard ≡ Nothing
+HeardOfResponse d response.Restarted out heard = heard ≡ Restarted
 
 -- A setup with its body comes to a device: if it closes a download whose image the program refuses, that is its row; else it is handled.
-abbrev pub TakesSetup : Option Objection → (setup body : List ℕ) → DeviceView → Answer → List ℕ → DeviceView → Type 0
-TakesSetup None setup body w a out w' = Handles setup body w a out w'
-TakesSetup (Some why) setup body w a out w' =
+abbrev pub SetupResult : Option Objection → (setup body : List ℕ) → DeviceView → Answer → List ℕ → DeviceView → Type 0
+SetupResult None setup body w a out w' = Handles setup body w a out w'
+SetupResult (Some why) setup body w a out w' =
     Row w (RefusingClose setup why) a out w' ⊎ ((¬ ClosesDownload setup w) × Handles setup body w a out w')
 
 -- A request goes to the device: which rows of the device it makes, and the last answer. A second time it is handled: no request closes a
@@ -73,33 +73,33 @@ TakesSetup (Some why) setup body w a out w' =
 pub data ReachesDevice (refusing : Option Objection) (setup body : List ℕ) : Handled → DeviceView → Response → List ℕ → DeviceView
     → Type 0 where
   unseen : {w : DeviceView} {out : List ℕ} → ReachesDevice refusing setup body Unseen w response.Lost out w
-  once : {w w' : DeviceView} {a : Answer} {out : List ℕ} → TakesSetup refusing setup body w a out w'
+  once : {w w' : DeviceView} {a : Answer} {out : List ℕ} → SetupResult refusing setup body w a out w'
       → ReachesDevice refusing setup body Once w (response.Answered a) out w'
   again : {w w' : DeviceView} {b : Answer} {last : List ℕ} (mid : DeviceView) (a : Answer) (out : List ℕ)
-      → TakesSetup refusing setup body w a out mid
+      → SetupResult refusing setup body w a out mid
       → Handles setup body mid b last w' → ReachesDevice refusing setup body Again w (response.Answered b) last w'
-  late : {w w' : DeviceView} {a : Answer} {out : List ℕ} {ms : ℕ} (mid : DeviceView) → TakesSetup refusing setup body w a out mid
+  late : {w w' : DeviceView} {a : Answer} {out : List ℕ} {ms : ℕ} (mid : DeviceView) → SetupResult refusing setup body w a out mid
       → Elapses ms mid w'
       → ReachesDevice refusing setup body (Late ms) w (response.Answered a) out w'
 
 -- An answer that is lost does not come back.
-abbrev pub came_back : Bool → Response → Response
-came_back true b = b
-came_back false b = response.Lost
+abbrev pub response_if_delivered : Bool → Response → Response
+response_if_delivered true b = b
+response_if_delivered false b = response.Lost
 
 -- If the power was cut, no answer comes back.
-abbrev pub ended_back : MediumFault → Response → Response
-ended_back NoWrite b = b
-ended_back CutsPower b = response.Restarted
-ended_back FailsWrite b = b
-ended_back LiesInWrite b = b
+abbrev pub response_if_powered : MediumFault → Response → Response
+response_if_powered NoWrite b = b
+response_if_powered CutsPower b = response.Restarted
+response_if_powered FailsWrite b = b
+response_if_powered LiesInWrite b = b
 
 -- A request, by its delivery.
 pub record Sends (q : Asked) (setup body : List ℕ) (delivery : Delivery) (w w' : DeviceView) (heard : Heard) : Type 0 where
   pub came : Response
   pub out : List ℕ
   pub reaches : ReachesDevice delivery.refusing setup body delivery.handling w came out w'
-  pub hears : HearsBack (Send q body) (ended_back delivery.harming (came_back delivery.back came)) out heard
+  pub hears : HeardOfResponse (Send q body) (response_if_powered delivery.harming (response_if_delivered delivery.back came)) out heard
 
 -- A wait, by its delivery.
 abbrev pub Waits : ℕ → Delivery → DeviceView → DeviceView → Heard → Type 0
@@ -118,17 +118,17 @@ ResetsBus delivery w w' heard = Slips delivery.handling (bus_was_reset w) w' × 
 
 -- An action of the host, by its delivery: a request goes as the bytes of a setup that asks for it. A live host is not done.
 abbrev pub Acts : Deed → Delivery → DeviceView → DeviceView → Heard → Type 0
-Acts (Send q body) delivery w w' heard = (setup : List ℕ) × IsAsked q setup × Sends q setup body delivery w w' heard
+Acts (Send q body) delivery w w' heard = (setup : List ℕ) × IsSetupOf q setup × Sends q setup body delivery w w' heard
 Acts (Wait ms) delivery w w' heard = Waits ms delivery w w' heard
 Acts Reset delivery w w' heard = ResetsBus delivery w w' heard
 Acts (Done report) delivery w w' heard = ⊥
 
 -- The device once the action is over: not armed any more, and in appIDLE if its power was cut.
-abbrev pub device_left_by : MediumFault → DeviceView → DeviceView
-device_left_by NoWrite w = armed w Whole
-device_left_by CutsPower w = powered_up w
-device_left_by FailsWrite w = armed w Whole
-device_left_by LiesInWrite w = armed w Whole
+abbrev pub device_after_action : MediumFault → DeviceView → DeviceView
+device_after_action NoWrite w = armed w Whole
+device_after_action CutsPower w = powered_up w
+device_after_action FailsWrite w = armed w Whole
+device_after_action LiesInWrite w = armed w Whole
 
 -- The link that a bench shows: the image is read from the medium's bytes.
 abbrev pub link_of : LinkView → Link
@@ -145,7 +145,7 @@ pub record HostActs (h : HostState) (delivery : Delivery) (w w' : DeviceView) (h
 pub record HostActsArmed (h : HostState) (delivery : Delivery) (harm : Harm) (w w' : DeviceView) (h' : HostState) : Type 0 where
   pub last : DeviceView
   pub acted : HostActs h delivery (armed w (fuse_of delivery.harming harm)) last h'
-  pub device : w' ≡ device_left_by delivery.harming last
+  pub device : w' ≡ device_after_action delivery.harming last
 
 -- The host's next action on a bench. If the host is done then, its session is over with its report.
 pub record NextAction (h : Session) (fate : Fate) (harm : Harm) (b b' : LinkView) (answer : Answered) : Type 0 where

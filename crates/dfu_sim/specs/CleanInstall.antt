@@ -2,7 +2,7 @@
 use Rattle.std.specs.Prelude.{◌≡◌, ℕ, ◌<◌, ◌≤◌, true, List, [], ◌∷◌, length, replicate, Result, Ok, Err}
 use Rattle.std.specs.declared.vec.Vec.{Vec}
 use Rattle.std.specs.declared.alloc.Global.{Global}
-use Rattle.dfu_slots.specs.Seen.{room_of}
+use Rattle.dfu_slots.specs.StoreView.{room_of}
 use Rattle.dfu_device.specs.Stage.{InAppIdle}
 use Rattle.dfu_device.specs.Setting.{Setting}
 use Rattle.dfu_host.specs.declared.limits.Limits.{Limits}
@@ -45,12 +45,12 @@ pub record InstallsCleanly (b : LinkView) (purpose : Purpose) (payload : List �
   pub installed : count ≡ clean_passes purpose b.device.config payload → link_of b' ≡ resting payload
 
 -- The answer of a clean run; it stops only if there is no memory for a report, and nothing is reported then.
-abbrev pub EndsCleanly : LinkView → Purpose → List ℕ → ℕ → LinkView → Result (Vec Report Global) Stop → Type 0
-EndsCleanly b purpose payload count b' (Ok reports) = InstallsCleanly b purpose payload count reports.items b'
-EndsCleanly b purpose payload count b' (Err stop) = (stop.fault ≡ NoMemory) × (stop.reports.items ≡ [])
+abbrev pub CleanRunResult : LinkView → Purpose → List ℕ → ℕ → LinkView → Result (Vec Report Global) Stop → Type 0
+CleanRunResult b purpose payload count b' (Ok reports) = InstallsCleanly b purpose payload count reports.items b'
+CleanRunResult b purpose payload count b' (Err stop) = (stop.fault ≡ NoMemory) × (stop.reports.items ≡ [])
 
 -- Each run that is an offer and at most the passes of a clean run.
 abbrev pub RunsCleanly : LinkView → List Happening → LinkView → Result (Vec Report Global) Stop → Type 0
 RunsCleanly b hs b' result = (purpose : Purpose) (file : List ℕ) (limits : Limits) (payload : List ℕ) (count : ℕ)
     → CanInstall b purpose file limits payload → hs ≡ offer_and_passes purpose file limits count
-    → count ≤ clean_passes purpose b.device.config payload → EndsCleanly b purpose payload count b' result
+    → count ≤ clean_passes purpose b.device.config payload → CleanRunResult b purpose payload count b' result

@@ -45,9 +45,9 @@ HasParts Install t payload = Unit {0}
 HasParts Verify t payload = length payload / t < 65535
 
 -- The device can do what the session asks for: it downloads, and if the payload is verified it uploads too.
-abbrev pub CanDo : Purpose → Profile → Type 0
-CanDo Install c = c.can_download ≡ true
-CanDo Verify c = (c.can_download ≡ true) × (c.can_upload ≡ true)
+abbrev pub CanServe : Purpose → Profile → Type 0
+CanServe Install c = c.can_download ≡ true
+CanServe Verify c = (c.can_download ≡ true) × (c.can_upload ≡ true)
 
 -- After so many passes the payload is installed: none but the last reports, and the last reports this, with the payload active.
 pub record InstalledAfter (c : Profile) (w : Link) (count : ℕ) (payload : List ℕ) (report : Report) : Type 0 where
@@ -59,7 +59,7 @@ pub record InstalledAfter (c : Profile) (w : Link) (count : ℕ) (payload : List
 -- at least the fewest bytes and at most the room, with fewer than 65,535 full blocks if it is verified, and limits with enough actions for
 -- a clean run. Then after the offer exactly as many passes as a clean run has end in its report, and those before the last report nothing.
 abbrev pub CleanRun : Type 0
-CleanRun = (c : Profile) (purpose : Purpose) (image payload : List ℕ) (limits : Limits) → c.tolerant ≡ true → CanDo purpose c
+CleanRun = (c : Profile) (purpose : Purpose) (image payload : List ℕ) (limits : Limits) → c.tolerant ≡ true → CanServe purpose c
     → 0 < c.transfer
     → 0 < length payload → c.least ≤ length payload → length payload ≤ c.capacity → HasParts purpose c.transfer payload
     → actions_of purpose c.transfer c.busy c.manifest payload ≤ limits.actions

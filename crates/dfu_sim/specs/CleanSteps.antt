@@ -25,8 +25,8 @@ StepsInstall = (b b' : LinkView) (purpose : Purpose) (file : List ℕ) (limits :
     → SureSteps b (offer_and_passes purpose file limits count) reports b' → InstallsCleanly b purpose payload count reports b'
 
 -- No such step is refused.
-abbrev pub StepsStand : Type 0
-StepsStand = (b b' : LinkView) (purpose : Purpose) (file : List ℕ) (limits : Limits) (payload : List ℕ) (count at : ℕ)
+abbrev pub CleanStepsSucceed : Type 0
+CleanStepsSucceed = (b b' : LinkView) (purpose : Purpose) (file : List ℕ) (limits : Limits) (payload : List ℕ) (count at : ℕ)
     (reports : List Report)
     (next : Happening)
     (more : List Happening) (fault : LinkFault)

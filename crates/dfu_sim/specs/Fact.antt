@@ -47,9 +47,9 @@ BlockIn x (InError code) = Unit {0}
 BlockIn x stage = ⊥
 
 -- Close: the whole payload is taken, and the device waits for more.
-abbrev pub AllTaken : List ℕ → Stage → Type 0
-AllTaken p (InDownloadIdle taken number) = taken ≡ p
-AllTaken p stage = ⊥
+abbrev pub WholePayloadAccepted : List ℕ → Stage → Type 0
+WholePayloadAccepted p (InDownloadIdle taken number) = taken ≡ p
+WholePayloadAccepted p stage = ⊥
 
 -- Ask last: so it is, or it is closed, or there was a fault.
 abbrev pub AskingLast : List ℕ → Stage → Type 0
@@ -70,10 +70,10 @@ Managing p image stage = ⊥
 
 -- If a session ends with Verified, the payload is active and the state is this one; and if it ends with Installed, the device is
 -- tolerant besides; the other reports of a session with a payload promise nothing.
-abbrev pub EndsAs : Profile → List ℕ → Situation → (Stage → Type 0) → Report → Type 0
-EndsAs c p s P Installed = IsTrue c.tolerant × (s.image ≡ p) × P s.stage
-EndsAs c p s P Verified = (s.image ≡ p) × P s.stage
-EndsAs c p s P report = PromisesNothing report
+abbrev pub ReportMeaning : Profile → List ℕ → Situation → (Stage → Type 0) → Report → Type 0
+ReportMeaning c p s P Installed = IsTrue c.tolerant × (s.image ≡ p) × P s.stage
+ReportMeaning c p s P Verified = (s.image ≡ p) × P s.stage
+ReportMeaning c p s P report = PromisesNothing report
 
 -- Fetch k: what was kept is the active image as far as the device's place, and the number that is expected is k.
 abbrev pub Fetches : (k : ℕ) → (kept image : List ℕ) → Stage → Type 0
@@ -91,13 +91,13 @@ Fact c p (Block n) s = (n < length (blocks p c.transfer)) × AtBlock p c.transfe
 Fact c p (Ask n) s = (n < length (blocks p c.transfer)) × Asking p c.transfer n s.stage
 Fact c p (Poll n) s = (n < length (blocks p c.transfer)) × BlockIn (first p c.transfer (suc n)) s.stage
 Fact c p (WaitPoll n poll) s = (n < length (blocks p c.transfer)) × BlockIn (first p c.transfer (suc n)) s.stage
-Fact c p Close s = AllTaken p s.stage
+Fact c p Close s = WholePayloadAccepted p s.stage
 Fact c p AskLast s = AskingLast p s.stage
 Fact c p Manifest s = Managing p s.image s.stage
 Fact c p (WaitManifest poll) s = Managing p s.image s.stage
 Fact c p (WaitLast poll) s = Unit {0}
-Fact c p (Last report) s = EndsAs c p s IsDfuIdle report
-Fact c p (Over report) s = EndsAs c p s IsInApp report
+Fact c p (Last report) s = ReportMeaning c p s IsDfuIdle report
+Fact c p (Over report) s = ReportMeaning c p s IsInApp report
 Fact c p phase s = IsCommon phase
 
 -- In an upload's phases. Those of a download and of a comparison do not occur.
@@ -112,8 +112,8 @@ FetchFact phase s = IsCommon phase
 -- not occur.
 abbrev pub CompareFact : Profile → List ℕ → Phase → Situation → Type 0
 CompareFact c p (Compare k) s = (k < 65535) × Fetches k (first p c.transfer k) s.image s.stage
-CompareFact c p (Last report) s = EndsAs c p s IsDfuIdle report
-CompareFact c p (Over report) s = EndsAs c p s IsInApp report
+CompareFact c p (Last report) s = ReportMeaning c p s IsDfuIdle report
+CompareFact c p (Over report) s = ReportMeaning c p s IsInApp report
 CompareFact c p phase s = IsCommon phase
 
 -- By what the session is for.
@@ -131,7 +131,7 @@ HasBlocks c (ToVerify p) = 0 < length (blocks p c.transfer)
 HasBlocks c (ToCompare p) = 0 < length (blocks p c.transfer)
 
 -- A session's task goes by the device's descriptor.
-pub record TaskGoesBy (c : Profile) (task : Task) : Type 0 where
+pub record TaskMatchesProfile (c : Profile) (task : Task) : Type 0 where
   pub transfer : task.transfer ≡ c.transfer
   pub tolerant : task.tolerant ≡ c.tolerant
   pub will_detach : task.will_detach ≡ c.will_detach
@@ -140,7 +140,7 @@ pub record TaskGoesBy (c : Profile) (task : Task) : Type 0 where
 -- The fact of a live host: its task goes by the device's descriptor, it is not done, a payload has a block at least, and what holds of the
 -- device fits its phase.
 pub record HostFact (c : Profile) (s : Situation) (h : HostState) : Type 0 where
-  pub task_is : TaskGoesBy c h.task
+  pub task_is : TaskMatchesProfile c h.task
   pub on : IsOn h.phase
   pub some : HasBlocks c h.task.goal
   pub fact : GoalFact c h.task.goal h.phase s

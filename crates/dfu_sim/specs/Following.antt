@@ -5,7 +5,7 @@ use Rattle.dfu_suffix.specs.Grammar.{IsFile}
 use Rattle.dfu_device.specs.Stage.{InAppIdle}
 use Rattle.dfu_host.specs.declared.report.Report.{Report}
 use Rattle.dfu_sim.specs.declared.fault.LinkFault.{LinkFault}
-use Rattle.dfu_sim.specs.Session.{Machine, Loading, SaysInPlace, Kind, AnOffer, AnUpload, AnAbort, ATime, ARestart, ARefusal, AGo, MachineStep}
+use Rattle.dfu_sim.specs.Session.{Machine, Loading, IsInPlaceReport, Kind, AnOffer, AnUpload, AnAbort, ATime, ARestart, ARefusal, AGo, MachineStep}
 use Rattle.dfu_sim.specs.Agreement.{AgreesOn}
 use Rattle.dfu_sim.specs.Happening.{Happening, Offers, Uploads, Aborts, Goes, Passes, Resets, Cuts, Refuses}
 use Rattle.dfu_sim.specs.LinkView.{WorldView}
@@ -31,7 +31,7 @@ pub record IsFollowed (w : WorldView) (h : Happening) (w' : WorldView) (report :
   pub after : Machine
   pub step : MachineStep w.bench.device.config.functional.tolerant w.bench.device.config.functional.transfer kind m report after
   pub agrees : AgreesOn w'.bench w'.up after
-  pub in_place : SaysInPlace report → (w'.bench.device.stage ≡ InAppIdle) × (m.live ≡ Loading after.cur)
+  pub in_place : IsInPlaceReport report → (w'.bench.device.stage ≡ InAppIdle) × (m.live ≡ Loading after.cur)
 
 -- Each session machine that agrees with the bench and with what it last gave follows what happened; what was refused changed nothing.
 abbrev pub AllFollow : WorldView → Happening → WorldView → Result (Option Report) LinkFault → Type 0

@@ -12,7 +12,7 @@ use Rattle.dfu_sim.specs.declared.event.Event.{Event}
 use Rattle.dfu_sim.specs.declared.event.Event.TheVariants.{Offer, OfferVerified, Upload}
 use Rattle.dfu_sim.specs.declared.fault.LinkFault.{LinkFault}
 use Rattle.dfu_sim.specs.declared.running.Stop.{Stop}
-use Rattle.dfu_sim.specs.Session.{SaysInPlace, said}
+use Rattle.dfu_sim.specs.Session.{IsInPlaceReport, said}
 use Rattle.dfu_sim.specs.LinkView.{Session, Nobody, Hosted, LinkView, WorldView}
 
 -- Beginning of a session: with the offer of a file, or as an upload of the active image.
@@ -21,11 +21,11 @@ pub data Begun : Type 0 where
   AsUpload : Begun
 
 -- The sessions that have begun once this event has come too; the last one comes first.
-abbrev pub begun_now : Event → List Begun → List Begun
-begun_now (Offer file limits) past = WithOffer file.now ∷ past
-begun_now (OfferVerified file limits) past = WithOffer file.now ∷ past
-begun_now (Upload limits) past = AsUpload ∷ past
-begun_now event past = past
+abbrev pub sessions_now : Event → List Begun → List Begun
+sessions_now (Offer file limits) past = WithOffer file.now ∷ past
+sessions_now (OfferVerified file limits) past = WithOffer file.now ∷ past
+sessions_now (Upload limits) past = AsUpload ∷ past
+sessions_now event past = past
 
 -- These bytes are the whole payload of the file, by the grammar of DFU files.
 abbrev pub IsPayload : List ℕ → (file : List ℕ) → Type 0
@@ -45,11 +45,11 @@ IsLastPayload (AsUpload ∷ past) x = ⊥
 
 -- The headline says this of a link after an event that reported this, if these sessions have begun. The active image is the factory image
 -- or a payload offered so far. If it reported Installed or Verified, the device is in appIDLE with the last session's payload active.
-pub record HeadlineSays (factory : List ℕ) (past : List Begun) (report : Option Report) (b : LinkView) : Type 0 where
+pub record HeadlineStatement (factory : List ℕ) (past : List Begun) (report : Option Report) (b : LinkView) : Type 0 where
   pub image : List ℕ
   pub active : Active b.device.slots.medium image
   pub known : (image ≡ factory) ⊎ WasOffered past image
-  pub in_place : SaysInPlace report → (b.device.stage ≡ InAppIdle) × IsLastPayload past image
+  pub in_place : IsInPlaceReport report → (b.device.stage ≡ InAppIdle) × IsLastPayload past image
 
 -- The device has all bytes of an image, these, and has not put it in place yet.
 abbrev pub IsWaiting : Stage → List ℕ → Type 0
@@ -71,41 +71,41 @@ IsLivePayload (Hosted host) x = IsGoalPayload host.task.goal x
 
 -- These facts keep the headline: an image that waits to be put in place was offered, and a live session's payload is that of the last
 -- offer.
-pub record KeepsHeadline (past : List Begun) (b : LinkView) : Type 0 where
+pub record HeadlineSupport (past : List Begun) (b : LinkView) : Type 0 where
   pub waiting : (x : List ℕ) → IsWaiting b.device.stage x → WasOffered past x
   pub live : (x : List ℕ) → IsLivePayload b.session x → IsLastPayload past x
 
 -- The headline holds: it is so, and what keeps it is so.
-pub record HeadlineHolds (factory : List ℕ) (past : List Begun) (report : Option Report) (b : LinkView) : Type 0 where
-  pub says : HeadlineSays factory past report b
-  pub kept : KeepsHeadline past b
+pub record HeadlineInvariant (factory : List ℕ) (past : List Begun) (report : Option Report) (b : LinkView) : Type 0 where
+  pub says : HeadlineStatement factory past report b
+  pub kept : HeadlineSupport past b
 
 -- If the headline holds before an event, it holds after it, with what the event reports. A refused event changes nothing.
-abbrev pub StepKeepsHeadline : WorldView → Event → WorldView → Result (Option Report) LinkFault → Type 0
-StepKeepsHeadline w event w' (Ok report) = (factory : List ℕ) (past : List Begun) (before : Option Report)
-    → HeadlineHolds factory past before w.bench → HeadlineHolds factory (begun_now event past) report w'.bench
-StepKeepsHeadline w event w' (Err fault) = w' ≡ w
+abbrev pub StepPreservesHeadline : WorldView → Event → WorldView → Result (Option Report) LinkFault → Type 0
+StepPreservesHeadline w event w' (Ok report) = (factory : List ℕ) (past : List Begun) (before : Option Report)
+    → HeadlineInvariant factory past before w.bench → HeadlineInvariant factory (sessions_now event past) report w'.bench
+StepPreservesHeadline w event w' (Err fault) = w' ≡ w
 
 -- The headline holds after each of these events, with what that event reports. These are the reports in order, and the link at the end.
-pub data HoldsAfterEach (factory : List ℕ) : (past : List Begun) → WorldView → List Event → List Report → WorldView → Type 0 where
-  no_event : {past : List Begun} {w : WorldView} → HoldsAfterEach factory past w [] [] w
+pub data HeadlineAfterEach (factory : List ℕ) : (past : List Begun) → WorldView → List Event → List Report → WorldView → Type 0 where
+  no_event : {past : List Begun} {w : WorldView} → HeadlineAfterEach factory past w [] [] w
   one_event : {past : List Begun} {w mid w' : WorldView} {event : Event} {events : List Event} {report : Option Report}
       {reports : List Report}
-      → HeadlineHolds factory (begun_now event past) report mid.bench → HoldsAfterEach factory (begun_now event past) mid events reports w'
-      → HoldsAfterEach factory past w (event ∷ events) (said report ++ reports) w'
+      → HeadlineInvariant factory (sessions_now event past) report mid.bench → HeadlineAfterEach factory (sessions_now event past) mid events reports w'
+      → HeadlineAfterEach factory past w (event ∷ events) (said report ++ reports) w'
 
 -- If the headline holds before these events, it holds after each of them.
-abbrev pub EventsKeepHeadline : WorldView → List Event → List Report → WorldView → Type 0
-EventsKeepHeadline w events reports w' = (factory : List ℕ) (past : List Begun) (before : Option Report)
-    → HeadlineHolds factory past before w.bench → HoldsAfterEach factory past w events reports w'
+abbrev pub EventsPreserveHeadline : WorldView → List Event → List Report → WorldView → Type 0
+EventsPreserveHeadline w events reports w' = (factory : List ℕ) (past : List Begun) (before : Option Report)
+    → HeadlineInvariant factory past before w.bench → HeadlineAfterEach factory past w events reports w'
 
 -- A run keeps the headline through all of its events, or through those before the one at which it stopped.
-abbrev pub RunKeepsHeadline : WorldView → List Event → WorldView → Result (Vec Report Global) Stop → Type 0
-RunKeepsHeadline w events w' (Ok reports) = EventsKeepHeadline w events reports.items w'
-RunKeepsHeadline w events w' (Err stop) = EventsKeepHeadline w (take stop.at events) stop.reports.items w'
+abbrev pub RunPreservesHeadline : WorldView → List Event → WorldView → Result (Vec Report Global) Stop → Type 0
+RunPreservesHeadline w events w' (Ok reports) = EventsPreserveHeadline w events reports.items w'
+RunPreservesHeadline w events w' (Err stop) = EventsPreserveHeadline w (take stop.at events) stop.reports.items w'
 
 -- The headline holds at the start. No session has begun, and no complete image waits to be put in place. The factory image is the one that
 -- is active then.
-abbrev pub HoldsAtRest : Type 0
-HoldsAtRest = (b : LinkView) (factory : List ℕ) → Active b.device.slots.medium factory → b.session ≡ Nobody
-    → ((x : List ℕ) → IsWaiting b.device.stage x → ⊥) → HeadlineHolds factory [] None b
+abbrev pub HeadlineAtStart : Type 0
+HeadlineAtStart = (b : LinkView) (factory : List ℕ) → Active b.device.slots.medium factory → b.session ≡ Nobody
+    → ((x : List ℕ) → IsWaiting b.device.stage x → ⊥) → HeadlineInvariant factory [] None b

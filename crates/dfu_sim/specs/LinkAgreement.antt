@@ -4,7 +4,7 @@ use Rattle.dfu_slots.specs.Medium.Fuse.{Whole}
 use Rattle.dfu_device.specs.Stage.{Stage}
 use Rattle.dfu_sim.specs.Session.{Machine, NoOne}
 use Rattle.dfu_sim.specs.Play.{Link}
-use Rattle.dfu_sim.specs.LinkView.{LinkView, Nobody, WorldView, ShowsActive}
+use Rattle.dfu_sim.specs.LinkView.{LinkView, Nobody, WorldView, BenchMatchesFlash}
 use Rattle.dfu_sim.specs.Bytes.{link_of, armed}
 use Rattle.dfu_sim.specs.Agreement.{Intake, NothingTaken, Open, Shut, intake_of, pending_in, live_of, IsShutOffer, IsLiveOffer, AgreesOn}
 
@@ -51,10 +51,10 @@ FreshAgrees = (w : Link) → w.session ≡ Nobody → NothingClosed w.device.sta
 
 -- A bench that shows the active image of its medium's bytes agrees with each machine that its link agrees with.
 abbrev pub LinkAgreesOn : Type 0
-LinkAgreesOn = (b : LinkView) (up : List ℕ) (m : Machine) → ShowsActive b → Agrees (link_of b) up m → AgreesOn b up m
+LinkAgreesOn = (b : LinkView) (up : List ℕ) (m : Machine) → BenchMatchesFlash b → Agrees (link_of b) up m → AgreesOn b up m
 
 -- A world with no session is taken apart, and a new one is made over its device, whose medium it disarms: each session machine that agreed
 -- goes on, with nothing uploaded so far.
-abbrev pub SessionsGoOn : Type 0
-SessionsGoOn = (w : WorldView) (m : Machine) → w.bench.session ≡ Nobody → AgreesOn w.bench w.up m
+abbrev pub SessionsContinue : Type 0
+SessionsContinue = (w : WorldView) (m : Machine) → w.bench.session ≡ Nobody → AgreesOn w.bench w.up m
     → AgreesOn (record { device = armed w.bench.device Whole; session = Nobody }) [] (record m { up = [] })

@@ -1,7 +1,7 @@
 -- View of a link between events.
 use Rattle.std.specs.Prelude.{ℕ, List}
 use Rattle.dfu_slots.specs.Image.{Active}
-use Rattle.dfu_slots.specs.Seen.{image_of}
+use Rattle.dfu_slots.specs.StoreView.{image_of}
 use Rattle.dfu_device.specs.DeviceView.{DeviceView}
 use Rattle.dfu_host.specs.Host.{HostState}
 
@@ -21,8 +21,8 @@ pub record LinkView : Type 0 where
   pub session : Session
 
 -- The image that a bench shows is the active image of its medium's bytes.
-abbrev pub ShowsActive : LinkView → Type 0
-ShowsActive b = Active b.device.slots.medium (image_of b.device.slots)
+abbrev pub BenchMatchesFlash : LinkView → Type 0
+BenchMatchesFlash b = Active b.device.slots.medium (image_of b.device.slots)
 
 -- A link between events: its bench, and what the last reported upload gave.
 pub record WorldView : Type 0 where

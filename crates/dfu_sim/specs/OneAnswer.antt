@@ -11,7 +11,7 @@ use Rattle.dfu_sim.specs.Play.{Answered, Took, MayHappen}
 use Rattle.dfu_sim.specs.LinkView.{LinkView}
 use Rattle.dfu_sim.specs.Happening.{Fate, Harm, Happening, Goes}
 use Rattle.dfu_sim.specs.Refusing.{IsRefused}
-use Rattle.dfu_sim.specs.Comes.{Means, Comes}
+use Rattle.dfu_sim.specs.EventResults.{Means, EventResult}
 
 -- An event that is refused is refused as one fault.
 abbrev pub OneRefusal : Type 0
@@ -51,4 +51,4 @@ HarmsAWrite LiesInWrite = Unit {0}
 -- An action in which a write is harmed has one result.
 abbrev pub OneResult : Type 0
 OneResult = (b c d : LinkView) (fate : Fate) (harm : Harm) (x y : Answered) → HarmsAWrite (delivery_of fate).harming
-    → Comes b (Goes fate harm) c (Ok x) → Comes b (Goes fate harm) d (Ok y) → AreOne c d x y
+    → EventResult b (Goes fate harm) c (Ok x) → EventResult b (Goes fate harm) d (Ok y) → AreOne c d x y

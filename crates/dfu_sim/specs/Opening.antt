@@ -3,7 +3,7 @@ use Rattle.std.specs.Prelude.{ℕ, List}
 use Rattle.dfu_wire.specs.declared.functionals.Functional.{Functional}
 use Rattle.dfu_device.specs.Stage.{Profile}
 use Rattle.dfu_host.specs.Phases.{Goal, ToLoad, ToVerify, Task}
-use Rattle.dfu_host.specs.Host.{host_begun, task_by_descriptor as host_task_for}
+use Rattle.dfu_host.specs.Host.{initial_host, task_by_descriptor as host_task_for}
 use Rattle.dfu_sim.specs.declared.offering.Purpose.{Purpose}
 use Rattle.dfu_sim.specs.declared.offering.Purpose.TheVariants.{Install, Verify}
 use Rattle.dfu_sim.specs.LinkView.{Session, Hosted}
@@ -31,4 +31,4 @@ goal_of_purpose Verify payload = ToVerify payload
 
 -- A session that begins, with the device's task for this goal.
 abbrev pub opened : Profile → Goal → (actions restarts : ℕ) → Session
-opened c goal actions restarts = Hosted (host_begun (task_for c goal) actions restarts)
+opened c goal actions restarts = Hosted (initial_host (task_for c goal) actions restarts)

@@ -31,7 +31,7 @@ pub record IsOffered (s : Setting) (purpose : Purpose) (file payload : List ℕ)
       s.ids ≡ None
 
 -- The bytes are a file of the grammar with these contents.
-pub record SaysContent (file : List ℕ) (content : Content) : Type 0 where
+pub record ContentOfFile (file : List ℕ) (content : Content) : Type 0 where
   pub extra : List ℕ
   pub reads : IsFile content.payload content.ids content.dfu extra file
   pub suffix : content.suffix ≡ 16 + length extra
@@ -39,12 +39,12 @@ pub record SaysContent (file : List ℕ) (content : Content) : Type 0 where
 -- An offer is refused for this: the first fault of the bytes, or the first fault of the session that would begin.
 abbrev pub IsBadOffer : Setting → Purpose → List ℕ → OfferFault → Type 0
 IsBadOffer s purpose file (offer_fault.Suffix fault) = First fault file
-IsBadOffer s purpose file (offer_fault.Host fault) = (content : Content) × SaysContent file content
+IsBadOffer s purpose file (offer_fault.Host fault) = (content : Content) × ContentOfFile file content
     × (first_offer_fault purpose content s.functional s.ids ≡ Some fault)
 
 -- A device of these settings gives its image: no fault of an upload.
-abbrev pub CanGive : Setting → Type 0
-CanGive s = first_upload_fault s.functional ≡ None
+abbrev pub ServesUpload : Setting → Type 0
+ServesUpload s = first_upload_fault s.functional ≡ None
 
 -- An upload is refused for this: its first fault, by the device's descriptor.
 abbrev pub IsBadUpload : Setting → OfferFault → Type 0

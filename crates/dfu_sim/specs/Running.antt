@@ -11,15 +11,15 @@ use Rattle.dfu_sim.specs.Session.{said}
 use Rattle.dfu_sim.specs.LinkView.{LinkView, WorldView}
 use Rattle.dfu_sim.specs.Happening.{Happening, happening}
 use Rattle.dfu_sim.specs.Refusing.{IsRefused}
-use Rattle.dfu_sim.specs.Comes.{HasCome}
-use Rattle.dfu_sim.specs.Giving.{GivesOrKeeps}
+use Rattle.dfu_sim.specs.EventResults.{WorldEventResult}
+use Rattle.dfu_sim.specs.UploadResults.{UploadOrUnchanged}
 
 -- The events come to a link one after the other, none of them is refused, these are the reports in their order, and with Uploaded the
 -- active image is given.
 pub data Runs : WorldView → List Happening → List Report → WorldView → Type 0 where
   rests : {w : WorldView} → Runs w [] [] w
   comes : {w mid w' : WorldView} {h : Happening} {hs : List Happening} {report : Option Report} {reports : List Report}
-      → HasCome w h mid (Ok report) → GivesOrKeeps w mid (Ok report) → Runs mid hs reports w' → Runs w (h ∷ hs) (said report ++ reports) w'
+      → WorldEventResult w h mid (Ok report) → UploadOrUnchanged w mid (Ok report) → Runs mid hs reports w' → Runs w (h ∷ hs) (said report ++ reports) w'
 
 -- Meaning of the events that a caller names.
 abbrev pub happenings : List GivenEvent → List Happening

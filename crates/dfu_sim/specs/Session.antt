@@ -60,15 +60,15 @@ PromisesNothing Different = Unit {0}
 -- Say a report, or none; the session is over then. Verified is said only if the live payload is the active image and nothing is pending,
 -- and Installed only if besides the device is tolerant. Uploaded gives the active image. Another report needs a live session and
 -- promises nothing.
-pub data SaysReport (tolerant : Bool) : Machine → Option Report → Machine → Type 0 where
-  says_not : {m : Machine} → SaysReport tolerant m None m
+pub data ReportStep (tolerant : Bool) : Machine → Option Report → Machine → Type 0 where
+  says_not : {m : Machine} → ReportStep tolerant m None m
   says_installed : {m : Machine} → m.live ≡ Loading m.cur → m.pending ≡ None → IsTrue tolerant
-      → SaysReport tolerant m (Some Installed) (record m { live = NoOne })
+      → ReportStep tolerant m (Some Installed) (record m { live = NoOne })
   says_verified : {m : Machine} → m.live ≡ Loading m.cur → m.pending ≡ None →
-      SaysReport tolerant m (Some Verified) (record m { live = NoOne })
-  says_uploaded : {m : Machine} → m.live ≡ Fetching → SaysReport tolerant m (Some Uploaded) (record m { live = NoOne; up = m.cur })
+      ReportStep tolerant m (Some Verified) (record m { live = NoOne })
+  says_uploaded : {m : Machine} → m.live ≡ Fetching → ReportStep tolerant m (Some Uploaded) (record m { live = NoOne; up = m.cur })
   says_other : {m : Machine} {report : Report} → PromisesNothing report → m.live ≢ NoOne
-      → SaysReport tolerant m (Some report) (record m { live = NoOne })
+      → ReportStep tolerant m (Some report) (record m { live = NoOne })
 
 -- Permissions of an event.
 
@@ -84,15 +84,15 @@ pub data Kind : Type 0 where
   AGo : Kind
 
 -- A report that says that the payload is in place: Installed or Verified.
-abbrev pub SaysInPlace : Option Report → Type 0
-SaysInPlace (Some Installed) = Unit {0}
-SaysInPlace (Some Verified) = Unit {0}
-SaysInPlace report = ⊥
+abbrev pub IsInPlaceReport : Option Report → Type 0
+IsInPlaceReport (Some Installed) = Unit {0}
+IsInPlaceReport (Some Verified) = Unit {0}
+IsInPlaceReport report = ⊥
 
 -- Nothing is reported, or a report that promises nothing.
-abbrev pub SaysNoPromise : Option Report → Type 0
-SaysNoPromise None = Unit {0}
-SaysNoPromise (Some report) = PromisesNothing report
+abbrev pub ReportsNoPromise : Option Report → Type 0
+ReportsNoPromise None = Unit {0}
+ReportsNoPromise (Some report) = PromisesNothing report
 
 -- Step of the session machine for an event of each kind. An offer and an upload begin a session if none is live; an abort does nothing yet;
 -- time installs what is pending, or nothing. A restart drops, then says at most a report that promises nothing. A refusal drops, or does
@@ -105,10 +105,10 @@ pub data MachineStep (tolerant : Bool) (t : ℕ) : Kind → Machine → Option R
   passes : {m : Machine} → MachineStep tolerant t ATime m None m
   passes_installed : {m : Machine} {x : List ℕ} → m.pending ≡ Some x → IsOneOf x m.offers
       → MachineStep tolerant t ATime m None (record m { cur = x; pending = None })
-  restarts : {m m' : Machine} {report : Option Report} → SaysReport tolerant (record m { pending = None }) report m' → SaysNoPromise report
+  restarts : {m m' : Machine} {report : Option Report} → ReportStep tolerant (record m { pending = None }) report m' → ReportsNoPromise report
       → MachineStep tolerant t ARestart m report m'
   refuses : {m m' : Machine} → MayDrop m m' → MachineStep tolerant t ARefusal m None m'
-  goes : {m m1 m2 m' : Machine} {report : Option Report} → Begins t m m1 → MayDrop m1 m2 → SaysReport tolerant m2 report m'
+  goes : {m m1 m2 m' : Machine} {report : Option Report} → Begins t m m1 → MayDrop m1 m2 → ReportStep tolerant m2 report m'
       → MachineStep tolerant t AGo m report m'
 
 -- Report, as a list.

@@ -2,7 +2,7 @@
 use Rattle.std.specs.Prelude.{◌≡◌, ◌⊎◌, ℕ, ◌<◌, Bool, List, [], ◌∷◌, Option}
 use Rattle.dfu_device.specs.Stage.{Profile, InAppIdle}
 use Rattle.dfu_host.specs.declared.report.Report.{Report}
-use Rattle.dfu_sim.specs.Session.{Machine, Loading, IsOneOf, SaysInPlace, Kind, AnOffer, MachineStep, Legal}
+use Rattle.dfu_sim.specs.Session.{Machine, Loading, IsOneOf, IsInPlaceReport, Kind, AnOffer, MachineStep, Legal}
 use Rattle.dfu_sim.specs.Happening.{Happening}
 use Rattle.dfu_sim.specs.Play.{kind_of, Link, Answered, given, Play}
 use Rattle.dfu_sim.specs.LinkAgreement.{Agrees}
@@ -15,7 +15,7 @@ pub record Follows (c : Profile) (m : Machine) (event : Happening) (w' : Link) (
   pub step : MachineStep c.tolerant c.transfer (kind_of event) m report after
   pub agrees : Agrees w' up' after
   pub fact : SessionFact c w'.device w'.session
-  pub in_place : SaysInPlace report → (w'.device.stage ≡ InAppIdle) × (m.live ≡ Loading w'.device.image)
+  pub in_place : IsInPlaceReport report → (w'.device.stage ≡ InAppIdle) × (m.live ≡ Loading w'.device.image)
 
 -- Each play is one legal step of every session machine that the link agrees with.
 abbrev pub Simulation : Type 0

@@ -1,6 +1,6 @@
 -- Events in which nothing is cut, nothing fails and nothing lies.
 use Rattle.std.specs.Prelude.{◌≡◌, Bool, Option, Result, Ok, Err}
-use Rattle.dfu_slots.specs.Seen.{room_of}
+use Rattle.dfu_slots.specs.StoreView.{room_of}
 use Rattle.dfu_device.specs.Outcome.{Works}
 use Rattle.dfu_device.specs.DeviceView.{DeviceView, profile}
 use Rattle.dfu_host.specs.declared.report.Report.{Report}
@@ -12,7 +12,7 @@ use Rattle.dfu_sim.specs.Happening.{Happening, Offers, Uploads, Aborts, Goes, Pa
 use Rattle.dfu_sim.specs.Play.{Answered, played}
 use Rattle.dfu_sim.specs.LinkView.{LinkView}
 use Rattle.dfu_sim.specs.Bytes.{link_of}
-use Rattle.dfu_sim.specs.Comes.{Means}
+use Rattle.dfu_sim.specs.EventResults.{Means}
 
 -- A device that stays what it is set up as, with the same room for images.
 pub record IsSame (w w' : DeviceView) : Type 0 where

@@ -14,16 +14,16 @@ use Rattle.dfu_wire.specs.declared.requests.Request.{Request as Asked}
 use Rattle.dfu_host.specs.Phases.{Task, Phase, Send, Heard}
 use Rattle.dfu_host.specs.Table.{deed}
 use Rattle.dfu_sim.specs.Play.{Answered, Play, heard_as, remembered}
-use Rattle.dfu_sim.specs.Bytes.{HearsAnswer, link_of, BytePlay}
+use Rattle.dfu_sim.specs.Bytes.{HeardOfAnswer, link_of, BytePlay}
 use Rattle.dfu_sim.specs.Happening.{Happening}
-use Rattle.dfu_sim.specs.LinkView.{LinkView, ShowsActive}
+use Rattle.dfu_sim.specs.LinkView.{LinkView, BenchMatchesFlash}
 
 -- The answer of a device to a request of a host, in bytes, is heard as the device meant it; a part of an upload may find no memory.
 abbrev pub Understood : Type 0
 Understood = (task : Task) (phase : Phase) (q : Asked) (body : List ℕ) (c : Profile) (image : List ℕ) (stage : Stage) (luck : Luck)
     (a : Answer) (out : List ℕ) (heard : Heard)
     → deed task phase ≡ Send q body → let reply = (outcome image (plan c image stage (meant q body)) luck).reply in
-    Answers (asked_length q) reply a out → HearsAnswer (Send q body) a out heard
+    Answers (asked_length q) reply a out → HeardOfAnswer (Send q body) a out heard
     → (room : Bool) × (heard ≡ remembered (heard_as reply) room)
 
 -- A play with its bytes is a play of the links that the benches show; the device stays what it is set up as, and its medium is not armed
@@ -34,14 +34,14 @@ pub record Shows (b : LinkView) (event : Happening) (b' : LinkView) (answer : An
   pub unarmed : b'.device.slots.medium.fuse ≡ Whole
 
 -- Each play with its bytes is one of the links.
-abbrev pub BytesShow : Type 0
-BytesShow = (b b' : LinkView) (event : Happening) (answer : Answered) → BytePlay b event b' answer → Shows b event b' answer
+abbrev pub PlaysMatchLinks : Type 0
+PlaysMatchLinks = (b b' : LinkView) (event : Happening) (answer : Answered) → BytePlay b event b' answer → Shows b event b' answer
 
 -- The image of the link that a bench shows is the active image of its medium's bytes, if they have one; and they have no other.
-abbrev pub ImageShown : Type 0
-ImageShown = (b : LinkView) → (HasImage b.device.slots.medium → ShowsActive b)
+abbrev pub BenchImageIsActive : Type 0
+BenchImageIsActive = (b : LinkView) → (HasImage b.device.slots.medium → BenchMatchesFlash b)
     × ((image : List ℕ) → Active b.device.slots.medium image → image ≡ (link_of b).device.image)
 
 -- Nothing for which a device is refused its start is wrong with the medium of a bench that shows the active image of its bytes.
-abbrev pub PowerComesBack : Type 0
-PowerComesBack = (b : LinkView) (fault : OpenFault) → ShowsActive b → ¬ IsOpenFault fault b.device.slots.medium
+abbrev pub PowerOnSucceeds : Type 0
+PowerOnSucceeds = (b : LinkView) (fault : OpenFault) → BenchMatchesFlash b → ¬ IsOpenFault fault b.device.slots.medium

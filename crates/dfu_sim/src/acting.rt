@@ -4,13 +4,13 @@ ghost use Rattle.std.specs.Prelude.{◌≡◌};
 ghost use Rattle.dfu_slots.specs.Medium.Fuse.{Whole};
 ghost use Rattle.dfu_device.specs.Rows.{Elapses};
 ghost use Rattle.dfu_host.specs.Host.{IsOn};
-ghost use Rattle.dfu_host.specs.Wire.{Hears};
+ghost use Rattle.dfu_host.specs.Wire.{SeenMeaning};
 ghost use Rattle.dfu_host.specs.Phases.{Deed, Heard};
 ghost use Rattle.dfu_sim.specs.Play.{waits_for};
 ghost use Rattle.dfu_sim.specs.Happening.{fate_of, harm_in, refused_in};
 ghost use Rattle.dfu_sim.specs.Delivery.{delivery_of};
-ghost use Rattle.dfu_sim.specs.Bytes.{TakesSetup, ReachesDevice, Slips, bus_was_reset, came_back, ended_back, Waits, ResetsBus, HostActs, HostActsArmed, fuse_of, armed, powered_up, device_left_by};
-ghost use Rattle.dfu_sim.specs.inside.Acting.{delivery_in, harm_at, seen_over, HasHeardBack};
+ghost use Rattle.dfu_sim.specs.Bytes.{SetupResult, ReachesDevice, Slips, bus_was_reset, response_if_delivered, response_if_powered, Waits, ResetsBus, HostActs, HostActsArmed, fuse_of, armed, powered_up, device_after_action};
+ghost use Rattle.dfu_sim.specs.inside.Acting.{delivery_in, harm_at, seen_over, HostHeardResult};
 
 use crate::delivery::{Answered, Delivery, Handled, MediumFault, Response, delivery_by};
 use crate::fate::Fate;
@@ -28,7 +28,7 @@ fn take_in<M: Medium>(
     refusing: Option<Objection>,
     out: &mut ArrayVec<u8, 4096>,
 ) -> Answer
-    ensures { TakesSetup refusing setup.now body.now device.old result out.new.items device.new }
+    ensures { SetupResult refusing setup.now body.now device.old result out.new.items device.new }
 {
     match refusing {
         None => device.handle(setup, body, out),
@@ -71,7 +71,7 @@ fn reach<M: Medium>(
 
 /// Returns the response that the host gets to a request.
 fn come_back(delivery: Delivery<'_>, back: Response) -> Response
-    ensures { result ≡ ended_back delivery.entry.harming (came_back delivery.entry.back back) }
+    ensures { result ≡ response_if_powered delivery.entry.harming (response_if_delivered delivery.entry.back back) }
 {
     match (delivery.harming, delivery.back) {
         (MediumFault::CutsPower, _) => Response::Restarted,
@@ -103,7 +103,7 @@ fn seen_after(harming: MediumFault, seen: Seen<'static>) -> Seen<'static>
 
 /// A wait of the host: if a time slips in, it passes in place of the wait.
 fn wait<M: Medium>(device: &mut Device<M>, ms: u32, delivery: Delivery<'_>) -> Seen<'static>
-    ensures hears { (d : Deed) (heard : Heard) → Hears d result heard
+    ensures hears { (d : Deed) (heard : Heard) → SeenMeaning d result heard
         → Waits ms (delivery_in delivery.entry) device.old device.new heard }
     ensures row { Elapses (waits_for delivery.entry.handling ms) device.old device.new }
 {
@@ -123,7 +123,7 @@ fn slip<M: Medium>(device: &mut Device<M>, handling: Handled)
 
 /// A reset of the bus by the host, and the time that slips in after it.
 fn reset_bus<M: Medium>(device: &mut Device<M>, delivery: Delivery<'_>) -> Seen<'static>
-    ensures hears { (d : Deed) (heard : Heard) → Hears d result heard
+    ensures hears { (d : Deed) (heard : Heard) → SeenMeaning d result heard
         → ResetsBus (delivery_in delivery.entry) device.old device.new heard }
     ensures row { Slips delivery.entry.handling (bus_was_reset device.old) device.new }
 {
@@ -134,7 +134,7 @@ fn reset_bus<M: Medium>(device: &mut Device<M>, delivery: Delivery<'_>) -> Seen<
 
 /// Tells the host what came back of its request.
 fn tell(host: &mut Host<'_>, back: Response, out: &[u8])
-    ensures { HasHeardBack host.old back out.now host.new }
+    ensures { HostHeardResult host.old back out.now host.new }
 {
     match back {
         Response::Answered(Answer::Ack) => host.take(Seen::Ack),
@@ -210,7 +210,7 @@ pub(crate) fn power_cycle<M: Faulty>(device: &mut Device<M>)
 
 /// The action is over: after a cut the power comes back, and in any case the medium is disarmed.
 fn settle<M: Faulty>(device: &mut Device<M>, harming: MediumFault)
-    ensures { device.new ≡ device_left_by harming device.old }
+    ensures { device.new ≡ device_after_action harming device.old }
 {
     match harming {
         MediumFault::CutsPower => power_cycle(device),

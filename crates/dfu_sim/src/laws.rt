@@ -1,15 +1,15 @@
 //! Laws of plays. Each is the contract of a function that does nothing, which is proved and not to
 //! be called by programs. `World::step` calls `image_shown`, only for its law.
 
-ghost use Rattle.dfu_sim.specs.Headline.{HoldsAtRest};
-ghost use Rattle.dfu_sim.specs.LinkAgreement.{SomeAgrees, FreshAgrees, LinkAgreesOn, SessionsGoOn};
+ghost use Rattle.dfu_sim.specs.Headline.{HeadlineAtStart};
+ghost use Rattle.dfu_sim.specs.LinkAgreement.{SomeAgrees, FreshAgrees, LinkAgreesOn, SessionsContinue};
 ghost use Rattle.dfu_sim.specs.CleanRun.{CleanRun};
-ghost use Rattle.dfu_sim.specs.CleanSteps.{StepsInstall, StepsStand};
-ghost use Rattle.dfu_sim.specs.Giving.{UploadsGive, RestIsSteady};
+ghost use Rattle.dfu_sim.specs.CleanSteps.{StepsInstall, CleanStepsSucceed};
+ghost use Rattle.dfu_sim.specs.UploadResults.{UploadsAreActive, RestIsSteady};
 ghost use Rattle.dfu_sim.specs.Simulation.{OnlyOffered, Simulation};
 ghost use Rattle.dfu_sim.specs.Accepting.{LinkAccepts, OffersAccepted};
 ghost use Rattle.dfu_sim.specs.OneAnswer.{OneEvent, OneRefusal, RefusedIsNoPlay, OneResult};
-ghost use Rattle.dfu_sim.specs.Understood.{ImageShown, BytesShow, Understood, PowerComesBack};
+ghost use Rattle.dfu_sim.specs.Understood.{BenchImageIsActive, PlaysMatchLinks, Understood, PowerOnSucceeds};
 
 use dfu_slots::laws::active_image_is_one;
 
@@ -35,7 +35,7 @@ pub fn clean_run()
 /// of `World::step` says. Then the reports are those of a clean run, and no step is refused.
 pub fn clean_steps()
     ensures install { StepsInstall }
-    ensures stand { StepsStand }
+    ensures stand { CleanStepsSucceed }
 {}
 
 /// After a legal run the active image is the one before it, or a whole payload that was offered so
@@ -68,7 +68,7 @@ pub fn machine_agrees()
 /// A world with no session is taken apart, and the next is made over its device: the session machine
 /// goes on, with nothing uploaded so far.
 pub fn sessions_go_on()
-    ensures { SessionsGoOn }
+    ensures { SessionsContinue }
 {}
 
 /// Messages on the wire are understood: the answer of a device to a request of a host, in bytes, is heard as the device meant it. A part of
@@ -79,7 +79,7 @@ pub fn understood()
 
 /// A play with its bytes, over a device on a medium, is a play of the values that it shows.
 pub fn bytes_show()
-    ensures { BytesShow }
+    ensures { PlaysMatchLinks }
 {}
 
 /// An event has one meaning: it is refused as one fault and is then no play, or it means one event.
@@ -96,13 +96,13 @@ pub fn one_answer()
 /// Whatever comes to a link that began with a device at rest, the bytes that come with Uploaded
 /// are those of the active image. So they are in a script.
 pub fn uploads_give_the_image()
-    ensures gives { UploadsGive }
+    ensures gives { UploadsAreActive }
     ensures rest { RestIsSteady }
 {}
 
 /// If the medium's bytes have an active image, it is the one that plays speak of, and no other.
 pub fn image_shown()
-    ensures { ImageShown }
+    ensures { BenchImageIsActive }
 {
     active_image_is_one();
 }
@@ -110,7 +110,7 @@ pub fn image_shown()
 /// The power comes back: if a bench shows the active image of its medium's bytes, as that of a
 /// `World` always does, `Device::power_on` is not refused on that medium.
 pub fn power_comes_back()
-    ensures { PowerComesBack }
+    ensures { PowerOnSucceeds }
 {
     active_image_is_one();
 }
@@ -118,5 +118,5 @@ pub fn power_comes_back()
 /// The headline holds of a device with no session that has no image to put in place: its factory
 /// image is the one that is active then.
 pub fn headline_at_rest()
-    ensures { HoldsAtRest }
+    ensures { HeadlineAtStart }
 {}

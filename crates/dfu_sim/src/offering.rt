@@ -4,11 +4,11 @@ ghost use Rattle.std.specs.Prelude.{◌≡◌, ◌↔◌, Some, Err, IfOk, IfErr
 ghost use Rattle.dfu_device.specs.Setting.{Setting};
 ghost use Rattle.dfu_host.specs.Host.{started};
 ghost use Rattle.dfu_sim.specs.Opening.{goal_of_purpose};
-ghost use Rattle.dfu_sim.specs.inside.Acting.{HasBegun};
+ghost use Rattle.dfu_sim.specs.inside.Acting.{SessionOpened};
 ghost use Rattle.dfu_sim.specs.Refusing.{first_offer_fault, IsBadOffer};
-ghost use Rattle.dfu_sim.specs.Standing.{bench_of, IsSteady};
+ghost use Rattle.dfu_sim.specs.LinkInvariant.{bench_of, IsSteady};
 ghost use Rattle.dfu_sim.specs.Happening.{Uploads};
-ghost use Rattle.dfu_sim.specs.Comes.{HasComeAlone};
+ghost use Rattle.dfu_sim.specs.EventResults.{WorldEventAlone};
 
 use crate::fault::{LinkFault, OfferFault};
 use dfu_device::Device;
@@ -58,7 +58,7 @@ pub fn begin<'f>(
     limits: Limits,
 ) -> Result<Host<'f>, OfferFault>
     ensures ok { (s : Setting) → functional.now ≡ s.functional → ids ≡ s.ids
-        → IfOk result (λ host. HasBegun s purpose file.now limits host) }
+        → IfOk result (λ host. SessionOpened s purpose file.now limits host) }
     ensures err { (s : Setting) → functional.now ≡ s.functional → ids ≡ s.ids
         → IfErr result (λ fault. IsBadOffer s purpose file.now fault) }
 {
@@ -80,7 +80,7 @@ pub(crate) fn upload<M: Medium>(
     limits: Limits,
 ) -> Result<Option<Report>, LinkFault>
     requires { IsSteady (bench_of device.now host.old) }
-    ensures { HasComeAlone (bench_of device.now host.old) (Uploads limits) (bench_of device.now host.new) result }
+    ensures { WorldEventAlone (bench_of device.now host.old) (Uploads limits) (bench_of device.now host.new) result }
 {
     if host.is_some() {
         return Err(LinkFault::HostBusy);

@@ -3,10 +3,10 @@
 ghost use Rattle.std.specs.Prelude.{◌≡◌};
 ghost use Rattle.dfu_sim.specs.Delivery.{delivery_of};
 ghost use Rattle.dfu_sim.specs.Play.{given, notify_restart, session_aborted};
-ghost use Rattle.dfu_sim.specs.Standing.{session_of, given_by, bench_of, link_state, IsOnIn, SendsBytes, IsCountedIn, IsSteady};
+ghost use Rattle.dfu_sim.specs.LinkInvariant.{session_of, given_by, bench_of, link_state, IsOnIn, SendsBytes, IsCountedIn, IsSteady};
 ghost use Rattle.dfu_sim.specs.Happening.{Offers, Goes, fate_of, harm_in, refused_in, happening};
-ghost use Rattle.dfu_sim.specs.Comes.{HasCome, HasComeAlone};
-ghost use Rattle.dfu_sim.specs.inside.Acting.{report_of, ended, abort_told};
+ghost use Rattle.dfu_sim.specs.EventResults.{WorldEventResult, WorldEventAlone};
+ghost use Rattle.dfu_sim.specs.inside.Acting.{report_of, ended, abort_answer};
 
 use crate::acting::{carry_out, power_cycle};
 use crate::delivery::Answered;
@@ -71,7 +71,7 @@ fn offer<'f, M: Medium>(
     limits: Limits,
 ) -> Result<Option<Report>, LinkFault>
     requires { IsSteady (bench_of device.now host.old) }
-    ensures { HasComeAlone (bench_of device.now host.old) (Offers purpose file.now limits) (bench_of device.now host.new) result }
+    ensures { WorldEventAlone (bench_of device.now host.old) (Offers purpose file.now limits) (bench_of device.now host.new) result }
 {
     if host.is_some() {
         return Err(LinkFault::HostBusy);
@@ -89,7 +89,7 @@ fn offer<'f, M: Medium>(
 fn abort(host: &mut Option<Host<'_>>) -> Result<Option<Report>, LinkFault>
     requires { IsOnIn (session_of host.old) }
     ensures session { session_of host.new ≡ session_aborted (session_of host.old) }
-    ensures told { result ≡ abort_told (session_of host.old) }
+    ensures told { result ≡ abort_answer (session_of host.old) }
 {
     match host {
         None => Err(LinkFault::NoHost),
@@ -110,7 +110,7 @@ fn take_action<'f, M: Faulty>(
     out: &mut Answered,
 ) -> Result<Option<Report>, LinkFault>
     requires { IsSteady (bench_of device.old host.old) }
-    ensures { HasCome (link_state device.old host.old gave.old) (Goes (refused_in refusing (fate_of fate.entry)) (harm_in fate.entry))
+    ensures { WorldEventResult (link_state device.old host.old gave.old) (Goes (refused_in refusing (fate_of fate.entry)) (harm_in fate.entry))
         (link_state device.new host.new gave.new) result }
 {
     match host {
@@ -130,7 +130,7 @@ pub(crate) fn apply_event<'f, M: Faulty>(
     out: &mut Answered,
 ) -> Result<Option<Report>, LinkFault>
     requires { IsSteady (bench_of device.old host.old) }
-    ensures { HasCome (link_state device.old host.old gave.old) (happening event.entry) (link_state device.new host.new gave.new) result }
+    ensures { WorldEventResult (link_state device.old host.old gave.old) (happening event.entry) (link_state device.new host.new gave.new) result }
 {
     match event {
         Event::Offer { file, limits } => offer(device, host, Purpose::Install, file, limits),

@@ -4,7 +4,7 @@ ghost use Rattle.std.specs.Prelude.{◌≡◌, ◌++◌, ◌<◌, vec_len, vec_c
 ghost use Rattle.dfu_sim.specs.Session.{said};
 ghost use Rattle.dfu_sim.specs.Running.{happenings, RunAnswers};
 ghost use Rattle.dfu_sim.specs.FollowingRun.{AllFollowRun};
-ghost use Rattle.dfu_sim.specs.Headline.{RunKeepsHeadline};
+ghost use Rattle.dfu_sim.specs.Headline.{RunPreservesHeadline};
 ghost use Rattle.dfu_sim.specs.CleanInstall.{RunsCleanly};
 
 use crate::event::Event;
@@ -51,7 +51,7 @@ pub fn run<'f, M: Faulty>(
 ) -> Result<Vec<Report>, Stop>
     ensures runs { RunAnswers world.old (happenings events.now) world.new result }
     ensures legal { AllFollowRun world.old (happenings events.now) world.new result }
-    ensures headline { RunKeepsHeadline world.old events.now world.new result }
+    ensures headline { RunPreservesHeadline world.old events.now world.new result }
     ensures clean { RunsCleanly world.old.bench (happenings events.now) world.new.bench result }
 {
     let mut reports = Vec::new(alloc);

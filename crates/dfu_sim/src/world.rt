@@ -2,14 +2,14 @@
 
 ghost use Rattle.std.specs.Prelude.{◌≡◌, [], true, false, IfOk, IfErr, IfNone};
 ghost use Rattle.dfu_slots.specs.Medium.Fuse.{Whole};
-ghost use Rattle.dfu_sim.specs.LinkView.{Nobody, IsLive, ShowsActive};
+ghost use Rattle.dfu_sim.specs.LinkView.{Nobody, IsLive, BenchMatchesFlash};
 ghost use Rattle.dfu_sim.specs.Bytes.{armed};
 ghost use Rattle.dfu_sim.specs.Happening.{happening};
-ghost use Rattle.dfu_sim.specs.Comes.{HasCome};
+ghost use Rattle.dfu_sim.specs.EventResults.{WorldEventResult};
 ghost use Rattle.dfu_sim.specs.Following.{AllFollow};
-ghost use Rattle.dfu_sim.specs.Headline.{StepKeepsHeadline};
+ghost use Rattle.dfu_sim.specs.Headline.{StepPreservesHeadline};
 ghost use Rattle.dfu_sim.specs.Sure.{AllSure};
-ghost use Rattle.dfu_sim.specs.Giving.{GivesOrKeeps};
+ghost use Rattle.dfu_sim.specs.UploadResults.{UploadOrUnchanged};
 
 use crate::delivery::{Answered, Response};
 use crate::event::Event;
@@ -37,13 +37,13 @@ pub struct World<'f, M: Faulty> {
 
 impl<'f, M: Faulty> Model for World<'f, M> {
     ghost use Rattle.dfu_sim.specs.LinkView.{WorldView};
-    ghost use Rattle.dfu_sim.specs.Standing.{bench_of, link_state, LinkViewHolds};
+    ghost use Rattle.dfu_sim.specs.LinkInvariant.{bench_of, link_state, LinkInvariant};
 
     ghost Value = { WorldView };
 
     ghost view = { λ w. link_state w.device w.host w.gave };
 
-    ghost invariant = { λ w. LinkViewHolds (bench_of w.device w.host) };
+    ghost invariant = { λ w. LinkInvariant (bench_of w.device w.host) };
 }
 
 impl<'f, M: Faulty> World<'f, M> {
@@ -51,7 +51,7 @@ impl<'f, M: Faulty> World<'f, M> {
     /// and keeps the allocator for uploads to come.
     pub fn new(alloc: Global, device: Device<M>) -> World<'f, M>
         ensures link { result ≡ record { bench = record { device = armed device Whole; session = Nobody }; up = [] } }
-        ensures active { ShowsActive result.bench }
+        ensures active { BenchMatchesFlash result.bench }
     {
         let mut device = device;
         device.disarm();
@@ -87,12 +87,12 @@ impl<'f, M: Faulty> World<'f, M> {
     /// 3. `BadOffer`: of an offer, the fault of `dfu_suffix::read`, else that of `Host::download` or
     ///    `Host::download_verified`; of an upload, that of `Host::upload`.
     pub fn step(&mut self, event: Event<'f, '_>) -> Result<Option<Report>, LinkFault>
-        ensures play { HasCome self.old (happening event.entry) self.new result }
+        ensures play { WorldEventResult self.old (happening event.entry) self.new result }
         ensures legal { AllFollow self.old (happening event.entry) self.new result }
-        ensures headline { StepKeepsHeadline self.old event.entry self.new result }
+        ensures headline { StepPreservesHeadline self.old event.entry self.new result }
         ensures sure { AllSure self.old.bench (happening event.entry) self.new.bench result }
-        ensures gives { GivesOrKeeps self.old self.new result }
-        ensures active { ShowsActive self.new.bench }
+        ensures gives { UploadOrUnchanged self.old self.new result }
+        ensures active { BenchMatchesFlash self.new.bench }
     {
         let told = apply_event(
             self.alloc,
@@ -140,7 +140,7 @@ impl<'f, M: Faulty> World<'f, M> {
     /// The device.
     pub fn device(&self) -> &Device<M>
         ensures device { result.now ≡ self.now.bench.device }
-        ensures active { ShowsActive self.now.bench }
+        ensures active { BenchMatchesFlash self.now.bench }
     {
         &self.device
     }

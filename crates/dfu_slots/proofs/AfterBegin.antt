@@ -3,11 +3,11 @@ use Rattle.std.proofs.Common.{◌≡◌, ℕ, true, Result, Ok, Err, OnErr, sym,
 use Rattle.dfu_slots.specs.declared.fault.PutFault.{PutFault}
 use Rattle.dfu_slots.specs.Layout.{Slot, IsOpen}
 use Rattle.dfu_slots.specs.Image.{HasImage}
-use Rattle.dfu_slots.specs.Seen.{SlotsState, store_on, spare_slot, spare_of, is_begun, Begin, CallWorked}
+use Rattle.dfu_slots.specs.StoreView.{SlotsState, store_on, spare_slot, spare_of, is_begun, Begin, CallWorked}
 use Rattle.dfu_slots.specs.Store.{IsStore}
 use Rattle.dfu_slots.specs.Changes.{IsBroken, Changes}
-use Rattle.dfu_slots.specs.Leaves.{BeginLeaves}
-use Rattle.dfu_slots.specs.inside.Kept.{IsStoreAt}
+use Rattle.dfu_slots.specs.CallResults.{StoreBeginResult}
+use Rattle.dfu_slots.specs.inside.PlaceMemory.{IsStoreAt}
 use Rattle.dfu_slots.proofs.Stands.{standing}
 use Rattle.dfu_slots.proofs.Begun.{begin_same, begin_keeps, begin_data, begin_shuts}
 use Rattle.dfu_slots.proofs.Seeing.{closed_begun, spare_fresh, fresh_store, fresh_is}
@@ -52,7 +52,7 @@ begin_fresh {T} s now (Err e) fault changes = failed_fresh {T = T} s now Begin (
 -- kept.
 pub begin_done : {T : Type 0} {s v : SlotsState} {active spare : ℕ} → s ≡ v → IsStoreAt s active spare → (now : SlotsState)
     (result : Result T PutFault) → OnErr result (IsBroken result) → Changes s Begin result now
-    → IsStoreAt now active spare × BeginLeaves v result now
+    → IsStoreAt now active spare × StoreBeginResult v result now
 begin_done {T} {s} {v} view kept now result fault changes =
     let has = kept.store.has_image in
     let refuses = begin_refuses s result fault in
@@ -60,7 +60,7 @@ begin_done {T} {s} {v} view kept now result fault changes =
     let fresh : now ≡ store_on now.medium = begin_fresh s now result fault changes in
     let store : IsStore now = subst IsStore (sym fresh) (fresh_store now.medium (stays_has s now has stays)) in (
       kept_on kept store (stays_places s now has stays),
-      subst (λ (x : SlotsState). BeginLeaves x result now) view
+      subst (λ (x : SlotsState). StoreBeginResult x result now) view
           (record {
             common = call_leaves s now Begin result refuses changes store (stays_room s now has stays);
             fault = fault;

@@ -8,11 +8,11 @@ use Rattle.dfu_slots.specs.declared.fault.WriteFault.TheVariants.{Failed as Writ
 use Rattle.dfu_slots.specs.Medium.{Rose}
 use Rattle.dfu_slots.specs.Layout.{IsOpen}
 use Rattle.dfu_slots.specs.Image.{capacity_of, HasImage}
-use Rattle.dfu_slots.specs.Seen.{SlotsState, store_on, spare_slot, is_begun, room_of, writes_of, CallWorked, CallFailed, DidCall}
-use Rattle.dfu_slots.specs.Seen.{Call, Begin, Put, Commit, AllWorked, BrokenBy}
+use Rattle.dfu_slots.specs.StoreView.{SlotsState, store_on, spare_slot, is_begun, room_of, writes_of, CallWorked, CallFailed, CallEnding}
+use Rattle.dfu_slots.specs.StoreView.{Call, Begin, Put, Commit, AllWorked, BrokenBy}
 use Rattle.dfu_slots.specs.Store.{IsStore}
 use Rattle.dfu_slots.specs.Changes.{IsBroken, ending_of, Changes}
-use Rattle.dfu_slots.specs.Leaves.{is_ready, reach, Refuses, CallLeaves}
+use Rattle.dfu_slots.specs.CallResults.{is_ready, reach, Refuses, StoreCallResult}
 use Rattle.dfu_slots.proofs.Series.{Ends, all_count, broken_count, broken_rose}
 use Rattle.dfu_slots.proofs.Seeing.{image_active, shaped, room_capacity, puts_room, fresh_is, fresh_leaves}
 use Rattle.dfu_slots.proofs.Seeing.{begun_closed, closed_begun, open_not_begun, not_begun_open}
@@ -108,14 +108,14 @@ on_err_of (Err e) p = p
 
 -- The state is left whatever was returned.
 
-did_all : (s now : SlotsState) (kind : Call) → CallWorked s kind now → DidCall s kind AllWorked now
+did_all : (s now : SlotsState) (kind : Call) → CallWorked s kind now → CallEnding s kind AllWorked now
 did_all s now kind worked = record {
   calls = worked;
   count = all_count (writes_of s kind) s.medium now.medium worked.writes;
   rose = λ fault e. cc;
 }
 
-did_broken : (fault : WriteFault) (s now : SlotsState) (kind : Call) → CallFailed fault s kind now → DidCall s kind (BrokenBy fault) now
+did_broken : (fault : WriteFault) (s now : SlotsState) (kind : Call) → CallFailed fault s kind now → CallEnding s kind (BrokenBy fault) now
 did_broken fault s now kind failed = record {
   calls = failed;
   count = broken_count fault (writes_of s kind) s.medium now.medium failed.writes;
@@ -123,7 +123,7 @@ did_broken fault s now kind failed = record {
 }
 
 did : {T : Type 0} (s now : SlotsState) (kind : Call) (result : Result T PutFault) → ¬ IsErrOf result NotBegun → ¬ IsErrOf result TooLarge
-    → Changes s kind result now → DidCall s kind (ending_of result) now
+    → Changes s kind result now → CallEnding s kind (ending_of result) now
 did s now kind (Ok x) begun small worked = did_all s now kind worked
 did s now kind (Err Failed) begun small failed = did_broken WriteFailed s now kind failed
 did s now kind (Err NotVerified) begun small failed = did_broken WriteNotVerified s now kind failed
@@ -162,7 +162,7 @@ call_store s now kind (Err _) same store has after = subst IsStore (sym same) st
 
 -- Facts that the three calls have in common, if the store has the room that it had.
 pub call_leaves : {T : Type 0} (s now : SlotsState) (kind : Call) (result : Result T PutFault) → Refuses s kind result
-    → Changes s kind result now → IsStore now → room_of now ≡ room_of s → CallLeaves s kind result now
+    → Changes s kind result now → IsStore now → room_of now ≡ room_of s → StoreCallResult s kind result now
 call_leaves s now kind result refuses changes store room = record {
   refuses = refuses;
   call = λ ready fits. did s now kind result (λ e. true≢false (sym ready ∙ refuses.not_begun.0 e))

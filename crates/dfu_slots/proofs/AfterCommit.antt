@@ -7,10 +7,10 @@ use Rattle.dfu_slots.specs.Units.{filled}
 use Rattle.dfu_slots.specs.Medium.{AllWrites, written}
 use Rattle.dfu_slots.specs.Layout.{slot_size, slot, IsOpen}
 use Rattle.dfu_slots.specs.Image.{gate_of, capacity_of, Active, HasImage, spare_at}
-use Rattle.dfu_slots.specs.Seen.{SlotsState, spare_slot, held_at, image_of, spare_of, room_of, Commit, writes_of}
+use Rattle.dfu_slots.specs.StoreView.{SlotsState, spare_slot, tail_at, image_of, spare_of, room_of, Commit, writes_of}
 use Rattle.dfu_slots.specs.Store.{IsStore}
 use Rattle.dfu_slots.specs.Changes.{Changes}
-use Rattle.dfu_slots.specs.Leaves.{Refuses, CommitLeaves}
+use Rattle.dfu_slots.specs.CallResults.{Refuses, StoreCommitResult}
 use Rattle.dfu_slots.proofs.Stands.{ActiveAt, standing}
 use Rattle.dfu_slots.proofs.Newest.{places_are, place_end}
 use Rattle.dfu_slots.proofs.Multiples.{held_end, held_fits}
@@ -32,13 +32,13 @@ module _ (s now : SlotsState) (store : IsStore s) (len : ℕ) (le : len ≤ s.pu
   off : ¬ IsOpen (slot g s.medium.bytes has.active.spare)
   off = subst (λ (q : ℕ). ¬ IsOpen (slot g s.medium.bytes q)) (sym place) (begun_closed s came.ready)
 
-  crc_is : register (take len (spare_of s)) ≡ register (take len (written (spare_slot s).data_bytes (held_at s) s.held))
+  crc_is : register (take len (spare_of s)) ≡ register (take len (written (spare_slot s).data_bytes (tail_at s) s.held))
   crc_is = ap (λ (l : List ℕ). register (take len l)) (spare_is s)
 
-  room : held_at s + length (filled s.medium.grain.unit s.held) ≤ capacity_of s.medium
+  room : tail_at s + length (filled s.medium.grain.unit s.held) ≤ capacity_of s.medium
   room = held_fits s store.puts has.active.sized.whole.units
 
-  within : len ≤ held_at s + length s.held
+  within : len ≤ tail_at s + length s.held
   within = omega (arith, le, held_end s store.puts)
 
   same_after : SameSize s.medium now.medium
@@ -47,7 +47,7 @@ module _ (s now : SlotsState) (store : IsStore s) (len : ℕ) (le : len ≤ s.pu
       ends_same a.spare (a.spare + slot_size s.medium.bytes) (writes_of s (Commit len)) s.medium now.medium
       (place_end g s.medium.bytes a.at a.spare (standing a).sized (standing a).places).1
       (commit_inside s.medium.grain s.medium a.at a.spare has.image (standing a) a.sized.whole off
-      (held_at s) s.held room len within (register (take len (spare_of s))) crc_is) came.ends
+      (tail_at s) s.held room len within (register (take len (spare_of s))) crc_is) came.ends
 
   room_after : room_of now ≡ room_of s
   room_after = room_from s now same_after
@@ -62,7 +62,7 @@ module _ (s now : SlotsState) (store : IsStore s) (len : ℕ) (le : len ≤ s.pu
       subst (λ (l : List ℕ). Active now.medium (take len l)) (sym (spare_is s))
       (active_now a.spare a.at _
       (committed s.medium.grain s.medium a.at a.spare has.image (standing a) a.sized.whole off
-      (held_at s) s.held room len within (register (take len (spare_of s))) crc_is now.medium all))
+      (tail_at s) s.held room len within (register (take len (spare_of s))) crc_is now.medium all))
 
   either_after : Active now.medium has.image ⊎ Active now.medium (take len (spare_of s))
   either_after = elim came.ends [
@@ -72,7 +72,7 @@ module _ (s now : SlotsState) (store : IsStore s) (len : ℕ) (le : len ≤ s.pu
         subst (λ (l : List ℕ). Active now.medium has.image ⊎ Active now.medium (take len l)) (sym (spare_is s))
         (⊎_elim (λ old. inl (active_now a.at a.spare has.image old)) (λ new. inr (active_now a.spare a.at _ new))
         (committed_either s.medium.grain s.medium a.at a.spare has.image (standing a) a.sized.whole off
-        (held_at s) s.held room len within (register (take len (spare_of s))) crc_is fault now.medium broken))
+        (tail_at s) s.held room len within (register (take len (spare_of s))) crc_is fault now.medium broken))
   ]
 
 module _ {T : Type 0} (s now : SlotsState) (store : IsStore s) (len : ℕ) (le : len ≤ s.put_end) (result : Result T PutFault)
@@ -99,7 +99,7 @@ module _ {T : Type 0} (s now : SlotsState) (store : IsStore s) (len : ℕ) (le :
       ⊎_elim (λ old. inl (sym (image_is now was.image old) ∙ image_is s was.image was.active))
       (λ new. inr (sym (image_is now (take len (spare_of s)) new))) commit_either
 
-  commit_left : CommitLeaves s len result now
+  commit_left : StoreCommitResult s len result now
   commit_left = record {
     common = call_leaves s now (Commit len) result refuses changes commit_store commit_room;
     image = after_ok s now (Commit len) result refuses changes
@@ -112,8 +112,8 @@ module _ {T : Type 0} (s now : SlotsState) (store : IsStore s) (len : ℕ) (le :
 -- The effect of the private `commit` on the inside of a store that is seen as `v` is the effect of `commit` on the store.
 pub commit_leaves : {T : Type 0} {s v : SlotsState} → s ≡ v → IsStore s → (now : SlotsState) (len : ℕ) → len ≤ v.put_end
     → (result : Result T PutFault) → (IsErrOf result NotBegun ↔ IsOpen (spare_slot s)) → ¬ IsErrOf result TooLarge
-    → Changes s (Commit len) result now → CommitLeaves v len result now
+    → Changes s (Commit len) result now → StoreCommitResult v len result now
 commit_leaves {T} {s} {v} view store now len asked result not_begun never changes =
     let le : len ≤ s.put_end = subst (λ (x : SlotsState). len ≤ x.put_end) (sym view) asked in
-    subst (λ (x : SlotsState). CommitLeaves x len result now) view
+    subst (λ (x : SlotsState). StoreCommitResult x len result now) view
     (commit_left s now store len le result (commit_refuses s result not_begun store len le never) changes)

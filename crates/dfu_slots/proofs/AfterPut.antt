@@ -8,11 +8,11 @@ use Rattle.dfu_slots.specs.Medium.{AllWrites, IsAhead, written}
 use Rattle.dfu_slots.specs.Writes.{put_writes, put_rest}
 use Rattle.dfu_slots.specs.Layout.{slot_size, Slot, slot, IsOpen}
 use Rattle.dfu_slots.specs.Image.{gate_of, capacity_of, spare_at, spare}
-use Rattle.dfu_slots.specs.Seen.{SlotsState, spare_slot, held_at, data_place, spare_of, Put, writes_of, CallWorked}
+use Rattle.dfu_slots.specs.StoreView.{SlotsState, spare_slot, tail_at, data_place, spare_of, Put, writes_of, CallWorked}
 use Rattle.dfu_slots.specs.Store.{HasPuts, IsStore}
 use Rattle.dfu_slots.specs.Changes.{Changes}
-use Rattle.dfu_slots.specs.Leaves.{Refuses, PutLeaves}
-use Rattle.dfu_slots.specs.inside.Kept.{IsStoreAt}
+use Rattle.dfu_slots.specs.CallResults.{Refuses, StorePutResult}
+use Rattle.dfu_slots.specs.inside.PlaceMemory.{IsStoreAt}
 use Rattle.dfu_slots.proofs.Stands.{standing}
 use Rattle.dfu_slots.proofs.Newest.{places_are, place_end, spare_size}
 use Rattle.dfu_slots.proofs.Sectors.{IsEdge, gate_wide}
@@ -92,7 +92,7 @@ module _ (s now : SlotsState) (store : IsStore s) (at : ℕ) (new : List ℕ) (h
         ∙ ap (λ (n : ℕ). n % unit_size s.medium.grain.unit) (ap (λ (n : ℕ). n + length new) (sym here) ∙ sym worked.end_is)
 
     -- Place at which the bytes held back now belong.
-    held_now : held_at now ≡ held_at s + whole
+    held_now : tail_at now ≡ tail_at s + whole
     held_now = omega (
       arith,
       here,
@@ -107,7 +107,7 @@ module _ (s now : SlotsState) (store : IsStore s) (at : ℕ) (new : List ℕ) (h
     data_size : length (spare_slot s).data_bytes ≡ capacity_of s.medium
     data_size = spare_size g s.medium.bytes (standing store.has_image.active).sized
 
-    room : held_at s + length all ≤ length (spare_slot s).data_bytes
+    room : tail_at s + length all ≤ length (spare_slot s).data_bytes
     room = omega (arith, data_size, fits came, here, all_length, held_end s store.puts)
 
     grain : now.medium.grain ≡ s.medium.grain
@@ -124,15 +124,15 @@ module _ (s now : SlotsState) (store : IsStore s) (at : ℕ) (new : List ℕ) (h
     whole_size : length (take whole all) ≡ whole
     whole_size = length-take-le whole all (whole_le s.medium.grain s.held new)
 
-    ahead_after : IsAhead now.medium (data_place now (held_at now))
+    ahead_after : IsAhead now.medium (data_place now (tail_at now))
     ahead_after =
         let a = store.has_image.active in
-        let p = data_place s (held_at s) in
+        let p = data_place s (tail_at s) in
         let same : data_place s (at - length s.held) ≡ p = ap (λ (n : ℕ). data_place s (n - length s.held)) here in
         let gate : gate_of now.medium ≡ g = ap gate_room grain in
         let spare_is_there : spare_at (gate_of now.medium) now.medium.bytes ≡ spare_at g s.medium.bytes =
         ap (λ (w : Grain). spare_at (gate_room w) now.medium.bytes) grain ∙ kept in
-        let there : p + whole ≡ data_place now (held_at now) = omega (arith, gate, spare_is_there, held_now) in
+        let there : p + whole ≡ data_place now (tail_at now) = omega (arith, gate, spare_is_there, held_now) in
         let high : p + length all ≤ length s.medium.bytes = omega (arith, place, end, room, data_size, a.sized.room) in
         subst (λ (q : ℕ). IsAhead now.medium q) there
         (put_ahead s.medium now.medium p s.held new a.sized high
@@ -146,16 +146,16 @@ module _ (s now : SlotsState) (store : IsStore s) (at : ℕ) (new : List ℕ) (h
     }
 
     -- The whole units follow what was there.
-    data_begins : take (held_at s + whole) (spare_slot now).data_bytes ≡ take (held_at s) (spare_slot s).data_bytes ++ take whole all
+    data_begins : take (tail_at s + whole) (spare_slot now).data_bytes ≡ take (tail_at s) (spare_slot s).data_bytes ++ take whole all
     data_begins =
         let a = store.has_image.active in
         let p = data_place s (at - length s.held) in
         let to = a.spare + slot_size s.medium.bytes in
-        let same : p ≡ data_place s (held_at s) = ap (λ (n : ℕ). data_place s (n - length s.held)) here in
+        let same : p ≡ data_place s (tail_at s) = ap (λ (n : ℕ). data_place s (n - length s.held)) here in
         let high : p + length all ≤ to = omega (arith, place, here, room, data_size, a.sized.room) in
-        ap (λ (q : Slot). take (held_at s + whole) q.data_bytes) (spare_there s.medium now.medium grain)
-        ∙ ap (λ (n : ℕ). take (held_at s + n) (spare g now.medium.bytes).data_bytes) (sym whole_size)
-        ∙ spare_front g s.medium.bytes now.medium.bytes (standing a).sized kept (held_at s) (take whole all) to
+        ap (λ (q : Slot). take (tail_at s + whole) q.data_bytes) (spare_there s.medium now.medium grain)
+        ∙ ap (λ (n : ℕ). take (tail_at s + n) (spare g now.medium.bytes).data_bytes) (sym whole_size)
+        ∙ spare_front g s.medium.bytes now.medium.bytes (standing a).sized kept (tail_at s) (take whole all) to
         (omega (arith, room, data_size, whole_size, whole_le s.medium.grain s.held new))
         (subst (λ (q : ℕ). Left q to (take whole all) s.medium.bytes now.medium.bytes) same
         (put_left s.medium.grain s.held new s.medium now.medium to p edge high end worked.writes))
@@ -169,7 +169,7 @@ module _ (s now : SlotsState) (store : IsStore s) (at : ℕ) (new : List ℕ) (h
     front_after : take (at + length new) (spare_of now) ≡ take at (spare_of s) ++ new
     front_after =
         let d = (spare_slot s).data_bytes in
-        let k = held_at s in
+        let k = tail_at s in
         let rest = put_rest s.medium.grain.unit s.held new in
         let long = rest_length s.medium.grain s.held new in
         let some = whole_le s.medium.grain s.held new in
@@ -186,11 +186,11 @@ module _ (s now : SlotsState) (store : IsStore s) (at : ℕ) (new : List ℕ) (h
         ∙ ap (λ (l : List ℕ). l ++ new) (sym (front_written d k s.held (omega (arith, room, all_length)))
         ∙ (λ i. take (e i) (sym (spare_is s) i)))
 
-    data_now : s.medium.grain.sector ≡ 0 → (spare_slot now).data_bytes ≡ written (spare_slot s).data_bytes (held_at s) (take whole all)
+    data_now : s.medium.grain.sector ≡ 0 → (spare_slot now).data_bytes ≡ written (spare_slot s).data_bytes (tail_at s) (take whole all)
     data_now none =
         let a = store.has_image.active in
         ap (λ (p : Slot). p.data_bytes) (spare_there s.medium now.medium grain)
-        ∙ data_written g s.medium.bytes now.medium.bytes (standing a).sized kept (held_at s) (take whole all)
+        ∙ data_written g s.medium.bytes now.medium.bytes (standing a).sized kept (tail_at s) (take whole all)
         (omega (arith, room, data_size, whole_size, whole_le s.medium.grain s.held new))
         (put_written s.medium.grain s.held new s.medium now.medium (data_place s (at - length s.held)) none
         (omega (arith, place, here, end, room, data_size, a.sized.room)) worked.writes
@@ -199,7 +199,7 @@ module _ (s now : SlotsState) (store : IsStore s) (at : ℕ) (new : List ℕ) (h
     spare_after : s.medium.grain.sector ≡ 0 → spare_of now ≡ written (spare_of s) at new
     spare_after none =
         let d = (spare_slot s).data_bytes in
-        let k = held_at s in
+        let k = tail_at s in
         let e : k + length s.held ≡ at = held_end s store.puts ∙ sym here in
         spare_is now
         ∙ (λ i. written (data_now none i) (held_now i) (worked.held_is i))
@@ -223,7 +223,7 @@ module _ {T : Type 0} (s now : SlotsState) (store : IsStore s) (at : ℕ) (new :
       call_store s now (Put at new) result changes store has (after_ok s now (Put at new) result refuses changes
       (λ came worked. record { has_image = has; puts = puts_after s now store at new here came worked }))
 
-  put_leaves : PutLeaves s at new result now
+  put_leaves : StorePutResult s at new result now
   put_leaves = record {
     common = call_leaves s now (Put at new) result refuses changes put_store (stays_room s now store.has_image put_stays);
     image = stays_image s now store.has_image put_stays;
@@ -239,12 +239,12 @@ module _ {T : Type 0} (s now : SlotsState) (store : IsStore s) (at : ℕ) (new :
 pub put_done : {T : Type 0} {s v : SlotsState} {active spare : ℕ} → s ≡ v → IsStoreAt s active spare → (now : SlotsState) (at : ℕ)
     (new : List ℕ) → at ≡ v.put_end → (result : Result T PutFault) → (IsErrOf result NotBegun ↔ IsOpen (spare_slot s))
     → (IsErrOf result TooLarge ↔ ((¬ IsOpen (spare_slot s)) × (capacity_of s.medium < at + length new)))
-    → Changes s (Put at new) result now → IsStoreAt now active spare × PutLeaves v at new result now
+    → Changes s (Put at new) result now → IsStoreAt now active spare × StorePutResult v at new result now
 put_done {T} {s} {v} view kept now at new place result not_begun too_large changes =
     let store = kept.store in
     let here : at ≡ s.put_end = place ∙ sym (ap (λ (x : SlotsState). x.put_end) view) in
     let refuses = put_refuses s result not_begun at new too_large in
     let leaves = put_leaves s now store at new here result refuses changes in (
       kept_on kept leaves.common.store (stays_places s now store.has_image (put_stays s now store at new here result refuses changes)),
-      subst (λ (x : SlotsState). PutLeaves x at new result now) view leaves,
+      subst (λ (x : SlotsState). StorePutResult x at new result now) view leaves,
     )

@@ -4,7 +4,7 @@ use Rattle.std.proofs.lemmas.List.{length-replicate, get_or-replicate, get_or-ta
 use Rattle.std.proofs.lemmas.Bool.{cases_lt, eqb-true, eqb-false}
 use Rattle.std.proofs.Math.Nat.{add-mod_right}
 use Rattle.dfu_slots.specs.Units.{Grain}
-use Rattle.dfu_slots.specs.Medium.{MediumState, Write, AllWrites, KeepsOutside, IsErased, IsAhead, IsWritable, written}
+use Rattle.dfu_slots.specs.Medium.{MediumState, Write, AllWrites, FrameOutside, IsErased, IsAhead, IsWritable, written}
 use Rattle.dfu_slots.specs.Image.{IsSized}
 use Rattle.dfu_slots.specs.Writes.{erase_write, erases, write_anew, write_some}
 use Rattle.dfu_slots.proofs.Torn.{written_torn, written_range, byte_outside}
@@ -94,7 +94,7 @@ module _ (sector : ℕ) (some : 0 < sector) where
           → IsErased sector mid.bytes (at + 1) (at + 1) → IsErased sector e.bytes (at + 1) (at + 1 + n))
           → IsErased sector e.bytes at (at + suc n)
       further mid first rest later p low high none =
-          let keeps : KeepsOutside (at + 1) (length mid.bytes) mid.bytes e.bytes =
+          let keeps : FrameOutside (at + 1) (length mid.bytes) mid.bytes e.bytes =
           all_keep (at + 1) (length mid.bytes) (erases sector (at + 1) n) mid e (omega arith)
           (erases_inside sector (at + 1) (length mid.bytes) (ap (λ (k : ℕ). k % sector) first.0 ∙ end) (at + 1) n (omega arith)
           (omega (arith, first.0, fits))) rest in

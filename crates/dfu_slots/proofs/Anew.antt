@@ -2,7 +2,7 @@
 use Rattle.std.proofs.Common.{◌≡◌, ◌≢◌, inl, ⊎_elim, ◌==◌, Bool, true, false, if◌then◌else◌, ℕ, zero, suc, ◌+◌, ◌%◌, ◌≤◌, List, [], ◌∷◌, ◌++◌, length, slice_range, refl, sym, ◌∙◌, ap, subst, arith}
 use Rattle.std.proofs.lemmas.List.{nil_from_length, length-replicate}
 use Rattle.std.proofs.lemmas.Bool.{eqb-true, eqb-false}
-use Rattle.dfu_slots.specs.Medium.{MediumState, Write, KeepsOutside, AllWrites, written}
+use Rattle.dfu_slots.specs.Medium.{MediumState, Write, FrameOutside, AllWrites, written}
 use Rattle.dfu_slots.specs.Writes.{erase_write, erases, write_anew, write_some}
 use Rattle.dfu_slots.proofs.Torn.{written_range, range_outside, keeps_both, keeps_wider}
 use Rattle.dfu_slots.proofs.ReadBack.{Stand, none_stand, both_stand}
@@ -50,7 +50,7 @@ some_inside sector from to at bytes edge low high =
 
 -- These bytes are there, and nothing changed before them, nor from another place on.
 abbrev pub Left : ℕ → ℕ → List ℕ → List ℕ → List ℕ → Type 0
-Left at to bytes old now = KeepsOutside at to old now × Stand now at bytes
+Left at to bytes old now = FrameOutside at to old now × Stand now at bytes
 
 -- Bytes that were left one after the other were left as a whole.
 pub left_join : (at to n : ℕ) (a c old mid now : List ℕ) → n ≡ length a → at + length a + length c ≤ to → to ≤ length old
@@ -65,9 +65,9 @@ left_join at to n a c old mid now size fits room (first, stands) (second, more) 
 -- These bytes were written over what the erases left.
 pub record WrittenAnew (at to : ℕ) (bytes old now : List ℕ) : Type 0 where
   pub left : List ℕ
-  pub erased : KeepsOutside at to old left
+  pub erased : FrameOutside at to old left
   pub is : now ≡ written left at bytes
-  pub keeps : KeepsOutside at to old now
+  pub keeps : FrameOutside at to old now
 
 module _ (sector to at : ℕ) (bytes : List ℕ) (edge : IsEdge sector to) (high : at + length bytes ≤ to) (s now : MediumState)
     (room : to ≤ length s.bytes) where

@@ -2,7 +2,7 @@
 use Rattle.std.proofs.Common.{◌≡◌, ◌≢◌, ◌<◌, inl, inr, ⊎_elim, ◌==◌, Bool, true, false, if◌then◌else◌, ℕ, suc, ◌+◌, ◌-◌, ◌≤◌, List, [], ◌∷◌, length, replicate, slice_index, refl, sym, ◌∙◌, ap, subst, arith}
 use Rattle.std.proofs.lemmas.Bool.{eqb-true, eqb-false}
 use Rattle.std.proofs.lemmas.List.{length-replicate}
-use Rattle.dfu_slots.specs.Medium.{MediumState, Write, KeepsOutside, AllWrites, written}
+use Rattle.dfu_slots.specs.Medium.{MediumState, Write, FrameOutside, AllWrites, written}
 use Rattle.dfu_slots.specs.Layout.{slot_size, slot, OPEN, IsOpen, gate_unit}
 use Rattle.dfu_slots.specs.Image.{spare_at, spare}
 use Rattle.dfu_slots.specs.Units.{Grain, gate_size, gate_room}
@@ -85,7 +85,7 @@ module _ (w : Grain) (s now : MediumState) (mine other : ℕ) (image : List ℕ)
   -- Its write may have worked or failed.
   module _ (ends : Ends s (begin_writes w old) now) where
     -- A `begin` writes nothing outside the gate of the spare.
-    begin_outside : KeepsOutside other (other + g) old now.bytes
+    begin_outside : FrameOutside other (other + g) old now.bytes
     begin_outside = ends_keep other (other + g) (begin_writes w old) s now (omega (arith, end, a.sized.room)) inside ends
 
     -- The medium has the size that it had.

@@ -4,7 +4,7 @@ use Rattle.std.proofs.lemmas.List.{length-take-le}
 use Rattle.std.proofs.lemmas.Bool.{cases_eq}
 use Rattle.dfu_suffix.specs.Register.{register}
 use Rattle.dfu_slots.specs.declared.fault.WriteFault.{WriteFault}
-use Rattle.dfu_slots.specs.Medium.{MediumState, Write, KeepsOutside, AllWrites, BrokenWrites, written}
+use Rattle.dfu_slots.specs.Medium.{MediumState, Write, FrameOutside, AllWrites, BrokenWrites, written}
 use Rattle.dfu_slots.specs.Layout.{slot_size, capacity, Slot, slot, OPEN, IsOpen, generation, next_generation, header, HasHeader, gate_unit, header_unit}
 use Rattle.dfu_slots.specs.Image.{active_at, spare_at, spare}
 use Rattle.dfu_slots.specs.Units.{Grain, gate_size, gate_room, IsWhole}
@@ -40,8 +40,8 @@ header_written g wide old p gen len crc fits =
 
 module _ (g : ℕ) (wide : 16 ≤ g) (old mid left : List ℕ) (mine other : ℕ) (image : List ℕ) (a : ActiveAt g old mine other image)
     (len : ℕ) (whole : List ℕ) (fits : len ≤ length whole) (bound : len < 2 ^ 32)
-    (keeps : KeepsOutside (other + g) (other + slot_size old) old mid)
-    (torn : KeepsOutside other (other + g) mid left)
+    (keeps : FrameOutside (other + g) (other + slot_size old) old mid)
+    (torn : FrameOutside other (other + g) mid left)
     (head : (slot g mid other).header ≡ header 2 (next_generation (generation (slot g old mine))) len (register (take len whole)))
     (data_is : (slot g mid other).data_bytes ≡ whole) where
   abbrev gen : ℕ
@@ -50,7 +50,7 @@ module _ (g : ℕ) (wide : 16 ≤ g) (old mid left : List ℕ) (mine other : ℕ
   abbrev next_image : List ℕ
   next_image = take len whole
 
-  left_keeps : KeepsOutside other (other + slot_size old) old left
+  left_keeps : FrameOutside other (other + slot_size old) old left
   left_keeps =
       keeps_both other (other + slot_size old) old mid left
       (keeps_wider (other + g) (other + slot_size old) other (other + slot_size old) old mid keeps (omega arith) (omega arith))
@@ -174,10 +174,10 @@ module _ (w : Grain) (s : MediumState) (mine other : ℕ) (image : List ℕ) (a 
 
   -- After the writes before the gate.
   module _ (mid : MediumState) (first : AllWrites s before_gate mid) where
-    head_keeps : KeepsOutside (other + g) (other + 2 * g) was mid.bytes
+    head_keeps : FrameOutside (other + g) (other + 2 * g) was mid.bytes
     head_keeps = all_keep (other + g) (other + 2 * g) before_gate s mid (omega (arith, end, a.sized.room)) head_inside first
 
-    mid_keeps : KeepsOutside (other + g) (other + slot_size was) was mid.bytes
+    mid_keeps : FrameOutside (other + g) (other + slot_size was) was mid.bytes
     mid_keeps = keeps_wider (other + g) (other + 2 * g) (other + g) (other + slot_size was) was mid.bytes head_keeps (omega arith)
         (omega (arith, a.sized.room))
 

@@ -4,7 +4,7 @@ use Rattle.std.proofs.lemmas.List.{length-take, take_all, take_at, drop_all, tak
 use Rattle.std.proofs.lemmas.Bool.{cases_lt}
 use Rattle.dfu_suffix.specs.Register.{register}
 use Rattle.dfu_slots.specs.Units.{Grain, gate_size, gate_room, IsWhole, fill_size, filled}
-use Rattle.dfu_slots.specs.Medium.{MediumState, Write, KeepsOutside, written, AllWrites}
+use Rattle.dfu_slots.specs.Medium.{MediumState, Write, FrameOutside, written, AllWrites}
 use Rattle.dfu_slots.specs.Layout.{slot_size, capacity, slot, OPEN, header, HasHeader, gate_unit, header_unit}
 use Rattle.dfu_slots.specs.Writes.{closed_gate, write_anew, piece_writes, image_writes, open_writes, format_writes}
 use Rattle.dfu_slots.proofs.Stands.{HasTwoSlots, ActiveAt}
@@ -146,11 +146,11 @@ module _ (w : Grain) (s m1 m2 m3 m4 now : MediumState) (image : List ℕ) (sized
   size_1 : length m1.bytes ≡ h + h
   size_1 = ap length is_1 ∙ (written_torn s.bytes h (closed_gate w) (omega (arith, closed_most w, halves, sized.room))).size ∙ halves
 
-  keeps_2 : KeepsOutside 0 g m1.bytes m2.bytes
+  keeps_2 : FrameOutside 0 g m1.bytes m2.bytes
   keeps_2 =
       let fits_2 : 0 + length (closed_gate w) ≤ length m1.bytes = omega (arith, closed_most w, size_1, sized.room) in
       keeps_wider 0 (0 + length (closed_gate w)) 0 g m1.bytes m2.bytes
-      (subst (λ (l : List ℕ). KeepsOutside 0 (0 + length (closed_gate w)) m1.bytes l) (sym is_2)
+      (subst (λ (l : List ℕ). FrameOutside 0 (0 + length (closed_gate w)) m1.bytes l) (sym is_2)
       (written_torn m1.bytes 0 (closed_gate w) fits_2))
       (omega arith) (omega (arith, closed_most w))
 

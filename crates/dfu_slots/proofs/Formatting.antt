@@ -11,7 +11,7 @@ use Rattle.dfu_slots.specs.Layout.{slot_size}
 use Rattle.dfu_slots.specs.Image.{gate_of, capacity_of, IsSized, Active}
 use Rattle.dfu_slots.specs.Writes.{close_writes, image_writes, open_writes, part_writes, write_some}
 use Rattle.dfu_slots.specs.Operations.{held_from}
-use Rattle.dfu_slots.specs.Seen.{SlotsState, store_of, image_of, format_series}
+use Rattle.dfu_slots.specs.StoreView.{SlotsState, store_of, image_of, format_series}
 use Rattle.dfu_slots.specs.Changes.{CanFormat}
 use Rattle.dfu_slots.proofs.Stands.{two_slots}
 use Rattle.dfu_slots.proofs.Series.{AllInside, SameSize, all_same, same_both, all_append, broken_first, broken_later, series_after, inside_append}

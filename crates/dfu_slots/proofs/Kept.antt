@@ -1,6 +1,6 @@
 -- The active image stays while the spare slot is changed.
 use Rattle.std.proofs.Common.{◌≡◌, ◌⊎◌, inl, inr, ⊎_elim, ℕ, ◌+◌, ◌≤◌, ◌<◌, List, length, take, slice_index, sym, ◌∙◌, ap, subst, arith}
-use Rattle.dfu_slots.specs.Medium.{KeepsOutside}
+use Rattle.dfu_slots.specs.Medium.{FrameOutside}
 use Rattle.dfu_slots.specs.Layout.{slot_size, Slot, slot, IsOpen, generation, next_generation, HasHeader}
 use Rattle.dfu_slots.specs.Image.{Counts, IsNewest}
 use Rattle.dfu_slots.proofs.Stands.{ActiveAt}
@@ -14,7 +14,7 @@ StaysNewest g old now mine other = (¬ Counts (slot g now other))
 
 -- A change of only the spare slot leaves the active slot.
 pub mine_kept : (g : ℕ) → 16 ≤ g → (old now : List ℕ) (mine other : ℕ) (image : List ℕ) (from to : ℕ)
-    → ActiveAt g old mine other image → KeepsOutside from to old now → other ≤ from → to ≤ other + slot_size old
+    → ActiveAt g old mine other image → FrameOutside from to old now → other ≤ from → to ≤ other + slot_size old
     → ◌≡◌ {A = Slot} (slot g now mine) (slot g old mine)
 mine_kept g wide old now mine other image from to a keeps above below =
     slot_outside g from to old now mine keeps wide (omega (arith, a.sized.room))
@@ -22,7 +22,7 @@ mine_kept g wide old now mine other image from to a keeps above below =
 
 -- Whatever is in the spare slot now, the active one stays, if the spare does not count or is one generation behind.
 pub active_kept : (g : ℕ) → 16 ≤ g → (old now : List ℕ) (mine other : ℕ) (image : List ℕ) (from to : ℕ)
-    → ActiveAt g old mine other image → KeepsOutside from to old now → other ≤ from → to ≤ other + slot_size old
+    → ActiveAt g old mine other image → FrameOutside from to old now → other ≤ from → to ≤ other + slot_size old
     → StaysNewest g old now mine other
     → ActiveAt g now mine other image
 active_kept g wide old now mine other image from to a keeps above below newer =
@@ -37,7 +37,7 @@ active_kept g wide old now mine other image from to a keeps above below newer =
     }
 
 module _ (g : ℕ) (wide : 16 ≤ g) (old now : List ℕ) (mine other : ℕ) (image : List ℕ) (from to : ℕ) (a : ActiveAt g old mine other image)
-    (keeps : KeepsOutside from to old now) where
+    (keeps : FrameOutside from to old now) where
   -- A change of the spare's gate keeps it, if that gate is open: the spare counts no more than it did.
   pub gate_change : IsOpen (slot g old other) → other ≤ from → to ≤ other + g → ActiveAt g now mine other image
   gate_change was_open above below =

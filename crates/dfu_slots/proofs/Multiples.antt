@@ -6,7 +6,7 @@ use Rattle.dfu_slots.specs.declared.layout.Unit.TheVariants.{Byte}
 use Rattle.dfu_slots.specs.Units.{IsWhole, unit_size, IsMultiple, whole_part, fill_size, filled, gate_room, Grain}
 use Rattle.dfu_slots.specs.Medium.{MediumState}
 use Rattle.dfu_slots.specs.Image.{gate_of, capacity_of, IsSized}
-use Rattle.dfu_slots.specs.Seen.{SlotsState, held_at, data_place}
+use Rattle.dfu_slots.specs.StoreView.{SlotsState, tail_at, data_place}
 use Rattle.dfu_slots.specs.Store.{HasPuts}
 use Rattle.dfu_slots.proofs.Stands.{two_slots}
 use Rattle.dfu_slots.proofs.Newest.{spare_end}
@@ -101,21 +101,21 @@ sized_after same sized = record {
 
 module _ (s : SlotsState) (puts : HasPuts s) where
   -- The bytes held back end where the puts end.
-  pub held_end : held_at s + length s.held ≡ s.put_end
+  pub held_end : tail_at s + length s.held ≡ s.put_end
   held_end = omega (arith, puts.part, part_le s.medium.grain.unit s.put_end)
 
-  held_multiple : IsMultiple s.medium.grain.unit (held_at s)
+  held_multiple : IsMultiple s.medium.grain.unit (tail_at s)
   held_multiple =
       subst (λ (n : ℕ). IsMultiple s.medium.grain.unit (s.put_end - n)) (sym puts.part) (multiple_part s.medium.grain.unit s.put_end)
 
   -- Filled up with zeros, they end within the data of a slot.
   pub held_fits : IsMultiple s.medium.grain.unit (capacity_of s.medium)
-      → held_at s + length (filled s.medium.grain.unit s.held) ≤ capacity_of s.medium
-  held_fits whole = filled_fits s.medium.grain.unit (held_at s) (capacity_of s.medium) s.held held_multiple whole
+      → tail_at s + length (filled s.medium.grain.unit s.held) ≤ capacity_of s.medium
+  held_fits whole = filled_fits s.medium.grain.unit (tail_at s) (capacity_of s.medium) s.held held_multiple whole
       (omega (arith, held_end, puts.fits))
 
   -- And within the medium.
-  pub place_fits : IsSized s.medium → data_place s (held_at s) + length (filled s.medium.grain.unit s.held) ≤ length s.medium.bytes
+  pub place_fits : IsSized s.medium → data_place s (tail_at s) + length (filled s.medium.grain.unit s.held) ≤ length s.medium.bytes
   place_fits sized = omega (
     arith,
     held_fits sized.whole.units,

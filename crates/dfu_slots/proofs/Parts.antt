@@ -1,7 +1,7 @@
 -- The parts of a slot, and what a change elsewhere leaves of them.
 use Rattle.std.proofs.Common.{◌≡◌, ◌⊎◌, inl, inr, ⊎_elim, ℕ, ◌+◌, ◌-◌, ◌*◌, ◌/◌, ◌≤◌, ◌<◌, List, length, get_or, drop, replicate, slice_index, slice_range, sym, ◌∙◌, ap, arith, length-append, length-drop}
 use Rattle.std.proofs.lemmas.List.{get_or-take, get_or-drop, length-take-le, length-replicate}
-use Rattle.dfu_slots.specs.Medium.{KeepsOutside}
+use Rattle.dfu_slots.specs.Medium.{FrameOutside}
 use Rattle.dfu_slots.specs.Layout.{slot_size, capacity, slot, generation, header, HasHeader, gate_unit, header_unit}
 use Rattle.dfu_slots.proofs.Stands.{HasTwoSlots}
 use Rattle.dfu_slots.proofs.Torn.{range_outside, byte_outside}
@@ -41,7 +41,7 @@ header_from g bytes at len out read is fits end room = record {
 }
 
 -- A change within a range keeps the size of a slot.
-pub size_kept : (from to : ℕ) (old now : List ℕ) → KeepsOutside from to old now → slot_size now ≡ slot_size old
+pub size_kept : (from to : ℕ) (old now : List ℕ) → FrameOutside from to old now → slot_size now ≡ slot_size old
 size_kept from to old now keeps = ap (λ (n : ℕ). n / 2) keeps.size
 
 -- Bytes of the same length are two slots too.
@@ -52,7 +52,7 @@ sized_kept g old now same sized = record {
   bound = omega (arith, same, sized.bound);
 }
 
-module _ (g from to : ℕ) (old now : List ℕ) (p : ℕ) (keeps : KeepsOutside from to old now) where
+module _ (g from to : ℕ) (old now : List ℕ) (p : ℕ) (keeps : FrameOutside from to old now) where
   -- The parts of a slot that lie outside a change are as they were.
   pub gate_outside : (p < from) ⊎ (to ≤ p) → (slot g now p).gate ≡ (slot g old p).gate
   gate_outside apart = byte_outside from to old now p keeps apart

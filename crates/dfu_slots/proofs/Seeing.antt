@@ -5,9 +5,9 @@ use Rattle.dfu_slots.specs.Units.{IsWhole, gate_room, Grain}
 use Rattle.dfu_slots.specs.Medium.{MediumState, Fuse, written}
 use Rattle.dfu_slots.specs.Layout.{OPEN, IsOpen, header_length}
 use Rattle.dfu_slots.specs.Image.{gate_of, slot_of, capacity_of, IsSized, Active, HasImage, has_image_fused, active_at, spare_at, spare}
-use Rattle.dfu_slots.specs.Seen.{SlotsState, store_of, store_on, fused, spare_slot, held_at, data_place, image_of, spare_of, is_begun, room_of, is_shaped, shows_same, spare_fused}
+use Rattle.dfu_slots.specs.StoreView.{SlotsState, store_of, store_on, fused, spare_slot, tail_at, data_place, image_of, spare_of, is_begun, room_of, is_shaped, same_visible, spare_fused}
 use Rattle.dfu_slots.specs.Store.{HasPuts, IsStore}
-use Rattle.dfu_slots.specs.Leaves.{FuseLeaves}
+use Rattle.dfu_slots.specs.CallResults.{FuseResult}
 use Rattle.dfu_slots.proofs.Stands.{ActiveAt, standing, active_from}
 use Rattle.dfu_slots.proofs.Torn.{written_torn}
 use Rattle.dfu_slots.proofs.Counting.{header_length_is}
@@ -56,18 +56,18 @@ unfolding spare_of
 spare_fresh m = written_nil (spare (gate_of m) m.bytes).data_bytes 0
 
 -- The data of the spare is that of the medium, with the held bytes written over it.
-pub spare_is : (s : SlotsState) → spare_of s ≡ written (spare_slot s).data_bytes (held_at s) s.held
+pub spare_is : (s : SlotsState) → spare_of s ≡ written (spare_slot s).data_bytes (tail_at s) s.held
 unfolding spare_of
 spare_is s = refl
 
 -- Nothing is put on a fresh store.
 fresh_puts : (m : MediumState) → IsSized m → HasPuts (store_on m)
 fresh_puts m sized =
-    let here : spare_at (gate_of m) m.bytes + 2 * gate_of m ≡ data_place (store_on m) (held_at (store_on m)) = omega arith in
+    let here : spare_at (gate_of m) m.bytes + 2 * gate_of m ≡ data_place (store_on m) (tail_at (store_on m)) = omega arith in
     record {
       fits = omega arith;
       part = sym (zero_part m.grain.unit);
-      ahead = edge_ahead m (data_place (store_on m) (held_at (store_on m)))
+      ahead = edge_ahead m (data_place (store_on m) (tail_at (store_on m)))
           (subst (λ (n : ℕ). IsEdge m.grain.sector n) here (spare_data_edge m sized));
     }
 
@@ -105,7 +105,7 @@ spare_length s store =
     let g = gate_of s.medium in
     let bytes = s.medium.bytes in
     let whole = spare_size g bytes (standing store.has_image.active).sized in
-    ap length (spare_is s) ∙ (written_torn (spare_slot s).data_bytes (held_at s) s.held
+    ap length (spare_is s) ∙ (written_torn (spare_slot s).data_bytes (tail_at s) s.held
     (omega (arith, whole, held_end s store.puts, store.puts.fits))).size ∙ whole ∙ sym (room_capacity s)
 
 image_fits : (s : SlotsState) → IsStore s → length (image_of s) ≤ room_of s
@@ -172,16 +172,16 @@ begun_from_gate s now same = ap (λ (g : ℕ). not (g == OPEN)) same
 
 -- If the medium has another fuse, a store that was seen as `v` is as it was.
 pub fuse_leaves : {s v : SlotsState} → s ≡ v → IsStore s → (m : MediumState) (fuse : Fuse) → m ≡ record s.medium { fuse = fuse }
-    → FuseLeaves v fuse (store_of m s.held s.put_end)
+    → FuseResult v fuse (store_of m s.held s.put_end)
 fuse_leaves {s} {v} view store m fuse is =
     let same : store_of m s.held s.put_end ≡ fused s fuse = ap (λ (x : MediumState). store_of x s.held s.put_end) is in
-    let shows = shows_same s fuse s.held s.put_end in
+    let shows = same_visible s fuse s.held s.put_end in
     let kept : IsStore (store_of m s.held s.put_end) =
     subst IsStore (sym same) (record {
       has_image = has_image_fused s.medium fuse store.has_image;
       puts = record { fits = store.puts.fits; part = store.puts.part; ahead = store.puts.ahead };
     }) in
-    subst (λ (x : SlotsState). FuseLeaves x fuse (store_of m s.held s.put_end)) view
+    subst (λ (x : SlotsState). FuseResult x fuse (store_of m s.held s.put_end)) view
     (record {
       medium = same;
       store = kept;

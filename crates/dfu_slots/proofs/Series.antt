@@ -1,7 +1,7 @@
 -- Lists of writes: what they leave outside a range, the count of failures, and their parts.
 use Rattle.std.proofs.Common.{◌≡◌, ◌⊎◌, inl, inr, Bool, true, false, if◌then◌else◌, ℕ, ◌+◌, ◌≤◌, List, [], ◌∷◌, ◌++◌, length, Result, Ok, Err, OnOk, IfErr, refl, sym, ◌∙◌, ap, subst, arith}
 use Rattle.dfu_slots.specs.declared.fault.WriteFault.{WriteFault}
-use Rattle.dfu_slots.specs.Medium.{MediumState, Write, KeepsOutside, Torn, Rose, WroteBytes, FailedWrite, AllWrites, BrokenWrites}
+use Rattle.dfu_slots.specs.Medium.{MediumState, Write, FrameOutside, Torn, Rose, WroteBytes, FailedWrite, AllWrites, BrokenWrites}
 use Rattle.dfu_slots.specs.inside.Series.{Series}
 use Rattle.dfu_slots.proofs.Torn.{written_torn, keeps_wider, keeps_same, keeps_both}
 
@@ -16,7 +16,7 @@ Ends s ws now = AllWrites s ws now ⊎ ((fault : WriteFault) × BrokenWrites fau
 
 module _ (from to : ℕ) where
   wrote_keeps : (s now : MediumState) (w : Write) → to ≤ length s.bytes → from ≤ w.at → w.at + length w.bytes ≤ to
-      → WroteBytes s w.at w.bytes now → KeepsOutside from to s.bytes now.bytes
+      → WroteBytes s w.at w.bytes now → FrameOutside from to s.bytes now.bytes
   wrote_keeps s now w room low high wrote =
       let torn : Torn s.bytes w.at w.bytes now.bytes = subst (λ (l : List ℕ). Torn s.bytes w.at w.bytes l) (sym wrote.bytes)
       (written_torn s.bytes w.at w.bytes (omega arith)) in
@@ -24,7 +24,7 @@ module _ (from to : ℕ) where
 
   -- Writes within a range, all of them, leave the rest of the medium.
   pub all_keep : (ws : List Write) (s now : MediumState) → to ≤ length s.bytes → AllInside from to ws → AllWrites s ws now
-      → KeepsOutside from to s.bytes now.bytes
+      → FrameOutside from to s.bytes now.bytes
   all_keep [] s now room inside same = keeps_same from to s.bytes now.bytes (ap (λ (m : MediumState). m.bytes) same)
   all_keep (w ∷ ws) s now room (low, high, inside) (next, wrote, more) =
       let first = wrote_keeps s next w room low high wrote in
@@ -33,7 +33,7 @@ module _ (from to : ℕ) where
   -- So do those up to one that failed, and that one.
   pub broken_keep : (fault : WriteFault) (ws : List Write) (s now : MediumState) → to ≤ length s.bytes → AllInside from to ws
       → BrokenWrites fault s ws now
-      → KeepsOutside from to s.bytes now.bytes
+      → FrameOutside from to s.bytes now.bytes
   broken_keep fault [] s now room inside none = absurd none
   broken_keep fault (w ∷ ws) s now room (low, high, inside) (inl failed) =
       keeps_wider w.at (w.at + length w.bytes) from to s.bytes now.bytes failed.bytes low high
@@ -43,7 +43,7 @@ module _ (from to : ℕ) where
 
   -- So do writes that came to their end, or to one that failed.
   pub ends_keep : (ws : List Write) (s now : MediumState) → to ≤ length s.bytes → AllInside from to ws → Ends s ws now
-      → KeepsOutside from to s.bytes now.bytes
+      → FrameOutside from to s.bytes now.bytes
   ends_keep ws s now room inside (inl all) = all_keep ws s now room inside all
   ends_keep ws s now room inside (inr (fault, broken)) = broken_keep fault ws s now room inside broken
 

@@ -1,6 +1,6 @@
 -- Writes in the spare's data keep the active image, and the spare's gate.
 use Rattle.std.proofs.Common.{◌≡◌, inl, ℕ, ◌+◌, ◌-◌, ◌*◌, ◌/◌, ◌≤◌, List, ◌++◌, length, take, drop, slice_index, slice_range, sym, ◌∙◌, ap, arith}
-use Rattle.dfu_slots.specs.Medium.{MediumState, Write, KeepsOutside, written}
+use Rattle.dfu_slots.specs.Medium.{MediumState, Write, FrameOutside, written}
 use Rattle.dfu_slots.specs.Layout.{slot_size, capacity, slot, IsOpen}
 use Rattle.dfu_slots.specs.Image.{spare_at, spare}
 use Rattle.dfu_slots.proofs.Stands.{HasTwoSlots, ActiveAt}
@@ -18,7 +18,7 @@ use Rattle.dfu_slots.proofs.Begun.{same_spare}
 
 -- State after writes in the spare's data: nothing changes elsewhere, and the active image, the spare and its gate are where they were.
 pub record DataLeaves (g : ℕ) (s now : MediumState) (mine other : ℕ) (image : List ℕ) : Type 0 where
-  pub kept : KeepsOutside (other + 2 * g) (other + slot_size s.bytes) s.bytes now.bytes
+  pub kept : FrameOutside (other + 2 * g) (other + slot_size s.bytes) s.bytes now.bytes
   pub same : SameSize s now
   pub stands : ActiveAt g now.bytes mine other image
   pub spare_stays : spare_at g now.bytes ≡ spare_at g s.bytes

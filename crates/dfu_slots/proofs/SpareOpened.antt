@@ -8,7 +8,7 @@ use Rattle.dfu_slots.specs.Layout.{generation, next_generation}
 use Rattle.dfu_slots.specs.Image.{gate_of, slot_of, IsSized, active_at, spare_at}
 use Rattle.dfu_slots.specs.Writes.{part_writes, open_writes}
 use Rattle.dfu_slots.specs.Operations.{held_from}
-use Rattle.dfu_slots.specs.Seen.{SlotsState, store_of, spare_of, writes_of, Commit}
+use Rattle.dfu_slots.specs.StoreView.{SlotsState, store_of, spare_of, writes_of, Commit}
 use Rattle.dfu_slots.specs.inside.Series.{Series}
 use Rattle.dfu_slots.specs.Store.{HasPuts}
 use Rattle.dfu_slots.proofs.Multiples.{place_fits}

@@ -4,9 +4,9 @@ use Rattle.dfu_slots.specs.Units.{gate_room, Grain}
 use Rattle.dfu_slots.specs.Medium.{MediumState, Fuse}
 use Rattle.dfu_slots.specs.Layout.{Slot}
 use Rattle.dfu_slots.specs.Image.{gate_of, Active, HasImage, active_at, spare_at, spare}
-use Rattle.dfu_slots.specs.Seen.{SlotsState, store_of, image_of, room_of}
+use Rattle.dfu_slots.specs.StoreView.{SlotsState, store_of, image_of, room_of}
 use Rattle.dfu_slots.specs.Store.{IsStore}
-use Rattle.dfu_slots.specs.inside.Kept.{IsStoreAt}
+use Rattle.dfu_slots.specs.inside.PlaceMemory.{IsStoreAt}
 use Rattle.dfu_slots.proofs.Stands.{ActiveAt, standing}
 use Rattle.dfu_slots.proofs.Newest.{places_are}
 use Rattle.dfu_slots.proofs.Series.{SameSize}

@@ -2,7 +2,7 @@
 use Rattle.std.proofs.Common.{◌≡◌, ◌⊎◌, inl, inr, ℕ, ◌+◌, ◌-◌, ◌≤◌, ◌<◌, List, ◌∷◌, ◌++◌, length, get_or, take, drop, slice_index, slice_range, sym, ◌∙◌, ap, subst, arith, length-append, length-drop}
 use Rattle.std.proofs.lemmas.List.{take-take, drop-drop, get_or-take, get_or-drop, take_at, drop_at, append_assoc, length-take-le, length-take}
 use Rattle.std.proofs.lemmas.Slice.{between_is}
-use Rattle.dfu_slots.specs.Medium.{KeepsOutside, Torn, written}
+use Rattle.dfu_slots.specs.Medium.{FrameOutside, Torn, written}
 
 -- A range below the write.
 range_below : (old now : List ℕ) (from i j : ℕ) → take from now ≡ take from old → j ≤ from → slice_range now i j ≡ slice_range old i j
@@ -21,13 +21,13 @@ range_above old now to i j same le =
     ap (λ (l : List ℕ). take (j - i) l) (drop_past now to i le ∙ ap (λ (l : List ℕ). drop (i - to) l) same ∙ sym (drop_past old to i le))
 
 -- A range that the write does not touch.
-pub range_outside : (from to : ℕ) (old now : List ℕ) (i j : ℕ) → KeepsOutside from to old now → (j ≤ from) ⊎ (to ≤ i)
+pub range_outside : (from to : ℕ) (old now : List ℕ) (i j : ℕ) → FrameOutside from to old now → (j ≤ from) ⊎ (to ≤ i)
     → slice_range now i j ≡ slice_range old i j
 range_outside from to old now i j keeps (inl below) = range_below old now from i j keeps.before below
 range_outside from to old now i j keeps (inr above) = range_above old now to i j keeps.after above
 
 -- A byte that the write does not touch.
-pub byte_outside : (from to : ℕ) (old now : List ℕ) (i : ℕ) → KeepsOutside from to old now → (i < from) ⊎ (to ≤ i)
+pub byte_outside : (from to : ℕ) (old now : List ℕ) (i : ℕ) → FrameOutside from to old now → (i < from) ⊎ (to ≤ i)
     → slice_index now i ≡ slice_index old i
 byte_outside from to old now i keeps (inl below) =
     sym (get_or-take from now i 0 below) ∙ ap (λ (l : List ℕ). get_or l i 0) keeps.before ∙ get_or-take from old i 0 below
@@ -45,7 +45,7 @@ first_of_range l i j x xs lt is =
     ∙ ap (λ (r : List ℕ). get_or r 0 0) is
 
 -- A wider range keeps no more.
-pub keeps_wider : (a b from to : ℕ) (old now : List ℕ) → KeepsOutside a b old now → from ≤ a → b ≤ to → KeepsOutside from to old now
+pub keeps_wider : (a b from to : ℕ) (old now : List ℕ) → FrameOutside a b old now → from ≤ a → b ≤ to → FrameOutside from to old now
 keeps_wider a b from to old now keeps low high = record {
   size = keeps.size;
   before = sym (take-take from a now low) ∙ ap (λ (l : List ℕ). take from l) keeps.before ∙ take-take from a old low;
@@ -53,7 +53,7 @@ keeps_wider a b from to old now keeps low high = record {
 }
 
 -- No change keeps everything.
-pub keeps_same : (from to : ℕ) (old now : List ℕ) → now ≡ old → KeepsOutside from to old now
+pub keeps_same : (from to : ℕ) (old now : List ℕ) → now ≡ old → FrameOutside from to old now
 keeps_same from to old now same = record {
   size = ap length same;
   before = ap (λ (l : List ℕ). take from l) same;
@@ -61,8 +61,8 @@ keeps_same from to old now same = record {
 }
 
 -- Two changes of one range.
-pub keeps_both : (from to : ℕ) (old mid now : List ℕ) → KeepsOutside from to old mid → KeepsOutside from to mid now
-    → KeepsOutside from to old now
+pub keeps_both : (from to : ℕ) (old mid now : List ℕ) → FrameOutside from to old mid → FrameOutside from to mid now
+    → FrameOutside from to old now
 keeps_both from to old mid now first second = record {
   size = second.size ∙ first.size;
   before = second.before ∙ first.before;

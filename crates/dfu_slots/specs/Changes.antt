@@ -3,7 +3,7 @@ use Rattle.std.specs.Prelude.{◌≡◌, ◌≤◌, ◌<◌, ℕ, List, length, 
 use Rattle.dfu_slots.specs.Medium.{MediumState}
 use Rattle.dfu_slots.specs.Layout.{slot_size, ArePlaces, HasHeader}
 use Rattle.dfu_slots.specs.Image.{slot_of, capacity_of, IsSized, Counts, IsNewest}
-use Rattle.dfu_slots.specs.Seen.{SlotsState, Call, Ending, AllWorked, BrokenBy, Calls}
+use Rattle.dfu_slots.specs.StoreView.{SlotsState, Call, Ending, AllWorked, BrokenBy, Calls}
 use Rattle.dfu_slots.specs.declared.fault.FormatFault.{FormatFault}
 use Rattle.dfu_slots.specs.declared.fault.FormatFault.TheVariants.{WrongSize as NotSized, TooLarge as ImageTooLarge, Failed as FormatFailed}
 use Rattle.dfu_slots.specs.declared.fault.OpenFault.{OpenFault}

@@ -8,7 +8,7 @@ use Rattle.dfu_slots.specs.Medium.{MediumState, written, Write, AllWrites, Broke
 use Rattle.dfu_slots.specs.OneWrite.{IsKnown, Same, wrote_same, failed_one, failed_same, one_way, known_next, flip}
 use Rattle.dfu_slots.specs.Image.{spare_at, spare}
 use Rattle.dfu_slots.specs.Writes.{begin_writes, put_writes, put_rest, part_writes, commit_writes}
-use Rattle.dfu_slots.specs.Seen.{SlotsState, spare_of, Call, Begin, Put, Commit, writes_of, next_held, CallWorked, CallFailed, Ending, AllWorked, BrokenBy, Called}
+use Rattle.dfu_slots.specs.StoreView.{SlotsState, spare_of, Call, Begin, Put, Commit, writes_of, next_tail, CallWorked, CallFailed, Ending, AllWorked, BrokenBy, Called}
 
 -- Lists of writes.
 
@@ -93,10 +93,10 @@ writes_same s t (Commit len) same =
     ++ commit_writes (same.medium.grain i) (same.medium.bytes i) len (register (take len (spare_same s t same i)))
 
 -- They hold the same back after a call.
-held_same : (s t : SlotsState) (call : Call) → SameStore s t → next_held s call ≡ next_held t call
-held_same s t Begin same = refl
-held_same s t (Put at bytes) same = λ i. put_rest (same.medium.grain i).unit (same.held i) bytes
-held_same s t (Commit len) same = refl
+same_tail : (s t : SlotsState) (call : Call) → SameStore s t → next_tail s call ≡ next_tail t call
+same_tail s t Begin same = refl
+same_tail s t (Put at bytes) same = λ i. put_rest (same.medium.grain i).unit (same.held i) bytes
+same_tail s t (Commit len) same = refl
 
 module _ (s t x y : SlotsState) (call : Call) (same : SameStore s t) where
   -- So the writes of a call on one are those of the call on the other.
@@ -111,7 +111,7 @@ module _ (s t x y : SlotsState) (call : Call) (same : SameStore s t) where
   worked_same : CallWorked s call x → CallWorked t call y → SameStore x y
   worked_same a b = record {
     medium = all_same_end (writes_of s call) s.medium t.medium x.medium y.medium same.medium a.writes (call_all b);
-    held = a.held_is ∙ held_same s t call same ∙ sym b.held_is;
+    held = a.held_is ∙ same_tail s t call same ∙ sym b.held_is;
     put_end = a.end_is ∙ sym b.end_is;
   }
 

@@ -4,10 +4,10 @@ pub mod Layout
 pub mod Image
 pub mod Writes
 pub mod Operations
-pub mod Seen
+pub mod StoreView
 pub mod Store
 pub mod Changes
-pub mod Leaves
+pub mod CallResults
 pub mod Unarmed
 pub mod OneWrite
 pub mod Determined

@@ -51,14 +51,14 @@ abbrev pub IsWritable : MediumState → ℕ → ℕ → Type 0
 IsWritable m at n = 0 < m.grain.sector → (p : ℕ) → at ≤ p → p < at + n → slice_index m.bytes p ≡ 255
 
 -- From `from` to `to` there may be any bytes now, and elsewhere there are the old ones.
-pub record KeepsOutside (from to : ℕ) (old now : List ℕ) : Type 0 where
+pub record FrameOutside (from to : ℕ) (old now : List ℕ) : Type 0 where
   pub size : length now ≡ length old
   pub before : take from now ≡ take from old
   pub after : drop to now ≡ drop to old
 
 -- A write was torn: its range has any bytes, and elsewhere there are the old ones.
 abbrev pub Torn : List ℕ → ℕ → List ℕ → List ℕ → Type 0
-Torn old at new left = KeepsOutside at (at + length new) old left
+Torn old at new left = FrameOutside at (at + length new) old left
 
 -- The count of failures rose, or was at its last value and still is.
 abbrev pub Rose : ℕ → ℕ → Type 0

@@ -4,7 +4,7 @@ use Rattle.std.proofs.Common.{inl, inr, ap, ◌∙◌, subst}
 use Rattle.dfu_slots.specs.declared.fault.WriteFault.{WriteFault}
 use Rattle.dfu_slots.specs.Medium.{MediumState, Fuse, MayWork, MayFail, Write, WroteBytes, AllWrites, BrokenWrites}
 use Rattle.dfu_slots.specs.Medium.Fuse.{Whole}
-use Rattle.dfu_slots.specs.Seen.{SlotsState, Call, AllWorked, BrokenBy, writes_of, Called}
+use Rattle.dfu_slots.specs.StoreView.{SlotsState, Call, AllWorked, BrokenBy, writes_of, Called}
 
 -- After one write it is whole.
 wrote_whole : (s next : MediumState) (w : Write) → s.fuse ≡ Whole → WroteBytes s w.at w.bytes next → next.fuse ≡ Whole

@@ -1,4 +1,4 @@
 pub mod Carry
-pub mod Kept
+pub mod PlaceMemory
 pub mod Series
 pub mod Sim

@@ -1,6 +1,6 @@
 //! The calls that change a medium: `begin`, `put` and `commit`.
 ghost use Rattle.std.specs.Prelude.{◌≡◌, ◌≤◌, length};
-ghost use Rattle.dfu_slots.specs.Leaves.{BeginLeaves, PutLeaves, CommitLeaves};
+ghost use Rattle.dfu_slots.specs.CallResults.{StoreBeginResult, StorePutResult, StoreCommitResult};
 
 use crate::places::look;
 use crate::{Medium, PutFault, Slots, steps};
@@ -16,7 +16,7 @@ impl<M: Medium> Slots<M> {
     ///
     /// `Failed` if the write failed; `NotVerified` if it returned Ok and other bytes were read back.
     pub fn begin(&mut self) -> Result<(), PutFault>
-        ensures { BeginLeaves self.old result self.new }
+        ensures { StoreBeginResult self.old result self.new }
     {
         steps::begin(&mut self.medium, &mut self.puts, self.places)
     }
@@ -38,7 +38,7 @@ impl<M: Medium> Slots<M> {
     pub fn put(&mut self, at: u32, bytes: &[u8]) -> Result<(), PutFault>
         requires place { at ≡ self.old.put_end }
         requires short { length bytes.now ≤ 4096 }
-        ensures { PutLeaves self.old at bytes.now result self.new }
+        ensures { StorePutResult self.old at bytes.now result self.new }
     {
         steps::put(&mut self.medium, &mut self.puts, self.places, at, bytes)
     }
@@ -57,7 +57,7 @@ impl<M: Medium> Slots<M> {
     /// capacity. Except after `NotBegun`, what was put is forgotten, and `put_end` is 0.
     pub fn commit(&mut self, len: u32) -> Result<(), PutFault>
         requires { len ≤ self.old.put_end }
-        ensures { CommitLeaves self.old len result self.new }
+        ensures { StoreCommitResult self.old len result self.new }
     {
         let done = steps::commit(&mut self.medium, &mut self.puts, self.places, len);
         self.places = look(&self.medium);

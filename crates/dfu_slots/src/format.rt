@@ -7,7 +7,7 @@ ghost use Rattle.dfu_slots.specs.Writes.{write_some, image_writes, close_writes}
 ghost use Rattle.dfu_slots.specs.Operations.{range_of, ops_writes, operations};
 ghost use Rattle.dfu_slots.specs.declared.operation.Source.TheVariants.{Joined};
 ghost use Rattle.dfu_slots.specs.declared.sequence.Sequence.TheVariants.{Image};
-ghost use Rattle.dfu_slots.specs.Seen.{format_series};
+ghost use Rattle.dfu_slots.specs.StoreView.{format_series};
 ghost use Rattle.dfu_slots.specs.Changes.{CanFormat};
 
 use crate::gates::{close_gate, open_slot};

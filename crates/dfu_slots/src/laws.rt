@@ -11,7 +11,7 @@ ghost use Rattle.dfu_slots.specs.Operations.{ops_writes, held_from, operations};
 ghost use Rattle.dfu_slots.specs.Medium.{MediumState, Write, AllWrites, BrokenWrites};
 ghost use Rattle.dfu_slots.specs.Medium.Fuse.{Whole};
 ghost use Rattle.dfu_slots.specs.Image.{Active, HasImage};
-ghost use Rattle.dfu_slots.specs.Seen.{SlotsState, Call, Ending, AllWorked, BrokenBy, Called, image_of};
+ghost use Rattle.dfu_slots.specs.StoreView.{SlotsState, Call, Ending, AllWorked, BrokenBy, Called, image_of};
 ghost use Rattle.dfu_slots.specs.Changes.{IsOpenFault};
 ghost use Rattle.dfu_slots.specs.OneWrite.{IsKnown, Same};
 ghost use Rattle.dfu_slots.specs.Determined.{SameStore};

@@ -3,10 +3,10 @@ ghost use Rattle.std.specs.Prelude.{◌≡◌, ◌≢◌, [], ◌+◌, ◌*◌, 
 ghost use Rattle.dfu_slots.specs.Medium.{Rose, AllWrites, BrokenWrites};
 ghost use Rattle.dfu_slots.specs.Medium.Fuse.{Whole, Armed, Lying};
 ghost use Rattle.dfu_slots.specs.Image.{gate_of, capacity_of, active_at, Active, HasImage};
-ghost use Rattle.dfu_slots.specs.Seen.{store_on, image_of, is_begun, room_of, is_shaped, format_series};
+ghost use Rattle.dfu_slots.specs.StoreView.{store_on, image_of, is_begun, room_of, is_shaped, format_series};
 ghost use Rattle.dfu_slots.specs.Changes.{CanFormat, IsFormatFault, IsOpenFault};
 ghost use Rattle.dfu_slots.specs.Store.{IsStore};
-ghost use Rattle.dfu_slots.specs.Leaves.{FuseLeaves};
+ghost use Rattle.dfu_slots.specs.CallResults.{FuseResult};
 
 use crate::layout::{capacity_of, is_sized};
 use crate::places::{Places, check, look};
@@ -29,8 +29,8 @@ pub struct Slots<M: Medium> {
 }
 
 impl<M: Medium> Model for Slots<M> {
-    ghost use Rattle.dfu_slots.specs.Seen.{SlotsState, store_of};
-    ghost use Rattle.dfu_slots.specs.inside.Kept.{IsStoreAt};
+    ghost use Rattle.dfu_slots.specs.StoreView.{SlotsState, store_of};
+    ghost use Rattle.dfu_slots.specs.inside.PlaceMemory.{IsStoreAt};
 
     ghost Value = { SlotsState };
 
@@ -142,7 +142,7 @@ impl<M: Medium> Slots<M> {
     }
 
     /// Returns whether the gate of the spare slot is closed, so that `put` and `commit` are not refused with `NotBegun`.
-    #[tactic(auto, unfolding(crate::specs::Seen::is_begun))]
+    #[tactic(auto, unfolding(crate::specs::StoreView::is_begun))]
     pub fn is_begun(&self) -> bool
         ensures { result ≡ is_begun self.now }
     {
@@ -219,21 +219,21 @@ impl<M: Medium> Slots<M> {
 impl<M: Faulty> Slots<M> {
     /// As the medium's `arm`. It changes no byte.
     pub fn arm(&mut self, writes: u32, tear: &[u8], stop: bool)
-        ensures { FuseLeaves self.old (Armed writes (take 4096 tear.now) stop) self.new }
+        ensures { FuseResult self.old (Armed writes (take 4096 tear.now) stop) self.new }
     {
         self.medium.arm(writes, tear, stop);
     }
 
     /// As the medium's `arm_lie`. It changes no byte.
     pub fn arm_lie(&mut self, writes: u32, tear: &[u8])
-        ensures { FuseLeaves self.old (Lying writes (take 4096 tear.now)) self.new }
+        ensures { FuseResult self.old (Lying writes (take 4096 tear.now)) self.new }
     {
         self.medium.arm_lie(writes, tear);
     }
 
     /// As the medium's `disarm`. It changes no byte.
     pub fn disarm(&mut self)
-        ensures { FuseLeaves self.old (Whole) self.new }
+        ensures { FuseResult self.old (Whole) self.new }
     {
         self.medium.disarm();
     }

@@ -4,7 +4,7 @@ ghost use Rattle.dfu_slots.specs.inside.Series.{Series};
 ghost use Rattle.dfu_slots.specs.Layout.{IsOpen};
 ghost use Rattle.dfu_slots.specs.Image.{gate_of, IsSized, capacity_of, active_at, spare_at};
 ghost use Rattle.dfu_slots.specs.Writes.{begin_writes};
-ghost use Rattle.dfu_slots.specs.Seen.{store_on, store_of, spare_slot, writes_of, Begin, Put, Commit};
+ghost use Rattle.dfu_slots.specs.StoreView.{store_on, store_of, spare_slot, writes_of, Begin, Put, Commit};
 ghost use Rattle.dfu_slots.specs.Store.{HasPuts};
 ghost use Rattle.dfu_slots.specs.Changes.{IsBroken, Changes};
 

@@ -7,7 +7,7 @@ use Rattle.dfu_suffix.proofs.Bytes.{AreBytes-drop, AreBytes-set, AreBytes-take}
 use Rattle.dfu_suffix.proofs.Tables.{after_more}
 use Rattle.dfu_suffix.specs.Laws.{AreBytes}
 use Rattle.dfu_suffix.specs.Register.{after_bits, bits_of, low_bits}
-use Rattle.dfu_suffix.specs.inside.Folding.{combined, stands_for}
+use Rattle.dfu_suffix.specs.inside.Folding.{combined, register_of_residue}
 use Rattle.dfu_suffix.proofs.FoldSteps.{fold_step, folded}
 
 residue_at : (room : List ℕ) (i k : ℕ) → k < 1968 → get_or (take 1968 (drop i room)) k 0 ≡ get_or room (i + k) 0
@@ -61,7 +61,7 @@ folded_same m room i =
 pub record Folds (start : ℕ) (bytes room : List ℕ) (i : ℕ) : Type 0 where
   pub long : length room ≡ 6064
   pub each : AreBytes room
-  pub so_far : stands_for (take 1968 (drop i room)) ≡ after_bits start (bits_of (take i bytes))
+  pub so_far : register_of_residue (take 1968 (drop i room)) ≡ after_bits start (bits_of (take i bytes))
 
 -- A byte more.
 pub folds_more : (start : ℕ) (bytes room : List ℕ) (i : ℕ) → Folds start bytes room i → AreBytes bytes → i < length bytes →
@@ -78,20 +78,20 @@ folds_more start bytes room i p f h short =
       long = length-set room (i + 1968) c ∙ p.long;
       each = AreBytes-set room (i + 1968) c p.each fits;
       so_far =
-          ap stands_for (residue_step room i c behind)
+          ap register_of_residue (residue_step room i c behind)
           ∙ (fold_step m c residue long each (f i) fits (folded_same m room i)
           ∙ (ap (λ (r : ℕ). after_bits r (low_bits 8 m)) p.so_far ∙ sym (after_more start bytes i h)));
     }
 
 -- At the end the residue is copied to the front of the room.
 pub folds_end : (start i : ℕ) (bytes room : List ℕ) → Folds start bytes room i → i ≡ length bytes → length bytes ≤ 4096 →
-    stands_for (take 1968 (copy_within room (length bytes) (length bytes + 1968) 0)) ≡ after_bits start (bits_of bytes)
+    register_of_residue (take 1968 (copy_within room (length bytes) (length bytes + 1968) 0)) ≡ after_bits start (bits_of bytes)
 folds_end start i bytes room p all short =
     let n = length bytes in
     let q : Folds start bytes room n = subst (Folds start bytes room) all p in
     let size : n + 1968 - n ≡ 1968 = omega arith in
     let residue = take 1968 (drop n room) in
     let long : length residue ≡ 1968 = length-take-le 1968 (drop n room) (omega (arith, length-drop n room, q.long)) in
-    ap (λ (k : ℕ). stands_for (take 1968 (take k (drop n room) ++ drop (0 + k) room))) size
-    ∙ (ap stands_for (take_at residue (drop 1968 room) 1968 long)
+    ap (λ (k : ℕ). register_of_residue (take 1968 (take k (drop n room) ++ drop (0 + k) room))) size
+    ∙ (ap register_of_residue (take_at residue (drop 1968 room) 1968 long)
     ∙ (q.so_far ∙ ap (λ (xs : List ℕ). after_bits start (bits_of xs)) (take_all n bytes (omega arith))))

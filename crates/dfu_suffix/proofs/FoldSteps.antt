@@ -9,7 +9,7 @@ use Rattle.dfu_suffix.proofs.Spread.{spread_same}
 use Rattle.dfu_suffix.proofs.Tables.{after-append, after_more, after_one}
 use Rattle.dfu_suffix.specs.Laws.{AreBytes}
 use Rattle.dfu_suffix.specs.Register.{after_bits, bits_of, low_bits, shifts}
-use Rattle.dfu_suffix.specs.inside.Folding.{combined, stands_for, taps}
+use Rattle.dfu_suffix.specs.inside.Folding.{combined, register_of_residue, taps}
 
 -- The register from 0 after these bytes.
 abbrev pub from_zero : List ℕ → ℕ
@@ -84,8 +84,8 @@ abbrev pub folded : ℕ → List ℕ → ℕ
 folded m residue = combined (λ n. get_or residue n 0) (bit_xor m (get_or residue 0 0)) taps
 
 step : (m b c : ℕ) (xs : List ℕ) → length xs ≡ 1967 → AreBytes (b ∷ xs) → m < 256 → c < 256 → c ≡ folded m (b ∷ xs) →
-    stands_for (xs ++ c ∷ []) ≡ after_bits (stands_for (b ∷ xs)) (low_bits 8 m)
-unfolding stands_for combined
+    register_of_residue (xs ++ c ∷ []) ≡ after_bits (register_of_residue (b ∷ xs)) (low_bits 8 m)
+unfolding register_of_residue combined
 step m b c xs long f small fits is =
     let t = b ∷ xs in
     let a = λ (n : ℕ). from_zero (take n t) in
@@ -102,23 +102,23 @@ step m b c xs long f small fits is =
     let e5 = front_step 1920 b c xs (omega arith) f in
     let e6 : from_zero (xs ++ c ∷ []) ≡ shifts 8 start =
     whole_step b c xs fits f ∙ ap (λ (n : ℕ). shifts 8 (bit_xor (bit_xor w (shifts (eights (suc n)) b)) c)) long in
-    let stepped : stands_for (xs ++ c ∷ []) ≡ combined (λ n. shifts 8 (each n)) (shifts 8 start) taps = cc in
-    let apart : combined each start taps ≡ bit_xor (bit_xor (stands_for t) (combined x c taps)) (combined z zw taps) =
+    let stepped : register_of_residue (xs ++ c ∷ []) ≡ combined (λ n. shifts 8 (each n)) (shifts 8 start) taps = cc in
+    let apart : combined each start taps ≡ bit_xor (bit_xor (register_of_residue t) (combined x c taps)) (combined z zw taps) =
     ap (λ (k : ℕ). combined each k taps) (swap_last w zw c)
     ∙ (combined_xor (λ n. bit_xor (a n) (x n)) z (bit_xor w c) zw taps
     ∙ ap (λ (k : ℕ). bit_xor k (combined z zw taps)) (combined_xor a x w c taps)) in
     let byte : combined x c taps ≡ bit_xor m b = ap (λ (k : ℕ). combined x k taps) is ∙ combined_twice x (bit_xor m b) taps in
     let gone : combined z zw taps ≡ b = spread_same 32 b (omega arith) (omega (arith, f 0)) in
-    let left : bit_xor (bit_xor (stands_for t) (bit_xor m b)) b ≡ bit_xor (stands_for t) m =
-    ap (λ (k : ℕ). bit_xor k b) (sym (xor_assoc (stands_for t) m b)) ∙ twice_xor (bit_xor (stands_for t) m) b in
-    let all : combined each start taps ≡ bit_xor (stands_for t) m =
+    let left : bit_xor (bit_xor (register_of_residue t) (bit_xor m b)) b ≡ bit_xor (register_of_residue t) m =
+    ap (λ (k : ℕ). bit_xor k b) (sym (xor_assoc (register_of_residue t) m b)) ∙ twice_xor (bit_xor (register_of_residue t) m) b in
+    let all : combined each start taps ≡ bit_xor (register_of_residue t) m =
     apart
-    ∙ (ap (λ (k : ℕ). bit_xor (bit_xor (stands_for t) k) (combined z zw taps)) byte
-    ∙ (ap (bit_xor (bit_xor (stands_for t) (bit_xor m b))) gone ∙ left)) in
-    stepped ∙ (combined_shifts 8 each start taps ∙ (ap (shifts 8) all ∙ sym (bits_step 8 (stands_for t) m small)))
+    ∙ (ap (λ (k : ℕ). bit_xor (bit_xor (register_of_residue t) k) (combined z zw taps)) byte
+    ∙ (ap (bit_xor (bit_xor (register_of_residue t) (bit_xor m b))) gone ∙ left)) in
+    stepped ∙ (combined_shifts 8 each start taps ∙ (ap (shifts 8) all ∙ sym (bits_step 8 (register_of_residue t) m small)))
 
 -- If the first byte of a residue goes and that one comes, the residue represents the register after the byte of the input.
 pub fold_step : (m c : ℕ) (t : List ℕ) → length t ≡ 1968 → AreBytes t → m < 256 → c < 256 → c ≡ folded m t →
-    stands_for (drop 1 t ++ c ∷ []) ≡ after_bits (stands_for t) (low_bits 8 m)
+    register_of_residue (drop 1 t ++ c ∷ []) ≡ after_bits (register_of_residue t) (low_bits 8 m)
 fold_step m c [] long f small fits is = absurd (omega arith)
 fold_step m c (b ∷ xs) long f small fits is = step m b c xs (omega arith) f small fits is

@@ -7,7 +7,7 @@ use Rattle.byteorder.specs.Endian.{little_number}
 use Rattle.dfu_suffix.specs.Register.{register}
 use Rattle.dfu_suffix.specs.Grammar.{Content, tail_of, is_signed, has_fault, fault_order}
 use Rattle.dfu_suffix.specs.inside.Reading.{content_of, content_or, reading}
-use Rattle.dfu_suffix.specs.inside.TailChecks.{told_by, tail_summary, sealed, register_checked}
+use Rattle.dfu_suffix.specs.inside.TailChecks.{summary_of_tail, tail_summary, sealed, register_checked}
 use Rattle.dfu_suffix.specs.Laws.{AreBytes}
 use Rattle.dfu_suffix.proofs.OneReading.{not_less}
 use Rattle.dfu_suffix.specs.declared.summary.Summary.{Summary}
@@ -65,7 +65,7 @@ reading_told s small =
     ap (λ (b : Bool). content_or (cond b (Some TooLarge) (find (has_fault s)
     (TooShort ∷ NoSignature ∷ BadLength ∷ DfuSe ∷ BadCrc ∷ []))) c) within
     ∙ flow (ltb n 16) (not (is_signed t)) (ltb (get_or t 11 0) 16 || ltb n (get_or t 11 0))
-    (eqb (little_number 2 (drop 6 t)) 0x011A) (is_intact s) (told_by t n) c
+    (eqb (little_number 2 (drop 6 t)) 0x011A) (is_intact s) (summary_of_tail t n) c
 
 -- Two tests that hold together are the same.
 same_test : (a b : Bool) → ((a ≡ true) ↔ (b ≡ true)) → a ≡ b
@@ -119,11 +119,11 @@ sums_up s long =
     let c = content_of s in
     let moved : drop 12 t ≡ drop (n - 4) s = last_of_tail s long in
     let paid : n - get_or t 11 0 ≡ length c.payload = sym (length-take-le (n - get_or t 11 0) s (omega arith)) in
-    let same : told_by t n ≡ summary_in s c =
+    let same : summary_of_tail t n ≡ summary_in s c =
     said_same (n - get_or t 11 0) (length c.payload) (get_or t 11 0) (get_or t 11 0) c.dfu (little_number 4 (drop 12 t))
     (little_number 4 (drop (n - 4) s)) c.ids paid refl (ap (little_number 4) moved) in
     told_is (ltb n 16) (not (is_signed t)) (ltb (get_or t 11 0) 16 || ltb n (get_or t 11 0))
-    (eqb (little_number 2 (drop 6 t)) 0x011A) (told_by t n) (summary_in s c) same
+    (eqb (little_number 2 (drop 6 t)) 0x011A) (summary_of_tail t n) (summary_in s c) same
 
 -- The register over all bytes is 0 exactly if dwCRC is right.
 zero_intact : (s : List ℕ) → AreBytes s → 16 ≤ length s → eqb (register s) 0 ≡ is_intact s

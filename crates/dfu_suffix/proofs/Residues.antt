@@ -8,7 +8,7 @@ use Rattle.dfu_suffix.proofs.Spread.{spread, spread_same}
 use Rattle.dfu_suffix.proofs.Tables.{Four, after-append, four_bytes}
 use Rattle.dfu_suffix.specs.Laws.{AreBytes}
 use Rattle.dfu_suffix.specs.Register.{after_bits, bits_of, shifts}
-use Rattle.dfu_suffix.specs.inside.Folding.{combined, stands_for}
+use Rattle.dfu_suffix.specs.inside.Folding.{combined, register_of_residue}
 use Rattle.dfu_suffix.proofs.FoldSteps.{byte_first, from_zero}
 
 in_parts : (n k : ℕ) (xs : List ℕ) → take (n + k) xs ≡ take n xs ++ take k (drop n xs)
@@ -29,8 +29,8 @@ pub registers : (r1 r2 r3 r4 r5 r6 : ℕ) (room : List ℕ) → r1 ≡ after_bit
     r2 ≡ after_bits r1 (bits_of (take 128 (drop 720 room))) → r3 ≡ after_bits r2 (bits_of (take 336 (drop 848 room))) →
     r4 ≡ after_bits r3 (bits_of (take 96 (drop 1184 room))) → r5 ≡ after_bits r4 (bits_of (take 640 (drop 1280 room))) →
     r6 ≡ after_bits r5 (bits_of (take 48 (drop 1920 room))) →
-    bit_xor (bit_xor (bit_xor (bit_xor (bit_xor r6 r1) r2) r3) r4) r5 ≡ stands_for (take 1968 room)
-unfolding stands_for combined
+    bit_xor (bit_xor (bit_xor (bit_xor (bit_xor r6 r1) r2) r3) r4) r5 ≡ register_of_residue (take 1968 room)
+unfolding register_of_residue combined
 registers r1 r2 r3 r4 r5 r6 room h1 h2 h3 h4 h5 h6 =
     let f2 = front_more 720 128 r1 r2 room h1 h2 in
     let f3 = front_more 848 336 r2 r3 room f2 h3 in
@@ -85,8 +85,8 @@ register_bytes r xs h e =
 
 -- A register in four bytes, followed by bytes 0, represents the register.
 pub begun : (m r : ℕ) (xs room : List ℕ) → Four r xs → 1964 ≤ m → room ≡ xs ++ replicate m 0 →
-    stands_for (take 1968 room) ≡ r
-unfolding stands_for combined
+    register_of_residue (take 1968 room) ≡ r
+unfolding register_of_residue combined
 begun m r xs room q h is =
     let at = λ (n : ℕ) (l : n ≤ 1964). ap (λ (ys : List ℕ). from_zero (take (4 + n) ys)) is ∙ front_zeros n m r xs q (omega arith) in
     let w1 = ap from_zero (take-take 720 1968 room (omega arith)) ∙ at 716 (omega arith) in
@@ -95,6 +95,6 @@ begun m r xs room q h is =
     let w4 = ap from_zero (take-take 1280 1968 room (omega arith)) ∙ at 1276 (omega arith) in
     let w5 = ap from_zero (take-take 1920 1968 room (omega arith)) ∙ at 1916 (omega arith) in
     let w6 = at 1964 (omega arith) in
-    let all : stands_for (take 1968 room) ≡ spread r =
+    let all : register_of_residue (take 1968 room) ≡ spread r =
     λ i. bit_xor (bit_xor (bit_xor (bit_xor (bit_xor (w6 i) (w1 i)) (w2 i)) (w3 i)) (w4 i)) (w5 i) in
     all ∙ spread_same 32 r (omega arith) q.small

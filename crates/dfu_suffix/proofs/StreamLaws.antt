@@ -5,7 +5,7 @@ use Rattle.std.specs.Io.KnownBytes.{Consumes, IsAtEnd}
 use Rattle.byteorder.specs.Endian.{little_number}
 use Rattle.dfu_suffix.specs.Register.{register, shifts}
 use Rattle.dfu_suffix.specs.inside.TailChecks.{register_checked}
-use Rattle.dfu_suffix.specs.Checking.{Checks, FindsFile, UnlessRead}
+use Rattle.dfu_suffix.specs.Checking.{Checks, FindingsOfFile, UnlessRead}
 use Rattle.dfu_suffix.specs.Laws.{AreBytes}
 use Rattle.dfu_suffix.specs.declared.summary.Summary.{Summary}
 use Rattle.dfu_suffix.specs.declared.findings.Findings.{Findings}
@@ -67,10 +67,10 @@ seen_end old new turn crc count value window r (seen, k) e j v =
 pub seen_found : (old new : Option (List ℕ)) (turn crc count value : ℕ) (window : List ℕ) (r : Result Summary SuffixFault)
     (f : Findings) → Seen old new turn crc count window → IsAtEnd new → f.count ≡ count → f.suffix ≡ get_or window 11 0 →
     f.crc ≡ little_number 4 (drop 12 window) → f.register < 2 ^ 32 → shifts 32 (bit_xor f.register f.crc) ≡ value → value ≡ crc →
-    IfSome old (λ all. UnlessRead r (FindsFile all f))
+    IfSome old (λ all. UnlessRead r (FindingsOfFile all f))
 seen_found old new turn crc count value window r f (seen, k) e many said written fits before v =
-    if_some old (λ all. UnlessRead r (FindsFile all f)) (λ all o. unless_read r (FindsFile all f)
-    (subst (λ (xs : List ℕ). FindsFile xs f) (consumed_all old new seen all k.given e o)
+    if_some old (λ all. UnlessRead r (FindingsOfFile all f)) (λ all o. unless_read r (FindingsOfFile all f)
+    (subst (λ (xs : List ℕ). FindingsOfFile xs f) (consumed_all old new seen all k.given e o)
     (λ long small. let tail = k.window_is ∙ window_tail seen long in
     let number = written ∙ ap (little_number 4) (ap (drop 12) tail ∙ last_of_tail seen long) in
     record {
@@ -101,7 +101,7 @@ seen_over old mid new turn crc count window more s given over =
 -- If one more piece is over the limit, there are no findings to show.
 pub none_found : (old mid new : Option (List ℕ)) (turn crc count : ℕ) (window more : List ℕ) (f : Findings) →
     Seen old mid turn crc count window → Consumes mid new more → 16777216 < count + length more →
-    IfSome old (λ all. UnlessRead {T = Summary} (Err TooLarge) (FindsFile all f))
+    IfSome old (λ all. UnlessRead {T = Summary} (Err TooLarge) (FindingsOfFile all f))
 none_found old mid new turn crc count window more f s given over =
-    if_some old (λ all. UnlessRead {T = Summary} (Err TooLarge) (FindsFile all f)) (λ all o long small.
+    if_some old (λ all. UnlessRead {T = Summary} (Err TooLarge) (FindingsOfFile all f)) (λ all o long small.
     absurd (omega (arith, over_limit old mid new turn crc count window more all s given over o)))

@@ -32,7 +32,7 @@ Adds all ids old new (Err NoMemory) = ⊤
 Adds all ids old new (Err fault) = ⊥
 
 -- A fault other than Write leaves what the writer holds as it was.
-abbrev pub KeepsAtFault : {T : Type 0} → Option (List ℕ) → Option (List ℕ) → Result T SuffixFault → Type 0
-KeepsAtFault old new (Ok n) = ⊤
-KeepsAtFault old new (Err Write) = ⊤
-KeepsAtFault old new (Err fault) = Keeps old new
+abbrev pub UnchangedAtFault : {T : Type 0} → Option (List ℕ) → Option (List ℕ) → Result T SuffixFault → Type 0
+UnchangedAtFault old new (Ok n) = ⊤
+UnchangedAtFault old new (Err Write) = ⊤
+UnchangedAtFault old new (Err fault) = Keeps old new

@@ -34,12 +34,12 @@ UnlessRead (Err Read) P = ⊤
 UnlessRead r P = P
 
 -- The findings are those of these bytes: how many they are, bLength, dwCRC, and the register that dwCRC has to be.
-pub record Finds (bytes : List ℕ) (findings : Findings) : Type 0 where
+pub record FindingsOf (bytes : List ℕ) (findings : Findings) : Type 0 where
   pub count : findings.count ≡ length bytes
   pub suffix : findings.suffix ≡ slice_index (tail_of bytes) 11
   pub crc : findings.crc ≡ little_number 4 (drop (length bytes - 4) bytes)
   pub register : findings.register ≡ register (take (length bytes - 4) bytes)
 
 -- The findings are those of these bytes, if they are enough for a suffix and not too many for a file.
-abbrev pub FindsFile : List ℕ → Findings → Type 0
-FindsFile bytes findings = 16 ≤ length bytes → length bytes ≤ 16777216 → Finds bytes findings
+abbrev pub FindingsOfFile : List ℕ → Findings → Type 0
+FindingsOfFile bytes findings = 16 ≤ length bytes → length bytes ≤ 16777216 → FindingsOf bytes findings

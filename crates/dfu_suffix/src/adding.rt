@@ -1,7 +1,7 @@
 //! Files made of what a reader gives.
 
 ghost use Rattle.std.specs.Prelude.{◌≡◌, ◌≤◌, length, IfOk, IfSome};
-ghost use Rattle.dfu_suffix.specs.Adding.{Adds, KeepsAtFault};
+ghost use Rattle.dfu_suffix.specs.Adding.{Adds, UnchangedAtFault};
 ghost use Rattle.dfu_suffix.specs.inside.Making.{Makes, gathering_fault};
 
 use crate::fault::SuffixFault;
@@ -73,7 +73,7 @@ pub fn add<R: Read + Drop, W: Write>(
     // identifiers is written, and at Write a part from its start.
     ensures answer { IfSome (R.remaining reader) (λ all. Adds all ids (W.contents writer.old) (W.contents writer.new) result) }
     // After a fault other than Write nothing is written.
-    ensures kept { KeepsAtFault (W.contents writer.old) (W.contents writer.new) result }
+    ensures kept { UnchangedAtFault (W.contents writer.old) (W.contents writer.new) result }
 {
     match file_of(alloc, reader, ids) {
         Ok(text) => match write_whole(writer, &text) {

@@ -1,7 +1,7 @@
 //! Checks of a file that a reader gives.
 
 ghost use Rattle.std.specs.Prelude.{◌≡◌, ◌≢◌, ◌<◌, ◌++◌, ℕ, length, drop, slice_index, Err, IfSome};
-ghost use Rattle.dfu_suffix.specs.Checking.{Checks, FindsFile, UnlessRead};
+ghost use Rattle.dfu_suffix.specs.Checking.{Checks, FindingsOfFile, UnlessRead};
 ghost use Rattle.dfu_suffix.specs.declared.fault.SuffixFault.TheVariants.{NoMemory};
 
 use crate::crc::Crc;
@@ -43,7 +43,7 @@ pub fn check_with<R: Read + Drop>(
     // The answer is that of `check`.
     ensures answer { IfSome (R.remaining reader) (λ all. UnlessRead result (Checks all result)) }
     // Unless it is Read, the findings are those of all bytes, if there are 16 to 16,777,216 of them.
-    ensures findings { IfSome (R.remaining reader) (λ all. UnlessRead result (FindsFile all findings.new)) }
+    ensures findings { IfSome (R.remaining reader) (λ all. UnlessRead result (FindingsOfFile all findings.new)) }
     // The fault is never NoMemory, for any reader.
     ensures memory { result ≢ Err NoMemory }
 {

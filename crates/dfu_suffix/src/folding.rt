@@ -7,7 +7,7 @@
 
 ghost use Rattle.std.specs.Prelude.{◌≡◌, ◌≤◌, length, take};
 ghost use Rattle.dfu_suffix.specs.Register.{after_bits, bits_of};
-ghost use Rattle.dfu_suffix.specs.inside.Folding.{stands_for};
+ghost use Rattle.dfu_suffix.specs.inside.Folding.{register_of_residue};
 
 use crate::crc;
 
@@ -19,7 +19,7 @@ const ROOM: usize = 6064;
 
 // A residue at the front of a room, which represents the register.
 fn residue_for(register: u32) -> [u8; ROOM]
-    ensures { stands_for (take 1968 result) ≡ register }
+    ensures { register_of_residue (take 1968 result) ≡ register }
 {
     let mut room = [0u8; ROOM];
     room[..4].copy_from_slice(&register.to_le_bytes());
@@ -29,7 +29,7 @@ fn residue_for(register: u32) -> [u8; ROOM]
 // Folds more bytes into the residue: it then represents the register after them.
 fn fold(room: &mut [u8; ROOM], bytes: &[u8])
     requires { length bytes.now ≤ 4096 }
-    ensures { stands_for (take 1968 room.new) ≡ after_bits (stands_for (take 1968 room.old)) (bits_of bytes.now) }
+    ensures { register_of_residue (take 1968 room.new) ≡ after_bits (register_of_residue (take 1968 room.old)) (bits_of bytes.now) }
 {
     for place in 0..bytes.len() {
         room[place + 1968] = bytes[place]
@@ -45,7 +45,7 @@ fn fold(room: &mut [u8; ROOM], bytes: &[u8])
 
 // The register that the residue represents.
 fn register_of(room: &[u8; ROOM]) -> u32
-    ensures { result ≡ stands_for (take 1968 room.now) }
+    ensures { result ≡ register_of_residue (take 1968 room.now) }
 {
     let first = crc::after_bytes(0, &room[..720]);
     let second = crc::after_bytes(first, &room[720..848]);

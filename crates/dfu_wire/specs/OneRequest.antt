@@ -4,7 +4,7 @@ use Rattle.std.proofs.Common.{arith, inl, inr}
 use Rattle.dfu_wire.specs.declared.setups.Setup.{Setup}
 use Rattle.dfu_wire.specs.declared.requests.Request.{Request}
 use Rattle.dfu_wire.specs.declared.requests.Request.TheVariants as request
-use Rattle.dfu_wire.specs.Request.{IsNamed, IsForUs, Asks}
+use Rattle.dfu_wire.specs.Request.{IsNamed, IsForUs, SetupRequest}
 
 -- No setup is two of the seven requests.
 one_named : (s : Setup) (q r : Request) → IsNamed s q → IsNamed s r → q ≡ r
@@ -35,16 +35,16 @@ named_for_us s request.NotDfu a = absurd a
 
 -- Two answers to what the same setup asks for are the same answer.
 abbrev pub OneRequest : Type 0
-OneRequest = (s : Setup) (q r : Request) → Asks s q → Asks s r → q ≡ r
+OneRequest = (s : Setup) (q r : Request) → SetupRequest s q → SetupRequest s r → q ≡ r
 
 -- No setup asks for two things.
-pub Asks-one : OneRequest
-Asks-one s request.OtherClass request.OtherClass a b = refl
-Asks-one s request.NotDfu request.NotDfu a b = refl
-Asks-one s request.OtherClass request.NotDfu a b = absurd (b a.0)
-Asks-one s request.NotDfu request.OtherClass a b = absurd (a b.0)
-Asks-one s request.OtherClass r a b = absurd (a.1 r b)
-Asks-one s q request.OtherClass a b = absurd (b.1 q a)
-Asks-one s request.NotDfu r a b = absurd (a (named_for_us s r b))
-Asks-one s q request.NotDfu a b = absurd (b (named_for_us s q a))
-Asks-one s q r a b = one_named s q r a b
+pub SetupRequest-one : OneRequest
+SetupRequest-one s request.OtherClass request.OtherClass a b = refl
+SetupRequest-one s request.NotDfu request.NotDfu a b = refl
+SetupRequest-one s request.OtherClass request.NotDfu a b = absurd (b a.0)
+SetupRequest-one s request.NotDfu request.OtherClass a b = absurd (a b.0)
+SetupRequest-one s request.OtherClass r a b = absurd (a.1 r b)
+SetupRequest-one s q request.OtherClass a b = absurd (b.1 q a)
+SetupRequest-one s request.NotDfu r a b = absurd (a (named_for_us s r b))
+SetupRequest-one s q request.NotDfu a b = absurd (b (named_for_us s q a))
+SetupRequest-one s q r a b = one_named s q r a b

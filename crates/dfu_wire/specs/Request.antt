@@ -28,10 +28,10 @@ IsForUs s = ((s.kind ≡ 0x21) ⊎ (s.kind ≡ 0xa1)) × (s.index ≡ 0)
 
 -- A setup asks for one of the seven requests, for another request of the class, or for no request of
 -- the class.
-abbrev pub Asks : Setup → Request → Type 0
-Asks s request.OtherClass = IsForUs s × ((r : Request) → IsNamed s r → ⊥)
-Asks s request.NotDfu = IsForUs s → ⊥
-Asks s r = IsNamed s r
+abbrev pub SetupRequest : Setup → Request → Type 0
+SetupRequest s request.OtherClass = IsForUs s × ((r : Request) → IsNamed s r → ⊥)
+SetupRequest s request.NotDfu = IsForUs s → ⊥
+SetupRequest s r = IsNamed s r
 
 -- The request is not one of the seven.
 abbrev pub IsUnnamed : Request → Type 0

@@ -1,7 +1,7 @@
 //! Request that a setup brings (USB DFU 1.1, section 3).
 
 ghost use Rattle.std.specs.Prelude.{◌≡◌, ◌↔◌, ◌⊎◌, IfSome, IsNone, Some};
-ghost use Rattle.dfu_wire.specs.Request.{Asks, IsNamed, IsPlain, IsUnnamed, request_name};
+ghost use Rattle.dfu_wire.specs.Request.{SetupRequest, IsNamed, IsPlain, IsUnnamed, request_name};
 ghost use Rattle.dfu_wire.specs.declared.setups.Setup.{Setup};
 
 use crate::Setup;
@@ -47,7 +47,7 @@ impl Request {
     /// `None` only for `OtherClass` and `NotDfu`. `Setup::request` of the result is the request
     /// again.
     pub fn setup(&self) -> Option<Setup>
-        ensures some { IfSome result (λ s. Asks s self.now × IsPlain s self.now) }
+        ensures some { IfSome result (λ s. SetupRequest s self.now × IsPlain s self.now) }
         ensures only { (s : Setup) → IsNamed s self.now → IsPlain s self.now → result ≡ Some s }
         ensures none { IsNone result ↔ IsUnnamed self.now }
     {

@@ -2,7 +2,7 @@
 
 ghost use Rattle.std.specs.Prelude.{◌≡◌, ◌≢◌};
 ghost use Rattle.dfu_wire.specs.Setup.{IsSetup};
-ghost use Rattle.dfu_wire.specs.Request.{Asks, IsForUs};
+ghost use Rattle.dfu_wire.specs.Request.{SetupRequest, IsForUs};
 
 use crate::Request;
 use crate::bytes::two_bytes;
@@ -75,8 +75,8 @@ impl Setup {
     /// - else the request of the table. The value of a GETSTATUS, CLRSTATUS, GETSTATE or ABORT is
     ///   ignored.
     pub fn request(&self) -> Request
-        ensures asks { Asks self.now result }
-        ensures only { (q : Request) → Asks self.now q → result ≡ q }
+        ensures asks { SetupRequest self.now result }
+        ensures only { (q : Request) → SetupRequest self.now q → result ≡ q }
         ensures class { result ≢ Request.NotDfu → IsForUs self.now }
     {
         if self.kind != OUT && self.kind != IN || self.index != 0 {

@@ -19,7 +19,7 @@ use Rattle.dfuse_host.specs.Plans.{front_end, page_end, write_end}
 use Rattle.dfuse_host.specs.Settling.{stand, byte_in, can_read, sending, comparing, leaving_by, staying, to_leave, compare_front_or, to_compare_front, write_front_or, to_write_front, compare_or, to_compare, write_or, to_write, erase_or, to_erase, settle}
 use Rattle.dfuse_host.specs.Commands.{command_of, done, erased, after_write, unsure}
 use Rattle.dfuse_host.specs.Table.{read_on, row}
-use Rattle.dfuse_host.specs.Sessions.{resumed, dfuse_told, dfuse_after_phase}
+use Rattle.dfuse_host.specs.Sessions.{resumed, dfuse_step_after, dfuse_after_phase}
 use Rattle.dfuse_host.proofs.RowForms.{RowForm, stays, settles, reads, does, doubts, fails, leaves, row_form}
 use Rattle.dfuse_host.proofs.Restarts.{at_budgeted, at_restart}
 use Rattle.dfuse_host.specs.ReadBack.{Closes, ClosesIn, ClosesAlways}
@@ -145,7 +145,7 @@ module _ (plan : Plan) where
 
 -- ---- sessions
 
-at_told : (s : Session) (w : Work) (p : Place) (at : Step) (x : Heard) → Closes w at → ClosesIn (dfuse_told s w p at x).phase
+at_told : (s : Session) (w : Work) (p : Place) (at : Step) (x : Heard) → Closes w at → ClosesIn (dfuse_step_after s w p at x).phase
 at_told s w p at heard.Restarted c = at_restart ClosesIn (λ r. tt) at_resumed s w p at
 at_told s w p at x c = at_budgeted ClosesIn (λ r. tt) (pred s.actions) (row s.plan w p at x) (at_row s.plan w p at x c)
 

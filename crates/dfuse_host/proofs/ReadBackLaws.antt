@@ -12,7 +12,7 @@ use Rattle.dfuse_host.specs.declared.report.Report.TheVariants as report
 use Rattle.dfuse_host.specs.declared.session.Session.{Session}
 use Rattle.dfuse_host.specs.Refusing.{apart_from}
 use Rattle.dfuse_host.specs.Table.{row}
-use Rattle.dfuse_host.specs.Sessions.{dfuse_spent, resumed, dfuse_restarted, restarted_in, dfuse_told, dfuse_after_phase}
+use Rattle.dfuse_host.specs.Sessions.{dfuse_spent, resumed, dfuse_restarted, restarted_in, dfuse_step_after, dfuse_after_phase}
 use Rattle.dfuse_host.specs.ReadBack.{HasByte, WasRead, WasReadIn, ReadsBack, ReadsBackIn, Closes, ClosesIn, OnlyReadBack}
 use Rattle.dfuse_host.proofs.RowLaws.{at_row, at_budgeted, at_resumed}
 
@@ -29,7 +29,7 @@ module _ (s : Session) (a : ℕ) (apart : apart_from 0 s.plan.image.now ≡ true
   at_restart work.Leave p at h = tt
   at_restart w p at h = at_restarted w p at s.restarts h
 
-  at_told : (w : Work) (p : Place) (at : Step) (x : Heard) → Closes w at → WasReadIn s.plan (dfuse_told s w p at x).phase a →
+  at_told : (w : Work) (p : Place) (at : Step) (x : Heard) → Closes w at → WasReadIn s.plan (dfuse_step_after s w p at x).phase a →
       WasRead s.plan w a ⊎ ReadsBack s.plan w at x a
   at_told w p at heard.Restarted c h = inl (at_restart w p at h)
   at_told w p at x c h = at_row s.plan a apart b w p at x c (at_spent (row s.plan w p at x) s.restarts h)

@@ -21,7 +21,7 @@ use Rattle.dfuse_host.specs.declared.report.Leaving.TheVariants as leaving
 use Rattle.dfuse_host.specs.Settling.{stand, settle}
 use Rattle.dfuse_host.specs.Commands.{command_of, done, unsure}
 use Rattle.dfuse_host.specs.Table.{state_found, ends_comparing, fault_found, status_found, on_abort, on_ask_state, on_ask_status, on_clear_wait, on_send, probed, on_probe, refused, polled, stalled_ms, on_poll, on_poll_wait, reading_begun, reading_ended, on_begin_reading, on_end_reading, read_on, on_read, on_close, close_probed, on_close_probe, close_polled, on_close_poll, row}
-use Rattle.dfuse_host.specs.ReadBack.{SaysRead, Closes}
+use Rattle.dfuse_host.specs.ReadBack.{ReadBackReport, Closes}
 
 -- A row goes on with the same work, goes on to the next one, ends a command for better or worse, or ends the session. It reads on only if
 -- bytes were the image's.
@@ -31,7 +31,7 @@ pub data RowForm (plan : Plan) (w : Work) (p : Place) : Step → Heard → Phase
   reads : RowForm plan w p step.Read (heard.Compared true) (settle plan (read_on plan w) p)
   does : {s : Step} {h : Heard} → RowForm plan w p s h (done plan w (command_of plan w p))
   doubts : {s : Step} {h : Heard} → RowForm plan w p s h (unsure plan w (command_of plan w p))
-  fails : {s : Step} {h : Heard} (r : Report) → (SaysRead r → ⊥) → RowForm plan w p s h (Over r)
+  fails : {s : Step} {h : Heard} (r : Report) → (ReadBackReport r → ⊥) → RowForm plan w p s h (Over r)
   leaves : {s : Step} {h : Heard} → w ≡ work.Leave → RowForm plan w p s h (Over (report.Verified leaving.Left))
 
 module _ (plan : Plan) (w : Work) (p : Place) (s : Step) (h : Heard) where

@@ -13,7 +13,7 @@ use Rattle.dfuse_host.specs.declared.heard.Heard.TheVariants as heard
 use Rattle.dfuse_host.specs.declared.seen.Seen.{Seen}
 use Rattle.dfuse_host.specs.declared.session.Session.{Session}
 use Rattle.dfuse_host.specs.Refusing.{apart_from}
-use Rattle.dfuse_host.specs.Sessions.{dfuse_begun, resumed, dfuse_restarted, restarted_leaving, restarted_in, dfuse_told, dfuse_after_phase, SessionRow, SessionRows, seen_all, sees}
+use Rattle.dfuse_host.specs.Sessions.{initial_dfuse, resumed, dfuse_restarted, restarted_leaving, restarted_in, dfuse_step_after, dfuse_after_phase, SessionRow, SessionRows, seen_all, sees}
 use Rattle.dfuse_host.specs.ReadBack.{HasByte, WasReadIn, ReadsBackIn, ClosesIn}
 use Rattle.dfuse_host.specs.ReadInRun.{IsReadIn, EachIsRead}
 use Rattle.dfuse_host.proofs.CloseLaws.{closes_always}
@@ -36,7 +36,7 @@ plan_restart s work.Leave p at = plan_leaving s p at
 plan_restart s w p at = plan_restarted s (resumed s.plan w p at) s.restarts
 
 -- A session that goes on keeps its plan, whatever it hears.
-pub plan_told : (s : Session) (w : Work) (p : Place) (at : Step) (h : Heard) → (dfuse_told s w p at h).plan ≡ s.plan
+pub plan_told : (s : Session) (w : Work) (p : Place) (at : Step) (h : Heard) → (dfuse_step_after s w p at h).plan ≡ s.plan
 plan_told s w p at heard.Restarted = plan_restart s w p at
 plan_told s w p at h = refl
 
@@ -108,6 +108,6 @@ in_run s s' (seen ∷ more) a (sees {mid = mid} step rows) c h =
 
 pub each_is_read : EachIsRead
 each_is_read plan limits seens s' leaving a apart rows over b =
-    let counts : Counts (dfuse_begun plan limits) a = record { apart = apart; has = b; closes = tt } in
+    let counts : Counts (initial_dfuse plan limits) a = record { apart = apart; has = b; closes = tt } in
     let end : WasReadIn s'.plan s'.phase a = subst (λ (p : Phase). WasReadIn s'.plan p a) (sym over) tt in
-    elim (in_run (dfuse_begun plan limits) s' seens a rows counts end) [ inl w ↦ absurd w | inr w ↦ w ]
+    elim (in_run (initial_dfuse plan limits) s' seens a rows counts end) [ inl w ↦ absurd w | inr w ↦ w ]

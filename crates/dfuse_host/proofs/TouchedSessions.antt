@@ -19,7 +19,7 @@ use Rattle.dfuse_host.specs.Plans.{front_end}
 use Rattle.dfuse_host.specs.Refusing.{is_empty}
 use Rattle.dfuse_host.specs.Commands.{writing, command_of}
 use Rattle.dfuse_host.specs.Table.{row}
-use Rattle.dfuse_host.specs.Sessions.{dfuse_budgeted, spent_at, resumed, dfuse_restarted, restarted_leaving, restarted_in, dfuse_told, dfuse_after_phase}
+use Rattle.dfuse_host.specs.Sessions.{dfuse_budgeted, spent_at, resumed, dfuse_restarted, restarted_leaving, restarted_in, dfuse_step_after, dfuse_after_phase}
 use Rattle.dfuse_host.specs.ReadBack.{HasByte, Closes, ClosesIn}
 use Rattle.dfuse_host.specs.Touching.{Touches, TouchesIn, ChangesOnly, TouchesAlways, OnlyTouched, FrontIsLast}
 use Rattle.dfuse_host.proofs.RowForms.{row_form}
@@ -55,7 +55,7 @@ module _ (s : Session) (some : is_empty s.plan.image.now ≡ false) where
   at_restart work.Leave p at h = at_restarted_leaving p at
   at_restart w p at h = at_restarted (resumed s.plan w p at) s.restarts (at_resumed w p at h)
 
-  at_told : (w : Work) (p : Place) (at : Step) (x : Heard) → Closes w at → Touches s.plan w → TouchesIn s.plan (dfuse_told s w p at x).phase
+  at_told : (w : Work) (p : Place) (at : Step) (x : Heard) → Closes w at → Touches s.plan w → TouchesIn s.plan (dfuse_step_after s w p at x).phase
   at_told w p at heard.Restarted c h = at_restart w p at h
   at_told w p at x c h =
       at_budgeted s.plan (pred s.actions) (row s.plan w p at x) (by_form s.plan some w p at x (row s.plan w p at x) (row_form s.plan w p at x c) h)

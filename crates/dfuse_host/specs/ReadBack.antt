@@ -36,14 +36,14 @@ WasRead plan (work.CompareFront at) a = (front_end plan ≤ a) ⊎ (a < at)
 WasRead plan work.Leave a = Unit {0}
 
 -- A report says of all bytes that they were read back, or of no byte.
-abbrev pub SaysRead : Report → Type 0
-SaysRead (report.Verified leaving) = Unit {0}
-SaysRead r = ⊥
+abbrev pub ReadBackReport : Report → Type 0
+ReadBackReport (report.Verified leaving) = Unit {0}
+ReadBackReport r = ⊥
 
 -- A session in this phase has read the byte back.
 abbrev pub WasReadIn : Plan → Phase → ℕ → Type 0
 WasReadIn plan (On s) a = WasRead plan s.work a
-WasReadIn plan (Over r) a = SaysRead r
+WasReadIn plan (Over r) a = ReadBackReport r
 
 -- This step reads the byte back, and it is the image's.
 abbrev pub ReadsBack : Plan → Work → Step → Heard → ℕ → Type 0

@@ -9,7 +9,7 @@ use Rattle.dfuse_host.specs.declared.session.Session.{Session}
 use Rattle.dfuse_host.specs.declared.limits.Limits.{Limits}
 use Rattle.dfuse_host.specs.Refusing.{apart_from}
 use Rattle.dfuse_host.specs.ReadBack.{HasByte, ReadsBackIn}
-use Rattle.dfuse_host.specs.Sessions.{SessionRow, SessionRows, dfuse_begun}
+use Rattle.dfuse_host.specs.Sessions.{SessionRow, SessionRows, initial_dfuse}
 
 -- Among what a session sees is an answer that reads this byte back, and it is the image's.
 pub record IsReadIn (s : Session) (seens : List Seen) (s' : Session) (a : ℕ) : Type 0 where
@@ -28,5 +28,5 @@ pub record IsReadIn (s : Session) (seens : List Seen) (s' : Session) (a : ℕ) :
 abbrev pub EachIsRead : Type 0
 EachIsRead =
     (plan : Plan) (limits : Limits) (seens : List Seen) (s' : Session) (leaving : Leaving) (a : ℕ) → apart_from 0 plan.image.now ≡ true →
-    SessionRows (dfuse_begun plan limits) seens s' → s'.phase ≡ Over (Verified leaving) → HasByte a plan.image.now →
-    IsReadIn (dfuse_begun plan limits) seens s' a
+    SessionRows (initial_dfuse plan limits) seens s' → s'.phase ≡ Over (Verified leaving) → HasByte a plan.image.now →
+    IsReadIn (initial_dfuse plan limits) seens s' a

@@ -21,11 +21,11 @@ use Rattle.dfuse_host.specs.Images.{image_start}
 use Rattle.dfuse_host.specs.Commands.{command_of, cleared, unsure}
 use Rattle.dfuse_host.specs.Deeds.{dfuse_deed}
 use Rattle.dfuse_host.specs.Table.{row}
-use Rattle.dfuse_host.specs.Wire.{DfuseHears, DfuseSpells}
+use Rattle.dfuse_host.specs.Wire.{DfuseSeenMeaning, DfuseSpells}
 
 -- A session that begins: all pages of the image are to be erased, and the device is cleared first.
-abbrev pub dfuse_begun : Plan → Limits → Session
-dfuse_begun plan limits = record {
+abbrev pub initial_dfuse : Plan → Limits → Session
+initial_dfuse plan limits = record {
   plan = plan;
   phase = cleared (work.Erase (image_start plan.image.now));
   actions = max 1 limits.actions;
@@ -82,14 +82,14 @@ restarted_in s work.Leave p at = restarted_leaving s p at
 restarted_in s w p at = dfuse_restarted s (resumed s.plan w p at) s.restarts
 
 -- Session after something is heard: a restart, or else what the table's row takes.
-abbrev pub dfuse_told : Session → Work → Place → Step → Heard → Session
-dfuse_told s w p at heard.Restarted = restarted_in s w p at
-dfuse_told s w p at h = dfuse_spent s (row s.plan w p at h) s.restarts
+abbrev pub dfuse_step_after : Session → Work → Place → Step → Heard → Session
+dfuse_step_after s w p at heard.Restarted = restarted_in s w p at
+dfuse_step_after s w p at h = dfuse_spent s (row s.plan w p at h) s.restarts
 
 -- A session that is over doesn't change, and every other takes what it hears.
 abbrev pub dfuse_after_phase : Session → Phase → Heard → Session
 dfuse_after_phase s (Over r) h = s
-dfuse_after_phase s (On at) h = dfuse_told s at.work at.place at.step h
+dfuse_after_phase s (On at) h = dfuse_step_after s at.work at.place at.step h
 
 -- A session after it hears this.
 abbrev pub dfuse_after : Session → Heard → Session
@@ -100,14 +100,14 @@ abbrev pub DfuseAct : Session → Action → Type 0
 DfuseAct s action = DfuseSpells (dfuse_deed s.plan s.phase) action
 
 -- The result of an action in a phase, as it is understood; it doesn't matter if the session is over.
-abbrev pub HearsIn : Plan → Phase → Seen → Heard → Type 0
-HearsIn plan (On s) seen h = DfuseHears plan s.work s.step seen h
-HearsIn plan (Over r) seen h = Unit {0}
+abbrev pub DfuseSeenMeaningIn : Plan → Phase → Seen → Heard → Type 0
+DfuseSeenMeaningIn plan (On s) seen h = DfuseSeenMeaning plan s.work s.step seen h
+DfuseSeenMeaningIn plan (Over r) seen h = Unit {0}
 
 -- A session becomes, by what it sees, the session of its row: the bytes are understood as its step says, and the table gives the rest.
 pub record SessionRow (s : Session) (seen : Seen) (s' : Session) : Type 0 where
   pub heard : Heard
-  pub hears : HearsIn s.plan s.phase seen heard
+  pub hears : DfuseSeenMeaningIn s.plan s.phase seen heard
   pub same : s' ≡ dfuse_after s heard
 
 -- A session sees these, one after the other, and becomes what each makes of it.
@@ -122,9 +122,9 @@ DfuseIsOver (Over r) = Unit {0}
 DfuseIsOver (On s) = ⊥
 
 -- Number of times that a session in this phase takes what is seen, at most, until it is over.
-abbrev pub dfuse_takes_in : Phase → (actions : ℕ) → ℕ
-dfuse_takes_in (Over r) actions = 0
-dfuse_takes_in (On s) actions = max 1 actions
+abbrev pub most_dfuse_inputs_in : Phase → (actions : ℕ) → ℕ
+most_dfuse_inputs_in (Over r) actions = 0
+most_dfuse_inputs_in (On s) actions = max 1 actions
 
-abbrev pub dfuse_takes_left : Session → ℕ
-dfuse_takes_left s = dfuse_takes_in s.phase s.actions
+abbrev pub remaining_dfuse_inputs : Session → ℕ
+remaining_dfuse_inputs s = most_dfuse_inputs_in s.phase s.actions

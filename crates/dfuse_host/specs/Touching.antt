@@ -15,7 +15,7 @@ use Rattle.dfuse_host.specs.Plans.{page_start, page_end, front_end, write_end}
 use Rattle.dfuse_host.specs.Commands.{command_of, end_of_work}
 use Rattle.dfuse_host.specs.Refusing.{is_empty}
 use Rattle.dfuse_host.specs.ReadBack.{HasByte, WasRead, ClosesIn}
-use Rattle.dfuse_host.specs.Sessions.{dfuse_begun, dfuse_after}
+use Rattle.dfuse_host.specs.Sessions.{initial_dfuse, dfuse_after}
 
 -- A byte of the image is on the page that begins here.
 pub record IsTouched (plan : Plan) (page : ℕ) : Type 0 where
@@ -45,7 +45,7 @@ ChangesOnly plan end (command.Write at) = (a : ℕ) → at ≤ a → a < write_e
 -- A session begins at a byte of the image, and goes on so, whatever is heard.
 abbrev pub TouchesAlways : Type 0
 TouchesAlways =
-    ((plan : Plan) (limits : Limits) → is_empty plan.image.now ≡ false → TouchesIn plan (dfuse_begun plan limits).phase)
+    ((plan : Plan) (limits : Limits) → is_empty plan.image.now ≡ false → TouchesIn plan (initial_dfuse plan limits).phase)
     × ((s : Session) (h : Heard) → is_empty s.plan.image.now ≡ false → ClosesIn s.phase → TouchesIn s.plan s.phase
     → TouchesIn s.plan (dfuse_after s h).phase)
 

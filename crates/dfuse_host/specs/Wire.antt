@@ -6,7 +6,7 @@ use Rattle.dfu_wire.specs.declared.states.State.{State}
 use Rattle.dfu_wire.specs.declared.requests.Request.{Request}
 use Rattle.dfu_wire.specs.Status.{StatusFields, IsStatus}
 use Rattle.dfu_wire.specs.Setup.{IsSetup}
-use Rattle.dfu_wire.specs.Request.{Asks, IsPlain}
+use Rattle.dfu_wire.specs.Request.{SetupRequest, IsPlain}
 use Rattle.dfu_wire.specs.State.{state_byte}
 use Rattle.dfuse_host.specs.declared.action.Action.{Action}
 use Rattle.dfuse_host.specs.declared.action.Action.TheVariants as action
@@ -21,16 +21,16 @@ use Rattle.dfuse_host.specs.declared.step.Step.TheVariants as step
 use Rattle.dfuse_host.specs.Deeds.{DfuseDeed, Send, Wait, Done, read_bytes}
 
 -- The eight bytes are a setup that asks for this, with 0 if its value has no meaning.
-pub record DfuseIsAsked (q : Request) (bytes : List ℕ) : Type 0 where
+pub record IsDfuseSetupOf (q : Request) (bytes : List ℕ) : Type 0 where
   pub setup : Setup
   pub fields : IsSetup setup bytes
-  pub asks : Asks setup q
+  pub asks : SetupRequest setup q
   pub plain : IsPlain setup q
 
 -- An action as the caller gets it: a request is the bytes of its setup, with its body. No other pair spells.
 abbrev pub DfuseSpells : DfuseDeed → Action → Type 0
-DfuseSpells (Send q body) (action.Send setup given) = DfuseIsAsked q setup × (given.now ≡ body)
-DfuseSpells (Send q body) (action.Command setup given) = DfuseIsAsked q setup × (given ≡ body)
+DfuseSpells (Send q body) (action.Send setup given) = IsDfuseSetupOf q setup × (given.now ≡ body)
+DfuseSpells (Send q body) (action.Command setup given) = IsDfuseSetupOf q setup × (given ≡ body)
 DfuseSpells (Wait ms) (action.Wait given) = given ≡ ms
 DfuseSpells (Done report) (action.Done given) = given ≡ report
 DfuseSpells deed given = ⊥
@@ -52,28 +52,28 @@ abbrev pub compared : (wanted bytes : List ℕ) → Heard
 compared wanted bytes = if length bytes == length wanted then heard.Compared (bytes_eq bytes wanted) else heard.Nothing
 
 -- Bytes that come at a step: if the step asks for no bytes, it is as if nothing came.
-abbrev pub DfuseHearsBytes : Plan → Work → Step → List ℕ → Heard → Type 0
-DfuseHearsBytes plan w step.AskState bytes h = DfuseReadsState bytes h
-DfuseHearsBytes plan w step.Probe bytes h = DfuseReadsState bytes h
-DfuseHearsBytes plan w step.CloseProbe bytes h = DfuseReadsState bytes h
-DfuseHearsBytes plan w step.AskStatus bytes h = DfuseReadsStatus bytes h
-DfuseHearsBytes plan w (step.Poll last) bytes h = DfuseReadsStatus bytes h
-DfuseHearsBytes plan w step.ClosePoll bytes h = DfuseReadsStatus bytes h
-DfuseHearsBytes plan w step.Read bytes h = h ≡ compared (read_bytes plan w) bytes
-DfuseHearsBytes plan w step.Abort bytes h = h ≡ heard.Nothing
-DfuseHearsBytes plan w (step.ClearWait ms) bytes h = h ≡ heard.Nothing
-DfuseHearsBytes plan w step.ClearStatus bytes h = h ≡ heard.Nothing
-DfuseHearsBytes plan w step.Send bytes h = h ≡ heard.Nothing
-DfuseHearsBytes plan w (step.PollWait ms) bytes h = h ≡ heard.Nothing
-DfuseHearsBytes plan w step.BeginReading bytes h = h ≡ heard.Nothing
-DfuseHearsBytes plan w step.EndReading bytes h = h ≡ heard.Nothing
-DfuseHearsBytes plan w step.Close bytes h = h ≡ heard.Nothing
+abbrev pub DfuseBytesMeaning : Plan → Work → Step → List ℕ → Heard → Type 0
+DfuseBytesMeaning plan w step.AskState bytes h = DfuseReadsState bytes h
+DfuseBytesMeaning plan w step.Probe bytes h = DfuseReadsState bytes h
+DfuseBytesMeaning plan w step.CloseProbe bytes h = DfuseReadsState bytes h
+DfuseBytesMeaning plan w step.AskStatus bytes h = DfuseReadsStatus bytes h
+DfuseBytesMeaning plan w (step.Poll last) bytes h = DfuseReadsStatus bytes h
+DfuseBytesMeaning plan w step.ClosePoll bytes h = DfuseReadsStatus bytes h
+DfuseBytesMeaning plan w step.Read bytes h = h ≡ compared (read_bytes plan w) bytes
+DfuseBytesMeaning plan w step.Abort bytes h = h ≡ heard.Nothing
+DfuseBytesMeaning plan w (step.ClearWait ms) bytes h = h ≡ heard.Nothing
+DfuseBytesMeaning plan w step.ClearStatus bytes h = h ≡ heard.Nothing
+DfuseBytesMeaning plan w step.Send bytes h = h ≡ heard.Nothing
+DfuseBytesMeaning plan w (step.PollWait ms) bytes h = h ≡ heard.Nothing
+DfuseBytesMeaning plan w step.BeginReading bytes h = h ≡ heard.Nothing
+DfuseBytesMeaning plan w step.EndReading bytes h = h ≡ heard.Nothing
+DfuseBytesMeaning plan w step.Close bytes h = h ≡ heard.Nothing
 
 -- The result at a step, as it is understood. The table decides whether it fits the step.
-abbrev pub DfuseHears : Plan → Work → Step → Seen → Heard → Type 0
-DfuseHears plan w s (seen.Bytes bytes) h = DfuseHearsBytes plan w s bytes.now h
-DfuseHears plan w s seen.Ack h = h ≡ heard.Acked
-DfuseHears plan w s seen.Stall h = h ≡ heard.Stalled
-DfuseHears plan w s seen.Nothing h = h ≡ heard.Nothing
-DfuseHears plan w s seen.Waited h = h ≡ heard.Waited
-DfuseHears plan w s seen.Restarted h = h ≡ heard.Restarted
+abbrev pub DfuseSeenMeaning : Plan → Work → Step → Seen → Heard → Type 0
+DfuseSeenMeaning plan w s (seen.Bytes bytes) h = DfuseBytesMeaning plan w s bytes.now h
+DfuseSeenMeaning plan w s seen.Ack h = h ≡ heard.Acked
+DfuseSeenMeaning plan w s seen.Stall h = h ≡ heard.Stalled
+DfuseSeenMeaning plan w s seen.Nothing h = h ≡ heard.Nothing
+DfuseSeenMeaning plan w s seen.Waited h = h ≡ heard.Waited
+DfuseSeenMeaning plan w s seen.Restarted h = h ≡ heard.Restarted

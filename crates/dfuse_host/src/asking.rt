@@ -4,7 +4,7 @@ ghost use Rattle.std.specs.Prelude.{◌≡◌, ◌≤◌, ◌<◌, ◌-◌, ◌^
 ghost use Rattle.dfu_wire.specs.Request.{IsUnnamed};
 ghost use Rattle.dfuse_host.specs.Commands.{bytes_in, command_of};
 ghost use Rattle.dfuse_host.specs.Deeds as deeds;
-ghost use Rattle.dfuse_host.specs.Wire.{DfuseSpells, DfuseIsAsked};
+ghost use Rattle.dfuse_host.specs.Wire.{DfuseSpells, IsDfuseSetupOf};
 
 use crate::action::Action;
 use crate::command::Command;
@@ -19,7 +19,7 @@ use dfu_wire::Request;
 /// One of the seven requests, as its setup's bytes.
 fn setup_of(request: Request) -> [u8; 8]
     requires { IsUnnamed request → ⊥ }
-    ensures { DfuseIsAsked request result }
+    ensures { IsDfuseSetupOf request result }
 {
     match request.setup() {
         Some(setup) => setup.encode(),

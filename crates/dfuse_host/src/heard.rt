@@ -1,7 +1,7 @@
 //! Meaning of what is seen.
 
 ghost use Rattle.std.specs.Prelude.{◌≡◌};
-ghost use Rattle.dfuse_host.specs.Wire.{DfuseHears, DfuseHearsBytes, DfuseReadsState, DfuseReadsStatus, compared};
+ghost use Rattle.dfuse_host.specs.Wire.{DfuseSeenMeaning, DfuseBytesMeaning, DfuseReadsState, DfuseReadsStatus, compared};
 
 use crate::plan::Plan;
 use crate::seen::Seen;
@@ -61,7 +61,7 @@ fn compared(wanted: &[u8], bytes: &[u8]) -> Heard
 impl Plan<'_> {
     /// Returns the meaning of bytes that come at a step.
     fn answered(&self, work: Work, step: Step, bytes: &[u8]) -> Heard
-        ensures { DfuseHearsBytes self.now work step bytes.now result }
+        ensures { DfuseBytesMeaning self.now work step bytes.now result }
     {
         match step {
             Step::AskState | Step::Probe | Step::CloseProbe => state_in(bytes),
@@ -73,7 +73,7 @@ impl Plan<'_> {
 
     /// Returns the meaning of what is seen at a step.
     pub(crate) fn hear(&self, work: Work, step: Step, seen: Seen<'_>) -> Heard
-        ensures { DfuseHears self.now work step seen.entry result }
+        ensures { DfuseSeenMeaning self.now work step seen.entry result }
     {
         match seen {
             Seen::Ack => Heard::Acked,

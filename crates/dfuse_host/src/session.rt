@@ -2,7 +2,7 @@
 
 ghost use Rattle.std.specs.Prelude.{◌≡◌, ◌≤◌, ◌-◌, pred, IfOk, IfErr, OnOk};
 ghost use Rattle.dfuse_host.specs.Refusing.{IsSoundPlan, FirstPlanFault};
-ghost use Rattle.dfuse_host.specs.Sessions.{DfuseAct, SessionRow, DfuseIsOver, dfuse_takes_left, dfuse_begun, dfuse_budgeted, dfuse_spent, spent_at, left_at, resumed, dfuse_restarted, restarted_leaving, restarted_in, dfuse_told, dfuse_after, dfuse_after_phase};
+ghost use Rattle.dfuse_host.specs.Sessions.{DfuseAct, SessionRow, DfuseIsOver, remaining_dfuse_inputs, initial_dfuse, dfuse_budgeted, dfuse_spent, spent_at, left_at, resumed, dfuse_restarted, restarted_leaving, restarted_in, dfuse_step_after, dfuse_after, dfuse_after_phase};
 
 use crate::action::Action;
 use crate::command::cleared;
@@ -128,7 +128,7 @@ impl<'f> Session<'f> {
 
     /// After something was heard.
     fn after(self, at: Standing, heard: Heard) -> Session<'f>
-        ensures { result ≡ dfuse_told self.entry at.work at.place at.step heard }
+        ensures { result ≡ dfuse_step_after self.entry at.work at.place at.step heard }
     {
         match heard {
             Heard::Restarted => self.restarted(at),
@@ -145,7 +145,7 @@ impl<'f> Session<'f> {
     ///
     /// The first fault of the plan, in the order of [`PlanFault`].
     pub fn begin(plan: Plan<'f>, limits: Limits) -> Result<Session<'f>, PlanFault>
-        ensures begun { IfOk result (λ s. s ≡ dfuse_begun plan.entry limits) }
+        ensures begun { IfOk result (λ s. s ≡ initial_dfuse plan.entry limits) }
         ensures sound { OnOk result (IsSoundPlan plan.entry) }
         ensures fault { IfErr result (FirstPlanFault plan.entry) }
     {
@@ -174,7 +174,7 @@ impl<'f> Session<'f> {
     pub fn take(&mut self, seen: Seen<'_>)
         ensures row { SessionRow self.old seen.entry self.new }
         ensures plan { self.new.plan ≡ self.old.plan }
-        ensures budget { dfuse_takes_left self.new ≤ dfuse_takes_left self.old - 1 }
+        ensures budget { remaining_dfuse_inputs self.new ≤ remaining_dfuse_inputs self.old - 1 }
         ensures over { DfuseIsOver self.old.phase → self.new ≡ self.old }
     {
         if let Phase::On(at) = self.phase {

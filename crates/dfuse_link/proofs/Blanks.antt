@@ -13,7 +13,7 @@ use Rattle.dfuse_host.specs.declared.seen.Seen.{Seen}
 use Rattle.dfuse_host.specs.declared.session.Session.{Session}
 use Rattle.dfuse_host.specs.Deeds.{DfuseDeed, Send, Wait, Done, dfuse_deed, deed_of}
 use Rattle.dfuse_link.specs.Chips.{Chip, Order, Erases, Doing, Rests, Pending, Busy, Device, ChangedBy, Advances, goes_on, ends, fails}
-use Rattle.dfuse_link.specs.Reactions.{Reaction, order_of, set_off, told_of, Reacts, stalls, takes, closes, gives, lists, tells, shows, aborts, clears}
+use Rattle.dfuse_link.specs.Reactions.{Reaction, order_of, set_off, doing_after_status, Reacts, stalls, takes, closes, gives, lists, tells, shows, aborts, clears}
 use Rattle.dfuse_link.specs.Histories.{Arrives, never, again, UnderWay, none, request, sent, waited, restarted}
 use Rattle.dfuse_link.proofs.Changes.{MayChange, changed_stays, behind_stall, off_keeps, told_keeps}
 use Rattle.dfuse_link.proofs.Claims.{IsQuiet, Stands, StandsIn}
@@ -89,7 +89,7 @@ module _ (chip : Chip) (a : ℕ) where
   off_spares : (doing : Doing) → SparesIn chip a doing → SparesIn chip a (set_off doing)
   off_spares doing k = off_keeps (SparesIn chip a) (λ order h. h) doing k
 
-  told_spares : (doing : Doing) → SparesIn chip a doing → SparesIn chip a (told_of doing)
+  told_spares : (doing : Doing) → SparesIn chip a doing → SparesIn chip a (doing_after_status doing)
   told_spares doing k = told_keeps (SparesIn chip a) (λ s t h. h) doing k
 
   mid_blank : (d mid : Device) → (mid ≡ record d { doing = set_off d.doing }) ⊎ Advances chip (record d { doing = set_off d.doing }) mid →

@@ -13,7 +13,7 @@ use Rattle.dfu_formats.specs.declared.dfuse.element.Element.{Element}
 use Rattle.dfuse_host.specs.Images.{end_of, holds, element_at}
 use Rattle.dfuse_host.specs.Refusing.{apart_from, EachGranted}
 use Rattle.dfuse_host.specs.ReadBack.{HasByte}
-use Rattle.dfuse_link.specs.Reactions.{StandsAt}
+use Rattle.dfuse_link.specs.Reactions.{BytesInMemoryAt}
 use Rattle.dfuse_link.proofs.OnPages.{range_step}
 
 -- The byte of an element, if there is one.
@@ -110,7 +110,7 @@ byte_in_part e at a end low from to =
 -- ---- an image is in the memory if each of its bytes is
 
 first_stands : (memory : ℕ → ℕ) (e : Element) (es : List Element) →
-    ((a : ℕ) → HasByte a (e ∷ es) → memory a ≡ byte_at a (e ∷ es)) → StandsAt memory e.address e.bytes.now
+    ((a : ℕ) → HasByte a (e ∷ es) → memory a ≡ byte_at a (e ∷ es)) → BytesInMemoryAt memory e.address e.bytes.now
 first_stands memory e es h = λ i within.
     let here : holds (e.address + i) e ≡ true = does_hold (e.address + i) e (omega arith) (omega (arith, within)) in
     let is : memory (e.address + i) ≡ byte_at (e.address + i) (e ∷ es) = h (e.address + i) (inl (omega arith, omega (arith, within))) in
@@ -119,7 +119,7 @@ first_stands memory e es h = λ i within.
 
 pub all_stands : (memory : ℕ → ℕ) (from : ℕ) (es : List Element) → apart_from from es ≡ true →
     ((a : ℕ) → HasByte a es → memory a ≡ byte_at a es) →
-    AllByRecursion (λ (e : Element). StandsAt memory e.address e.bytes.now) es
+    AllByRecursion (λ (e : Element). BytesInMemoryAt memory e.address e.bytes.now) es
 all_stands memory from [] apart h = tt
 all_stands memory from (e ∷ es) apart h =
     let both = and_parts (leb from e.address) (apart_from (end_of e) es) apart in (

@@ -3,7 +3,7 @@ use Rattle.std.proofs.Common.{◌≡◌, ◌⊎◌, inl, inr, ℕ, ◌+◌, ◌<
 use Rattle.dfu_wire.specs.declared.states.State.{State}
 use Rattle.dfu_wire.specs.declared.states.State.TheVariants as state
 use Rattle.dfuse_link.specs.Chips.{Chip, Order, Points, Erases, Programs, Other, Doing, Rests, Pending, Busy, ChangedBy}
-use Rattle.dfuse_link.specs.Reactions.{set_off, told_of}
+use Rattle.dfuse_link.specs.Reactions.{set_off, doing_after_status}
 
 -- An order may change the byte of this address.
 abbrev pub MayChange : Chip → Order → (a : ℕ) → Type 0
@@ -42,7 +42,7 @@ off_keeps P sets (Pending order) h = sets order h
 off_keeps P sets (Busy order) h = h
 
 -- A fact of every state of a device at rest stays so once it reports its status.
-pub told_keeps : (P : Doing → Type 0) → ((s t : State) → P (Rests s) → P (Rests t)) → (doing : Doing) → P doing → P (told_of doing)
+pub told_keeps : (P : Doing → Type 0) → ((s t : State) → P (Rests s) → P (Rests t)) → (doing : Doing) → P doing → P (doing_after_status doing)
 told_keeps P rests (Rests state.DownloadSync) h = rests _ _ h
 told_keeps P rests (Rests state.DownloadBusy) h = rests _ _ h
 told_keeps P rests (Rests state.ManifestSync) h = rests _ _ h

@@ -7,7 +7,7 @@ use Rattle.dfu_wire.specs.declared.requests.Request.TheVariants as request
 use Rattle.dfuse_host.specs.declared.place.Place.{Place}
 use Rattle.dfuse_host.proofs.ForCallers.{AnyCommand, by_command}
 use Rattle.dfuse_link.specs.Chips.{Chip, Order, Doing, Rests, Pending, Busy, state_in, Device, IsCarried, Advances, goes_on, ends, fails}
-use Rattle.dfuse_link.specs.Reactions.{Reaction, Acks, order_of, set_off, told_of, Reacts, stalls, takes, closes, gives, lists, tells, shows, aborts}
+use Rattle.dfuse_link.specs.Reactions.{Reaction, Acks, order_of, set_off, doing_after_status, Reacts, stalls, takes, closes, gives, lists, tells, shows, aborts}
 use Rattle.dfuse_link.specs.Histories.{Arrives, never, again}
 use Rattle.dfuse_link.proofs.Changes.{behind_stall}
 use Rattle.dfuse_link.proofs.Claims.{IsQuiet, Knows, IsOrderOf, IsDone, MayHave, Has}
@@ -138,7 +138,7 @@ module _ (chip : Chip) where
     set_off_has (Pending order) pointer memory h = h
     set_off_has (Busy order) pointer memory h = h
 
-    told_has : (doing : Doing) (pointer : ℕ) (memory : ℕ → ℕ) → Has chip c doing pointer memory → Has chip c (told_of doing) pointer memory
+    told_has : (doing : Doing) (pointer : ℕ) (memory : ℕ → ℕ) → Has chip c doing pointer memory → Has chip c (doing_after_status doing) pointer memory
     told_has (Rests state.DownloadSync) pointer memory h = h
     told_has (Rests state.DownloadBusy) pointer memory h = h
     told_has (Rests state.ManifestSync) pointer memory h = h

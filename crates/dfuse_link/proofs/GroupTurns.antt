@@ -12,14 +12,14 @@ use Rattle.dfuse_host.specs.declared.seen.Seen.TheVariants as seen
 use Rattle.dfuse_host.specs.declared.session.Session.{Session}
 use Rattle.dfuse_host.specs.Commands.{command_of, done}
 use Rattle.dfuse_host.specs.Deeds.{DfuseDeed, Wait, dfuse_deed, deed_of}
-use Rattle.dfuse_host.specs.Sessions.{resumed, dfuse_told, dfuse_after, dfuse_after_phase, HearsIn, SessionRow}
+use Rattle.dfuse_host.specs.Sessions.{resumed, dfuse_step_after, dfuse_after, dfuse_after_phase, DfuseSeenMeaningIn, SessionRow}
 use Rattle.dfuse_host.specs.Table.{row}
-use Rattle.dfuse_host.specs.Wire.{DfuseHears}
+use Rattle.dfuse_host.specs.Wire.{DfuseSeenMeaning}
 use Rattle.dfuse_host.proofs.ForCallers.{AnyHeard}
 use Rattle.dfuse_link.specs.Chips.{Chip, Device, state_in}
 use Rattle.dfuse_link.specs.Reactions.{Reaction}
 use Rattle.dfuse_link.specs.Histories as histories
-use Rattle.dfuse_link.specs.Histories.{IsSeenOf, sent, waited}
+use Rattle.dfuse_link.specs.Histories.{SeenOfReaction, sent, waited}
 use Rattle.dfuse_link.proofs.Claims.{IsQuiet, IsDone, Stands, StandsIn}
 use Rattle.dfuse_link.proofs.Deviced.{statuses_have, told_done}
 use Rattle.dfuse_link.proofs.Heards.{arrived_status, says_status}
@@ -39,7 +39,7 @@ module _ (plan : Plan) (G : Work → Type 0) (B : Type 0) (r : IsGroup plan G B)
 
 module _ (s : Session) (G : Work → Type 0) (B : Type 0) (r : IsGroup s.plan G B) where
   told_goes : (w : Work) (p : Place) (at : Step) (h : AnyHeard) → G w → GoesIn G B (row s.plan w p at h) →
-      GoesIn G B (dfuse_told s w p at h).phase
+      GoesIn G B (dfuse_step_after s w p at h).phase
   told_goes w p at h g = told_holds (GoesIn G B) (λ x. tt) s w p at h (resumed_goes s.plan G B r w p at g)
 
 -- ---- turns
@@ -53,7 +53,7 @@ DoneGoes chip plan G B d =
 module _ (chip : Chip) (s : Session) (G : Work → Type 0) (B : Device → Type 0) (d' : Device) (r : IsGroup s.plan G (B d'))
     (ok : DoneGoes chip s.plan G B d') where
   sent_asks : (w : Work) (p : Place) (at : Step) (d : Device) (h : AnyHeard) (n : Option Reaction) (x : Seen) → (g : G w) →
-      Stands chip s.plan w p at d → ArrivesBy chip (deed_of s.plan w p at) d n d' → IsSeenOf n x → DfuseHears s.plan w at x h →
+      Stands chip s.plan w p at d → ArrivesBy chip (deed_of s.plan w p at) d n d' → SeenOfReaction n x → DfuseSeenMeaning s.plan w at x h →
       Asks s.plan G (B d') r w p g at h
   sent_asks w p (step.Poll last) d h n x g k comes is hears =
       let has = statuses_have chip (command_of s.plan w p) p d d' 6 _ n comes k in
@@ -65,7 +65,7 @@ module _ (chip : Chip) (s : Session) (G : Work → Type 0) (B : Device → Type 
   sent_asks w p at d h n x g k comes is hears = tt
 
   sent_goes : (p : Phase) (d : Device) (h : AnyHeard) (n : Option Reaction) (x : Seen) → InPhase G p → StandsIn chip s.plan p d →
-      ArrivesBy chip (dfuse_deed s.plan p) d n d' → IsSeenOf n x → HearsIn s.plan p x h → GoesIn G (B d') (dfuse_after_phase s p h).phase
+      ArrivesBy chip (dfuse_deed s.plan p) d n d' → SeenOfReaction n x → DfuseSeenMeaningIn s.plan p x h → GoesIn G (B d') (dfuse_after_phase s p h).phase
   sent_goes (On at) d h n x g k comes is hears =
       told_goes s G (B d') r at.work at.place at.step h g
       (row_goes s.plan G (B d') r at.work at.place g at.step h
@@ -84,10 +84,10 @@ module _ (chip : Chip) (s : Session) (G : Work → Type 0) (B : Device → Type 
       (row_goes s.plan G (B d') r at.work at.place g at.step h (wait_asks at.work at.place at.step h ms g e))
   wait_goes (Over rep) h ms g e = cc
 
-  new_goes : (p : Phase) (h : AnyHeard) → s.phase ≡ p → InPhase G p → HearsIn s.plan p seen.Restarted h →
+  new_goes : (p : Phase) (h : AnyHeard) → s.phase ≡ p → InPhase G p → DfuseSeenMeaningIn s.plan p seen.Restarted h →
       GoesIn G (B d') (dfuse_after_phase s p h).phase
   new_goes (On at) h f g hears =
-      subst (λ y. GoesIn G (B d') (dfuse_told s at.work at.place at.step y).phase) (sym hears)
+      subst (λ y. GoesIn G (B d') (dfuse_step_after s at.work at.place at.step y).phase) (sym hears)
       (restart_holds (GoesIn G (B d')) (λ x. tt) s at.work at.place at.step
       (resumed_goes s.plan G (B d') r at.work at.place at.step g))
   new_goes (Over rep) h f g hears = subst (λ (q : Phase). GoesIn G (B d') q) (sym f) tt
@@ -109,4 +109,4 @@ module _ (chip : Chip) (l l' : Paired) (G : Work → Type 0) (B : Device → Typ
   turn_goes x (histories.restarted mid any way rests changed seen row) g k =
       next_goes x row
       (new_goes chip l.session G B l'.device r ok l.session.phase row.heard refl g
-      (subst (λ (y : Seen). HearsIn l.session.plan l.session.phase y row.heard) seen row.hears))
+      (subst (λ (y : Seen). DfuseSeenMeaningIn l.session.plan l.session.phase y row.heard) seen row.hears))

@@ -11,11 +11,11 @@ use Rattle.dfuse_host.specs.declared.work.Work.{Work}
 use Rattle.dfuse_host.specs.declared.step.Step.{Step}
 use Rattle.dfuse_host.specs.declared.seen.Seen.{Seen}
 use Rattle.dfuse_host.specs.declared.seen.Seen.TheVariants as seen
-use Rattle.dfuse_host.specs.Wire.{DfuseReadsStatus, DfuseReadsState, DfuseHearsBytes, DfuseHears}
+use Rattle.dfuse_host.specs.Wire.{DfuseReadsStatus, DfuseReadsState, DfuseBytesMeaning, DfuseSeenMeaning}
 use Rattle.dfuse_host.proofs.ForCallers.{AnyHeard, by_heard}
 use Rattle.dfuse_link.specs.Chips.{Chip, state_in, Device}
 use Rattle.dfuse_link.specs.Reactions.{Reaction, Acks, Data, Stalls, Reacts, stalls, tells, shows}
-use Rattle.dfuse_link.specs.Histories.{Arrives, never, again, IsSeenOf}
+use Rattle.dfuse_link.specs.Histories.{Arrives, never, again, SeenOfReaction}
 use Rattle.dfuse_link.proofs.Claims.{SaysState}
 
 -- ---- what a device sends
@@ -76,8 +76,8 @@ status_heard bytes h d =
 module _ (plan : Plan) (w : Work) (s : Step) (h : AnyHeard) (d : Device) where
   -- Meaning of a request: with bytes this says what they show, and without them nothing is claimed.
   says_by : (P : Option Reaction → Type 0) → ((bytes given : List ℕ) → P (Some (Data bytes)) → given ≡ bytes →
-      DfuseHearsBytes plan w s given h → SaysState h (state_in d.doing)) → (r : Option Reaction) (x : Seen) → IsSeenOf r x → P r →
-      DfuseHears plan w s x h → SaysState h (state_in d.doing)
+      DfuseBytesMeaning plan w s given h → SaysState h (state_in d.doing)) → (r : Option Reaction) (x : Seen) → SeenOfReaction r x → P r →
+      DfuseSeenMeaning plan w s x h → SaysState h (state_in d.doing)
   says_by P says r seen.Ack is sent e = subst (λ x. SaysState x (state_in d.doing)) (sym e) tt
   says_by P says r seen.Stall is sent e = subst (λ x. SaysState x (state_in d.doing)) (sym e) tt
   says_by P says r seen.Nothing is sent e = subst (λ x. SaysState x (state_in d.doing)) (sym e) tt
@@ -89,17 +89,17 @@ module _ (plan : Plan) (w : Work) (s : Step) (h : AnyHeard) (d : Device) where
   says_by P says None (seen.Bytes given) is sent e = absurd is
 
   -- Meaning of GETSTATE.
-  pub says_state : ((bytes : List ℕ) → DfuseHearsBytes plan w s bytes h → DfuseReadsState bytes h) → (r : Option Reaction) (x : Seen) →
-      IsSeenOf r x →
-      StateSent r d → DfuseHears plan w s x h → SaysState h (state_in d.doing)
+  pub says_state : ((bytes : List ℕ) → DfuseBytesMeaning plan w s bytes h → DfuseReadsState bytes h) → (r : Option Reaction) (x : Seen) →
+      SeenOfReaction r x →
+      StateSent r d → DfuseSeenMeaning plan w s x h → SaysState h (state_in d.doing)
   says_state reads r x is sent e =
       says_by (λ y. StateSent y d) (λ bytes given sends same heard.
       state_heard given h (state_in d.doing) (reads given heard) (same ∙ sends)) r x is sent e
 
   -- Meaning of GETSTATUS.
-  pub says_status : ((bytes : List ℕ) → DfuseHearsBytes plan w s bytes h → DfuseReadsStatus bytes h) → (r : Option Reaction) (x : Seen) →
-      IsSeenOf r x →
-      StatusSent r d → DfuseHears plan w s x h → SaysState h (state_in d.doing)
+  pub says_status : ((bytes : List ℕ) → DfuseBytesMeaning plan w s bytes h → DfuseReadsStatus bytes h) → (r : Option Reaction) (x : Seen) →
+      SeenOfReaction r x →
+      StatusSent r d → DfuseSeenMeaning plan w s x h → SaysState h (state_in d.doing)
   says_status reads r x is sent e =
       says_by (λ y. StatusSent y d) (λ bytes given sends same heard.
       status_heard given h d (reads given heard) (subst (λ (xs : List ℕ). SendsStatus xs d) (sym same) sends)) r x is sent e

@@ -13,11 +13,11 @@ use Rattle.dfuse_host.specs.declared.seen.Seen.{Seen}
 use Rattle.dfuse_host.specs.declared.seen.Seen.TheVariants as seen
 use Rattle.dfuse_host.specs.declared.session.Session.{Session}
 use Rattle.dfuse_host.specs.Settling.{stand}
-use Rattle.dfuse_host.specs.Sessions.{dfuse_budgeted, dfuse_spent, dfuse_told}
-use Rattle.dfuse_host.specs.Wire.{DfuseHears}
+use Rattle.dfuse_host.specs.Sessions.{dfuse_budgeted, dfuse_spent, dfuse_step_after}
+use Rattle.dfuse_host.specs.Wire.{DfuseSeenMeaning}
 use Rattle.dfuse_host.proofs.ForCallers.{AnyHeard}
 use Rattle.dfuse_link.specs.CleanRuns.{IsClean, CleanSession, clean_so_far, clean_on, waits_in}
-use Rattle.dfuse_link.specs.Counts.{EndsCounted}
+use Rattle.dfuse_link.specs.Counts.{FinishesAfter}
 
 -- One for the end of a wait.
 abbrev pub one_wait : Seen → ℕ
@@ -44,7 +44,7 @@ session_at plan phase actions restarts = record { plan = plan; phase = phase; ac
 -- Each clean run from this phase on is over once so much was seen, so many ends of waits among it.
 pub record Lasts (plan : Plan) (phase : Phase) (n u : ℕ) : Type 0 where
   pub runs : (actions restarts : ℕ) (seens : List Seen) (s : Session) → n ≤ actions →
-      CleanSession (session_at plan phase actions restarts) seens s → EndsCounted plan n u seens s
+      CleanSession (session_at plan phase actions restarts) seens s → FinishesAfter plan n u seens s
 
 -- Runs last as long by other words for the numbers.
 pub count_as : (plan : Plan) (phase : Phase) (n m u v : ℕ) → n ≡ m → u ≡ v → Lasts plan phase n u → Lasts plan phase m v
@@ -58,7 +58,7 @@ phase_as plan p q n u e l = subst (λ (x : Phase). Lasts plan x n u) (sym e) l
 pub record Onward (plan : Plan) (w : Work) (p : Place) (s : Step) (h : AnyHeard) (n u : ℕ) : Type 0 where
   pub next : Phase
   pub lasts : Lasts plan next n u
-  pub comes : (actions restarts : ℕ) → dfuse_told (session_at plan (stand w p s) actions restarts) w p s h ≡
+  pub comes : (actions restarts : ℕ) → dfuse_step_after (session_at plan (stand w p s) actions restarts) w p s h ≡
       dfuse_spent (session_at plan (stand w p s) actions restarts) next restarts
 
 -- ---- one thing more
@@ -71,7 +71,7 @@ fits plan (On at) n u zero l h =
 fits plan (On at) n u (suc left) l h = refl
 
 over_runs : (plan : Plan) (actions restarts : ℕ) (seens : List Seen) (s : Session) →
-    CleanSession (session_at plan (Over (Verified (leaving_of plan))) actions restarts) seens s → EndsCounted plan 0 0 seens s
+    CleanSession (session_at plan (Over (Verified (leaving_of plan))) actions restarts) seens s → FinishesAfter plan 0 0 seens s
 over_runs plan actions restarts _ _ clean_so_far = record { over = λ o. (refl, refl, refl); enough = λ h. tt }
 over_runs plan actions restarts (x ∷ xs) s (clean_on at is clean row rest) = absurd (subst (IsCleanIn plan x) (sym is) clean)
 
@@ -81,9 +81,9 @@ lasts_over plan = record { runs = λ actions restarts seens s less run. over_run
 
 module _ (plan : Plan) (w : Work) (p : Place) where
   on_runs : (s : Step) (n u k : ℕ) → ((x : Seen) → IsClean plan w s x → one_wait x ≡ k) →
-      ((x : Seen) (h : AnyHeard) → IsClean plan w s x → DfuseHears plan w s x h → Onward plan w p s h n u) →
+      ((x : Seen) (h : AnyHeard) → IsClean plan w s x → DfuseSeenMeaning plan w s x h → Onward plan w p s h n u) →
       (actions restarts : ℕ) (seens : List Seen) (s' : Session) → suc n ≤ actions →
-      CleanSession (session_at plan (stand w p s) actions restarts) seens s' → EndsCounted plan (suc n) (k + u) seens s'
+      CleanSession (session_at plan (stand w p s) actions restarts) seens s' → FinishesAfter plan (suc n) (k + u) seens s'
   on_runs s n u k waits on actions restarts _ _ less clean_so_far =
       record { over = λ o. absurd o; enough = λ h. absurd (omega (arith, h)) }
   on_runs s n u k waits on actions restarts (x ∷ xs) s' less (clean_on {mid = mid} at is found row rest) =
@@ -99,24 +99,24 @@ module _ (plan : Plan) (w : Work) (p : Place) where
       }
 
   pub lasts_on : (s : Step) (n u k : ℕ) → ((x : Seen) → IsClean plan w s x → one_wait x ≡ k) →
-      ((x : Seen) (h : AnyHeard) → IsClean plan w s x → DfuseHears plan w s x h → Onward plan w p s h n u) →
+      ((x : Seen) (h : AnyHeard) → IsClean plan w s x → DfuseSeenMeaning plan w s x h → Onward plan w p s h n u) →
       Lasts plan (stand w p s) (suc n) (k + u)
   lasts_on s n u k waits on = record { runs = on_runs s n u k waits on }
 
   pub asked : (s : Step) (n u : ℕ) → ((x : Seen) → IsClean plan w s x → one_wait x ≡ 0) →
-      ((x : Seen) (h : AnyHeard) → IsClean plan w s x → DfuseHears plan w s x h → Onward plan w p s h n u) →
+      ((x : Seen) (h : AnyHeard) → IsClean plan w s x → DfuseSeenMeaning plan w s x h → Onward plan w p s h n u) →
       Lasts plan (stand w p s) (suc n) u
   asked s n u waits on = count_as plan (stand w p s) (suc n) (suc n) (0 + u) u refl (omega arith) (lasts_on s n u 0 waits on)
 
   -- A request that is acknowledged.
   pub acked : (s : Step) (next : Phase) (n u : ℕ) → ((x : Seen) → IsClean plan w s x → x ≡ seen.Ack) →
-      ((h : AnyHeard) → DfuseHears plan w s seen.Ack h → (actions restarts : ℕ) →
-      dfuse_told (session_at plan (stand w p s) actions restarts) w p s h ≡
+      ((h : AnyHeard) → DfuseSeenMeaning plan w s seen.Ack h → (actions restarts : ℕ) →
+      dfuse_step_after (session_at plan (stand w p s) actions restarts) w p s h ≡
       dfuse_spent (session_at plan (stand w p s) actions restarts) next restarts) →
       Lasts plan next n u → Lasts plan (stand w p s) (suc n) u
   acked s next n u is comes l = asked s n u (λ x c. ap one_wait (is x c))
       (λ x h c hears. record {
         next = next;
         lasts = l;
-        comes = comes h (subst (λ (y : Seen). DfuseHears plan w s y h) (is x c) hears);
+        comes = comes h (subst (λ (y : Seen). DfuseSeenMeaning plan w s y h) (is x c) hears);
       })

@@ -9,9 +9,9 @@ use Rattle.dfuse_host.specs.declared.work.Work.TheVariants as work
 use Rattle.dfuse_host.specs.declared.limits.Limits.{Limits}
 use Rattle.dfuse_host.specs.ReadBack.{HasByte, WasRead, WasReadIn, OnlyReadBack, ClosesAlways}
 use Rattle.dfuse_host.specs.Touching.{TouchesAlways}
-use Rattle.dfuse_host.specs.Sessions.{dfuse_begun}
+use Rattle.dfuse_host.specs.Sessions.{initial_dfuse}
 use Rattle.dfuse_link.specs.Chips.{Chip, Device}
-use Rattle.dfuse_link.specs.Fronts.{FrontIsBlank, ImageStands, NoMixture, NoneButErasing}
+use Rattle.dfuse_link.specs.Fronts.{FrontIsBlank, ImageInMemory, NoMixture, NoneButErasing}
 use Rattle.dfuse_link.specs.Touched.{CarriesNone}
 use Rattle.dfuse_host.specs.declared.phase.Standing.{Standing}
 use Rattle.dfuse_host.specs.Plans.{front_end}
@@ -39,10 +39,10 @@ begins_mix always chip plan limits d m idle = record {
 pub no_mixture : OnePage → OnlyReadBack → ClosesAlways → TouchesAlways → NoMixture
 no_mixture one read closes always chip plan limits d d' s seens for apart map erases idle history =
     let m : Mixable chip plan = record { for = for; apart = apart; map = map; erases = erases } in
-    let k = history_mix one read closes always chip d d d' (dfuse_begun plan limits) s seens history
+    let k = history_mix one read closes always chip d d d' (initial_dfuse plan limits) s seens history
     (begins_mix always chip plan limits d m idle) in
     let mix : Mix chip plan d s.phase d' =
-    subst (λ (q : Plan). Mix chip q d s.phase d') (history_plan chip d d' (dfuse_begun plan limits) s seens history) k.mix in
+    subst (λ (q : Plan). Mix chip q d s.phase d') (history_plan chip d d' (initial_dfuse plan limits) s seens history) k.mix in
     elim mix [
       | inl o ↦ inl (λ a other. (o.1 a other).1)
       | inr rest ↦ elim rest [
@@ -77,7 +77,7 @@ first_erases plan w e = subst IsToErase (sym e) tt
 
 phase_none : (chip : Chip) (plan : Plan) (first : Device) (s : Standing) (d : Device) → (IsToErase s.work → ⊥) →
     ((a : ℕ) → HasByte a plan.image.now → WasReadIn plan (On s) a → IsRight chip plan d a) → Mix chip plan first (On s) d →
-    FrontIsBlank chip plan d.memory ⊎ ImageStands plan (λ (a : ℕ). front_end plan ≤ a) d.memory
+    FrontIsBlank chip plan d.memory ⊎ ImageInMemory plan (λ (a : ℕ). front_end plan ≤ a) d.memory
 phase_none chip plan first s d no_erase right mix = elim mix [
   | inl o ↦ absurd (no_erase (first_erases plan s.work o.0))
   | inr rest ↦ elim rest [
@@ -90,9 +90,9 @@ phase_none chip plan first s d no_erase right mix = elim mix [
 pub none_but_erasing : OnePage → OnlyReadBack → ClosesAlways → TouchesAlways → NoneButErasing
 none_but_erasing one read closes always chip plan limits d d' s seens here for apart map erases idle history phase first again =
     let m : Mixable chip plan = record { for = for; apart = apart; map = map; erases = erases } in
-    let k = history_mix one read closes always chip d d d' (dfuse_begun plan limits) s seens history
+    let k = history_mix one read closes always chip d d d' (initial_dfuse plan limits) s seens history
     (begins_mix always chip plan limits d m idle) in
-    let same = history_plan chip d d' (dfuse_begun plan limits) s seens history in
+    let same = history_plan chip d d' (initial_dfuse plan limits) s seens history in
     let mix : Mix chip plan d (On here) d' =
     subst (λ (p : Phase). Mix chip plan d p d') phase
     (subst (λ (q : Plan). Mix chip q d s.phase d') same k.mix) in

@@ -15,11 +15,11 @@ use Rattle.dfuse_host.specs.declared.seen.Seen.{Seen}
 use Rattle.dfuse_host.specs.declared.seen.Seen.TheVariants as seen
 use Rattle.dfuse_host.specs.Settling.{settle}
 use Rattle.dfuse_host.specs.Table.{state_found, on_abort, on_ask_state, on_clear_wait}
-use Rattle.dfuse_host.specs.Wire.{DfuseReadsState, DfuseHears}
+use Rattle.dfuse_host.specs.Wire.{DfuseReadsState, DfuseSeenMeaning}
 use Rattle.dfuse_host.proofs.ForCallers.{AnyHeard, by_heard}
 use Rattle.dfuse_link.specs.Chips.{Chip, Order, Doing, Rests, Pending, Busy, state_in, Device}
 use Rattle.dfuse_link.specs.Reactions.{Reaction, Acks, Data, Stalls, Reacts, stalls, shows, aborts, clears}
-use Rattle.dfuse_link.specs.Histories.{Arrives, never, again, IsSeenOf}
+use Rattle.dfuse_link.specs.Histories.{Arrives, never, again, SeenOfReaction}
 use Rattle.dfuse_link.proofs.Claims.{SaysState}
 use Rattle.dfuse_link.proofs.Changes.{IsNow, behind_stall}
 use Rattle.dfuse_link.proofs.Safe.{SafeAt}
@@ -146,8 +146,8 @@ module _ (chip : Chip) (a : ℕ) where
       (λ e. tt) (λ e. tt) h
 
   pub stall_heard : (plan : Plan) (w : Work) (h : AnyHeard) (d : Device) (body : List ℕ) (r : Option Reaction) (d' : Device) (x : Seen) →
-      IsSeenOf r x →
-      Arrives chip (request.GetState 1) body d r d' → DfuseHears plan w step.AskState x h → IsNow chip a d.doing → StallSafe h d'.doing
+      SeenOfReaction r x →
+      Arrives chip (request.GetState 1) body d r d' → DfuseSeenMeaning plan w step.AskState x h → IsNow chip a d.doing → StallSafe h d'.doing
   stall_heard plan w h d body (Some Stalls) d' seen.Stall is comes e now =
       subst (λ y. StallSafe y d'.doing) (sym e) (stalled_now d 1 body d' comes now)
   stall_heard plan w h d body (Some Acks) d' seen.Stall is comes e now = absurd is

@@ -8,7 +8,7 @@ use Rattle.dfuse_host.specs.declared.step.Step.TheVariants as step
 use Rattle.dfuse_host.specs.declared.session.Session.{Session}
 use Rattle.dfuse_host.specs.Commands.{command_of, unsure}
 use Rattle.dfuse_host.specs.Table.{row}
-use Rattle.dfuse_host.specs.Sessions.{resumed, dfuse_told}
+use Rattle.dfuse_host.specs.Sessions.{resumed, dfuse_step_after}
 use Rattle.dfuse_host.proofs.ForCallers.{AnyCommand, by_command, AnyHeard}
 use Rattle.dfuse_link.specs.Chips.{Chip, Doing}
 use Rattle.dfuse_link.proofs.Changes.{IsNow}
@@ -25,5 +25,5 @@ module _ (chip : Chip) (a : ℕ) (doing : Doing) (now : IsNow chip a doing) wher
   resumed_own plan w p s = now
 
   pub told_own : (s : Session) (w : Work) (p : Place) (at : Step) (h : AnyHeard) → OwnIn chip a (row s.plan w p at h) doing →
-      OwnIn chip a (dfuse_told s w p at h).phase doing
+      OwnIn chip a (dfuse_step_after s w p at h).phase doing
   told_own s w p at h = told_holds (λ x. OwnIn chip a x doing) (λ r. now) s w p at h (resumed_own s.plan w p at)

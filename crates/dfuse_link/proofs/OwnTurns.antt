@@ -9,7 +9,7 @@ use Rattle.dfuse_host.specs.declared.session.Session.{Session}
 use Rattle.dfuse_host.specs.Refusing.{is_empty}
 use Rattle.dfuse_host.specs.ReadBack.{OnlyReadBack, ClosesAlways}
 use Rattle.dfuse_host.specs.Touching.{Touches, TouchesIn, TouchesAlways, OnlyTouched}
-use Rattle.dfuse_host.specs.Sessions.{dfuse_begun, dfuse_after}
+use Rattle.dfuse_host.specs.Sessions.{initial_dfuse, dfuse_after}
 use Rattle.dfuse_link.specs.Chips.{Chip, Order, Doing, Busy, Device, Advances}
 use Rattle.dfuse_link.specs.Histories.{History, so_far, passes, turns}
 use Rattle.dfuse_link.specs.Promises.{IsFor}
@@ -88,7 +88,7 @@ idle_now chip a doing idle = tt
 
 pub others_stay : OnlyReadBack → ClosesAlways → TouchesAlways → OnlyTouched → OthersStay
 others_stay read closes always only chip plan limits d d' s seens a for map idle history untouched =
-    (history_kept read closes always only chip a d d d' (dfuse_begun plan limits) s seens history (record {
+    (history_kept read closes always only chip a d d d' (initial_dfuse plan limits) s seens history (record {
       so = begins_so chip plan limits d for;
       apart = record { untouched = untouched; map = map };
       touches = always.0 plan limits (is_filled chip plan for);

@@ -3,7 +3,7 @@ use Rattle.dfuse_host.specs.declared.plan.Plan.{Plan}
 use Rattle.dfuse_host.specs.declared.limits.Limits.{Limits}
 use Rattle.dfuse_host.specs.declared.session.Session.{Session}
 use Rattle.dfuse_host.specs.declared.seen.Seen.{Seen}
-use Rattle.dfuse_host.specs.Sessions.{dfuse_begun}
+use Rattle.dfuse_host.specs.Sessions.{initial_dfuse}
 use Rattle.dfuse_link.specs.Chips.{Chip, Device}
 use Rattle.dfuse_link.specs.Histories.{Turn}
 
@@ -17,7 +17,7 @@ pair d s = record { device = d; session = s }
 
 -- A session begins with a device.
 abbrev pub met : Device → Plan → Limits → Paired
-met d plan limits = pair d (dfuse_begun plan limits)
+met d plan limits = pair d (initial_dfuse plan limits)
 
 -- A turn of the two.
 abbrev pub Turned : Chip → Paired → Seen → Paired → Type 0

@@ -19,11 +19,11 @@ use Rattle.dfuse_host.specs.Commands.{end_of_work, bytes_in}
 use Rattle.dfuse_host.specs.Deeds.{stands_at, read_bytes, upload_block, deed_of}
 use Rattle.dfuse_host.specs.Refusing.{apart_from}
 use Rattle.dfuse_host.specs.ReadBack.{ReadsBack}
-use Rattle.dfuse_host.specs.Wire.{DfuseHears, compared}
+use Rattle.dfuse_host.specs.Wire.{DfuseSeenMeaning, compared}
 use Rattle.dfuse_host.proofs.ForCallers.{AnyHeard, compared_as, heard_nothing}
 use Rattle.dfuse_link.specs.Chips.{Chip, Device}
-use Rattle.dfuse_link.specs.Reactions.{Reaction, Acks, Data, Stalls, StandsAt, Reacts, gives, lists}
-use Rattle.dfuse_link.specs.Histories.{Arrives, again, IsSeenOf}
+use Rattle.dfuse_link.specs.Reactions.{Reaction, Acks, Data, Stalls, BytesInMemoryAt, Reacts, gives, lists}
+use Rattle.dfuse_link.specs.Histories.{Arrives, again, SeenOfReaction}
 use Rattle.dfuse_link.proofs.Claims.{IsQuiet, Knows, CanRead, Stands}
 use Rattle.dfuse_link.proofs.Deviced.{uploads_quiet}
 use Rattle.dfuse_link.proofs.SentClaims.{ArrivesBy}
@@ -167,7 +167,7 @@ matches plan w given a h =
 record Given (chip : Chip) (p : Place) (block : ℕ) (bytes : List ℕ) (d : Device) : Type 0 where
   pointer : ℕ
   known : Knows p pointer
-  stand : StandsAt d.memory (pointer + (block - 2) * chip.transfer) bytes
+  stand : BytesInMemoryAt d.memory (pointer + (block - 2) * chip.transfer) bytes
   safe : (a : ℕ) → SafeAt chip a d.doing
 
 module _ (chip : Chip) (p : Place) where
@@ -179,7 +179,7 @@ module _ (chip : Chip) (p : Place) where
       record {
         pointer = d.pointer;
         known = known;
-        stand = subst (λ (xs : List ℕ). StandsAt d.memory (d.pointer + (block - 2) * chip.transfer) xs) same stands;
+        stand = subst (λ (xs : List ℕ). BytesInMemoryAt d.memory (d.pointer + (block - 2) * chip.transfer) xs) same stands;
         safe = λ a x. x;
       }
   gave d block n body _ bytes _ e from known (lists _ _ _ sent may low) = absurd (omega (arith, from, low))
@@ -226,7 +226,7 @@ module _ (chip : Chip) (plan : Plan) (w : Work) (a : ℕ) (transfer : plan.trans
 
   -- A byte that a session has just read back is the image's, and safe.
   pub read_right : (p : Place) (d d' : Device) (h : AnyHeard) (r : Option Reaction) (x : Seen) → Stands chip plan w p step.Read d →
-      ArrivesBy chip (deed_of plan w p step.Read) d r d' → IsSeenOf r x → DfuseHears plan w step.Read x h → ReadsBack plan w step.Read h a →
+      ArrivesBy chip (deed_of plan w p step.Read) d r d' → SeenOfReaction r x → DfuseSeenMeaning plan w step.Read x h → ReadsBack plan w step.Read h a →
       (d'.memory a ≡ byte_at a plan.image.now) × SafeAt chip a d'.doing
   read_right p d d' h (Some (Data bytes)) (seen.Bytes given) k comes is e reads =
       read_by p d d' h (Some (Data bytes)) given.now bytes k comes is e reads

@@ -2,10 +2,10 @@
 use Rattle.std.proofs.Common.{[], ◌∷◌, arith}
 use Rattle.dfuse_host.specs.declared.seen.Seen.{Seen}
 use Rattle.dfuse_host.specs.Budget.{OverInTime}
-use Rattle.dfuse_host.specs.Sessions.{SessionRow, seen_all, sees, dfuse_begun}
+use Rattle.dfuse_host.specs.Sessions.{SessionRow, seen_all, sees, initial_dfuse}
 use Rattle.dfuse_link.specs.Chips.{Chip}
 use Rattle.dfuse_link.specs.Histories.{sent, waited, restarted, so_far, passes, turns}
-use Rattle.dfuse_link.specs.Promises.{HistoriesAreRows, EndsInTime}
+use Rattle.dfuse_link.specs.Promises.{HistoriesAreRows, EndsWithinActions}
 use Rattle.dfuse_link.proofs.Pairs.{Paired, Turned, pair}
 
 -- A turn is a row.
@@ -20,7 +20,7 @@ histories_are_rows chip d d' s s' seens (passes mid more rest) = histories_are_r
 histories_are_rows chip d d' s s' (x ∷ seens) (turns {mid = mid} {at = at} turn rest) =
     sees (turn_row chip (pair d s) (pair mid at) x turn) (histories_are_rows chip mid d' at s' seens rest)
 
-pub ends_in_time : OverInTime → EndsInTime
+pub ends_in_time : OverInTime → EndsWithinActions
 ends_in_time in_time chip plan limits d d' s seens history enough =
-    in_time (dfuse_begun plan limits) s seens (histories_are_rows chip d d' (dfuse_begun plan limits) s seens history)
+    in_time (initial_dfuse plan limits) s seens (histories_are_rows chip d d' (initial_dfuse plan limits) s seens history)
     (omega (arith, enough))

@@ -20,7 +20,7 @@ use Rattle.dfuse_host.specs.Deeds.{DfuseDeed, Send, Wait, Done, sends, deed_of}
 use Rattle.dfuse_host.specs.ReadBack.{WasRead}
 use Rattle.dfuse_host.proofs.ForCallers.{set_address, write_at}
 use Rattle.dfuse_link.specs.Chips.{Chip, Order, Doing, Rests, Pending, Busy, Device, ChangedBy, Advances, goes_on, ends, fails}
-use Rattle.dfuse_link.specs.Reactions.{Reaction, order_of, set_off, told_of, Reacts, stalls, takes, closes, gives, lists, tells, shows, aborts, clears}
+use Rattle.dfuse_link.specs.Reactions.{Reaction, order_of, set_off, doing_after_status, Reacts, stalls, takes, closes, gives, lists, tells, shows, aborts, clears}
 use Rattle.dfuse_link.specs.Histories.{Arrives, never, again}
 use Rattle.dfuse_link.proofs.Changes.{MayChange, changed_stays, behind_stall, off_keeps, told_keeps}
 use Rattle.dfuse_link.proofs.Claims.{Knows, Stands}
@@ -50,7 +50,7 @@ module _ (chip : Chip) (a : ℕ) where
   off_safe : (doing : Doing) → SafeAt chip a doing → SafeAt chip a (set_off doing)
   off_safe doing safe = off_keeps (SafeAt chip a) (λ order h. h) doing safe
 
-  told_safe : (doing : Doing) → SafeAt chip a doing → SafeAt chip a (told_of doing)
+  told_safe : (doing : Doing) → SafeAt chip a doing → SafeAt chip a (doing_after_status doing)
   told_safe doing safe = told_keeps (SafeAt chip a) (λ s t h. h) doing safe
 
   order_safe : (doing : Doing) (order : Order) → doing ≡ Busy order → SafeAt chip a doing → MayChange chip order a → ⊥

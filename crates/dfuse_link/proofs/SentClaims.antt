@@ -8,14 +8,14 @@ use Rattle.dfuse_host.specs.declared.place.Place.{Place}
 use Rattle.dfuse_host.specs.declared.step.Step.TheVariants as step
 use Rattle.dfuse_host.specs.declared.seen.Seen.{Seen}
 use Rattle.dfuse_host.specs.declared.seen.Seen.TheVariants as seen
-use Rattle.dfuse_host.specs.Wire.{DfuseHears}
+use Rattle.dfuse_host.specs.Wire.{DfuseSeenMeaning}
 use Rattle.dfuse_host.specs.Plans.{write_end}
 use Rattle.dfuse_host.specs.Commands.{end_of_work, bytes_in}
 use Rattle.dfuse_host.specs.Deeds.{DfuseDeed, Send, Wait, Done, sends}
 use Rattle.dfuse_host.proofs.ForCallers.{AnyCommand, by_command, AnyHeard, by_heard, set_address, erase_page, write_at}
 use Rattle.dfuse_link.specs.Chips.{Chip, Points, Erases, Device}
 use Rattle.dfuse_link.specs.Reactions.{Reaction, Acks, Data, Stalls, order_of}
-use Rattle.dfuse_link.specs.Histories.{Arrives, IsSeenOf}
+use Rattle.dfuse_link.specs.Histories.{Arrives, SeenOfReaction}
 use Rattle.dfuse_link.proofs.Claims.{Knows, MayHave, Has}
 use Rattle.dfuse_link.proofs.Deviced.{sent_have, acked_has}
 
@@ -68,8 +68,8 @@ module _ (chip : Chip) (plan : Plan) (w : Work) (p : Place) (d d' : Device) wher
       c
 
   -- Meaning of a command that was sent.
-  pub ack_heard : (h : AnyHeard) (r : Option Reaction) (x : Seen) (c : AnyCommand) → IsSeenOf r x → ArrivesBy chip (sends plan w c) d r d' →
-      MayHave c d.doing × Knows p d.pointer → DfuseHears plan w step.Send x h → AckHas chip c d' h
+  pub ack_heard : (h : AnyHeard) (r : Option Reaction) (x : Seen) (c : AnyCommand) → SeenOfReaction r x → ArrivesBy chip (sends plan w c) d r d' →
+      MayHave c d.doing × Knows p d.pointer → DfuseSeenMeaning plan w step.Send x h → AckHas chip c d' h
   ack_heard h (Some Acks) seen.Ack c is comes k e = subst (λ x. AckHas chip c d' x) (sym e) (acked_may c comes k)
   ack_heard h (Some Stalls) seen.Ack c is comes k e = absurd is
   ack_heard h (Some (Data bytes)) seen.Ack c is comes k e = absurd is

@@ -7,7 +7,7 @@ use Rattle.dfuse_host.specs.declared.step.Step.TheVariants as step
 use Rattle.dfuse_host.specs.declared.session.Session.{Session}
 use Rattle.dfuse_host.specs.Commands.{command_of}
 use Rattle.dfuse_host.specs.Table.{row}
-use Rattle.dfuse_host.specs.Sessions.{resumed, restarted_in, dfuse_told}
+use Rattle.dfuse_host.specs.Sessions.{resumed, restarted_in, dfuse_step_after}
 use Rattle.dfuse_host.proofs.ForCallers.{AnyHeard}
 use Rattle.dfuse_link.specs.Chips.{Chip, Device}
 use Rattle.dfuse_link.proofs.Claims.{StandsIn}
@@ -27,10 +27,10 @@ module _ (chip : Chip) (s : Session) (d : Device) where
 
   -- After what is heard, all is as the table's row says, and after a restart nothing is claimed.
   pub told_claims : (w : Work) (p : Place) (at : Step) (h : AnyHeard) → StandsIn chip s.plan (row s.plan w p at h) d →
-      StandsIn chip s.plan (dfuse_told s w p at h).phase d
+      StandsIn chip s.plan (dfuse_step_after s w p at h).phase d
   told_claims w p at h = told_holds (λ x. StandsIn chip s.plan x d) (λ r. tt) s w p at h (at_resumed w p at)
 
   pub restarted_claims : (w : Work) (p : Place) (at : Step) (h x : AnyHeard) → h ≡ x →
-      StandsIn chip s.plan (dfuse_told s w p at x).phase d →
-      StandsIn chip s.plan (dfuse_told s w p at h).phase d
-  restarted_claims w p at h x e k = subst (λ y. StandsIn chip s.plan (dfuse_told s w p at y).phase d) (sym e) k
+      StandsIn chip s.plan (dfuse_step_after s w p at x).phase d →
+      StandsIn chip s.plan (dfuse_step_after s w p at h).phase d
+  restarted_claims w p at h x e k = subst (λ y. StandsIn chip s.plan (dfuse_step_after s w p at y).phase d) (sym e) k

@@ -10,12 +10,12 @@ use Rattle.dfuse_host.specs.declared.seen.Seen.{Seen}
 use Rattle.dfuse_host.specs.declared.session.Session.{Session}
 use Rattle.dfuse_host.specs.Deeds.{DfuseDeed, Wait, dfuse_deed, deed_of}
 use Rattle.dfuse_host.specs.Table.{row}
-use Rattle.dfuse_host.specs.Wire.{DfuseHears}
-use Rattle.dfuse_host.specs.Sessions.{dfuse_told, dfuse_after, dfuse_after_phase, HearsIn, SessionRow}
+use Rattle.dfuse_host.specs.Wire.{DfuseSeenMeaning}
+use Rattle.dfuse_host.specs.Sessions.{dfuse_step_after, dfuse_after, dfuse_after_phase, DfuseSeenMeaningIn, SessionRow}
 use Rattle.dfuse_host.proofs.ForCallers.{AnyHeard}
 use Rattle.dfuse_link.specs.Chips.{Chip, Order, Doing, Busy, Device, Advances}
 use Rattle.dfuse_link.specs.Reactions.{Reaction}
-use Rattle.dfuse_link.specs.Histories.{IsSeenOf, UnderWay, none, request, sent, waited, restarted}
+use Rattle.dfuse_link.specs.Histories.{SeenOfReaction, UnderWay, none, request, sent, waited, restarted}
 use Rattle.dfuse_link.proofs.Changes.{IsNow, changed_stays}
 use Rattle.dfuse_link.proofs.Claims.{Stands, StandsIn}
 use Rattle.dfuse_link.proofs.SentClaims.{ArrivesBy}
@@ -71,9 +71,9 @@ module _ (chip : Chip) (s : Session) (a : ℕ) (Q : Work → Type 0)
   -- Facts of the byte in the phase that follows.
   step_owns : (w : Work) (p : Place) (at : Step) (d : Device) (r : Option Reaction) (d' : Device) (h : AnyHeard) (x : Seen) →
       Q w →
-      Stands chip s.plan w p at d → ArrivesBy chip (deed_of s.plan w p at) d r d' → IsSeenOf r x → DfuseHears s.plan w at x h →
+      Stands chip s.plan w p at d → ArrivesBy chip (deed_of s.plan w p at) d r d' → SeenOfReaction r x → DfuseSeenMeaning s.plan w at x h →
       OwnAt chip a at d.doing →
-      OwnIn chip a (dfuse_told s w p at h).phase d'.doing
+      OwnIn chip a (dfuse_step_after s w p at h).phase d'.doing
   step_owns w p step.Abort d r d' h x touches k comes is hears own =
       let now = (aborts_now chip a _ d r d' comes).now own in told_own chip a d'.doing now s w p step.Abort h
       (abort_own chip a w d'.doing h now)
@@ -86,25 +86,25 @@ module _ (chip : Chip) (s : Session) (a : ℕ) (Q : Work → Type 0)
   step_owns w p (step.ClearWait ms) d r d' h x touches k comes is hears own = absurd comes
   step_owns w p step.ClearStatus d r d' h x touches k comes is hears own =
       let now = (clears_now chip a _ d r d' comes).now own in told_own chip a d'.doing now s w p step.ClearStatus h now
-  step_owns w p at d r d' h x touches k comes is hears own = phase_own chip a (dfuse_told s w p at h).phase d'.doing
+  step_owns w p at d r d' h x touches k comes is hears own = phase_own chip a (dfuse_step_after s w p at h).phase d'.doing
       (step_safe w p at d r d' touches k comes own).safe
 
   pub phase_owns : (p : Phase) (d : Device) (r : Option Reaction) (d' : Device) (h : AnyHeard) (x : Seen) → InPhase Q p →
       StandsIn chip s.plan p d →
-      ArrivesBy chip (dfuse_deed s.plan p) d r d' → IsSeenOf r x → HearsIn s.plan p x h → OwnIn chip a p d.doing →
+      ArrivesBy chip (dfuse_deed s.plan p) d r d' → SeenOfReaction r x → DfuseSeenMeaningIn s.plan p x h → OwnIn chip a p d.doing →
       OwnIn chip a (dfuse_after_phase s p h).phase d'.doing
   phase_owns (On at) d r d' h x touches k comes is hears own = step_owns at.work at.place at.step d r d' h x touches k comes is hears own
   phase_owns (Over rep) d r d' h x touches k comes is hears own = absurd comes
 
   wait_owns : (w : Work) (p : Place) (at : Step) (doing : Doing) (h : AnyHeard) (ms : ℕ) → deed_of s.plan w p at ≡ Wait ms →
       OwnAt chip a at doing →
-      OwnIn chip a (dfuse_told s w p at h).phase doing
+      OwnIn chip a (dfuse_step_after s w p at h).phase doing
   wait_owns w p (step.ClearWait m) doing h ms e own =
       told_own chip a doing own s w p (step.ClearWait m) h (clear_wait_own chip a w m doing h own)
   wait_owns w p step.Abort doing h ms e own = cc
   wait_owns w p step.AskState doing h ms e own = cc
   wait_owns w p step.ClearStatus doing h ms e own = cc
-  wait_owns w p at doing h ms e own = phase_own chip a (dfuse_told s w p at h).phase doing own
+  wait_owns w p at doing h ms e own = phase_own chip a (dfuse_step_after s w p at h).phase doing own
 
   pub phase_waits : (p : Phase) (doing : Doing) (h : AnyHeard) (ms : ℕ) → s.phase ≡ p → dfuse_deed s.plan p ≡ Wait ms →
       OwnIn chip a p doing →

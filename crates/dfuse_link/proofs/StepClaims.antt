@@ -6,14 +6,14 @@ use Rattle.dfuse_host.specs.declared.place.Place.{Place}
 use Rattle.dfuse_host.specs.declared.step.Step.{Step}
 use Rattle.dfuse_host.specs.declared.step.Step.TheVariants as step
 use Rattle.dfuse_host.specs.declared.seen.Seen.{Seen}
-use Rattle.dfuse_host.specs.Wire.{DfuseHears}
+use Rattle.dfuse_host.specs.Wire.{DfuseSeenMeaning}
 use Rattle.dfuse_host.specs.Commands.{command_of}
 use Rattle.dfuse_host.specs.Deeds.{Wait, sends, deed_of}
 use Rattle.dfuse_host.specs.Table.{row}
 use Rattle.dfuse_host.proofs.ForCallers.{AnyCommand, by_command, AnyHeard}
 use Rattle.dfuse_link.specs.Chips.{Chip, Device}
 use Rattle.dfuse_link.specs.Reactions.{Reaction}
-use Rattle.dfuse_link.specs.Histories.{IsSeenOf}
+use Rattle.dfuse_link.specs.Histories.{SeenOfReaction}
 use Rattle.dfuse_link.proofs.Claims.{Stands, StandsIn}
 use Rattle.dfuse_link.proofs.Deviced.{aborts_quiet, uploads_quiet, states_have, statuses_have}
 use Rattle.dfuse_link.proofs.Heards.{arrived_state, arrived_status, says_state, says_status}
@@ -23,8 +23,8 @@ use Rattle.dfuse_link.proofs.RowClaims.{abort_row, ask_state_row, ask_status_row
 module _ (chip : Chip) (plan : Plan) (w : Work) (p : Place) (d d' : Device) (h : AnyHeard) where
   -- A request was sent.
   pub sent_claims : (s : Step) (r : Option Reaction) (x : Seen) → Stands chip plan w p s d → ArrivesBy chip (deed_of plan w p s) d r d' →
-      IsSeenOf r x →
-      DfuseHears plan w s x h → StandsIn chip plan (row plan w p s h) d'
+      SeenOfReaction r x →
+      DfuseSeenMeaning plan w s x h → StandsIn chip plan (row plan w p s h) d'
   sent_claims step.Abort r x k comes is hears = abort_row chip plan w p d' h
   sent_claims step.AskState r x k comes is hears =
       ask_state_row chip plan w p d' h (says_state plan w step.AskState h d' (λ bytes e. e) r x is

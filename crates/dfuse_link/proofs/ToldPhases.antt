@@ -12,7 +12,7 @@ use Rattle.dfuse_host.specs.declared.report.Report.{Report}
 use Rattle.dfuse_host.specs.declared.report.Report.TheVariants as report
 use Rattle.dfuse_host.specs.declared.report.Leaving.TheVariants as leaving
 use Rattle.dfuse_host.specs.Table.{row}
-use Rattle.dfuse_host.specs.Sessions.{dfuse_budgeted, spent_at, resumed, dfuse_restarted, restarted_leaving, restarted_in, dfuse_told}
+use Rattle.dfuse_host.specs.Sessions.{dfuse_budgeted, spent_at, resumed, dfuse_restarted, restarted_leaving, restarted_in, dfuse_step_after}
 use Rattle.dfuse_host.proofs.ForCallers.{AnyHeard, by_heard}
 
 module _ (P : Phase → Type 0) (over : (r : Report) → P (Over r)) where
@@ -44,9 +44,9 @@ module _ (P : Phase → Type 0) (over : (r : Report) → P (Over r)) where
 
     -- Once this is heard, if it holds of what a restart resumes, and of the table's row.
     pub told_holds : (w : Work) (p : Place) (at : Step) (h : AnyHeard) → P (resumed s.plan w p at) → P (row s.plan w p at h)
-        → P (dfuse_told s w p at h).phase
+        → P (dfuse_step_after s w p at h).phase
     told_holds w p at h resumes =
-        by_heard (λ x. P (row s.plan w p at x) → P (dfuse_told s w p at x).phase)
+        by_heard (λ x. P (row s.plan w p at x) → P (dfuse_step_after s w p at x).phase)
         (λ k. budgeted_holds (pred s.actions) _ k) (λ t k. budgeted_holds (pred s.actions) _ k)
         (λ t k. budgeted_holds (pred s.actions) _ k) (λ b k. budgeted_holds (pred s.actions) _ k)
         (λ k. budgeted_holds (pred s.actions) _ k) (λ k. budgeted_holds (pred s.actions) _ k)

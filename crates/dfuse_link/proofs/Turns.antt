@@ -14,12 +14,12 @@ use Rattle.dfuse_host.specs.declared.session.Session.{Session}
 use Rattle.dfuse_host.specs.Deeds.{DfuseDeed, Send, Wait, Done, dfuse_deed, deed_of}
 use Rattle.dfuse_host.specs.Refusing.{apart_from, wants}
 use Rattle.dfuse_host.specs.ReadBack.{HasByte, WasReadIn, ReadsBack, ReadsBackIn, ClosesIn, OnlyReadBack, ClosesAlways}
-use Rattle.dfuse_host.specs.Sessions.{dfuse_after, dfuse_after_phase, HearsIn, SessionRow}
-use Rattle.dfuse_host.specs.Wire.{DfuseHears}
+use Rattle.dfuse_host.specs.Sessions.{dfuse_after, dfuse_after_phase, DfuseSeenMeaningIn, SessionRow}
+use Rattle.dfuse_host.specs.Wire.{DfuseSeenMeaning}
 use Rattle.dfuse_host.proofs.ForCallers.{AnyHeard}
 use Rattle.dfuse_link.specs.Chips.{Chip, Device}
 use Rattle.dfuse_link.specs.Reactions.{Reaction}
-use Rattle.dfuse_link.specs.Histories.{IsSeenOf, UnderWay, none, request, sent, waited, restarted}
+use Rattle.dfuse_link.specs.Histories.{SeenOfReaction, UnderWay, none, request, sent, waited, restarted}
 use Rattle.dfuse_link.specs.Promises.{IsFor}
 use Rattle.dfuse_link.proofs.Claims.{Stands, StandsIn}
 use Rattle.dfuse_link.proofs.SentClaims.{ArrivesBy}
@@ -83,8 +83,8 @@ before_right chip plan a p d r d' comes k was h = by_deed chip a (dfuse_deed pla
 
 step_right : (chip : Chip) (plan : Plan) (for : IsFor chip plan) (a : ℕ) → HasByte a plan.image.now →
     (w : Work) (p : Place) (s : Step) (d d' : Device)
-    (h : AnyHeard) (r : Option Reaction) (x : Seen) → Stands chip plan w p s d → ArrivesBy chip (deed_of plan w p s) d r d' → IsSeenOf r x →
-    DfuseHears plan w s x h → ReadsBack plan w s h a → IsRight chip plan d' a
+    (h : AnyHeard) (r : Option Reaction) (x : Seen) → Stands chip plan w p s d → ArrivesBy chip (deed_of plan w p s) d r d' → SeenOfReaction r x →
+    DfuseSeenMeaning plan w s x h → ReadsBack plan w s h a → IsRight chip plan d' a
 step_right chip plan for a b w p step.Read d d' h r x k comes is hears reads =
     read_right chip plan w a for.transfer (some_transfer chip plan for) (is_apart chip plan for)
     (below_end chip plan a for b) p d d' h r x k comes is hears
@@ -93,8 +93,8 @@ step_right chip plan for a b w p s d d' h r x k comes is hears reads = absurd re
 
 phase_right : (chip : Chip) (plan : Plan) (for : IsFor chip plan) (a : ℕ) → HasByte a plan.image.now →
     (p : Phase) (d d' : Device) (h : AnyHeard)
-    (r : Option Reaction) (x : Seen) → StandsIn chip plan p d → ArrivesBy chip (dfuse_deed plan p) d r d' → IsSeenOf r x →
-    HearsIn plan p x h →
+    (r : Option Reaction) (x : Seen) → StandsIn chip plan p d → ArrivesBy chip (dfuse_deed plan p) d r d' → SeenOfReaction r x →
+    DfuseSeenMeaningIn plan p x h →
     ReadsBackIn plan p h a → IsRight chip plan d' a
 phase_right chip plan for a b (On at) d d' h r x k comes is hears reads =
     step_right chip plan for a b at.work at.place at.step d d' h r x k comes is hears reads
@@ -109,11 +109,11 @@ phase_waits : (plan : Plan) (p : Phase) (h : AnyHeard) (ms a : ℕ) → dfuse_de
 phase_waits plan (On at) h ms a e reads = waited_none plan at.work at.place at.step h ms a e reads
 phase_waits plan (Over r) h ms a e reads = reads
 
-no_read : (plan : Plan) (w : Work) (s : Step) (h : AnyHeard) (a : ℕ) → DfuseHears plan w s seen.Restarted h → ReadsBack plan w s h a → ⊥
+no_read : (plan : Plan) (w : Work) (s : Step) (h : AnyHeard) (a : ℕ) → DfuseSeenMeaning plan w s seen.Restarted h → ReadsBack plan w s h a → ⊥
 no_read plan w step.Read h a e reads = subst (λ y. ReadsBack plan w step.Read y a) e reads
 no_read plan w s h a e reads = reads
 
-phase_restarts : (plan : Plan) (p : Phase) (h : AnyHeard) (a : ℕ) → HearsIn plan p seen.Restarted h → ReadsBackIn plan p h a → ⊥
+phase_restarts : (plan : Plan) (p : Phase) (h : AnyHeard) (a : ℕ) → DfuseSeenMeaningIn plan p seen.Restarted h → ReadsBackIn plan p h a → ⊥
 phase_restarts plan (On at) h a e reads = no_read plan at.work at.step h a e reads
 phase_restarts plan (Over r) h a e reads = reads
 
@@ -125,7 +125,7 @@ over_stands chip s rep d e k = subst (λ (p : Phase). StandsIn chip s.plan p d) 
 
 sent_stands : (chip : Chip) (s : Session) (p : Phase) (d d' : Device) (h : AnyHeard) (r : Option Reaction) (x : Seen) → s.phase ≡ p →
     StandsIn chip s.plan p d →
-    ArrivesBy chip (dfuse_deed s.plan p) d r d' → IsSeenOf r x → HearsIn s.plan p x h →
+    ArrivesBy chip (dfuse_deed s.plan p) d r d' → SeenOfReaction r x → DfuseSeenMeaningIn s.plan p x h →
     StandsIn chip s.plan (dfuse_after_phase s p h).phase d'
 sent_stands chip s (On at) d d' h r x e k comes is hears =
     told_claims chip s d' at.work at.place at.step h (sent_claims chip s.plan at.work at.place d d' h at.step r x k comes is hears)
@@ -137,7 +137,7 @@ waited_stands chip s (On at) d h ms e k is =
     told_claims chip s d at.work at.place at.step h (waited_claims chip s.plan at.work at.place d h at.step ms k is)
 waited_stands chip s (Over rep) d h ms e k is = over_stands chip s (Over rep) d e tt
 
-restarted_stands : (chip : Chip) (s : Session) (p : Phase) (d : Device) (h : AnyHeard) → s.phase ≡ p → HearsIn s.plan p seen.Restarted h →
+restarted_stands : (chip : Chip) (s : Session) (p : Phase) (d : Device) (h : AnyHeard) → s.phase ≡ p → DfuseSeenMeaningIn s.plan p seen.Restarted h →
     StandsIn chip s.plan (dfuse_after_phase s p h).phase d
 restarted_stands chip s (On at) d h e hears =
     restarted_claims chip s d at.work at.place at.step h _ hears (at_restart chip s d at.work at.place at.step)
@@ -206,7 +206,7 @@ module _ (chip : Chip) (only : OnlyReadBack) (always : ClosesAlways) where
       (λ a b was. subst (λ (d : Device). IsRight chip l.session.plan d a) (sym same) (so.right a b was))
       (λ a b reads. absurd (phase_waits l.session.plan l.session.phase row.heard ms a is reads))
   turn_so l l' x (restarted mid any way rests changed seen row) so =
-      let hears = subst (λ (y : Seen). HearsIn l.session.plan l.session.phase y row.heard) seen row.hears in
+      let hears = subst (λ (y : Seen). DfuseSeenMeaningIn l.session.plan l.session.phase y row.heard) seen row.hears in
       goes l l' x so row
       (restarted_stands chip l.session l.session.phase l'.device row.heard refl hears)
       (λ a b was.

@@ -8,9 +8,9 @@ use Rattle.dfuse_host.specs.declared.seen.Seen.{Seen}
 use Rattle.dfuse_host.specs.declared.session.Session.{Session}
 use Rattle.dfuse_host.specs.declared.limits.Limits.{Limits}
 use Rattle.dfuse_host.specs.ReadBack.{WasReadIn, OnlyReadBack, ClosesAlways}
-use Rattle.dfuse_host.specs.Sessions.{dfuse_begun, SessionRow}
+use Rattle.dfuse_host.specs.Sessions.{initial_dfuse, SessionRow}
 use Rattle.dfuse_link.specs.Chips.{Chip, Device}
-use Rattle.dfuse_link.specs.Reactions.{StandsAt}
+use Rattle.dfuse_link.specs.Reactions.{BytesInMemoryAt}
 use Rattle.dfuse_link.specs.Histories.{History, so_far, passes, turns}
 use Rattle.dfuse_link.specs.Promises.{IsFor, VerifiedIsTrue}
 use Rattle.dfuse_link.proofs.Rows.{turn_row}
@@ -44,9 +44,9 @@ history_plan chip d d' s s' (x ∷ seens) (turns {mid = mid} {at = at} turn rest
 
 pub verified_is_true : OnlyReadBack → ClosesAlways → VerifiedIsTrue
 verified_is_true only always chip plan limits d d' s seens leaving for history over =
-    let so = history_so chip only always d d' (dfuse_begun plan limits) s seens history (begins_so chip plan limits d for) in
+    let so = history_so chip only always d d' (initial_dfuse plan limits) s seens history (begins_so chip plan limits d for) in
     let counts = λ (a : ℕ). subst (λ (p : Phase). WasReadIn s.plan p a) (sym over) tt in
     let all = all_stands d'.memory 0 s.plan.image.now (is_apart chip s.plan so.for) (λ a b. (so.right a b (counts a)).0) in
     subst
-    (λ (q : Plan). AllByRecursion (λ (e : Element). StandsAt d'.memory e.address e.bytes.now) q.image.now)
-    (history_plan chip d d' (dfuse_begun plan limits) s seens history) all
+    (λ (q : Plan). AllByRecursion (λ (e : Element). BytesInMemoryAt d'.memory e.address e.bytes.now) q.image.now)
+    (history_plan chip d d' (initial_dfuse plan limits) s seens history) all

@@ -18,26 +18,26 @@ use Rattle.dfuse_host.specs.Deeds.{read_bytes}
 use Rattle.dfuse_host.specs.Sessions.{SessionRow}
 
 -- These bytes are answered.
-abbrev pub IsGiven : List ℕ → Seen → Type 0
-IsGiven wanted (seen.Bytes bytes) = bytes.now ≡ wanted
-IsGiven wanted s = ⊥
+abbrev pub BytesAnswered : List ℕ → Seen → Type 0
+BytesAnswered wanted (seen.Bytes bytes) = bytes.now ≡ wanted
+BytesAnswered wanted s = ⊥
 
 -- Bytes are answered that spell this status.
-abbrev pub TellsStatus : StatusFields → Seen → Type 0
-TellsStatus status (seen.Bytes bytes) = IsStatus status bytes.now
-TellsStatus status s = ⊥
+abbrev pub StatusAnswered : StatusFields → Seen → Type 0
+StatusAnswered status (seen.Bytes bytes) = IsStatus status bytes.now
+StatusAnswered status s = ⊥
 
 -- The device reports that it is busy, and for how long: for some time.
-pub record TellsBusy (s : Seen) : Type 0 where
+pub record BusyReported (s : Seen) : Type 0 where
   pub status : StatusFields
-  pub told : TellsStatus status s
+  pub told : StatusAnswered status s
   pub is_busy : status.state ≡ state.DownloadBusy
   pub time : 0 < status.poll_ms
 
 -- The device reports this state, and no fault.
-pub record TellsState (t : State) (s : Seen) : Type 0 where
+pub record StateAnswered (t : State) (s : Seen) : Type 0 where
   pub status : StatusFields
-  pub told : TellsStatus status s
+  pub told : StatusAnswered status s
   pub no_fault : status.code ≡ code.Ok
   pub is_there : status.state ≡ t
 
@@ -45,16 +45,16 @@ pub record TellsState (t : State) (s : Seen) : Type 0 where
 -- Each command is started by a GETSTATUS, which reports dfuDNBUSY, and is done by the next one, after a wait.
 abbrev pub IsClean : Plan → Work → Step → Seen → Type 0
 IsClean plan w step.Abort s = s ≡ seen.Ack
-IsClean plan w step.AskState s = IsGiven (state_byte state.DfuIdle ∷ []) s
+IsClean plan w step.AskState s = BytesAnswered (state_byte state.DfuIdle ∷ []) s
 IsClean plan w step.Send s = s ≡ seen.Ack
-IsClean plan w (step.Poll zero) s = TellsBusy s
-IsClean plan w (step.Poll (suc last)) s = TellsState state.DownloadIdle s
+IsClean plan w (step.Poll zero) s = BusyReported s
+IsClean plan w (step.Poll (suc last)) s = StateAnswered state.DownloadIdle s
 IsClean plan w (step.PollWait ms) s = s ≡ seen.Waited
 IsClean plan w step.BeginReading s = s ≡ seen.Ack
 IsClean plan w step.EndReading s = s ≡ seen.Ack
-IsClean plan w step.Read s = IsGiven (read_bytes plan w) s
+IsClean plan w step.Read s = BytesAnswered (read_bytes plan w) s
 IsClean plan w step.Close s = s ≡ seen.Ack
-IsClean plan w step.ClosePoll s = TellsState state.Manifest s
+IsClean plan w step.ClosePoll s = StateAnswered state.Manifest s
 IsClean plan w at s = ⊥
 
 -- A session that isn't over sees these, one after the other, each as it is to be.

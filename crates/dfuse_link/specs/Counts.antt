@@ -12,7 +12,7 @@ use Rattle.dfuse_host.specs.declared.limits.Limits.{Limits}
 use Rattle.dfuse_host.specs.Images.{image_start, image_end}
 use Rattle.dfuse_host.specs.Plans.{page_start, page_end, front_end, write_end, read_end}
 use Rattle.dfuse_host.specs.Refusing.{IsSoundPlan}
-use Rattle.dfuse_host.specs.Sessions.{dfuse_begun, DfuseIsOver}
+use Rattle.dfuse_host.specs.Sessions.{initial_dfuse, DfuseIsOver}
 use Rattle.dfuse_host.specs.Settling.{byte_in, can_read}
 use Rattle.dfuse_link.specs.CleanRuns.{CleanSession, waits_in}
 
@@ -92,7 +92,7 @@ requests plan c =
 
 -- A session is over as Verified, and as having left if it was asked to, once so much was seen, so many ends of waits among it, and no
 -- earlier.
-pub record EndsCounted (plan : Plan) (n waits : ℕ) (seens : List Seen) (s : Session) : Type 0 where
+pub record FinishesAfter (plan : Plan) (n waits : ℕ) (seens : List Seen) (s : Session) : Type 0 where
   pub over : DfuseIsOver s.phase → (s.phase ≡ Over (Verified (if plan.leaves then leaving.Left else leaving.Stayed))) × (length seens ≡ n) ×
       (waits_in seens ≡ waits)
   pub enough : n ≤ length seens → DfuseIsOver s.phase
@@ -101,8 +101,8 @@ pub record EndsCounted (plan : Plan) (n waits : ℕ) (seens : List Seen) (s : Se
 -- as are counted, and a wait for each command.
 abbrev pub CleanRunsAreCounted : Type 0
 CleanRunsAreCounted = (plan : Plan) (limits : Limits) (c : PlanCounts plan) (seens : List Seen) (s : Session) → IsPlanned plan →
-    requests plan c + commands plan c ≤ limits.actions → CleanSession (dfuse_begun plan limits) seens s →
-    EndsCounted plan (requests plan c + commands plan c) (commands plan c) seens s
+    requests plan c + commands plan c ≤ limits.actions → CleanSession (initial_dfuse plan limits) seens s →
+    FinishesAfter plan (requests plan c + commands plan c) (commands plan c) seens s
 
 -- Each plan can be counted.
 abbrev pub PlansHaveCounts : Type 0

@@ -12,22 +12,22 @@ use Rattle.dfuse_host.specs.declared.session.Session.{Session}
 use Rattle.dfuse_host.specs.declared.limits.Limits.{Limits}
 use Rattle.dfuse_host.specs.Images.{element_at, image_start}
 use Rattle.dfuse_host.specs.Plans.{page_start, front_end}
-use Rattle.dfuse_host.specs.Sessions.{dfuse_begun}
+use Rattle.dfuse_host.specs.Sessions.{initial_dfuse}
 use Rattle.dfuse_link.specs.Chips.{Chip, Device}
 use Rattle.dfuse_link.specs.Histories.{History}
 use Rattle.dfuse_link.specs.Promises.{IsFor}
 use Rattle.dfuse_link.specs.Touched.{IsTrueMap, CarriesNone}
 
 -- Each byte of the image at such an address is in the memory.
-abbrev pub ImageStands : Plan → (IsSelected : ℕ → Type 0) → (memory : ℕ → ℕ) → Type 0
-ImageStands plan IsSelected memory =
+abbrev pub ImageInMemory : Plan → (IsSelected : ℕ → Type 0) → (memory : ℕ → ℕ) → Type 0
+ImageInMemory plan IsSelected memory =
     (a : ℕ) (e : Element) → IsSelected a → element_at a plan.image.now ≡ Some e → memory a ≡ slice_index e.bytes.now (a - e.address)
 
 -- While a session writes its front, each byte of the image after the front is in the memory.
-abbrev pub RestStands : Type 0
-RestStands = (chip : Chip) (plan : Plan) (limits : Limits) (d d' : Device) (s : Session) (seens : List Seen) (here : Standing) (at : ℕ)
-    → IsFor chip plan → History chip d (dfuse_begun plan limits) seens d' s → s.phase ≡ On here → here.work ≡ WriteFront at
-    → ImageStands plan (λ (a : ℕ). front_end plan ≤ a) d'.memory
+abbrev pub RestInMemory : Type 0
+RestInMemory = (chip : Chip) (plan : Plan) (limits : Limits) (d d' : Device) (s : Session) (seens : List Seen) (here : Standing) (at : ℕ)
+    → IsFor chip plan → History chip d (initial_dfuse plan limits) seens d' s → s.phase ≡ On here → here.work ≡ WriteFront at
+    → ImageInMemory plan (λ (a : ℕ). front_end plan ≤ a) d'.memory
 
 -- An address of the front.
 abbrev pub IsOfFront : Plan → (a : ℕ) → Type 0
@@ -51,15 +51,15 @@ FrontIsBlank chip plan memory = (a : ℕ) → IsOfFront plan a → chip.blank (m
 abbrev pub NoMixture : Type 0
 NoMixture = (chip : Chip) (plan : Plan) (limits : Limits) (d d' : Device) (s : Session) (seens : List Seen) → IsFor chip plan →
     are_apart plan.map.now.ranges ≡ true → IsTrueMap chip plan → ErasesFront chip plan → CarriesNone d →
-    History chip d (dfuse_begun plan limits) seens d' s →
+    History chip d (initial_dfuse plan limits) seens d' s →
     ((a : ℕ) → IsElsewhere plan a → d'.memory a ≡ d.memory a)
-    ⊎ (FrontIsBlank chip plan d'.memory ⊎ ImageStands plan (IsElsewhere plan) d'.memory)
+    ⊎ (FrontIsBlank chip plan d'.memory ⊎ ImageInMemory plan (IsElsewhere plan) d'.memory)
 
 -- If the same holds, while a session's work is not to erase, nor to erase again, the front is blank, or each byte of the image after it is
 -- in the memory, on its page too.
 abbrev pub NoneButErasing : Type 0
 NoneButErasing = (chip : Chip) (plan : Plan) (limits : Limits) (d d' : Device) (s : Session) (seens : List Seen) (here : Standing) →
     IsFor chip plan → are_apart plan.map.now.ranges ≡ true → IsTrueMap chip plan → ErasesFront chip plan → CarriesNone d →
-    History chip d (dfuse_begun plan limits) seens d' s → s.phase ≡ On here → ((at : ℕ) → here.work ≡ work.Erase at → ⊥) →
+    History chip d (initial_dfuse plan limits) seens d' s → s.phase ≡ On here → ((at : ℕ) → here.work ≡ work.Erase at → ⊥) →
     ((page end : ℕ) → here.work ≡ work.EraseAgain page end → ⊥) →
-    FrontIsBlank chip plan d'.memory ⊎ ImageStands plan (λ (a : ℕ). front_end plan ≤ a) d'.memory
+    FrontIsBlank chip plan d'.memory ⊎ ImageInMemory plan (λ (a : ℕ). front_end plan ≤ a) d'.memory

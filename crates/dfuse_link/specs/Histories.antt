@@ -17,12 +17,12 @@ pub data Arrives (chip : Chip) (q : Request) (body : List ℕ) (d : Device) : Op
       → Reacts chip mid q body reaction d' → Arrives chip q body d (Some reaction) d'
 
 -- The last reaction is seen, or nothing if it is lost.
-abbrev pub IsSeenOf : Option Reaction → Seen → Type 0
-IsSeenOf reaction seen.Nothing = Unit {0}
-IsSeenOf (Some Acks) seen.Ack = Unit {0}
-IsSeenOf (Some (Data bytes)) (seen.Bytes given) = given.now ≡ bytes
-IsSeenOf (Some Stalls) seen.Stall = Unit {0}
-IsSeenOf reaction s = ⊥
+abbrev pub SeenOfReaction : Option Reaction → Seen → Type 0
+SeenOfReaction reaction seen.Nothing = Unit {0}
+SeenOfReaction (Some Acks) seen.Ack = Unit {0}
+SeenOfReaction (Some (Data bytes)) (seen.Bytes given) = given.now ≡ bytes
+SeenOfReaction (Some Stalls) seen.Stall = Unit {0}
+SeenOfReaction reaction s = ⊥
 
 -- Requests that may have come to a device before it restarts: nothing, or the session's request.
 pub data UnderWay (chip : Chip) (s : Session) (d : Device) : Device → Type 0 where
@@ -34,7 +34,7 @@ pub data UnderWay (chip : Chip) (s : Session) (d : Device) : Device → Type 0 w
 -- is in any state then, and its pointer anywhere; an order that isn't started is dropped, and one that it carries out is cut off.
 pub data Turn (chip : Chip) (d : Device) (s : Session) (x : Seen) (d' : Device) (s' : Session) : Type 0 where
   sent : (q : Request) (body : List ℕ) (reaction : Option Reaction) → dfuse_deed s.plan s.phase ≡ Send q body
-      → Arrives chip q body d reaction d' → IsSeenOf reaction x → SessionRow s x s' → Turn chip d s x d' s'
+      → Arrives chip q body d reaction d' → SeenOfReaction reaction x → SessionRow s x s' → Turn chip d s x d' s'
   waited : (ms : ℕ) → dfuse_deed s.plan s.phase ≡ Wait ms → d' ≡ d → x ≡ seen.Waited → SessionRow s x s' → Turn chip d s x d' s'
   restarted : (mid : Device) (any : State) → UnderWay chip s d mid → d'.doing ≡ Rests any
       → ChangedBy chip mid.doing mid.memory d'.memory → x ≡ seen.Restarted → SessionRow s x s' → Turn chip d s x d' s'

@@ -36,18 +36,18 @@ abbrev pub IsIdleOr : State → Doing → Type 0
 IsIdleOr s doing = (doing ≡ Rests state.DfuIdle) ⊎ (doing ≡ Rests s)
 
 -- From here ABORT leads to dfuIDLE: from each state of upgrade mode but dfuERROR and those in which a device works by itself.
-abbrev pub TakesAbort : Doing → Type 0
-TakesAbort (Rests state.DfuIdle) = Unit {0}
-TakesAbort (Rests state.DownloadSync) = Unit {0}
-TakesAbort (Rests state.DownloadIdle) = Unit {0}
-TakesAbort (Rests state.ManifestSync) = Unit {0}
-TakesAbort (Rests state.UploadIdle) = Unit {0}
-TakesAbort (Pending order) = Unit {0}
-TakesAbort doing = ⊥
+abbrev pub AbortLeadsIdle : Doing → Type 0
+AbortLeadsIdle (Rests state.DfuIdle) = Unit {0}
+AbortLeadsIdle (Rests state.DownloadSync) = Unit {0}
+AbortLeadsIdle (Rests state.DownloadIdle) = Unit {0}
+AbortLeadsIdle (Rests state.ManifestSync) = Unit {0}
+AbortLeadsIdle (Rests state.UploadIdle) = Unit {0}
+AbortLeadsIdle (Pending order) = Unit {0}
+AbortLeadsIdle doing = ⊥
 
 -- The bytes from an address on are these.
-abbrev pub StandsAt : (memory : ℕ → ℕ) → (at : ℕ) → List ℕ → Type 0
-StandsAt memory at bytes = (i : ℕ) → i < length bytes → memory (at + i) ≡ slice_index bytes i
+abbrev pub BytesInMemoryAt : (memory : ℕ → ℕ) → (at : ℕ) → List ℕ → Type 0
+BytesInMemoryAt memory at bytes = (i : ℕ) → i < length bytes → memory (at + i) ≡ slice_index bytes i
 
 -- GETSTATUS starts an order.
 abbrev pub set_off : Doing → Doing
@@ -55,11 +55,11 @@ set_off (Pending order) = Busy order
 set_off doing = doing
 
 -- GETSTATUS reports that an order is done, and goes on to leave.
-abbrev pub told_of : Doing → Doing
-told_of (Rests state.DownloadSync) = Rests state.DownloadIdle
-told_of (Rests state.DownloadBusy) = Rests state.DownloadIdle
-told_of (Rests state.ManifestSync) = Rests state.Manifest
-told_of doing = doing
+abbrev pub doing_after_status : Doing → Doing
+doing_after_status (Rests state.DownloadSync) = Rests state.DownloadIdle
+doing_after_status (Rests state.DownloadBusy) = Rests state.DownloadIdle
+doing_after_status (Rests state.ManifestSync) = Rests state.Manifest
+doing_after_status doing = doing
 
 -- A device reacts to a request with this body.
 pub data Reacts (chip : Chip) (d : Device) : Request → List ℕ → Reaction → Device → Type 0 where
@@ -75,7 +75,7 @@ pub data Reacts (chip : Chip) (d : Device) : Request → List ℕ → Reaction �
       → Reacts chip d (request.Dnload block n) [] Acks (record d { doing = Rests state.ManifestSync })
   -- UPLOAD from block 2 on gives the memory's bytes from the pointer on, or the first of them.
   gives : (block n : ℕ) (body bytes : List ℕ) (s : State) → IsIdleOr state.UploadIdle d.doing → 2 ≤ block → length bytes ≤ n
-      → StandsAt d.memory (d.pointer + (block - 2) * chip.transfer) bytes → (s ≡ state.DfuIdle) ⊎ (s ≡ state.UploadIdle)
+      → BytesInMemoryAt d.memory (d.pointer + (block - 2) * chip.transfer) bytes → (s ≡ state.DfuIdle) ⊎ (s ≡ state.UploadIdle)
       → Reacts chip d (request.Upload block n) body (Data bytes) (record d { doing = Rests s })
   -- UPLOAD of block 0 or 1 gives other things.
   lists : (block n : ℕ) (body bytes : List ℕ) → IsIdleOr state.UploadIdle d.doing → block < 2
@@ -83,12 +83,12 @@ pub data Reacts (chip : Chip) (d : Device) : Request → List ℕ → Reaction �
   -- GETSTATUS starts an order, and reports how far it is, with any code and any time.
   tells : (n : ℕ) (body bytes : List ℕ) (status : StatusFields) (mid : Device)
       → (mid ≡ record d { doing = set_off d.doing }) ⊎ Advances chip (record d { doing = set_off d.doing }) mid → IsStatus status bytes
-      → status.state ≡ state_in (told_of mid.doing) → Reacts chip d (request.GetStatus n) body (Data bytes)
-      (record mid { doing = told_of mid.doing })
+      → status.state ≡ state_in (doing_after_status mid.doing) → Reacts chip d (request.GetStatus n) body (Data bytes)
+      (record mid { doing = doing_after_status mid.doing })
   -- GETSTATE changes nothing.
   shows : (n : ℕ) (body : List ℕ) → Reacts chip d (request.GetState n) body (Data (state_byte (state_in d.doing) ∷ [])) d
   -- ABORT drops an order that isn't started.
-  aborts : (body : List ℕ) → TakesAbort d.doing → Reacts chip d request.Abort body Acks (record d { doing = Rests state.DfuIdle })
+  aborts : (body : List ℕ) → AbortLeadsIdle d.doing → Reacts chip d request.Abort body Acks (record d { doing = Rests state.DfuIdle })
   -- CLRSTATUS leaves dfuERROR.
   clears : (body : List ℕ) → d.doing ≡ Rests state.Error
       → Reacts chip d request.ClrStatus body Acks (record d { doing = Rests state.DfuIdle })

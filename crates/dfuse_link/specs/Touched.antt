@@ -6,7 +6,7 @@ use Rattle.dfuse_host.specs.declared.session.Session.{Session}
 use Rattle.dfuse_host.specs.declared.limits.Limits.{Limits}
 use Rattle.dfuse_host.specs.Plans.{page_start}
 use Rattle.dfuse_host.specs.ReadBack.{HasByte}
-use Rattle.dfuse_host.specs.Sessions.{dfuse_begun}
+use Rattle.dfuse_host.specs.Sessions.{initial_dfuse}
 use Rattle.dfuse_host.specs.Touching.{IsTouched}
 use Rattle.dfuse_link.specs.Chips.{Chip, Order, Busy, Device}
 use Rattle.dfuse_link.specs.Histories.{History}
@@ -25,5 +25,5 @@ CarriesNone d = (order : Order) → d.doing ≡ Busy order → ⊥
 -- pages, and the device carried out no order then.
 abbrev pub OthersStay : Type 0
 OthersStay = (chip : Chip) (plan : Plan) (limits : Limits) (d d' : Device) (s : Session) (seens : List Seen) (a : ℕ) → IsFor chip plan
-    → IsTrueMap chip plan → CarriesNone d → History chip d (dfuse_begun plan limits) seens d' s → (IsTouched plan (page_start plan a) → ⊥)
+    → IsTrueMap chip plan → CarriesNone d → History chip d (initial_dfuse plan limits) seens d' s → (IsTouched plan (page_start plan a) → ⊥)
     → d'.memory a ≡ d.memory a

@@ -2,8 +2,8 @@
 //! called for what it does.
 
 ghost use Rattle.dfuse_link.specs.Counts.{CleanRunsAreCounted, PlansHaveCounts};
-ghost use Rattle.dfuse_link.specs.Fronts.{NoMixture, NoneButErasing, RestStands};
-ghost use Rattle.dfuse_link.specs.Promises.{EndsInTime, HistoriesAreRows, VerifiedIsTrue};
+ghost use Rattle.dfuse_link.specs.Fronts.{NoMixture, NoneButErasing, RestInMemory};
+ghost use Rattle.dfuse_link.specs.Promises.{EndsWithinActions, HistoriesAreRows, VerifiedIsTrue};
 ghost use Rattle.dfuse_link.specs.Touched.{OthersStay};
 
 use dfu_formats::memory::laws::one_page;
@@ -12,7 +12,7 @@ use dfuse_host::laws::{only_touched, sessions_end, verified_is_read_back};
 /// A session with a device is over in time.
 pub fn sessions_end_in_time()
     ensures rows { HistoriesAreRows }
-    ensures in_time { EndsInTime }
+    ensures in_time { EndsWithinActions }
 {
     sessions_end();
 }
@@ -27,7 +27,7 @@ pub fn verified_is_true()
 
 /// While a session writes the front, each byte of the image after it is in the device's memory.
 pub fn rest_stands()
-    ensures { RestStands }
+    ensures { RestInMemory }
 {
     verified_is_read_back();
 }

@@ -50,7 +50,7 @@ static int32_t settle(const struct dfu_config *used, struct dfu_record *record, 
 int main(int count, char **words) {
     /* A guard on both sides of each. */
     static uint8_t field[64 + 192 + 64], given[64 + 8 + 64], held[64 + DFU_BLOCK_SIZE(8, 17) + 4 + 64], start[192];
-    static uint8_t field_before[sizeof field], given_before[sizeof given], held_before[sizeof held];
+    static uint8_t field_before[sizeof field], given_before[sizeof given], tail_before[sizeof held];
     static struct dfu_record records[3], record_before;
     struct dfu_record *record = &records[1];
     uint8_t *medium = field + 64, *out = given + 64, *block = held + 64;
@@ -96,7 +96,7 @@ int main(int count, char **words) {
         size_t least = DFU_BLOCK_SIZE(8, used.unit), most = fault == 3 ? roll((uint32_t)least) : least + roll(5);
         memcpy(field_before, field, sizeof field);
         memcpy(given_before, given, sizeof given);
-        memcpy(held_before, held, sizeof held);
+        memcpy(tail_before, held, sizeof held);
         record_before = *record;
         int32_t result, what = (int32_t)roll(6);
         if (what == 0)
@@ -116,7 +116,7 @@ int main(int count, char **words) {
             return printf("garbled: call %ld has no block and answered %d\n", call, (int)result), 1;
         if (result < -1 && result != DFU_ASKS && (memcmp(field_before, field, sizeof field) != 0
             || memcmp(given_before, given, sizeof given) != 0
-            || memcmp(held_before, held, sizeof held) != 0 || memcmp(&record_before, record, sizeof *record) != 0))
+            || memcmp(tail_before, held, sizeof held) != 0 || memcmp(&record_before, record, sizeof *record) != 0))
             return printf("garbled: call %ld was refused with %d and changed something\n", call, (int)result), 1;
         /* The slot that the record notes is not written, where it stands there as the active one. */
         size_t slot = record_before.slot ? 96 : 0, spare = 96 - slot;
@@ -128,7 +128,7 @@ int main(int count, char **words) {
             return printf("garbled: call %ld answered %d\n", call, (int)result), 1;
         for (size_t i = 0; i < 64; i++)
             if (field[i] != 0x5a || field[256 + i] != 0x5a || given[i] != 0x5a || given[72 + i] != 0x5a || held[i] != 0x5a
-                || held[64 + most + i] != held_before[64 + most + i])
+                || held[64 + most + i] != tail_before[64 + most + i])
                 return printf("garbled: call %ld wrote outside\n", call), 1;
         for (size_t i = 0; i < sizeof *record; i++)
             if (((uint8_t *)&records[0])[i] != 0x5a || ((uint8_t *)&records[2])[i] != 0x5a)

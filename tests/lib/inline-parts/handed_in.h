@@ -43,7 +43,7 @@ static unsigned most;
 /* All anew: a path leaves nothing to the next one. */
 static void hand_in(int has_driver)
 {
-    most_asks = most;
+    operation_bound = most;
     device.config = given.config = &config;
     device.flash = given.flash = flash;
     device.size = given.size = sizeof flash;

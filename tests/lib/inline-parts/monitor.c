@@ -4,7 +4,7 @@
 
 struct given given;
 int32_t state_now, due_now;
-unsigned asks, most_asks, operations, most_operations;
+unsigned asks, operation_bound, operations, most_operations;
 struct dfu_ask handed;
 static const struct stage *stage;
 static struct stage one[2];

@@ -111,7 +111,7 @@ void path_ends(void);
 
 /* monitor.c: the order of calls. */
 extern int32_t state_now, due_now;
-extern unsigned asks, most_asks, operations, most_operations;
+extern unsigned asks, operation_bound, operations, most_operations;
 extern struct dfu_ask handed;
 /* The path follows a plan; `carries` says whether a driver carries out what is asked for. Or it has one call alone. */
 void follow(const struct stage *plan, int carries);

@@ -41,7 +41,7 @@ static void pick_state(void)
     state_now = states[state];
     due_now = dues[due];
     if (state > 1 || due > 0)
-        most_asks = 1;
+        operation_bound = 1;
 }
 
 static void pick_setup(void)
@@ -54,7 +54,7 @@ static void pick_setup(void)
     const unsigned which = pick(sizeof setups / sizeof setups[0]);
     memcpy(setup, setups[which], sizeof setup);
     if (which > 0)
-        most_asks = 1;
+        operation_bound = 1;
 }
 
 /* The plan, as it is for this setup. */
@@ -119,7 +119,7 @@ static void try_install(void)
         install.area.sector = areas[which].sector;
         given.length = areas[which].length;
         most_operations = areas[which].most;
-        most_asks = UINT_MAX;
+        operation_bound = UINT_MAX;
         follow(installing, install.driver != NULL);
         returned(dfu_install_settle(&install, image, areas[which].length));
     }
@@ -145,7 +145,7 @@ static void try_home(void)
         memcpy(flash + parts[which].gate + 4, length, sizeof length);
         given.home = NULL;
         given.home_count = 0;
-        most_asks = which == 0 ? most_asks : 1;
+        operation_bound = which == 0 ? operation_bound : 1;
         follow(bringing_home, device.driver != NULL);
         const int32_t n = dfu_home_settle(&device, &place);
         returned(n);

@@ -50,7 +50,7 @@ static uint8_t memory_before[1024];
 int32_t say(enum call call)
 {
     unsigned count = may_say[call].count;
-    if (may_say[call].numbers[count - 1] == DFU_ASKS && asks >= most_asks)
+    if (may_say[call].numbers[count - 1] == DFU_ASKS && asks >= operation_bound)
         count--;
     return answers(call, may_say[call].numbers[count == 1 ? 0 : pick(count)]);
 }

@@ -10,8 +10,8 @@ pub record IsRunArea (len sector : ℕ) : Type 0 where
   pub whole : len % sector ≡ 0
 
 -- The run area holds the image.
-abbrev pub Holds : List ℕ → List ℕ → Type 0
-Holds run image = take (length image) run ≡ image
+abbrev pub AreaStores : List ℕ → List ℕ → Type 0
+AreaStores run image = take (length image) run ≡ image
 
 -- From one place to before another the run area has the bytes of the image, as far as the image goes.
 abbrev pub AreSame : List ℕ → List ℕ → ℕ → ℕ → Type 0

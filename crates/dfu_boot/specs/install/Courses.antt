@@ -2,10 +2,10 @@
 use Rattle.std.specs.Prelude.{◌≡◌, ◌⊎◌, ℕ, ◌≤◌, Bool, List, [], ◌∷◌, length, slice_index, Option, None}
 use Rattle.dfu_boot.specs.declared.install.due.Due.{Due}
 use Rattle.dfu_boot.specs.declared.install.due.Due.TheVariants.{Refuse, Erase, Program, Start}
-use Rattle.dfu_boot.specs.install.Area.{Holds, start_of}
-use Rattle.dfu_boot.specs.install.Next.{Does}
-use Rattle.dfu_boot.specs.install.Took.{TookDue}
-use Rattle.dfu_boot.specs.install.Operations.{from_of, end_of_operation, LeavesOthers}
+use Rattle.dfu_boot.specs.install.Area.{AreaStores, start_of}
+use Rattle.dfu_boot.specs.install.Next.{IsNextDue}
+use Rattle.dfu_boot.specs.install.OperationReport.{DueReported}
+use Rattle.dfu_boot.specs.install.Operations.{from_of, end_of_operation, OutsideUnchanged}
 
 -- The image that is to be started, the run area as it is, where the last operation went, and the operations since the power came,
 -- the last one first.
@@ -18,10 +18,10 @@ pub record Moment : Type 0 where
 -- An operation is asked for, and leaves any bytes in its range: it works, is cut off, fails or lies. It is read back.
 pub record IsCarriedOut (sector : ℕ) (before after : Moment) : Type 0 where
   pub due : Due
-  pub does : Does before.image before.run sector before.last due
-  pub leaves : LeavesOthers before.run after.run (from_of due) (end_of_operation sector due)
+  pub does : IsNextDue before.image before.run sector before.last due
+  pub leaves : OutsideUnchanged before.run after.run (from_of due) (end_of_operation sector due)
   pub failed : Bool
-  pub took : TookDue before.image after.run sector due failed after.last
+  pub took : DueReported before.image after.run sector due failed after.last
   pub image : after.image ≡ before.image
   pub since : after.since ≡ due ∷ before.since
 
@@ -67,15 +67,15 @@ IsFresh sector piece (Start ∷ earlier) = IsFresh sector piece earlier
 -- Whatever came, the image is started only if the run area holds all of it.
 abbrev pub StartsOnlyWhole : Type 0
 StartsOnlyWhole = (sector : ℕ) (m : Moment) (rest : List Moment) → InstallCourse sector m rest → let e = end_of_course m rest in
-    Does e.image e.run sector e.last Start → Holds e.run e.image
+    IsNextDue e.image e.run sector e.last Start → AreaStores e.run e.image
 
 -- Whatever came, the bytes of a sector that no image reaches are as they were.
-abbrev pub LeavesWhatIsBeside : Type 0
-LeavesWhatIsBeside = (sector at : ℕ) (m : Moment) (rest : List Moment) → InstallCourse sector m rest → IsBeside sector at m rest →
+abbrev pub NeighboursUnchanged : Type 0
+NeighboursUnchanged = (sector at : ℕ) (m : Moment) (rest : List Moment) → InstallCourse sector m rest → IsBeside sector at m rest →
     slice_index (end_of_course m rest).run at ≡ slice_index m.run at
 
 -- Whatever came since a first power-on, a piece is programmed only if its sector was erased since the power came last, and the piece was
 -- not programmed since.
 abbrev pub ProgramsOnlyFresh : Type 0
 ProgramsOnlyFresh = (sector at : ℕ) (m : Moment) (rest : List Moment) → m.last ≡ None → InstallCourse sector m rest →
-    let e = end_of_course m rest in Does e.image e.run sector e.last (Program at) → IsFresh sector at e.since
+    let e = end_of_course m rest in IsNextDue e.image e.run sector e.last (Program at) → IsFresh sector at e.since

@@ -3,7 +3,7 @@ use Rattle.std.specs.Prelude.{◌≡◌, ◌⊎◌, ℕ, ◌+◌, ◌≤◌, ◌
 use Rattle.dfu_boot.specs.declared.install.due.Due.{Due}
 use Rattle.dfu_boot.specs.declared.install.due.Due.TheVariants.{Refuse, Erase, Program, Start}
 use Rattle.dfu_boot.specs.declared.install.due.Refusal.TheVariants.{WrongSize, NoImage, TooLarge}
-use Rattle.dfu_boot.specs.install.Area.{IsRunArea, Holds, AreSame, AreBlank, FirstDiffers, start_of}
+use Rattle.dfu_boot.specs.install.Area.{IsRunArea, AreaStores, AreSame, AreBlank, FirstDiffers, start_of}
 
 -- Nothing is refused.
 pub record IsReady (image run : List ℕ) (sector : ℕ) : Type 0 where
@@ -41,10 +41,10 @@ pub record IsEraseOf (image run : List ℕ) (sector : ℕ) (last : Option ℕ) (
   pub may_not : ¬ MayProgram run sector last (start_of 256 at)
 
 -- The due operation: a refusal, the first that there is; an operation for the next byte that differs; and if none differs, the start.
-abbrev pub Does : List ℕ → List ℕ → ℕ → Option ℕ → Due → Type 0
-Does image run sector last (Refuse WrongSize) = ¬ IsRunArea (length run) sector
-Does image run sector last (Refuse NoImage) = IsRunArea (length run) sector × (length image ≡ 0)
-Does image run sector last (Refuse TooLarge) = IsRunArea (length run) sector × (0 < length image) × (length run < length image)
-Does image run sector last (Erase at) = IsReady image run sector × ((d : ℕ) × IsEraseOf image run sector last at d)
-Does image run sector last (Program at) = IsReady image run sector × ((d : ℕ) × IsProgramOf image run sector last at d)
-Does image run sector last Start = IsReady image run sector × Holds run image
+abbrev pub IsNextDue : List ℕ → List ℕ → ℕ → Option ℕ → Due → Type 0
+IsNextDue image run sector last (Refuse WrongSize) = ¬ IsRunArea (length run) sector
+IsNextDue image run sector last (Refuse NoImage) = IsRunArea (length run) sector × (length image ≡ 0)
+IsNextDue image run sector last (Refuse TooLarge) = IsRunArea (length run) sector × (0 < length image) × (length run < length image)
+IsNextDue image run sector last (Erase at) = IsReady image run sector × ((d : ℕ) × IsEraseOf image run sector last at d)
+IsNextDue image run sector last (Program at) = IsReady image run sector × ((d : ℕ) × IsProgramOf image run sector last at d)
+IsNextDue image run sector last Start = IsReady image run sector × AreaStores run image

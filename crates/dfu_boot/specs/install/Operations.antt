@@ -19,7 +19,7 @@ end_of_operation sector (Refuse refusal) = 0
 end_of_operation sector Start = 0
 
 -- All bytes outside a range are as they were.
-pub record LeavesOthers (before after : List ℕ) (from to : ℕ) : Type 0 where
+pub record OutsideUnchanged (before after : List ℕ) (from to : ℕ) : Type 0 where
   pub size : length after ≡ length before
   pub others : (i : ℕ) → (i < from) ⊎ (to ≤ i) → slice_index after i ≡ slice_index before i
 

@@ -2,17 +2,17 @@
 use Rattle.std.specs.Prelude.{◌≡◌, ℕ, ◌+◌, ◌*◌, ◌≤◌, false, List, [], ◌∷◌, length, Option}
 use Rattle.dfu_boot.specs.declared.install.due.Due.{Due}
 use Rattle.dfu_boot.specs.declared.install.due.Due.TheVariants.{Start}
-use Rattle.dfu_boot.specs.install.Area.{Holds}
-use Rattle.dfu_boot.specs.install.Next.{Does, IsReady}
-use Rattle.dfu_boot.specs.install.Took.{TookDue}
-use Rattle.dfu_boot.specs.install.Operations.{from_of, end_of_operation, LeavesOthers, HasBytes}
+use Rattle.dfu_boot.specs.install.Area.{AreaStores}
+use Rattle.dfu_boot.specs.install.Next.{IsNextDue, IsReady}
+use Rattle.dfu_boot.specs.install.OperationReport.{DueReported}
+use Rattle.dfu_boot.specs.install.Operations.{from_of, end_of_operation, OutsideUnchanged, HasBytes}
 
 -- An operation is asked for, and a medium that works carries it out.
 pub record CarriesOut (image run run' : List ℕ) (sector : ℕ) (last last' : Option ℕ) (due : Due) : Type 0 where
-  pub does : Does image run sector last due
-  pub leaves : LeavesOthers run run' (from_of due) (end_of_operation sector due)
+  pub does : IsNextDue image run sector last due
+  pub leaves : OutsideUnchanged run run' (from_of due) (end_of_operation sector due)
   pub bytes : HasBytes image run' sector due
-  pub took : TookDue image run' sector due false last'
+  pub took : DueReported image run' sector due false last'
 
 -- These operations are asked for one after another, and carried out.
 abbrev pub AllWork : List ℕ → ℕ → List ℕ → Option ℕ → List Due → Type 0
@@ -26,6 +26,6 @@ FewOperations = (image run : List ℕ) (n k : ℕ) (last : Option ℕ) (dues : L
     AllWork image (256 * k) run last dues → length dues ≤ n * (1 + k) + k
 
 -- If the run area holds the image, nothing is due but the start.
-abbrev pub HeldIsStarted : Type 0
-HeldIsStarted = (image run : List ℕ) (sector : ℕ) (last : Option ℕ) (due : Due) → IsReady image run sector → Holds run image →
-    Does image run sector last due → due ≡ Start
+abbrev pub FilledAreaStarts : Type 0
+FilledAreaStarts = (image run : List ℕ) (sector : ℕ) (last : Option ℕ) (due : Due) → IsReady image run sector → AreaStores run image →
+    IsNextDue image run sector last due → due ≡ Start

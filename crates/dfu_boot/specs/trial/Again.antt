@@ -19,6 +19,6 @@ AreWhole m at None = IsWholeAt m at
 AreWhole m at (Some base) = IsWholeAt m at × IsWholeAt m base
 
 -- The slots of a standing are those of the medium, and the starts are those that are recorded, whatever images there are.
-abbrev pub Fits : MediumState → ℕ → Standing → Type 0
-Fits m tries (standing.Settled s) = IsSized m × ((s.slot ≡ 0) ⊎ (s.slot ≡ slot_size m.bytes))
-Fits m tries (standing.OnTrial t) = IsSized m × ArePlaces m.bytes t.slot t.base × (t.starts ≡ starts m tries t.slot)
+abbrev pub MatchesMedium : MediumState → ℕ → Standing → Type 0
+MatchesMedium m tries (standing.Settled s) = IsSized m × ((s.slot ≡ 0) ⊎ (s.slot ≡ slot_size m.bytes))
+MatchesMedium m tries (standing.OnTrial t) = IsSized m × ArePlaces m.bytes t.slot t.base × (t.starts ≡ starts m tries t.slot)

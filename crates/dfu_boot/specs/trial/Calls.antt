@@ -86,9 +86,9 @@ upload_slot (standing.OnTrial t) = t.slot
 
 -- The medium takes this operation: its range lies in the medium, a mark is whole in units, and all its bytes are FFh; a sector begins
 -- where one is erased.
-abbrev pub MediumTakes : MediumState → Operation → Type 0
-MediumTakes m (Mark at len) = (at + len ≤ length m.bytes) × IsMultiple m.grain.unit at × IsMultiple m.grain.unit len × IsWritable m at len
-MediumTakes m (Close at) = (at + m.grain.sector ≤ length m.bytes) × (at % m.grain.sector ≡ 0)
+abbrev pub MediumAccepts : MediumState → Operation → Type 0
+MediumAccepts m (Mark at len) = (at + len ≤ length m.bytes) × IsMultiple m.grain.unit at × IsMultiple m.grain.unit len × IsWritable m at len
+MediumAccepts m (Close at) = (at + m.grain.sector ≤ length m.bytes) × (at % m.grain.sector ≡ 0)
 
 -- A mark lies within the medium, and has at most 256 bytes.
 abbrev pub MarkIsWithin : MediumState → Operation → Type 0
@@ -96,7 +96,7 @@ MarkIsWithin m (Mark at len) = (at + len ≤ length m.bytes) × (len ≤ 256)
 MarkIsWithin m (Close at) = Unit {0}
 
 -- The medium takes what a confirmation asks for.
-abbrev pub IsTakenBy : MediumState → Confirmation → Type 0
-IsTakenBy m (confirm.By operation) = MediumTakes m operation × MarkIsWithin m operation
-IsTakenBy m confirm.Confirmed = Unit {0}
-IsTakenBy m confirm.Elsewhere = Unit {0}
+abbrev pub ConfirmationAccepted : MediumState → Confirmation → Type 0
+ConfirmationAccepted m (confirm.By operation) = MediumAccepts m operation × MarkIsWithin m operation
+ConfirmationAccepted m confirm.Confirmed = Unit {0}
+ConfirmationAccepted m confirm.Elsewhere = Unit {0}

@@ -1,7 +1,7 @@
 -- Images of a medium after an operation is carried out, whatever becomes of the operation.
 use Rattle.std.specs.Prelude.{◌≡◌, ◌⊎◌, ℕ, ◌+◌, ◌≤◌, ◌<◌, true, false, List, slice_range, replicate, Option, Some, None}
 use Rattle.dfu_slots.specs.declared.fault.WriteFault.TheVariants.{Failed}
-use Rattle.dfu_slots.specs.Medium.{MediumState, KeepsOutside, WroteOrLied, FailedWrite}
+use Rattle.dfu_slots.specs.Medium.{MediumState, FrameOutside, WroteOrLied, FailedWrite}
 use Rattle.dfu_boot.specs.trial.Marks.{is_marked}
 use Rattle.dfu_boot.specs.trial.Trial.{image_at}
 use Rattle.dfu_boot.specs.trial.Calls.{IsSettled, IsStanding, upload_of, upload_slot}
@@ -14,8 +14,8 @@ use Rattle.dfu_boot.specs.declared.trial.standing.Standing.TheVariants.{OnTrial}
 
 -- An operation was carried out, and worked, failed, lied or was cut: its range has any bytes, and elsewhere there are the old ones.
 abbrev pub Carried : MediumState → Operation → MediumState → Type 0
-Carried m (Mark at len) now = KeepsOutside at (at + len) m.bytes now.bytes × (now.grain ≡ m.grain)
-Carried m (Close at) now = KeepsOutside at (at + m.grain.sector) m.bytes now.bytes × (now.grain ≡ m.grain)
+Carried m (Mark at len) now = FrameOutside at (at + len) m.bytes now.bytes × (now.grain ≡ m.grain)
+Carried m (Close at) now = FrameOutside at (at + m.grain.sector) m.bytes now.bytes × (now.grain ≡ m.grain)
 
 -- An operation answered that it worked: its bytes are there, or the medium lied.
 abbrev pub HasWorked : MediumState → Operation → MediumState → Type 0
@@ -28,14 +28,14 @@ HasFailed m (Mark at len) now = FailedWrite Failed m at (replicate len 0) now
 HasFailed m (Close at) now = FailedWrite Failed m at (replicate m.grain.sector 255) now
 
 -- Both images of a trial are as they were.
-pub record KeepsImages (m : MediumState) (t : Trial) (now : MediumState) : Type 0 where
+pub record ImagesSurvive (m : MediumState) (t : Trial) (now : MediumState) : Type 0 where
   pub new : image_at now t.slot ≡ image_at m t.slot
   pub base : image_at now t.base ≡ image_at m t.base
 
 -- The trial goes on as it was.
-pub record GoesOn (m : MediumState) (tries : ℕ) (t : Trial) (now : MediumState) : Type 0 where
+pub record TrialContinues (m : MediumState) (tries : ℕ) (t : Trial) (now : MediumState) : Type 0 where
   pub stands : IsStanding now tries (OnTrial t)
-  pub images : KeepsImages m t now
+  pub images : ImagesSurvive m t now
 
 -- One start more is recorded, or several: the trial goes on with fewer left.
 pub record HasStarted (m : MediumState) (tries : ℕ) (t : Trial) (now : MediumState) : Type 0 where
@@ -43,12 +43,12 @@ pub record HasStarted (m : MediumState) (tries : ℕ) (t : Trial) (now : MediumS
   pub more : t.starts < starts
   pub most : starts ≤ tries
   pub stands : IsStanding now tries (OnTrial (record t { starts = starts }))
-  pub images : KeepsImages m t now
+  pub images : ImagesSurvive m t now
 
 -- The trial ended well: the image that was on trial is the active one, and confirmed.
 pub record IsConfirmed (m : MediumState) (t : Trial) (now : MediumState) : Type 0 where
   pub stands : IsSettled now (record { slot = t.slot; is_confirmed = true })
-  pub images : KeepsImages m t now
+  pub images : ImagesSurvive m t now
 
 -- The trial ended: the confirmed image from before is the active one again, and confirmed.
 pub record IsBack (m : MediumState) (t : Trial) (now : MediumState) : Type 0 where
@@ -58,7 +58,7 @@ pub record IsBack (m : MediumState) (t : Trial) (now : MediumState) : Type 0 whe
 -- Result of the operation of a start, with a start left: the image on trial runs, and the start is recorded; or the confirmed one runs, and
 -- the trial goes on as it was.
 abbrev pub AfterMark : MediumState → ℕ → Trial → MediumState → ℕ → Type 0
-AfterMark m tries t now ran = (HasStarted m tries t now × (ran ≡ t.slot)) ⊎ (GoesOn m tries t now × (ran ≡ t.base))
+AfterMark m tries t now ran = (HasStarted m tries t now × (ran ≡ t.slot)) ⊎ (TrialContinues m tries t now × (ran ≡ t.base))
 
 -- Result of the operation that was asked before a start: nothing, if nothing was asked.
 abbrev pub CarriedIf : MediumState → Option Operation → MediumState → Type 0
@@ -70,7 +70,7 @@ CarriedIf m (Some operation) now = Carried m operation now
 abbrev pub Starts : MediumState → ℕ → Standing → MediumState → ℕ → Type 0
 Starts m tries (standing.Settled s) now ran = (now ≡ m) × (ran ≡ s.slot)
 Starts m tries (standing.OnTrial t) now ran = AfterMark m tries t now ran
-    ⊎ ((tries ≤ t.starts) × (ran ≡ t.base) × (GoesOn m tries t now ⊎ IsBack m t now))
+    ⊎ ((tries ≤ t.starts) × (ran ≡ t.base) × (TrialContinues m tries t now ⊎ IsBack m t now))
 
 -- A start that was carried out on a medium.
 pub record HasBooted (m : MediumState) (tries : ℕ) (now : MediumState) (ran : ℕ) : Type 0 where
@@ -90,7 +90,7 @@ pub record RunsNext (m : MediumState) (tries : ℕ) (image : List ℕ) : Type 0 
 abbrev pub Uploads : MediumState → ℕ → Standing → MediumState → Type 0
 Uploads m tries (standing.Settled s) now = RunsNext now tries (image_at m s.slot)
 Uploads m tries (standing.OnTrial t) now = ((t.starts < tries) × RunsNext now tries (image_at m t.slot))
-    ⊎ ((tries ≤ t.starts) × (GoesOn m tries t now ⊎ RunsNext now tries (image_at m t.base)))
+    ⊎ ((tries ≤ t.starts) × (TrialContinues m tries t now ⊎ RunsNext now tries (image_at m t.base)))
 
 -- The operation of a start was a mark, and it does not read set.
 abbrev pub IsUnmarked : MediumState → Option Operation → Type 0

@@ -1,6 +1,6 @@
 -- Events of a medium with sectors, one after another, once an image was confirmed; and what becomes of its images.
 use Rattle.std.specs.Prelude.{◌≡◌, ◌⊎◌, ℕ, ◌+◌, ◌≤◌, ◌<◌, true, false, List, [], ◌∷◌, Option, Some, None}
-use Rattle.dfu_slots.specs.Medium.{MediumState, KeepsOutside}
+use Rattle.dfu_slots.specs.Medium.{MediumState, FrameOutside}
 use Rattle.dfu_slots.specs.Layout.{slot_size, ArePlaces}
 use Rattle.dfu_slots.specs.Image.{slot_of, IsNewest}
 use Rattle.dfu_boot.specs.trial.Marks.{is_set}
@@ -45,9 +45,9 @@ ConfirmedBy m confirm.Confirmed now = now ≡ m
 ConfirmedBy m confirm.Elsewhere now = now ≡ m
 
 -- Image that an upload gives, unless it is stalled: the image that the next start is to run.
-abbrev pub GivenBy : MediumState → ℕ → Option (List ℕ) → Type 0
-GivenBy now tries None = Unit {0}
-GivenBy now tries (Some image) = RunsNext now tries image
+abbrev pub UploadResult : MediumState → ℕ → Option (List ℕ) → Type 0
+UploadResult now tries None = Unit {0}
+UploadResult now tries (Some image) = RunsNext now tries image
 
 -- The image that is written is not put in place: the confirmed one in the first slot is the newest. Or it is: it is the newest, and no mark
 -- of its slot is set, since the sector of its header was erased before that was written.
@@ -62,23 +62,23 @@ pub record IsDownload (m : MediumState) (tries : ℕ) (image : List ℕ) (now : 
   pub stands : IsSettled m settled
   pub spare : ℕ
   pub places : ArePlaces m.bytes settled.slot spare
-  pub keeps : KeepsOutside spare (spare + slot_size m.bytes) m.bytes now.bytes
+  pub keeps : FrameOutside spare (spare + slot_size m.bytes) m.bytes now.bytes
   pub grain : now.grain ≡ m.grain
   pub put : NewPlaced now tries settled.slot spare image
 
 -- This came to a medium with so many tries, by what `look` returned for it.
-abbrev pub TrialGoes : ℕ → MediumState → TrialEvent → MediumState → Type 0
-TrialGoes tries m (Starts ran) now = (s : Standing) × IsStanding m tries s × CarriedIf m (trial_start m.grain tries s).operation now
+abbrev pub TrialStepResult : ℕ → MediumState → TrialEvent → MediumState → Type 0
+TrialStepResult tries m (Starts ran) now = (s : Standing) × IsStanding m tries s × CarriedIf m (trial_start m.grain tries s).operation now
     × RanBy (trial_start m.grain tries s) now ran
-TrialGoes tries m (Confirms at) now = (s : Standing) × IsStanding m tries s × ConfirmedBy m (confirm_of m.grain s at) now
-TrialGoes tries m Ends now = (s : Standing) × IsStanding m tries s × CarriedIf m (end_of_trial s) now
-TrialGoes tries m (Uploads given) now = (s : Standing) × IsStanding m tries s × CarriedIf m (upload_of tries s) now × GivenBy now tries given
-TrialGoes tries m (Downloads image) now = IsDownload m tries image now
+TrialStepResult tries m (Confirms at) now = (s : Standing) × IsStanding m tries s × ConfirmedBy m (confirm_of m.grain s at) now
+TrialStepResult tries m Ends now = (s : Standing) × IsStanding m tries s × CarriedIf m (end_of_trial s) now
+TrialStepResult tries m (Uploads given) now = (s : Standing) × IsStanding m tries s × CarriedIf m (upload_of tries s) now × UploadResult now tries given
+TrialStepResult tries m (Downloads image) now = IsDownload m tries image now
 
 -- Such things came one after another, in any order.
-abbrev pub CameAll : ℕ → MediumState → List TrialStep → Type 0
-CameAll tries m [] = Unit {0}
-CameAll tries m (s ∷ rest) = TrialGoes tries m s.event s.now × CameAll tries s.now rest
+abbrev pub TrialCourse : ℕ → MediumState → List TrialStep → Type 0
+TrialCourse tries m [] = Unit {0}
+TrialCourse tries m (s ∷ rest) = TrialStepResult tries m s.event s.now × TrialCourse tries s.now rest
 
 -- The image that was confirmed last; and that on trial beside it, with how often it ran since it was put in place.
 pub data Trust : Type 0 where
@@ -105,10 +105,10 @@ MayStart tries (Tried base image runs) now (Some slot) next =
     ⊎ ((image_at now slot ≡ base) × IsOnOrBack base image runs next)
 
 -- The image that an upload gives is the confirmed image if nothing is on trial, or that on trial, which has a start left.
-abbrev pub MayGive : ℕ → Option (List ℕ) → Trust → Type 0
-MayGive tries None next = Unit {0}
-MayGive tries (Some image) (Alone base) = image ≡ base
-MayGive tries (Some image) (Tried base new runs) = (image ≡ new) × (runs < tries)
+abbrev pub MayUpload : ℕ → Option (List ℕ) → Trust → Type 0
+MayUpload tries None next = Unit {0}
+MayUpload tries (Some image) (Alone base) = image ≡ base
+MayUpload tries (Some image) (Tried base new runs) = (image ≡ new) × (runs < tries)
 
 -- Images that may follow an event. Only a download brings an image on trial, with no run of it; so one whose trial ended runs no more
 -- unless it comes again.
@@ -118,8 +118,8 @@ MayBecome tries (Alone base) (Confirms at) now next = next ≡ Alone base
 MayBecome tries (Tried base image runs) (Confirms at) now next = (next ≡ Tried base image runs) ⊎ (next ≡ Alone image)
 MayBecome tries (Alone base) Ends now next = next ≡ Alone base
 MayBecome tries (Tried base image runs) Ends now next = IsOnOrBack base image runs next
-MayBecome tries (Alone base) (Uploads given) now next = (next ≡ Alone base) × MayGive tries given next
-MayBecome tries (Tried base image runs) (Uploads given) now next = IsOnOrBack base image runs next × MayGive tries given next
+MayBecome tries (Alone base) (Uploads given) now next = (next ≡ Alone base) × MayUpload tries given next
+MayBecome tries (Tried base image runs) (Uploads given) now next = IsOnOrBack base image runs next × MayUpload tries given next
 MayBecome tries (Alone base) (Downloads new) now next = (next ≡ Alone base) ⊎ (next ≡ Tried base new 0)
 MayBecome tries (Tried base image runs) (Downloads new) now next = ⊥
 

@@ -27,5 +27,5 @@ abbrev pub MarksAreUnread : Type 0
 MarksAreUnread = (m now : MediumState) (tries : ℕ) → IsSized m → AreTries m.grain tries → IsMarked m tries now → IsUnread m now
 
 -- A change of bytes that the store does not read changes no image: an image is active afterwards exactly if it was before.
-abbrev pub UnreadKeepsImages : Type 0
-UnreadKeepsImages = (m now : MediumState) (image : List ℕ) → IsUnread m now → Active now image ↔ Active m image
+abbrev pub UnreadChangesNoImage : Type 0
+UnreadChangesNoImage = (m now : MediumState) (image : List ℕ) → IsUnread m now → Active now image ↔ Active m image

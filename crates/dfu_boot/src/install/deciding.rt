@@ -1,7 +1,7 @@
 //! Operation that is due next.
 ghost use Rattle.std.specs.Prelude.{◌≡◌, ◌+◌, ◌-◌, ◌%◌, ◌<◌, ◌≤◌, ◌^◌, length, min, IsTrue, ◌↔◌};
 ghost use Rattle.dfu_boot.specs.install.Area.{IsRunArea, start_of};
-ghost use Rattle.dfu_boot.specs.install.Next.{Does, IsNext, IsReady, MayProgram, look_from};
+ghost use Rattle.dfu_boot.specs.install.Next.{IsNextDue, IsNext, IsReady, MayProgram, look_from};
 
 use crate::install::area::{PROGRAM, are_blank, is_run_area};
 use crate::install::compare::next_difference;
@@ -40,7 +40,7 @@ fn may_program(run: &[u8], sector: u32, last: Option<u32>, piece: u32) -> bool
 fn mend(image: &[u8], run: &[u8], sector: u32, last: Option<u32>, at: u32) -> Due
     requires ready { IsReady image.now run.now sector }
     requires next { IsNext image.now run.now (look_from image.now last) at }
-    ensures { Does image.now run.now sector last result }
+    ensures { IsNextDue image.now run.now sector last result }
 {
     let piece = at - at % PROGRAM;
     if may_program(run, sector, last, piece) {
@@ -58,7 +58,7 @@ fn mend(image: &[u8], run: &[u8], sector: u32, last: Option<u32>, at: u32) -> Du
 ///
 /// Refused, in this order: `WrongSize`, `NoImage`, `TooLarge`.
 pub fn next(image: &[u8], run: &[u8], sector: u32, last: Option<u32>) -> Due
-    ensures { Does image.now run.now sector last result }
+    ensures { IsNextDue image.now run.now sector last result }
 {
     if !is_run_area(run.len(), sector) {
         return Due::Refuse(Refusal::WrongSize);

@@ -1,6 +1,6 @@
 //! Outcome of an operation.
 ghost use Rattle.std.specs.Prelude.{◌<◌, ◌^◌, ◌↔◌, length, IsTrue};
-ghost use Rattle.dfu_boot.specs.install.Took.{TookDue, IsErasedSector, IsProgrammed};
+ghost use Rattle.dfu_boot.specs.install.OperationReport.{DueReported, IsErasedSector, IsProgrammed};
 
 use crate::install::area::{PROGRAM, are_blank, is_run_area};
 use crate::install::compare::first_difference;
@@ -32,7 +32,7 @@ fn is_programmed(image: &[u8], run: &[u8], at: u32) -> bool
 /// None if it failed or reads otherwise, if its range is not in the run area, if `due` is no operation, or if `next` is refused with
 /// `WrongSize`.
 pub fn took(image: &[u8], run: &[u8], sector: u32, due: Due, failed: bool) -> Option<u32>
-    ensures { TookDue image.now run.now sector due failed result }
+    ensures { DueReported image.now run.now sector due failed result }
 {
     if failed || !is_run_area(run.len(), sector) {
         return None;

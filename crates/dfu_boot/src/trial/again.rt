@@ -4,7 +4,7 @@ ghost use Rattle.dfu_slots.specs.Layout.{ArePlaces};
 ghost use Rattle.dfu_slots.specs.Image.{IsSized, slot_of, Counts, IsNewest};
 ghost use Rattle.dfu_boot.specs.trial.Marks.{AreTries};
 ghost use Rattle.dfu_boot.specs.trial.Calls.{IsStanding, image_place};
-ghost use Rattle.dfu_boot.specs.trial.Again.{Fits, AreWhole};
+ghost use Rattle.dfu_boot.specs.trial.Again.{MatchesMedium, AreWhole};
 
 use crate::trial::marks::{is_set, starts};
 use crate::trial::{Settled, Standing, Trial};
@@ -54,7 +54,7 @@ fn is_ahead<M: Medium>(medium: &M, places: Places) -> bool
 pub fn look_again<M: Medium>(medium: &M, tries: u32, at: u32, base: Option<u32>) -> Option<Standing>
     requires tries { AreTries (M.state medium.now).grain tries }
     ensures stands { IfSome result (λ s. AreWhole (M.state medium.now) at base → IsStanding (M.state medium.now) tries s) }
-    ensures fits { IfSome result (λ s. Fits (M.state medium.now) tries s) }
+    ensures fits { IfSome result (λ s. MatchesMedium (M.state medium.now) tries s) }
 {
     if !is_sized(medium) {
         return None;

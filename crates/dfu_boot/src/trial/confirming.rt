@@ -1,7 +1,7 @@
 //! Confirmation of a running image.
 ghost use Rattle.std.specs.Prelude.{◌≡◌, ◌+◌, ◌≤◌, length};
 ghost use Rattle.dfu_boot.specs.trial.Marks.{AreTries, mark_at};
-ghost use Rattle.dfu_boot.specs.trial.Calls.{IsStanding, IsTakenBy, sets, confirm_of};
+ghost use Rattle.dfu_boot.specs.trial.Calls.{IsStanding, ConfirmationAccepted, sets, confirm_of};
 ghost use Rattle.dfu_boot.specs.declared.trial.confirming.Confirmation.TheVariants.{By};
 
 use crate::trial::marks::{mark_at, mark_size};
@@ -34,7 +34,7 @@ impl Standing {
         requires tries { AreTries (M.state medium.now).grain tries }
         requires stands { IsStanding (M.state medium.now) tries self }
         ensures value { result ≡ confirm_of (M.state medium.now).grain self at }
-        ensures taken { IsTakenBy (M.state medium.now) result }
+        ensures taken { ConfirmationAccepted (M.state medium.now) result }
     {
         match self {
             Standing::Settled(settled) => {

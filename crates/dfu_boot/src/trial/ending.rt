@@ -1,7 +1,7 @@
 //! End of a trial.
 ghost use Rattle.std.specs.Prelude.{◌≡◌, IfSome};
 ghost use Rattle.dfu_boot.specs.trial.Marks.{AreTries};
-ghost use Rattle.dfu_boot.specs.trial.Calls.{IsStanding, MediumTakes, end_of_trial, upload_of};
+ghost use Rattle.dfu_boot.specs.trial.Calls.{IsStanding, MediumAccepts, end_of_trial, upload_of};
 
 use crate::trial::{Operation, Standing};
 use dfu_slots::Medium;
@@ -15,7 +15,7 @@ impl Standing {
         requires tries { AreTries (M.state _medium.now).grain tries }
         requires stands { IsStanding (M.state _medium.now) tries self }
         ensures value { result ≡ end_of_trial self }
-        ensures taken { IfSome result (λ operation. MediumTakes (M.state _medium.now) operation) }
+        ensures taken { IfSome result (λ operation. MediumAccepts (M.state _medium.now) operation) }
     {
         match self {
             Standing::Settled(_) => None,
@@ -28,7 +28,7 @@ impl Standing {
         requires tries { AreTries (M.state _medium.now).grain tries }
         requires stands { IsStanding (M.state _medium.now) tries self }
         ensures value { result ≡ upload_of tries self }
-        ensures taken { IfSome result (λ operation. MediumTakes (M.state _medium.now) operation) }
+        ensures taken { IfSome result (λ operation. MediumAccepts (M.state _medium.now) operation) }
     {
         match self {
             Standing::Settled(_) => None,

@@ -4,10 +4,10 @@ ghost use Rattle.dfu_slots.specs.Medium.{MediumState};
 ghost use Rattle.dfu_slots.specs.Image.{Active, HasImage};
 ghost use Rattle.dfu_boot.specs.trial.Marks.{AreTries};
 ghost use Rattle.dfu_boot.specs.trial.Calls.{IsStanding, sets, trial_start, runs_in, upload_of};
-ghost use Rattle.dfu_boot.specs.trial.Laws.{Carried, CarriedIf, GoesOn, IsConfirmed, IsBack, Starts, Uploads, RunsNext, RunsOrIsNext};
+ghost use Rattle.dfu_boot.specs.trial.Laws.{Carried, CarriedIf, TrialContinues, IsConfirmed, IsBack, Starts, Uploads, RunsNext, RunsOrIsNext};
 ghost use Rattle.dfu_boot.specs.trial.Trial.{image_at};
-ghost use Rattle.dfu_boot.specs.trial.Unread.{MarksAreUnread, UnreadKeepsImages};
-ghost use Rattle.dfu_boot.specs.trial.Lists.{TrialStep, CameAll, Trust, Alone, Tried, AreTrusted, AllTrusted};
+ghost use Rattle.dfu_boot.specs.trial.Unread.{MarksAreUnread, UnreadChangesNoImage};
+ghost use Rattle.dfu_boot.specs.trial.Lists.{TrialStep, TrialCourse, Trust, Alone, Tried, AreTrusted, AllTrusted};
 ghost use Rattle.dfu_boot.specs.declared.trial.standing.Settled.{Settled};
 ghost use Rattle.dfu_boot.specs.declared.trial.standing.Trial.{Trial};
 ghost use Rattle.dfu_boot.specs.declared.trial.standing.Standing.{Standing};
@@ -28,14 +28,14 @@ pub fn a_start_runs_one_of_two()
 /// A confirmation of the image on trial, whatever becomes of the mark: it is the active one and confirmed, or the trial is as it was.
 pub fn a_confirmation_holds_or_the_trial_goes_on()
     ensures { (m now : MediumState) (tries : ℕ) (t : Trial) → AreTries m.grain tries → IsStanding m tries (OnTrial t) →
-        Carried m (sets m.grain t.slot 0) now → IsConfirmed m t now ⊎ GoesOn m tries t now }
+        Carried m (sets m.grain t.slot 0) now → IsConfirmed m t now ⊎ TrialContinues m tries t now }
 {}
 
 /// The end of a trial, asked for or since no start was left, whatever becomes of the erase: the confirmed image is back, or the trial is as
 /// it was.
 pub fn a_trial_ends_or_goes_on()
     ensures { (m now : MediumState) (tries : ℕ) (t : Trial) → AreTries m.grain tries → IsStanding m tries (OnTrial t) →
-        Carried m (Close t.slot) now → GoesOn m tries t now ⊎ IsBack m t now }
+        Carried m (Close t.slot) now → TrialContinues m tries t now ⊎ IsBack m t now }
 {}
 
 /// An upload, whatever becomes of what it asks for: the next start is to run the image that it gives, or the trial that was to end goes on.
@@ -58,7 +58,7 @@ pub fn what_was_confirmed_runs_or_the_newest_on_trial()
     ensures tried { (m : MediumState) (tries : ℕ) (t : Trial) (image : List ℕ) → IsStanding m tries (OnTrial t) → Active m image →
         AreTrusted m tries (Tried (image_at m t.base) image t.starts) }
     ensures list { (m : MediumState) (tries : ℕ) (trust : Trust) (steps : List TrialStep) → AreTries m.grain tries →
-        AreTrusted m tries trust → CameAll tries m steps → AllTrusted tries trust m steps }
+        AreTrusted m tries trust → TrialCourse tries m steps → AllTrusted tries trust m steps }
     ensures image { (m : MediumState) (tries : ℕ) (trust : Trust) → AreTrusted m tries trust → HasImage m }
 {}
 
@@ -66,5 +66,5 @@ pub fn what_was_confirmed_runs_or_the_newest_on_trial()
 /// none of its bytes. So an image is active afterwards exactly if it was before, and so it is after any marks.
 pub fn marks_change_no_image()
     ensures unread { MarksAreUnread }
-    ensures image { UnreadKeepsImages }
+    ensures image { UnreadChangesNoImage }
 {}

@@ -1,6 +1,6 @@
 //! Operations that the calls ask of their caller.
 ghost use Rattle.std.specs.Prelude.{OnOk, OnErr};
-ghost use Rattle.dfu_boot.specs.trial.Calls.{MediumTakes, MarkIsWithin};
+ghost use Rattle.dfu_boot.specs.trial.Calls.{MediumAccepts, MarkIsWithin};
 ghost use Rattle.dfu_boot.specs.trial.Laws.{Carried, HasWorked, HasFailed};
 
 use dfu_slots::{Failed, Medium};
@@ -21,7 +21,7 @@ impl Operation {
     ///
     /// The medium answered that it failed.
     pub fn carry_out<M: Medium>(self, medium: &mut M) -> Result<(), Failed>
-        requires taken { MediumTakes (M.state medium.old) self }
+        requires taken { MediumAccepts (M.state medium.old) self }
         requires within { MarkIsWithin (M.state medium.old) self }
         ensures carried { Carried (M.state medium.old) self (M.state medium.new) }
         ensures worked { OnOk result (HasWorked (M.state medium.old) self (M.state medium.new)) }

@@ -1,8 +1,8 @@
 //! What starts.
 ghost use Rattle.std.specs.Prelude.{◌≡◌, IfSome};
 ghost use Rattle.dfu_boot.specs.trial.Marks.{AreTries};
-ghost use Rattle.dfu_boot.specs.trial.Calls.{MediumTakes, MarkIsWithin, trial_start, runs_in};
-ghost use Rattle.dfu_boot.specs.trial.Again.{Fits};
+ghost use Rattle.dfu_boot.specs.trial.Calls.{MediumAccepts, MarkIsWithin, trial_start, runs_in};
+ghost use Rattle.dfu_boot.specs.trial.Again.{MatchesMedium};
 
 use crate::trial::marks::{is_marked, mark_at, mark_size};
 use crate::trial::{Operation, Standing};
@@ -24,9 +24,9 @@ impl Standing {
     /// start left the gate is closed of the slot on trial. After it `Starting::runs` gives what runs.
     pub fn start<M: Medium>(self, medium: &M, tries: u32) -> Starting
         requires tries { AreTries (M.state medium.now).grain tries }
-        requires stands { Fits (M.state medium.now) tries self }
+        requires stands { MatchesMedium (M.state medium.now) tries self }
         ensures value { result ≡ trial_start (M.state medium.now).grain tries self }
-        ensures taken { IfSome result.operation (λ operation. MediumTakes (M.state medium.now) operation) }
+        ensures taken { IfSome result.operation (λ operation. MediumAccepts (M.state medium.now) operation) }
         ensures within { IfSome result.operation (λ operation. MarkIsWithin (M.state medium.now) operation) }
     {
         match self {

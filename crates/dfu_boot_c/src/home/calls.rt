@@ -1,9 +1,9 @@
 //! The calls for two areas, as a program in C makes them: `include/dfu_home_core.h` says each for a reader of C.
 ghost use Rattle.std.specs.Prelude.{◌≡◌, ◌⊎◌, ◌+◌, ◌-◌, ◌^◌, min, not, ◌==◌, pos, negsuc};
-ghost use Rattle.dfu_home.specs.Took.{Noted};
+ghost use Rattle.dfu_home.specs.OperationReport.{Noted};
 ghost use Rattle.dfu_boot_c.specs.install.Calls.{last_of};
 ghost use Rattle.dfu_boot_c.specs.home.Flash.{home_state, RefusesFlash};
-ghost use Rattle.dfu_boot_c.specs.home.Tells.{ToldHome, due_of_ask, AnswersDownload};
+ghost use Rattle.dfu_boot_c.specs.home.DueRecords.{HomeResult, due_of_ask, AnswersDownload};
 ghost use Rattle.dfu_slots.specs.Image.{HasImage};
 
 use crate::home::flash::medium;
@@ -24,7 +24,7 @@ pub extern "C" fn dfu_core_home_next(
     flash: &[u8],
     ask: &mut DfuAsk,
 ) -> i32
-    ensures outcome { ToldHome config.now kept.now flash.now result ask.old ask.new
+    ensures outcome { HomeResult config.now kept.now flash.now result ask.old ask.new
         ⊎ (RefusesFlash config.now flash.now result × (ask.new ≡ ask.old)) }
 {
     let medium = match medium(config, flash) {

@@ -1,7 +1,7 @@
 //! Record that a program in C keeps of a copy, and the numbers that it gets and hands in.
 ghost use Rattle.std.specs.Prelude.{◌≡◌};
 ghost use Rattle.dfu_boot_c.specs.home.Flash.{progress_of};
-ghost use Rattle.dfu_boot_c.specs.home.Tells.{home_refusal_number, due_of_ask};
+ghost use Rattle.dfu_boot_c.specs.home.DueRecords.{home_refusal_number, due_of_ask};
 
 use crate::install::area::last_of;
 use dfu_core::{DfuAsk, ERASE, PROGRAM};

@@ -1,10 +1,10 @@
 //! The calls for a run area, as a program in C makes them: `include/dfu_install_core.h` says each for a reader of C.
 ghost use Rattle.std.specs.Prelude.{◌≡◌, not, ◌==◌, pos};
-ghost use Rattle.dfu_boot.specs.install.Next.{Does};
-ghost use Rattle.dfu_boot.specs.install.Took.{TookDue};
+ghost use Rattle.dfu_boot.specs.install.Next.{IsNextDue};
+ghost use Rattle.dfu_boot.specs.install.OperationReport.{DueReported};
 ghost use Rattle.dfu_boot.specs.declared.install.due.Due.{Due};
 ghost use Rattle.dfu_boot_c.specs.install.Calls.{last_of, due_of_kind};
-ghost use Rattle.dfu_boot_c.specs.install.Tells.{TellsDue};
+ghost use Rattle.dfu_boot_c.specs.install.DueRecords.{DueInAsk};
 
 use crate::install::area::{DfuRunArea, last_of, number_of};
 use crate::install::numbers::{due_of, number_of as refusal_number};
@@ -13,7 +13,7 @@ use dfu_core::{ASKS, DfuAsk, ERASE, PROGRAM};
 
 // Tells what is due.
 fn tell(due: Due, image: &[u8], sector: u32, ask: &mut DfuAsk) -> i32
-    ensures { TellsDue image.now sector due result ask.old ask.new }
+    ensures { DueInAsk image.now sector due result ask.old ask.new }
 {
     match due {
         Due::Refuse(refusal) => refusal_number(refusal),
@@ -44,8 +44,8 @@ pub extern "C" fn dfu_core_install_next(
     run: &[u8],
     ask: &mut DfuAsk,
 ) -> i32
-    ensures outcome { (due : Due) × (Does image.now run.now area.now.sector (last_of area.now.last) due
-        × TellsDue image.now area.now.sector due result ask.old ask.new) }
+    ensures outcome { (due : Due) × (IsNextDue image.now run.now area.now.sector (last_of area.now.last) due
+        × DueInAsk image.now area.now.sector due result ask.old ask.new) }
 {
     let due = next(image, run, area.sector, last_of(area.last));
     tell(due, image, area.sector, ask)
@@ -62,7 +62,7 @@ pub extern "C" fn dfu_core_install_took(
 ) -> i32
     ensures result { result ≡ pos 0 }
     ensures sector { area.new.sector ≡ area.old.sector }
-    ensures noted { TookDue image.now run.now area.old.sector (due_of_kind ask.now.kind ask.now.at) (not (failed == 0))
+    ensures noted { DueReported image.now run.now area.old.sector (due_of_kind ask.now.kind ask.now.at) (not (failed == 0))
         (last_of area.new.last) }
 {
     area.last = number_of(took(image, run, area.sector, due_of(ask), failed != 0));

@@ -2,10 +2,10 @@
 ghost use Rattle.std.specs.Prelude.{◌≡◌, ◌⊎◌, IfOk, OnOk, IfErr};
 ghost use Rattle.dfu_asks.specs.Mapped.{grain_of as mapped_grain, mapped};
 ghost use Rattle.dfu_boot.specs.trial.Marks.{AreTries};
-ghost use Rattle.dfu_boot.specs.trial.Again.{Fits, AreWhole};
+ghost use Rattle.dfu_boot.specs.trial.Again.{MatchesMedium, AreWhole};
 ghost use Rattle.dfu_boot_c.specs.trial.Tries.{tries_grain, flash_state, IsTriesPart, HasStanding, IsTrialRefused};
 ghost use Rattle.dfu_boot_c.specs.trial.Again.{base_told};
-ghost use Rattle.dfu_boot_c.specs.trial.TrialCalls.{RefusesTrial, ToldStart};
+ghost use Rattle.dfu_boot_c.specs.trial.TrialCalls.{RefusesTrial, StartResult};
 
 use crate::trial::flash::{DfuTries, Flash, Refusal, looked, prepared};
 use crate::trial::told::{DfuStanding, DfuStarting, starting_told, tell};
@@ -32,7 +32,7 @@ fn looked_again<'f>(
     ensures state { IfOk result (λ l. mapped (mapped_grain l.medium.unit l.medium.sector) l.medium.bytes.now
         ≡ flash_state tries.now flash.now) }
     ensures tries { OnOk result (AreTries (tries_grain tries.now) tries.now.tries) }
-    ensures fits { IfOk result (λ l. Fits (flash_state tries.now flash.now) tries.now.tries l.standing) }
+    ensures fits { IfOk result (λ l. MatchesMedium (flash_state tries.now flash.now) tries.now.tries l.standing) }
     ensures stands { IfOk result (λ l. AreWhole (flash_state tries.now flash.now) standing.now.active.at (base_told standing.now) →
         HasStanding tries.now flash.now l.standing) }
     ensures err { IfErr result (λ e. IsTrialRefused e tries.now flash.now) }
@@ -55,7 +55,7 @@ pub(crate) fn start_from(
     told: &mut DfuStarting,
 ) -> i32
     ensures outcome { AreWhole (flash_state tries.now flash.now) standing.now.active.at (base_told standing.now) →
-        ToldStart tries.now flash.now result ask.old ask.new told.new
+        StartResult tries.now flash.now result ask.old ask.new told.new
         ⊎ (RefusesTrial tries.now flash.now result × (ask.new ≡ ask.old) × (told.new ≡ told.old)) }
 {
     match looked_again(tries, flash, standing) {
@@ -82,7 +82,7 @@ pub extern "C" fn dfu_core_trial_start_from(
     told: &mut DfuStarting,
 ) -> i32
     ensures outcome { AreWhole (flash_state tries.now flash.now) standing.now.active.at (base_told standing.now) →
-        ToldStart tries.now flash.now result ask.old ask.new told.new
+        StartResult tries.now flash.now result ask.old ask.new told.new
         ⊎ (RefusesTrial tries.now flash.now result × (ask.new ≡ ask.old) × (told.new ≡ told.old)) }
 {
     start_from(tries, flash, standing, ask, told)

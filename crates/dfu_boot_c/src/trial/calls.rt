@@ -5,8 +5,8 @@ ghost use Rattle.dfu_boot.specs.trial.Marks.{is_erased};
 ghost use Rattle.dfu_boot.specs.trial.Again.{AreWhole};
 ghost use Rattle.dfu_boot_c.specs.trial.Tries.{flash_state};
 ghost use Rattle.dfu_boot_c.specs.trial.Again.{base_told};
-ghost use Rattle.dfu_boot_c.specs.trial.Told.{is_there, run_told};
-ghost use Rattle.dfu_boot_c.specs.trial.TrialCalls.{RefusesTrial, ToldStanding, ToldStart, ToldConfirm, ToldEnd, ToldUpload};
+ghost use Rattle.dfu_boot_c.specs.trial.TrialRecords.{is_there, run_record};
+ghost use Rattle.dfu_boot_c.specs.trial.TrialCalls.{RefusesTrial, StandingResult, StartResult, ConfirmResult, TrialEndResult, UploadCallResult};
 
 use crate::trial::again::start_from;
 use crate::trial::flash::{DfuTries, looked};
@@ -23,7 +23,7 @@ const ELSEWHERE: i32 = -19;
 /// -18 if a sector has no room for so many; -3 if the flash has no active image, or 2^32 bytes or more.
 #[unsafe(no_mangle)]
 pub extern "C" fn dfu_core_trial_look(tries: &DfuTries, flash: &[u8], told: &mut DfuStanding) -> i32
-    ensures outcome { ToldStanding tries.now flash.now result told.new
+    ensures outcome { StandingResult tries.now flash.now result told.new
         ⊎ (RefusesTrial tries.now flash.now result × (told.new ≡ told.old)) }
     ensures whole { result ≡ pos 0 → AreWhole (flash_state tries.now flash.now) told.new.active.at (base_told told.new) }
 {
@@ -47,7 +47,7 @@ pub extern "C" fn dfu_core_trial_start(
     ask: &mut DfuAsk,
     told: &mut DfuStarting,
 ) -> i32
-    ensures outcome { ToldStart tries.now flash.now result ask.old ask.new told.new
+    ensures outcome { StartResult tries.now flash.now result ask.old ask.new told.new
         ⊎ (RefusesTrial tries.now flash.now result × (ask.new ≡ ask.old) × (told.new ≡ told.old)) }
 {
     // No image begins at 0, so this looks anew.
@@ -88,7 +88,7 @@ pub extern "C" fn dfu_core_trial_runs(
     place: &mut DfuPlace,
 ) -> i32
     ensures result { result ≡ pos 0 }
-    ensures place { place.new ≡ run_told flash.now ask.now starting.now }
+    ensures place { place.new ≡ run_record flash.now ask.now starting.now }
 {
     *place = if ask.kind == PROGRAM && !is_there(flash, ask) {
         starting.otherwise
@@ -109,7 +109,7 @@ pub extern "C" fn dfu_core_trial_confirm(
     at: u32,
     ask: &mut DfuAsk,
 ) -> i32
-    ensures outcome { ToldConfirm tries.now flash.now at result ask.old ask.new
+    ensures outcome { ConfirmResult tries.now flash.now at result ask.old ask.new
         ⊎ (RefusesTrial tries.now flash.now result × (ask.new ≡ ask.old)) }
 {
     match looked(tries, flash) {
@@ -127,7 +127,7 @@ pub extern "C" fn dfu_core_trial_confirm(
 /// Refused as `dfu_core_trial_look`.
 #[unsafe(no_mangle)]
 pub extern "C" fn dfu_core_trial_end(tries: &DfuTries, flash: &[u8], ask: &mut DfuAsk) -> i32
-    ensures outcome { ToldEnd tries.now flash.now result ask.old ask.new
+    ensures outcome { TrialEndResult tries.now flash.now result ask.old ask.new
         ⊎ (RefusesTrial tries.now flash.now result × (ask.new ≡ ask.old)) }
 {
     match looked(tries, flash) {
@@ -145,7 +145,7 @@ pub extern "C" fn dfu_core_trial_end(tries: &DfuTries, flash: &[u8], ask: &mut D
 /// Refused as `dfu_core_trial_look`.
 #[unsafe(no_mangle)]
 pub extern "C" fn dfu_core_trial_upload(tries: &DfuTries, flash: &[u8], ask: &mut DfuAsk) -> i32
-    ensures outcome { ToldUpload tries.now flash.now result ask.old ask.new
+    ensures outcome { UploadCallResult tries.now flash.now result ask.old ask.new
         ⊎ (RefusesTrial tries.now flash.now result × (ask.new ≡ ask.old)) }
 {
     match looked(tries, flash) {

@@ -4,7 +4,7 @@ ghost use Rattle.dfu_slots.specs.Layout.{slot_size};
 ghost use Rattle.dfu_slots.specs.Image.{IsSized};
 ghost use Rattle.dfu_boot.specs.trial.Marks.{AreTries};
 ghost use Rattle.dfu_boot.specs.trial.Calls.{IsStanding};
-ghost use Rattle.dfu_boot_c.specs.trial.Told.{image_in, standing_told, starting_told, IsTrialAsked};
+ghost use Rattle.dfu_boot_c.specs.trial.TrialRecords.{image_in, standing_told, starting_told, TrialOpInAsk};
 
 use dfu_boot::trial::{Operation, Standing, Starting};
 use dfu_core::{ASKS, DfuAsk, DfuPlace, ERASE, PROGRAM};
@@ -90,7 +90,7 @@ pub(crate) fn starting_told<M: Medium>(medium: &M, starting: Starting) -> DfuSta
 
 /// Writes an operation, if there is one, into what is asked for.
 pub(crate) fn tell(operation: Option<Operation>, sector: u32, ask: &mut DfuAsk) -> i32
-    ensures { IsTrialAsked sector operation result ask.old ask.new }
+    ensures { TrialOpInAsk sector operation result ask.old ask.new }
 {
     match operation {
         None => 0,

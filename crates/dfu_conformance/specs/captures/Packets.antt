@@ -47,8 +47,8 @@ ending_in big bytes =
     if status == 0 then Done else if status == 0xffffffe0 then Stalled else Failed
 
 -- The first four bytes of pcap, of microseconds or nanoseconds, in either order of bytes, or of pcapng.
-abbrev pub begins_capture : List ℕ → Bool
-begins_capture bytes =
+abbrev pub is_capture_front : List ℕ → Bool
+is_capture_front bytes =
     let n = four_in true bytes in
     n == 0xd4c3b2a1 || (n == 0x4d3cb2a1 || (n == 0xa1b2c3d4 || (n == 0xa1b23c4d || n == 0x0a0d0d0a)))
 

@@ -10,10 +10,10 @@ abbrev pub LacksId : UsbEvent → List Pending → Type 0
 LacksId event all = (i : ℕ) (p : Pending) → slice_get all i ≡ Some p → HasSameId p.submission event → ⊥
 
 -- A transfer is taken: it was one of these, the last of which has its place now.
-abbrev pub LeavesWithout : Pending → (before after : List Pending) → Type 0
-LeavesWithout p before after = (i : ℕ) × (slice_get before i ≡ Some p) × (after ≡ swap_remove before i p)
+abbrev pub PendingWithout : Pending → (before after : List Pending) → Type 0
+PendingWithout p before after = (i : ℕ) × (slice_get before i ≡ Some p) × (after ≡ swap_remove before i p)
 
 -- No transfer has the id of this event, and nothing is taken; or one that has it is taken, of which the event is none.
 abbrev pub LacksSame : UsbEvent → (before after : List Pending) → Type 0
 LacksSame event before after =
-    (LacksId event before × (after ≡ before)) ⊎ ((p : Pending) × LeavesWithout p before after × ¬ IsSameTransfer p.submission event)
+    (LacksId event before × (after ≡ before)) ⊎ ((p : Pending) × PendingWithout p before after × ¬ IsSameTransfer p.submission event)

@@ -9,9 +9,9 @@ use Rattle.dfu_conformance.specs.declared.marks.TheConstants.{MARKS}
 use Rattle.dfu_conformance.specs.declared.habits.TheConstants.{HABITS}
 use Rattle.dfu_conformance.specs.declared.row.Row.{Row}
 use Rattle.dfu_conformance.specs.declared.row.When.{When}
-use Rattle.dfu_conformance.specs.Fits.{stays_at}
-use Rattle.dfu_conformance.specs.Held.{meets}
-use Rattle.dfu_conformance.specs.MayAnswer.{GoesBy, MayMove}
+use Rattle.dfu_conformance.specs.RowMatches.{stays_at}
+use Rattle.dfu_conformance.specs.Candidates.{meets}
+use Rattle.dfu_conformance.specs.MayAnswer.{RowStep, MayMove}
 use Rattle.dfu_conformance.specs.declared.dfuse.rows.TheConstants.{DFUSE}
 
 -- The bmAttributes of a DfuSe device: it can download and upload, isn't tolerant, and detaches by itself.
@@ -27,8 +27,8 @@ abbrev pub of_dfuse : When → Bool
 of_dfuse when = meets when dfuse_attributes dfuse_habits
 
 -- A DfuSe device goes by one of these rows: an event leads it from one place to another.
-abbrev pub GoesByDfuse : List Row → StandardState → LogEvent → StandardState → Type 0
-GoesByDfuse rows from e next = GoesBy rows dfuse_attributes dfuse_habits from e next
+abbrev pub DfuseRowStep : List Row → StandardState → LogEvent → StandardState → Type 0
+DfuseRowStep rows from e next = RowStep rows dfuse_attributes dfuse_habits from e next
 
 -- Between two events a DfuSe device stays or moves by itself.
 abbrev pub MayMoveDfuse : StandardState → StandardState → Type 0
@@ -52,7 +52,7 @@ rests e = stays_at (is_told e) e.answer
 -- An event may lead a DfuSe device from one place to another: by a row of USB DFU 1.1, of a habit or of DfuSe; or it stays.
 abbrev pub DfuseAnswer : StandardState → LogEvent → StandardState → Type 0
 DfuseAnswer from e next =
-    GoesByDfuse STANDARD from e next ⊎ GoesByDfuse MARKS from e next ⊎ GoesByDfuse HABITS from e next ⊎ GoesByDfuse DFUSE from e next
+    DfuseRowStep STANDARD from e next ⊎ DfuseRowStep MARKS from e next ⊎ DfuseRowStep HABITS from e next ⊎ DfuseRowStep DFUSE from e next
     ⊎ ((next ≡ from) × (rests e ≡ true))
 
 -- A run: a device begins at one place, moves by itself or not before each event, and ends at another.
@@ -62,9 +62,9 @@ DfuseRun from (e ∷ events) last =
     (here : StandardState) × (next : StandardState) × MayMoveDfuse from here × DfuseAnswer here e next × DfuseRun next events last
 
 -- A DfuSe device that began anywhere may be at this place after these events.
-abbrev pub DfuseComesTo : List LogEvent → StandardState → Type 0
-DfuseComesTo events last = (from : StandardState) × DfuseRun from events last
+abbrev pub DfuseMayBeAt : List LogEvent → StandardState → Type 0
+DfuseMayBeAt events last = (from : StandardState) × DfuseRun from events last
 
 -- Some DfuSe device may have answered so.
 abbrev pub DfuseCanAnswer : List LogEvent → Type 0
-DfuseCanAnswer events = (last : StandardState) × DfuseComesTo events last
+DfuseCanAnswer events = (last : StandardState) × DfuseMayBeAt events last

@@ -9,25 +9,25 @@ use Rattle.dfu_conformance.specs.declared.standard.TheConstants.{STANDARD}
 use Rattle.dfu_conformance.specs.declared.marks.TheConstants.{MARKS}
 use Rattle.dfu_conformance.specs.declared.habits.TheConstants.{HABITS}
 use Rattle.dfu_conformance.specs.declared.drifts.TheConstants.{DRIFTS}
-use Rattle.dfu_conformance.specs.Fits.{place_number, fits}
+use Rattle.dfu_conformance.specs.RowMatches.{place_number, fits}
 use Rattle.dfu_conformance.specs.inside.Stepped.{some_below}
 use Rattle.dfu_conformance.specs.declared.dfuse.rows.TheConstants.{DFUSE}
 use Rattle.dfu_conformance.specs.dfuse.Runs.{of_dfuse, rests}
-use Rattle.dfu_conformance.specs.dfuse.Verdicts.{may_stand}
+use Rattle.dfu_conformance.specs.dfuse.Verdicts.{is_candidate}
 
 -- The row leads a device to this place, from where it may be.
 abbrev pub leads_to : List Bool → LogEvent → StandardState → Row → Bool
 leads_to at e n row =
-    (place_number row.next == place_number n) && (fits row e && (may_stand at row.from && of_dfuse row.when))
+    (place_number row.next == place_number n) && (fits row e && (is_candidate at row.from && of_dfuse row.when))
 
 -- The move leads a device to this place, from where it may be.
 abbrev pub moves_to : List Bool → StandardState → Drift → Bool
-moves_to at n d = (place_number d.next == place_number n) && (may_stand at d.from && of_dfuse d.when)
+moves_to at n d = (place_number d.next == place_number n) && (is_candidate at d.from && of_dfuse d.when)
 
 -- A device may be at this place once an event has come, before it moves by itself.
 abbrev pub led_or_rests : List Bool → LogEvent → StandardState → Bool
 led_or_rests at e n =
-    ((((rests e && may_stand at n) || list_any (leads_to at e n) STANDARD) || list_any (leads_to at e n) MARKS)
+    ((((rests e && is_candidate at n) || list_any (leads_to at e n) STANDARD) || list_any (leads_to at e n) MARKS)
     || list_any (leads_to at e n) HABITS) || list_any (leads_to at e n) DFUSE
 
 -- Places after a move, if the places are those of a test.

@@ -9,8 +9,8 @@ use Rattle.dfu_conformance.specs.declared.standard.TheConstants.{STANDARD}
 use Rattle.dfu_conformance.specs.declared.marks.TheConstants.{MARKS}
 use Rattle.dfu_conformance.specs.declared.habits.TheConstants.{HABITS}
 use Rattle.dfu_conformance.specs.declared.drifts.TheConstants.{DRIFTS}
-use Rattle.dfu_conformance.specs.Fits.{place_number, fits, stays}
-use Rattle.dfu_conformance.specs.Held.{meets, word_has_bit, stands}
+use Rattle.dfu_conformance.specs.RowMatches.{place_number, fits, stays}
+use Rattle.dfu_conformance.specs.Candidates.{meets, word_has_bit, stands}
 
 -- Devices are held at no place but these.
 abbrev pub Covers : List (List ℕ) → List Bool → Type 0
@@ -47,12 +47,12 @@ some_below p zero = false
 some_below p (suc n) = some_below p n || p n
 
 -- Some device with this set of readings is held, with any bmAttributes.
-unfoldable pub some_held : List ℕ → (readings : ℕ) → Bool
-some_held words r = some_below (λ (a : ℕ). word_has_bit words a r) 16
+unfoldable pub has_candidate : List ℕ → (readings : ℕ) → Bool
+has_candidate words r = some_below (λ (a : ℕ). word_has_bit words a r) 16
 
 -- A device with this set of readings is held somewhere.
 unfoldable pub anywhere : List (List ℕ) → (readings : ℕ) → Bool
-anywhere held r = some_below (λ (n : ℕ). some_held (slice_index_or held n []) r) 12
+anywhere held r = some_below (λ (n : ℕ). has_candidate (slice_index_or held n []) r) 12
 
 -- The better of a set of readings, if it is held, and another set: one that comes later has to have fewer readings.
 abbrev pub better_of : Bool → ℕ → Option ℕ → Option ℕ

@@ -1,7 +1,7 @@
 //! Submissions and completions are joined.
 
 ghost use Rattle.std.specs.Prelude.{◌≡◌, ◌≤◌, length, false, true, Err, OnOk};
-ghost use Rattle.dfu_conformance.specs.captures.Packets.{begins_capture};
+ghost use Rattle.dfu_conformance.specs.captures.Packets.{is_capture_front};
 ghost use Rattle.dfu_conformance.specs.declared.captures.fault.CaptureFault.TheVariants as CaptureFault;
 
 use crate::captures::address::Address;
@@ -168,8 +168,8 @@ impl<'c> Joining<'c> {
 ///
 /// NotUsbmon if it is no capture, or a packet has another link type; NoMemory if an allocation was refused.
 pub(crate) fn exchanges_of(alloc: Global, capture: &[u8]) -> Result<Vec<Exchange<'_>>, CaptureFault>
-    ensures none { begins_capture capture.now ≡ false → result ≡ Err CaptureFault.NotUsbmon }
-    ensures some { OnOk result (begins_capture capture.now ≡ true) }
+    ensures none { is_capture_front capture.now ≡ false → result ≡ Err CaptureFault.NotUsbmon }
+    ensures some { OnOk result (is_capture_front capture.now ≡ true) }
 {
     let Some(mut form) = form_of(capture) else {
         return Err(CaptureFault::NotUsbmon);

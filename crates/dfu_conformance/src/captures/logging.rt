@@ -1,7 +1,7 @@
 //! The log of a device.
 
 ghost use Rattle.std.specs.Prelude.{◌≡◌, false, true, Err, OnOk};
-ghost use Rattle.dfu_conformance.specs.captures.Packets.{begins_capture};
+ghost use Rattle.dfu_conformance.specs.captures.Packets.{is_capture_front};
 ghost use Rattle.dfu_conformance.specs.declared.captures.fault.CaptureFault.TheVariants as CaptureFault;
 
 use crate::captures::address::Address;
@@ -15,7 +15,7 @@ use std::alloc::Global;
 
 /// Returns whether bytes begin as a capture does: pcap of either order, or pcapng. Four bytes are enough.
 pub fn is_capture(bytes: &[u8]) -> bool
-    ensures { result ≡ begins_capture bytes.now }
+    ensures { result ≡ is_capture_front bytes.now }
 {
     form_of(bytes).is_some()
 }
@@ -87,8 +87,8 @@ pub fn log_of(
     interface: u8,
     only: Option<Address>,
 ) -> Result<Vec<u8>, CaptureFault>
-    ensures none { begins_capture capture.now ≡ false → result ≡ Err CaptureFault.NotUsbmon }
-    ensures some { OnOk result (begins_capture capture.now ≡ true) }
+    ensures none { is_capture_front capture.now ≡ false → result ≡ Err CaptureFault.NotUsbmon }
+    ensures some { OnOk result (is_capture_front capture.now ≡ true) }
 {
     match exchanges_of(alloc, capture) {
         Ok(exchanges) => text_of(alloc, &exchanges, interface, only),

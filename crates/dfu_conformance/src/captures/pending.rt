@@ -2,7 +2,7 @@
 
 ghost use Rattle.std.specs.Prelude.{◌≡◌, ◌↔◌, ◌++◌, [], ◌∷◌, IsTrue, IfNone, IfOk, IfSome};
 ghost use Rattle.dfu_conformance.specs.captures.Joining.{IsSameTransfer, HasSameId};
-ghost use Rattle.dfu_conformance.specs.captures.Pending.{LacksId, LacksSame, LeavesWithout};
+ghost use Rattle.dfu_conformance.specs.captures.Pending.{LacksId, LacksSame, PendingWithout};
 
 use crate::captures::event::UsbEvent;
 use crate::captures::exchange::Body;
@@ -77,7 +77,7 @@ impl<'c> PendingTransfers<'c> {
     /// The transfer that has the id of this event on its bus, whatever its device, which is taken: an id is in use once, so an event of
     /// another transfer shows that it is over.
     pub(crate) fn take(&mut self, event: &UsbEvent<'c>) -> Option<Pending<'c>>
-        ensures some { IfSome result (λ p. HasSameId p.submission event.now × LeavesWithout p self.old.all.items self.new.all.items) }
+        ensures some { IfSome result (λ p. HasSameId p.submission event.now × PendingWithout p self.old.all.items self.new.all.items) }
         ensures none { IfNone result (LacksId event.now self.old.all.items × (self.new.all.items ≡ self.old.all.items)) }
     {
         for place in 0..self.all.len() {
@@ -93,7 +93,7 @@ impl<'c> PendingTransfers<'c> {
     /// The transfer that this event carries on or completes, which is taken; `None` if that was submitted before the capture, or its
     /// submission is missing.
     pub(crate) fn take_same(&mut self, event: &UsbEvent<'c>) -> Option<Pending<'c>>
-        ensures some { IfSome result (λ p. IsSameTransfer p.submission event.now × LeavesWithout p self.old.all.items self.new.all.items) }
+        ensures some { IfSome result (λ p. IsSameTransfer p.submission event.now × PendingWithout p self.old.all.items self.new.all.items) }
         ensures none { IfNone result (LacksSame event.now self.old.all.items self.new.all.items) }
     {
         let old = self.take(event)?;

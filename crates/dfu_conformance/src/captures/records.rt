@@ -1,7 +1,7 @@
 //! The records of a capture: pcap, and pcapng as Wireshark writes it.
 
 ghost use Rattle.std.specs.Prelude.{◌≡◌, ◌<◌, ◌≤◌, ◌+◌, drop, take, is_some, true, IfSome, IsNone, length};
-ghost use Rattle.dfu_conformance.specs.captures.Packets.{begins_capture, captured_in};
+ghost use Rattle.dfu_conformance.specs.captures.Packets.{is_capture_front, captured_in};
 
 use crate::captures::numbers::{byte_at, four, from, two};
 
@@ -35,7 +35,7 @@ pub(crate) struct Record<'c> {
 
 /// The form of a capture, by its first bytes; `None` if it is not a capture.
 pub(crate) fn form_of(bytes: &[u8]) -> Option<Form>
-    ensures { is_some result ≡ begins_capture bytes.now }
+    ensures { is_some result ≡ is_capture_front bytes.now }
 {
     let (is_ng, is_big) = match four(bytes, true) {
         0xd4c3_b2a1 | 0x4d3c_b2a1 => (false, false),

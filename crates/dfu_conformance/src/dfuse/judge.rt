@@ -18,21 +18,21 @@ pub struct DfuseJudge {
 
 impl DfuseJudge {
     ghost use Rattle.dfu_conformance.specs.dfuse.Runs.{DfuseCanAnswer};
-    ghost use Rattle.dfu_conformance.specs.dfuse.Verdicts.{AreHeld, DfuseDeparts};
+    ghost use Rattle.dfu_conformance.specs.dfuse.Verdicts.{PlacesExact, DfuseDeparts};
     ghost use Rattle.dfu_conformance.specs.declared.event.LogEvent.{LogEvent};
 
     /// A judge of a device about which nothing is known: it may be anywhere.
     pub fn new() -> DfuseJudge
-        ensures { AreHeld result.at [] }
+        ensures { PlacesExact result.at [] }
     {
         DfuseJudge { at: EVERYWHERE }
     }
 
     /// An event comes. If no DfuSe device is left, it returns the departure, and from then on the device may be anywhere again.
     pub fn take(&mut self, event: &LogEvent) -> Option<Departure>
-        ensures kept { IsNone result → (es : List LogEvent) → AreHeld self.old.at es
-            → DfuseCanAnswer (es ++ event.now ∷ []) × AreHeld self.new.at (es ++ event.now ∷ []) }
-        ensures departs { IfSome result (λ d. (d.event ≡ event.now) × ((es : List LogEvent) → AreHeld self.old.at es
+        ensures kept { IsNone result → (es : List LogEvent) → PlacesExact self.old.at es
+            → DfuseCanAnswer (es ++ event.now ∷ []) × PlacesExact self.new.at (es ++ event.now ∷ []) }
+        ensures departs { IfSome result (λ d. (d.event ≡ event.now) × ((es : List LogEvent) → PlacesExact self.old.at es
             → DfuseDeparts es d self.new.at)) }
     {
         let before = self.at;

@@ -2,7 +2,7 @@
 
 ghost use Rattle.std.specs.Prelude.{◌≡◌, ◌==◌};
 ghost use Rattle.std.specs.Int.{bit_at};
-ghost use Rattle.dfu_conformance.specs.Held.{reading_bit};
+ghost use Rattle.dfu_conformance.specs.Candidates.{reading_bit};
 ghost use Rattle.dfu_conformance.specs.dfuse.Runs.{dfuse_habits, is_told, of_dfuse, rests};
 
 use crate::{EventKind, LogEvent, Reading, Response, When};

@@ -2,9 +2,9 @@
 
 ghost use Rattle.std.specs.Prelude.{◌≡◌, ◌||◌, ◌&&◌, ◌==◌};
 ghost use Rattle.std.specs.List.{list_any};
-ghost use Rattle.dfu_conformance.specs.Fits.{place_number};
+ghost use Rattle.dfu_conformance.specs.RowMatches.{place_number};
 ghost use Rattle.dfu_conformance.specs.dfuse.Runs.{of_dfuse, rests};
-ghost use Rattle.dfu_conformance.specs.dfuse.Verdicts.{may_stand};
+ghost use Rattle.dfu_conformance.specs.dfuse.Verdicts.{is_candidate};
 ghost use Rattle.dfu_conformance.specs.inside.DfuseStep.{is_somewhere, moves_to, leads_to, after_event};
 
 use crate::dfuse::rows::DFUSE;
@@ -18,8 +18,8 @@ pub(crate) type Places = [bool; 12];
 
 /// A device is led from one place to another, if it may be at the first and is one of those.
 fn lead(before: &Places, from: StandardState, when: When, after: &mut Places, to: StandardState)
-    ensures { (n : StandardState) → may_stand after.new n
-        ≡ (may_stand after.old n || ((place_number to == place_number n) && (may_stand before.now from && of_dfuse when))) }
+    ensures { (n : StandardState) → is_candidate after.new n
+        ≡ (is_candidate after.old n || ((place_number to == place_number n) && (is_candidate before.now from && of_dfuse when))) }
 {
     let to = to.number();
     after[to] = after[to] || before[from.number()] && is_of_dfuse(when);
@@ -27,7 +27,7 @@ fn lead(before: &Places, from: StandardState, when: When, after: &mut Places, to
 
 /// Adds the place to which a row leads.
 fn go(row: &Row, before: &Places, event: &LogEvent, after: &mut Places)
-    ensures { (n : StandardState) → may_stand after.new n ≡ (may_stand after.old n || leads_to before.now event.now n row.now) }
+    ensures { (n : StandardState) → is_candidate after.new n ≡ (is_candidate after.old n || leads_to before.now event.now n row.now) }
 {
     if speaks_of(row, event) {
         lead(before, row.from, row.when, after, row.next);
@@ -36,7 +36,7 @@ fn go(row: &Row, before: &Places, event: &LogEvent, after: &mut Places)
 
 /// Adds the places to which one of these rows leads.
 fn pass(rows: &[Row], before: &Places, event: &LogEvent, after: &mut Places)
-    ensures { (n : StandardState) → may_stand after.new n ≡ (may_stand after.old n || list_any (leads_to before.now event.now n) rows.now) }
+    ensures { (n : StandardState) → is_candidate after.new n ≡ (is_candidate after.old n || list_any (leads_to before.now event.now n) rows.now) }
 {
     for row in rows {
         go(row, before, event, after);
@@ -45,7 +45,7 @@ fn pass(rows: &[Row], before: &Places, event: &LogEvent, after: &mut Places)
 
 /// Adds the places to which one of these moves leads.
 fn drift(moves: &[Drift], before: &Places) -> Places
-    ensures { (n : StandardState) → may_stand result n ≡ (may_stand before.now n || list_any (moves_to before.now n) moves.now) }
+    ensures { (n : StandardState) → is_candidate result n ≡ (is_candidate before.now n || list_any (moves_to before.now n) moves.now) }
 {
     let mut after = *before;
     for one in moves {
@@ -56,7 +56,7 @@ fn drift(moves: &[Drift], before: &Places) -> Places
 
 /// The places where a device may have stayed.
 fn rest(before: &Places, event: &LogEvent) -> Places
-    ensures { (n : StandardState) → may_stand result n ≡ (rests event.now && may_stand before.now n) }
+    ensures { (n : StandardState) → is_candidate result n ≡ (rests event.now && is_candidate before.now n) }
 {
     if may_rest(event) {
         *before
@@ -67,7 +67,7 @@ fn rest(before: &Places, event: &LogEvent) -> Places
 
 /// The places where a device may be after an event, if it might be at these before it.
 pub(crate) fn step(before: &Places, event: &LogEvent) -> Places
-    ensures { (n : StandardState) → may_stand result n ≡ after_event before.now event.now n }
+    ensures { (n : StandardState) → is_candidate result n ≡ after_event before.now event.now n }
 {
     let mut after = rest(before, event);
     pass(&STANDARD, before, event, &mut after);

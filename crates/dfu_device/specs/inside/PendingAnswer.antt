@@ -1,6 +1,6 @@
 -- An answer before its bytes are in a buffer.
 use Rattle.std.specs.Prelude.{ℕ, List, take, drop}
-use Rattle.dfu_slots.specs.Seen.{image_of}
+use Rattle.dfu_slots.specs.StoreView.{image_of}
 use Rattle.dfu_device.specs.declared.answer.Answer.{Answer}
 use Rattle.dfu_device.specs.declared.answer.PendingAnswer.{PendingAnswer}
 use Rattle.dfu_device.specs.declared.answer.PendingAnswer.TheVariants as pending_answer
@@ -37,8 +37,8 @@ abbrev pub AnswersPending : PendingAnswer → DeviceView → Answer → List ℕ
 AnswersPending d w a out = Answers (asked_of d) (reply_of d w) a out
 
 -- A plan was carried out, but for its reply, which is drafted.
-abbrev pub DonePending : Plan → ℕ → DeviceView → PendingAnswer → DeviceView → Type 0
-DonePending p len w d w' = (a : Answer) (out : List ℕ) → AnswersPending d w' a out → Done p len w a out w'
+abbrev pub CarriedOutPending : Plan → ℕ → DeviceView → PendingAnswer → DeviceView → Type 0
+CarriedOutPending p len w d w' = (a : Answer) (out : List ℕ) → AnswersPending d w' a out → Done p len w a out w'
 
 -- The row of a setup with its body, with its answer drafted.
 abbrev pub HandledPending : List ℕ → List ℕ → DeviceView → PendingAnswer → DeviceView → Type 0

@@ -17,15 +17,15 @@ spelled_elements [] = []
 spelled_elements (e ∷ es) = four e.address ++ (four (length e.bytes) ++ (e.bytes ++ spelled_elements es))
 
 -- An element has at least one byte, and ends by the last address of 32 bits.
-pub record ElementFits (e : Piece) : Type 0 where
+pub record ElementInRange (e : Piece) : Type 0 where
   pub some : 1 ≤ length e.bytes
   pub size_fits : length e.bytes < 2 ^ 32
   pub within : e.address + length e.bytes ≤ 2 ^ 32
 
 -- Each of these elements fits so.
-unfoldable pub ElementsFit : List Piece → Type 0
-ElementsFit [] = Unit {0}
-ElementsFit (e ∷ es) = ElementFits e × ElementsFit es
+unfoldable pub ElementsInRange : List Piece → Type 0
+ElementsInRange [] = Unit {0}
+ElementsInRange (e ∷ es) = ElementInRange e × ElementsInRange es
 
 -- The letters Target.
 abbrev pub target_letters : List ℕ
@@ -39,18 +39,18 @@ spelled_targets (t ∷ ts) =
     ++ (spelled_elements t.elements ++ spelled_targets ts))))))
 
 -- The parts of a target fit their bytes.
-pub record TargetFits (t : Target) : Type 0 where
+pub record TargetInRange (t : Target) : Type 0 where
   pub setting_fits : t.setting < 256
   pub named_fits : t.named < 2 ^ 32
   pub name_fits : length t.name ≡ 255
   pub size_fits : length (spelled_elements t.elements) < 2 ^ 32
   pub count_fits : length t.elements < 2 ^ 32
-  pub elements_fit : ElementsFit t.elements
+  pub elements_fit : ElementsInRange t.elements
 
 -- The parts of each of these targets fit.
-unfoldable pub TargetsFit : List Target → Type 0
-TargetsFit [] = Unit {0}
-TargetsFit (t ∷ ts) = TargetFits t × TargetsFit ts
+unfoldable pub TargetsInRange : List Target → Type 0
+TargetsInRange [] = Unit {0}
+TargetsInRange (t ∷ ts) = TargetInRange t × TargetsInRange ts
 
 -- The letters DfuSe, and the version.
 abbrev pub opening : List ℕ
@@ -65,10 +65,10 @@ pub record IsBody (targets : List Target) (whole : ℕ) (bytes : List ℕ) : Typ
   pub size_fits : size < 2 ^ 32
   pub some : 1 ≤ length targets
   pub few : length targets < 256
-  pub fit : TargetsFit targets
+  pub fit : TargetsInRange targets
 
 -- The bytes are a payload, and a suffix with these identifiers and bcdDFU 011Ah (USB DFU 1.1, appendix B).
-pub record EndsInSuffix (bytes : List ℕ) (s : Suffixed) : Type 0 where
+pub record SuffixedFile (bytes : List ℕ) (s : Suffixed) : Type 0 where
   pub extra : List ℕ
   pub spelled : bytes ≡ before_crc s.payload s.ids 0x011A extra ++ four (register (before_crc s.payload s.ids 0x011A extra))
   pub extra_fits : length extra ≤ 239
@@ -80,7 +80,7 @@ pub record EndsInSuffix (bytes : List ℕ) (s : Suffixed) : Type 0 where
 -- The bytes are a DfuSe file: a body, and a suffix with the file's identifiers.
 pub record IsDfuSe (f : DfuseContent) (bytes : List ℕ) : Type 0 where
   pub payload : List ℕ
-  pub suffix : EndsInSuffix bytes (record { payload = payload; ids = f.ids })
+  pub suffix : SuffixedFile bytes (record { payload = payload; ids = f.ids })
   pub body : IsBody f.targets (length bytes) payload
 
 -- This is the first fault of bytes that are not a DfuSe file.

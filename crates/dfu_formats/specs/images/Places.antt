@@ -15,16 +15,16 @@ led_to mark Digits b = if nat_lt (hex_value b) 16 then Some Digits else if is_bl
 led_to mark Back b = if is_blank_byte b then Some Back else None
 
 -- A byte that no record has there is the answer; behind any other the search goes on, in the part that it leads to.
-abbrev pub found_or : Place → (part : Option Part) → (more : Part → Option Place) → Option Place
-found_or place None more = Some place
-found_or place (Some part) more = more part
+abbrev pub place_or : Place → (part : Option Part) → (more : Part → Option Place) → Option Place
+place_or place None more = Some place
+place_or place (Some part) more = more part
 
 -- The first byte that no record has there, in bytes of which the first stands at this line and column. A line feed ends a line.
 unfoldable pub bad_from : (mark : ℕ) → Part → (line column : ℕ) → List ℕ → Option Place
 bad_from mark part line column [] = None
 bad_from mark part line column (b ∷ bs) =
     if b == 10 then bad_from mark Front (line + 1) 1 bs
-    else found_or (record { line = line; column = column }) (led_to mark part b) (λ next. bad_from mark next line (column + 1) bs)
+    else place_or (record { line = line; column = column }) (led_to mark part b) (λ next. bad_from mark next line (column + 1) bs)
 
 -- The first byte that no record has there, in a file of a format of text. Lines and columns count from 1, behind a byte order mark.
 abbrev pub bad_place : Format → List ℕ → Option Place

@@ -73,10 +73,10 @@ HasNoStroke [] = Unit {0}
 HasNoStroke (b ∷ bs) = (b ≢ 47) × HasNoStroke bs
 
 -- There is no last byte, or it is not a space.
-unfoldable pub EndsInNoSpace : List ℕ → Type 0
-EndsInNoSpace [] = Unit {0}
-EndsInNoSpace (b ∷ []) = b ≢ 32
-EndsInNoSpace (a ∷ b ∷ bs) = EndsInNoSpace (b ∷ bs)
+unfoldable pub NoTrailingSpace : List ℕ → Type 0
+NoTrailingSpace [] = Unit {0}
+NoTrailingSpace (b ∷ []) = b ≢ 32
+NoTrailingSpace (a ∷ b ∷ bs) = NoTrailingSpace (b ∷ bs)
 
 -- A string is a map: `@`, a name, spaces, and between strokes an address, and up to 32 ranges from there on that share no address.
 pub record IsMap (m : MapContent) (text : List ℕ) : Type 0 where
@@ -86,7 +86,7 @@ pub record IsMap (m : MapContent) (text : List ℕ) : Type 0 where
   pub list : List ℕ
   pub spelled : text ≡ 64 ∷ (m.name ++ (replicate spaces 32 ++ 47 ∷ (address ++ 47 ∷ list)))
   pub no_stroke : HasNoStroke m.name
-  pub no_space : EndsInNoSpace m.name
+  pub no_space : NoTrailingSpace m.name
   pub address_is : IsAddress place address
   pub list_is : AreRanges place m.ranges list
   pub few : length m.ranges ≤ 32

@@ -122,8 +122,8 @@ address_at text =
     >>= λ n. or BadAddress (behind 47 n.rest) >>= λ rest. Ok (record { value = n.value; rest = rest })
 
 -- A place, if there is one.
-abbrev pub place_found : Result NumberRead MapFault → Result (Option NumberRead) MapFault
-place_found place = place >>= λ p. Ok (Some p)
+abbrev pub place_read : Result NumberRead MapFault → Result (Option NumberRead) MapFault
+place_read place = place >>= λ p. Ok (Some p)
 
 -- Place at which the next range begins, after one that ends at this address: there after `,`, and at an address of its own after `/`;
 -- nowhere at the end of the text.
@@ -131,7 +131,7 @@ unfoldable pub next_at : (end : ℕ) → List ℕ → Result (Option NumberRead)
 next_at end [] = Ok None
 next_at end (b ∷ bs) =
     if b == 44 then Ok (Some (record { value = end; rest = bs }))
-    else if b == 47 then place_found (address_at bs)
+    else if b == 47 then place_read (address_at bs)
     else Err Trailing
 
 -- A range, and those that are read from the next place, if there is one.

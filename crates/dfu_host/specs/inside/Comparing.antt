@@ -6,7 +6,7 @@ use Rattle.dfu_host.specs.declared.phase.Phase.TheVariants as phase
 use Rattle.dfu_host.specs.declared.heard.Heard.{Heard}
 use Rattle.dfu_host.specs.Phases.{Task}
 use Rattle.dfu_host.specs.Table.{pieces}
-use Rattle.dfu_host.specs.inside.HeardParts.{Came, WasCompared, HadNoRoom, NoPart, of_part}
+use Rattle.dfu_host.specs.inside.PartMemory.{Came, WasCompared, HadNoRoom, NoPart, of_part}
 
 -- A part as it was compared: whether it is block k (empty if there is no such block), and its length.
 pub record IsCompared (task : Task) (k : ℕ) (part : List ℕ) (same : Bool) (len : ℕ) : Type 0 where

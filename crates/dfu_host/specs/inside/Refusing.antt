@@ -6,13 +6,13 @@ use Rattle.dfu_host.specs.declared.heard.Heard.{Heard}
 use Rattle.dfu_host.specs.declared.heard.Heard.TheVariants as heard
 use Rattle.dfu_host.specs.declared.seen.Seen.{Seen}
 use Rattle.dfu_host.specs.declared.seen.Seen.TheVariants as seen
-use Rattle.dfu_host.specs.InParts.{kept_at}
+use Rattle.dfu_host.specs.InParts.{buffered_at}
 use Rattle.dfu_host.specs.Rooms.{overflows}
 
 -- Bytes that come in a phase are refused as by a room of this many bytes: those of a part that was
 -- asked for exactly if it overflows.
 abbrev pub RefusesBytes : (room t : ℕ) → Phase → (memory bytes : List ℕ) → (refused : Bool) → Type 0
-RefusesBytes room t (phase.Fetch k) memory bytes refused = refused ≡ overflows room t k (kept_at k memory) bytes
+RefusesBytes room t (phase.Fetch k) memory bytes refused = refused ≡ overflows room t k (buffered_at k memory) bytes
 RefusesBytes room t other memory bytes refused = Unit {0}
 
 -- An answer in a phase is refused as by a room of this many bytes.
@@ -28,17 +28,17 @@ RefusesIn room t phase memory seen.Left refused = Unit {0}
 
 -- The meaning of this many bytes that come in a phase: of a part that was asked for, that there was no room, if it was refused, and else
 -- the part.
-abbrev pub HearsBytesBy : Phase → (size : ℕ) → (refused : Bool) → Heard → Type 0
-HearsBytesBy (phase.Fetch k) size refused word = word ≡ (if refused then heard.NoRoom else heard.Part size)
-HearsBytesBy other size refused word = Unit {0}
+abbrev pub BytesMeaningIn : Phase → (size : ℕ) → (refused : Bool) → Heard → Type 0
+BytesMeaningIn (phase.Fetch k) size refused word = word ≡ (if refused then heard.NoRoom else heard.Part size)
+BytesMeaningIn other size refused word = Unit {0}
 
 -- The meaning of an answer in a phase, by whether it was refused.
-abbrev pub HearsBy : Phase → Seen → (refused : Bool) → Heard → Type 0
-HearsBy phase (seen.Bytes bytes) refused word = HearsBytesBy phase (length bytes.now) refused word
-HearsBy phase seen.Ack refused word = Unit {0}
-HearsBy phase seen.Stall refused word = Unit {0}
-HearsBy phase seen.Nothing refused word = Unit {0}
-HearsBy phase seen.Waited refused word = Unit {0}
-HearsBy phase seen.WasReset refused word = Unit {0}
-HearsBy phase seen.Restarted refused word = Unit {0}
-HearsBy phase seen.Left refused word = Unit {0}
+abbrev pub SeenMeaningIn : Phase → Seen → (refused : Bool) → Heard → Type 0
+SeenMeaningIn phase (seen.Bytes bytes) refused word = BytesMeaningIn phase (length bytes.now) refused word
+SeenMeaningIn phase seen.Ack refused word = Unit {0}
+SeenMeaningIn phase seen.Stall refused word = Unit {0}
+SeenMeaningIn phase seen.Nothing refused word = Unit {0}
+SeenMeaningIn phase seen.Waited refused word = Unit {0}
+SeenMeaningIn phase seen.WasReset refused word = Unit {0}
+SeenMeaningIn phase seen.Restarted refused word = Unit {0}
+SeenMeaningIn phase seen.Left refused word = Unit {0}

@@ -2,7 +2,7 @@
 use Rattle.std.specs.Prelude.{◌≡◌, ◌<◌, ◌≤◌, ℕ, List, ◌++◌, length, replicate, drop}
 use Rattle.dfu_wire.specs.declared.requests.Request.{Request}
 use Rattle.dfuse_host.specs.Deeds.{DfuseDeed, Send, Wait, Done}
-use Rattle.dfuse_host.specs.Wire.{DfuseIsAsked}
+use Rattle.dfuse_host.specs.Wire.{IsDfuseSetupOf}
 use Rattle.dfu_host_c.specs.dfuse.ReportNumbers.{dfuse_report_numbers}
 use Rattle.dfu_host_c.specs.declared.dfuse.action.DfuseAction.{DfuseAction}
 
@@ -10,7 +10,7 @@ use Rattle.dfu_host_c.specs.declared.dfuse.action.DfuseAction.{DfuseAction}
 -- of the buffer changes.
 pub record DfuseIsSend (q : Request) (body : List ℕ) (r : DfuseAction) (old new : List ℕ) : Type 0 where
   pub what : r.what ≡ 0
-  pub asked : DfuseIsAsked q r.setup
+  pub asked : IsDfuseSetupOf q r.setup
   pub size : r.length ≡ length body
   pub room : length body ≤ length old
   pub copied : new ≡ body ++ drop (length body) old
@@ -24,10 +24,10 @@ pub record DfuseIsOther (what value more : ℕ) (r : DfuseAction) (old new : Lis
 
 -- The record says what a session does: 0 to send a request, 1 to wait that many milliseconds, and 3 that it is done, with this report. A
 -- number that an action does not have is 0.
-abbrev pub DfuseTells : DfuseDeed → DfuseAction → (old new : List ℕ) → Type 0
-DfuseTells (Send q body) r old new = DfuseIsSend q body r old new
-DfuseTells (Wait ms) r old new = DfuseIsOther 1 ms 0 r old new
-DfuseTells (Done report) r old new = DfuseIsOther 3 (dfuse_report_numbers report).0 (dfuse_report_numbers report).1 r old new
+abbrev pub DfuseActionRecord : DfuseDeed → DfuseAction → (old new : List ℕ) → Type 0
+DfuseActionRecord (Send q body) r old new = DfuseIsSend q body r old new
+DfuseActionRecord (Wait ms) r old new = DfuseIsOther 1 ms 0 r old new
+DfuseActionRecord (Done report) r old new = DfuseIsOther 3 (dfuse_report_numbers report).0 (dfuse_report_numbers report).1 r old new
 
 -- A request is to be sent whose body has more bytes than the buffer.
 abbrev pub BodyHasNoRoom : DfuseDeed → (old : List ℕ) → Type 0

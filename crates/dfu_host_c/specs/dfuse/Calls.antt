@@ -8,23 +8,23 @@ use Rattle.dfuse_host.specs.declared.seen.Seen.{Seen}
 use Rattle.dfuse_host.specs.declared.session.Session.{Session}
 use Rattle.dfuse_host.specs.Deeds.{dfuse_deed}
 use Rattle.dfuse_host.specs.Refusing.{FirstPlanFault, IsSoundPlan}
-use Rattle.dfuse_host.specs.Sessions.{SessionRow, dfuse_begun}
+use Rattle.dfuse_host.specs.Sessions.{SessionRow, initial_dfuse}
 use Rattle.dfu_host_c.specs.Refusals.{IsRefusedFor}
-use Rattle.dfu_host_c.specs.dfuse.Actions.{BodyHasNoRoom, DfuseTells}
-use Rattle.dfu_host_c.specs.dfuse.Sessions.{DfuseIsHeld, dfuse_limits_of, phase_in, dfuse_plan_of, dfuse_record_of}
-use Rattle.dfu_host_c.specs.dfuse.Told.{dfuse_seen_at}
+use Rattle.dfu_host_c.specs.dfuse.Actions.{BodyHasNoRoom, DfuseActionRecord}
+use Rattle.dfu_host_c.specs.dfuse.Sessions.{IsDfuseRecordOf, dfuse_limits_of, phase_in, dfuse_plan_of, dfuse_record_of}
+use Rattle.dfu_host_c.specs.dfuse.SeenNumbers.{dfuse_seen_at}
 use Rattle.dfu_host_c.specs.declared.refusals.Refusal.TheVariants as refusal
 use Rattle.dfu_host_c.specs.declared.dfuse.action.DfuseAction.{DfuseAction}
 use Rattle.dfu_host_c.specs.declared.dfuse.plan.DfusePlan.{DfusePlan}
 use Rattle.dfu_host_c.specs.declared.dfuse.session.DfuseSession.{DfuseSession}
 
 -- A session was begun on the map of this string, on this image: its plan has no fault, and the record is that of a session that begins.
-pub record DfuseBegins (text : List ℕ) (image : Bor (List Element)) (how : DfusePlan) (r' : DfuseSession) : Type 0 where
+pub record DfuseBeginResult (text : List ℕ) (image : Bor (List Element)) (how : DfusePlan) (r' : DfuseSession) : Type 0 where
   pub map : Bor MapContent
   pub is_map : IsMap map.now text
   pub sound : IsSoundPlan (dfuse_plan_of how map image)
-  pub says : r' ≡ dfuse_record_of (dfuse_begun (dfuse_plan_of how map image) (dfuse_limits_of how))
-  pub later : DfuseIsHeld r' text image (dfuse_begun (dfuse_plan_of how map image) (dfuse_limits_of how))
+  pub says : r' ≡ dfuse_record_of (initial_dfuse (dfuse_plan_of how map image) (dfuse_limits_of how))
+  pub later : IsDfuseRecordOf r' text image (initial_dfuse (dfuse_plan_of how map image) (dfuse_limits_of how))
 
 -- The string is a map, and this is the number of the plan's first fault.
 pub record DfuseIsRefused (text : List ℕ) (image : Bor (List Element)) (how : DfusePlan) (result : ℤ) : Type 0 where
@@ -39,22 +39,22 @@ NoSession r text = ((m : MapContent) → IsMap m text → ⊥) ⊎ (phase_in r �
 -- The record of an action says what the session of a record does next, and its body is in the buffer.
 pub record DfuseIsNext (r : DfuseSession) (text : List ℕ) (image : Bor (List Element)) (a : DfuseAction) (old new : List ℕ) : Type 0 where
   pub session : Session
-  pub held : DfuseIsHeld r text image session
-  pub tells : DfuseTells (dfuse_deed session.plan session.phase) a old new
+  pub held : IsDfuseRecordOf r text image session
+  pub tells : DfuseActionRecord (dfuse_deed session.plan session.phase) a old new
 
 -- The session of a record sends a body next, and the buffer has no room for it.
 pub record NoRoomFor (r : DfuseSession) (text : List ℕ) (image : Bor (List Element)) (old : List ℕ) : Type 0 where
   pub session : Session
-  pub held : DfuseIsHeld r text image session
+  pub held : IsDfuseRecordOf r text image session
   pub larger : BodyHasNoRoom (dfuse_deed session.plan session.phase) old
 
 -- The session of a record took what was seen, as a row of the host's table, and the record is that of what it became.
-pub record DfuseTook (r r' : DfuseSession) (text : List ℕ) (image : Bor (List Element)) (seen : ℕ) (bytes : Bor (List ℕ)) : Type 0 where
+pub record DfuseTakeResult (r r' : DfuseSession) (text : List ℕ) (image : Bor (List Element)) (seen : ℕ) (bytes : Bor (List ℕ)) : Type 0 where
   pub session : Session
   pub next : Session
   pub word : Seen
-  pub held : DfuseIsHeld r text image session
+  pub held : IsDfuseRecordOf r text image session
   pub seen_is : dfuse_seen_at seen bytes ≡ Some word
   pub row : SessionRow session word next
   pub says : r' ≡ dfuse_record_of next
-  pub later : DfuseIsHeld r' text image next
+  pub later : IsDfuseRecordOf r' text image next

@@ -83,7 +83,7 @@ dfuse_record_of s = record {
 }
 
 -- The record is that of this session, over the map of this string and over this image.
-pub record DfuseIsHeld (r : DfuseSession) (text : List ℕ) (image : Bor (List Element)) (s : Session) : Type 0 where
+pub record IsDfuseRecordOf (r : DfuseSession) (text : List ℕ) (image : Bor (List Element)) (s : Session) : Type 0 where
   pub map : Bor MapContent
   pub is_map : IsMap map.now text
   pub says : session_in r map image ≡ Some s

@@ -2,9 +2,9 @@
 
 ghost use Rattle.std.specs.Prelude.{◌≡◌, ◌⊎◌, ℕ, List, pos};
 ghost use Rattle.dfuse_host.specs.Deeds.{DfuseDeed, Send};
-ghost use Rattle.dfuse_host.specs.Wire.{DfuseIsAsked, DfuseSpells};
+ghost use Rattle.dfuse_host.specs.Wire.{IsDfuseSetupOf, DfuseSpells};
 ghost use Rattle.dfu_wire.specs.declared.requests.Request.{Request};
-ghost use Rattle.dfu_host_c.specs.dfuse.Actions.{BodyHasNoRoom, DfuseIsOther, DfuseTells};
+ghost use Rattle.dfu_host_c.specs.dfuse.Actions.{BodyHasNoRoom, DfuseIsOther, DfuseActionRecord};
 ghost use Rattle.dfu_host_c.specs.dfuse.Calls.{DfuseIsNext, NoRoomFor, NoSession};
 ghost use Rattle.dfu_host_c.specs.Refusals.{no_room};
 ghost use Rattle.dfu_host_core.specs.Numbers.{no_session};
@@ -33,8 +33,8 @@ pub struct DfuseAction {
 
 /// Writes what is sent, with its body.
 fn send(setup: [u8; 8], sent: &[u8], body: &mut [u8], action: &mut DfuseAction) -> i32
-    ensures outcome { (request : Request) → DfuseIsAsked request setup
-        → ((result ≡ pos 0) × DfuseTells (Send request sent.now) action.new body.old body.new)
+    ensures outcome { (request : Request) → IsDfuseSetupOf request setup
+        → ((result ≡ pos 0) × DfuseActionRecord (Send request sent.now) action.new body.old body.new)
         ⊎ ((result ≡ no_room) × BodyHasNoRoom (Send request sent.now) body.old × (action.new ≡ action.old) × (body.new ≡ body.old)) }
 {
     if sent.len() > body.len() {
@@ -67,7 +67,7 @@ fn other(what: u32, value: u32, more: u32) -> DfuseAction
 /// Writes an action, with its body.
 fn tell(given: Action<'_>, body: &mut [u8], action: &mut DfuseAction) -> i32
     ensures outcome { (deed : DfuseDeed) → DfuseSpells deed given.entry
-        → ((result ≡ pos 0) × DfuseTells deed action.new body.old body.new)
+        → ((result ≡ pos 0) × DfuseActionRecord deed action.new body.old body.new)
         ⊎ ((result ≡ no_room) × BodyHasNoRoom deed body.old × (action.new ≡ action.old) × (body.new ≡ body.old)) }
 {
     match given {

@@ -2,9 +2,9 @@
 
 ghost use Rattle.std.specs.Prelude.{◌≡◌, ◌⊎◌, None, pos};
 ghost use Rattle.dfu_host_core.specs.Numbers.{no_seen, no_session};
-ghost use Rattle.dfu_host_c.specs.dfuse.Calls.{DfuseBegins, DfuseIsRefused, DfuseTook, NoSession};
+ghost use Rattle.dfu_host_c.specs.dfuse.Calls.{DfuseBeginResult, DfuseIsRefused, DfuseTakeResult, NoSession};
 ghost use Rattle.dfu_host_c.specs.dfuse.Maps.{IsNoMap};
-ghost use Rattle.dfu_host_c.specs.dfuse.Told.{dfuse_seen_at};
+ghost use Rattle.dfu_host_c.specs.dfuse.SeenNumbers.{dfuse_seen_at};
 
 use crate::dfuse::holding::{map_of, record_of, session_of};
 use crate::dfuse::plan::DfusePlan;
@@ -22,7 +22,7 @@ pub extern "C" fn dfuse_begin(
     image: &[Element<'_>],
     plan: &DfusePlan,
 ) -> i32
-    ensures outcome { ((result ≡ pos 0) × DfuseBegins map.now image.entry plan.now session.new)
+    ensures outcome { ((result ≡ pos 0) × DfuseBeginResult map.now image.entry plan.now session.new)
         ⊎ (IsNoMap map.now result × (session.new ≡ session.old))
         ⊎ (DfuseIsRefused map.now image.entry plan.now result × (session.new ≡ session.old)) }
 {
@@ -52,7 +52,7 @@ pub extern "C" fn dfuse_take(
     seen: u32,
     bytes: &[u8],
 ) -> i32
-    ensures outcome { ((result ≡ pos 0) × DfuseTook session.old session.new map.now image.entry seen bytes.entry)
+    ensures outcome { ((result ≡ pos 0) × DfuseTakeResult session.old session.new map.now image.entry seen bytes.entry)
         ⊎ ((result ≡ no_session) × NoSession session.old map.now × (session.new ≡ session.old))
         ⊎ ((result ≡ no_seen) × (dfuse_seen_at seen bytes.entry ≡ None) × (session.new ≡ session.old)) }
 {

@@ -2,8 +2,8 @@
 use Rattle.std.specs.Prelude.{◌≡◌, ◌⊎◌, ℕ, Bool, true, List, [], ◌∷◌}
 use Rattle.std.proofs.Common.{inl, inr, ap, ◌∙◌}
 use Rattle.dfu_laws.specs.board.Board.{BoardStep}
-use Rattle.dfu_laws.specs.board.Keeps.{IsClosed, RunKeeps}
-use Rattle.dfu_slots.specs.Seen.{image_of}
+use Rattle.dfu_laws.specs.board.ImageSurvival.{IsClosed, RunsKeepImage}
+use Rattle.dfu_slots.specs.StoreView.{image_of}
 use Rattle.dfu_device.specs.DeviceView.{DeviceView}
 use Rattle.dfu_device.specs.History.{IsRow, HistoryStep as TableRow}
 use Rattle.dfu_laws.specs.board.Accepts.{Heeds, RunAccepts, HeedsRow, HistoryAccepts}
@@ -15,7 +15,7 @@ closed_accepted : (check : List ℕ → Bool) (old steps : List BoardStep) (imag
 closed_accepted check old steps image heeds c = ap check c.image_is ∙ heeds c.first c.close c.rest c.steps_are c.is
 
 -- So an image that is not the first one was accepted.
-pub run_accepts : RunKeeps → RunAccepts
+pub run_accepts : RunsKeepImage → RunAccepts
 run_accepts keeps check b b' steps image on active run heeds =
     let kept = keeps b b' steps image on active run in
     record {

@@ -10,7 +10,7 @@ use Rattle.dfu_slots.specs.Units.{Grain, unit_size}
 use Rattle.dfu_slots.specs.Medium.{MediumState, Write}
 use Rattle.dfu_slots.specs.Layout.{generation, next_generation}
 use Rattle.dfu_slots.specs.Image.{gate_of, spare_at}
-use Rattle.dfu_slots.specs.Seen.{SlotsState, active_slot, spare_of, is_begun, is_shaped, room_of}
+use Rattle.dfu_slots.specs.StoreView.{SlotsState, active_slot, spare_of, is_begun, is_shaped, room_of}
 use Rattle.dfu_slots.specs.Store.{IsStore}
 use Rattle.dfu_device.specs.declared.device_state.DeviceState.{DeviceState}
 use Rattle.dfu_device.specs.declared.device_state.DeviceState.TheVariants as device_state
@@ -22,14 +22,14 @@ use Rattle.dfu_device.specs.History.{IsHistory, HistoryStep as TableRow}
 use Rattle.dfu_asks.specs.declared.pending_writes.PendingWrites.{PendingWrites}
 use Rattle.dfu_asks.specs.declared.pending_writes.SlotWrite.{SlotWrite}
 use Rattle.dfu_asks.specs.declared.pending_writes.SlotWrite.TheVariants as slot_write
-use Rattle.dfu_asks.specs.Lent.{LentAsking}
+use Rattle.dfu_asks.specs.Lent.{LentDevice}
 use Rattle.dfu_asks.specs.Steps.{Step, step_writes}
 use Rattle.dfu_asks.specs.Jobs.{job_writes, job_steps}
-use Rattle.dfu_asks.specs.Series.{held_before}
+use Rattle.dfu_asks.specs.Series.{tail_before}
 use Rattle.dfu_asks.specs.Carried.{total, IsPiece}
 use Rattle.dfu_asks.specs.Asks.{grain_in, writes_in, steps_in, device_of, IsBlockJob, IsCommitJob, IsDue, IsWorking}
-use Rattle.dfu_laws.specs.board.Board.{Board, lent_on, Event, Handle, Elapse, UsbReset, RefuseClose, Refuse, Write as WriteEvent, Took, Restart, Says, Nothing, WritesDue, Answers, BoardStep}
-use Rattle.dfu_laws.specs.board.Counts.{block_erases, block_programs, commit_erases, commit_programs, most_asks}
+use Rattle.dfu_laws.specs.board.Board.{Board, lent_on, Event, Handle, Elapse, UsbReset, RefuseClose, Refuse, Write as WriteEvent, Took, Restart, BoardReply, Nothing, WritesDue, Answers, BoardStep}
+use Rattle.dfu_laws.specs.board.Counts.{block_erases, block_programs, commit_erases, commit_programs, operation_bound}
 use Rattle.dfu_laws.specs.board.Refines.{IsAtWork}
 use Rattle.dfu_laws.proofs.board.Counting.{count}
 use Rattle.dfu_laws.proofs.board.Bounds.{unit_some, block_count, commit_count}
@@ -38,9 +38,9 @@ use Rattle.dfu_laws.proofs.board.Bounds.{unit_some, block_count, commit_count}
 
 -- The steps of the row that is due in a stage, if this is its job.
 abbrev stage_steps : SlotsState → Stage → SlotWrite → List Step
-stage_steps s (InDownloadSync before block number) j = job_steps j s.medium.grain (length before) (held_before s (length before)) block
+stage_steps s (InDownloadSync before block number) j = job_steps j s.medium.grain (length before) (tail_before s (length before)) block
 stage_steps s (InDownloadBusy before block number passed) j =
-    job_steps j s.medium.grain (length before) (held_before s (length before)) block
+    job_steps j s.medium.grain (length before) (tail_before s (length before)) block
 stage_steps s (InManifestSync taken) j = job_steps j s.medium.grain (length taken) s.held []
 stage_steps s (InManifest taken passed) j = job_steps j s.medium.grain (length taken) s.held []
 stage_steps s stage j = []
@@ -70,10 +70,10 @@ module _ (s : SlotsState) where
 
   block_same : (n : ℕ) (j : SlotWrite) (w : Grain) (end : ℕ) (held block : List ℕ) → s.medium.grain ≡ w → n ≤ length (spare_of s)
       → IsBlockJob n s j end held → let k = length (take n (spare_of s)) in
-      job_steps j w end held block ≡ job_steps j s.medium.grain k (held_before s k) block
+      job_steps j w end held block ≡ job_steps j s.medium.grain k (tail_before s k) block
   block_same n j w end held block grain fits is =
       (λ i. job_steps j (sym grain i) (is.end_is i) (is.held_is i) block)
-      ∙ ap (λ (k : ℕ). job_steps j s.medium.grain k (held_before s k) block) (sym (taken_length n fits))
+      ∙ ap (λ (k : ℕ). job_steps j s.medium.grain k (tail_before s k) block) (sym (taken_length n fits))
 
   commit_same : (n : ℕ) (j : SlotWrite) (w : Grain) (end : ℕ) (held block : List ℕ) → s.medium.grain ≡ w → n ≤ length (spare_of s)
       → IsCommitJob n s j end held → job_steps j w end held block ≡ job_steps j s.medium.grain (length (take n (spare_of s))) s.held []
@@ -114,7 +114,7 @@ module _ (s : SlotsState) (store : IsStore s) (u : WriteUnit) (sector : ℕ) (gr
     -- The steps of a job have at most so many pieces.
     abbrev IsBounded : SlotWrite → ℕ → (held block : List ℕ) → Type 0
     IsBounded j end held block =
-        count (job_steps j (record { unit = u; sector = sector }) end held block) ≤ most_asks j (length block) sector
+        count (job_steps j (record { unit = u; sector = sector }) end held block) ≤ operation_bound j (length block) sector
 
     held_low : length s.held < unit_size u
     held_low = subst (λ (g : Grain). length s.held < unit_size g.unit) grain
@@ -125,7 +125,7 @@ module _ (s : SlotsState) (store : IsStore s) (u : WriteUnit) (sector : ℕ) (gr
         let whole = subst (λ (g : Grain). g.sector % 256 ≡ 0) grain store.has_image.active.sized.whole.pages in
         omega (arith, some, whole)
 
-    before_low : (n : ℕ) → length (held_before s n) < unit_size u
+    before_low : (n : ℕ) → length (tail_before s n) < unit_size u
     before_low n = by_test (n == 0)
       where
         by_test : (b : Bool) → length (if b then [] else s.held) < unit_size u
@@ -161,11 +161,11 @@ module _ (s : SlotsState) (store : IsStore s) (u : WriteUnit) (sector : ℕ) (gr
 
 -- The series of a board at work has at most so many pieces.
 pub work_bound : (b : Board) (cause : Cause) (d : DeviceView) (k : IsAtWork b cause d)
-    → count (series d k.asks.work.job) ≤ most_asks k.asks.work.job (length (lent_on b).block) b.asking.sector.size
+    → count (series d k.asks.work.job) ≤ operation_bound k.asks.work.job (length (lent_on b).block) b.asking.sector.size
 work_bound b cause d k =
     let a = lent_on b in
     let w = k.asks.work in
     let on = k.asks.working in
-    subst (λ (ss : List Step). count ss ≤ most_asks w.job (length a.block) b.asking.sector.size) (work_same b cause d k)
+    subst (λ (ss : List Step). count ss ≤ operation_bound w.job (length a.block) b.asking.sector.size) (work_same b cause d k)
     (due_bound k.s on.store a.unit b.asking.sector.size (ap (λ (m : MediumState). m.grain) on.medium) a.mode w.asked k.len w.job a.put_end
     a.held a.block on.due)

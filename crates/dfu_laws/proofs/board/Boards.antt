@@ -4,17 +4,17 @@ use Rattle.std.proofs.Common.{inl, inr, refl, sym, ap, ◌∙◌, subst}
 use Rattle.std.proofs.lemmas.List.{append-nil}
 use Rattle.dfu_slots.specs.declared.fault.WriteFault.TheVariants.{Failed}
 use Rattle.dfu_slots.specs.Image.{Active, HasImage}
-use Rattle.dfu_slots.specs.Seen.{SlotsState, store_on, image_of}
+use Rattle.dfu_slots.specs.StoreView.{SlotsState, store_on, image_of}
 use Rattle.dfu_device.specs.Stage.{Stage, InManifestSync, InManifest, state_of}
 use Rattle.dfu_device.specs.DeviceView.{DeviceView, situation}
 use Rattle.dfu_device.specs.Rows.{Cause}
-use Rattle.dfu_device.specs.Taken.{taken_of}
-use Rattle.dfu_device.specs.TakenHistory.{RowTakes}
+use Rattle.dfu_device.specs.AcceptedBytes.{accepted_of}
+use Rattle.dfu_device.specs.AcceptedHistory.{RowAcceptsBody}
 use Rattle.dfu_asks.specs.Asks.{store_in}
 use Rattle.dfu_laws.specs.board.Board.{Board, lent_on, medium_on, device_on, state_on, BoardStep}
 use Rattle.dfu_laws.specs.board.Happens.{start_stage, IsPoweredOn, IsRun}
-use Rattle.dfu_laws.specs.board.Keeps.{taken_by, IsClosed, HasKept, RunKeeps, is_manifesting, RunStays, has_manifested, RunInstalls}
-use Rattle.dfu_laws.specs.board.Refines.{StandsFor, IdleRefines, RunRefines}
+use Rattle.dfu_laws.specs.board.ImageSurvival.{accepted_by, IsClosed, ImageKeptOrClosed, RunsKeepImage, is_manifesting, RunStays, has_manifested, RunInstalls}
+use Rattle.dfu_laws.specs.board.Refines.{RepresentsDevice, IdleRefines, RunRefines}
 use Rattle.dfu_laws.proofs.board.Cut.{WriteLaws, cut_off}
 use Rattle.dfu_laws.specs.board.Accepts.{IsPending}
 use Rattle.dfu_laws.proofs.board.Closing.{waits_taken}
@@ -39,7 +39,7 @@ some_due : (cause : Cause) → ◌≡◌ {A = Option Cause} (Some cause) None �
 some_due cause e = absurd (cc)
 
 module _ (laws : WriteLaws) (only : OneImage) where
-  imaged : (b : Board) (due : Option Cause) (d : DeviceView) → StandsFor b due d → HasImageOf b due d
+  imaged : (b : Board) (due : Option Cause) (d : DeviceView) → RepresentsDevice b due d → HasImageOf b due d
   imaged b None d k = record {
     has = k.is.store.has_image;
     is = λ image active. inl (only (store_in (lent_on b) b.flash) image active ∙ ap (λ (x : DeviceView). image_of x.slots) k.device);
@@ -77,10 +77,10 @@ none_manifests (InManifestSync taken) t off m = absurd (cc)
 none_manifests (InManifest taken passed) t off m = absurd (cc)
 none_manifests st t off m = m
 
-module _ (laws : WriteLaws) (takes : RowTakes) (only : OneImage) where
+module _ (laws : WriteLaws) (takes : RowAcceptsBody) (only : OneImage) where
   begun : (b : Board) → IsPoweredOn b → KeptAt (image_of (device_on b).slots) [] [] (device_on b)
   begun b on = record {
-    taken = subst (λ (x : DeviceView). [] ≡ taken_of (situation x)) (sym on.device)
+    taken = subst (λ (x : DeviceView). [] ≡ accepted_of (situation x)) (sym on.device)
         (sym (start_takes on.begins (image_of (store_on (medium_on b)))));
     waits = λ t m. absurd (none_waits b t on m);
     whence = inl refl;
@@ -121,8 +121,8 @@ module _ (laws : WriteLaws) (takes : RowTakes) (only : OneImage) where
   run_refines b b' steps on run = idle_refines b b' (device_on b) steps (on_idle b on) run
 
   -- A fact that is kept of a device is kept on the flash of the board.
-  kept_on : (image : List ℕ) (old steps : List BoardStep) (b : Board) (due : Option Cause) (d : DeviceView) → StandsFor b due d
-      → KeptAt image old steps d → HasKept image old steps b
+  kept_on : (image : List ℕ) (old steps : List BoardStep) (b : Board) (due : Option Cause) (d : DeviceView) → RepresentsDevice b due d
+      → KeptAt image old steps d → ImageKeptOrClosed image old steps b
   kept_on image old steps b due d k kept =
       let i = imaged laws only b due d k in
       record {
@@ -150,14 +150,14 @@ module _ (laws : WriteLaws) (takes : RowTakes) (only : OneImage) where
       ] in
       let r' = run_on laws takes (KeptAt image old) (kept_step image old) [] steps mid b' r.due' r.device r.stands
       (record {
-        taken = ap (λ (l : List BoardStep). taken_by [] l) (append-nil old) ∙ r.kept.taken;
+        taken = ap (λ (l : List BoardStep). accepted_by [] l) (append-nil old) ∙ r.kept.taken;
         waits = λ t m. absurd (none_manifests r.device.stage t still m);
         whence = inl here;
       }) run in
       kept_on image old steps b' r'.due' r'.device r'.stands r'.kept
 
   -- So from power on.
-  pub run_keeps : RunKeeps
+  pub run_keeps : RunsKeepImage
   run_keeps b b' steps image on active run =
       run_stays b b b' [] steps image on refl (ap is_manifesting (state b on) ∙ start_plain on.begins) active run
     where
@@ -174,11 +174,11 @@ module _ (laws : WriteLaws) (takes : RowTakes) (only : OneImage) where
       sym (ap is_manifesting (state_stands mid r.due' r.device r.stands)) ∙ manifests in
       let ended : has_manifested (state_of x.device.stage) ≡ true =
       sym (ap has_manifested (state_stands last.after x.due' x.device x.stands)) ∙ subst (λ (y : Board). has_manifested (state_on y) ≡ true) same over in
-      let put : image_of x.device.slots ≡ taken_by [] steps = x.puts other was ended ∙ sym r.kept.taken in
+      let put : image_of x.device.slots ≡ accepted_by [] steps = x.puts other was ended ∙ sym r.kept.taken in
       let i = imaged laws only last.after x.due' x.device x.stands in
-      let now : i.has.image ≡ taken_by [] steps = elim (i.is i.has.image i.has.active) [
+      let now : i.has.image ≡ accepted_by [] steps = elim (i.is i.has.image i.has.active) [
         | inl here ↦ here ∙ put
         | inr waited ↦ absurd (over_waits x.device.stage i.has.image ended waited.1)
       ] in
-      subst (λ (y : Board). Active (medium_on y) (taken_by [] steps)) (sym same)
+      subst (λ (y : Board). Active (medium_on y) (accepted_by [] steps)) (sym same)
       (subst (λ (l : List ℕ). Active (medium_on last.after) l) now i.has.active)

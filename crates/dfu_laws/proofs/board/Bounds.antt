@@ -10,7 +10,7 @@ use Rattle.dfu_slots.specs.Writes.{erases, closed_gate, head_size}
 use Rattle.dfu_asks.specs.declared.pending_writes.SlotWrite.{SlotWrite}
 use Rattle.dfu_asks.specs.declared.pending_writes.SlotWrite.TheVariants as slot_write
 use Rattle.dfu_asks.specs.Steps.{Step, some_steps, anew_steps, put_steps, open_steps, close_step}
-use Rattle.dfu_asks.specs.Jobs.{held_place, job_steps}
+use Rattle.dfu_asks.specs.Jobs.{tail_place, job_steps}
 use Rattle.dfu_laws.specs.board.Counts.{block_erases, block_programs, commit_erases, commit_programs}
 use Rattle.dfu_laws.proofs.board.Counting.{parts, count, count_append, erased, count_anew, count_some, erases_parts, spans, spans_add, spans_most, erases_few}
 
@@ -161,7 +161,7 @@ pub block_count : (u : WriteUnit) (sector spare : ℕ) (close : Bool) (end : ℕ
     ≤ block_erases (length block) sector + block_programs (length block)
 block_count u zero spare close end held block low none wide =
     let g : Grain = record { unit = u; sector = 0 } in
-    let at = held_place g spare end held in
+    let at = tail_place g spare end held in
     let p = head_parts u held block low in
     omega (
       arith,
@@ -173,7 +173,7 @@ block_count u zero spare close end held block low none wide =
 block_count u (suc k) spare close end held block low none wide =
     let s = suc k in
     let g : Grain = record { unit = u; sector = s } in
-    let at = held_place g spare end held in
+    let at = tail_place g spare end held in
     let h = head u held block low in
     let rest = whole u held block low - h in
     let p = head_parts u held block low in
@@ -231,7 +231,7 @@ pub commit_count : (u : WriteUnit) (sector spare gen crc end : ℕ) (held block 
     ≤ commit_erases sector + commit_programs
 commit_count u sector spare gen crc end held block low wide =
     let g : Grain = record { unit = u; sector = sector } in
-    let at = held_place g spare end held in
+    let at = tail_place g spare end held in
     let last = filled u held in
     let head = header_unit (gate_size u) gen end crc in
     let gate = gate_unit (gate_size u) OPEN in

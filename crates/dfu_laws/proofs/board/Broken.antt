@@ -3,7 +3,7 @@ use Rattle.std.proofs.Common.{◌≡◌, ◌⊎◌, true, IsTrue, ℕ, ◌+◌, 
 use Rattle.dfu_slots.specs.declared.fault.WriteFault.{WriteFault}
 use Rattle.dfu_slots.specs.Units.{Grain}
 use Rattle.dfu_slots.specs.Medium.{MediumState, Write, Rose, BrokenWrites}
-use Rattle.dfu_slots.specs.Seen.{SlotsState, store_on, spare_of, room_of, is_shaped, Commit, writes_of}
+use Rattle.dfu_slots.specs.StoreView.{SlotsState, store_on, spare_of, room_of, is_shaped, Commit, writes_of}
 use Rattle.dfu_slots.specs.Store.{IsStore}
 use Rattle.dfu_device.specs.declared.answer.Answer.{Answer}
 use Rattle.dfu_device.specs.declared.device_state.DeviceState.{DeviceState}

@@ -5,8 +5,8 @@ use Rattle.dfu_wire.specs.declared.setups.Setup.{Setup}
 use Rattle.dfu_wire.specs.declared.requests.Request.{Request as Asked}
 use Rattle.dfu_wire.specs.declared.requests.Request.TheVariants as asked
 use Rattle.dfu_wire.specs.Setup.{IsSetup}
-use Rattle.dfu_wire.specs.Request.{Asks}
-use Rattle.dfu_slots.specs.Seen.{SlotsState, store_on, image_of}
+use Rattle.dfu_wire.specs.Request.{SetupRequest}
+use Rattle.dfu_slots.specs.StoreView.{SlotsState, store_on, image_of}
 use Rattle.dfu_device.specs.Pace.{block_ms, image_ms}
 use Rattle.dfu_device.specs.declared.answer.Answer.{Answer}
 use Rattle.dfu_device.specs.declared.objection.Objection.{Objection}
@@ -15,22 +15,22 @@ use Rattle.dfu_device.specs.Stage.{Request, Dnload, Upload, GetStatus, GetState,
 use Rattle.dfu_device.specs.Table.{Plan, Sure, Writes, Commits, has_no_bytes, block_plan, further_plan, upload_plan, plan, time_plan, reset_stage, refuse_stage, commit_code}
 use Rattle.dfu_device.specs.DeviceView.{DeviceView, profile, situation}
 use Rattle.dfu_device.specs.Rows.{meant, asked_length, Answers, Done, is_served, setup_plan, handled_as, Cause, Transfer, Passing, BusReset, RefusingClose, Refusing, PowerOn, Row}
-use Rattle.dfu_device.specs.Taken.{taken_in, taken_of, is_dnload}
+use Rattle.dfu_device.specs.AcceptedBytes.{accepted_in, accepted_of, is_dnload}
 use Rattle.dfu_device.specs.Cases.{either_way}
 use Rattle.dfu_slots.specs.declared.fault.WriteFault.{WriteFault}
 use Rattle.dfu_slots.specs.declared.fault.WriteFault.TheVariants.{Failed, NotVerified}
-use Rattle.dfu_laws.specs.board.Accepts.{IsPending, IsGivenUp}
+use Rattle.dfu_laws.specs.board.Accepts.{IsPending, ImageAbandoned}
 
 -- An image is in place in a stage, or broke off as it was put there: none waits in it, and none is given up.
 abbrev pub IsPlaced : Stage → Type 0
-IsPlaced st = ((t : List ℕ) → IsPending st t → ⊥) × (IsGivenUp st → ⊥)
+IsPlaced st = ((t : List ℕ) → IsPending st t → ⊥) × (ImageAbandoned st → ⊥)
 
 commit_placed : (fault : WriteFault) → IsPlaced (InError (commit_code fault))
 commit_placed Failed = (λ t m. m, λ g. g)
 commit_placed NotVerified = (λ t m. m, λ g. g)
 
 -- They are the bytes taken.
-pub waits_taken : (image : List ℕ) (st : Stage) (t : List ℕ) → IsPending st t → taken_in image st ≡ t
+pub waits_taken : (image : List ℕ) (st : Stage) (t : List ℕ) → IsPending st t → accepted_in image st ≡ t
 waits_taken image (InManifestSync taken) t m = m
 waits_taken image (InManifest taken passed) t m = m
 waits_taken image st t m = absurd m
@@ -43,7 +43,7 @@ ClosesBy r reply = (reply ≡ Ack) × (number : ℕ) × (r ≡ Dnload number [])
 
 -- An image is pending only if it was pending before or this request closed its download. Only a pending image is committed.
 abbrev Closes : List ℕ → Stage → Request → Plan → Type 0
-Closes image st r (Sure reply next) = (t : List ℕ) → IsPending next t → IsPending st t ⊎ (ClosesBy r reply × (t ≡ taken_in image st))
+Closes image st r (Sure reply next) = (t : List ℕ) → IsPending next t → IsPending st t ⊎ (ClosesBy r reply × (t ≡ accepted_in image st))
 Closes image st r (Writes before block reply next bad) = (t : List ℕ) → IsPending next t → ⊥
 Closes image st r (Commits taken reply next bad) = IsPending st taken × IsPlaced next
 
@@ -120,7 +120,7 @@ IsClosing cause a out =
 
 -- An image that waits after a row waited before, or was closed by it; and the active image is the one before, or the one that waited.
 pub record Leads (w : DeviceView) (cause : Cause) (a : Answer) (out : List ℕ) (w' : DeviceView) : Type 0 where
-  pub waits : (t : List ℕ) → IsPending w'.stage t → IsPending w.stage t ⊎ (IsClosing cause a out × (t ≡ taken_of (situation w)))
+  pub waits : (t : List ℕ) → IsPending w'.stage t → IsPending w.stage t ⊎ (IsClosing cause a out × (t ≡ accepted_of (situation w)))
   pub image : (image_of w'.slots ≡ image_of w.slots) ⊎ IsPending w.stage (image_of w'.slots)
   pub placed : (image_of w'.slots ≡ image_of w.slots) ⊎ IsPlaced w'.stage
 
@@ -137,7 +137,7 @@ empty_dnload asked.Abort body number e = absurd (cc)
 empty_dnload asked.OtherClass body number e = absurd (cc)
 empty_dnload asked.NotDfu body number e = absurd (cc)
 
-dnload_bytes : (p : Setup) (block len : ℕ) (setup : List ℕ) → IsSetup p setup → Asks p (asked.Dnload block len) → is_dnload setup ≡ true
+dnload_bytes : (p : Setup) (block len : ℕ) (setup : List ℕ) → IsSetup p setup → SetupRequest p (asked.Dnload block len) → is_dnload setup ≡ true
 dnload_bytes p block len setup reads asks =
     let first : slice_index setup 0 ≡ 0x21 = sym reads.kind ∙ asks.0.kind in
     let second : slice_index setup 1 ≡ 1 = sym reads.request ∙ asks.0.request in
@@ -210,7 +210,7 @@ row_leads w (Transfer setup body) a out w' (handled_as p q reads asks done) =
     let is = empty_dnload q body number e in (
       setup,
       ap (λ (l : List ℕ). Transfer setup l) is.3,
-      dnload_bytes p is.0 is.1 setup reads (subst (λ (x : Asked). Asks p x) is.2 asks),
+      dnload_bytes p is.0 is.1 setup reads (subst (λ (x : Asked). SetupRequest p x) is.2 asks),
       acks.0,
       acks.1,
     ))

@@ -6,7 +6,7 @@ use Rattle.dfu_slots.specs.declared.fault.WriteFault.{WriteFault}
 use Rattle.dfu_slots.specs.declared.fault.WriteFault.TheVariants.{Failed}
 use Rattle.dfu_slots.specs.Units.{Grain}
 use Rattle.dfu_slots.specs.Medium.{Write, Torn, BrokenWrites}
-use Rattle.dfu_slots.specs.Seen.{store_on}
+use Rattle.dfu_slots.specs.StoreView.{store_on}
 use Rattle.dfu_slots.specs.Store.{IsStore}
 use Rattle.dfu_device.specs.declared.answer.Answer.{Answer}
 use Rattle.dfu_device.specs.declared.answer.Answer.TheVariants as answer

@@ -4,12 +4,12 @@ use Rattle.std.proofs.Common.{refl, sym, subst}
 use Rattle.dfu_device.specs.declared.answer.Answer.TheVariants as answer
 use Rattle.dfu_device.specs.DeviceView.{DeviceView}
 use Rattle.dfu_device.specs.Rows.{Cause, Transfer, Passing, RefusingClose, Refusing}
-use Rattle.dfu_device.specs.TakenHistory.{RowTakes}
+use Rattle.dfu_device.specs.AcceptedHistory.{RowAcceptsBody}
 use Rattle.dfu_asks.specs.Lent.{IsSetUpAs}
-use Rattle.dfu_laws.specs.board.Board.{Board, Event, Handle, Elapse, UsbReset, RefuseClose, Refuse, Write, Took, Restart, Says, Nothing}
+use Rattle.dfu_laws.specs.board.Board.{Board, Event, Handle, Elapse, UsbReset, RefuseClose, Refuse, Write, Took, Restart, BoardReply, Nothing}
 use Rattle.dfu_laws.specs.board.Happens.{Happens}
-use Rattle.dfu_laws.specs.board.Keeps.{acknowledged_body}
-use Rattle.dfu_laws.specs.board.Refines.{TellsRows, IsAtWork, IsIdle, StandsFor}
+use Rattle.dfu_laws.specs.board.ImageSurvival.{acknowledged_body}
+use Rattle.dfu_laws.specs.board.Refines.{EventRows, IsAtWork, IsIdle, RepresentsDevice}
 use Rattle.dfu_laws.proofs.board.Cut.{WriteLaws}
 use Rattle.dfu_laws.proofs.board.Turns.{none_or_some, Turned, stays}
 use Rattle.dfu_laws.proofs.board.Called.{served, was_reset, objected, of_handle, of_elapse, of_reset, of_refuse_close, of_refuse}
@@ -17,16 +17,16 @@ use Rattle.dfu_laws.proofs.board.Works.{writes_on, told}
 use Rattle.dfu_laws.proofs.board.Powers.{restarts, cuts}
 
 -- Nothing came of a step that leaves a board as it was.
-left_alone : (b b' : Board) (due : Option Cause) (d : DeviceView) (e : Event) → StandsFor b due d → b' ≡ b → TellsRows due e Nothing [] due
+left_alone : (b b' : Board) (due : Option Cause) (d : DeviceView) (e : Event) → RepresentsDevice b due d → b' ≡ b → EventRows due e Nothing [] due
     → acknowledged_body e Nothing ≡ [] → Turned b' due d e Nothing
-left_alone b b' due d e k same tells none = stays b' due due d e Nothing tells (subst (λ (x : Board). StandsFor x due d) (sym same) k) none
+left_alone b b' due d e k same tells none = stays b' due due d e Nothing tells (subst (λ (x : Board). RepresentsDevice x due d) (sym same) k) none
 
 -- A board at work is not idle.
 at_work : (b : Board) (cause : Cause) (d : DeviceView) → IsAtWork b cause d → b.asking.work ≡ None → ⊥
 at_work b cause d k idle = none_or_some k.asks.work b.asking.work idle k.asks.work_is
 
-module _ (laws : WriteLaws) (takes : RowTakes) where
-  turn_idle : (b b' : Board) (d : DeviceView) (e : Event) (says : Says) → IsIdle b d → Happens b e says b' → IsSetUpAs b.asking b'.asking
+module _ (laws : WriteLaws) (takes : RowAcceptsBody) where
+  turn_idle : (b b' : Board) (d : DeviceView) (e : Event) (says : BoardReply) → IsIdle b d → Happens b e says b' → IsSetUpAs b.asking b'.asking
       → Turned b' None d e says
   turn_idle b b' d (Handle setup body) Nothing k h same = left_alone b b' None d (Handle setup body) k h (refl, refl) refl
   turn_idle b b' d (Handle setup body) says k h same =
@@ -45,7 +45,7 @@ module _ (laws : WriteLaws) (takes : RowTakes) where
   turn_idle b b' d (Took failed) says k h same = absurd (none_or_some h.work b.asking.work k.work h.left.work_is)
   turn_idle b b' d (Restart begins) says k h same = restarts b b' d begins says k same h.1 h.2
 
-  turn_work : (b b' : Board) (cause : Cause) (d : DeviceView) (e : Event) (says : Says) → IsAtWork b cause d → Happens b e says b'
+  turn_work : (b b' : Board) (cause : Cause) (d : DeviceView) (e : Event) (says : BoardReply) → IsAtWork b cause d → Happens b e says b'
       → IsSetUpAs b.asking b'.asking → Turned b' (Some cause) d e says
   turn_work b b' cause d (Handle setup body) Nothing k h same = left_alone b b' (Some cause) d (Handle setup body) k h (refl, refl) refl
   turn_work b b' cause d (Handle setup body) says k h same = absurd (at_work b cause d k h.idle)
@@ -65,7 +65,7 @@ module _ (laws : WriteLaws) (takes : RowTakes) where
   turn_work b b' cause d (Restart begins) says k h same = cuts laws b b' cause d begins says k same h.1 h.2
 
   -- Each step makes rows of the device that the board stands for.
-  pub turn : (b b' : Board) (due : Option Cause) (d : DeviceView) (e : Event) (says : Says) → StandsFor b due d → Happens b e says b'
+  pub turn : (b b' : Board) (due : Option Cause) (d : DeviceView) (e : Event) (says : BoardReply) → RepresentsDevice b due d → Happens b e says b'
       → IsSetUpAs b.asking b'.asking → Turned b' due d e says
   turn b b' None d e says k h same = turn_idle b b' d e says k h same
   turn b b' (Some cause) d e says k h same = turn_work b b' cause d e says k h same

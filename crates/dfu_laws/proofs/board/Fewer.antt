@@ -13,11 +13,11 @@ use Rattle.dfu_asks.specs.declared.reply.Reply.TheVariants as reply
 use Rattle.dfu_asks.specs.Steps.{Step}
 use Rattle.dfu_asks.specs.Carried.{total, IsPiece}
 use Rattle.dfu_asks.specs.Asks.{grain_in, steps_in}
-use Rattle.dfu_laws.specs.board.Board.{Board, lent_on, Event, Handle, Elapse, UsbReset, RefuseClose, Refuse, Write as Writing, Took, Restart, Says, Nothing, WritesDue, Answers, BoardStep}
+use Rattle.dfu_laws.specs.board.Board.{Board, lent_on, Event, Handle, Elapse, UsbReset, RefuseClose, Refuse, Write as Writing, Took, Restart, BoardReply, Nothing, WritesDue, Answers, BoardStep}
 use Rattle.dfu_laws.specs.board.Happens.{Happens, IsRun}
-use Rattle.dfu_laws.specs.board.Steps.{result_said}
-use Rattle.dfu_laws.specs.board.Counts.{most_asks, asks_of, asks_in, IsUnanswered, AreUnanswered, GoesFurther, AllGoFurther, RunAsksFew}
-use Rattle.dfu_laws.specs.board.Refines.{TellsCall, TellsRows, TellsAll, IsAtWork, IsIdle, StandsFor, RunRefines, IdleRefines}
+use Rattle.dfu_laws.specs.board.Steps.{reply_of_result}
+use Rattle.dfu_laws.specs.board.Counts.{operation_bound, operations_of, operations_in, IsUnanswered, AreUnanswered, PieceAdvances, AllPiecesAdvance, RunOperationsBounded}
+use Rattle.dfu_laws.specs.board.Refines.{CallRows, EventRows, StepRows, IsAtWork, IsIdle, RepresentsDevice, RunRefines, IdleRefines}
 use Rattle.dfu_laws.proofs.board.Pieces.{piece_there}
 use Rattle.dfu_laws.proofs.board.Cut.{StepsAreWrites}
 use Rattle.dfu_laws.proofs.board.Counting.{count_from, count, piece_less, count_within}
@@ -31,14 +31,14 @@ same_work x y z a b = cc
 
 -- Steps without an answer have no rows.
 
-quiet_call : (cause : Cause) (due due' : Option Cause) (says : Says) (rows : List TableRow) → IsUnanswered (Elapse 0) says
-    → TellsCall cause due says rows due' → rows ≡ []
+quiet_call : (cause : Cause) (due due' : Option Cause) (says : BoardReply) (rows : List TableRow) → IsUnanswered (Elapse 0) says
+    → CallRows cause due says rows due' → rows ≡ []
 quiet_call cause due due' Nothing rows un t = t.0
 quiet_call cause due due' WritesDue rows un t = t.0
 quiet_call cause due due' (Answers a out) rows un t = elim un [ ]
 
-quiet_row : (e : Event) (says : Says) (due due' : Option Cause) (rows : List TableRow) → IsUnanswered e says
-    → TellsRows due e says rows due' → rows ≡ []
+quiet_row : (e : Event) (says : BoardReply) (due due' : Option Cause) (rows : List TableRow) → IsUnanswered e says
+    → EventRows due e says rows due' → rows ≡ []
 quiet_row (Restart begins) says due due' rows un t = elim un [ ]
 quiet_row e (Answers a out) due due' rows un t = elim un [ ]
 quiet_row (Handle setup body) says due due' rows un t = quiet_call (Transfer setup body) due due' says rows un t
@@ -50,7 +50,7 @@ quiet_row Writing says due due' rows un t = t.0
 quiet_row (Took failed) says None due' rows un t = t.0
 quiet_row (Took failed) says (Some cause) due' rows un t = quiet_call cause (Some cause) due' says rows un t
 
-quiet_rows : (steps : List BoardStep) (due due' : Option Cause) (rows : List TableRow) → AreUnanswered steps → TellsAll due steps rows due'
+quiet_rows : (steps : List BoardStep) (due due' : Option Cause) (rows : List TableRow) → AreUnanswered steps → StepRows due steps rows due'
     → rows ≡ []
 quiet_rows [] due due' rows un t = t.0
 quiet_rows (s ∷ rest) due due' rows un (first, later, mid, are, t, more) =
@@ -67,28 +67,28 @@ run_on b mid b' (x ∷ xs) ys run more = (run.0, run.1, run.2, run_on x.after mi
 -- Effect of a step without an answer on the work that is kept.
 
 -- It keeps the work and asks for none.
-record KeepsWork (b : Board) (says : Says) (b' : Board) : Type 0 where
-  none : asks_of says ≡ 0
+record KeepsWork (b : Board) (says : BoardReply) (b' : Board) : Type 0 where
+  none : operations_of says ≡ 0
   stays : b'.asking.work ≡ b.asking.work
 
 -- It is a call with no writes due before, and asks for some.
-record CallsFor (b : Board) (e : Event) (says : Says) : Type 0 where
+record CallsFor (b : Board) (e : Event) (says : BoardReply) : Type 0 where
   due : says ≡ WritesDue
   idle : b.asking.work ≡ None
-  tells : (rows : List TableRow) (due' : Option Cause) → TellsRows None e WritesDue rows due' → (cause : Cause) × (due' ≡ Some cause)
+  tells : (rows : List TableRow) (due' : Option Cause) → EventRows None e WritesDue rows due' → (cause : Cause) × (due' ≡ Some cause)
 
 -- It is a report, and asks for more.
-record ReportsOn (b : Board) (e : Event) (says : Says) : Type 0 where
+record ReportsOn (b : Board) (e : Event) (says : BoardReply) : Type 0 where
   due : says ≡ WritesDue
   failed : Bool
   event : e ≡ Took failed
   work : PendingWrites
   work_is : b.asking.work ≡ Some work
 
-step_work : (b b' : Board) (e : Event) (says : Says) → Happens b e says b' → IsUnanswered e says
+step_work : (b b' : Board) (e : Event) (says : BoardReply) → Happens b e says b' → IsUnanswered e says
     → KeepsWork b says b' ⊎ CallsFor b e says ⊎ ReportsOn b e says
 step_work b b' (Restart begins) says h un = elim un [ ]
-step_work b b' Writing says h un = inl (record { none = ap asks_of h.0; stays = ap (λ a. a.work) h.1.asking })
+step_work b b' Writing says h un = inl (record { none = ap operations_of h.0; stays = ap (λ a. a.work) h.1.asking })
 step_work b b' e (Answers a out) h un = elim un [ ]
 step_work b b' e Nothing h un = inl (record { none = refl; stays = ap (λ (x : Board). x.asking.work) h })
 step_work b b' (Handle setup body) WritesDue h un =
@@ -109,7 +109,7 @@ module _ (same : StepsAreWrites) (refines : IdleRefines) (mid : Board) (d : Devi
     piece : Step
     is : IsPiece (steps_in (lent_on b) w) w.done piece
     here : IsPiece (series d w.job) w.done piece
-    most : count (series d w.job) ≤ most_asks w.job (length (lent_on b).block) b.asking.sector.size
+    most : count (series d w.job) ≤ operation_bound w.job (length (lent_on b).block) b.asking.sector.size
 
   works_at : (b : Board) (cause : Cause) (k : IsAtWork b cause d) → WorkAt b k.asks.work
   works_at b cause k =
@@ -126,18 +126,18 @@ module _ (same : StepsAreWrites) (refines : IdleRefines) (mid : Board) (d : Devi
 
   -- A board after steps without an answer stands for the same device.
   stands_still : (b : Board) (front : List BoardStep) → IsRun mid front b → AreUnanswered front
-      → (due : Option Cause) × StandsFor b due d
+      → (due : Option Cause) × RepresentsDevice b due d
   stands_still b front run un =
       let r = refines mid b d front idle run in
       let none = quiet_rows front None r.due r.rows un r.tells in
       let still : r.device ≡ d = subst (λ (rows : List TableRow). IsHistory d rows r.device) none r.history in
-      (r.due, subst (λ (x : DeviceView). StandsFor b r.due x) still r.stands)
+      (r.due, subst (λ (x : DeviceView). RepresentsDevice b r.due x) still r.stands)
 
   work_at : (b : Board) (front : List BoardStep) (w : PendingWrites) → IsRun mid front b → AreUnanswered front → b.asking.work ≡ Some w
       → WorkAt b w
   work_at b front w run un some = let x = stands_still b front run un in by_due x.0 x.1
     where
-      by_due : (due : Option Cause) → StandsFor b due d → WorkAt b w
+      by_due : (due : Option Cause) → RepresentsDevice b due d → WorkAt b w
       by_due None k = absurd (none_some w b.asking.work k.work some)
       by_due (Some cause) k =
           subst (λ (x : PendingWrites). WorkAt b x) (same_work k.asks.work w b.asking.work k.asks.work_is some) (works_at b cause k)
@@ -145,7 +145,7 @@ module _ (same : StepsAreWrites) (refines : IdleRefines) (mid : Board) (d : Devi
   idle_at : (b : Board) (front : List BoardStep) → IsRun mid front b → AreUnanswered front → b.asking.work ≡ None → IsIdle b d
   idle_at b front run un none = let x = stands_still b front run un in by_due x.0 x.1
     where
-      by_due : (due : Option Cause) → StandsFor b due d → IsIdle b d
+      by_due : (due : Option Cause) → RepresentsDevice b due d → IsIdle b d
       by_due None k = k
       by_due (Some cause) k = absurd (none_some k.asks.work b.asking.work none k.asks.work_is)
 
@@ -155,8 +155,8 @@ module _ (same : StepsAreWrites) (refines : IdleRefines) (mid : Board) (d : Devi
     few : asks + count_from (series d w.job) w'.done ≤ count_from (series d w.job) w.done
 
   working : (rest front : List BoardStep) (b b' : Board) (w w' : PendingWrites) → IsRun mid front b → AreUnanswered front
-      → IsRun b rest b' → AreUnanswered rest → AllGoFurther rest → b.asking.work ≡ Some w → b'.asking.work ≡ Some w'
-      → Fewer w w' (asks_in rest)
+      → IsRun b rest b' → AreUnanswered rest → AllPiecesAdvance rest → b.asking.work ≡ Some w → b'.asking.work ≡ Some w'
+      → Fewer w w' (operations_in rest)
   working [] front b b' w w' run un more still further some some' =
       let e : w' ≡ w = same_work w' w b.asking.work (ap (λ (x : Board). x.asking.work) (sym more) ∙ some') some in
       record {
@@ -175,22 +175,22 @@ module _ (same : StepsAreWrites) (refines : IdleRefines) (mid : Board) (d : Devi
         | inr (inr reports) ↦
             let at = work_at b front w run un some in
             let p = at.piece in
-            let goes : GoesFurther b (Took reports.failed) WritesDue t.after =
-            subst (λ (x : Board). GoesFurther x (Took reports.failed) WritesDue t.after) more.0
-            (subst (λ (x : Event). GoesFurther t.before x WritesDue t.after) reports.event
-            (subst (λ (x : Says). GoesFurther t.before t.event x t.after) reports.due further.0)) in
+            let goes : PieceAdvances b (Took reports.failed) WritesDue t.after =
+            subst (λ (x : Board). PieceAdvances x (Took reports.failed) WritesDue t.after) more.0
+            (subst (λ (x : Event). PieceAdvances t.before x WritesDue t.after) reports.event
+            (subst (λ (x : BoardReply). PieceAdvances t.before t.event x t.after) reports.due further.0)) in
             let next : PendingWrites = record w { done = w.done + length p.write.bytes } in
             let x = working rest on t.after b' next w' run' un' more.3 still.1 further.1 (goes w p some at.is) some' in
             record {
               job = x.job;
-              few = omega (arith, x.few, ap asks_of reports.due, piece_less (series d w.job) w.done p at.here);
+              few = omega (arith, x.few, ap operations_of reports.due, piece_less (series d w.job) w.done p at.here);
             }
       ]
 
   -- From a board with no writes due.
   starting : (rest front : List BoardStep) (b b' : Board) (w' : PendingWrites) → IsRun mid front b → AreUnanswered front
-      → IsRun b rest b' → AreUnanswered rest → AllGoFurther rest → b.asking.work ≡ None → b'.asking.work ≡ Some w'
-      → asks_in rest ≤ count (series d w'.job)
+      → IsRun b rest b' → AreUnanswered rest → AllPiecesAdvance rest → b.asking.work ≡ None → b'.asking.work ≡ Some w'
+      → operations_in rest ≤ count (series d w'.job)
   starting [] front b b' w' run un more still further none some' =
       absurd (none_some w' b.asking.work none (ap (λ (x : Board). x.asking.work) (sym more) ∙ some'))
   starting (t ∷ rest) front b b' w' run un more still further none some' =
@@ -209,7 +209,7 @@ module _ (same : StepsAreWrites) (refines : IdleRefines) (mid : Board) (d : Devi
             omega (
               arith,
               x.few,
-              ap asks_of calls.due,
+              ap operations_of calls.due,
               count_within (series d (k.0).job) (k.0).done,
               piece_less (series d w'.job) w'.done at.piece at.here,
               ap (λ (j : SlotWrite). count (series d j)) x.job,
@@ -223,21 +223,21 @@ module _ (same : StepsAreWrites) (refines : IdleRefines) (mid : Board) (d : Devi
       asked_at b b' front t run un one calls none =
           let r = refines b b' d (t ∷ []) (idle_at b front run un none) one in
           let (first, later, between, are, told, more) = r.tells in
-          let c = calls.tells first between (subst (λ (x : Says). TellsRows None t.event x first between) calls.due told) in
-          let k : StandsFor b' (Some c.0) r.device = subst (λ (x : Option Cause). StandsFor b' x r.device) (more.1 ∙ c.1) r.stands in
+          let c = calls.tells first between (subst (λ (x : BoardReply). EventRows None t.event x first between) calls.due told) in
+          let k : RepresentsDevice b' (Some c.0) r.device = subst (λ (x : Option Cause). RepresentsDevice b' x r.device) (more.1 ∙ c.1) r.stands in
           (k.asks.work, k.asks.work_is)
 
 -- The clause `further` of `took` says this of a step.
 pub took_further : (b b' : Board) (failed : Bool) (out : List ℕ) (r : Result Reply Refusal)
     → IfOk r (λ x. x ≡ reply.Asks → (w : PendingWrites) (p : Step) → b.asking.work ≡ Some w
     → IsPiece (steps_in (lent_on b) w) w.done p → b'.asking.work ≡ Some (record w { done = w.done + length p.write.bytes }))
-    → GoesFurther b (Took failed) (result_said r out) b'
+    → PieceAdvances b (Took failed) (reply_of_result r out) b'
 took_further b b' failed out (Ok reply.Asks) h = λ w p some is. h refl w p some is
 took_further b b' failed out (Ok (reply.Answered a count)) h = tt
 took_further b b' failed out (Err e) h = tt
 
 -- A board that got power asks at most so often.
-pub run_asks_few : StepsAreWrites → RunRefines → IdleRefines → RunAsksFew
+pub run_asks_few : StepsAreWrites → RunRefines → IdleRefines → RunOperationsBounded
 run_asks_few same runs refines b mid b' old steps w on run none more un further some =
     let r = runs b mid old on run in
     let idle = by_due mid r.due r.device r.stands none in
@@ -245,6 +245,6 @@ run_asks_few same runs refines b mid b' old steps w on run none more un further 
     let at = work_at same refines mid r.device idle b' steps w more un some in
     omega (arith, few, at.most)
   where
-    by_due : (m : Board) (due : Option Cause) (d : DeviceView) → StandsFor m due d → m.asking.work ≡ None → IsIdle m d
+    by_due : (m : Board) (due : Option Cause) (d : DeviceView) → RepresentsDevice m due d → m.asking.work ≡ None → IsIdle m d
     by_due m None d k none = k
     by_due m (Some cause) d k none = absurd (none_some k.asks.work m.asking.work none k.asks.work_is)

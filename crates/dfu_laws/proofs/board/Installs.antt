@@ -4,7 +4,7 @@ use Rattle.std.proofs.Common.{inl, inr, refl, ap, ◌∙◌, subst}
 use Rattle.std.proofs.lemmas.Bool.{false≢true}
 use Rattle.dfu_wire.specs.declared.setups.Setup.{Setup}
 use Rattle.dfu_wire.specs.declared.requests.Request.{Request as Asked}
-use Rattle.dfu_slots.specs.Seen.{image_of}
+use Rattle.dfu_slots.specs.StoreView.{image_of}
 use Rattle.dfu_device.specs.Pace.{image_ms}
 use Rattle.dfu_device.specs.declared.answer.Answer.{Answer}
 use Rattle.dfu_device.specs.declared.objection.Objection.{Objection}
@@ -13,9 +13,9 @@ use Rattle.dfu_device.specs.Stage.{Request, GetStatus, GetState, Ack, Profile, S
 use Rattle.dfu_device.specs.Table.{Plan, Sure, Writes, Commits, plan, time_plan, reset_stage, refuse_stage}
 use Rattle.dfu_device.specs.DeviceView.{DeviceView, profile, situation}
 use Rattle.dfu_device.specs.Rows.{meant, asked_length, Done, is_served, setup_plan, handled_as, Cause, Transfer, Passing, BusReset, RefusingClose, Refusing, PowerOn, Row}
-use Rattle.dfu_device.specs.Taken.{taken_in, taken_of}
+use Rattle.dfu_device.specs.AcceptedBytes.{accepted_in, accepted_of}
 use Rattle.dfu_device.specs.Cases.{either_way}
-use Rattle.dfu_laws.specs.board.Keeps.{is_manifesting, has_manifested}
+use Rattle.dfu_laws.specs.board.ImageSurvival.{is_manifesting, has_manifested}
 use Rattle.dfu_laws.specs.board.Accepts.{IsPending}
 
 -- An image may wait in this stage, or be in place.
@@ -41,9 +41,9 @@ over_waits st t over m = m
 
 -- If a plan leads there, the image is what was taken.
 abbrev Installs : List ℕ → Stage → Plan → Type 0
-Installs image st (Sure reply next) = IsOver next → image ≡ taken_in image st
+Installs image st (Sure reply next) = IsOver next → image ≡ accepted_in image st
 Installs image st (Writes before block reply next bad) = IsOver next → ⊥
-Installs image st (Commits taken reply next bad) = taken ≡ taken_in image st
+Installs image st (Commits taken reply next bad) = taken ≡ accepted_in image st
 
 row_installs : (c : Profile) (image : List ℕ) (st : Stage) (r : Request) → Manifests st → Installs image st (plan c image st r)
 row_installs c image (InManifestSync taken) GetStatus on =
@@ -68,7 +68,7 @@ time_installs c image InManifestSyncComplete ms on = λ over. absurd (false≢tr
 time_installs c image st ms on = absurd (false≢true on)
 
 done_installs : (p : Plan) (len : ℕ) (w : DeviceView) (a : Answer) (out : List ℕ) (w' : DeviceView) → Installs (image_of w.slots) w.stage p
-    → Done p len w a out w' → IsOver w'.stage → image_of w'.slots ≡ taken_of (situation w)
+    → Done p len w a out w' → IsOver w'.stage → image_of w'.slots ≡ accepted_of (situation w)
 done_installs (Sure reply stage) len w a out w' installs (says, is) over =
     ap (λ (x : DeviceView). image_of x.slots) is ∙ installs (subst (λ (x : DeviceView). IsOver x.stage) is over)
 done_installs (Writes before block reply stage bad) len w a out w' installs (inl (says, h)) over =
@@ -96,7 +96,7 @@ no_refusal_over why st on over = false≢true on
 
 -- A row that leads out of manifestation without a fault has put in place what was taken.
 pub row_puts : (w : DeviceView) (cause : Cause) (a : Answer) (out : List ℕ) (w' : DeviceView) → Row w cause a out w' → Manifests w.stage
-    → IsOver w'.stage → image_of w'.slots ≡ taken_of (situation w)
+    → IsOver w'.stage → image_of w'.slots ≡ accepted_of (situation w)
 row_puts w (Transfer setup body) a out w' (handled_as p q reads asks done) on over =
     done_installs (setup_plan w p q body) (asked_length q) w a out w' (setup_installs w p q body on) done over
 row_puts w (Passing ms) a out w' (is, none, row) on over =

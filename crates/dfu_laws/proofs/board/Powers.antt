@@ -5,18 +5,18 @@ use Rattle.std.proofs.lemmas.Bool.{false≢true}
 use Rattle.dfu_wire.specs.declared.setups.Setup.{Setup}
 use Rattle.dfu_wire.specs.declared.requests.Request.TheVariants as request
 use Rattle.dfu_wire.specs.Setup.{IsSetup}
-use Rattle.dfu_wire.specs.Request.{Asks as AsksFor}
+use Rattle.dfu_wire.specs.Request.{SetupRequest as AsksFor}
 use Rattle.dfu_slots.specs.declared.fault.WriteFault.TheVariants.{Failed}
-use Rattle.dfu_slots.specs.Seen.{SlotsState, store_on, image_of}
+use Rattle.dfu_slots.specs.StoreView.{SlotsState, store_on, image_of}
 use Rattle.dfu_device.specs.declared.answer.Answer.TheVariants as answer
 use Rattle.dfu_device.specs.Stage.{InAppIdle, InAppDetach, state_of}
 use Rattle.dfu_device.specs.DeviceView.{DeviceView, profile, situation}
 use Rattle.dfu_device.specs.Rows.{Cause, Transfer, BusReset, PowerOn, handled_as}
 use Rattle.dfu_device.specs.History.{IsHistory, HistoryStep as TableRow}
-use Rattle.dfu_device.specs.Taken.{taken_in, taken_of, held_in}
+use Rattle.dfu_device.specs.AcceptedBytes.{accepted_in, accepted_of, held_in}
 use Rattle.dfu_asks.specs.Lent.{IsSetUpAs}
 use Rattle.dfu_asks.specs.Mapped.{grain_of, mapped}
-use Rattle.dfu_laws.specs.board.Board.{Board, medium_on, device_on, Restart, Says}
+use Rattle.dfu_laws.specs.board.Board.{Board, medium_on, device_on, Restart, BoardReply}
 use Rattle.dfu_laws.specs.board.Happens.{start_stage, IsPoweredOn, BoardStarts}
 use Rattle.dfu_laws.specs.board.Refines.{IsStart, IsAtWork, IsIdle}
 use Rattle.dfu_laws.proofs.board.Cut.{WriteLaws, cut_off}
@@ -118,11 +118,11 @@ pub on_idle : (b : Board) → IsPoweredOn b → IsIdle b (device_on b)
 on_idle b on = record { work = on.work; is = on.is; device = refl }
 
 -- Nothing is taken in it.
-pub start_takes : (begins : Bool) (image : List ℕ) → taken_in image (start_stage begins) ≡ []
+pub start_takes : (begins : Bool) (image : List ℕ) → accepted_in image (start_stage begins) ≡ []
 start_takes true image = refl
 start_takes false image = refl
 
-start_drops : (begins : Bool) (image t : List ℕ) → taken_in image (start_stage begins) ≡ held_in (state_of (start_stage begins)) t
+start_drops : (begins : Bool) (image t : List ℕ) → accepted_in image (start_stage begins) ≡ held_in (state_of (start_stage begins)) t
 start_drops true image t = refl
 start_drops false image t = refl
 
@@ -143,7 +143,7 @@ image_left : (w w' : DeviceView) (begins : Bool) → w' ≡ started w begins →
 image_left w w' begins e = ap (λ (x : DeviceView). image_of x.slots) e ∙ same_image w.slots
 
 -- Of a board with nothing due.
-pub restarts : (b b' : Board) (d : DeviceView) (begins : Bool) (says : Says) → IsIdle b d → IsSetUpAs b.asking b'.asking
+pub restarts : (b b' : Board) (d : DeviceView) (begins : Bool) (says : BoardReply) → IsIdle b d → IsSetUpAs b.asking b'.asking
     → b'.flash ≡ b.flash → BoardStarts begins b' → Turned b' None d (Restart begins) says
 restarts b b' d begins says k same flash on =
     let there = start_there b b' d (ap (λ (x : DeviceView). x.config) (sym k.device))
@@ -157,15 +157,15 @@ restarts b b' d begins says k same flash on =
       history = r.history;
       tells = (r.start, refl);
       stands = on_idle b' on.0;
-      taken = subst (λ (x : DeviceView). taken_of (situation x) ≡ held_in (state_of x.stage) (taken_of (situation d) ++ [])) (sym there)
-          (start_drops begins (image_of (powered d).slots) (taken_of (situation d) ++ []));
+      taken = subst (λ (x : DeviceView). accepted_of (situation x) ≡ held_in (state_of x.stage) (accepted_of (situation d) ++ [])) (sym there)
+          (start_drops begins (image_of (powered d).slots) (accepted_of (situation d) ++ []));
       waits = λ t m. absurd (none_waits b' t on.0 m);
       image = inl (image_left d (device_on b') begins there);
       puts = λ other manifests over. absurd (start_over begins other (subst (λ (x : DeviceView). IsOver x.stage) there over));
     }
 
 -- Of one at work.
-pub cuts : (laws : WriteLaws) (b b' : Board) (cause : Cause) (d : DeviceView) (begins : Bool) (says : Says) → IsAtWork b cause d
+pub cuts : (laws : WriteLaws) (b b' : Board) (cause : Cause) (d : DeviceView) (begins : Bool) (says : BoardReply) → IsAtWork b cause d
     → IsSetUpAs b.asking b'.asking → b'.flash ≡ b.flash → BoardStarts begins b' → Turned b' (Some cause) d (Restart begins) says
 cuts laws b b' cause d begins says k same flash on =
     let c = cut_off laws b cause d k in
@@ -180,8 +180,8 @@ cuts laws b b' cause d begins says k same flash on =
       history = (refl, k.row.fails Failed c.answer c.out c.after c.row, r.history);
       tells = (record { row = first; rest = r.rows; rows_are = refl; cause_is = refl; start = r.start }, refl);
       stands = on_idle b' on.0;
-      taken = subst (λ (x : DeviceView). taken_of (situation x) ≡ held_in (state_of x.stage) (taken_of (situation d) ++ [])) (sym there)
-          (start_drops begins (image_of (powered c.after).slots) (taken_of (situation d) ++ []));
+      taken = subst (λ (x : DeviceView). accepted_of (situation x) ≡ held_in (state_of x.stage) (accepted_of (situation d) ++ [])) (sym there)
+          (start_drops begins (image_of (powered c.after).slots) (accepted_of (situation d) ++ []));
       waits = λ t m. absurd (none_waits b' t on.0 m);
       image =
           let left = image_left c.after (device_on b') begins there in

@@ -2,7 +2,7 @@
 use Rattle.std.specs.Prelude.{◌≡◌, ◌⊎◌, ℕ, List, [], ◌∷◌, ◌++◌, Option, Some, None}
 use Rattle.std.proofs.Common.{inl, inr, refl, sym, ap, ◌∙◌, subst}
 use Rattle.std.proofs.lemmas.List.{append_assoc, append-nil}
-use Rattle.dfu_slots.specs.Seen.{image_of}
+use Rattle.dfu_slots.specs.StoreView.{image_of}
 use Rattle.dfu_device.specs.Stage.{state_of}
 use Rattle.dfu_device.specs.DeviceView.{DeviceView, situation}
 use Rattle.dfu_device.specs.Parts.{stage_of}
@@ -10,12 +10,12 @@ use Rattle.dfu_device.specs.declared.device_state.DeviceState.{DeviceState}
 use Rattle.dfu_device.specs.declared.device_state.DeviceState.TheVariants as device_state
 use Rattle.dfu_device.specs.Rows.{Cause}
 use Rattle.dfu_device.specs.History.{IsHistory, HistoryStep as TableRow}
-use Rattle.dfu_device.specs.Taken.{taken_of, held_in}
-use Rattle.dfu_device.specs.TakenHistory.{RowTakes}
+use Rattle.dfu_device.specs.AcceptedBytes.{accepted_of, held_in}
+use Rattle.dfu_device.specs.AcceptedHistory.{RowAcceptsBody}
 use Rattle.dfu_laws.specs.board.Board.{Board, state_on, BoardStep}
 use Rattle.dfu_laws.specs.board.Happens.{IsRun}
-use Rattle.dfu_laws.specs.board.Keeps.{acknowledged_body, taken_by, IsClosed}
-use Rattle.dfu_laws.specs.board.Refines.{TellsAll, StandsFor}
+use Rattle.dfu_laws.specs.board.ImageSurvival.{acknowledged_body, accepted_by, IsClosed}
+use Rattle.dfu_laws.specs.board.Refines.{StepRows, RepresentsDevice}
 use Rattle.dfu_laws.proofs.board.Cut.{WriteLaws}
 use Rattle.dfu_laws.specs.board.Accepts.{IsPending}
 use Rattle.dfu_laws.proofs.board.Turns.{Turned}
@@ -31,7 +31,7 @@ mode_state m xs ys xs' ys' = by_mode m
     by_mode m = refl
 
 -- A board is in the state of the device that it stands for.
-pub state_stands : (b : Board) (due : Option Cause) (d : DeviceView) → StandsFor b due d → state_on b ≡ state_of d.stage
+pub state_stands : (b : Board) (due : Option Cause) (d : DeviceView) → RepresentsDevice b due d → state_on b ≡ state_of d.stage
 state_stands b None d k = mode_state b.asking.mode [] [] _ _ ∙ ap (λ (x : DeviceView). state_of x.stage) k.device
 state_stands b (Some cause) d k = mode_state b.asking.mode [] [] _ _ ∙ ap (λ (x : DeviceView). state_of x.stage) k.device
 
@@ -40,11 +40,11 @@ state_stands b (Some cause) d k = mode_state b.asking.mode [] [] _ _ ∙ ap (λ 
 -- Behind these old steps, the bytes that a device has taken are those of the steps, those that wait were closed by one, and so were those
 -- of the image, or it is this one.
 pub record KeptAt (image : List ℕ) (old steps : List BoardStep) (d : DeviceView) : Type 0 where
-  pub taken : taken_by [] (old ++ steps) ≡ taken_of (situation d)
+  pub taken : accepted_by [] (old ++ steps) ≡ accepted_of (situation d)
   pub waits : (t : List ℕ) → IsPending d.stage t → IsClosed old steps t
   pub whence : (image_of d.slots ≡ image) ⊎ IsClosed old steps (image_of d.slots)
 
-taken_append : (t : List ℕ) (xs ys : List BoardStep) → taken_by t (xs ++ ys) ≡ taken_by (taken_by t xs) ys
+taken_append : (t : List ℕ) (xs ys : List BoardStep) → accepted_by t (xs ++ ys) ≡ accepted_by (accepted_by t xs) ys
 taken_append t [] ys = refl
 taken_append t (x ∷ xs) ys = taken_append (held_in (state_on x.after) (t ++ acknowledged_body x.event x.says)) xs ys
 
@@ -64,7 +64,7 @@ pub kept_step : (image : List ℕ) (old steps : List BoardStep) (s : BoardStep) 
     → (x : Turned s.after due d s.event s.says) → KeptAt image old (steps ++ s ∷ []) x.device
 kept_step image old steps s due d k x =
     record {
-      taken = ap (λ (l : List BoardStep). taken_by [] l) (sym (append_assoc old steps (s ∷ [])))
+      taken = ap (λ (l : List BoardStep). accepted_by [] l) (sym (append_assoc old steps (s ∷ [])))
           ∙ taken_append [] (old ++ steps) (s ∷ [])
           ∙ (λ i. held_in (state_stands s.after x.due' x.device x.stands i) (k.taken i ++ acknowledged_body s.event s.says))
           ∙ sym x.taken;
@@ -105,8 +105,8 @@ pub record RanOn (Kept : List BoardStep → DeviceView → Type 0) (steps rest :
   pub due' : Option Cause
   pub device : DeviceView
   pub history : IsHistory d rows device
-  pub tells : TellsAll due rest rows due'
-  pub stands : StandsFor b' due' device
+  pub tells : StepRows due rest rows due'
+  pub stands : RepresentsDevice b' due' device
   pub kept : Kept (steps ++ rest) device
 
 -- Each step keeps this.
@@ -114,9 +114,9 @@ abbrev pub KeptOn : (List BoardStep → DeviceView → Type 0) → Type 0
 KeptOn Kept = (steps : List BoardStep) (s : BoardStep) (due : Option Cause) (d : DeviceView) → Kept steps d
     → (x : Turned s.after due d s.event s.says) → Kept (steps ++ s ∷ []) x.device
 
-module _ (laws : WriteLaws) (takes : RowTakes) (Kept : List BoardStep → DeviceView → Type 0) (keeps : KeptOn Kept) where
+module _ (laws : WriteLaws) (takes : RowAcceptsBody) (Kept : List BoardStep → DeviceView → Type 0) (keeps : KeptOn Kept) where
   -- A run makes rows of the device that the board stands for, and what each step keeps is kept.
-  pub run_on : (steps rest : List BoardStep) (b b' : Board) (due : Option Cause) (d : DeviceView) → StandsFor b due d
+  pub run_on : (steps rest : List BoardStep) (b b' : Board) (due : Option Cause) (d : DeviceView) → RepresentsDevice b due d
       → Kept steps d → IsRun b rest b' → RanOn Kept steps rest b' due d
   run_on steps [] b b' due d k kept run = record {
     rows = [];
@@ -124,7 +124,7 @@ module _ (laws : WriteLaws) (takes : RowTakes) (Kept : List BoardStep → Device
     device = d;
     history = refl;
     tells = (refl, refl);
-    stands = subst (λ (x : Board). StandsFor x due d) (sym run) k;
+    stands = subst (λ (x : Board). RepresentsDevice x due d) (sym run) k;
     kept = subst (λ (l : List BoardStep). Kept l d) (sym (append-nil steps)) kept;
   }
   run_on steps (s ∷ rest) b b' due d k kept run =

@@ -2,7 +2,7 @@
 use Rattle.std.specs.Prelude.{◌≡◌, ℕ, Bool, false, List, [], length, take, Result, Ok, Err, Option, Some, None, IfOk, IfSome, IfNone, IsSome, OnOk, OnErr}
 use Rattle.std.proofs.Common.{refl, sym, ap, ◌∙◌}
 use Rattle.dfu_slots.specs.Medium.{Torn}
-use Rattle.dfu_slots.specs.Seen.{SlotsState}
+use Rattle.dfu_slots.specs.StoreView.{SlotsState}
 use Rattle.dfu_device.specs.declared.answer.Answer.{Answer}
 use Rattle.dfu_device.specs.Setting.{Setting}
 use Rattle.dfu_device.specs.DeviceView.{powered_on}
@@ -18,13 +18,13 @@ use Rattle.dfu_asks.specs.Mapped.{grain_of, mapped}
 use Rattle.dfu_asks.specs.Steps.{Step}
 use Rattle.dfu_asks.specs.Carried.{IsPiece}
 use Rattle.dfu_asks.specs.Asks.{device_in, device_of, IsDevice, steps_in}
-use Rattle.dfu_asks.specs.Calls.{AsksWrites, DeviceCalled, called_ended, called_asks, DeviceTook}
-use Rattle.dfu_asks.specs.Refused.{IsKeptOn, Fits, IsLeft, IsServed, IsTaken}
+use Rattle.dfu_asks.specs.Calls.{WritesPending, DeviceCalled, called_ended, called_asks, DevicePieceReported}
+use Rattle.dfu_asks.specs.Refused.{IsDeviceOn, RoomForBlocks, HasRemainingWrites, IsServed, ReportAccepted}
 use Rattle.dfu_asks.specs.Lent.{lent}
 use Rattle.dfu_asks.proofs.Unseen.{of_mapped}
-use Rattle.dfu_laws.specs.board.Board.{Board, lent_on, Says, Answers}
-use Rattle.dfu_laws.specs.board.Happens.{IsServedBy, IsTold, BoardStarts, IsRefusedOr, reply_said}
-use Rattle.dfu_laws.specs.board.Steps.{board, result_said}
+use Rattle.dfu_laws.specs.board.Board.{Board, lent_on, BoardReply, Answers}
+use Rattle.dfu_laws.specs.board.Happens.{IsServedBy, TookResult, BoardStarts, IsRefusedOr, reply_of_call}
+use Rattle.dfu_laws.specs.board.Steps.{board, reply_of_result}
 
 -- A consequence in one case of a refusal follows in each.
 pub on_err : {T E P Q : Type 0} (r : Result T E) → (P → Q) → OnErr r P → OnErr r Q
@@ -32,37 +32,37 @@ on_err (Ok x) follows p = tt
 on_err (Err e) follows p = follows p
 
 -- A reply always says something, so what holds of a board after a call that is not refused holds after a reply.
-by_reply : (b b' : Board) (out : List ℕ) (P : Type 0) (r : Reply) → P → IsRefusedOr (reply_said r out) b b' P
+by_reply : (b b' : Board) (out : List ℕ) (P : Type 0) (r : Reply) → P → IsRefusedOr (reply_of_call r out) b b' P
 by_reply b b' out P reply.Asks is = is
 by_reply b b' out P (reply.Answered x count) is = is
 
 -- A board serves a call by this outcome, which says what the board says.
-by_outcome : (b b' : Board) (cause : Cause) (said : Says) (r : Reply) → b.asking.work ≡ None → Fits b.asking (length b.block)
+by_outcome : (b b' : Board) (cause : Cause) (said : BoardReply) (r : Reply) → b.asking.work ≡ None → RoomForBlocks b.asking (length b.block)
     → b'.flash ≡ b.flash
-    → (IsKeptOn b.asking b.block b.held b.flash → (out out' : List ℕ)
+    → (IsDeviceOn b.asking b.block b.held b.flash → (out out' : List ℕ)
     × DeviceCalled (lent_on b) b.flash out (λ d x sent d'. Row d cause x sent d') (lent_on b') out' r
-    × (said ≡ reply_said r out'))
+    × (said ≡ reply_of_call r out'))
     → IsServedBy b cause said b'
 by_outcome b b' cause said r idle fits flash outcome =
     record { idle = idle; fits = fits; flash = flash; reply = r; outcome = outcome }
 
 -- A reply to a setup is what a board does that serves it.
-pub served_step : (b b' : Board) (cause : Cause) (out out' : List ℕ) (r : Reply) → b.asking.work ≡ None → Fits b.asking (length b.block)
+pub served_step : (b b' : Board) (cause : Cause) (out out' : List ℕ) (r : Reply) → b.asking.work ≡ None → RoomForBlocks b.asking (length b.block)
     → b'.flash ≡ b.flash
-    → (IsKeptOn b.asking b.block b.held b.flash
+    → (IsDeviceOn b.asking b.block b.held b.flash
     → DeviceCalled (lent_on b) b.flash out (λ d x sent d'. Row d cause x sent d') (lent_on b') out' r)
-    → IsRefusedOr (reply_said r out') b b' (IsServedBy b cause (reply_said r out') b')
+    → IsRefusedOr (reply_of_call r out') b b' (IsServedBy b cause (reply_of_call r out') b')
 served_step b b' cause out out' r idle fits flash outcome =
-    by_reply b b' out' (IsServedBy b cause (reply_said r out') b') r
-    (by_outcome b b' cause (reply_said r out') r idle fits flash (λ kept. (out, out', outcome kept, refl)))
+    by_reply b b' out' (IsServedBy b cause (reply_of_call r out') b') r
+    (by_outcome b b' cause (reply_of_call r out') r idle fits flash (λ kept. (out, out', outcome kept, refl)))
 
 -- `handle`.
 pub call_step : (b b' : Board) (cause : Cause) (need room : ℕ) (out out' : List ℕ) (r : Result Reply Refusal) → b'.flash ≡ b.flash
     → OnOk r (IsServed b.asking b.block b.flash need room)
-    → IfOk r (λ y. IsKeptOn b.asking b.block b.held b.flash
+    → IfOk r (λ y. IsDeviceOn b.asking b.block b.held b.flash
     → DeviceCalled (lent_on b) b.flash out (λ d x sent d'. Row d cause x sent d') (lent_on b') out' y)
     → OnErr r (b' ≡ b)
-    → IsRefusedOr (result_said r out') b b' (IsServedBy b cause (result_said r out') b')
+    → IsRefusedOr (reply_of_result r out') b b' (IsServedBy b cause (reply_of_result r out') b')
 call_step b b' cause need room out out' (Ok r) flash served outcome same =
     served_step b b' cause out out' r served.work served.fits flash outcome
 call_step b b' cause need room out out' (Err e) flash served outcome same = same
@@ -76,18 +76,18 @@ module _ (b b' : Board) (ms : ℕ) (zeros : List ℕ) where
   of_none out x count _ is (called_asks len asks device due out_is) = absurd (cc)
 
   -- A reply to time that passed, which has no bytes, is what a board does as time passes.
-  pub passed_step : (r : Reply) → b.asking.work ≡ None → Fits b.asking (length b.block) → b'.flash ≡ b.flash
-      → (IsKeptOn b.asking b.block b.held b.flash → (out : List ℕ)
+  pub passed_step : (r : Reply) → b.asking.work ≡ None → RoomForBlocks b.asking (length b.block) → b'.flash ≡ b.flash
+      → (IsDeviceOn b.asking b.block b.held b.flash → (out : List ℕ)
       × DeviceCalled (lent_on b) b.flash zeros (λ d x sent d'. Row d (Passing ms) x sent d') (lent_on b') out r)
-      → IsRefusedOr (reply_said r []) b b' (IsServedBy b (Passing ms) (reply_said r []) b')
+      → IsRefusedOr (reply_of_call r []) b b' (IsServedBy b (Passing ms) (reply_of_call r []) b')
   passed_step r idle fits flash outcome =
-      by_reply b b' [] (IsServedBy b (Passing ms) (reply_said r []) b') r
-      (by_outcome b b' (Passing ms) (reply_said r []) r idle fits flash
+      by_reply b b' [] (IsServedBy b (Passing ms) (reply_of_call r []) b') r
+      (by_outcome b b' (Passing ms) (reply_of_call r []) r idle fits flash
       (λ kept. let o = outcome kept in (zeros, o.0, o.1, no_bytes r o.0 o.1)))
     where
       no_bytes : (r : Reply) (out : List ℕ)
           → DeviceCalled (lent_on b) b.flash zeros (λ d y sent d'. Row d (Passing ms) y sent d') (lent_on b') out r
-          → reply_said r [] ≡ reply_said r out
+          → reply_of_call r [] ≡ reply_of_call r out
       no_bytes reply.Asks out called = refl
       no_bytes (reply.Answered x count) out called =
           let none : count ≡ 0 = of_none out x count (reply.Answered x count) refl called in
@@ -95,21 +95,21 @@ module _ (b b' : Board) (ms : ℕ) (zeros : List ℕ) where
 
   -- `elapse`.
   pub elapse_step : (r : Result Reply Refusal) → b'.flash ≡ b.flash → OnOk r (IsServed b.asking b.block b.flash 0 0)
-      → IfOk r (λ y. IsKeptOn b.asking b.block b.held b.flash
+      → IfOk r (λ y. IsDeviceOn b.asking b.block b.held b.flash
       → (out : List ℕ) × DeviceCalled (lent_on b) b.flash zeros (λ d x sent d'. Row d (Passing ms) x sent d') (lent_on b') out y)
       → OnErr r (b' ≡ b)
-      → IsRefusedOr (result_said r []) b b' (IsServedBy b (Passing ms) (result_said r []) b')
+      → IsRefusedOr (reply_of_result r []) b b' (IsServedBy b (Passing ms) (reply_of_result r []) b')
   elapse_step (Ok r) flash served outcome same = passed_step r served.work served.fits flash outcome
   elapse_step (Err e) flash served outcome same = same
 
 -- A reply to how a piece went is what a board does after that report.
-pub told_step : (b b' : Board) (failed : Bool) (out out' : List ℕ) (r : Reply) (w : PendingWrites) → IsLeft (lent_on b) w
+pub told_step : (b b' : Board) (failed : Bool) (out out' : List ℕ) (r : Reply) (w : PendingWrites) → HasRemainingWrites (lent_on b) w
     → b'.flash ≡ b.flash
-    → ((len : ℕ) (s : SlotsState) (was before : List ℕ) (asks : AsksWrites (lent_on b) len s was before) (p : Step)
+    → ((len : ℕ) (s : SlotsState) (was before : List ℕ) (asks : WritesPending (lent_on b) len s was before) (p : Step)
     → IsPiece (steps_in (lent_on b) asks.work) asks.work.done p → Torn before p.write.at p.write.bytes b.flash
-    → DeviceTook (device_of (lent_on b) s) len s was p.write failed b.flash out (lent_on b') out' r)
-    → IsRefusedOr (reply_said r out') b b' (IsTold b failed (reply_said r out') b')
-told_step b b' failed out out' r w left flash outcome = by_reply b b' out' (IsTold b failed (reply_said r out') b') r (record {
+    → DevicePieceReported (device_of (lent_on b) s) len s was p.write failed b.flash out (lent_on b') out' r)
+    → IsRefusedOr (reply_of_call r out') b b' (TookResult b failed (reply_of_call r out') b')
+told_step b b' failed out out' r w left flash outcome = by_reply b b' out' (TookResult b failed (reply_of_call r out') b') r (record {
   work = w;
   left = left;
   flash = flash;
@@ -122,12 +122,12 @@ told_step b b' failed out out' r w left flash outcome = by_reply b b' out' (IsTo
 
 -- `took`.
 pub took_step : (b b' : Board) (failed : Bool) (room : ℕ) (out out' : List ℕ) (r : Result Reply Refusal) → b'.flash ≡ b.flash
-    → OnOk r (IsTaken (lent_on b) room)
-    → IfOk r (λ y. (len : ℕ) (s : SlotsState) (was before : List ℕ) (asks : AsksWrites (lent_on b) len s was before) (p : Step)
+    → OnOk r (ReportAccepted (lent_on b) room)
+    → IfOk r (λ y. (len : ℕ) (s : SlotsState) (was before : List ℕ) (asks : WritesPending (lent_on b) len s was before) (p : Step)
     → IsPiece (steps_in (lent_on b) asks.work) asks.work.done p → Torn before p.write.at p.write.bytes b.flash
-    → DeviceTook (device_of (lent_on b) s) len s was p.write failed b.flash out (lent_on b') out' y)
+    → DevicePieceReported (device_of (lent_on b) s) len s was p.write failed b.flash out (lent_on b') out' y)
     → OnErr r (b' ≡ b)
-    → IsRefusedOr (result_said r out') b b' (IsTold b failed (result_said r out') b')
+    → IsRefusedOr (reply_of_result r out') b b' (TookResult b failed (reply_of_result r out') b')
 took_step b b' failed room out out' (Ok r) flash taken outcome same =
     told_step b b' failed out out' r taken.work taken.is_left flash outcome
 took_step b b' failed room out out' (Err e) flash taken outcome same = same

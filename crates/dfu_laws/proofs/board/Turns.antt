@@ -2,21 +2,21 @@
 use Rattle.std.specs.Prelude.{◌≡◌, ◌≢◌, ◌⊎◌, ℕ, true, List, [], ◌∷◌, ◌++◌, length, take, drop, Option, Some, None}
 use Rattle.std.proofs.Common.{inl, refl, sym, ap, ◌∙◌, subst}
 use Rattle.std.proofs.lemmas.List.{append-nil, take_at}
-use Rattle.dfu_slots.specs.Seen.{image_of}
+use Rattle.dfu_slots.specs.StoreView.{image_of}
 use Rattle.dfu_device.specs.declared.answer.Answer.{Answer}
 use Rattle.dfu_device.specs.declared.answer.Answer.TheVariants as answer
 use Rattle.dfu_device.specs.Stage.{Stage, InDownloadSync, InDownloadSyncWritten, InDownloadBusy, InDownloadIdle, InManifestSync, InManifestSyncComplete, InManifest, state_of}
 use Rattle.dfu_device.specs.DeviceView.{DeviceView, situation}
 use Rattle.dfu_device.specs.Rows.{Cause}
 use Rattle.dfu_device.specs.History.{IsHistory, HistoryStep as TableRow}
-use Rattle.dfu_device.specs.Taken.{taken_in, taken_of, held_in, is_dnload}
+use Rattle.dfu_device.specs.AcceptedBytes.{accepted_in, accepted_of, held_in, is_dnload}
 use Rattle.dfu_asks.specs.declared.pending_writes.PendingWrites.{PendingWrites}
-use Rattle.dfu_asks.specs.Lent.{LentAsking}
+use Rattle.dfu_asks.specs.Lent.{LentDevice}
 use Rattle.dfu_asks.specs.Asks.{IsDevice}
-use Rattle.dfu_asks.specs.Calls.{HasEnded}
-use Rattle.dfu_laws.specs.board.Board.{Board, lent_on, device_on, Event, Handle, Restart, Says, Answers}
-use Rattle.dfu_laws.specs.board.Keeps.{acknowledged_body}
-use Rattle.dfu_laws.specs.board.Refines.{TellsCall, TellsRows, IsIdle, StandsFor}
+use Rattle.dfu_asks.specs.Calls.{CallCompleted}
+use Rattle.dfu_laws.specs.board.Board.{Board, lent_on, device_on, Event, Handle, Restart, BoardReply, Answers}
+use Rattle.dfu_laws.specs.board.ImageSurvival.{acknowledged_body}
+use Rattle.dfu_laws.specs.board.Refines.{CallRows, EventRows, IsIdle, RepresentsDevice}
 use Rattle.dfu_laws.specs.board.Accepts.{IsPending}
 use Rattle.dfu_laws.proofs.board.Installs.{Manifests, IsOver, never_both}
 
@@ -34,7 +34,7 @@ pub one_work : (x y : PendingWrites) (z : Option PendingWrites) → z ≡ Some x
 one_work x y z a b = cc
 
 -- The bytes taken stay in a stage in which a download is under way, and in the others nothing is taken.
-pub stage_holds : (image : List ℕ) (st : Stage) → held_in (state_of st) (taken_in image st) ≡ taken_in image st
+pub stage_holds : (image : List ℕ) (st : Stage) → held_in (state_of st) (accepted_in image st) ≡ accepted_in image st
 stage_holds image (InDownloadSync before block number) = refl
 stage_holds image (InDownloadSyncWritten taken number) = refl
 stage_holds image (InDownloadBusy before block number passed) = refl
@@ -45,7 +45,7 @@ stage_holds image (InManifest taken passed) = refl
 stage_holds image st = refl
 
 -- An event is a DNLOAD of no bytes that was acknowledged.
-abbrev pub IsClosingCall : Event → Says → Type 0
+abbrev pub IsClosingCall : Event → BoardReply → Type 0
 IsClosingCall e says =
     (setup : List ℕ) × (e ≡ Handle setup []) × (is_dnload setup ≡ true) × (says ≡ Answers answer.Ack [])
 
@@ -58,20 +58,20 @@ pub record TurnedBy (b' : Board) (d : DeviceView) (Tells : List TableRow → Opt
   pub device : DeviceView
   pub history : IsHistory d rows device
   pub tells : Tells rows due'
-  pub stands : StandsFor b' due' device
-  pub taken : taken_of (situation device) ≡ held_in (state_of device.stage) (taken_of (situation d) ++ body)
-  pub waits : (t : List ℕ) → IsPending device.stage t → IsPending d.stage t ⊎ (Closes × (t ≡ taken_of (situation d)))
+  pub stands : RepresentsDevice b' due' device
+  pub taken : accepted_of (situation device) ≡ held_in (state_of device.stage) (accepted_of (situation d) ++ body)
+  pub waits : (t : List ℕ) → IsPending device.stage t → IsPending d.stage t ⊎ (Closes × (t ≡ accepted_of (situation d)))
   pub image : (image_of device.slots ≡ image_of d.slots) ⊎ IsPending d.stage (image_of device.slots)
-  pub puts : Puts → Manifests d.stage → IsOver device.stage → image_of device.slots ≡ taken_of (situation d)
+  pub puts : Puts → Manifests d.stage → IsOver device.stage → image_of device.slots ≡ accepted_of (situation d)
 
 -- A step of a board as such rows.
-abbrev pub Turned : Board → Option Cause → DeviceView → Event → Says → Type 0
+abbrev pub Turned : Board → Option Cause → DeviceView → Event → BoardReply → Type 0
 Turned b' due d e says =
-    TurnedBy b' d (λ rows due'. TellsRows due e says rows due') (acknowledged_body e says) (IsClosingCall e says) (e ≢ Restart true)
+    TurnedBy b' d (λ rows due'. EventRows due e says rows due') (acknowledged_body e says) (IsClosingCall e says) (e ≢ Restart true)
 
 -- A step with no row.
-pub stays : (b' : Board) (due due' : Option Cause) (d : DeviceView) (e : Event) (says : Says) → TellsRows due e says [] due' →
-    StandsFor b' due' d
+pub stays : (b' : Board) (due due' : Option Cause) (d : DeviceView) (e : Event) (says : BoardReply) → EventRows due e says [] due' →
+    RepresentsDevice b' due' d
     → acknowledged_body e says ≡ [] → Turned b' due d e says
 stays b' due due' d e says tells stands none = record {
   rows = [];
@@ -81,7 +81,7 @@ stays b' due due' d e says tells stands none = record {
   tells = tells;
   stands = stands;
   taken = sym (ap (λ (l : List ℕ). held_in (state_of d.stage) l)
-      (ap (λ (l : List ℕ). taken_of (situation d) ++ l) none ∙ append-nil (taken_of (situation d)))
+      (ap (λ (l : List ℕ). accepted_of (situation d) ++ l) none ∙ append-nil (accepted_of (situation d)))
       ∙ stage_holds (image_of d.slots) d.stage);
   waits = λ t m. inl m;
   image = inl refl;
@@ -92,7 +92,7 @@ stays b' due due' d e says tells stands none = record {
 
 -- The kept record is a device then, on the flash of the board.
 pub idle_there : (b' : Board) (flash : List ℕ) (x : Answer) (count : ℕ) (out out' : List ℕ) (R : Answer → List ℕ → Type 0)
-    → b'.flash ≡ flash → HasEnded flash x count out out' (lent_on b') R → IsIdle b' (device_on b')
+    → b'.flash ≡ flash → CallCompleted flash x count out out' (lent_on b') R → IsIdle b' (device_on b')
 idle_there b' flash x count out out' R same e = record {
   work = e.work;
   is = subst (λ (f : List ℕ). IsDevice (lent_on b') f) (sym same) e.is;
@@ -100,8 +100,8 @@ idle_there b' flash x count out out' R same e = record {
 }
 
 -- The answered bytes are the bytes of the row.
-pub said_there : (says : Says) (flash : List ℕ) (x : Answer) (count : ℕ) (out out' : List ℕ) (now : LentAsking)
-    (R : Answer → List ℕ → Type 0) (e : HasEnded flash x count out out' now R) → says ≡ Answers x (take count out')
+pub said_there : (says : BoardReply) (flash : List ℕ) (x : Answer) (count : ℕ) (out out' : List ℕ) (now : LentDevice)
+    (R : Answer → List ℕ → Type 0) (e : CallCompleted flash x count out out' now R) → says ≡ Answers x (take count out')
     → says ≡ Answers x e.gave.sent
 said_there says flash x count out out' now R e is =
     is ∙ ap (λ (l : List ℕ). Answers x l) (front_is e.gave.sent out out' count e.gave.count_is e.gave.out_is)
@@ -111,9 +111,9 @@ abbrev pub one_row : DeviceView → Cause → Answer → List ℕ → DeviceView
 one_row d cause x sent d' = record { before = d; cause = cause; answer = x; out = sent; after = d' } ∷ []
 
 -- An answer tells that row.
-pub tells_answer : (due : Option Cause) (d : DeviceView) (cause : Cause) (x : Answer) (sent : List ℕ) (d' : DeviceView) (says : Says)
-    → says ≡ Answers x sent → TellsCall cause due says (one_row d cause x sent d') None
-tells_answer due d cause x sent d' says is = subst (λ (y : Says). TellsCall cause due y (one_row d cause x sent d') None) (sym is) (
+pub tells_answer : (due : Option Cause) (d : DeviceView) (cause : Cause) (x : Answer) (sent : List ℕ) (d' : DeviceView) (says : BoardReply)
+    → says ≡ Answers x sent → CallRows cause due says (one_row d cause x sent d') None
+tells_answer due d cause x sent d' says is = subst (λ (y : BoardReply). CallRows cause due y (one_row d cause x sent d') None) (sym is) (
   record {
     row = record { before = d; cause = cause; answer = x; out = sent; after = d' };
     rows_are = refl;

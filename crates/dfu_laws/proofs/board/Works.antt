@@ -10,17 +10,17 @@ use Rattle.dfu_device.specs.declared.answer.Answer.{Answer}
 use Rattle.dfu_device.specs.Stage.{state_of}
 use Rattle.dfu_device.specs.DeviceView.{DeviceView, situation}
 use Rattle.dfu_device.specs.Rows.{Cause, Row}
-use Rattle.dfu_device.specs.Taken.{taken_of, held_in}
+use Rattle.dfu_device.specs.AcceptedBytes.{accepted_of, held_in}
 use Rattle.dfu_asks.specs.declared.reply.Reply.{Reply}
 use Rattle.dfu_asks.specs.declared.pending_writes.PendingWrites.{PendingWrites}
 use Rattle.dfu_asks.specs.Steps.{Step}
 use Rattle.dfu_asks.specs.Carried.{IsPiece}
 use Rattle.dfu_asks.specs.Due.{Works, Fails}
 use Rattle.dfu_asks.specs.Asks.{device_in, device_of, steps_in}
-use Rattle.dfu_asks.specs.Calls.{HasEnded, DueComes, comes_asks, comes_ended, took_well, took_failed, took_lied}
-use Rattle.dfu_laws.specs.board.Board.{Board, lent_on, device_on, Took, Says, Answers}
-use Rattle.dfu_laws.specs.board.Happens.{reply_said, FlashIsWritten, IsTold}
-use Rattle.dfu_laws.specs.board.Refines.{TellsCall, IsAtWork}
+use Rattle.dfu_asks.specs.Calls.{CallCompleted, DueOutcome, comes_asks, comes_ended, took_well, took_failed, took_lied}
+use Rattle.dfu_laws.specs.board.Board.{Board, lent_on, device_on, Took, BoardReply, Answers}
+use Rattle.dfu_laws.specs.board.Happens.{reply_of_call, FlashIsWritten, TookResult}
+use Rattle.dfu_laws.specs.board.Refines.{CallRows, IsAtWork}
 use Rattle.dfu_asks.proofs.Pieces.{piece_one}
 use Rattle.dfu_laws.proofs.board.Cut.{WriteLaws, next_of}
 use Rattle.dfu_laws.proofs.board.Due.{DueLeads, works_lead, fails_lead}
@@ -55,10 +55,10 @@ writes_on b b' cause d k h =
     subst (λ (x : Board). IsAtWork x cause d) path on
 
 -- `took`.
-module _ (laws : WriteLaws) (b b' : Board) (cause : Cause) (d : DeviceView) (failed : Bool) (says : Says) (k : IsAtWork b cause d)
-    (h : IsTold b failed says b') where
+module _ (laws : WriteLaws) (b b' : Board) (cause : Cause) (d : DeviceView) (failed : Bool) (says : BoardReply) (k : IsAtWork b cause d)
+    (h : TookResult b failed says b') where
   over : (x : Answer) (count : ℕ) (R : Answer → List ℕ → DeviceView → Type 0)
-      → HasEnded b.flash x count h.out h.out' (lent_on b') (λ y sent. R y sent (device_in (lent_on b') b.flash))
+      → CallCompleted b.flash x count h.out h.out' (lent_on b') (λ y sent. R y sent (device_in (lent_on b') b.flash))
       → ((sent : List ℕ) (w' : DeviceView) → R x sent w' → Row d cause x sent w' × DueLeads d w') → says ≡ Answers x (take count h.out')
       → Turned b' (Some cause) d (Took failed) says
   over x count R e follows is =
@@ -75,18 +75,18 @@ module _ (laws : WriteLaws) (b b' : Board) (cause : Cause) (d : DeviceView) (fai
             (said_there says b.flash x count h.out h.out' (lent_on b') Ended e is);
         stands = idle_there b' b.flash x count h.out h.out' Ended h.flash e;
         taken = got.1.taken
-            ∙ sym (ap (λ (l : List ℕ). held_in (state_of (device_on b').stage) l) (append-nil (taken_of (situation d))));
+            ∙ sym (ap (λ (l : List ℕ). held_in (state_of (device_on b').stage) l) (append-nil (accepted_of (situation d))));
         waits = λ t m. absurd (got.1.waits t m);
         image = got.1.image;
         puts = λ other on over. got.1.puts over;
       }
 
-  comes_to : (r : Reply) → DueComes (device_of (lent_on b) k.s) k.len k.s k.was b.flash h.out (lent_on b') h.out' r →
-      says ≡ reply_said r h.out'
+  comes_to : (r : Reply) → DueOutcome (device_of (lent_on b) k.s) k.len k.s k.was b.flash h.out (lent_on b') h.out' r →
+      says ≡ reply_of_call r h.out'
       → Turned b' (Some cause) d (Took failed) says
   comes_to _ (comes_asks asks same out_is) is =
       stays b' (Some cause) (Some cause) d (Took failed) says
-      (subst (λ (y : Says). TellsCall cause (Some cause) y [] (Some cause)) (sym is) (refl, refl))
+      (subst (λ (y : BoardReply). CallRows cause (Some cause) y [] (Some cause)) (sym is) (refl, refl))
       (record {
         len = k.len;
         s = k.s;
@@ -105,7 +105,7 @@ module _ (laws : WriteLaws) (b b' : Board) (cause : Cause) (d : DeviceView) (fai
       (k.row.works x sent w' works, works_lead d w' k.len x sent works)) is
 
   fell : (fault : WriteFault) (x : Answer) (count : ℕ)
-      → HasEnded b.flash x count h.out h.out' (lent_on b')
+      → CallCompleted b.flash x count h.out h.out' (lent_on b')
       (λ y sent. Fails fault k.len (device_of (lent_on b) k.s) y sent (device_in (lent_on b') b.flash))
       → says ≡ Answers x (take count h.out') → Turned b' (Some cause) d (Took failed) says
   fell fault x count e is =
@@ -120,6 +120,6 @@ module _ (laws : WriteLaws) (b b' : Board) (cause : Cause) (d : DeviceView) (fai
       let next = next_of laws b cause d k in
       elim (h.outcome k.len k.s k.was k.stood k.asks next.piece next.is next.torn) [
         | took_well fine there comes ↦ comes_to h.reply comes h.says_is
-        | took_failed x count fails reply_is e ↦ fell Failed x count e (h.says_is ∙ ap (λ (r : Reply). reply_said r h.out') reply_is)
-        | took_lied x count fine lies reply_is e ↦ fell NotVerified x count e (h.says_is ∙ ap (λ (r : Reply). reply_said r h.out') reply_is)
+        | took_failed x count fails reply_is e ↦ fell Failed x count e (h.says_is ∙ ap (λ (r : Reply). reply_of_call r h.out') reply_is)
+        | took_lied x count fine lies reply_is e ↦ fell NotVerified x count e (h.says_is ∙ ap (λ (r : Reply). reply_of_call r h.out') reply_is)
       ]

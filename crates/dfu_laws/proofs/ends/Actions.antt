@@ -7,14 +7,14 @@ use Rattle.dfu_host.specs.declared.report.Report.{Report}
 use Rattle.dfu_host.specs.Phases.{Deed, Send, Wait, Reset, Done}
 use Rattle.dfu_host.specs.Table.{deed}
 use Rattle.dfu_host.specs.Host.{HostState}
-use Rattle.dfu_host.specs.Wire.{IsAsked}
+use Rattle.dfu_host.specs.Wire.{IsSetupOf}
 use Rattle.dfu_sim.specs.LinkView.{Session, Nobody, Hosted}
 use Rattle.dfu_host_core.specs.declared.action.DfuAction.{DfuAction}
-use Rattle.dfu_host_core.specs.Actions.{TellsAction}
-use Rattle.dfu_host_core.specs.Runs.{CoreHost, IsCoreHost, HostsTell, TellsOfHost}
+use Rattle.dfu_host_core.specs.Actions.{ActionRecord}
+use Rattle.dfu_host_core.specs.Runs.{CoreHost, IsCoreHost, NextsOfHosts, NextOfHost}
 use Rattle.dfu_laws.specs.board.Board.{Event, Elapse, Handle}
 use Rattle.dfu_laws.specs.link.Trials.{MayEnd}
-use Rattle.dfu_laws.specs.link.Comes.{IsUnderWay}
+use Rattle.dfu_laws.specs.link.LinkSteps.{IsUnderWay}
 use Rattle.dfu_laws.specs.ends.Sessions.{CoreSession, NoSession, InSession, IsSessionOf, Wants, sent_body, MayBeUnderWay, MayEndIn}
 
 -- The live session in C is the one of this host.
@@ -43,9 +43,9 @@ may_end (InSession payload x) Nobody state begins is may = absurd is
 pub record SendsOf (payload : List ℕ) (d : Deed) (a : DfuAction) : Type 0 where
   pub request : Request
   pub deed_is : d ≡ Send request (sent_body payload a)
-  pub asked : IsAsked request a.setup
+  pub asked : IsSetupOf request a.setup
 
-sends_of : (payload : List ℕ) (from : ℕ) (d : Deed) (a : DfuAction) → TellsAction payload from d a → a.what ≡ 0 → SendsOf payload d a
+sends_of : (payload : List ℕ) (from : ℕ) (d : Deed) (a : DfuAction) → ActionRecord payload from d a → a.what ≡ 0 → SendsOf payload d a
 sends_of payload from (Send q body) a t e = record {
   request = q;
   deed_is = ap (λ (l : List ℕ). Send q l) (t.cut ∙ λ i. take (sym t.size i) (drop (sym t.place i) payload));
@@ -55,28 +55,28 @@ sends_of payload from (Wait ms) a t e = absurd (omega (arith, t.what_is, e))
 sends_of payload from Reset a t e = absurd (omega (arith, t.what_is, e))
 sends_of payload from (Done report) a t e = absurd (omega (arith, t.other.what_is, e))
 
-waits_of : (payload : List ℕ) (from : ℕ) (d : Deed) (a : DfuAction) → TellsAction payload from d a → a.what ≡ 1 → (ms : ℕ) × (d ≡ Wait ms)
+waits_of : (payload : List ℕ) (from : ℕ) (d : Deed) (a : DfuAction) → ActionRecord payload from d a → a.what ≡ 1 → (ms : ℕ) × (d ≡ Wait ms)
 waits_of payload from (Send q body) a t e = absurd (omega (arith, t.what, e))
 waits_of payload from (Wait ms) a t e = (ms, refl)
 waits_of payload from Reset a t e = absurd (omega (arith, t.what_is, e))
 waits_of payload from (Done report) a t e = absurd (omega (arith, t.other.what_is, e))
 
-resets_of : (payload : List ℕ) (from : ℕ) (d : Deed) (a : DfuAction) → TellsAction payload from d a → a.what ≡ 2 → d ≡ Reset
+resets_of : (payload : List ℕ) (from : ℕ) (d : Deed) (a : DfuAction) → ActionRecord payload from d a → a.what ≡ 2 → d ≡ Reset
 resets_of payload from (Send q body) a t e = absurd (omega (arith, t.what, e))
 resets_of payload from (Wait ms) a t e = absurd (omega (arith, t.what_is, e))
 resets_of payload from Reset a t e = refl
 resets_of payload from (Done report) a t e = absurd (omega (arith, t.other.what_is, e))
 
-done_of : (payload : List ℕ) (from : ℕ) (d : Deed) (a : DfuAction) (report : Report) → TellsAction payload from d a → d ≡ Done report
+done_of : (payload : List ℕ) (from : ℕ) (d : Deed) (a : DfuAction) (report : Report) → ActionRecord payload from d a → d ≡ Done report
     → a.what ≡ 3
 done_of payload from (Done other) a report t e = t.other.what_is
 done_of payload from (Send q body) a report t e = absurd cc
 done_of payload from (Wait ms) a report t e = absurd cc
 done_of payload from Reset a report t e = absurd cc
 
-module _ (tells : HostsTell) (payload : List ℕ) (x : CoreHost) (h : HostState) (here : IsCoreHost payload x h) where
+module _ (tells : NextsOfHosts) (payload : List ℕ) (x : CoreHost) (h : HostState) (here : IsCoreHost payload x h) where
   -- Answer of dfu_host_next for it.
-  pub told : (a : DfuAction) → Wants payload x a → TellsOfHost payload h (pos 0) a
+  pub told : (a : DfuAction) → Wants payload x a → NextOfHost payload h (pos 0) a
   told a wants = tells payload x h wants.0 (pos 0) a a here wants.1 (inl (refl, wants.2))
 
   pub sends_so : (a : DfuAction) → Wants payload x a → a.what ≡ 0 → SendsOf payload (deed h.task h.phase) a
@@ -92,14 +92,14 @@ module _ (tells : HostsTell) (payload : List ℕ) (x : CoreHost) (h : HostState)
   not_done a wants on report e = let t = told a wants in on (done_of payload t.from (deed h.task h.phase) a report t.tells e)
 
 -- A call that may be under way with the session in C may be so with its host.
-pub way_so : (tells : HostsTell) (s : CoreSession) (session : Session) (call : Event) → IsSessionOf s session → MayBeUnderWay s call
+pub way_so : (tells : NextsOfHosts) (s : CoreSession) (session : Session) (call : Event) → IsSessionOf s session → MayBeUnderWay s call
     → IsUnderWay session call
 way_so tells s session (Elapse ms) is way = tt
 way_so tells (InSession payload x) (Hosted h) (Handle setup body) is (a, wants, what, same, cut) =
     let q = sends_so tells payload x h is a wants what in (
       q.request,
       q.deed_is ∙ ap (λ (l : List ℕ). Send q.request l) (sym cut),
-      subst (λ (l : List ℕ). IsAsked q.request l) (sym same) q.asked,
+      subst (λ (l : List ℕ). IsSetupOf q.request l) (sym same) q.asked,
     )
 way_so tells (InSession payload x) Nobody (Handle setup body) is way = absurd is
 way_so tells NoSession session (Handle setup body) is way = absurd way

@@ -5,17 +5,17 @@ use Rattle.dfu_wire.specs.declared.requests.Request.{Request}
 use Rattle.dfu_host.specs.Phases.{Send, Heard, NoRoom, Waited, WasReset, Restarted}
 use Rattle.dfu_host.specs.Table.{deed}
 use Rattle.dfu_host.specs.Host.{HostState, after, wants_memory}
-use Rattle.dfu_host.specs.Wire.{IsAsked}
+use Rattle.dfu_host.specs.Wire.{IsSetupOf}
 use Rattle.dfu_host.specs.Counting.{IsCounted}
 use Rattle.dfu_sim.specs.LinkView.{Session, Nobody, Hosted}
 use Rattle.dfu_sim.specs.Play.{Answered, Took, took, notify_restart}
-use Rattle.dfu_sim.specs.Standing.{IsCountedIn}
+use Rattle.dfu_sim.specs.LinkInvariant.{IsCountedIn}
 use Rattle.dfu_host_core.specs.declared.action.DfuAction.{DfuAction}
-use Rattle.dfu_host_core.specs.Runs.{CoreHost, IsCoreHost, HostsRefine, HostsTell}
-use Rattle.dfu_laws.specs.board.Board.{Board, Says, BoardStep}
-use Rattle.dfu_laws.specs.link.Comes.{HearsSentBack, left, BoardComes, passes, sends, refuses, waits, resets, is_reset, restarts, leaves, restarts_at_reset, marks}
-use Rattle.dfu_laws.specs.ends.Sessions.{CoreSession, InSession, IsSessionOf, Wants, sent_body, HostTakes, TellsOf, Settles, HearsRestart, nobody_hears, hears_it}
-use Rattle.dfu_laws.specs.ends.Comes.{EndsCome, time_passes, sends_it, objects_to_it, refuses_image, waits_it_out, resets_bus, bus_is_reset, board_restarts, leaves_app, board_makes_way, mark_is_set}
+use Rattle.dfu_host_core.specs.Runs.{CoreHost, IsCoreHost, HostsRefine, NextsOfHosts}
+use Rattle.dfu_laws.specs.board.Board.{Board, BoardReply, BoardStep}
+use Rattle.dfu_laws.specs.link.LinkSteps.{HeardOfReply, left, BoardLinkStep, passes, sends, refuses, waits, resets, is_reset, restarts, leaves, restarts_at_reset, marks}
+use Rattle.dfu_laws.specs.ends.Sessions.{CoreSession, InSession, IsSessionOf, Wants, sent_body, HostTakeOk, SeenOfReply, Settles, RestartReported, nobody_hears, hears_it}
+use Rattle.dfu_laws.specs.ends.EndsSteps.{EndsAdvance, time_passes, sends_it, objects_to_it, refuses_image, waits_it_out, resets_bus, bus_is_reset, board_restarts, leaves_app, board_makes_way, mark_is_set}
 use Rattle.dfu_laws.proofs.ends.Actions.{host_of_session, sends_so, waits_so, resets_so, way_so}
 use Rattle.dfu_laws.proofs.ends.Heard.{heard_by, hears_wait, hears_reset, hears_restart, hears_back}
 use Rattle.dfu_laws.proofs.ends.Settled.{TookSo, sized, took_so}
@@ -25,22 +25,22 @@ pub record Went (session : Session) (b : Board) (steps : List BoardStep) (answer
   pub later : Session
   pub is : IsSessionOf s' later
   pub counted : IsCountedIn later
-  pub comes : BoardComes (record { board = b; session = session }) steps answer (record { board = b'; session = later })
+  pub comes : BoardLinkStep (record { board = b; session = session }) steps answer (record { board = b'; session = later })
 
 went : (session : Session) (b : Board) (steps : List BoardStep) (answer : Answered) (s' : CoreSession) (b' : Board) (t : Took)
-    → TookSo t answer s' → BoardComes (record { board = b; session = session }) steps t.answer (left b' t)
+    → TookSo t answer s' → BoardLinkStep (record { board = b; session = session }) steps t.answer (left b' t)
     → Went session b steps answer s' b'
 went session b steps answer s' b' t so comes = record {
   later = t.session;
   is = so.is;
   counted = so.counted;
-  comes = subst (λ (a : Answered). BoardComes (record { board = b; session = session }) steps a (left b' t)) so.answer_is comes;
+  comes = subst (λ (a : Answered). BoardLinkStep (record { board = b; session = session }) steps a (left b' t)) so.answer_is comes;
 }
 
-module _ (refine : HostsRefine) (tells : HostsTell) where
+module _ (refine : HostsRefine) (tells : NextsOfHosts) where
   -- A live session hears of a restart.
   restarts_so : (s : CoreSession) (session : Session) (answer : Answered) (s' : CoreSession) → IsSessionOf s session
-      → IsCountedIn session → HearsRestart s answer s' → TookSo (notify_restart session) answer s'
+      → IsCountedIn session → RestartReported s answer s' → TookSo (notify_restart session) answer s'
   restarts_so _ Nobody _ _ is c nobody_hears = record { answer_is = refl; is = tt; counted = tt }
   restarts_so _ (Hosted h) _ _ is c nobody_hears = absurd is
   restarts_so _ Nobody _ _ is c (hears_it given settles) = absurd is
@@ -54,13 +54,13 @@ module _ (refine : HostsRefine) (tells : HostsTell) where
     counted_of h live = subst IsCountedIn live c
 
     -- A request: whatever the board makes of it, the host sends it and hears what the session is told.
-    requests : (payload bytes : List ℕ) (x x' : CoreHost) (a : DfuAction) (steps : List BoardStep) (says : Says) (b' : Board) (seen : ℕ)
-        (answer : Answered) (s' : CoreSession) → s ≡ InSession payload x → Wants payload x a → a.what ≡ 0 → TellsOf says seen bytes
-        → HostTakes payload x seen bytes x' → Settles payload x' answer s'
+    requests : (payload bytes : List ℕ) (x x' : CoreHost) (a : DfuAction) (steps : List BoardStep) (says : BoardReply) (b' : Board) (seen : ℕ)
+        (answer : Answered) (s' : CoreSession) → s ≡ InSession payload x → Wants payload x a → a.what ≡ 0 → SeenOfReply says seen bytes
+        → HostTakeOk payload x seen bytes x' → Settles payload x' answer s'
         → ((h : HostState) (q : Request) (heard : Heard) → session ≡ Hosted h → deed h.task h.phase ≡ Send q (sent_body payload a)
-        → IsAsked q a.setup → HearsSentBack (Send q (sent_body payload a)) says heard
+        → IsSetupOf q a.setup → HeardOfReply (Send q (sent_body payload a)) says heard
         → (heard ≡ NoRoom → IsTrue (wants_memory h.phase))
-        → BoardComes (record { board = b; session = session }) steps (took h heard).answer (left b' (took h heard)))
+        → BoardLinkStep (record { board = b; session = session }) steps (took h heard).answer (left b' (took h heard)))
         → Went session b steps answer s' b'
     requests payload bytes x x' a steps says b' seen answer s' live wants what tell given settles comes =
         let o = host_of_session payload x s session live is in
@@ -73,7 +73,7 @@ module _ (refine : HostsRefine) (tells : HostsTell) where
         (hears_back payload h bytes x' says seen q.request (sent_body payload a) q.deed_is t tell) t.room)
 
     -- What comes next.
-    pub came : (steps : List BoardStep) (answer : Answered) (s' : CoreSession) (b' : Board) → EndsCome s b steps answer s' b'
+    pub came : (steps : List BoardStep) (answer : Answered) (s' : CoreSession) (b' : Board) → EndsAdvance s b steps answer s' b'
         → Went session b steps answer s' b'
     came _ _ _ _ (time_passes serves) = record { later = session; is = is; counted = c; comes = passes serves }
     came _ _ _ _ (refuses_image serves) = record { later = session; is = is; counted = c; comes = refuses serves }

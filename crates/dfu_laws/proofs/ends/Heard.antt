@@ -10,12 +10,12 @@ use Rattle.dfu_host.specs.declared.seen.Seen.TheVariants as seen
 use Rattle.dfu_host.specs.Phases.{Deed, Send, Heard, NoRoom, Waited, WasReset, Restarted}
 use Rattle.dfu_host.specs.Table.{deed}
 use Rattle.dfu_host.specs.Host.{HostState, after, aborted, wants_memory}
-use Rattle.dfu_host.specs.Wire.{Hears, HearsBytes}
-use Rattle.dfu_host_core.specs.Told.{seen_at}
-use Rattle.dfu_host_core.specs.Runs.{CoreHost, IsCoreHost, CoreTake, CoreAbort, HostCall, HostStep, HostCalled, HostMoves, HostGoes, stays, moves, HostsRefine}
-use Rattle.dfu_laws.specs.board.Board.{Says, Answers, Nothing, WritesDue}
-use Rattle.dfu_laws.specs.link.Comes.{HearsSentBack}
-use Rattle.dfu_laws.specs.ends.Sessions.{HostTakes, TellsOf}
+use Rattle.dfu_host.specs.Wire.{SeenMeaning, BytesMeaning}
+use Rattle.dfu_host_core.specs.SeenNumbers.{seen_at}
+use Rattle.dfu_host_core.specs.Runs.{CoreHost, IsCoreHost, CoreTake, CoreAbort, HostCall, HostStep, HostCalled, HostMoves, HostCourse, stays, moves, HostsRefine}
+use Rattle.dfu_laws.specs.board.Board.{BoardReply, Answers, Nothing, WritesDue}
+use Rattle.dfu_laws.specs.link.LinkSteps.{HeardOfReply}
+use Rattle.dfu_laws.specs.ends.Sessions.{HostTakeOk, SeenOfReply}
 
 -- A host in C took what was seen.
 pub record HeardBy (payload : List ℕ) (h : HostState) (number : ℕ) (bytes : List ℕ) (x' : CoreHost) : Type 0 where
@@ -24,11 +24,11 @@ pub record HeardBy (payload : List ℕ) (h : HostState) (number : ℕ) (bytes : 
   pub word : Seen
   pub is : seen_at number slice ≡ Some word
   pub heard : Heard
-  pub hears : Hears (deed h.task h.phase) word heard
+  pub hears : SeenMeaning (deed h.task h.phase) word heard
   pub room : heard ≡ NoRoom → IsTrue (wants_memory h.phase)
   pub now : IsCoreHost payload x' (after h heard)
 
-one_move : {h now : HostState} {s : HostStep} → HostGoes h (s ∷ []) now → HostMoves h s.call s.number now
+one_move : {h now : HostState} {s : HostStep} → HostCourse h (s ∷ []) now → HostMoves h s.call s.number now
 one_move (moves m stays) = m
 
 record Moved (payload : List ℕ) (h : HostState) (call : HostCall) (x' : CoreHost) : Type 0 where
@@ -57,7 +57,7 @@ module _ (refine : HostsRefine) (payload : List ℕ) (x x' : CoreHost) (h : Host
   }
   taken number bytes now is (inr (number_is, none, same)) = absurd cc
 
-  pub heard_by : (number : ℕ) (bytes : List ℕ) → HostTakes payload x number bytes x' → HeardBy payload h number bytes x'
+  pub heard_by : (number : ℕ) (bytes : List ℕ) → HostTakeOk payload x number bytes x' → HeardBy payload h number bytes x'
   heard_by number bytes given =
       let m = moved (CoreTake number bytes) given in taken number bytes m.now m.is m.move
 
@@ -73,9 +73,9 @@ word_at k number slice w word at same is =
 
 module _ (payload : List ℕ) (h : HostState) (bytes : List ℕ) (x' : CoreHost) where
   as_word : (number k : ℕ) (w : Seen) → (t : HeardBy payload h number bytes x') → number ≡ k → seen_at k t.slice ≡ Some w
-      → Hears (deed h.task h.phase) w t.heard
+      → SeenMeaning (deed h.task h.phase) w t.heard
   as_word number k w t same at =
-      subst (λ (v : Seen). Hears (deed h.task h.phase) v t.heard) (word_at k number t.slice w t.word at same t.is) t.hears
+      subst (λ (v : Seen). SeenMeaning (deed h.task h.phase) v t.heard) (word_at k number t.slice w t.word at same t.is) t.hears
 
   pub hears_wait : (t : HeardBy payload h 4 bytes x') → t.heard ≡ Waited
   hears_wait t = as_word 4 4 seen.Waited t refl refl
@@ -87,13 +87,13 @@ module _ (payload : List ℕ) (h : HostState) (bytes : List ℕ) (x' : CoreHost)
   hears_restart t = as_word 6 6 seen.Restarted t refl refl
 
   -- Of a request it hears what is sent back, or nothing.
-  pub hears_back : (says : Says) (number : ℕ) (q : Request) (body : List ℕ) → deed h.task h.phase ≡ Send q body
-      → (t : HeardBy payload h number bytes x') → TellsOf says number bytes → HearsSentBack (Send q body) says t.heard
+  pub hears_back : (says : BoardReply) (number : ℕ) (q : Request) (body : List ℕ) → deed h.task h.phase ≡ Send q body
+      → (t : HeardBy payload h number bytes x') → SeenOfReply says number bytes → HeardOfReply (Send q body) says t.heard
   hears_back (Answers answer.Ack out) number q body is t (inl n) = inr (as_word number 0 seen.Ack t n refl)
   hears_back (Answers answer.Ack out) number q body is t (inr n) = inl (as_word number 3 seen.Nothing t n refl)
   hears_back (Answers answer.Bytes out) number q body is t (inl (n, same)) =
-      inr (subst (λ (l : List ℕ). HearsBytes (Send q body) l t.heard) (t.same ∙ same)
-      (subst (λ (d : Deed). HearsBytes d t.slice.now t.heard) is (as_word number 1 (seen.Bytes t.slice) t n refl)))
+      inr (subst (λ (l : List ℕ). BytesMeaning (Send q body) l t.heard) (t.same ∙ same)
+      (subst (λ (d : Deed). BytesMeaning d t.slice.now t.heard) is (as_word number 1 (seen.Bytes t.slice) t n refl)))
   hears_back (Answers answer.Bytes out) number q body is t (inr n) = inl (as_word number 3 seen.Nothing t n refl)
   hears_back (Answers answer.Stall out) number q body is t (inl n) = inr (as_word number 2 seen.Stall t n refl)
   hears_back (Answers answer.Stall out) number q body is t (inr n) = inl (as_word number 3 seen.Nothing t n refl)

@@ -13,18 +13,18 @@ use Rattle.dfu_sim.specs.declared.offering.Purpose.TheVariants.{Install, Verify}
 use Rattle.dfu_sim.specs.LinkView.{Session, Nobody, Hosted}
 use Rattle.dfu_sim.specs.Opening.{goal_of_purpose}
 use Rattle.dfu_sim.specs.Play.{Answered}
-use Rattle.dfu_sim.specs.Standing.{IsCountedIn}
+use Rattle.dfu_sim.specs.LinkInvariant.{IsCountedIn}
 use Rattle.dfu_core.specs.Board.{CoreBoard}
-use Rattle.dfu_host_core.specs.Beginning.{HasBegunAs}
-use Rattle.dfu_host_core.specs.Runs.{HostsBegin, HostsRefine, HostsTell, HasPayload}
+use Rattle.dfu_host_core.specs.BeginCalls.{IsInitialRecord}
+use Rattle.dfu_host_core.specs.Runs.{BeginIsInitial, HostsRefine, NextsOfHosts, HasPayload}
 use Rattle.dfu_laws.specs.board.Board.{Board, state_on, BoardStep}
 use Rattle.dfu_laws.specs.link.Plays.{Plays, starts, offers, uploads, aborts, goes_on, ends}
 use Rattle.dfu_laws.specs.in_c.Steps.{CoreStep, board_of_core, IsBoardOf}
 use Rattle.dfu_laws.specs.in_c.Marks.{no_mark}
-use Rattle.dfu_laws.specs.in_c.Plays.{CorePlays, CoreComes, CorePlaysInstall, CorePlaysGive, CorePlaysKnow, CorePlaysKnowWithin}
+use Rattle.dfu_laws.specs.in_c.Plays.{CorePlays, CoreLinkStep, CorePlaysInstall, CoreUploadsAreImages, CorePlaysKnow, CorePlaysKnowWithin}
 use Rattle.dfu_laws.specs.ends.Sessions.{CoreSession, NoSession, InSession, IsSessionOf, MayEndIn}
-use Rattle.dfu_laws.specs.ends.Comes.{EndsCome, mark_is_set}
-use Rattle.dfu_laws.specs.ends.Plays.{EndsPlay, no_one_yet, offers_one, fetches_one, gives_it_up, and_then, trial_is_over, CoreEnds, CoreEndsPlay, CoreEndsCome, EndsAreSessions, EndsInstall, EndsGive, EndsKnow, EndsKnowWithin, EndsGoOn}
+use Rattle.dfu_laws.specs.ends.EndsSteps.{EndsAdvance, mark_is_set}
+use Rattle.dfu_laws.specs.ends.Plays.{EndsPlay, no_one_yet, offers_one, fetches_one, gives_it_up, and_then, trial_is_over, CoreEnds, CoreEndsPlay, CoreEndsAdvance, EndsAreSessions, EndsInstall, EndsUploadImages, EndsKnow, EndsKnowWithin, EndsContinue}
 use Rattle.dfu_laws.proofs.in_c.Each.{powers_on}
 use Rattle.dfu_laws.proofs.in_c.Runs.{same_flash, core_state}
 use Rattle.dfu_laws.proofs.in_c.Played.{one_board}
@@ -51,7 +51,7 @@ has_payload : (purpose : Purpose) (payload : List ℕ) → HasPayload (goal_of_p
 has_payload Install payload = refl
 has_payload Verify payload = refl
 
-module _ (begin : HostsBegin) (refine : HostsRefine) (tells : HostsTell) where
+module _ (begin : BeginIsInitial) (refine : HostsRefine) (tells : NextsOfHosts) where
   plays_so : (b : Board) (steps : List BoardStep) (past : List (List ℕ)) (last : Option (List ℕ)) (s : CoreSession) (now : Board)
       → EndsPlay b steps past last s now → PlaysSo b steps past last s now
   plays_so b _ _ _ _ _ no_one_yet = record { session = Nobody; is = tt; counted = tt; plays = starts }
@@ -121,10 +121,10 @@ module _ (begin : HostsBegin) (refine : HostsRefine) (tells : HostsTell) where
     pub session : Session
     pub plays : CorePlays b steps past last (record { board = l.board; session = session })
     pub later : Session
-    pub comes : CoreComes (record { board = l.board; session = session }) more answer (record { board = l'.board; session = later })
+    pub comes : CoreLinkStep (record { board = l.board; session = session }) more answer (record { board = l'.board; session = later })
 
   pub next_so : (b : CoreBoard) (steps more : List CoreStep) (past : List (List ℕ)) (last : Option (List ℕ)) (l l' : CoreEnds)
-      (answer : Answered) → CoreEndsPlay b steps past last l → CoreEndsCome l more answer l' → NextSo b steps more past last l l' answer
+      (answer : Answered) → CoreEndsPlay b steps past last l → CoreEndsAdvance l more answer l' → NextSo b steps more past last l l' answer
   next_so b steps more past last l l' answer p c =
       let o = plays_so p.first p.calls past last l.session p.now p.plays in
       let w = came refine tells c.before l.session o.session o.is o.counted c.calls answer l'.session c.after c.comes in
@@ -150,7 +150,7 @@ module _ (begin : HostsBegin) (refine : HostsRefine) (tells : HostsTell) where
       installs b steps more past last (record { board = l.board; session = n.session })
       (record { board = l'.board; session = n.later }) answer on n.plays n.comes says
 
-  pub ends_give : CorePlaysGive → EndsGive
+  pub ends_give : CoreUploadsAreImages → EndsUploadImages
   ends_give gives b steps more past last l l' answer bytes on p c e =
       let n = next_so b steps more past last l l' answer p c in
       gives b steps more past last (record { board = l.board; session = n.session })
@@ -183,7 +183,7 @@ with_session p plays = record {
 }
 
 -- They go on.
-pub ends_go_on : EndsGoOn
+pub ends_go_on : EndsContinue
 ends_go_on = record {
   starts = λ b on.
       let start = powers_on b (pos 0) on.begins on.powers in
@@ -200,11 +200,11 @@ ends_go_on = record {
       };
   offers = λ b steps past last on purpose payload buffer limits r p some begun. with_session p
       (offers_one purpose payload buffer limits r p.plays some
-      (subst (λ (s : Setting). HasBegunAs r (started s.functional (goal_of_purpose purpose payload) limits))
+      (subst (λ (s : Setting). IsInitialRecord r (started s.functional (goal_of_purpose purpose payload) limits))
       (sym p.is_now.kept.set_up.config_is) begun));
   uploads = λ b steps past last on unused buffer limits r p begun. with_session p
       (fetches_one unused buffer limits r p.plays
-      (subst (λ (s : Setting). HasBegunAs r (started s.functional ToFetch limits)) (sym p.is_now.kept.set_up.config_is) begun));
+      (subst (λ (s : Setting). IsInitialRecord r (started s.functional ToFetch limits)) (sym p.is_now.kept.set_up.config_is) begun));
   aborts = λ b steps past last on payload x x' p called. with_session p (gives_it_up p.plays called);
   goes_on = λ b steps more past last l l' answer p c. record {
     run = core_marked_append b l.board l'.board steps more p.run c.run;
@@ -214,7 +214,7 @@ ends_go_on = record {
     are = are_append steps more p.calls c.calls p.are c.are;
     now = c.after;
     is_now = c.is_after;
-    plays = and_then p.plays (subst (λ (x : Board). EndsCome l.session x c.calls answer l'.session c.after)
+    plays = and_then p.plays (subst (λ (x : Board). EndsAdvance l.session x c.calls answer l'.session c.after)
         (one_board l.board c.before p.now c.is_before p.is_now) c.comes);
   };
   marks = λ b b' on steps past last s p mark.

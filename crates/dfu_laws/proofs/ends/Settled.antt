@@ -9,13 +9,13 @@ use Rattle.dfu_host.specs.Phases.{Wait, Reset, Done, Phase, Enter, Over, OverUpl
 use Rattle.dfu_host.specs.Table.{deed}
 use Rattle.dfu_host.specs.Host.{HostState, after, aborted_in}
 use Rattle.dfu_host.specs.InParts.{phase_of}
-use Rattle.dfu_host.specs.Counting.{GivesNothing, IsCounted}
+use Rattle.dfu_host.specs.Counting.{ReportsNoBytes, IsCounted}
 use Rattle.dfu_host.specs.CountingLaws.{after_stays}
 use Rattle.dfu_sim.specs.LinkView.{Nobody, Hosted}
 use Rattle.dfu_sim.specs.Play.{Answered, silent, Took, settled, took}
-use Rattle.dfu_sim.specs.Standing.{IsCountedIn}
-use Rattle.dfu_host_core.specs.Runs.{CoreHost, IsCoreHost, HostsTell}
-use Rattle.dfu_laws.specs.ends.Sessions.{CoreSession, NoSession, InSession, IsSessionOf, gave_with, Settles, stays_live, is_over}
+use Rattle.dfu_sim.specs.LinkInvariant.{IsCountedIn}
+use Rattle.dfu_host_core.specs.Runs.{CoreHost, IsCoreHost, NextsOfHosts}
+use Rattle.dfu_laws.specs.ends.Sessions.{CoreSession, NoSession, InSession, IsSessionOf, bytes_of_report, Settles, stays_live, is_over}
 use Rattle.dfu_laws.proofs.ends.Actions.{told, not_done}
 
 -- The bytes that a session keeps at its end are its memory.
@@ -30,7 +30,7 @@ memory_kept memory kept phase.OverUploaded e = sym (kept_same _ _ e)
     kept_same a b e = ap kept_in_it e
 memory_kept memory kept p e = absurd cc
 
-nothing_given : (report : Report) (bytes : List ℕ) → GivesNothing report → ◌≡◌ {A = Option (List ℕ)} None (gave_with report bytes)
+nothing_given : (report : Report) (bytes : List ℕ) → ReportsNoBytes report → ◌≡◌ {A = Option (List ℕ)} None (bytes_of_report report bytes)
 nothing_given Uploaded bytes c = absurd c
 nothing_given report bytes c = refl
 
@@ -41,15 +41,15 @@ enter_goes_on false ms report e = absurd cc
 -- A host that is done ends its session, with this report.
 over_so : (h : HostState) (p : Phase) (bytes : List ℕ) (report : Report) → deed h.task p ≡ Done report
     → ((kept : List ℕ) → p ≡ OverUploaded kept → kept ≡ bytes) → IsCounted h.task p
-    → settled h p ≡ record { session = Nobody; answer = record { report = Some report; gave = gave_with report bytes } }
+    → settled h p ≡ record { session = Nobody; answer = record { report = Some report; gave = bytes_of_report report bytes } }
 over_so h (Over r) bytes report e keeps c =
     let same : r ≡ report = cc in
-    let none = nothing_given report bytes (subst GivesNothing same c) in
+    let none = nothing_given report bytes (subst ReportsNoBytes same c) in
     λ i. record { session = Nobody; answer = record { report = Some (same i); gave = none i } }
 over_so h (OverUploaded kept) bytes report e keeps c =
     let same : Uploaded ≡ report = cc in
     let it = keeps kept refl in
-    λ i. record { session = Nobody; answer = record { report = Some (same i); gave = gave_with (same i) (it i) } }
+    λ i. record { session = Nobody; answer = record { report = Some (same i); gave = bytes_of_report (same i) (it i) } }
 over_so h Enter bytes report e keeps c = absurd (enter_goes_on h.task.will_detach (max 1 h.task.detach_ms) report e)
 over_so h p bytes report e keeps c = absurd cc
 
@@ -66,7 +66,7 @@ pub record TookSo (t : Took) (answer : Answered) (s' : CoreSession) : Type 0 whe
   pub is : IsSessionOf s' t.session
   pub counted : IsCountedIn t.session
 
-module _ (tells : HostsTell) (payload : List ℕ) (x : CoreHost) (h : HostState) (here : IsCoreHost payload x h) where
+module _ (tells : NextsOfHosts) (payload : List ℕ) (x : CoreHost) (h : HostState) (here : IsCoreHost payload x h) where
   keeps_so : (kept : List ℕ) → h.phase ≡ OverUploaded kept → kept ≡ take x.kept.kept x.buffer
   keeps_so kept e = memory_kept (take x.kept.kept x.buffer) kept here.parts.phase (ap (λ (s : HostState). s.phase) here.is ∙ e)
 
@@ -93,7 +93,7 @@ module _ (tells : HostsTell) (payload : List ℕ) (x : CoreHost) (h : HostState)
   sized = subst (λ (s : HostState). 0 < s.task.transfer) here.is here.held.stands.sound.transfers
 
 -- After anything that it hears.
-pub took_so : (tells : HostsTell) (payload : List ℕ) (x' : CoreHost) (h : HostState) (heard : Heard) (answer : Answered) (s' : CoreSession)
+pub took_so : (tells : NextsOfHosts) (payload : List ℕ) (x' : CoreHost) (h : HostState) (heard : Heard) (answer : Answered) (s' : CoreSession)
     → 0 < h.task.transfer → IsCounted h.task h.phase → IsCoreHost payload x' (after h heard) → Settles payload x' answer s'
     → TookSo (took h heard) answer s'
 took_so tells payload x' h heard answer s' some c now settles =

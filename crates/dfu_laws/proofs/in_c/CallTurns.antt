@@ -9,11 +9,11 @@ use Rattle.dfu_asks.specs.declared.asking.Asking.{Asking}
 use Rattle.dfu_asks.specs.Carried.{IsPiece}
 use Rattle.dfu_asks.specs.Asks.{device_in, steps_in}
 use Rattle.dfu_laws.specs.board.Board.{Answers}
-use Rattle.dfu_laws.specs.board.Happens.{reply_said}
+use Rattle.dfu_laws.specs.board.Happens.{reply_of_call}
 use Rattle.dfu_core.specs.declared.records.DfuAsk.{DfuAsk}
 use Rattle.dfu_core.specs.Config.{transfer_of}
 use Rattle.dfu_asks.specs.Addressed.{addressed}
-use Rattle.dfu_core.specs.Kept.{with_memory}
+use Rattle.dfu_core.specs.RecordMeaning.{with_memory}
 use Rattle.dfu_core.specs.Calls.{IsIntact}
 use Rattle.dfu_core.specs.Writes.{ask_step, HandsOut, RefusesPiece, refuses_unfound, refuses_piece}
 use Rattle.dfu_core.specs.declared.numbers.Refusal.TheVariants as refusal
@@ -22,7 +22,7 @@ use Rattle.dfu_asks.specs.Verdict.{IsBodyOf}
 use Rattle.dfu_asks.specs.declared.reply.Reply.TheVariants as reply
 use Rattle.dfu_asks.specs.Calls.{DeviceCalled, called_ended}
 use Rattle.dfu_core.specs.Board.{CoreBoard, CoreHandle, CoreElapse, CoreReset, CoreTooLong, CoreTook}
-use Rattle.dfu_core.specs.Happens.{IsCalled, Handled, Elapsed, Reset, TooLongCalled, Told}
+use Rattle.dfu_core.specs.Happens.{IsCalled, Handled, Elapsed, Reset, TooLongCalled, CoreTookResult}
 use Rattle.dfu_laws.specs.in_c.Steps.{board_of_core, IsRefusal}
 use Rattle.dfu_laws.proofs.in_c.Same.{no_work, one_device}
 use Rattle.dfu_laws.proofs.in_c.Parts.{reply_says, passed_says}
@@ -34,7 +34,7 @@ pub handle_turn : (b : CoreBoard) (a : Asking) (setup body out : List ℕ) (n : 
     → IsCalled b b' → Handled b setup body out n out' b' → IsTurn b a (CoreHandle setup body out) n out' b'
 handle_turn b a setup body out n out' b' sound called (inl g) =
     let does = goes_on b a b'.kept b'.block _ sound g in
-    turns b a _ n out' b' (reply_said does.reply out') sound called.config g
+    turns b a _ n out' b' (reply_of_call does.reply out') sound called.config g
     (served_step (board_of_core b a) (board_of_core b' g.after) (Transfer (addressed b.config.interface setup) body) out out' does.reply
     does.idle (fits_of b a sound (omega (arith, g.room))) called.flash does.called)
     (reply_says n out' does.reply does.number_is)
@@ -50,7 +50,7 @@ pub elapse_turn : (b : CoreBoard) (a : Asking) (ms : ℕ) (n : ℤ) (out' : List
     → IsCalled b b' → Elapsed b ms n b' → IsTurn b a (CoreElapse ms) n out' b'
 elapse_turn b a ms n out' b' sound called (inl g) =
     let does = goes_on b a b'.kept b'.block _ sound g in
-    turns b a _ n out' b' (reply_said does.reply []) sound called.config g
+    turns b a _ n out' b' (reply_of_call does.reply []) sound called.config g
     (passed_step (board_of_core b a) (board_of_core b' g.after) ms (replicate 6 0) does.reply
     does.idle (fits_of b a sound (omega (arith, g.room))) called.flash does.called)
     (passed_says n does.reply does.number_is)
@@ -95,11 +95,11 @@ piece_refused b Why n (refuses_piece x is config room kept why) = inr (inr (refu
 
 -- dfu_core_took.
 pub took_turn : (b : CoreBoard) (a : Asking) (failed : ℕ) (out : List ℕ) (n : ℤ) (out' : List ℕ) (b' : CoreBoard)
-    → IsSound b a → IsCalled b b' → Told b failed out n out' b'
+    → IsSound b a → IsCalled b b' → CoreTookResult b failed out n out' b'
     → IsTurn b a (CoreTook failed out) n out' b'
 took_turn b a failed out n out' b' sound called (inl g) =
     let does = goes_on b a b'.kept b'.block _ sound g in
-    turns b a _ n out' b' (reply_said does.reply out') sound called.config g
+    turns b a _ n out' b' (reply_of_call does.reply out') sound called.config g
     (told_step (board_of_core b a) (board_of_core b' g.after)
     (not (failed == 0)) out out' does.reply does.work does.left called.flash does.took)
     (reply_says n out' does.reply does.number_is)

@@ -19,16 +19,16 @@ use Rattle.dfu_core.specs.declared.config.DfuConfig.{DfuConfig}
 use Rattle.dfu_core.specs.declared.numbers.Refusal.{Refusal}
 use Rattle.dfu_core.specs.declared.numbers.Refusal.TheVariants as refusal
 use Rattle.dfu_core.specs.Config.{transfer_of}
-use Rattle.dfu_core.specs.Kept.{IsKept}
-use Rattle.dfu_core.specs.Further.{AsksFurther}
+use Rattle.dfu_core.specs.RecordMeaning.{IsRecordOf}
+use Rattle.dfu_core.specs.Further.{PiecesAdvance}
 use Rattle.dfu_core.specs.Numbers.{ASKS, refusal_number, answer_number, reply_number}
 use Rattle.dfu_core.specs.Writes.{RefusesPiece, refuses_unfound, refuses_piece}
 use Rattle.dfu_core.specs.Board.{CoreBoard, CoreEvent, CoreHandle, CoreElapse, CoreReset, CoreTooLong, CoreRefuseClose, CoreRefuse, CoreWrite, CoreTook, CoreRestart}
 use Rattle.dfu_core.specs.Happens.{CoreHappens}
-use Rattle.dfu_laws.specs.board.Board.{Board, lent_on, Event, Says, Nothing, WritesDue, Answers, BoardStep}
-use Rattle.dfu_laws.specs.board.Counts.{block_erases, most_asks, asks_of, asks_in, IsUnanswered, AreUnanswered, GoesFurther, AllGoFurther, RunAsksFew}
-use Rattle.dfu_laws.specs.in_c.Steps.{CoreStep, IsCoreRun, board_of_core, IsBoardOf, event_of_core, IsRefusal, NumberSays, PassedSays, ObjectionSays, EventSays, AreStepsOf}
-use Rattle.dfu_laws.specs.in_c.Counts.{IsNoAnswer, IsCoreUnanswered, AreCoreUnanswered, asks_of_number, core_asks_in, CoreAsksFew}
+use Rattle.dfu_laws.specs.board.Board.{Board, lent_on, Event, BoardReply, Nothing, WritesDue, Answers, BoardStep}
+use Rattle.dfu_laws.specs.board.Counts.{block_erases, operation_bound, operations_of, operations_in, IsUnanswered, AreUnanswered, PieceAdvances, AllPiecesAdvance, RunOperationsBounded}
+use Rattle.dfu_laws.specs.in_c.Steps.{CoreStep, IsCoreRun, board_of_core, IsBoardOf, event_of_core, IsRefusal, ReplyOfNumber, ReplyOfPassed, ReplyOfObjection, ReplyOfEvent, AreStepsOf}
+use Rattle.dfu_laws.specs.in_c.Counts.{IsNoAnswer, IsCoreUnanswered, AreCoreUnanswered, operations_of_number, core_operations_in, CoreOperationsBounded}
 use Rattle.dfu_laws.proofs.in_c.Same.{one_device, one_work, no_work}
 use Rattle.dfu_laws.proofs.in_c.Each.{powers_on}
 use Rattle.dfu_laws.proofs.in_c.Runs.{run_to}
@@ -40,7 +40,7 @@ answered n answer.Bytes count un is = un.0 count is
 answered n answer.Stall count un is = un.1 is
 
 -- A step without an answer in C is one of the board.
-unanswered : (c : DfuConfig) (e : CoreEvent) (n : ℤ) (out : List ℕ) (says : Says) → EventSays e n out says → IsCoreUnanswered e n
+unanswered : (c : DfuConfig) (e : CoreEvent) (n : ℤ) (out : List ℕ) (says : BoardReply) → ReplyOfEvent e n out says → IsCoreUnanswered e n
     → IsUnanswered (event_of_core c e) says
 unanswered c (CoreRestart begins) n out says told un = elim un [ ]
 unanswered c CoreWrite n out (Answers a bytes) told un = absurd (cc)
@@ -70,44 +70,44 @@ unanswered c (CoreTook failed buffer) n out WritesDue told un = tt
 
 -- Number of times that it asks.
 
-refusal_asks : (e : Refusal) → asks_of_number (refusal_number e) ≡ 0
+refusal_asks : (e : Refusal) → operations_of_number (refusal_number e) ≡ 0
 refusal_asks refusal.NoConfig = refl
 refusal_asks refusal.NoBlock = refl
 refusal_asks refusal.Asked = refl
 refusal_asks refusal.NoMedium = refl
 refusal_asks refusal.NoDevice = refl
 
-refused_asks : (n : ℤ) → IsRefusal n → asks_of_number n ≡ 0
-refused_asks n (inl is) = ap asks_of_number is
-refused_asks n (inr (inl is)) = ap asks_of_number is
-refused_asks n (inr (inr (e, is))) = ap asks_of_number is ∙ refusal_asks e
+refused_asks : (n : ℤ) → IsRefusal n → operations_of_number n ≡ 0
+refused_asks n (inl is) = ap operations_of_number is
+refused_asks n (inr (inl is)) = ap operations_of_number is
+refused_asks n (inr (inr (e, is))) = ap operations_of_number is ∙ refusal_asks e
 
-objected_asks : (n : ℤ) → ObjectionSays n Nothing → asks_of_number n ≡ 0
+objected_asks : (n : ℤ) → ReplyOfObjection n Nothing → operations_of_number n ≡ 0
 objected_asks n (inl is) = refused_asks n is
-objected_asks n (inr (inl is)) = ap asks_of_number is
-objected_asks n (inr (inr is)) = ap asks_of_number is
+objected_asks n (inr (inl is)) = ap operations_of_number is
+objected_asks n (inr (inr is)) = ap operations_of_number is
 
-answer_asks : (a : Answer) (count : ℕ) → asks_of_number (answer_number a count) ≡ 0
+answer_asks : (a : Answer) (count : ℕ) → operations_of_number (answer_number a count) ≡ 0
 answer_asks answer.Ack count = refl
 answer_asks answer.Bytes count = refl
 answer_asks answer.Stall count = refl
 
-number_asks : (n : ℤ) (out : List ℕ) (says : Says) → NumberSays n out says → asks_of_number n ≡ asks_of says
+number_asks : (n : ℤ) (out : List ℕ) (says : BoardReply) → ReplyOfNumber n out says → operations_of_number n ≡ operations_of says
 number_asks n out Nothing told = refused_asks n told
-number_asks n out WritesDue told = ap asks_of_number told
-number_asks n out (Answers a bytes) told = ap asks_of_number told.1 ∙ answer_asks a told.0
+number_asks n out WritesDue told = ap operations_of_number told
+number_asks n out (Answers a bytes) told = ap operations_of_number told.1 ∙ answer_asks a told.0
 
-passed_asks : (n : ℤ) (says : Says) → PassedSays n says → asks_of_number n ≡ asks_of says
+passed_asks : (n : ℤ) (says : BoardReply) → ReplyOfPassed n says → operations_of_number n ≡ operations_of says
 passed_asks n Nothing told = refused_asks n told
-passed_asks n WritesDue told = ap asks_of_number told
-passed_asks n (Answers a bytes) told = ap asks_of_number told
+passed_asks n WritesDue told = ap operations_of_number told
+passed_asks n (Answers a bytes) told = ap operations_of_number told
 
-objection_asks : (n : ℤ) (says : Says) → ObjectionSays n says → asks_of_number n ≡ asks_of says
+objection_asks : (n : ℤ) (says : BoardReply) → ReplyOfObjection n says → operations_of_number n ≡ operations_of says
 objection_asks n Nothing told = objected_asks n told
 objection_asks n WritesDue told = elim told [ ]
-objection_asks n (Answers a bytes) told = ap asks_of_number told.0 ∙ answer_asks a 0
+objection_asks n (Answers a bytes) told = ap operations_of_number told.0 ∙ answer_asks a 0
 
-event_asks : (e : CoreEvent) (n : ℤ) (out : List ℕ) (says : Says) → EventSays e n out says → asks_of_number n ≡ asks_of says
+event_asks : (e : CoreEvent) (n : ℤ) (out : List ℕ) (says : BoardReply) → ReplyOfEvent e n out says → operations_of_number n ≡ operations_of says
 event_asks (CoreHandle setup body buffer) n out says told = number_asks n out says told
 event_asks (CoreElapse ms) n out says told = passed_asks n says told
 event_asks CoreReset n out says told = passed_asks n says told
@@ -115,25 +115,25 @@ event_asks (CoreTooLong setup body) n out says told = number_asks n [] says told
 event_asks (CoreRefuseClose setup status) n out says told = objection_asks n says told
 event_asks (CoreRefuse status) n out says told = objection_asks n says told
 event_asks (CoreTook failed buffer) n out says told = number_asks n out says told
-event_asks CoreWrite n out says told = ap asks_of_number told.0 ∙ sym (ap asks_of told.1)
-event_asks (CoreRestart begins) n out says told = ap asks_of_number told.0 ∙ sym (ap asks_of told.1)
+event_asks CoreWrite n out says told = ap operations_of_number told.0 ∙ sym (ap operations_of told.1)
+event_asks (CoreRestart begins) n out says told = ap operations_of_number told.0 ∙ sym (ap operations_of told.1)
 
 -- A report that is answered by more writes leaves less to do.
 
 asks_is : (r : Reply) (n : ℤ) → n ≡ ASKS → n ≡ reply_number r → r ≡ reply.Asks
 asks_is reply.Asks n asks is = refl
 asks_is (reply.Answered a count) n asks is =
-    absurd (omega (arith, ap asks_of_number (sym asks ∙ is) ∙ answer_asks a count))
+    absurd (omega (arith, ap operations_of_number (sym asks ∙ is) ∙ answer_asks a count))
 
-piece_asks : (b : CoreBoard) (Why : Asking → Type 0) (n : ℤ) → RefusesPiece b.config b.kept b.block Why n → asks_of_number n ≡ 0
-piece_asks b Why n (refuses_unfound e is cause) = ap asks_of_number is ∙ refusal_asks e
-piece_asks b Why n (refuses_piece x is config room kept why) = ap asks_of_number is
+piece_asks : (b : CoreBoard) (Why : Asking → Type 0) (n : ℤ) → RefusesPiece b.config b.kept b.block Why n → operations_of_number n ≡ 0
+piece_asks b Why n (refuses_unfound e is cause) = ap operations_of_number is ∙ refusal_asks e
+piece_asks b Why n (refuses_piece x is config room kept why) = ap operations_of_number is
 
-no_asks : (n : ℤ) → n ≡ ASKS → asks_of_number n ≡ 0 → ⊥
-no_asks n asks none = absurd (omega (arith, ap asks_of_number asks, none))
+no_asks : (n : ℤ) → n ≡ ASKS → operations_of_number n ≡ 0 → ⊥
+no_asks n asks none = absurd (omega (arith, ap operations_of_number asks, none))
 
-further_of : (b b' : CoreBoard) (x x' : Board) (a a' : Asking) (r : Reply) → IsBoardOf b x → IsBoardOf b' x' → IsKept b.config b.kept a
-    → IsKept b'.config b'.kept a' → r ≡ reply.Asks → AsksFurther (lent_on (board_of_core b a)) r (lent_on (board_of_core b' a'))
+further_of : (b b' : CoreBoard) (x x' : Board) (a a' : Asking) (r : Reply) → IsBoardOf b x → IsBoardOf b' x' → IsRecordOf b.config b.kept a
+    → IsRecordOf b'.config b'.kept a' → r ≡ reply.Asks → PiecesAdvance (lent_on (board_of_core b a)) r (lent_on (board_of_core b' a'))
     → (w : PendingWrites) (p : Step) → x.asking.work ≡ Some w → IsPiece (steps_in (lent_on x) w) w.done p
     → x'.asking.work ≡ Some (record w { done = w.done + length p.write.bytes })
 further_of b b' x x' a a' r is is' was now asks further w p work piece =
@@ -144,15 +144,15 @@ further_of b b' x x' a a' r is is' was now asks further w p work piece =
     ∙ further asks w p (ap (λ (y : Board). y.asking.work) (sym first) ∙ work)
     (subst (λ (y : Board). IsPiece (steps_in (lent_on y) w) w.done p) first piece)
 
-goes_further : (b b' : CoreBoard) (x x' : Board) (e : CoreEvent) (n : ℤ) (out' : List ℕ) (says : Says) → IsBoardOf b x → IsBoardOf b' x'
-    → CoreHappens b e n out' b' → EventSays e n out' says → GoesFurther x (event_of_core b.config e) says x'
+goes_further : (b b' : CoreBoard) (x x' : Board) (e : CoreEvent) (n : ℤ) (out' : List ℕ) (says : BoardReply) → IsBoardOf b x → IsBoardOf b' x'
+    → CoreHappens b e n out' b' → ReplyOfEvent e n out' says → PieceAdvances x (event_of_core b.config e) says x'
 goes_further b b' x x' (CoreTook failed out) n out' WritesDue is is' (called, inl g) told =
-    let now = subst (λ (c : DfuConfig). IsKept c b'.kept g.after) (sym called.config) g.is in
+    let now = subst (λ (c : DfuConfig). IsRecordOf c b'.kept g.after) (sym called.config) g.is in
     further_of b b' x x' g.before g.after g.does.reply is is' g.was now (asks_is g.does.reply n told g.does.number_is) g.does.further
 goes_further b b' x x' (CoreTook failed out) n out' WritesDue is is' (called, inr (inl denied)) told =
     absurd (no_asks n told (piece_asks b _ n denied.0))
 goes_further b b' x x' (CoreTook failed out) n out' WritesDue is is' (called, inr (inr denied)) told =
-    absurd (no_asks n told (ap asks_of_number denied.number_is))
+    absurd (no_asks n told (ap operations_of_number denied.number_is))
 goes_further b b' x x' (CoreTook failed out) n out' Nothing is is' happens told = tt
 goes_further b b' x x' (CoreTook failed out) n out' (Answers a bytes) is is' happens told = tt
 goes_further b b' x x' (CoreHandle setup body out) n out' says is is' happens told = tt
@@ -167,8 +167,8 @@ goes_further b b' x x' (CoreRestart begins) n out' says is is' happens told = tt
 -- Facts of the steps of the board.
 record CountedSo (steps : List CoreStep) (ts : List BoardStep) : Type 0 where
   un : AreUnanswered ts
-  further : AllGoFurther ts
-  count : core_asks_in steps ≡ asks_in ts
+  further : AllPiecesAdvance ts
+  count : core_operations_in steps ≡ operations_in ts
 
 counted_so : (b b' : CoreBoard) (steps : List CoreStep) (ts : List BoardStep) → IsCoreRun b steps b' → AreStepsOf steps ts
     → AreCoreUnanswered steps → CountedSo steps ts
@@ -184,7 +184,7 @@ counted_so b b' (s ∷ steps) (t ∷ ts) run are un =
         more.un,
       );
       further = (
-        subst (λ (e : Event). GoesFurther t.before e t.says t.after) (sym is.event)
+        subst (λ (e : Event). PieceAdvances t.before e t.says t.after) (sym is.event)
             (goes_further s.before s.after t.before t.after s.event s.number s.out t.says is.before is.after happens is.says),
         more.further,
       );
@@ -205,12 +205,12 @@ sectors_more s n m le =
 erases_are : (s n : ℕ) → block_erases n (suc s) ≡ 1 + (n + suc s - 1) / suc s
 erases_are s n = ap (λ (b : Bool). if b then 0 else 1 + (n + suc s - 1) / suc s) (ne_eqb (suc s) 0 (omega arith))
 
-most_more : (job : SlotWrite) (n m sector : ℕ) → n ≤ m → most_asks job n sector ≤ most_asks job m sector
+most_more : (job : SlotWrite) (n m sector : ℕ) → n ≤ m → operation_bound job n sector ≤ operation_bound job m sector
 most_more (Block spare close) n m zero le = omega (arith, le)
 most_more (Block spare close) n m (suc s) le = omega (arith, le, sectors_more s n m le, erases_are s n, erases_are s m)
 most_more (Commit spare gen crc) n m sector le = omega arith
 
-pub core_asks_few : RunAsksFew → CoreAsksFew
+pub core_asks_few : RunOperationsBounded → CoreOperationsBounded
 core_asks_few few b mid b' old steps w on before idle run un has =
     let start = powers_on b (pos 0) on.begins on.powers in
     let first = board_of_core b on.powers.after in
@@ -235,5 +235,5 @@ core_asks_few few b mid b' old steps w on before idle run un has =
       so.count,
       bound,
       most_more w.job (length (lent_on y).block) (transfer_of b.config) y.asking.sector.size short,
-      ap (λ (s : ℕ). most_asks w.job (transfer_of b.config) s) size,
+      ap (λ (s : ℕ). operation_bound w.job (transfer_of b.config) s) size,
     )

@@ -12,27 +12,27 @@ use Rattle.dfu_laws.specs.board.Happens.{start_stage, BoardStarts, IsObjected, H
 use Rattle.dfu_core.specs.declared.config.DfuConfig.{DfuConfig}
 use Rattle.dfu_core.specs.declared.record.DfuRecord.{DfuRecord}
 use Rattle.dfu_asks.specs.Addressed.{addressed}
-use Rattle.dfu_core.specs.Kept.{IsKept, block_in, held_back_in, with_memory}
+use Rattle.dfu_core.specs.RecordMeaning.{IsRecordOf, block_in, tail_memory, with_memory}
 use Rattle.dfu_core.specs.Writes.{ask_step}
 use Rattle.dfu_core.specs.Power.{Powers}
 use Rattle.dfu_core.specs.Idle.{IsIdleRecord}
-use Rattle.dfu_core.specs.Refuse.{objection_in, TakesCause, CloseRefused, WasRefused}
+use Rattle.dfu_core.specs.Refuse.{objection_in, CauseResult, CloseRefused, WasRefused}
 use Rattle.dfu_device.specs.declared.answer.Answer.{Answer}
 use Rattle.dfu_device.specs.Rows.{Cause, RefusingClose, Refusing, Row}
 use Rattle.dfu_core.specs.Board.{CoreBoard, CoreEvent, CoreHandle, CoreElapse, CoreReset, CoreTooLong}
 use Rattle.dfu_core.specs.Board.{CoreRefuseClose, CoreRefuse, CoreWrite, CoreTook, CoreRestart}
 use Rattle.dfu_core.specs.Happens.{IsCalled, CoreIsWritten, start_mode, CoreHappens}
-use Rattle.dfu_laws.specs.in_c.Steps.{board_of_core, event_of_core, EventSays}
+use Rattle.dfu_laws.specs.in_c.Steps.{board_of_core, event_of_core, ReplyOfEvent}
 use Rattle.dfu_laws.proofs.in_c.Same.{no_work}
 use Rattle.dfu_laws.proofs.in_c.Turned.{IsSound, IsTurn, sound_as, unchanged}
 use Rattle.dfu_laws.proofs.in_c.CallTurns.{handed_work, handle_turn, elapse_turn, reset_turn, took_turn, long_turn, setup_refused}
 
 -- A record that takes the row of a refusal is a board that does.
 objected : (b : CoreBoard) (a : Asking) (e : CoreEvent) (cause : Cause) (x : Answer) (n : ℤ) (out' : List ℕ) (b' : CoreBoard)
-    → IsSound b a → IsCalled b b' → b'.block ≡ b.block → IsIdleRecord b.config b.kept → TakesCause b.config b.kept cause x b'.kept
+    → IsSound b a → IsCalled b b' → b'.block ≡ b.block → IsIdleRecord b.config b.kept → CauseResult b.config b.kept cause x b'.kept
     → ((after : Asking) → IsObjected (board_of_core b a) cause x (Answers x []) (board_of_core b' after)
     → Happens (board_of_core b a) (event_of_core b.config e) (Answers x []) (board_of_core b' after))
-    → EventSays e n out' (Answers x []) → IsTurn b a e n out' b'
+    → ReplyOfEvent e n out' (Answers x []) → IsTurn b a e n out' b'
 objected b a e cause x n out' b' sound called block idle takes happens told =
     let t = takes a sound.kept in
     let before = with_memory b.block a in
@@ -94,7 +94,7 @@ write_turn b a n out' b' sound w =
     record {
       config = w.config;
       after = a;
-      sound = sound_as b b' a sound.config w.config (subst (λ (r : DfuRecord). IsKept b.config r a) (sym w.kept) sound.kept) sound.short;
+      sound = sound_as b b' a sound.config w.config (subst (λ (r : DfuRecord). IsRecordOf b.config r a) (sym w.kept) sound.kept) sound.short;
       says = Nothing;
       happens = (
         refl,
@@ -104,7 +104,7 @@ write_turn b a n out' b' sound w =
           torn = w.torn;
           asking = refl;
           block = ap (λ (l : List ℕ). block_in a l) w.block;
-          held = ap (λ (l : List ℕ). held_back_in a l) w.block;
+          held = ap (λ (l : List ℕ). tail_memory a l) w.block;
         },
       );
       told = (w.handed.number_is, refl);

@@ -3,7 +3,7 @@ use Rattle.std.specs.Prelude.{ℕ, List, [], ◌∷◌, ◌++◌, Option}
 use Rattle.std.proofs.Common.{refl, sym, ap, subst}
 use Rattle.dfu_wire.specs.declared.requests.Request.{Request}
 use Rattle.dfu_wire.specs.declared.requests.Request.TheVariants as request
-use Rattle.dfu_slots.specs.Seen.{image_of}
+use Rattle.dfu_slots.specs.StoreView.{image_of}
 use Rattle.dfu_device.specs.declared.answer.Answer.{Answer}
 use Rattle.dfu_device.specs.declared.answer.Answer.TheVariants as answer
 use Rattle.dfu_device.specs.Stage.{Reply, Ack, StatusOf, StateOf, Data, Stall}
@@ -11,60 +11,60 @@ use Rattle.dfu_device.specs.Table.{plan}
 use Rattle.dfu_device.specs.Outcome.{Outcome}
 use Rattle.dfu_device.specs.DeviceView.{DeviceView, profile}
 use Rattle.dfu_device.specs.Rows.{meant, asked_length, Answers, is_served, setup_plan, Handles, Cause, Row}
-use Rattle.dfu_device.specs.Came.{row_of, came}
+use Rattle.dfu_device.specs.PlanOutcomes.{row_of, came}
 use Rattle.dfu_device.specs.Cases.{either_way}
-use Rattle.dfu_device.specs.RowForms.{EachReply, reply_given, ReplyFits, row_form, row_fits}
+use Rattle.dfu_device.specs.RowForms.{EachReply, reply_of_plan, ReplyMatches, row_form, row_matches}
 use Rattle.dfu_device.specs.History.{IsHistory, HistoryStep as TableRow}
-use Rattle.dfu_laws.specs.board.Board.{Event, Handle, Says, Nothing, WritesDue, Answers as SaysAnswer, BoardStep}
-use Rattle.dfu_laws.specs.board.Refines.{TellsRows, TellsAll}
-use Rattle.dfu_laws.specs.in_c.Fits.{FitsRequest, FitsSetup, AreFit}
+use Rattle.dfu_laws.specs.board.Board.{Event, Handle, BoardReply, Nothing, WritesDue, Answers as SaysAnswer, BoardStep}
+use Rattle.dfu_laws.specs.board.Refines.{EventRows, StepRows}
+use Rattle.dfu_laws.specs.in_c.ReplyKinds.{ReplyOfRequest, ReplyOfSetup, RepliesMatch}
 
 -- One answer.
 
-stall_fits : (q : Request) (out : List ℕ) → FitsRequest q (SaysAnswer answer.Stall out)
+stall_fits : (q : Request) (out : List ℕ) → ReplyOfRequest q (SaysAnswer answer.Stall out)
 stall_fits (request.GetStatus len) out = tt
 stall_fits (request.GetState len) out = tt
 stall_fits (request.Upload block len) out = tt
 stall_fits q out = tt
 
-ack_fits : (most : ℕ) (q : Request) (body out : List ℕ) → ReplyFits most Ack (meant q body) → FitsRequest q (SaysAnswer answer.Ack out)
+ack_fits : (most : ℕ) (q : Request) (body out : List ℕ) → ReplyMatches most Ack (meant q body) → ReplyOfRequest q (SaysAnswer answer.Ack out)
 ack_fits most (request.GetStatus len) body out f = f
 ack_fits most (request.GetState len) body out f = f
 ack_fits most (request.Upload block len) body out f = f
 ack_fits most q body out f = tt
 
-fits_reply : (most : ℕ) (q : Request) (body : List ℕ) (reply : Reply) (a : Answer) (out : List ℕ) → ReplyFits most reply (meant q body)
-    → Answers (asked_length q) reply a out → FitsRequest q (SaysAnswer a out)
-fits_reply most q body Stall a out f says = subst (λ (x : Answer). FitsRequest q (SaysAnswer x out)) (sym says.0) (stall_fits q out)
-fits_reply most q body Ack a out f says = subst (λ (x : Answer). FitsRequest q (SaysAnswer x out)) (sym says.0) (ack_fits most q body out f)
+fits_reply : (most : ℕ) (q : Request) (body : List ℕ) (reply : Reply) (a : Answer) (out : List ℕ) → ReplyMatches most reply (meant q body)
+    → Answers (asked_length q) reply a out → ReplyOfRequest q (SaysAnswer a out)
+fits_reply most q body Stall a out f says = subst (λ (x : Answer). ReplyOfRequest q (SaysAnswer x out)) (sym says.0) (stall_fits q out)
+fits_reply most q body Ack a out f says = subst (λ (x : Answer). ReplyOfRequest q (SaysAnswer x out)) (sym says.0) (ack_fits most q body out f)
 fits_reply most (request.GetStatus len) body (StatusOf code poll state) a out f says =
-    subst (λ (x : Answer). FitsRequest (request.GetStatus len) (SaysAnswer x out)) (sym says.0) tt
+    subst (λ (x : Answer). ReplyOfRequest (request.GetStatus len) (SaysAnswer x out)) (sym says.0) tt
 fits_reply most (request.GetState len) body (StateOf state) a out f says =
-    subst (λ (x : Answer). FitsRequest (request.GetState len) (SaysAnswer x out)) (sym says.0) tt
+    subst (λ (x : Answer). ReplyOfRequest (request.GetState len) (SaysAnswer x out)) (sym says.0) tt
 fits_reply most (request.Upload block len) body (Data bytes) a out f says =
-    subst (λ (x : Answer). FitsRequest (request.Upload block len) (SaysAnswer x out)) (sym says.0) tt
+    subst (λ (x : Answer). ReplyOfRequest (request.Upload block len) (SaysAnswer x out)) (sym says.0) tt
 fits_reply most q body reply a out f says = absurd f
 
 row_fit : (w w' : DeviceView) (setup body : List ℕ) (a : Answer) (out : List ℕ) → Handles setup body w a out w' →
-    FitsSetup (Handle setup body) (SaysAnswer a out)
+    ReplyOfSetup (Handle setup body) (SaysAnswer a out)
 row_fit w w' setup body a out h p q reads asks =
     let c = profile w in
     let image = image_of w.slots in
     let r = meant q body in
-    let P : Reply → Type 0 = λ reply. ReplyFits c.transfer reply r in
+    let P : Reply → Type 0 = λ reply. ReplyMatches c.transfer reply r in
     let x = came (setup_plan w p q body) (asked_length q) w a out w' (row_of p q setup body w a out w' reads asks h) in
     let each = either_way (EachReply P) (is_served p q body) _ _
-    (row_fits c image w.stage r (plan c image w.stage r) (row_form c image w.stage r)) tt in
+    (row_matches c image w.stage r (plan c image w.stage r) (row_form c image w.stage r)) tt in
     fits_reply c.transfer q body x.reply a out
-    (subst P (ap (λ (o : Outcome). o.reply) x.same) (reply_given P image (setup_plan w p q body) x.luck each)) x.answers
+    (subst P (ap (λ (o : Outcome). o.reply) x.same) (reply_of_plan P image (setup_plan w p q body) x.luck each)) x.answers
 
-nothing_fits : (q : Request) → FitsRequest q Nothing
+nothing_fits : (q : Request) → ReplyOfRequest q Nothing
 nothing_fits (request.GetStatus len) = tt
 nothing_fits (request.GetState len) = tt
 nothing_fits (request.Upload block len) = tt
 nothing_fits q = tt
 
-writes_fit : (q : Request) → FitsRequest q WritesDue
+writes_fit : (q : Request) → ReplyOfRequest q WritesDue
 writes_fit (request.GetStatus len) = tt
 writes_fit (request.GetState len) = tt
 writes_fit (request.Upload block len) = tt
@@ -72,8 +72,8 @@ writes_fit q = tt
 
 -- Each of a run.
 
-step_fit : (e : Event) (says : Says) (due due' : Option Cause) (rows : List TableRow) (d d' : DeviceView) → TellsRows due e says rows due'
-    → IsHistory d rows d' → FitsSetup e says
+step_fit : (e : Event) (says : BoardReply) (due due' : Option Cause) (rows : List TableRow) (d d' : DeviceView) → EventRows due e says rows due'
+    → IsHistory d rows d' → ReplyOfSetup e says
 step_fit (Handle setup body) (SaysAnswer a out) due due' rows d d' tells h =
     let one = tells.0 in
     let x : IsHistory d (one.row ∷ []) d' = subst (λ (l : List TableRow). IsHistory d l d') one.rows_are h in
@@ -98,8 +98,8 @@ history_parts d (x ∷ xs) ys d' h =
     record { mid = more.mid; first = (h.0, h.1, more.first); second = more.second }
 
 -- Each answer of a run to a setup is of its kind.
-pub all_fit : (steps : List BoardStep) (due due' : Option Cause) (rows : List TableRow) (d d' : DeviceView) → TellsAll due steps rows due'
-    → IsHistory d rows d' → AreFit steps
+pub all_fit : (steps : List BoardStep) (due due' : Option Cause) (rows : List TableRow) (d d' : DeviceView) → StepRows due steps rows due'
+    → IsHistory d rows d' → RepliesMatch steps
 all_fit [] due due' rows d d' tells h = tt
 all_fit (s ∷ rest) due due' rows d d' (first, later, mid, are, t, more) h =
     let parts = history_parts d first later d' (subst (λ (l : List TableRow). IsHistory d l d') are h) in

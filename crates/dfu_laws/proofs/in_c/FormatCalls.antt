@@ -15,8 +15,8 @@ use Rattle.dfu_asks.specs.declared.formatting.FormatProgress.{FormatProgress}
 use Rattle.dfu_asks.specs.declared.formatting.FormatProgress.TheVariants as format_progress
 use Rattle.dfu_asks.specs.Mapped.{mapped}
 use Rattle.dfu_asks.specs.Carried.{IsPiece}
-use Rattle.dfu_asks.specs.Phases.{grain_within, steps_left}
-use Rattle.dfu_asks.specs.Formats.{AsksFormat, FormatComesTo, TookPiece, format_well, format_failed, format_lied}
+use Rattle.dfu_asks.specs.Phases.{grain_within, remaining_steps}
+use Rattle.dfu_asks.specs.Formats.{FormatPending, FormatOutcome, FormatPieceReported, format_well, format_failed, format_lied}
 use Rattle.dfu_core.specs.declared.config.DfuConfig.{DfuConfig}
 use Rattle.dfu_core.specs.declared.record.DfuRecord.{DfuRecord}
 use Rattle.dfu_core.specs.Config.{config_grain, IsConfig}
@@ -24,7 +24,7 @@ use Rattle.dfu_core.specs.Formatting.{HasPhase, IsFormatting}
 use Rattle.dfu_core.specs.Formats.{IsNoStart, progress_number}
 use Rattle.dfu_core.specs.Numbers.{ASKS, format_number}
 use Rattle.dfu_core.specs.Writes.{ask_step}
-use Rattle.dfu_laws.specs.in_c.FormatCalls.{TakesFormatPiece, IsBeingFormatted, begins, goes_on, FormatsEnd, FormatsBeginAnew}
+use Rattle.dfu_laws.specs.in_c.FormatCalls.{FormatPieceResult, IsBeingFormatted, begins, goes_on, FormatsEnd, FormatsRestart}
 use Rattle.dfu_laws.proofs.in_c.Same.{one_sector}
 use Rattle.dfu_laws.proofs.in_c.Runs.{sized_small}
 
@@ -61,7 +61,7 @@ pub record IsAsking (c : DfuConfig) (image flash : List ℕ) (r : DfuRecord) : T
   pub format : Formatting
   pub is : IsFormatting c r format
   pub was : List ℕ
-  pub asks : AsksFormat format image was flash
+  pub asks : FormatPending format image was flash
   pub size : length was ≡ length flash
 
 pub grain_is : (c : DfuConfig) (r : DfuRecord) (f : Formatting) → IsFormatting c r f → grain_within f ≡ config_grain c
@@ -79,21 +79,21 @@ done_number (format_progress.Broken why) e = absurd (cc)
 
 -- Result of a piece that is not reported as broken.
 comes_to : (f f' : Formatting) (image was flash : List ℕ) (p : Write) (failed : Bool) (came : FormatProgress)
-    → TookPiece f f' image was flash p failed came → ((why : WriteFault) → came ≢ format_progress.Broken why)
-    → FormatComesTo (grain_within f) f' image was flash came
+    → FormatPieceReported f f' image was flash p failed came → ((why : WriteFault) → came ≢ format_progress.Broken why)
+    → FormatOutcome (grain_within f) f' image was flash came
 comes_to f f' image was flash p failed came (format_well r fine there comes) whole = comes
 comes_to f f' image was flash p failed _ (format_failed fails broken) whole = absurd (whole Failed refl)
 comes_to f f' image was flash p failed _ (format_lied fine lies broken) whole = absurd (whole NotVerified refl)
 
 module _ (c : DfuConfig) (image flash flash' : List ℕ) (r r' : DfuRecord) (n : ℤ) (a : IsAsking c image flash r)
-    (t : TakesFormatPiece c image flash r flash' n r') where
-  took : TookPiece t.goes.before t.goes.after image a.was flash' (ask_step t.ask).write t.failed t.goes.came
+    (t : FormatPieceResult c image flash r flash' n r') where
+  took : FormatPieceReported t.goes.before t.goes.after image a.was flash' (ask_step t.ask).write t.failed t.goes.came
   took =
       let same : a.format ≡ t.goes.before = one_format c r a.format t.goes.before a.is t.goes.is in
       let handed : t.handed.formatting ≡ t.goes.before = one_format c r t.handed.formatting t.goes.before t.handed.is t.goes.is in
-      t.goes.took a.was flash (subst (λ (f : Formatting). AsksFormat f image a.was flash) same a.asks) (ask_step t.ask)
-      (subst (λ (size : ℕ). IsPiece (steps_left t.goes.before size image) t.goes.before.done (ask_step t.ask)) (sym a.size)
-      (subst (λ (f : Formatting). IsPiece (steps_left f (length flash) image) f.done (ask_step t.ask)) handed t.handed.piece))
+      t.goes.took a.was flash (subst (λ (f : Formatting). FormatPending f image a.was flash) same a.asks) (ask_step t.ask)
+      (subst (λ (size : ℕ). IsPiece (remaining_steps t.goes.before size image) t.goes.before.done (ask_step t.ask)) (sym a.size)
+      (subst (λ (f : Formatting). IsPiece (remaining_steps f (length flash) image) f.done (ask_step t.ask)) handed t.handed.piece))
       t.torn
 
   -- Its number is that of a format that asks on.
@@ -107,7 +107,7 @@ module _ (c : DfuConfig) (image flash flash' : List ℕ) (r r' : DfuRecord) (n :
         format = t.goes.after;
         is = t.goes.on came;
         was = a.was;
-        asks = subst (λ (x : FormatProgress). FormatComesTo (grain_within t.goes.before) t.goes.after image a.was flash' x) came comes;
+        asks = subst (λ (x : FormatProgress). FormatOutcome (grain_within t.goes.before) t.goes.after image a.was flash' x) came comes;
         size = a.size ∙ sym t.torn.size;
       }
 
@@ -118,7 +118,7 @@ module _ (c : DfuConfig) (image flash flash' : List ℕ) (r r' : DfuRecord) (n :
       let comes = comes_to t.goes.before t.goes.after image a.was flash' (ask_step t.ask).write t.failed t.goes.came took
       (λ why is. absurd (cc)) in
       let formatted =
-      subst (λ (x : FormatProgress). FormatComesTo (grain_within t.goes.before) t.goes.after image a.was flash' x) came comes in
+      subst (λ (x : FormatProgress). FormatOutcome (grain_within t.goes.before) t.goes.after image a.was flash' x) came comes in
       subst (λ (g : Grain). Active (mapped g flash') image) (grain_is c r t.goes.before t.goes.is) formatted.active
 
 pub asking : (c : DfuConfig) (image flash : List ℕ) (r : DfuRecord) → IsBeingFormatted c image flash r → IsAsking c image flash r
@@ -172,7 +172,7 @@ too_large c flash other n config sized (inr (inr (fault.TooLarge, known, is, all
 too_large c flash other n config sized (inr (inr (fault.Failed, known, is, allowed, small, bad))) = absurd (known refl)
 
 -- A format that was broken off may be begun anew.
-pub formats_begin_anew : FormatsBeginAnew
+pub formats_begin_anew : FormatsRestart
 formats_begin_anew c image flash flash' r f size =
     let a = asking c image flash r f in
     let can = subst (λ (g : Grain). CanFormat (mapped g a.was) image) (grain_is c r a.format a.is) a.asks.way.can in

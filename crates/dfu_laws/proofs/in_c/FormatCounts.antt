@@ -8,8 +8,8 @@ use Rattle.dfu_asks.specs.declared.formatting.FormatProgress.{FormatProgress}
 use Rattle.dfu_asks.specs.declared.formatting.FormatProgress.TheVariants as format_progress
 use Rattle.dfu_asks.specs.Steps.{Step, step_writes}
 use Rattle.dfu_asks.specs.Carried.{total, IsPiece}
-use Rattle.dfu_asks.specs.Phases.{format_steps, grain_within, steps_left, part_left}
-use Rattle.dfu_asks.specs.Formats.{flash_of, AsksFormat}
+use Rattle.dfu_asks.specs.Phases.{format_steps, grain_within, remaining_steps, steps_of_part}
+use Rattle.dfu_asks.specs.Formats.{flash_of, FormatPending}
 use Rattle.dfu_asks.specs.FormatFurther.{IsFurtherBy}
 use Rattle.dfu_asks.proofs.FormatGoing.{in_left}
 use Rattle.dfu_core.specs.declared.config.DfuConfig.{DfuConfig}
@@ -17,7 +17,7 @@ use Rattle.dfu_core.specs.declared.record.DfuRecord.{DfuRecord}
 use Rattle.dfu_core.specs.Config.{config_grain}
 use Rattle.dfu_core.specs.Numbers.{ASKS}
 use Rattle.dfu_core.specs.Writes.{ask_step}
-use Rattle.dfu_laws.specs.in_c.FormatCalls.{TakesFormatPiece, IsBeingFormatted, begins, goes_on}
+use Rattle.dfu_laws.specs.in_c.FormatCalls.{FormatPieceResult, IsBeingFormatted, begins, goes_on}
 use Rattle.dfu_laws.specs.in_c.FormatCounts.{format_erases, format_programs, format_asks, FormatsAskFew}
 use Rattle.dfu_laws.proofs.board.Pieces.{piece_there}
 use Rattle.dfu_laws.proofs.board.Counting.{count_from, count, count_append, count_within, parts_none, piece_less}
@@ -37,22 +37,22 @@ count_behind (x ∷ xs) ys n k e =
 
 -- So many pieces are left of a format.
 abbrev pieces_left : Formatting → ℕ → List ℕ → ℕ
-pieces_left f size image = count_from (steps_left f size image) f.done
+pieces_left f size image = count_from (remaining_steps f size image) f.done
 
 abbrev most : DfuConfig → List ℕ → ℕ
 most c image = format_erases (length image) c.sector + format_programs (length image) c.sector
 
 -- If one is due, some are.
-some_left : (f : Formatting) (image was flash : List ℕ) → AsksFormat f image was flash → 0 < pieces_left f (length was) image
+some_left : (f : Formatting) (image was flash : List ℕ) → FormatPending f image was flash → 0 < pieces_left f (length was) image
 some_left f image was flash asks =
-    let x = piece_there (part_left f (length was) image) f.done asks.left in
-    omega (arith, piece_less (steps_left f (length was) image) f.done x.0 (in_left f (length was) image f.done x.0 x.1))
+    let x = piece_there (steps_of_part f (length was) image) f.done asks.left in
+    omega (arith, piece_less (remaining_steps f (length was) image) f.done x.0 (in_left f (length was) image f.done x.0 x.1))
 
 -- At first they are no more than the format has.
 first_left : (c : DfuConfig) (f : Formatting) (image flash : List ℕ) → grain_within f ≡ config_grain c
-    → AsksFormat f image flash flash → pieces_left f (length flash) image ≤ most c image
+    → FormatPending f image flash flash → pieces_left f (length flash) image ≤ most c image
 first_left c f image flash grain asks =
-    let left = steps_left f (length flash) image in
+    let left = remaining_steps f (length flash) image in
     let w = grain_within f in
     let bound : Grain → ℕ = λ g. format_erases (length image) g.sector + format_programs (length image) g.sector in
     let all : count (format_steps (flash_of f flash) image) ≤ bound w =
@@ -67,15 +67,15 @@ first_left c f image flash grain asks =
     )
 
 -- Each piece leaves one less.
-next_left : (f f' : Formatting) (size : ℕ) (image : List ℕ) (p : Step) → IsPiece (steps_left f size image) f.done p
+next_left : (f f' : Formatting) (size : ℕ) (image : List ℕ) (p : Step) → IsPiece (remaining_steps f size image) f.done p
     → IsFurtherBy f f' size image (length p.write.bytes) → suc (pieces_left f' size image) ≤ pieces_left f size image
 next_left f f' size image p piece on =
-    let left = steps_left f size image in
+    let left = remaining_steps f size image in
     omega (
       arith,
       piece_less left f.done p piece,
       ap (λ (ss : List Step). count_from ss (f.done + length p.write.bytes)) on.series,
-      count_behind on.front (steps_left f' size image) (f.done + length p.write.bytes) f'.done on.place,
+      count_behind on.front (remaining_steps f' size image) (f.done + length p.write.bytes) f'.done on.place,
     )
 
 -- A format has asked for the pieces that are not left, and for the one that is due.
@@ -95,8 +95,8 @@ has_asked c image flash' r' (goes_on {flash = flash} {n = n} {r = r} before t e)
     let same : a.format ≡ t.goes.before = one_format c r a.format t.goes.before a.is t.goes.is in
     let handed : t.handed.formatting ≡ t.goes.before = one_format c r t.handed.formatting t.goes.before t.handed.is t.goes.is in
     let size : length flash ≡ length flash' = sym t.torn.size in
-    let piece = subst (λ (k : ℕ). IsPiece (steps_left t.goes.before k image) t.goes.before.done (ask_step t.ask)) size
-    (subst (λ (f : Formatting). IsPiece (steps_left f (length flash) image) f.done (ask_step t.ask)) handed t.handed.piece) in
+    let piece = subst (λ (k : ℕ). IsPiece (remaining_steps t.goes.before k image) t.goes.before.done (ask_step t.ask)) size
+    (subst (λ (f : Formatting). IsPiece (remaining_steps f (length flash) image) f.done (ask_step t.ask)) handed t.handed.piece) in
     let on = t.goes.further came (ask_step t.ask) piece in
     let now = asking c image flash' r' (goes_on before t e) in
     let later : now.format ≡ t.goes.after = one_format c r' now.format t.goes.after now.is (t.goes.on came) in

@@ -11,13 +11,13 @@ use Rattle.dfu_host.specs.Host.{started}
 use Rattle.dfu_sim.specs.Opening.{goal_of_purpose}
 use Rattle.dfu_sim.specs.LinkView.{Session, Nobody, Hosted}
 use Rattle.dfu_laws.specs.board.Board.{state_on, BoardStep}
-use Rattle.dfu_laws.specs.link.Comes.{marks}
+use Rattle.dfu_laws.specs.link.LinkSteps.{marks}
 use Rattle.dfu_laws.specs.link.Trials.{MayEnd}
 use Rattle.dfu_laws.specs.link.Plays.{Plays, starts as begins, offers as offers_on, uploads as uploads_on, aborts as gives_up, goes_on as comes_next, ends as trial_ends}
 use Rattle.dfu_core.specs.Board.{CoreBoard}
 use Rattle.dfu_laws.specs.in_c.Steps.{CoreStep, board_of_core, IsBoardOf, AreStepsOf}
 use Rattle.dfu_laws.specs.in_c.Marks.{no_mark}
-use Rattle.dfu_laws.specs.in_c.Plays.{CoreLink, CorePlays, CorePlaysGoOn}
+use Rattle.dfu_laws.specs.in_c.Plays.{CoreLink, CorePlays, CorePlaysContinue}
 use Rattle.dfu_laws.proofs.in_c.Each.{powers_on}
 use Rattle.dfu_laws.proofs.in_c.Runs.{same_flash, core_state}
 use Rattle.dfu_laws.proofs.in_c.Marked.{marked_too, ended_too, core_marked_append, core_marked_more, core_marked_end}
@@ -46,7 +46,7 @@ with_session {mine = mine} {theirs = theirs} p same plays = record {
 }
 
 -- Sessions go on.
-pub core_goes_on : CorePlaysGoOn
+pub core_goes_on : CorePlaysContinue
 core_goes_on = record {
   starts = λ b on.
       let start = powers_on b (pos 0) on.begins on.powers in

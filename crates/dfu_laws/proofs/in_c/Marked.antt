@@ -4,13 +4,13 @@ use Rattle.std.proofs.Common.{refl, sym, ap, ◌∙◌, subst}
 use Rattle.dfu_slots.specs.Medium.{MediumState}
 use Rattle.dfu_boot.specs.trial.Unread.{IsUnread}
 use Rattle.dfu_core.specs.declared.config.DfuConfig.{DfuConfig}
-use Rattle.dfu_core.specs.Kept.{IsKept}
+use Rattle.dfu_core.specs.RecordMeaning.{IsRecordOf}
 use Rattle.dfu_core.specs.Board.{CoreBoard, medium_of_core}
 use Rattle.dfu_core.specs.Happens.{CoreHappens}
 use Rattle.dfu_laws.specs.board.Board.{Board, medium_on}
-use Rattle.dfu_laws.specs.link.Marks.{IsMarkedBoard, TrialEnds}
+use Rattle.dfu_laws.specs.link.Marks.{IsMarkedBoard, TrialEnd}
 use Rattle.dfu_laws.specs.in_c.Steps.{CoreStep, IsCoreRun, board_of_core, IsBoardOf}
-use Rattle.dfu_laws.specs.in_c.Marks.{IsCoreMarked, CoreTrialEnds, AreCoreMarked, no_mark, one_mark, one_trial, IsCoreMarkedRun, AreCoreJoined}
+use Rattle.dfu_laws.specs.in_c.Marks.{IsCoreMarked, CoreTrialEnd, AreCoreMarked, no_mark, one_mark, one_trial, IsCoreMarkedRun, AreCoreJoined}
 use Rattle.dfu_laws.proofs.in_c.Same.{set_up_alike}
 use Rattle.dfu_laws.proofs.in_c.Each.{powers_on}
 use Rattle.dfu_laws.proofs.in_c.Runs.{same_flash}
@@ -50,9 +50,9 @@ marked_too b b' x is mark =
 pub record EndedToo (x : Board) (begins : Bool) (b' : CoreBoard) : Type 0 where
   pub board : Board
   pub is : IsBoardOf b' board
-  pub end : TrialEnds x begins board
+  pub end : TrialEnd x begins board
 
-pub ended_too : (b b' : CoreBoard) (begins : Bool) (x : Board) → IsBoardOf b x → CoreTrialEnds b begins b' → EndedToo x begins b'
+pub ended_too : (b b' : CoreBoard) (begins : Bool) (x : Board) → IsBoardOf b x → CoreTrialEnd b begins b' → EndedToo x begins b'
 ended_too b b' begins x is end =
     let on = powers_on b' (pos 0) begins end.powers in
     let y = board_of_core b' end.powers.after in
@@ -64,7 +64,7 @@ ended_too b b' begins x is end =
         size = end.size ∙ sym (ap (λ (z : Board). length z.flash) is.is);
         starts = on.1;
         same = set_up_alike b.config b.kept b'.kept x.asking end.powers.after is.kept
-            (subst (λ (c : DfuConfig). IsKept c b'.kept end.powers.after) end.config on.0.kept);
+            (subst (λ (c : DfuConfig). IsRecordOf c b'.kept end.powers.after) end.config on.0.kept);
       };
     }
 
@@ -87,7 +87,7 @@ core_marked_more b mid b' [] marked mark = one_mark marked mark
 core_marked_more b mid b' (s ∷ rest) run mark = (run.0, run.1, core_marked_more s.after mid b' rest run.2 mark)
 
 pub core_marked_end : (b mid b' : CoreBoard) (begins : Bool) (steps : List CoreStep) → IsCoreMarkedRun b steps mid
-    → CoreTrialEnds mid begins b' → IsCoreMarkedRun b steps b'
+    → CoreTrialEnd mid begins b' → IsCoreMarkedRun b steps b'
 core_marked_end b mid b' begins [] marked end = one_trial marked end
 core_marked_end b mid b' begins (s ∷ rest) run end = (run.0, run.1, core_marked_end s.after mid b' begins rest run.2 end)
 

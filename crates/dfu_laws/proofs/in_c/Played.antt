@@ -8,13 +8,13 @@ use Rattle.dfu_asks.specs.declared.asking.Asking.{Asking}
 use Rattle.dfu_sim.specs.Play.{Answered}
 use Rattle.dfu_laws.specs.board.Board.{Board, BoardStep, medium_on}
 use Rattle.dfu_laws.specs.board.Happens.{IsPoweredOn, IsRun}
-use Rattle.dfu_laws.specs.link.Comes.{BoardLink, BoardComes}
-use Rattle.dfu_laws.specs.link.Plays.{PlaysInstall, PlaysGive, PlaysKnow, PlaysKnowWithin}
+use Rattle.dfu_laws.specs.link.LinkSteps.{BoardLink, BoardLinkStep}
+use Rattle.dfu_laws.specs.link.Plays.{PlaysInstall, UploadsOfPlays, PlaysKnow, PlaysKnowWithin}
 use Rattle.dfu_laws.proofs.link.Ran.{comes_run, front_run}
 use Rattle.dfu_core.specs.Board.{CoreBoard, medium_of_core}
 use Rattle.dfu_laws.specs.in_c.Steps.{CoreStep, IsCoreRun, board_of_core, IsBoardOf, AreStepsOf}
 use Rattle.dfu_core.specs.Happens.{IsCoreOn}
-use Rattle.dfu_laws.specs.in_c.Plays.{CoreLink, IsLinkOf, CorePlays, CoreComes, CorePlaysInstall, CorePlaysGive, CorePlaysKnow, CorePlaysKnowWithin}
+use Rattle.dfu_laws.specs.in_c.Plays.{CoreLink, IsLinkOf, CorePlays, CoreLinkStep, CorePlaysInstall, CoreUploadsAreImages, CorePlaysKnow, CorePlaysKnowWithin}
 use Rattle.dfu_laws.proofs.in_c.Same.{one_device}
 use Rattle.dfu_laws.proofs.in_c.Each.{powers_on}
 use Rattle.dfu_laws.proofs.in_c.Runs.{same_flash}
@@ -50,9 +50,9 @@ active_too b x image is active = subst (λ (m : MediumState). Active m image) (s
 
 -- The next event comes to the board of the sessions before.
 pub comes_on : (b : CoreBoard) (steps more : List CoreStep) (past : List (List ℕ)) (last : Option (List ℕ)) (l l' : CoreLink)
-    (answer : Answered) → (p : CorePlays b steps past last l) → (c : CoreComes l more answer l') → BoardComes p.link c.calls answer c.after
+    (answer : Answered) → (p : CorePlays b steps past last l) → (c : CoreLinkStep l more answer l') → BoardLinkStep p.link c.calls answer c.after
 comes_on b steps more past last l l' answer p c =
-    subst (λ (x : BoardLink). BoardComes x c.calls answer c.after) (one_link l c.before p.link c.is_before p.is_link) c.comes
+    subst (λ (x : BoardLink). BoardLinkStep x c.calls answer c.after) (one_link l c.before p.link c.is_before p.is_link) c.comes
 
 -- If Installed or Verified is reported, the payload is in place.
 pub core_install : PlaysInstall → CorePlaysInstall
@@ -69,7 +69,7 @@ core_install installs b steps more past last l l' answer on p c says =
     }
 
 -- Bytes that come with Uploaded are the active image.
-pub core_give : PlaysGive → CorePlaysGive
+pub core_give : UploadsOfPlays → CoreUploadsAreImages
 core_give gives b steps more past last l l' answer bytes on p c e =
     let start = on_too b p.first on p.is_first in
     active_too l'.board c.after.board bytes c.is_after.board
@@ -119,7 +119,7 @@ core_know_within knows b mid steps front rest past last l l' answer image on act
     let start = on_too b p.first on p.is_first in
     let first = subst (λ (m : MediumState). Active m image) (sym (same_flash b p.first p.is_first)) active in
     let f = first_of front rest c.calls c.are in
-    let comes = subst (λ (ts : List BoardStep). BoardComes p.link ts answer c.after) f.are
+    let comes = subst (λ (ts : List BoardStep). BoardLinkStep p.link ts answer c.after) f.are
     (comes_on b steps (front ++ rest) past last l l' answer p c) in
     let part = front_run p.link.board c.after.board f.first f.later
     (comes_run p.link c.after (f.first ++ f.later) answer comes) in

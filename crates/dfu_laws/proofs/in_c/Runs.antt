@@ -15,14 +15,14 @@ use Rattle.dfu_asks.specs.Mapped.{mapped}
 use Rattle.dfu_asks.specs.Asks.{grain_in}
 use Rattle.dfu_laws.specs.board.Board.{Board, Event, Restart, BoardStep, lent_on, medium_on, device_on, state_on}
 use Rattle.dfu_laws.specs.board.Happens.{IsRun}
-use Rattle.dfu_laws.specs.board.Keeps.{RunKeeps, RunStays, RunInstalls, taken_by, is_manifesting, has_manifested}
+use Rattle.dfu_laws.specs.board.ImageSurvival.{RunsKeepImage, RunStays, RunInstalls, accepted_by, is_manifesting, has_manifested}
 use Rattle.dfu_laws.specs.board.Refines.{RunRefines}
 use Rattle.dfu_core.specs.declared.config.DfuConfig.{DfuConfig}
 use Rattle.dfu_core.specs.Config.{config_grain}
-use Rattle.dfu_core.specs.Kept.{IsKept}
+use Rattle.dfu_core.specs.RecordMeaning.{IsRecordOf}
 use Rattle.dfu_core.specs.Board.{CoreBoard, CoreEvent, CoreHandle, CoreElapse, CoreReset, CoreTooLong, CoreRefuseClose, CoreRefuse, CoreWrite, CoreTook, CoreRestart, medium_of_core, IsIn}
 use Rattle.dfu_laws.specs.in_c.Steps.{CoreStep, IsCoreRun, board_of_core, event_of_core, IsBoardOf, AreStepsOf}
-use Rattle.dfu_laws.specs.in_c.Runs.{IsRunOf, CoreRefines, CoreKeeps, CoreStays, CoreInstalls, CoreStarts}
+use Rattle.dfu_laws.specs.in_c.Runs.{IsRunOf, CoreRefines, CoreRunsKeepImage, CoreStays, CoreInstalls, CoreStarts}
 use Rattle.dfu_laws.proofs.in_c.Same.{one_mode, set_up_alike}
 use Rattle.dfu_laws.proofs.in_c.Fits.{all_fit}
 use Rattle.dfu_laws.proofs.in_c.Turned.{IsSound}
@@ -65,7 +65,7 @@ run_to b a [] b' sound run = record {
 run_to b a (s ∷ rest) b' sound run =
     let t = turn b a s.event s.number s.out s.after sound run.1 in
     let more = run_to s.after t.after rest b' t.sound run.2 in
-    let kept = subst (λ (c : DfuConfig). IsKept c s.after.kept t.after) t.config t.sound.kept in
+    let kept = subst (λ (c : DfuConfig). IsRecordOf c s.after.kept t.after) t.config t.sound.kept in
     let step : BoardStep = record {
       before = board_of_core b a;
       event = event_of_core b.config s.event;
@@ -115,7 +115,7 @@ core_refines refines b b' steps on run =
           refined.history;
     }
 
-pub core_keeps : RunKeeps → CoreKeeps
+pub core_keeps : RunsKeepImage → CoreRunsKeepImage
 unfolding run_to
 core_keeps keeps b b' steps image on active run =
     let start = powers_on b (pos 0) on.begins on.powers in
@@ -174,7 +174,7 @@ core_installs installs b mid b' steps last state state' on before is waits run o
     let ran = run_to mid past.last (last ∷ []) b' past.sound run in
     record {
       runs = run_of b on.powers.after steps mid start.0 past;
-      active = subst (λ (m : MediumState). Active m (taken_by [] past.run))
+      active = subst (λ (m : MediumState). Active m (accepted_by [] past.run))
           (same_flash b' (board_of_core b' ran.last) (is_board b' ran.last ran.sound))
           (installs (board_of_core b on.powers.after) (board_of_core mid past.last) (board_of_core b' ran.last) past.run _ start.1.0
           past.is_run
@@ -194,7 +194,7 @@ pub sized_small : (m : MediumState) → IsSized m → length m.bytes < 2 ^ 32
 sized_small m sized = omega (arith, sized.even, sized.bound, sized.whole.bound, unit_most m.grain.unit)
 
 -- Power that comes back is not refused.
-pub core_starts : CoreKeeps → CoreStarts
+pub core_starts : CoreRunsKeepImage → CoreStarts
 core_starts keeps b b' steps on run n refused =
     let start = (powers_on b (pos 0) on.begins on.powers).1.0.is.store.has_image in
     let grain : grain_in (lent_on (board_of_core b on.powers.after)) ≡ config_grain b.config =

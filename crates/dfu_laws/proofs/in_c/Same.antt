@@ -18,7 +18,7 @@ use Rattle.dfu_asks.specs.Lent.{IsSetUpAs}
 use Rattle.dfu_core.specs.declared.config.DfuConfig.{DfuConfig}
 use Rattle.dfu_core.specs.declared.record.DfuRecord.{DfuRecord}
 use Rattle.dfu_core.specs.Mode.{HasNumbers, HasMode}
-use Rattle.dfu_core.specs.Kept.{IsFlag, HasJob, IsAskedNumber, HasWork, IsKept}
+use Rattle.dfu_core.specs.RecordMeaning.{IsFlag, HasJob, IsPendingNumber, HasWork, IsRecordOf}
 
 -- The code of a number.
 code_at : ℕ → Code
@@ -77,7 +77,7 @@ flag_back false n h = λ i. sym h i == 1
 one_flag : (b c : Bool) (n : ℕ) → IsFlag b n → IsFlag c n → b ≡ c
 one_flag b c n x y = flag_back b n x ∙ sym (flag_back c n y)
 
-one_asked : (n : ℕ) (x y : Option ℕ) → IsAskedNumber n x → IsAskedNumber n y → x ≡ y
+one_asked : (n : ℕ) (x y : Option ℕ) → IsPendingNumber n x → IsPendingNumber n y → x ≡ y
 one_asked n None None h k = refl
 one_asked n None (Some y) h k = absurd (omega (arith, h, k.0))
 one_asked n (Some x) None h k = absurd (omega (arith, h.0, k))
@@ -119,7 +119,7 @@ one_sector s t is = λ i. record {
 }
 
 -- Two devices of a configuration are set up alike.
-pub set_up_alike : (c : DfuConfig) (r r' : DfuRecord) (a a' : Asking) → IsKept c r a → IsKept c r' a' → IsSetUpAs a a'
+pub set_up_alike : (c : DfuConfig) (r r' : DfuRecord) (a a' : Asking) → IsRecordOf c r a → IsRecordOf c r' a' → IsSetUpAs a a'
 set_up_alike c r r' a a' h k = record {
   config = k.set_up.config_is ∙ sym h.set_up.config_is;
   unit = k.set_up.unit_is ∙ sym h.set_up.unit_is;
@@ -127,7 +127,7 @@ set_up_alike c r r' a a' h k = record {
 }
 
 -- A record is one device.
-pub one_device : (c : DfuConfig) (r : DfuRecord) (a a' : Asking) → IsKept c r a → IsKept c r a' → a ≡ a'
+pub one_device : (c : DfuConfig) (r : DfuRecord) (a a' : Asking) → IsRecordOf c r a → IsRecordOf c r a' → a ≡ a'
 one_device c r a a' h k =
     let same = set_up_alike c r r a' a k h in
     let blocks : a.block_len ≡ a'.block_len = h.block ∙ sym k.block in

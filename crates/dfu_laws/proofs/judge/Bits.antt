@@ -2,8 +2,8 @@
 use Rattle.std.specs.Prelude.{◌≡◌, Bool, true, false, not}
 use Rattle.std.proofs.Common.{refl}
 use Rattle.dfu_conformance.specs.declared.row.When.TheVariants.{CanDownload, CanUpload, Tolerant, NotTolerant, WillDetach}
-use Rattle.dfu_conformance.specs.Held.{meets}
-use Rattle.dfu_laws.specs.judge.Kept.{attributes}
+use Rattle.dfu_conformance.specs.Candidates.{meets}
+use Rattle.dfu_laws.specs.judge.Conformity.{attributes}
 
 -- By its bits a device is one of those that a row is about.
 pub flags : (d u t w : Bool)

@@ -7,9 +7,9 @@ use Rattle.dfu_wire.specs.declared.codes.Code.TheVariants.{Ok as NoFault}
 use Rattle.dfu_wire.specs.declared.requests.Request.{Request as Asked}
 use Rattle.dfu_wire.specs.declared.requests.Request.TheVariants as asked
 use Rattle.dfu_wire.specs.Setup.{IsSetup}
-use Rattle.dfu_wire.specs.Request.{Asks}
+use Rattle.dfu_wire.specs.Request.{SetupRequest}
 use Rattle.dfu_wire.specs.OneValue.{IsSetup-one}
-use Rattle.dfu_wire.specs.OneRequest.{Asks-one}
+use Rattle.dfu_wire.specs.OneRequest.{SetupRequest-one}
 use Rattle.dfu_device.specs.declared.objection.Objection.{Objection}
 use Rattle.dfu_device.specs.declared.answer.Answer.{Answer}
 use Rattle.dfu_device.specs.declared.answer.Answer.TheVariants as answer
@@ -18,16 +18,16 @@ use Rattle.dfu_device.specs.Stage.{Profile, Stage, InDownloadIdle, InManifestSyn
 use Rattle.dfu_device.specs.Table.{objection_code, may_close, Plan, Sure, Writes, Commits, plan, time_plan}
 use Rattle.dfu_device.specs.DeviceView.{DeviceView, profile, profile_of}
 use Rattle.dfu_device.specs.Rows.{Done, meant, Cause, Transfer, Passing, BusReset, RefusingClose, Refusing, PowerOn, Handles, Row, is_close, IsCloseSetup, body_length, is_served, asked_length}
-use Rattle.dfu_device.specs.Came.{row_of, not_served}
-use Rattle.dfu_slots.specs.Seen.{image_of, room_of}
+use Rattle.dfu_device.specs.PlanOutcomes.{row_of, not_served}
+use Rattle.dfu_slots.specs.StoreView.{image_of, room_of}
 use Rattle.dfu_conformance.specs.declared.row.StandardState.{StandardState}
 use Rattle.dfu_conformance.specs.declared.row.StandardState.TheVariants as place
 use Rattle.dfu_conformance.specs.declared.event.LogEvent.{LogEvent}
-use Rattle.dfu_conformance.specs.Fits.{stays_at, asks}
+use Rattle.dfu_conformance.specs.RowMatches.{stays_at, asks}
 use Rattle.dfu_conformance.specs.Setups.{event_of, is_plain}
 use Rattle.dfu_conformance.specs.MayAnswer.{Run}
 use Rattle.dfu_conformance.proofs.ForCallers.{moves_first}
-use Rattle.dfu_laws.specs.judge.Kept.{attributes, attributes_of, place_of, seen, AddsEvent, TellsEvents, Stands, TakesTime, HistoryIsKept, StartIsKept}
+use Rattle.dfu_laws.specs.judge.Conformity.{attributes, attributes_of, place_of, seen, AddsEvent, EventsOfStep, StageInvariant, NeedsManifestTime, HistoriesConform, StartsConform}
 use Rattle.dfu_laws.proofs.judge.Leads.{PlanKept, stalls, write_stands, commit_stands}
 use Rattle.dfu_laws.proofs.judge.Rows.{plan_kept}
 use Rattle.dfu_laws.proofs.judge.Seen.{LedOn}
@@ -36,22 +36,22 @@ use Rattle.dfu_laws.proofs.judge.Passing.{time_kept, time_moved, reset_led, rese
 -- A plan that is kept and was carried out led the device on.
 done_led : (pl : Plan) (c : Profile) (p : Setup) (q : Asked) (body : List ℕ) (st : Stage) (w : DeviceView) (a : Answer) (out : List ℕ)
     (w' : DeviceView) → PlanKept c p q body st pl → Done pl (asked_length q) w a out w'
-    → LedOn (attributes_of c) (place_of st) (event_of p q (length body) (seen a out)) (place_of w'.stage) × Stands c w'.stage
+    → LedOn (attributes_of c) (place_of st) (event_of p q (length body) (seen a out)) (place_of w'.stage) × StageInvariant c w'.stage
 done_led (Sure reply next) c p q body st w a out w' (leads, stands) (says, is) =
     subst (λ (z : DeviceView). LedOn (attributes_of c) (place_of st) (event_of p q (length body) (seen a out)) (place_of z.stage)
-    × Stands c z.stage)
+    × StageInvariant c z.stage)
     (sym is) (leads a out says, stands)
 done_led (Writes before block reply next bad) c p q body st w a out w' ((leads, stands), fails) (inl (says, h)) =
-    subst (λ (z : Stage). LedOn (attributes_of c) (place_of st) (event_of p q (length body) (seen a out)) (place_of z) × Stands c z)
+    subst (λ (z : Stage). LedOn (attributes_of c) (place_of st) (event_of p q (length body) (seen a out)) (place_of z) × StageInvariant c z)
     (sym h.stage_is) (leads a out says, stands)
 done_led (Writes before block reply next bad) c p q body st w a out w' ((leads, stands), fails) (inr (fault, says, h)) =
-    subst (λ (z : Stage). LedOn (attributes_of c) (place_of st) (event_of p q (length body) (seen a out)) (place_of z) × Stands c z)
+    subst (λ (z : Stage). LedOn (attributes_of c) (place_of st) (event_of p q (length body) (seen a out)) (place_of z) × StageInvariant c z)
     (sym h.stage_is) (fails fault a out says, write_stands c fault)
 done_led (Commits taken reply next bad) c p q body st w a out w' ((leads, stands), fails) (inl (says, h)) =
-    subst (λ (z : Stage). LedOn (attributes_of c) (place_of st) (event_of p q (length body) (seen a out)) (place_of z) × Stands c z)
+    subst (λ (z : Stage). LedOn (attributes_of c) (place_of st) (event_of p q (length body) (seen a out)) (place_of z) × StageInvariant c z)
     (sym h.stage_is) (leads a out says, stands)
 done_led (Commits taken reply next bad) c p q body st w a out w' ((leads, stands), fails) (inr (fault, says, h)) =
-    subst (λ (z : Stage). LedOn (attributes_of c) (place_of st) (event_of p q (length body) (seen a out)) (place_of z) × Stands c z)
+    subst (λ (z : Stage). LedOn (attributes_of c) (place_of st) (event_of p q (length body) (seen a out)) (place_of z) × StageInvariant c z)
     (sym h.stage_is) (fails fault a out says, commit_stands c fault)
 
 -- A plan that was carried out keeps what the device is set up with.
@@ -74,10 +74,10 @@ unserved p q body ours off = and_left _ _ off
 
 -- A transfer that goes by the table led the device on, and so did one that does not, which was stalled and changed nothing.
 transfer_kept : (w : DeviceView) (setup body : List ℕ) (a : Answer) (out : List ℕ) (w' : DeviceView) (p : Setup) (q : Asked) (b : Bool)
-    → TakesTime (profile w) → Stands (profile w) w.stage → IsSetup p setup → Asks p q → IsOurs q → is_served p q body ≡ b
+    → NeedsManifestTime (profile w) → StageInvariant (profile w) w.stage → IsSetup p setup → SetupRequest p q → IsOurs q → is_served p q body ≡ b
     → Handles setup body w a out w'
     → LedOn (attributes_of (profile w)) (place_of w.stage) (event_of p q (length body) (seen a out)) (place_of w'.stage)
-    × Stands (profile w) w'.stage × (w'.config ≡ w.config)
+    × StageInvariant (profile w) w'.stage × (w'.config ≡ w.config)
 transfer_kept w setup body a out w' p q true takes stands reads asks ours on h =
     let done = row_of p q setup body w a out w' reads asks h in
     let led = done_led (plan (profile w) (image_of w.slots) w.stage (meant q body)) (profile w) p q body w.stage w a out w'
@@ -86,7 +86,7 @@ transfer_kept w setup body a out w' p q true takes stands reads asks ours on h =
 transfer_kept w setup body a out w' p q false takes stands reads asks ours off h =
     let (stall, same) = not_served p q setup body w a out w' reads asks off h in
     subst (λ (z : DeviceView). LedOn (attributes_of (profile w)) (place_of w.stage) (event_of p q (length body) (seen a out)) (place_of z.stage)
-    × Stands (profile w) z.stage × (z.config ≡ w.config)) (sym same) (
+    × StageInvariant (profile w) z.stage × (z.config ≡ w.config)) (sym same) (
       (place_of w.stage, inl refl, inr (inr (inr (refl, (λ k. stays_at (unserved p q body ours off k) (seen (stall k) out)))))),
       stands,
       refl,
@@ -97,11 +97,11 @@ abbrev pub StepKept : DeviceView → DeviceView → (rest events : List LogEvent
 StepKept w w' rest events =
     ((last : StandardState) → Run (attributes_of (profile w)) 0 (place_of w'.stage) rest last
     → Run (attributes_of (profile w)) 0 (place_of w.stage) events last)
-    × Stands (profile w) w'.stage × (w'.config ≡ w.config)
+    × StageInvariant (profile w) w'.stage × (w'.config ≡ w.config)
 
 -- An event that led a device on, and is seen, is the head of a run.
 led_step : (w w' : DeviceView) (e : LogEvent) (rest events : List LogEvent) → events ≡ e ∷ rest
-    → LedOn (attributes_of (profile w)) (place_of w.stage) e (place_of w'.stage) × Stands (profile w) w'.stage × (w'.config ≡ w.config)
+    → LedOn (attributes_of (profile w)) (place_of w.stage) e (place_of w'.stage) × StageInvariant (profile w) w'.stage × (w'.config ≡ w.config)
     → StepKept w w' rest events
 led_step w w' e rest events adds ((here, moved, may), stands, config) = (
   λ last run. subst (λ (es : List LogEvent). Run (attributes_of (profile w)) 0 (place_of w.stage) es last) (sym adds)
@@ -112,7 +112,7 @@ led_step w w' e rest events adds ((here, moved, may), stands, config) = (
 
 by_request : (w : DeviceView) (setup body : List ℕ) (a : Answer) (out : List ℕ) (w' : DeviceView) (rest events : List LogEvent) (p : Setup)
     (q : Asked)
-    → TakesTime (profile w) → Stands (profile w) w.stage → IsSetup p setup → Asks p q → Handles setup body w a out w'
+    → NeedsManifestTime (profile w) → StageInvariant (profile w) w.stage → IsSetup p setup → SetupRequest p q → Handles setup body w a out w'
     → AddsEvent p q body (seen a out) rest events → StepKept w w' rest events
 by_request w setup body a out w' rest events p asked.NotDfu takes stands reads asks h adds =
     let (stall, same) = not_served p asked.NotDfu setup body w a out w' reads asks refl h in
@@ -122,14 +122,14 @@ by_request w setup body a out w' rest events p q takes stands reads asks h adds 
     led_step w w' _ rest events adds (transfer_kept w setup body a out w' p q _ takes stands reads asks tt refl h)
 
 -- A request that closes a download is a DNLOAD with wLength 0, read as any other setup.
-close_read : (setup : List ℕ) (p : Setup) (q : Asked) → IsSetup p setup → Asks p q → IsCloseSetup setup → is_close q ≡ true
+close_read : (setup : List ℕ) (p : Setup) (q : Asked) → IsSetup p setup → SetupRequest p q → IsCloseSetup setup → is_close q ≡ true
 close_read setup p q reads asks (p2, q2, reads2, asks2, close) =
     let same : p2 ≡ p = IsSetup-one p2 p setup reads2 reads in
-    subst (λ (r : Asked). is_close r ≡ true) (Asks-one p q2 q (subst (λ (x : Setup). Asks x q2) same asks2) asks) close
+    subst (λ (r : Asked). is_close r ≡ true) (SetupRequest-one p q2 q (subst (λ (x : Setup). SetupRequest x q2) same asks2) asks) close
 
 -- A close that the program refuses.
 close_kept : (w : DeviceView) (a : Answer) (out : List ℕ) (w' : DeviceView) (rest events : List LogEvent) (p : Setup) (q : Asked)
-    (why : Objection) (st : Stage) → is_close q ≡ true → Asks p q → may_close w.config.least st ≡ true → w.stage ≡ st
+    (why : Objection) (st : Stage) → is_close q ≡ true → SetupRequest p q → may_close w.config.least st ≡ true → w.stage ≡ st
     → (a ≡ answer.Stall) × (out ≡ [])
     → w' ≡ record w { stage = InError (objection_code why) } → AddsEvent p q [] (seen a out) rest events → StepKept w w' rest events
 close_kept w a out w' rest events p (asked.Dnload number len) why (InDownloadIdle taken next) close asks may at says same adds =
@@ -143,7 +143,7 @@ close_kept w a out w' rest events p (asked.Dnload number len) why (InDownloadIdl
           (place_of z.stage)) (sym same)
           (subst (λ (x : Stage). LedOn (attributes_of (profile w)) (place_of x) (event_of p (asked.Dnload number len) 0 (seen a out))
           place.Error) (sym at) led),
-      subst (λ (z : DeviceView). Stands (profile w) z.stage) (sym same) (objection_stands (profile w) why),
+      subst (λ (z : DeviceView). StageInvariant (profile w) z.stage) (sym same) (objection_stands (profile w) why),
       ap (λ (z : DeviceView). z.config) same,
     )
 close_kept w a out w' rest events p (asked.Dnload number len) why st close asks may at says same adds = absurd (false≢true may)
@@ -151,7 +151,7 @@ close_kept w a out w' rest events p q why st close asks may at says same adds = 
 
 -- A step of a history.
 step_kept : (w : DeviceView) (cause : Cause) (a : Answer) (out : List ℕ) (w' : DeviceView) (rest events : List LogEvent)
-    → TakesTime (profile w) → Stands (profile w) w.stage → Row w cause a out w' → TellsEvents cause a out rest events
+    → NeedsManifestTime (profile w) → StageInvariant (profile w) w.stage → Row w cause a out w' → EventsOfStep cause a out rest events
     → StepKept w w' rest events
 step_kept w (Transfer setup body) a out w' rest events takes stands row (p, q, reads, asks, adds) =
     by_request w setup body a out w' rest events p q takes stands reads asks row adds
@@ -189,22 +189,22 @@ step_kept w PowerOn a out w' rest events takes stands row adds =
     )
 
 -- Whatever history a device has, it is kept.
-pub history_kept : HistoryIsKept
+pub history_kept : HistoriesConform
 history_kept [] events w w' takes stands is none_seen =
     subst (λ (z : DeviceView). Run (attributes_of (profile w)) 0 (place_of w.stage) events (place_of z.stage)
-    × Stands (profile z) z.stage) (sym is) (
+    × StageInvariant (profile z) z.stage) (sym is) (
       subst (λ (es : List LogEvent). Run (attributes_of (profile w)) 0 (place_of w.stage) es (place_of w.stage)) (sym none_seen)
           (inl refl),
       stands,
     )
 history_kept (s ∷ h) events w w' takes stands (begins, row, after) (rest, tells, are_seen) =
-    let takes_before : TakesTime (profile s.before) = subst (λ (z : DeviceView). TakesTime (profile z)) (sym begins) takes in
-    let stands_before : Stands (profile s.before) s.before.stage = subst (λ (z : DeviceView). Stands (profile z) z.stage) (sym begins) stands in
+    let takes_before : NeedsManifestTime (profile s.before) = subst (λ (z : DeviceView). NeedsManifestTime (profile z)) (sym begins) takes in
+    let stands_before : StageInvariant (profile s.before) s.before.stage = subst (λ (z : DeviceView). StageInvariant (profile z) z.stage) (sym begins) stands in
     let (runs, stands_after, config) =
     step_kept s.before s.cause s.answer s.out s.after rest events takes_before stands_before row tells in
-    let takes_after : TakesTime (profile s.after) =
-    subst (λ (x : Setting). TakesTime (profile_of x (room_of s.after.slots))) (sym config) takes_before in
-    let stands_there : Stands (profile s.after) s.after.stage =
+    let takes_after : NeedsManifestTime (profile s.after) =
+    subst (λ (x : Setting). NeedsManifestTime (profile_of x (room_of s.after.slots))) (sym config) takes_before in
+    let stands_there : StageInvariant (profile s.after) s.after.stage =
     stands_with s.before s.after s.after.stage config stands_after in
     let (run, at_last) = history_kept h rest s.after w' takes_after stands_there after are_seen in
     let run_before : Run (attributes_of (profile s.before)) 0 (place_of s.after.stage) rest (place_of w'.stage) =
@@ -215,7 +215,7 @@ history_kept (s ∷ h) events w w' takes stands (begins, row, after) (rest, tell
       at_last,
     )
   where
-    stands_with : (w z : DeviceView) (st : Stage) → z.config ≡ w.config → Stands (profile w) st → Stands (profile z) st
+    stands_with : (w z : DeviceView) (st : Stage) → z.config ≡ w.config → StageInvariant (profile w) st → StageInvariant (profile z) st
     stands_with w z InManifestSyncComplete config on = ap (λ (x : Setting). x.functional.tolerant) config ∙ on
     stands_with w z (InUploadIdle at number) config on = ap (λ (x : Setting). x.functional.can_upload) config ∙ on
     stands_with w z (InError NoFault) config h = absurd h
@@ -241,10 +241,10 @@ attributes_below false true true true = lit< tt
 attributes_below true true true true = lit< tt
 
 -- So the answers of each device that begins in appIDLE are kept.
-pub start_kept : StartIsKept
+pub start_kept : StartsConform
 start_kept h events w w' allowed starts is are_seen =
     let c = profile w in
-    let idle : Stands c w.stage = subst (λ (st : Stage). Stands c st) (sym starts) tt in
+    let idle : StageInvariant c w.stage = subst (λ (st : Stage). StageInvariant c st) (sym starts) tt in
     let run = subst (λ (st : Stage). Run (attributes_of c) 0 (place_of st) events (place_of w'.stage)) starts
     ((history_kept h events w w' allowed.poll.takes_time idle is are_seen).0) in
     (run, (attributes_of c, attributes_below c.can_download c.can_upload c.tolerant c.will_detach, place_of w'.stage, (place.AppIdle, run)))

@@ -11,7 +11,7 @@ use Rattle.dfu_wire.specs.declared.codes.Code.{Code}
 use Rattle.dfu_wire.specs.declared.codes.Code.TheVariants.{StalledPkt as ErrStalledPkt, Address as ErrAddress}
 use Rattle.dfu_wire.specs.declared.requests.Request.{Request as Asked}
 use Rattle.dfu_wire.specs.declared.requests.Request.TheVariants as asked
-use Rattle.dfu_wire.specs.Request.{Asks}
+use Rattle.dfu_wire.specs.Request.{SetupRequest}
 use Rattle.dfu_device.specs.declared.answer.Answer.{Answer}
 use Rattle.dfu_device.specs.Stage.{Reply, Ack, StateOf, Data, Stall, Profile, Stage, InDfuIdle, InDownloadSync, InUploadIdle, InError, state_of, code_of, poll_of, status_of}
 use Rattle.dfu_device.specs.Table.{Plan, Sure, Writes, Commits, write_code, commit_code, block_plan, upload_plan, next_number}
@@ -27,11 +27,11 @@ use Rattle.dfu_conformance.specs.declared.row.Gives.TheVariants as gives
 use Rattle.dfu_conformance.specs.declared.event.Response.{Response as Shows}
 use Rattle.dfu_conformance.specs.declared.standard.TheConstants.{STANDARD}
 use Rattle.dfu_conformance.specs.declared.drifts.TheConstants.{DRIFTS}
-use Rattle.dfu_conformance.specs.Fits.{asks, asked_number, gives_bytes}
-use Rattle.dfu_conformance.specs.Held.{meets}
+use Rattle.dfu_conformance.specs.RowMatches.{asks, request_number, bytes_match}
+use Rattle.dfu_conformance.specs.Candidates.{meets}
 use Rattle.dfu_conformance.specs.Setups.{event_of}
 use Rattle.dfu_conformance.proofs.ForCallers.{is_row, is_move}
-use Rattle.dfu_laws.specs.judge.Kept.{attributes_of, place_of, seen, Stands}
+use Rattle.dfu_laws.specs.judge.Conformity.{attributes_of, place_of, seen, StageInvariant}
 use Rattle.dfu_laws.proofs.judge.Bits.{flags}
 use Rattle.dfu_laws.proofs.judge.Seen.{LedOn, standing, moving, acked, stalled, told, reported, parted, state_is, code_is}
 
@@ -42,15 +42,15 @@ Leads c p q body st reply next = (a : Answer) (out : List ℕ) → Answers (aske
 
 -- So does each outcome of a plan.
 abbrev pub PlanKept : Profile → Setup → Asked → List ℕ → Stage → Plan → Type 0
-PlanKept c p q body st (Sure reply next) = Leads c p q body st reply next × Stands c next
+PlanKept c p q body st (Sure reply next) = Leads c p q body st reply next × StageInvariant c next
 PlanKept c p q body st (Writes before block reply next bad) =
-    (Leads c p q body st reply next × Stands c next) × ((fault : WriteFault) → Leads c p q body st (bad fault) (InError (write_code fault)))
+    (Leads c p q body st reply next × StageInvariant c next) × ((fault : WriteFault) → Leads c p q body st (bad fault) (InError (write_code fault)))
 PlanKept c p q body st (Commits taken reply next bad) =
-    (Leads c p q body st reply next × Stands c next) × ((fault : WriteFault)
+    (Leads c p q body st reply next × StageInvariant c next) × ((fault : WriteFault)
     → Leads c p q body st (bad fault) (InError (commit_code fault)))
 
 -- A DNLOAD has as many bytes as its setup says.
-pub whole : (p : Setup) (number len : ℕ) (body : List ℕ) → Asks p (asked.Dnload number len)
+pub whole : (p : Setup) (number len : ℕ) (body : List ℕ) → SetupRequest p (asked.Dnload number len)
     → is_served p (asked.Dnload number len) body ≡ true
     → len ≡ length body
 whole p number len body asks served =
@@ -59,13 +59,13 @@ whole p number len body asks served =
 -- A DNLOAD of no bytes closes the download.
 pub asks_close : (p : Setup) (number len n : ℕ) (a : Shows) → len ≡ 0 → asks came.Close (event_of p (asked.Dnload number len) n a) ≡ true
 asks_close p number len n a is =
-    or_left _ _ (eq-eqb _ _ (ap asked_number (sym (cond-true (len == 0) came.Close came.Block (eq-eqb len 0 is)))))
+    or_left _ _ (eq-eqb _ _ (ap request_number (sym (cond-true (len == 0) came.Close came.Block (eq-eqb len 0 is)))))
 
 -- A DNLOAD with bytes is a block.
 pub asks_block : (p : Setup) (number len n : ℕ) (a : Shows) (x : ℕ) (xs : List ℕ) → len ≡ length (x ∷ xs)
     → asks came.Block (event_of p (asked.Dnload number len) n a) ≡ true
 asks_block p number len n a x xs is =
-    or_left _ _ (eq-eqb _ _ (ap asked_number (sym (cond-false (len == 0) came.Close came.Block (ne_eqb len 0 (λ z. omega (
+    or_left _ _ (eq-eqb _ _ (ap request_number (sym (cond-false (len == 0) came.Close came.Block (ne_eqb len 0 (λ z. omega (
       arith,
       z,
       is,
@@ -84,14 +84,14 @@ came_by asked.Abort body = came.Abort
 came_by q body = came.Other
 
 -- A row about that is about what was asked.
-pub about : (p : Setup) (q : Asked) (body : List ℕ) (a : Shows) → Asks p q → is_served p q body ≡ true
+pub about : (p : Setup) (q : Asked) (body : List ℕ) (a : Shows) → SetupRequest p q → is_served p q body ≡ true
     → asks (came_by q body) (event_of p q (length body) a) ≡ true
 about p (asked.Dnload k len) [] a asks v = asks_close p k len 0 a (whole p k len [] asks v)
 about p (asked.Dnload k len) (x ∷ xs) a asks v = asks_block p k len (length (x ∷ xs)) a x xs (whole p k len (x ∷ xs) asks v)
 about p q body a asks v = refl
 
 -- A request that is stalled.
-pub stalls : (c : Profile) (p : Setup) (q : Asked) (body : List ℕ) (st next : Stage) → Asks p q → is_served p q body ≡ true
+pub stalls : (c : Profile) (p : Setup) (q : Asked) (body : List ℕ) (st next : Stage) → SetupRequest p q → is_served p q body ≡ true
     → list_any (is_row (place_of st) (came_by q body) Always gives.Stall (place_of next)) STANDARD ≡ true → Leads c p q body st Stall next
 stalls c p q body st next asks v some = λ a out h.
     standing (attributes_of c) (place_of st) (came_by q body) Always gives.Stall (place_of next) (event_of p q (length body)
@@ -99,7 +99,7 @@ stalls c p q body st next asks v some = λ a out h.
     refl (about p q body (seen a out) asks v) (stalled (place_of st) (place_of next) p.length (asked_length q) a out h)
 
 -- A request that is acknowledged.
-pub acks : (c : Profile) (p : Setup) (q : Asked) (body : List ℕ) (st next : Stage) (when : When) → Asks p q → is_served p q body ≡ true
+pub acks : (c : Profile) (p : Setup) (q : Asked) (body : List ℕ) (st next : Stage) (when : When) → SetupRequest p q → is_served p q body ≡ true
     → list_any (is_row (place_of st) (came_by q body) when gives.Ack (place_of next)) STANDARD ≡ true
     → meets when (attributes_of c) 0 ≡ true → Leads c p q body st Ack next
 acks c p q body st next when asks v some of_it = λ a out h.
@@ -107,7 +107,7 @@ acks c p q body st next when asks v some of_it = λ a out h.
     of_it (about p q body (seen a out) asks v) (acked (place_of st) (place_of next) p.length (asked_length q) a out h)
 
 -- GETSTATUS is answered with the status of the stage that is entered.
-pub reports : (c : Profile) (p : Setup) (len : ℕ) (body : List ℕ) (st next : Stage) (when : When) → Stands c next → len ≡ p.length
+pub reports : (c : Profile) (p : Setup) (len : ℕ) (body : List ℕ) (st next : Stage) (when : When) → StageInvariant c next → len ≡ p.length
     → list_any (is_row (place_of st) came.GetStatus when gives.Status (place_of next)) STANDARD ≡ true
     → meets when (attributes_of c) 0 ≡ true
     → Leads c p (asked.GetStatus len) body st (status_of c next) next
@@ -118,7 +118,7 @@ reports c p len body st next when stands is some of_it = λ a out h.
     (state_is next) is h)
 
 -- GETSTATUS is answered with the code of a fault: the device came to dfuERROR by itself.
-pub fails : (c : Profile) (p : Setup) (len : ℕ) (body : List ℕ) (st : Stage) (code : Code) → Stands c (InError code) → len ≡ p.length
+pub fails : (c : Profile) (p : Setup) (len : ℕ) (body : List ℕ) (st : Stage) (code : Code) → StageInvariant c (InError code) → len ≡ p.length
     → list_any (is_move (place_of st) Always place.Error) DRIFTS ≡ true
     → Leads c p (asked.GetStatus len) body st (status_of c (InError code)) (InError code)
 fails c p len body st code stands is move = λ a out h.
@@ -127,12 +127,12 @@ fails c p len body st code stands is move = λ a out h.
     (reported place.Error place.Error code 0 (state_of (InError code)) p.length len a out (code_is c (InError code) stands) refl is h)
 
 -- The code of a block that could not be written is not OK.
-pub write_stands : (c : Profile) (fault : WriteFault) → Stands c (InError (write_code fault))
+pub write_stands : (c : Profile) (fault : WriteFault) → StageInvariant c (InError (write_code fault))
 write_stands c Failed = tt
 write_stands c NotVerified = tt
 
 -- The code of an image that could not be put in place is not OK.
-pub commit_stands : (c : Profile) (fault : WriteFault) → Stands c (InError (commit_code fault))
+pub commit_stands : (c : Profile) (fault : WriteFault) → StageInvariant c (InError (commit_code fault))
 commit_stands c Failed = tt
 commit_stands c NotVerified = tt
 
@@ -148,7 +148,7 @@ tells c p len body st is some = λ a out h.
 -- An UPLOAD is answered with a part of the image.
 pub gives_part : (c : Profile) (p : Setup) (number len : ℕ) (body part : List ℕ) (st next : Stage) (g : Gives)
     → list_any (is_row (place_of st) came.Upload CanUpload g (place_of next)) STANDARD ≡ true → c.can_upload ≡ true
-    → gives_bytes g (place_of st) (place_of next) p.length (length part) (slice_index part 0) (slice_index part 4) ≡ true
+    → bytes_match g (place_of st) (place_of next) p.length (length part) (slice_index part 0) (slice_index part 4) ≡ true
     → Leads c p (asked.Upload number len) body st (Data part) next
 gives_part c p number len body part st next g some can fits = λ a out h.
     standing (attributes_of c) (place_of st) came.Upload CanUpload g (place_of next)
@@ -163,14 +163,14 @@ which P false x y f g = g refl
 
 -- An UPLOAD that may be served, at a place of the image.
 pub uploads : (c : Profile) (image : List ℕ) (at expected : ℕ) (st : Stage) (p : Setup) (k len : ℕ) (body : List ℕ) → c.can_upload ≡ true
-    → Asks p (asked.Upload k len) → is_served p (asked.Upload k len) body ≡ true
+    → SetupRequest p (asked.Upload k len) → is_served p (asked.Upload k len) body ≡ true
     → list_any (is_row (place_of st) came.Upload Always gives.Stall place.Error) STANDARD ≡ true
     → list_any (is_row (place_of st) came.Upload CanUpload gives.Short place.DfuIdle) STANDARD ≡ true
     → list_any (is_row (place_of st) came.Upload CanUpload gives.Full place.UploadIdle) STANDARD ≡ true
     → PlanKept c p (asked.Upload k len) body st (upload_plan c image at expected k len)
 uploads c image at expected st p k len body can asks v stall_row short_row full_row =
     let P : Plan → Type 0 = PlanKept c p (asked.Upload k len) body st in
-    let bad : (code : Code) → Stands c (InError code) → P (Sure Stall (InError code)) = λ code stands.
+    let bad : (code : Code) → StageInvariant c (InError code) → P (Sure Stall (InError code)) = λ code stands.
     (stalls c p (asked.Upload k len) body st (InError code) asks v stall_row, stands) in
     let part = take len (drop at image) in
     let next = InUploadIdle (at + len) (next_number expected) in
@@ -190,14 +190,14 @@ uploads c image at expected st p k len body can asks v stall_row short_row full_
 
 -- A block that may be taken.
 pub blocks : (c : Profile) (taken : List ℕ) (expected : ℕ) (st : Stage) (p : Setup) (k len x : ℕ) (xs : List ℕ) (when : When)
-    → Asks p (asked.Dnload k len) → is_served p (asked.Dnload k len) (x ∷ xs) ≡ true
+    → SetupRequest p (asked.Dnload k len) → is_served p (asked.Dnload k len) (x ∷ xs) ≡ true
     → list_any (is_row (place_of st) came.Block Always gives.Stall place.Error) STANDARD ≡ true
     → list_any (is_row (place_of st) came.Block when gives.Ack place.DownloadSync) STANDARD ≡ true
     → meets when (attributes_of c) 0 ≡ true
     → PlanKept c p (asked.Dnload k len) (x ∷ xs) st (block_plan c taken expected k (x ∷ xs))
 blocks c taken expected st p k len x xs when asks v stall_row ack_row of_it =
     let P : Plan → Type 0 = PlanKept c p (asked.Dnload k len) (x ∷ xs) st in
-    let bad : (code : Code) → Stands c (InError code) → P (Sure Stall (InError code)) = λ code stands.
+    let bad : (code : Code) → StageInvariant c (InError code) → P (Sure Stall (InError code)) = λ code stands.
     (stalls c p (asked.Dnload k len) (x ∷ xs) st (InError code) asks v stall_row, stands) in
     either_way P (nat_lt c.transfer (length (x ∷ xs))) _ _ (bad ErrStalledPkt tt) (either_way P (not (k == expected)) _ _
     (bad ErrAddress tt)

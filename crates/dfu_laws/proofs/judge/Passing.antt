@@ -19,22 +19,22 @@ use Rattle.dfu_conformance.specs.declared.row.Gives.TheVariants as gives
 use Rattle.dfu_conformance.specs.declared.event.LogEvent.{LogEvent}
 use Rattle.dfu_conformance.specs.declared.marks.TheConstants.{MARKS}
 use Rattle.dfu_conformance.specs.declared.drifts.TheConstants.{DRIFTS}
-use Rattle.dfu_conformance.specs.Fits.{asks, row_shows}
-use Rattle.dfu_conformance.specs.Held.{meets}
+use Rattle.dfu_conformance.specs.RowMatches.{asks, answer_matches}
+use Rattle.dfu_conformance.specs.Candidates.{meets}
 use Rattle.dfu_conformance.specs.Setups.{reset, power}
 use Rattle.dfu_conformance.specs.MayAnswer.{MayAnswer, MayMove, Run}
 use Rattle.dfu_conformance.proofs.ForCallers.{is_row, by_row, is_move, by_move, moves_first}
-use Rattle.dfu_laws.specs.judge.Kept.{attributes_of, place_of, Stands}
+use Rattle.dfu_laws.specs.judge.Conformity.{attributes_of, place_of, StageInvariant}
 use Rattle.dfu_laws.proofs.judge.Bits.{flags}
 use Rattle.dfu_laws.proofs.judge.Leads.{write_stands, commit_stands, which}
 
 -- The result of a time that passes is a move, or none.
 abbrev pub TimeKept : Profile → Stage → Plan → Type 0
-TimeKept c st (Sure reply next) = MayMove (attributes_of c) 0 (place_of st) (place_of next) × Stands c next
+TimeKept c st (Sure reply next) = MayMove (attributes_of c) 0 (place_of st) (place_of next) × StageInvariant c next
 TimeKept c st (Writes before block reply next bad) =
-    (MayMove (attributes_of c) 0 (place_of st) (place_of next) × Stands c next) × MayMove (attributes_of c) 0 (place_of st) place.Error
+    (MayMove (attributes_of c) 0 (place_of st) (place_of next) × StageInvariant c next) × MayMove (attributes_of c) 0 (place_of st) place.Error
 TimeKept c st (Commits taken reply next bad) =
-    (MayMove (attributes_of c) 0 (place_of st) (place_of next) × Stands c next) × MayMove (attributes_of c) 0 (place_of st) place.Error
+    (MayMove (attributes_of c) 0 (place_of st) (place_of next) × StageInvariant c next) × MayMove (attributes_of c) 0 (place_of st) place.Error
 
 -- It moves by itself.
 pub moves : (c : Profile) (from : StandardState) (when : When) (next : StandardState) → list_any (is_move from when next) DRIFTS ≡ true
@@ -42,7 +42,7 @@ pub moves : (c : Profile) (from : StandardState) (when : When) (next : StandardS
 moves c from when next some of_it = inr (by_move DRIFTS from when next (attributes_of c) 0 some of_it)
 
 -- Each time that passes is a move, or none.
-pub time_kept : (c : Profile) (st : Stage) (ms : ℕ) → Stands c st → TimeKept c st (time_plan c st ms)
+pub time_kept : (c : Profile) (st : Stage) (ms : ℕ) → StageInvariant c st → TimeKept c st (time_plan c st ms)
 time_kept c (InAppDetach timer passed) ms stands =
     let P : Plan → Type 0 = TimeKept c (InAppDetach timer passed) in
     either_way P (ms == 0) _ _ (inl refl, tt) (which P c.will_detach _ _
@@ -64,7 +64,7 @@ time_kept c (InDownloadBusy before block number passed) ms stands =
     ) (inl refl, tt))
 time_kept c (InManifest taken passed) ms stands =
     let P : Plan → Type 0 = TimeKept c (InManifest taken passed) in
-    let Q : Stage → Type 0 = λ next. (MayMove (attributes_of c) 0 place.Manifest (place_of next) × Stands c next)
+    let Q : Stage → Type 0 = λ next. (MayMove (attributes_of c) 0 place.Manifest (place_of next) × StageInvariant c next)
     × MayMove (attributes_of c) 0 place.Manifest place.Error in
     let fault : MayMove (attributes_of c) 0 place.Manifest place.Error = moves c place.Manifest Always place.Error refl refl in
     either_way P (ms == 0) _ _ (inl refl, tt) (either_way P (nat_le (image_ms c.pace c.manifest (length taken)) (passed + ms)) _ _
@@ -91,32 +91,32 @@ time_kept c st ms stands = (inl refl, stands)
 -- A time that passed moved the device, or not.
 pub time_moved : (pl : Plan) (c : Profile) (st : Stage) (w : DeviceView) (a : Answer) (out : List ℕ) (w' : DeviceView) → TimeKept c st pl
     → Done pl 0 w a out w'
-    → MayMove (attributes_of c) 0 (place_of st) (place_of w'.stage) × Stands c w'.stage
+    → MayMove (attributes_of c) 0 (place_of st) (place_of w'.stage) × StageInvariant c w'.stage
 time_moved (Sure reply next) c st w a out w' kept (says, is) =
-    subst (λ (z : DeviceView). MayMove (attributes_of c) 0 (place_of st) (place_of z.stage) × Stands c z.stage) (sym is) kept
+    subst (λ (z : DeviceView). MayMove (attributes_of c) 0 (place_of st) (place_of z.stage) × StageInvariant c z.stage) (sym is) kept
 time_moved (Writes before block reply next bad) c st w a out w' kept (inl (says, h)) =
-    subst (λ (z : Stage). MayMove (attributes_of c) 0 (place_of st) (place_of z) × Stands c z) (sym h.stage_is) kept.0
+    subst (λ (z : Stage). MayMove (attributes_of c) 0 (place_of st) (place_of z) × StageInvariant c z) (sym h.stage_is) kept.0
 time_moved (Writes before block reply next bad) c st w a out w' kept (inr (fault, says, h)) =
-    subst (λ (z : Stage). MayMove (attributes_of c) 0 (place_of st) (place_of z) × Stands c z) (sym h.stage_is) (
+    subst (λ (z : Stage). MayMove (attributes_of c) 0 (place_of st) (place_of z) × StageInvariant c z) (sym h.stage_is) (
       kept.1,
       write_stands c fault,
     )
 time_moved (Commits taken reply next bad) c st w a out w' kept (inl (says, h)) =
-    subst (λ (z : Stage). MayMove (attributes_of c) 0 (place_of st) (place_of z) × Stands c z) (sym h.stage_is) kept.0
+    subst (λ (z : Stage). MayMove (attributes_of c) 0 (place_of st) (place_of z) × StageInvariant c z) (sym h.stage_is) kept.0
 time_moved (Commits taken reply next bad) c st w a out w' kept (inr (fault, says, h)) =
-    subst (λ (z : Stage). MayMove (attributes_of c) 0 (place_of st) (place_of z) × Stands c z) (sym h.stage_is) (
+    subst (λ (z : Stage). MayMove (attributes_of c) 0 (place_of st) (place_of z) × StageInvariant c z) (sym h.stage_is) (
       kept.1,
       commit_stands c fault,
     )
 
 -- The objection of a program is no code that a device may not have in dfuERROR.
-pub objection_stands : (c : Profile) (why : Objection) → Stands c (InError (objection_code why))
+pub objection_stands : (c : Profile) (why : Objection) → StageInvariant c (InError (objection_code why))
 objection_stands c Target = tt
 objection_stands c File = tt
 
 -- An image that is refused after the close moves the device to dfuERROR, or leaves its state.
-pub refusal_moved : (c : Profile) (why : Objection) (st : Stage) → Stands c st
-    → MayMove (attributes_of c) 0 (place_of st) (place_of (refuse_stage why st)) × Stands c (refuse_stage why st)
+pub refusal_moved : (c : Profile) (why : Objection) (st : Stage) → StageInvariant c st
+    → MayMove (attributes_of c) 0 (place_of st) (place_of (refuse_stage why st)) × StageInvariant c (refuse_stage why st)
 refusal_moved c why (InManifestSync taken) stands = (moves c place.ManifestSync Always place.Error refl refl, objection_stands c why)
 refusal_moved c why (InManifest taken passed) stands = (moves c place.Manifest Always place.Error refl refl, objection_stands c why)
 refusal_moved c why st stands = (inl refl, stands)
@@ -124,7 +124,7 @@ refusal_moved c why st stands = (inl refl, stands)
 -- A mark goes by a row of the table of marks.
 pub marked : (att : ℕ) (from : StandardState) (next : StandardState) (e : LogEvent)
     → list_any (is_row from e.asked Always gives.Silent next) MARKS ≡ true
-    → row_shows gives.Silent from next e.length e.answer ≡ true → asks e.asked e ≡ true → MayAnswer att 0 from e next
+    → answer_matches gives.Silent from next e.length e.answer ≡ true → asks e.asked e ≡ true → MayAnswer att 0 from e next
 marked att from next e some is_shown is_asked =
     inr (inl (by_row MARKS from e.asked Always gives.Silent next att 0 e some refl is_asked is_shown))
 
@@ -141,7 +141,7 @@ reset_led att (InAppDetach timer passed) rest last run = (
 reset_led att st rest last run = (place_of st, place.AppIdle, inl refl, marked att (place_of st) place.AppIdle reset refl refl refl, run)
 
 -- After a reset a device is in a stage that it can come to.
-pub reset_stands : (c : Profile) (st : Stage) → Stands c (reset_stage st)
+pub reset_stands : (c : Profile) (st : Stage) → StageInvariant c (reset_stage st)
 reset_stands c (InAppDetach timer passed) = tt
 reset_stands c st = tt
 

@@ -7,20 +7,20 @@ use Rattle.dfu_wire.specs.declared.codes.Code.{Code}
 use Rattle.dfu_wire.specs.declared.codes.Code.TheVariants.{StalledPkt as ErrStalledPkt, NotDone as ErrNotDone}
 use Rattle.dfu_wire.specs.declared.requests.Request.{Request as Asked}
 use Rattle.dfu_wire.specs.declared.requests.Request.TheVariants as asked
-use Rattle.dfu_wire.specs.Request.{Asks}
+use Rattle.dfu_wire.specs.Request.{SetupRequest}
 use Rattle.dfu_device.specs.Stage.{Profile, Stage, InAppIdle, InAppDetach, InDfuIdle, InDownloadSync, InDownloadSyncWritten, InDownloadBusy, InDownloadIdle, InManifestSync, InManifestSyncComplete, InManifest, InManifestWaitReset, InUploadIdle, InError}
 use Rattle.dfu_device.specs.Table.{plan, write_code, commit_code}
 use Rattle.dfu_device.specs.Cases.{either_way}
 use Rattle.dfu_device.specs.Rows.{meant, is_served}
 use Rattle.dfu_conformance.specs.declared.row.When.TheVariants.{Always, CanDownload, Tolerant}
-use Rattle.dfu_conformance.specs.Fits.{asks}
-use Rattle.dfu_laws.specs.judge.Kept.{Stands, TakesTime}
+use Rattle.dfu_conformance.specs.RowMatches.{asks}
+use Rattle.dfu_laws.specs.judge.Conformity.{StageInvariant, NeedsManifestTime}
 use Rattle.dfu_laws.proofs.judge.Bits.{flags}
 use Rattle.dfu_laws.proofs.judge.Leads.{PlanKept, stalls, acks, reports, fails, write_stands, commit_stands, tells, which, uploads, blocks}
 
 -- Whatever is asked of a device in this stage, what comes of it is kept.
 abbrev pub KeepsAll : Profile → (image : List ℕ) → Stage → Type 0
-KeepsAll c i st = (p : Setup) (q : Asked) (body : List ℕ) → TakesTime c → Stands c st → Asks p q → is_served p q body ≡ true
+KeepsAll c i st = (p : Setup) (q : Asked) (body : List ℕ) → NeedsManifestTime c → StageInvariant c st → SetupRequest p q → is_served p q body ≡ true
     → PlanKept c p q body st (plan c i st (meant q body))
 
 -- In appIDLE.

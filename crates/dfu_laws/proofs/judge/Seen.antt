@@ -21,11 +21,11 @@ use Rattle.dfu_conformance.specs.declared.row.Gives.TheVariants as gives
 use Rattle.dfu_conformance.specs.declared.event.LogEvent.{LogEvent}
 use Rattle.dfu_conformance.specs.declared.standard.TheConstants.{STANDARD}
 use Rattle.dfu_conformance.specs.declared.drifts.TheConstants.{DRIFTS}
-use Rattle.dfu_conformance.specs.Fits.{asks, row_shows, gives_bytes, has_code, number_of_state}
-use Rattle.dfu_conformance.specs.Held.{meets}
+use Rattle.dfu_conformance.specs.RowMatches.{asks, answer_matches, bytes_match, has_code, number_of_state}
+use Rattle.dfu_conformance.specs.Candidates.{meets}
 use Rattle.dfu_conformance.specs.MayAnswer.{MayAnswer, MayMove}
 use Rattle.dfu_conformance.proofs.ForCallers.{is_row, by_row, is_move, by_move}
-use Rattle.dfu_laws.specs.judge.Kept.{place_of, seen, Stands}
+use Rattle.dfu_laws.specs.judge.Conformity.{place_of, seen, StageInvariant}
 
 -- A device moves by itself, then an event leads it on.
 abbrev pub LedOn : (attributes : ℕ) → StandardState → LogEvent → StandardState → Type 0
@@ -34,7 +34,7 @@ LedOn a from e next = (here : StandardState) × MayMove a 0 from here × MayAnsw
 -- It goes by a row of the standard's table.
 pub standing : (a : ℕ) (from : StandardState) (q : Came) (when : When) (g : Gives) (next : StandardState) (e : LogEvent)
     → list_any (is_row from q when g next) STANDARD ≡ true → meets when a 0 ≡ true → asks q e ≡ true
-    → row_shows g from next e.length e.answer ≡ true → LedOn a from e next
+    → answer_matches g from next e.length e.answer ≡ true → LedOn a from e next
 standing a from q when g next e some of_it is_asked is_shown =
     (from, inl refl, inl (by_row STANDARD from q when g next a 0 e some of_it is_asked is_shown))
 
@@ -42,19 +42,19 @@ standing a from q when g next e some of_it is_asked is_shown =
 pub moving : (a : ℕ) (from here : StandardState) (q : Came) (when : When) (g : Gives) (next : StandardState) (e : LogEvent)
     → list_any (is_move from Always here) DRIFTS ≡ true
     → list_any (is_row here q when g next) STANDARD ≡ true → meets when a 0 ≡ true → asks q e ≡ true
-    → row_shows g here next e.length e.answer ≡ true → LedOn a from e next
+    → answer_matches g here next e.length e.answer ≡ true → LedOn a from e next
 moving a from here q when g next e move some of_it is_asked is_shown =
     (here, inr (by_move DRIFTS from Always here a 0 move refl), inl (by_row STANDARD here q when g next a 0 e some of_it is_asked is_shown))
 
 -- An acknowledgement is one.
 pub acked : (from next : StandardState) (len n : ℕ) (a : Answer) (out : List ℕ) → Answers n Ack a out
-    → row_shows gives.Ack from next len (seen a out) ≡ true
-acked from next len n a out h = ap (λ (x : Answer). row_shows gives.Ack from next len (seen x out)) h.0
+    → answer_matches gives.Ack from next len (seen a out) ≡ true
+acked from next len n a out h = ap (λ (x : Answer). answer_matches gives.Ack from next len (seen x out)) h.0
 
 -- A stall is one.
 pub stalled : (from next : StandardState) (len n : ℕ) (a : Answer) (out : List ℕ) → Answers n Stall a out
-    → row_shows gives.Stall from next len (seen a out) ≡ true
-stalled from next len n a out h = ap (λ (x : Answer). row_shows gives.Stall from next len (seen x out)) h.0
+    → answer_matches gives.Stall from next len (seen a out) ≡ true
+stalled from next len n a out h = ap (λ (x : Answer). answer_matches gives.Stall from next len (seen x out)) h.0
 
 -- The front of some bytes: how many they are, and one of them.
 pub front_count : (bytes : List ℕ) (len n : ℕ) → length bytes ≡ n → (length (take len bytes) == min len n) ≡ true
@@ -63,10 +63,10 @@ front_count bytes len n size = eq-eqb _ _ (length-take len bytes ∙ ap (λ (k :
 -- A state that was answered is what a row of GETSTATE gives.
 pub told : (from : StandardState) (state : State) (len n : ℕ) (a : Answer) (out : List ℕ) → state_byte state ≡ number_of_state from
     → n ≡ len
-    → Answers n (StateOf state) a out → row_shows gives.State from from len (seen a out) ≡ true
+    → Answers n (StateOf state) a out → answer_matches gives.State from from len (seen a out) ≡ true
 told from state len n a out same is h =
-    ap (λ (x : Answer). row_shows gives.State from from len (seen x out)) h.0
-    ∙ ap (λ (l : List ℕ). gives_bytes gives.State from from len (length l) (slice_index l 0) (slice_index l 4))
+    ap (λ (x : Answer). answer_matches gives.State from from len (seen x out)) h.0
+    ∙ ap (λ (l : List ℕ). bytes_match gives.State from from len (length l) (slice_index l 0) (slice_index l 4))
     (h.1 ∙ ap (λ (k : ℕ). take k (state_byte state ∷ [])) is)
     ∙ and_from _ _ (front_count (state_byte state ∷ []) len 1 refl) (first len)
   where
@@ -78,7 +78,7 @@ told from state len n a out same is h =
 -- The front of a status is what a row of GETSTATUS gives.
 pub front_of_status : (next : StandardState) (bytes : List ℕ) (len : ℕ) → length bytes ≡ 6 → has_code next (slice_index bytes 0) ≡ true
     → slice_index bytes 4 ≡ number_of_state next
-    → gives_bytes gives.Status next next len (length (take len bytes)) (slice_index (take len bytes) 0) (slice_index
+    → bytes_match gives.Status next next len (length (take len bytes)) (slice_index (take len bytes) 0) (slice_index
     (take len bytes) 4) ≡ true
 front_of_status next bytes len size coded same =
     and_from _ _ (front_count bytes len 6 size) (and_from _ _ (first len) (elim (cases_lt 4 len) [
@@ -95,20 +95,20 @@ front_of_status next bytes len size coded same =
 -- A status that was answered is what a row of GETSTATUS gives.
 pub reported : (from next : StandardState) (code : Code) (poll : ℕ) (state : State) (len n : ℕ) (a : Answer) (out : List ℕ)
     → has_code next (code_byte code) ≡ true → state_byte state ≡ number_of_state next → n ≡ len
-    → Answers n (StatusOf code poll state) a out → row_shows gives.Status from next len (seen a out) ≡ true
+    → Answers n (StatusOf code poll state) a out → answer_matches gives.Status from next len (seen a out) ≡ true
 reported from next code poll state len n a out coded same is (bytes_are, bytes, status, string, front) =
-    ap (λ (x : Answer). row_shows gives.Status from next len (seen x out)) bytes_are
-    ∙ ap (λ (l : List ℕ). gives_bytes gives.Status from next len (length l) (slice_index l 0) (slice_index l 4))
+    ap (λ (x : Answer). answer_matches gives.Status from next len (seen x out)) bytes_are
+    ∙ ap (λ (l : List ℕ). bytes_match gives.Status from next len (length l) (slice_index l 0) (slice_index l 4))
     (front ∙ ap (λ (k : ℕ). take k bytes) is)
     ∙ front_of_status next bytes len status.length (ap (λ (x : ℕ). has_code next x) status.code ∙ coded) (status.state ∙ same)
 
 -- A part of an image is what a row of UPLOAD gives, a short one or a full one.
 pub parted : (from next : StandardState) (part : List ℕ) (len n : ℕ) (a : Answer) (out : List ℕ) (g : Gives)
-    → gives_bytes g from next len (length part) (slice_index part 0) (slice_index part 4) ≡ true
-    → Answers n (Data part) a out → row_shows g from next len (seen a out) ≡ true
+    → bytes_match g from next len (length part) (slice_index part 0) (slice_index part 4) ≡ true
+    → Answers n (Data part) a out → answer_matches g from next len (seen a out) ≡ true
 parted from next part len n a out g fits h =
-    ap (λ (x : Answer). row_shows g from next len (seen x out)) h.0
-    ∙ ap (λ (l : List ℕ). gives_bytes g from next len (length l) (slice_index l 0) (slice_index l 4)) h.1 ∙ fits
+    ap (λ (x : Answer). answer_matches g from next len (seen x out)) h.0
+    ∙ ap (λ (l : List ℕ). bytes_match g from next len (length l) (slice_index l 0) (slice_index l 4)) h.1 ∙ fits
 
 -- The number of the state of a stage is that of its place.
 pub state_is : (st : Stage) → state_byte (state_of st) ≡ number_of_state (place_of st)
@@ -116,7 +116,7 @@ state_is (InError code) = refl
 state_is st = refl
 
 -- The code of a stage is one that a status of its place may have.
-pub code_is : (c : Profile) (st : Stage) → Stands c st → has_code (place_of st) (code_byte (code_of st)) ≡ true
+pub code_is : (c : Profile) (st : Stage) → StageInvariant c st → has_code (place_of st) (code_byte (code_of st)) ≡ true
 code_is c (InError NoFault) h = absurd h
 code_is c (InError code) h = refl
 code_is c st h = refl

@@ -12,7 +12,7 @@ use Rattle.dfu_host.specs.declared.report.Report.TheVariants.{Uploaded}
 use Rattle.dfu_host.specs.Phases.{Phase, Over, OverUploaded, Heard, NoRoom, Restarted}
 use Rattle.dfu_host.specs.Table.{deed}
 use Rattle.dfu_host.specs.Host.{HostState, after, wants_memory}
-use Rattle.dfu_sim.specs.Session.{Machine, NoOne, Loading, IsOneOf, SaysInPlace, SaysNoPromise, SaysReport, says_not, said, AGo, MachineStep, goes, stops, and_then}
+use Rattle.dfu_sim.specs.Session.{Machine, NoOne, Loading, IsOneOf, IsInPlaceReport, ReportsNoPromise, ReportStep, says_not, said, AGo, MachineStep, goes, stops, and_then}
 use Rattle.dfu_sim.specs.Happening.{Fate, Pass, Goes, unharmed}
 use Rattle.dfu_sim.specs.Delivery.{delivery_of}
 use Rattle.dfu_sim.specs.Play.{given, Took, settled, took, notify_restart, over, acted, Play}
@@ -35,7 +35,7 @@ use Rattle.dfu_laws.proofs.link.Timed.{DeviceWell}
 abbrev pub StaysLive : Session → Session → Type 0
 StaysLive before now = (live_of now ≡ live_of before) ⊎ (live_of now ≡ NoOne)
 
-pub says_lives : {tolerant : Bool} {m m' : Machine} {report : Option Report} → SaysReport tolerant m report m'
+pub says_lives : {tolerant : Bool} {m m' : Machine} {report : Option Report} → ReportStep tolerant m report m'
     → (m'.live ≡ m.live) ⊎ (m'.live ≡ NoOne)
 says_lives says_not = inl refl
 says_lives s = inr refl
@@ -56,7 +56,7 @@ pub record ActedWell (c : Profile) (past : List (List ℕ)) (before : Session) (
   pub fact : SessionFact c s' t.session
   pub live : StaysLive before t.session
   pub offered : IsLiveOffer past (live_of t.session)
-  pub done : SaysInPlace t.answer.report → (s'.stage ≡ InAppIdle) × (live_of before ≡ Loading s'.image)
+  pub done : IsInPlaceReport t.answer.report → (s'.stage ≡ InAppIdle) × (live_of before ≡ Loading s'.image)
   pub gives : (bytes : List ℕ) → t.answer.gave ≡ Some bytes → bytes ≡ s'.image
 
 -- Bytes come with Uploaded.
@@ -144,7 +144,7 @@ module _ (simulation : Simulation) (only : OnlyOffered) (c : Profile) (sized : 0
         live = says_lives t.says;
         offered = t.offer;
         done = λ e. absurd (not_in_place (took h Restarted).answer.report (restart_plain c past h f.on) e);
-        gives = λ bytes e. absurd (subst SaysNoPromise (took_gives h Restarted bytes e) (restart_plain c past h f.on));
+        gives = λ bytes e. absurd (subst ReportsNoPromise (took_gives h Restarted bytes e) (restart_plain c past h f.on));
       }
 
   -- A restart that a live host hears of, with the device in any state.

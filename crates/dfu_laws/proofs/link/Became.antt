@@ -1,16 +1,16 @@
 -- Board after time that passes, and after a reset of the bus.
 use Rattle.std.specs.Prelude.{◌≡◌, ℕ, List}
 use Rattle.std.proofs.Common.{inl, refl, sym, ap, ◌∙◌, subst}
-use Rattle.dfu_slots.specs.Seen.{image_of}
+use Rattle.dfu_slots.specs.StoreView.{image_of}
 use Rattle.dfu_device.specs.declared.answer.Answer.{Answer}
 use Rattle.dfu_device.specs.Stage.{Profile, Stage, InAppDetach}
 use Rattle.dfu_device.specs.Table.{reset_stage}
 use Rattle.dfu_device.specs.Outcome.{Situation, Outcome, elapsed}
 use Rattle.dfu_device.specs.DeviceView.{DeviceView, profile, situation}
 use Rattle.dfu_device.specs.Rows.{Passing, BusReset, Elapses}
-use Rattle.dfu_device.specs.Came.{time_came}
+use Rattle.dfu_device.specs.PlanOutcomes.{times_have_outcomes}
 use Rattle.dfu_sim.specs.LinkAgreement.{IsSound}
-use Rattle.dfu_laws.specs.board.Board.{Board, Elapse, UsbReset, Says, BoardStep}
+use Rattle.dfu_laws.specs.board.Board.{Board, Elapse, UsbReset, BoardReply, BoardStep}
 use Rattle.dfu_laws.specs.board.Refines.{IsIdle, IdleRefines}
 use Rattle.dfu_laws.specs.link.Calls.{Serves, Reaches, lost, once, twice}
 use Rattle.dfu_laws.proofs.link.Served.{served}
@@ -51,7 +51,7 @@ module _ (refines : IdleRefines) (c : Profile) (past : List (List ℕ)) where
   pub elapses_well : (ms : ℕ) (d d' : DeviceView) → profile d ≡ c → IsSound past d.stage → Elapses ms d d'
       → DeviceWell past (situation d) (situation d')
   elapses_well ms d d' e sound row =
-      let y = time_came ms d d' row in
+      let y = times_have_outcomes ms d d' row in
       subst (λ (z : Situation). DeviceWell past (situation d) z)
       (ap (λ (p : Profile). elapsed p (situation d) ms y.luck) (sym e) ∙ ap (λ (o : Outcome). o.after) y.same)
       (time_device c past (image_of d.slots) ms d.stage sound y.luck)
@@ -69,7 +69,7 @@ module _ (refines : IdleRefines) (c : Profile) (past : List (List ℕ)) where
       }
 
   -- One that is lost, or comes once or twice.
-  pub reaches_well : (ms : ℕ) (b b' : Board) (d : DeviceView) (steps : List BoardStep) (says : Says) → IsIdle b d → profile d ≡ c
+  pub reaches_well : (ms : ℕ) (b b' : Board) (d : DeviceView) (steps : List BoardStep) (says : BoardReply) → IsIdle b d → profile d ≡ c
       → IsSound past d.stage → Reaches (Elapse ms) b steps says b' → Became c past (situation d) b'
   reaches_well ms b _ d _ _ k e sound lost =
       record { device = d; idle = k; profile_is = e; well = record { image = inl refl; sound = sound } }

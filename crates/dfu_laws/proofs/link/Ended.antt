@@ -3,13 +3,13 @@ use Rattle.std.specs.Prelude.{◌≡◌, ℕ, ◌-◌, ◌*◌, ◌/◌, Bool, t
 use Rattle.std.proofs.Common.{inl, inr, refl, sym, ap, ◌∙◌, subst}
 use Rattle.dfu_wire.specs.declared.states.State.TheVariants.{DfuIdle}
 use Rattle.dfu_slots.specs.Units.{gate_room}
-use Rattle.dfu_slots.specs.Seen.{room_of}
+use Rattle.dfu_slots.specs.StoreView.{room_of}
 use Rattle.dfu_device.specs.Stage.{Profile, Stage, InDfuIdle, state_of}
 use Rattle.dfu_device.specs.Outcome.{Situation}
 use Rattle.dfu_device.specs.DeviceView.{DeviceView, profile, profile_of, situation}
 use Rattle.dfu_device.specs.History.{IsHistory, HistoryStep as TableRow}
 use Rattle.dfu_asks.specs.Mapped.{grain_of}
-use Rattle.dfu_asks.specs.Lent.{LentAsking}
+use Rattle.dfu_asks.specs.Lent.{LentDevice}
 use Rattle.dfu_asks.specs.Asks.{grain_in, store_in}
 use Rattle.dfu_host.specs.Blocks.{first}
 use Rattle.dfu_host.specs.Phases.{Goal, ToLoad, ToFetch, ToVerify, ToCompare, Task, Phase, Enter, Block, Close, Fetch, Compare}
@@ -17,24 +17,24 @@ use Rattle.dfu_host.specs.Table.{deed}
 use Rattle.dfu_sim.specs.Session.{Live, NoOne, Loading, Fetching}
 use Rattle.dfu_sim.specs.LinkView.{Session, Nobody, Hosted}
 use Rattle.dfu_sim.specs.Agreement.{IsLiveOffer}
-use Rattle.dfu_sim.specs.Fact.{AtBlock, AllTaken, Fetches, Fact, FetchFact, CompareFact, GoalFact, SessionFact}
+use Rattle.dfu_sim.specs.Fact.{AtBlock, WholePayloadAccepted, Fetches, Fact, FetchFact, CompareFact, GoalFact, SessionFact}
 use Rattle.dfu_sim.proofs.CommonFacts.{goal_anywhere}
 use Rattle.dfu_laws.specs.board.Board.{Board, lent_on, device_on, state_on}
 use Rattle.dfu_laws.specs.board.Happens.{start_stage, BoardStarts}
 use Rattle.dfu_laws.specs.board.Refines.{IsIdle, IdleRefines}
-use Rattle.dfu_laws.specs.link.Marks.{TrialEnds}
+use Rattle.dfu_laws.specs.link.Marks.{TrialEnd}
 use Rattle.dfu_laws.specs.link.Trials.{IsTransfer, MayEnd}
 
 -- The board.
 
 -- Flash of the same size has the same room for an image.
-same_room : (a a' : LentAsking) (flash flash' : List ℕ) → length flash' ≡ length flash → grain_in a' ≡ grain_in a
+same_room : (a a' : LentDevice) (flash flash' : List ℕ) → length flash' ≡ length flash → grain_in a' ≡ grain_in a
     → room_of (store_in a' flash') ≡ room_of (store_in a flash)
 unfolding room_of
 same_room a a' flash flash' size grain = λ i. size i / 2 - 2 * gate_room (grain i)
 
 -- The device goes by the same profile.
-pub ends_profile : (b b' : Board) (begins : Bool) → TrialEnds b begins b' → profile (device_on b') ≡ profile (device_on b)
+pub ends_profile : (b b' : Board) (begins : Bool) → TrialEnd b begins b' → profile (device_on b') ≡ profile (device_on b)
 ends_profile b b' begins end = λ i. profile_of (end.same.config i)
     (same_room (lent_on b) (lent_on b') b.flash b'.flash end.size (λ j. grain_of (end.same.unit j) (end.same.sector j)) i)
 
@@ -73,7 +73,7 @@ module _ (c : Profile) (s s' : Situation) (before : s.stage ≡ InDfuIdle) (afte
 
   load_transfer : (p : List ℕ) (task : Task) (phase : Phase) → IsTransfer (deed task phase) → Fact c p phase s → Fact c p phase s'
   load_transfer p task (Block n) t f = (f.0, subst (λ (x : Stage). AtBlock p c.transfer n x) stage_is f.1)
-  load_transfer p task Close t f = subst (λ (x : Stage). AllTaken p x) stage_is f
+  load_transfer p task Close t f = subst (λ (x : Stage). WholePayloadAccepted p x) stage_is f
   load_transfer p task (Fetch k kept) t f = f
   load_transfer p task (Compare k) t f = f
   load_transfer p task Enter t f = f

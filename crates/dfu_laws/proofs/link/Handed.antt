@@ -1,7 +1,7 @@
 -- Facts that remain after a restart of which a host hears no more than that its own reset is over.
 use Rattle.std.specs.Prelude.{◌≡◌, ℕ, Bool, true, false, if◌then◌else◌, List, [], ◌∷◌, Option, Some, None}
 use Rattle.std.proofs.Common.{inl, refl, sym, ap, ◌∙◌, subst}
-use Rattle.dfu_slots.specs.Seen.{shows_same}
+use Rattle.dfu_slots.specs.StoreView.{same_visible}
 use Rattle.dfu_device.specs.declared.answer.Answer.TheVariants as answer
 use Rattle.dfu_device.specs.Stage.{Profile, InAppIdle}
 use Rattle.dfu_device.specs.Outcome.{Situation, powered}
@@ -12,19 +12,19 @@ use Rattle.dfu_host.specs.declared.report.Report.TheVariants.{Installed, Uploade
 use Rattle.dfu_host.specs.Phases.{Goal, ToLoad, ToFetch, ToVerify, ToCompare, Task, Phase, Find, Enter, ResetFind, LastUploaded, Last, Reset, Heard, WasReset}
 use Rattle.dfu_host.specs.Table.{deed, on_waited, on_reset}
 use Rattle.dfu_host.specs.Host.{HostState}
-use Rattle.dfu_sim.specs.Session.{Machine, Loading, begins_not, ends_not, SaysReport, SaysInPlace, AGo, MachineStep, goes}
+use Rattle.dfu_sim.specs.Session.{Machine, Loading, begins_not, ends_not, ReportStep, IsInPlaceReport, AGo, MachineStep, goes}
 use Rattle.dfu_sim.specs.Opening.{task_for}
 use Rattle.dfu_sim.specs.Play.{given, took}
 use Rattle.dfu_sim.specs.LinkView.{Hosted}
 use Rattle.dfu_sim.specs.Agreement.{live_of, live_goal, IsLiveOffer}
-use Rattle.dfu_sim.specs.Fact.{IsDfuIdle, IsInApp, EndsAs, GoalFact, HostFact}
+use Rattle.dfu_sim.specs.Fact.{IsDfuIdle, IsInApp, ReportMeaning, GoalFact, HostFact}
 use Rattle.dfu_sim.proofs.CommonFacts.{goal_anywhere}
 use Rattle.dfu_sim.proofs.GoalLaws.{Next}
 use Rattle.dfu_sim.proofs.Saying.{step_live, step_up}
 use Rattle.dfu_sim.proofs.Taking.{TookWell, goal_taken, task_by}
 use Rattle.dfu_laws.specs.board.Board.{Board, Event, Restart, Answers, BoardStep}
 use Rattle.dfu_laws.specs.board.Happens.{IsRun}
-use Rattle.dfu_laws.specs.board.Refines.{TellsRows, IsIdle, StandsFor, IdleRefines}
+use Rattle.dfu_laws.specs.board.Refines.{EventRows, IsIdle, RepresentsDevice, IdleRefines}
 use Rattle.dfu_laws.proofs.link.Timed.{DeviceWell}
 use Rattle.dfu_laws.proofs.link.Served.{answered, one_row}
 use Rattle.dfu_laws.proofs.link.Fixed.{row_profile}
@@ -42,7 +42,7 @@ pub record Powered (d : DeviceView) (b' : Board) : Type 0 where
 -- The row of power leaves the image.
 row_powered : (d d' : DeviceView) → Row d PowerOn answer.Ack [] d' → situation d' ≡ powered (situation d)
 row_powered d d' row = ap situation row.2
-    ∙ (λ k. record { image = (shows_same d.slots d.slots.medium.fuse [] 0).image k; stage = InAppIdle })
+    ∙ (λ k. record { image = (same_visible d.slots d.slots.medium.fuse [] 0).image k; stage = InAppIdle })
 
 -- A board on which no writes are due restarts in appIDLE.
 pub powered_by : IdleRefines → (b b' : Board) (d : DeviceView) (power : BoardStep) → IsIdle b d → IsRun b (power ∷ []) b'
@@ -50,12 +50,12 @@ pub powered_by : IdleRefines → (b b' : Board) (d : DeviceView) (power : BoardS
 powered_by refines b b' d power k run event =
     let r = refines b b' d (power ∷ []) k run in
     let (first, later, mid, are, t, more) = r.tells in
-    let told = subst (λ (x : Event). TellsRows None x power.says first mid) event t in
+    let told = subst (λ (x : Event). EventRows None x power.says first mid) event t in
     let one = answered PowerOn None mid r.due (Answers answer.Ack []) answer.Ack [] r.rows first later refl told are more.0 more.1 in
     let row = one_row d r.device PowerOn answer.Ack [] r.rows one.0 r.history in
     record {
       device = r.device;
-      idle = subst (λ (x : Option Cause). StandsFor b' x r.device) one.1 r.stands;
+      idle = subst (λ (x : Option Cause). RepresentsDevice b' x r.device) one.1 r.stands;
       same = row_powered d r.device row;
       fixed = row_profile d r.device PowerOn answer.Ack [] row;
     }
@@ -63,18 +63,18 @@ powered_by refines b b' d power k run event =
 -- The host.
 
 -- A session that promised this of dfuIDLE ends so in appIDLE.
-ends_again : (c : Profile) (p : List ℕ) (s : Situation) (report : Report) → EndsAs c p s IsDfuIdle report
-    → EndsAs c p (powered s) IsInApp report
+ends_again : (c : Profile) (p : List ℕ) (s : Situation) (report : Report) → ReportMeaning c p s IsDfuIdle report
+    → ReportMeaning c p (powered s) IsInApp report
 ends_again c p s Installed f = (f.0, f.1, tt)
 ends_again c p s Verified f = (f.0, tt)
 ends_again c p s report f = f
 
-says_live : {tolerant : Bool} {m m' : Machine} {report : Option Report} → SaysReport tolerant m report m' → SaysInPlace report
+says_live : {tolerant : Bool} {m m' : Machine} {report : Option Report} → ReportStep tolerant m report m' → IsInPlaceReport report
     → m.live ≡ Loading m'.cur
 says_live {tolerant = tolerant} {m = m} {m' = m'} {report = report} s e =
     let step : MachineStep tolerant 0 AGo m report m' = goes begins_not ends_not s in step_live step e
 
-says_up : {tolerant : Bool} {m m' : Machine} {report : Option Report} → SaysReport tolerant m report m' → report ≡ Some Uploaded
+says_up : {tolerant : Bool} {m m' : Machine} {report : Option Report} → ReportStep tolerant m report m' → report ≡ Some Uploaded
     → m'.up ≡ m'.cur
 says_up {tolerant = tolerant} {m = m} {m' = m'} {report = report} s e =
     let step : MachineStep tolerant 0 AGo m report m' = goes begins_not ends_not s in step_up step e

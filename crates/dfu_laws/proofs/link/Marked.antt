@@ -7,7 +7,7 @@ use Rattle.dfu_slots.specs.Units.{Grain, gate_room}
 use Rattle.dfu_slots.specs.Medium.{IsErased, IsAhead, written}
 use Rattle.dfu_slots.specs.Layout.{Slot, slot, slot_size, header_length}
 use Rattle.dfu_slots.specs.Image.{IsSized, is_newest, active_at, spare_at}
-use Rattle.dfu_slots.specs.Seen.{store_of, image_of, spare_of, is_begun, room_of}
+use Rattle.dfu_slots.specs.StoreView.{store_of, image_of, spare_of, is_begun, room_of}
 use Rattle.dfu_slots.specs.Store.{IsStore}
 use Rattle.dfu_slots.proofs.Stands.{two_slots}
 use Rattle.dfu_slots.proofs.Newest.{tested_places}
@@ -23,7 +23,7 @@ use Rattle.dfu_device.specs.Parts.{stage_of, is_filled, is_sound}
 use Rattle.dfu_asks.specs.declared.noted.Noted.{Noted}
 use Rattle.dfu_asks.specs.Mapped.{mapped}
 use Rattle.dfu_asks.specs.Noted.{IsNoted}
-use Rattle.dfu_asks.specs.Lent.{LentAsking}
+use Rattle.dfu_asks.specs.Lent.{LentDevice}
 use Rattle.dfu_asks.specs.Asks.{grain_in, device_in, IsDevice}
 use Rattle.dfu_laws.specs.board.Board.{Board, lent_on, medium_on}
 use Rattle.dfu_laws.specs.board.Refines.{IsIdle}
@@ -148,7 +148,7 @@ pub record MarkedOn (d : DeviceView) (b' : Board) : Type 0 where
   pub same : situation device ≡ situation d
   pub fixed : profile device ≡ profile d
 
-module _ (a : LentAsking) (old now : List ℕ) (un : IsUnread (mapped (grain_in a) old) (mapped (grain_in a) now)) where
+module _ (a : LentDevice) (old now : List ℕ) (un : IsUnread (mapped (grain_in a) old) (mapped (grain_in a) now)) where
   -- A record that is a device's on the old bytes of flash is a device's on the new ones.
   device_again : IsDevice a old → IsDevice a now
   device_again k = record {

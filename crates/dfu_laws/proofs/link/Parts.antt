@@ -4,8 +4,8 @@ use Rattle.std.proofs.Common.{inl, inr, refl, sym, ap, ◌∙◌, subst}
 use Rattle.dfu_device.specs.declared.answer.Answer.{Answer}
 use Rattle.dfu_device.specs.Rows.{Cause}
 use Rattle.dfu_device.specs.History.{HistoryStep as TableRow}
-use Rattle.dfu_laws.specs.board.Board.{Event, Restart, Says, WritesDue, BoardStep}
-use Rattle.dfu_laws.specs.board.Refines.{TellsCall, TellsRows, TellsAll}
+use Rattle.dfu_laws.specs.board.Board.{Event, Restart, BoardReply, WritesDue, BoardStep}
+use Rattle.dfu_laws.specs.board.Refines.{CallRows, EventRows, StepRows}
 use Rattle.dfu_laws.specs.link.Calls.{CarriesOn, WorksOff, ends, carries_on, IsCall, at_once, with_writes, IsCutOff, power_goes, still_due, IsBrokenCall, broken}
 use Rattle.dfu_laws.proofs.link.Served.{IsOf, tells_of, carried}
 
@@ -37,22 +37,22 @@ IsPartOf call [] = Unit {0}
 IsPartOf call (s ∷ rest) = (s.event ≡ call) × (s.says ≡ WritesDue) × AllCarryOn rest
 
 all_carried : (cause : Cause) (steps : List BoardStep) (rows : List TableRow) (due : Option Cause) → AllCarryOn steps
-    → TellsAll (Some cause) steps rows due → rows ≡ []
+    → StepRows (Some cause) steps rows due → rows ≡ []
 all_carried cause [] rows due c t = t.0
 all_carried cause (s ∷ rest) rows due c (first, later, mid, are, t, more) =
     let x = carried s.event s.says cause mid first c.0 t in
     are ∙ (λ i. x.0 i ++ later)
-    ∙ all_carried cause rest later due c.1 (subst (λ (z : Option Cause). TellsAll z rest later due) x.1 more)
+    ∙ all_carried cause rest later due c.1 (subst (λ (z : Option Cause). StepRows z rest later due) x.1 more)
 
 -- They have no row.
 pub part_tells : (call : Event) (cause : Cause) (steps : List BoardStep) (rows : List TableRow) (due : Option Cause) → IsOf call cause
-    → IsPartOf call steps → TellsAll None steps rows due → rows ≡ []
+    → IsPartOf call steps → StepRows None steps rows due → rows ≡ []
 part_tells call cause [] rows due is p t = t.0
 part_tells call cause (s ∷ rest) rows due is p (first, later, mid, are, t, more) =
-    let told = tells_of call cause None mid s.says first is (subst (λ (x : Event). TellsRows None x s.says first mid) p.0 t) in
-    let x : (first ≡ []) × (mid ≡ Some cause) = subst (λ (y : Says). TellsCall cause None y first mid) p.1 told in
+    let told = tells_of call cause None mid s.says first is (subst (λ (x : Event). EventRows None x s.says first mid) p.0 t) in
+    let x : (first ≡ []) × (mid ≡ Some cause) = subst (λ (y : BoardReply). CallRows cause None y first mid) p.1 told in
     are ∙ (λ i. x.0 i ++ later)
-    ∙ all_carried cause rest later due p.2 (subst (λ (z : Option Cause). TellsAll z rest later due) x.1 more)
+    ∙ all_carried cause rest later due p.2 (subst (λ (z : Option Cause). StepRows z rest later due) x.1 more)
 
 carries : (x s : BoardStep) → x ≡ s → CarriesOn s.event s.says → CarriesOn x.event x.says
 carries x s e c = subst (λ (y : BoardStep). CarriesOn y.event y.says) (sym e) c

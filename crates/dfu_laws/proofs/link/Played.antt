@@ -1,14 +1,14 @@
 -- Facts of a board and its host through all that may come.
 use Rattle.std.specs.Prelude.{◌≡◌, ◌⊎◌, ℕ, ◌<◌, Bool, List, [], ◌∷◌, Option, Some}
 use Rattle.std.proofs.Common.{inl, inr, refl, sym, ap, ◌∙◌, subst}
-use Rattle.dfu_slots.specs.Seen.{image_of}
+use Rattle.dfu_slots.specs.StoreView.{image_of}
 use Rattle.dfu_device.specs.Stage.{Profile, InAppIdle}
 use Rattle.dfu_device.specs.Outcome.{Situation, Outcome, elapsed}
 use Rattle.dfu_device.specs.DeviceView.{DeviceView, profile, situation}
 use Rattle.dfu_device.specs.Rows.{Cause, Transfer, Passing, BusReset, Refusing}
-use Rattle.dfu_device.specs.Came.{time_came}
+use Rattle.dfu_device.specs.PlanOutcomes.{times_have_outcomes}
 use Rattle.dfu_host.specs.Phases.{Send, Deed, Nothing as NothingHeard, Waited, WasReset}
-use Rattle.dfu_sim.specs.Session.{Loading, IsOneOf, SaysInPlace}
+use Rattle.dfu_sim.specs.Session.{Loading, IsOneOf, IsInPlaceReport}
 use Rattle.dfu_sim.specs.Happening.{Pass, Slip}
 use Rattle.dfu_sim.specs.Delivery.{delivery_of}
 use Rattle.dfu_sim.specs.Play.{Answered, Took, took, notify_restart}
@@ -19,11 +19,11 @@ use Rattle.dfu_sim.specs.LinkAgreement.{IsSound}
 use Rattle.dfu_sim.specs.Fact.{SessionFact}
 use Rattle.dfu_sim.specs.Simulation.{Simulation, OnlyOffered}
 use Rattle.dfu_sim.proofs.Objecting.{refusal_sound, refusal_fact}
-use Rattle.dfu_laws.specs.board.Board.{Board, Handle, Elapse, UsbReset, Refuse, Restart, Event, Says, BoardStep}
+use Rattle.dfu_laws.specs.board.Board.{Board, Handle, Elapse, UsbReset, Refuse, Restart, Event, BoardReply, BoardStep}
 use Rattle.dfu_laws.specs.board.Happens.{IsRun}
 use Rattle.dfu_laws.specs.board.Refines.{IsIdle, IdleRefines}
 use Rattle.dfu_laws.specs.link.Calls.{Reaches, lost, behind}
-use Rattle.dfu_laws.specs.link.Comes.{BoardLink, IsUnderWay, left, BoardComes, passes, sends, refuses, waits, resets, is_reset, restarts, leaves, restarts_at_reset, marks}
+use Rattle.dfu_laws.specs.link.LinkSteps.{BoardLink, IsUnderWay, left, BoardLinkStep, passes, sends, refuses, waits, resets, is_reset, restarts, leaves, restarts_at_reset, marks}
 use Rattle.dfu_laws.proofs.link.Served.{IsOf, served}
 use Rattle.dfu_laws.proofs.link.Fixed.{row_profile}
 use Rattle.dfu_laws.proofs.link.Timed.{DeviceWell, timed}
@@ -36,7 +36,7 @@ use Rattle.dfu_laws.proofs.link.Sent.{hears_nothing, sent_well, objected_well}
 
 -- No writes are due on a board, it is this device, and what has to hold of it and of the live session holds: its image is the first one or
 -- one of those offered, bytes that were closed are one of these, and so is the payload of the live session, which is the last one.
-pub record Stands (c : Profile) (first : List ℕ) (past : List (List ℕ)) (last : Option (List ℕ)) (l : BoardLink) (d : DeviceView)
+pub record StageInvariant (c : Profile) (first : List ℕ) (past : List (List ℕ)) (last : Option (List ℕ)) (l : BoardLink) (d : DeviceView)
     : Type 0 where
   pub idle : IsIdle l.board d
   pub profile_is : profile d ≡ c
@@ -50,8 +50,8 @@ pub record Stands (c : Profile) (first : List ℕ) (past : List (List ℕ)) (las
 pub record WentOn (c : Profile) (first : List ℕ) (past : List (List ℕ)) (last : Option (List ℕ)) (answer : Answered) (l' : BoardLink)
     : Type 0 where
   pub device : DeviceView
-  pub stands : Stands c first past last l' device
-  pub done : SaysInPlace answer.report → (device.stage ≡ InAppIdle) × (last ≡ Some (image_of device.slots))
+  pub stands : StageInvariant c first past last l' device
+  pub done : IsInPlaceReport answer.report → (device.stage ≡ InAppIdle) × (last ≡ Some (image_of device.slots))
   pub gives : (bytes : List ℕ) → answer.gave ≡ Some bytes → bytes ≡ image_of device.slots
 
 known_on : (first : List ℕ) (past : List (List ℕ)) (s s' : Situation) → (s.image ≡ first) ⊎ IsOneOf s.image past → DeviceWell past s s'
@@ -66,7 +66,7 @@ known_on first past s s' known w = elim (w.image) [
 
 -- Result of an action of a host, or of a restart that it hears of.
 took_on : (c : Profile) (first : List ℕ) (past : List (List ℕ)) (last : Option (List ℕ)) (l : BoardLink) (d d' : DeviceView) (b' : Board)
-    (t : Took) → Stands c first past last l d → IsIdle b' d' → profile d' ≡ c
+    (t : Took) → StageInvariant c first past last l d → IsIdle b' d' → profile d' ≡ c
     → ActedWell c past l.session (situation d) (situation d') t → WentOn c first past last t.answer (left b' t)
 took_on c first past last l d d' b' t s idle fixed w = record {
   device = d';
@@ -95,7 +95,7 @@ way_cause session call way = elim way [ ]
 module _ (refines : IdleRefines) (simulation : Simulation) (only : OnlyOffered) (c : Profile) (sized : 0 < c.transfer)
     (past : List (List ℕ)) where
   -- A call that was under way came to its end.
-  pub way_well : (session : Session) (call : Event) (b b' : Board) (d : DeviceView) (steps : List BoardStep) (says : Says) → IsIdle b d
+  pub way_well : (session : Session) (call : Event) (b b' : Board) (d : DeviceView) (steps : List BoardStep) (says : BoardReply) → IsIdle b d
       → profile d ≡ c → IsSound past d.stage → IsLiveOffer past (live_of session) → SessionFact c (situation d) session
       → IsUnderWay session call → Reaches call b steps says b' → Became c past (situation d) b'
   way_well session (Elapse ms) b b' d steps says k e sound offered f way reaches = reaches_well refines c past ms b b' d steps says k e sound reaches
@@ -116,10 +116,10 @@ module _ (refines : IdleRefines) (simulation : Simulation) (only : OnlyOffered) 
 
   -- The facts hold again, after all that may come.
   pub went_on : (first : List ℕ) (last : Option (List ℕ)) (l l' : BoardLink) (d : DeviceView) (steps : List BoardStep) (answer : Answered)
-      → Stands c first past last l d → BoardComes l steps answer l' → WentOn c first past last answer l'
+      → StageInvariant c first past last l d → BoardLinkStep l steps answer l' → WentOn c first past last answer l'
   went_on first last l _ d steps _ s (passes {ms = ms} {a = a} {out = out} {b' = b'} serves) =
       let x = served refines l.board b' d (Elapse ms) (Passing ms) steps a out refl s.idle serves in
-      let y = time_came ms d x.device x.row.2 in
+      let y = times_have_outcomes ms d x.device x.row.2 in
       let there : elapsed c (situation d) ms y.luck ≡ situation x.device =
       ap (λ (p : Profile). elapsed p (situation d) ms y.luck) (sym s.profile_is) ∙ ap (λ (o : Outcome). o.after) y.same in
       let w = elapses_well refines c past ms d x.device s.profile_is s.sound x.row.2 in

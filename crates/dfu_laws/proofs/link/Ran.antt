@@ -4,11 +4,11 @@ use Rattle.std.proofs.Common.{inl, inr, refl, sym, ◌∙◌, subst}
 use Rattle.dfu_device.specs.declared.objection.Objection.{Objection}
 use Rattle.dfu_sim.specs.Play.{Answered}
 use Rattle.dfu_asks.specs.Lent.{IsSetUpAs}
-use Rattle.dfu_laws.specs.board.Board.{Board, Event, Handle, Says, BoardStep}
+use Rattle.dfu_laws.specs.board.Board.{Board, Event, Handle, BoardReply, BoardStep}
 use Rattle.dfu_laws.specs.board.Happens.{Happens, IsRun}
 use Rattle.dfu_laws.specs.link.Calls.{Reaches, lost, once, twice, Objects, refused_once, refused_twice, Stops, behind, within, within_second}
-use Rattle.dfu_laws.specs.link.Marks.{IsMarkedBoard, TrialEnds, AreMarked, none_is, one_more, one_end, IsMarkedRun, AreJoined}
-use Rattle.dfu_laws.specs.link.Comes.{BoardLink, BoardComes, passes, sends, refuses, waits, resets, is_reset, restarts, leaves, restarts_at_reset, marks}
+use Rattle.dfu_laws.specs.link.Marks.{IsMarkedBoard, TrialEnd, AreMarked, none_is, one_more, one_end, IsMarkedRun, AreJoined}
+use Rattle.dfu_laws.specs.link.LinkSteps.{BoardLink, BoardLinkStep, passes, sends, refuses, waits, resets, is_reset, restarts, leaves, restarts_at_reset, marks}
 use Rattle.dfu_laws.specs.link.Plays.{Plays, starts, offers, uploads, aborts as gives_up, goes_on, ends, PlaysRun}
 
 run_append : (b mid b' : Board) (xs ys : List BoardStep) → IsRun b xs mid → IsRun mid ys b' → IsRun b (xs ++ ys) b'
@@ -34,13 +34,13 @@ one_run b [] x y h k = h ∙ sym k
 one_run b (s ∷ rest) x y h k = one_run s.after rest x y h.3 k.3
 
 -- A call that reaches a board is a run of it.
-pub reaches_run : (call : Event) (b b' : Board) (steps : List BoardStep) (says : Says) → Reaches call b steps says b' → IsRun b steps b'
+pub reaches_run : (call : Event) (b b' : Board) (steps : List BoardStep) (says : BoardReply) → Reaches call b steps says b' → IsRun b steps b'
 reaches_run call b _ _ _ lost = refl
 reaches_run call b _ steps _ (once serves) = serves.run
 reaches_run call b b' _ _ (twice {first = first} {second = second} {mid = mid} serves more) =
     run_append b mid b' first second serves.run more.run
 
-objects_run : (setup body : List ℕ) (why : Objection) (b b' : Board) (steps : List BoardStep) (says : Says)
+objects_run : (setup body : List ℕ) (why : Objection) (b b' : Board) (steps : List BoardStep) (says : BoardReply)
     → Objects setup body why b steps says b' → IsRun b steps b'
 objects_run setup body why b _ steps _ (refused_once serves) = serves.run
 objects_run setup body why b b' _ _ (refused_twice {first = first} {second = second} {mid = mid} serves more) =
@@ -57,7 +57,7 @@ stops_run call b b' _ (within_second {first = first} {second = second} {mid = mi
 abbrev pub WentBy : Board → List BoardStep → Board → Type 0
 WentBy b steps b' = IsRun b steps b' ⊎ ((steps ≡ []) × IsMarkedBoard b b')
 
-pub comes_run : (l l' : BoardLink) (steps : List BoardStep) (answer : Answered) → BoardComes l steps answer l' →
+pub comes_run : (l l' : BoardLink) (steps : List BoardStep) (answer : Answered) → BoardLinkStep l steps answer l' →
     WentBy l.board steps l'.board
 comes_run l _ steps _ (passes serves) = inl serves.run
 comes_run l _ steps _ (sends {setup = setup} {body = body} {says = says} {b' = b'} live is asked (inl reaches) hears room) =
@@ -104,7 +104,7 @@ more_are b mid _ marked none_is = marked
 more_are b mid _ marked (one_more {mid = late} {b' = b'} more mark) = one_more (more_are b mid late marked more) mark
 more_are b mid _ marked (one_end {mid = late} {b' = b'} {begins = begins} more end) = one_end (more_are b mid late marked more) end
 
-marked_end : (b mid b' : Board) (begins : Bool) (steps : List BoardStep) → IsMarkedRun b steps mid → TrialEnds mid begins b'
+marked_end : (b mid b' : Board) (begins : Bool) (steps : List BoardStep) → IsMarkedRun b steps mid → TrialEnd mid begins b'
     → IsMarkedRun b steps b'
 marked_end b mid b' begins [] marked end = one_end marked end
 marked_end b mid b' begins (s ∷ rest) run end = (run.0, run.1, run.2, marked_end s.after mid b' begins rest run.3 end)

@@ -10,7 +10,7 @@ use Rattle.dfu_device.specs.Rows.{Cause, Transfer, RefusingClose, Handles, Row}
 use Rattle.dfu_host.specs.Phases.{Send, Deed, Heard, NoRoom, Nothing as NothingHeard}
 use Rattle.dfu_host.specs.Table.{deed}
 use Rattle.dfu_host.specs.Host.{HostState, wants_memory}
-use Rattle.dfu_host.specs.Wire.{IsAsked}
+use Rattle.dfu_host.specs.Wire.{IsSetupOf}
 use Rattle.dfu_sim.specs.declared.delivery.Response.TheVariants as response
 use Rattle.dfu_sim.specs.Happening.{Pass, LostOut, LostBack, Twice, TwiceLostBack, Refusing}
 use Rattle.dfu_sim.specs.Delivery.{delivery_of}
@@ -21,22 +21,22 @@ use Rattle.dfu_sim.specs.Agreement.{live_of, IsLiveOffer}
 use Rattle.dfu_sim.specs.LinkAgreement.{IsSound}
 use Rattle.dfu_sim.specs.Fact.{SessionFact}
 use Rattle.dfu_sim.specs.Simulation.{Simulation, OnlyOffered}
-use Rattle.dfu_laws.specs.board.Board.{Board, Handle, RefuseClose, Says, Answers, BoardStep}
+use Rattle.dfu_laws.specs.board.Board.{Board, Handle, RefuseClose, BoardReply, Answers, BoardStep}
 use Rattle.dfu_laws.specs.board.Refines.{IsIdle, IdleRefines}
 use Rattle.dfu_laws.specs.link.Calls.{Reaches, lost, once, twice, Objects, refused_once, refused_twice}
-use Rattle.dfu_laws.specs.link.Comes.{HearsSentBack}
+use Rattle.dfu_laws.specs.link.LinkSteps.{HeardOfReply}
 use Rattle.dfu_laws.proofs.link.Served.{Served, served}
 use Rattle.dfu_laws.proofs.link.Fixed.{row_profile}
 use Rattle.dfu_laws.proofs.link.Acted.{ActedWell, acted_well}
 
 -- Nothing may always be heard.
-pub hears_nothing : (d : Deed) (says : Says) → HearsSentBack d says NothingHeard
+pub hears_nothing : (d : Deed) (says : BoardReply) → HeardOfReply d says NothingHeard
 hears_nothing d (Answers a out) = inl refl
 hears_nothing d says = refl
 
 module _ (refines : IdleRefines) (simulation : Simulation) (only : OnlyOffered) (c : Profile) (sized : 0 < c.transfer)
     (past : List (List ℕ)) (h : HostState) (q : Request) (setup body : List ℕ) (is : deed h.task h.phase ≡ Send q body)
-    (asked : IsAsked q setup) (d : DeviceView) (e : profile d ≡ c) (sound : IsSound past d.stage)
+    (asked : IsSetupOf q setup) (d : DeviceView) (e : profile d ≡ c) (sound : IsSound past d.stage)
     (offered : IsLiveOffer past (live_of (Hosted h)))
     (f : SessionFact c (situation d) (Hosted h)) where
   -- The device went from the one to the other, and this was heard.
@@ -51,7 +51,7 @@ module _ (refines : IdleRefines) (simulation : Simulation) (only : OnlyOffered) 
 
   -- It came once.
   once_well : (d' : DeviceView) (a : Answer) (out : List ℕ) (heard : Heard) → Handles setup body d a out d'
-      → HearsSentBack (Send q body) (Answers a out) heard → (heard ≡ NoRoom → IsTrue (wants_memory h.phase)) → Acted d' heard
+      → HeardOfReply (Send q body) (Answers a out) heard → (heard ≡ NoRoom → IsTrue (wants_memory h.phase)) → Acted d' heard
   once_well d' a out heard row hears room = elim hears [
     | inl none ↦ acted_well simulation only c sized past d d' h heard LostBack e sound offered f refl
         (subst (λ (y : Deed). Acts y (delivery_of LostBack) d d' heard) (sym is)
@@ -63,7 +63,7 @@ module _ (refines : IdleRefines) (simulation : Simulation) (only : OnlyOffered) 
 
   -- It came twice.
   twice_well : (mid d' : DeviceView) (a x : Answer) (out said : List ℕ) (heard : Heard) → Handles setup body d x said mid
-      → Handles setup body mid a out d' → HearsSentBack (Send q body) (Answers a out) heard
+      → Handles setup body mid a out d' → HeardOfReply (Send q body) (Answers a out) heard
       → (heard ≡ NoRoom → IsTrue (wants_memory h.phase)) → Acted d' heard
   twice_well mid d' a x out said heard row more hears room = elim hears [
     | inl none ↦ acted_well simulation only c sized past d d' h heard TwiceLostBack e sound offered f refl
@@ -76,7 +76,7 @@ module _ (refines : IdleRefines) (simulation : Simulation) (only : OnlyOffered) 
 
   -- It came once, and the program refused the image that it closes.
   refused_well : (why : Objection) (d' : DeviceView) (a : Answer) (out : List ℕ) (heard : Heard) → Row d (RefusingClose setup why) a out d'
-      → HearsSentBack (Send q body) (Answers a out) heard → (heard ≡ NoRoom → IsTrue (wants_memory h.phase)) → Acted d' heard
+      → HeardOfReply (Send q body) (Answers a out) heard → (heard ≡ NoRoom → IsTrue (wants_memory h.phase)) → Acted d' heard
   refused_well why d' a out heard row hears room = elim hears [
     | inl none ↦ acted_well simulation only c sized past d d' h heard (Refusing why LostBack) e sound offered f refl
         (subst (λ (y : Deed). Acts y (delivery_of (Refusing why LostBack)) d d' heard) (sym is)
@@ -89,7 +89,7 @@ module _ (refines : IdleRefines) (simulation : Simulation) (only : OnlyOffered) 
   -- It came a second time then.
   refused_again : (why : Objection) (mid d' : DeviceView) (a x : Answer) (out said : List ℕ) (heard : Heard)
       → Row d (RefusingClose setup why) x said mid
-      → Handles setup body mid a out d' → HearsSentBack (Send q body) (Answers a out) heard
+      → Handles setup body mid a out d' → HeardOfReply (Send q body) (Answers a out) heard
       → (heard ≡ NoRoom → IsTrue (wants_memory h.phase)) → Acted d' heard
   refused_again why mid d' a x out said heard row more hears room = elim hears [
     | inl none ↦ acted_well simulation only c sized past d d' h heard (Refusing why TwiceLostBack) e sound offered f refl
@@ -124,8 +124,8 @@ module _ (refines : IdleRefines) (simulation : Simulation) (only : OnlyOffered) 
   }
 
   -- In each of these ways.
-  pub sent_well : (b b' : Board) (steps : List BoardStep) (says : Says) (heard : Heard) → IsIdle b d
-      → Reaches (Handle setup body) b steps says b' → HearsSentBack (Send q body) says heard
+  pub sent_well : (b b' : Board) (steps : List BoardStep) (says : BoardReply) (heard : Heard) → IsIdle b d
+      → Reaches (Handle setup body) b steps says b' → HeardOfReply (Send q body) says heard
       → (heard ≡ NoRoom → IsTrue (wants_memory h.phase)) → Sent b' heard
   sent_well b _ _ _ heard k lost hears room = record { device = d; idle = k; profile_is = e; acted = lost_well heard hears room }
   sent_well b b' steps _ heard k (once {a = a} {out = out} serves) hears room =
@@ -139,8 +139,8 @@ module _ (refines : IdleRefines) (simulation : Simulation) (only : OnlyOffered) 
       (twice_well x.device y.device a a0 out out0 heard x.row y.row hears room)
 
   -- And if the program refused the image that it closes.
-  pub objected_well : (why : Objection) (b b' : Board) (steps : List BoardStep) (says : Says) (heard : Heard) → IsIdle b d
-      → Objects setup body why b steps says b' → HearsSentBack (Send q body) says heard
+  pub objected_well : (why : Objection) (b b' : Board) (steps : List BoardStep) (says : BoardReply) (heard : Heard) → IsIdle b d
+      → Objects setup body why b steps says b' → HeardOfReply (Send q body) says heard
       → (heard ≡ NoRoom → IsTrue (wants_memory h.phase)) → Sent b' heard
   objected_well why b b' steps _ heard k (refused_once {a = a} {out = out} serves) hears room =
       let x = served refines b b' d (RefuseClose setup why) (RefusingClose setup why) steps a out refl k serves in

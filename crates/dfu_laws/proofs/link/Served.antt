@@ -5,8 +5,8 @@ use Rattle.dfu_device.specs.declared.answer.Answer.{Answer}
 use Rattle.dfu_device.specs.DeviceView.{DeviceView}
 use Rattle.dfu_device.specs.Rows.{Cause, Transfer, Passing, BusReset, RefusingClose, Refusing, Row}
 use Rattle.dfu_device.specs.History.{IsHistory, HistoryStep as TableRow}
-use Rattle.dfu_laws.specs.board.Board.{Board, Event, Handle, Elapse, UsbReset, RefuseClose, Refuse, Write, Took, Restart, Says, Nothing, WritesDue, Answers, BoardStep}
-use Rattle.dfu_laws.specs.board.Refines.{IsOne, TellsCall, TellsRows, TellsAll, IsIdle, StandsFor, IdleRefines}
+use Rattle.dfu_laws.specs.board.Board.{Board, Event, Handle, Elapse, UsbReset, RefuseClose, Refuse, Write, Took, Restart, BoardReply, Nothing, WritesDue, Answers, BoardStep}
+use Rattle.dfu_laws.specs.board.Refines.{IsOne, CallRows, EventRows, StepRows, IsIdle, RepresentsDevice, IdleRefines}
 use Rattle.dfu_laws.specs.link.Calls.{CarriesOn, WorksOff, ends, carries_on, IsCall, at_once, with_writes, Serves}
 
 -- The call of this cause.
@@ -19,23 +19,23 @@ IsOf (Refuse why) cause = cause ≡ Refusing why
 IsOf event cause = ⊥
 
 -- Its event tells of its rows.
-pub tells_of : (call : Event) (cause : Cause) (due due' : Option Cause) (says : Says) (rows : List TableRow) → IsOf call cause
-    → TellsRows due call says rows due' → TellsCall cause due says rows due'
-tells_of (Handle setup body) cause due due' says rows is t = subst (λ (x : Cause). TellsCall x due says rows due') (sym is) t
-tells_of (Elapse ms) cause due due' says rows is t = subst (λ (x : Cause). TellsCall x due says rows due') (sym is) t
-tells_of UsbReset cause due due' says rows is t = subst (λ (x : Cause). TellsCall x due says rows due') (sym is) t
-tells_of (RefuseClose setup why) cause due due' says rows is t = subst (λ (x : Cause). TellsCall x due says rows due') (sym is) t
-tells_of (Refuse why) cause due due' says rows is t = subst (λ (x : Cause). TellsCall x due says rows due') (sym is) t
+pub tells_of : (call : Event) (cause : Cause) (due due' : Option Cause) (says : BoardReply) (rows : List TableRow) → IsOf call cause
+    → EventRows due call says rows due' → CallRows cause due says rows due'
+tells_of (Handle setup body) cause due due' says rows is t = subst (λ (x : Cause). CallRows x due says rows due') (sym is) t
+tells_of (Elapse ms) cause due due' says rows is t = subst (λ (x : Cause). CallRows x due says rows due') (sym is) t
+tells_of UsbReset cause due due' says rows is t = subst (λ (x : Cause). CallRows x due says rows due') (sym is) t
+tells_of (RefuseClose setup why) cause due due' says rows is t = subst (λ (x : Cause). CallRows x due says rows due') (sym is) t
+tells_of (Refuse why) cause due due' says rows is t = subst (λ (x : Cause). CallRows x due says rows due') (sym is) t
 tells_of event cause due due' says rows is t = elim is [ ]
 
 -- A call that is refused has no row, and what is due stays due.
-refused : (cause due : Cause) (due' : Option Cause) (says : Says) (rows : List TableRow) → says ≡ Nothing
-    → TellsCall cause (Some due) says rows due' → (rows ≡ []) × (due' ≡ Some due)
-refused cause due due' says rows e t = subst (λ (x : Says). TellsCall cause (Some due) x rows due') e t
+refused : (cause due : Cause) (due' : Option Cause) (says : BoardReply) (rows : List TableRow) → says ≡ Nothing
+    → CallRows cause (Some due) says rows due' → (rows ≡ []) × (due' ≡ Some due)
+refused cause due due' says rows e t = subst (λ (x : BoardReply). CallRows cause (Some due) x rows due') e t
 
 -- Nor has what carries on the writes.
-pub carried : (e : Event) (says : Says) (due : Cause) (due' : Option Cause) (rows : List TableRow) → CarriesOn e says
-    → TellsRows (Some due) e says rows due' → (rows ≡ []) × (due' ≡ Some due)
+pub carried : (e : Event) (says : BoardReply) (due : Cause) (due' : Option Cause) (rows : List TableRow) → CarriesOn e says
+    → EventRows (Some due) e says rows due' → (rows ≡ []) × (due' ≡ Some due)
 carried Write says due due' rows c t = t
 carried (Took failed) (Answers a out) due due' rows c t = elim c [ ]
 carried (Took failed) Nothing due due' rows c t = t
@@ -48,11 +48,11 @@ carried (Refuse why) says due due' rows c t = refused (Refusing why) due due' sa
 carried (Restart begins) says due due' rows c t = elim c [ ]
 
 -- The rows of a call that is answered: one of its cause, with this answer, and nothing is due.
-pub answered : (cause : Cause) (due due' end : Option Cause) (says : Says) (a : Answer) (out : List ℕ) (rows first later : List TableRow)
-    → says ≡ Answers a out → TellsCall cause due says first due' → rows ≡ first ++ later → later ≡ [] → end ≡ due'
+pub answered : (cause : Cause) (due due' end : Option Cause) (says : BoardReply) (a : Answer) (out : List ℕ) (rows first later : List TableRow)
+    → says ≡ Answers a out → CallRows cause due says first due' → rows ≡ first ++ later → later ≡ [] → end ≡ due'
     → IsOne cause a out rows × (end ≡ None)
 answered cause due due' end says a out rows first later e t are none same =
-    let x : IsOne cause a out first × (due' ≡ None) = subst (λ (y : Says). TellsCall cause due y first due') e t in (
+    let x : IsOne cause a out first × (due' ≡ None) = subst (λ (y : BoardReply). CallRows cause due y first due') e t in (
       record {
         row = x.0.row;
         rows_are = are ∙ (λ i. x.0.rows_are i ++ none i);
@@ -64,27 +64,27 @@ answered cause due due' end says a out rows first later e t are none same =
     )
 
 works_off : (cause : Cause) (a : Answer) (out : List ℕ) (steps : List BoardStep) (rows : List TableRow) (due : Option Cause)
-    → WorksOff a out steps → TellsAll (Some cause) steps rows due → IsOne cause a out rows × (due ≡ None)
+    → WorksOff a out steps → StepRows (Some cause) steps rows due → IsOne cause a out rows × (due ≡ None)
 works_off cause a out _ rows due (ends s failed event says) (first, later, mid, are, t, more) =
     answered cause (Some cause) mid due s.says a out rows first later says
-    (subst (λ (x : Event). TellsRows (Some cause) x s.says first mid) event t) are more.0 more.1
+    (subst (λ (x : Event). EventRows (Some cause) x s.says first mid) event t) are more.0 more.1
 works_off cause a out _ rows due (carries_on s rest c w) (first, later, mid, are, t, more) =
     let x = carried s.event s.says cause mid first c t in
     let same : rows ≡ later = are ∙ (λ i. x.0 i ++ later) in
-    let y = works_off cause a out rest later due w (subst (λ (z : Option Cause). TellsAll z rest later due) x.1 more) in
+    let y = works_off cause a out rest later due w (subst (λ (z : Option Cause). StepRows z rest later due) x.1 more) in
     (subst (λ (r : List TableRow). IsOne cause a out r) (sym same) y.0, y.1)
 
 call_tells : (call : Event) (cause : Cause) (a : Answer) (out : List ℕ) (steps : List BoardStep) (rows : List TableRow)
-    (due : Option Cause) → IsOf call cause → IsCall call a out steps → TellsAll None steps rows due
+    (due : Option Cause) → IsOf call cause → IsCall call a out steps → StepRows None steps rows due
     → IsOne cause a out rows × (due ≡ None)
 call_tells call cause a out _ rows due is (at_once s event says) (first, later, mid, are, t, more) =
     answered cause None mid due s.says a out rows first later says
-    (tells_of call cause None mid s.says first is (subst (λ (x : Event). TellsRows None x s.says first mid) event t)) are more.0 more.1
+    (tells_of call cause None mid s.says first is (subst (λ (x : Event). EventRows None x s.says first mid) event t)) are more.0 more.1
 call_tells call cause a out _ rows due is (with_writes s rest event says w) (first, later, mid, are, t, more) =
-    let told = tells_of call cause None mid s.says first is (subst (λ (x : Event). TellsRows None x s.says first mid) event t) in
-    let x : (first ≡ []) × (mid ≡ Some cause) = subst (λ (y : Says). TellsCall cause None y first mid) says told in
+    let told = tells_of call cause None mid s.says first is (subst (λ (x : Event). EventRows None x s.says first mid) event t) in
+    let x : (first ≡ []) × (mid ≡ Some cause) = subst (λ (y : BoardReply). CallRows cause None y first mid) says told in
     let same : rows ≡ later = are ∙ (λ i. x.0 i ++ later) in
-    let y = works_off cause a out rest later due w (subst (λ (z : Option Cause). TellsAll z rest later due) x.1 more) in
+    let y = works_off cause a out rest later due w (subst (λ (z : Option Cause). StepRows z rest later due) x.1 more) in
     (subst (λ (r : List TableRow). IsOne cause a out r) (sym same) y.0, y.1)
 
 -- A history of one row is that row.
@@ -115,5 +115,5 @@ module _ (refines : IdleRefines) where
       record {
         device = r.device;
         row = one_row d r.device cause a out r.rows t.0 r.history;
-        idle = subst (λ (x : Option Cause). StandsFor b' x r.device) t.1 r.stands;
+        idle = subst (λ (x : Option Cause). RepresentsDevice b' x r.device) t.1 r.stands;
       }

@@ -2,7 +2,7 @@
 use Rattle.std.specs.Prelude.{◌≡◌, ◌⊎◌, ℕ, ◌<◌, Bool, true, List, [], ◌∷◌, ◌++◌, length, Option, Some, None}
 use Rattle.std.proofs.Common.{inl, inr, refl, sym, ap, ◌∙◌, subst}
 use Rattle.dfu_slots.specs.Image.{Active, HasImage}
-use Rattle.dfu_slots.specs.Seen.{SlotsState, image_of}
+use Rattle.dfu_slots.specs.StoreView.{SlotsState, image_of}
 use Rattle.dfu_device.specs.Stage.{Profile, Stage, InManifestSync, InManifest, state_of}
 use Rattle.dfu_device.specs.Outcome.{Situation, Works}
 use Rattle.dfu_device.specs.DeviceView.{DeviceView, profile, situation}
@@ -25,13 +25,13 @@ use Rattle.dfu_sim.specs.Simulation.{Simulation, OnlyOffered}
 use Rattle.dfu_laws.specs.board.Board.{Board, lent_on, medium_on, device_on, state_on, BoardStep}
 use Rattle.dfu_laws.specs.board.Happens.{IsPoweredOn}
 use Rattle.dfu_laws.specs.board.Refines.{IsIdle, IdleRefines}
-use Rattle.dfu_laws.specs.link.Comes.{BoardLink}
-use Rattle.dfu_laws.specs.link.Marks.{TrialEnds}
+use Rattle.dfu_laws.specs.link.LinkSteps.{BoardLink}
+use Rattle.dfu_laws.specs.link.Marks.{TrialEnd}
 use Rattle.dfu_laws.specs.link.Trials.{MayEnd}
-use Rattle.dfu_laws.specs.link.Plays.{opened_on, Plays, starts, offers, uploads, aborts as gives_up, goes_on, ends, PlaysInstall, PlaysGive, PlaysKnow, PlaysKnowWithin}
+use Rattle.dfu_laws.specs.link.Plays.{opened_on, Plays, starts, offers, uploads, aborts as gives_up, goes_on, ends, PlaysInstall, UploadsOfPlays, PlaysKnow, PlaysKnowWithin}
 use Rattle.dfu_laws.proofs.link.Acted.{machine, agrees}
 use Rattle.dfu_laws.proofs.link.Ended.{state_idle, ends_profile, more_offered, ending_fact}
-use Rattle.dfu_laws.proofs.link.Played.{Stands, went_on}
+use Rattle.dfu_laws.proofs.link.Played.{StageInvariant, went_on}
 use Rattle.dfu_laws.proofs.link.Stopped.{start_sound}
 use Rattle.dfu_laws.proofs.link.Within.{rest_known}
 use Rattle.dfu_laws.proofs.link.Throughout.{comes_known}
@@ -107,7 +107,7 @@ module _ (refines : IdleRefines) (simulation : Simulation) (only : OnlyOffered) 
 
     record StandsSo (first : List ℕ) (past : List (List ℕ)) (last : Option (List ℕ)) (l : BoardLink) : Type 0 where
       device : DeviceView
-      stands : Stands c first past last l device
+      stands : StageInvariant c first past last l device
 
     -- A session begins on a board on which this holds.
     begins : (first : List ℕ) (past now : List (List ℕ)) (last next : Option (List ℕ)) (l : BoardLink) (goal : Goal) (limits : Limits)
@@ -131,7 +131,7 @@ module _ (refines : IdleRefines) (simulation : Simulation) (only : OnlyOffered) 
 
     -- A trial ends on a board on which this holds.
     trial_ended : (first : List ℕ) (past : List (List ℕ)) (last : Option (List ℕ)) (l : BoardLink) (b' : Board) (image : List ℕ)
-        (begins : Bool) → StandsSo first past last l → MayEnd l.session (state_on l.board) begins → TrialEnds l.board begins b'
+        (begins : Bool) → StandsSo first past last l → MayEnd l.session (state_on l.board) begins → TrialEnd l.board begins b'
         → Active (medium_on b') image → StandsSo first (image ∷ past) last (record { board = b'; session = l.session })
     trial_ended first past last l b' image begins x may end active =
         let on = end.starts.0 in
@@ -221,7 +221,7 @@ module _ (refines : IdleRefines) (simulation : Simulation) (only : OnlyOffered) 
       }
 
   -- Bytes that come with Uploaded are the active image.
-  pub plays_give : PlaysGive
+  pub plays_give : UploadsOfPlays
   plays_give b steps more past last l l' answer bytes on sized plays comes e =
       let c : Profile = profile (device_on b) in
       let first : List ℕ = image_of (device_on b).slots in

@@ -5,7 +5,7 @@ use Rattle.dfu_slots.specs.Image.{Active}
 use Rattle.dfu_boot.specs.trial.Marks.{AreTries}
 use Rattle.dfu_boot.specs.trial.Trial.{image_at}
 use Rattle.dfu_boot.specs.trial.Calls.{IsStanding}
-use Rattle.dfu_boot.specs.trial.Lists.{TrialStep, CameAll, Trust, Tried, AreTrusted, AllTrusted}
+use Rattle.dfu_boot.specs.trial.Lists.{TrialStep, TrialCourse, Trust, Tried, AreTrusted, AllTrusted}
 use Rattle.dfu_boot.specs.declared.trial.standing.Trial.{Trial}
 use Rattle.dfu_boot.specs.declared.trial.standing.Standing.TheVariants.{OnTrial}
 use Rattle.dfu_laws.specs.board.Board.{medium_on}
@@ -19,7 +19,7 @@ TrialIsTrusted = (m : MediumState) (tries : ℕ) (t : Trial) (image : List ℕ) 
 
 abbrev pub ListIsTrusted : Type 0
 ListIsTrusted = (m : MediumState) (tries : ℕ) (trust : Trust) (steps : List TrialStep) → AreTries m.grain tries
-    → AreTrusted m tries trust → CameAll tries m steps → AllTrusted tries trust m steps
+    → AreTrusted m tries trust → TrialCourse tries m steps → AllTrusted tries trust m steps
 
 pub plays_stay : TrialIsTrusted → ListIsTrusted → PlaysInstall → PlaysStay
 plays_stay tried list_is installs b steps more past last l l' answer tries t list on sized plays comes says are stands came =

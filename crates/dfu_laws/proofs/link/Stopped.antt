@@ -4,19 +4,19 @@ use Rattle.std.proofs.Common.{inl, inr, refl, sym, ap, ◌∙◌, subst}
 use Rattle.std.proofs.lemmas.Bool.{false≢true}
 use Rattle.dfu_slots.specs.Image.{Active}
 use Rattle.dfu_slots.specs.Medium.{MediumState}
-use Rattle.dfu_slots.specs.Seen.{image_of}
+use Rattle.dfu_slots.specs.StoreView.{image_of}
 use Rattle.dfu_device.specs.Stage.{Profile, Stage, InManifestSync, InManifestSyncComplete, InManifest, state_of}
 use Rattle.dfu_device.specs.DeviceView.{DeviceView, profile, situation}
 use Rattle.dfu_device.specs.Rows.{Cause}
 use Rattle.dfu_device.specs.History.{IsHistory, HistoryStep as TableRow}
-use Rattle.dfu_device.specs.Taken.{taken_in, taken_of}
+use Rattle.dfu_device.specs.AcceptedBytes.{accepted_in, accepted_of}
 use Rattle.dfu_asks.specs.Mapped.{grain_of, mapped}
 use Rattle.dfu_sim.specs.Session.{IsOneOf}
 use Rattle.dfu_sim.specs.LinkAgreement.{IsSound}
-use Rattle.dfu_laws.specs.board.Board.{Board, medium_on, Event, Restart, Says, Answers, BoardStep}
+use Rattle.dfu_laws.specs.board.Board.{Board, medium_on, Event, Restart, BoardReply, Answers, BoardStep}
 use Rattle.dfu_laws.specs.board.Happens.{start_stage, BoardStarts, Happens, IsRun}
-use Rattle.dfu_laws.specs.board.Keeps.{is_manifesting}
-use Rattle.dfu_laws.specs.board.Refines.{IsIdle, StandsFor, IdleRefines}
+use Rattle.dfu_laws.specs.board.ImageSurvival.{is_manifesting}
+use Rattle.dfu_laws.specs.board.Refines.{IsIdle, RepresentsDevice, IdleRefines}
 use Rattle.dfu_laws.specs.link.Calls.{IsBrokenCall, Reaches, once, Stops, behind, within, within_second}
 use Rattle.dfu_laws.proofs.link.Served.{IsOf}
 use Rattle.dfu_laws.proofs.link.Fixed.{history_profile}
@@ -26,14 +26,14 @@ use Rattle.dfu_laws.proofs.link.Became.{Became, then_well}
 
 -- Bytes that wait are one of the offers.
 waits_one : (past : List (List ℕ)) (image i : List ℕ) (st : Stage) → is_manifesting (state_of st) ≡ true → IsSound past st
-    → i ≡ taken_in image st → (i ≡ image) ⊎ IsOneOf i past
+    → i ≡ accepted_in image st → (i ≡ image) ⊎ IsOneOf i past
 waits_one past image i (InManifestSync taken) on sound e = inr (subst (λ (l : List ℕ). IsOneOf l past) (sym e) sound)
 waits_one past image i InManifestSyncComplete on sound e = inl e
 waits_one past image i (InManifest taken passed) on sound e = inr (subst (λ (l : List ℕ). IsOneOf l past) (sym e) sound)
 waits_one past image i st on sound e = absurd (false≢true on)
 
 -- If no writes are due on a board, it is the device that it stands for.
-idle_by : (b : Board) (due : Option Cause) (d : DeviceView) → StandsFor b due d → b.asking.work ≡ None → IsIdle b d
+idle_by : (b : Board) (due : Option Cause) (d : DeviceView) → RepresentsDevice b due d → b.asking.work ≡ None → IsIdle b d
 idle_by b None d k none = k
 idle_by b (Some cause) d k none = let some = k.asks.work_is in absurd (cc)
 
@@ -62,7 +62,7 @@ module _ (refines : IdleRefines) (past : List (List ℕ)) where
         | inl old ↦ inl (old ∙ ap (λ (x : DeviceView). image_of x.slots) same)
         | inr waits ↦ waits_one past (image_of d.slots) image d.stage
             (subst (λ (x : DeviceView). is_manifesting (state_of x.stage) ≡ true) same waits.1) sound
-            (waits.2 ∙ ap (λ (x : DeviceView). taken_of (situation x)) same)
+            (waits.2 ∙ ap (λ (x : DeviceView). accepted_of (situation x)) same)
       ]
 
   module _ (c : Profile) where
@@ -117,7 +117,7 @@ module _ (refines : IdleRefines) (past : List (List ℕ)) where
     -- The power goes with this call under way, which leads so if it comes to its end.
     pub stops_by : (b b' : Board) (d : DeviceView) (call : Event) (cause : Cause) (steps : List BoardStep) → IsIdle b d → profile d ≡ c
         → IsSound past d.stage → IsOf call cause
-        → ((mid : Board) (more : List BoardStep) (says : Says) → Reaches call b more says mid → Became c past (situation d) mid)
+        → ((mid : Board) (more : List BoardStep) (says : BoardReply) → Reaches call b more says mid → Became c past (situation d) mid)
         → Stops call b steps b' → Became c past (situation d) b'
     stops_by b b' d call cause _ k e sound is leads (behind {steps = steps} {says = says} {mid = mid} power begins reaches run event) =
         let x = leads mid steps says reaches in

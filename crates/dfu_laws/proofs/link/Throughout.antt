@@ -1,7 +1,7 @@
 -- The image is known at each step of all that may come.
 use Rattle.std.specs.Prelude.{◌≡◌, ◌⊎◌, ℕ, ◌<◌, Bool, List, [], ◌∷◌, Option}
 use Rattle.std.proofs.Common.{inl, inr, refl, sym, subst}
-use Rattle.dfu_slots.specs.Seen.{image_of}
+use Rattle.dfu_slots.specs.StoreView.{image_of}
 use Rattle.dfu_device.specs.declared.objection.Objection.{Objection}
 use Rattle.dfu_device.specs.Stage.{Profile}
 use Rattle.dfu_device.specs.DeviceView.{DeviceView, situation}
@@ -11,29 +11,29 @@ use Rattle.dfu_sim.specs.LinkAgreement.{IsSound}
 use Rattle.dfu_sim.specs.Play.{Answered}
 use Rattle.dfu_sim.specs.LinkView.{Session}
 use Rattle.dfu_sim.specs.Simulation.{Simulation, OnlyOffered}
-use Rattle.dfu_laws.specs.board.Board.{Board, Handle, Elapse, UsbReset, RefuseClose, Refuse, Restart, Event, Says, BoardStep}
+use Rattle.dfu_laws.specs.board.Board.{Board, Handle, Elapse, UsbReset, RefuseClose, Refuse, Restart, Event, BoardReply, BoardStep}
 use Rattle.dfu_laws.specs.board.Happens.{IsRun}
 use Rattle.dfu_laws.specs.board.Refines.{IsIdle, IdleRefines}
 use Rattle.dfu_laws.specs.link.Calls.{Reaches, lost, Objects, refused_once, refused_twice, behind}
-use Rattle.dfu_laws.specs.link.Comes.{BoardLink, IsUnderWay, BoardComes, passes, sends, refuses, waits, resets, is_reset, restarts, leaves, restarts_at_reset, marks}
+use Rattle.dfu_laws.specs.link.LinkSteps.{BoardLink, IsUnderWay, BoardLinkStep, passes, sends, refuses, waits, resets, is_reset, restarts, leaves, restarts_at_reset, marks}
 use Rattle.dfu_laws.specs.link.Plays.{KnownIsActive}
 use Rattle.dfu_laws.proofs.link.Served.{served}
 use Rattle.dfu_laws.proofs.link.Became.{Became}
-use Rattle.dfu_laws.proofs.link.Played.{Stands, way_cause, way_well}
+use Rattle.dfu_laws.proofs.link.Played.{StageInvariant, way_cause, way_well}
 use Rattle.dfu_laws.proofs.link.Ran.{reaches_run}
 use Rattle.dfu_laws.proofs.link.Within.{KnownOf, Through, became_known, rest_known, through_append, call_known, none_known, reaches_known, stops_known}
 
 module _ (refines : IdleRefines) (simulation : Simulation) (only : OnlyOffered) (c : Profile) (sized : 0 < c.transfer)
     (first : List ℕ) (past : List (List ℕ)) (last : Option (List ℕ)) where
   -- If all this holds of a board, a call under way leads to one whose image and closed bytes are well.
-  leads_on : (l : BoardLink) (d : DeviceView) (call : Event) → Stands c first past last l d → IsUnderWay l.session call
-      → (mid : Board) (more : List BoardStep) (says : Says) → Reaches call l.board more says mid → Became c past (situation d) mid
+  leads_on : (l : BoardLink) (d : DeviceView) (call : Event) → StageInvariant c first past last l d → IsUnderWay l.session call
+      → (mid : Board) (more : List BoardStep) (says : BoardReply) → Reaches call l.board more says mid → Became c past (situation d) mid
   leads_on l d call s way mid more says reaches =
       way_well refines simulation only c sized past l.session call l.board mid d more says s.idle s.profile_is s.sound s.offered s.fact way
       reaches
 
   -- Through a request whose image the program refuses.
-  objects_known : (b b' : Board) (d : DeviceView) (setup body : List ℕ) (why : Objection) (steps : List BoardStep) (says : Says)
+  objects_known : (b b' : Board) (d : DeviceView) (setup body : List ℕ) (why : Objection) (steps : List BoardStep) (says : BoardReply)
       → IsIdle b d
       → KnownOf first past d → KnownIsActive first past b' → Objects setup body why b steps says b' → Through refines c first past b steps
   objects_known b b' d setup body why steps _ k known at (refused_once {a = a} {out = out} serves) =
@@ -53,7 +53,7 @@ module _ (refines : IdleRefines) (simulation : Simulation) (only : OnlyOffered) 
       (call_known refines c first past mid b' x.device (Handle setup body) (Transfer setup body) ys a out x.idle there refl more at)
 
   -- Through a restart with no call under way.
-  power_within : (l : BoardLink) (b' : Board) (d : DeviceView) (power : BoardStep) (begins : Bool) → Stands c first past last l d
+  power_within : (l : BoardLink) (b' : Board) (d : DeviceView) (power : BoardStep) (begins : Bool) → StageInvariant c first past last l d
       → IsRun l.board (power ∷ []) b' → power.event ≡ Restart begins → KnownIsActive first past b'
       → Through refines c first past l.board (power ∷ [])
   power_within l b' d power begins s run event at =
@@ -61,8 +61,8 @@ module _ (refines : IdleRefines) (simulation : Simulation) (only : OnlyOffered) 
       refl (leads_on l d (Elapse 0) s tt) (behind power begins lost run event) at
 
   -- The image is known after each of the steps that come next, if it is at their end.
-  pub comes_known : (l l' : BoardLink) (d : DeviceView) (steps : List BoardStep) (answer : Answered) → Stands c first past last l d
-      → KnownIsActive first past l'.board → BoardComes l steps answer l' → Through refines c first past l.board steps
+  pub comes_known : (l l' : BoardLink) (d : DeviceView) (steps : List BoardStep) (answer : Answered) → StageInvariant c first past last l d
+      → KnownIsActive first past l'.board → BoardLinkStep l steps answer l' → Through refines c first past l.board steps
   comes_known l _ d steps _ s at (passes {ms = ms} {a = a} {out = out} {b' = b'} serves) =
       call_known refines c first past l.board b' d (Elapse ms) (Passing ms) steps a out s.idle
       (record { sound = s.sound; known = s.known }) refl serves at

@@ -2,14 +2,14 @@
 use Rattle.std.specs.Prelude.{◌≡◌, ◌⊎◌, ℕ, List, [], ◌∷◌, ◌++◌}
 use Rattle.std.proofs.Common.{inl, inr, refl, sym, ap, ◌∙◌, subst}
 use Rattle.std.proofs.lemmas.List.{append-nil}
-use Rattle.dfu_slots.specs.Seen.{image_of}
+use Rattle.dfu_slots.specs.StoreView.{image_of}
 use Rattle.dfu_device.specs.declared.answer.Answer.{Answer}
 use Rattle.dfu_device.specs.Stage.{Profile}
 use Rattle.dfu_device.specs.DeviceView.{DeviceView, situation}
 use Rattle.dfu_device.specs.Rows.{Cause, BusReset}
 use Rattle.dfu_sim.specs.Session.{IsOneOf}
 use Rattle.dfu_sim.specs.LinkAgreement.{IsSound}
-use Rattle.dfu_laws.specs.board.Board.{Board, UsbReset, Event, Says, Answers, BoardStep}
+use Rattle.dfu_laws.specs.board.Board.{Board, UsbReset, Event, BoardReply, Answers, BoardStep}
 use Rattle.dfu_laws.specs.board.Happens.{IsRun}
 use Rattle.dfu_laws.specs.board.Refines.{IsIdle, IdleRefines}
 use Rattle.dfu_laws.specs.link.Calls.{Serves, IsBrokenCall, Reaches, lost, once, twice, Stops, behind, within, within_second}
@@ -108,9 +108,9 @@ module _ (refines : IdleRefines) (c : Profile) (first : List ℕ) (past : List (
       all_known b b' mid (s ∷ []) (x ∷ xs) rest all at' e (no_rest xs rest (ap tail_of e)).1 run
 
   -- Through a call over the link, which leads so each time that it comes to its end.
-  pub reaches_known : (b b' : Board) (d : DeviceView) (call : Event) (cause : Cause) (steps : List BoardStep) (says : Says) → IsIdle b d
+  pub reaches_known : (b b' : Board) (d : DeviceView) (call : Event) (cause : Cause) (steps : List BoardStep) (says : BoardReply) → IsIdle b d
       → KnownOf first past d → IsOf call cause
-      → ((mid : Board) (more : List BoardStep) (says : Says) → Reaches call b more says mid → Became c past (situation d) mid)
+      → ((mid : Board) (more : List BoardStep) (says : BoardReply) → Reaches call b more says mid → Became c past (situation d) mid)
       → Reaches call b steps says b' → Through b steps
   reaches_known b _ d call cause _ _ k known is leads lost = none_known b (rest_known b d k known)
   reaches_known b b' d call cause steps _ k known is leads (once {a = a} {out = out} serves) =
@@ -129,7 +129,7 @@ module _ (refines : IdleRefines) (c : Profile) (first : List ℕ) (past : List (
   pub stops_known : (b b' : Board) (d : DeviceView) (call : Event) (cause : Cause) (steps : List BoardStep) → IsIdle b d
       → KnownOf first past d
       → IsOf call cause
-      → ((mid : Board) (more : List BoardStep) (says : Says) → Reaches call b more says mid → Became c past (situation d) mid)
+      → ((mid : Board) (more : List BoardStep) (says : BoardReply) → Reaches call b more says mid → Became c past (situation d) mid)
       → Stops call b steps b' → KnownIsActive first past b' → Through b steps
   stops_known b b' d call cause _ k known is leads (behind {steps = steps} {says = says} {mid = mid} power begins reaches run event) at =
       let x = leads mid steps says reaches in

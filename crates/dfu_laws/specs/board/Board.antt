@@ -8,7 +8,7 @@ use Rattle.dfu_device.specs.DeviceView.{DeviceView}
 use Rattle.dfu_device.specs.Stage.{state_of}
 use Rattle.dfu_device.specs.Parts.{stage_of}
 use Rattle.dfu_asks.specs.declared.asking.Asking.{Asking}
-use Rattle.dfu_asks.specs.Lent.{LentAsking, lent}
+use Rattle.dfu_asks.specs.Lent.{LentDevice, lent}
 use Rattle.dfu_asks.specs.Mapped.{mapped}
 use Rattle.dfu_asks.specs.Asks.{grain_in, device_in}
 
@@ -20,7 +20,7 @@ pub record Board : Type 0 where
   pub flash : List ℕ
 
 -- The device with what is in its memories.
-abbrev pub lent_on : Board → LentAsking
+abbrev pub lent_on : Board → LentDevice
 lent_on b = lent b.asking b.block b.held
 
 -- Its flash as a medium; any write of it may fail.
@@ -52,14 +52,14 @@ pub data Event : Type 0 where
   Restart : (begins : Bool) → Event
 
 -- Answer to an event: nothing, as by a call that is refused; that writes are due; or an answer with its bytes.
-pub data Says : Type 0 where
-  Nothing : Says
-  WritesDue : Says
-  Answers : (a : Answer) (out : List ℕ) → Says
+pub data BoardReply : Type 0 where
+  Nothing : BoardReply
+  WritesDue : BoardReply
+  Answers : (a : Answer) (out : List ℕ) → BoardReply
 
 -- A step of a board.
 pub record BoardStep : Type 0 where
   pub before : Board
   pub event : Event
-  pub says : Says
+  pub says : BoardReply
   pub after : Board

@@ -6,7 +6,7 @@ use Rattle.dfu_asks.specs.declared.pending_writes.SlotWrite.TheVariants.{Block, 
 use Rattle.dfu_asks.specs.Steps.{Step}
 use Rattle.dfu_asks.specs.Carried.{IsPiece}
 use Rattle.dfu_asks.specs.Asks.{steps_in}
-use Rattle.dfu_laws.specs.board.Board.{Board, lent_on, Event, Took, Restart, Says, WritesDue, Answers, BoardStep}
+use Rattle.dfu_laws.specs.board.Board.{Board, lent_on, Event, Took, Restart, BoardReply, WritesDue, Answers, BoardStep}
 use Rattle.dfu_laws.specs.board.Happens.{IsPoweredOn, IsRun}
 
 -- The most erases and programs of a block of n bytes: with sectors one for the gate, and one for each sector that may begin in it; one for
@@ -25,21 +25,21 @@ abbrev pub commit_programs : ℕ
 commit_programs = 3
 
 -- The most writes that are asked for: those of a block of n bytes, or those of a commit.
-abbrev pub most_asks : SlotWrite → (n sector : ℕ) → ℕ
-most_asks (Block spare close) n sector = block_erases n sector + block_programs n
-most_asks (Commit spare gen crc) n sector = commit_erases sector + commit_programs
+abbrev pub operation_bound : SlotWrite → (n sector : ℕ) → ℕ
+operation_bound (Block spare close) n sector = block_erases n sector + block_programs n
+operation_bound (Commit spare gen crc) n sector = commit_erases sector + commit_programs
 
 -- Number of these steps that say that writes are due.
-abbrev pub asks_of : Says → ℕ
-asks_of WritesDue = 1
-asks_of says = 0
+abbrev pub operations_of : BoardReply → ℕ
+operations_of WritesDue = 1
+operations_of says = 0
 
-abbrev pub asks_in : List BoardStep → ℕ
-asks_in [] = 0
-asks_in (s ∷ rest) = asks_of s.says + asks_in rest
+abbrev pub operations_in : List BoardStep → ℕ
+operations_in [] = 0
+operations_in (s ∷ rest) = operations_of s.says + operations_in rest
 
 -- A step is not answered, and the power does not go.
-abbrev pub IsUnanswered : Event → Says → Type 0
+abbrev pub IsUnanswered : Event → BoardReply → Type 0
 IsUnanswered (Restart begins) says = ⊥
 IsUnanswered event (Answers a out) = ⊥
 IsUnanswered event says = Unit {0}
@@ -49,18 +49,18 @@ AreUnanswered [] = Unit {0}
 AreUnanswered (s ∷ rest) = IsUnanswered s.event s.says × AreUnanswered rest
 
 -- If a report does not end a row, the piece that was due is behind it, by the clause `further` of `took`.
-abbrev pub GoesFurther : Board → Event → Says → Board → Type 0
-GoesFurther b (Took failed) WritesDue b' = (w : PendingWrites) (p : Step) → b.asking.work ≡ Some w
+abbrev pub PieceAdvances : Board → Event → BoardReply → Board → Type 0
+PieceAdvances b (Took failed) WritesDue b' = (w : PendingWrites) (p : Step) → b.asking.work ≡ Some w
     → IsPiece (steps_in (lent_on b) w) w.done p → b'.asking.work ≡ Some (record w { done = w.done + length p.write.bytes })
-GoesFurther b event says b' = Unit {0}
+PieceAdvances b event says b' = Unit {0}
 
-abbrev pub AllGoFurther : List BoardStep → Type 0
-AllGoFurther [] = Unit {0}
-AllGoFurther (s ∷ rest) = GoesFurther s.before s.event s.says s.after × AllGoFurther rest
+abbrev pub AllPiecesAdvance : List BoardStep → Type 0
+AllPiecesAdvance [] = Unit {0}
+AllPiecesAdvance (s ∷ rest) = PieceAdvances s.before s.event s.says s.after × AllPiecesAdvance rest
 
 -- No writes were due on a board, and none of the steps since was answered: if writes are due then, these steps asked for at most so many,
 -- the first time and the last time included. The block of the bound is the one that is being written.
-abbrev pub RunAsksFew : Type 0
-RunAsksFew = (b mid b' : Board) (old steps : List BoardStep) (w : PendingWrites) → IsPoweredOn b → IsRun b old mid
-    → mid.asking.work ≡ None → IsRun mid steps b' → AreUnanswered steps → AllGoFurther steps → b'.asking.work ≡ Some w
-    → asks_in steps ≤ most_asks w.job (length (lent_on b').block) b'.asking.sector.size
+abbrev pub RunOperationsBounded : Type 0
+RunOperationsBounded = (b mid b' : Board) (old steps : List BoardStep) (w : PendingWrites) → IsPoweredOn b → IsRun b old mid
+    → mid.asking.work ≡ None → IsRun mid steps b' → AreUnanswered steps → AllPiecesAdvance steps → b'.asking.work ≡ Some w
+    → operations_in steps ≤ operation_bound w.job (length (lent_on b').block) b'.asking.sector.size

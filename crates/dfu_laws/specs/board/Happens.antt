@@ -1,7 +1,7 @@
 -- Results of a step of a board: what the clauses of a call say, and what may become of its flash.
 use Rattle.std.specs.Prelude.{◌≡◌, ℕ, Bool, true, false, List, [], ◌∷◌, length, take, Some, None}
 use Rattle.dfu_slots.specs.Medium.{Torn}
-use Rattle.dfu_slots.specs.Seen.{SlotsState}
+use Rattle.dfu_slots.specs.StoreView.{SlotsState}
 use Rattle.dfu_device.specs.declared.answer.Answer.{Answer}
 use Rattle.dfu_device.specs.declared.answer.Answer.TheVariants as answer
 use Rattle.dfu_device.specs.Stage.{Stage, InAppIdle, InDfuIdle}
@@ -15,38 +15,38 @@ use Rattle.dfu_asks.specs.Lent.{IsSetUpAs}
 use Rattle.dfu_asks.specs.Steps.{Step}
 use Rattle.dfu_asks.specs.Carried.{IsPiece}
 use Rattle.dfu_asks.specs.Asks.{device_of, IsDevice, steps_in}
-use Rattle.dfu_asks.specs.Calls.{AsksWrites, DeviceCalled, DeviceTook}
-use Rattle.dfu_asks.specs.Refused.{Fits, IsKeptOn, IsLeft}
-use Rattle.dfu_laws.specs.board.Board.{Board, lent_on, medium_on, device_on, Event, Handle, Elapse, UsbReset, RefuseClose, Refuse, Write, Took, Restart, Says, Nothing, WritesDue, Answers, BoardStep}
+use Rattle.dfu_asks.specs.Calls.{WritesPending, DeviceCalled, DevicePieceReported}
+use Rattle.dfu_asks.specs.Refused.{RoomForBlocks, IsDeviceOn, HasRemainingWrites}
+use Rattle.dfu_laws.specs.board.Board.{Board, lent_on, medium_on, device_on, Event, Handle, Elapse, UsbReset, RefuseClose, Refuse, Write, Took, Restart, BoardReply, Nothing, WritesDue, Answers, BoardStep}
 
 -- Answer of a reply, with these bytes in the buffer of the call.
-abbrev pub reply_said : Reply → List ℕ → Says
-reply_said reply.Asks out = WritesDue
-reply_said (reply.Answered a count) out = Answers a (take count out)
+abbrev pub reply_of_call : Reply → List ℕ → BoardReply
+reply_of_call reply.Asks out = WritesDue
+reply_of_call (reply.Answered a count) out = Answers a (take count out)
 
 -- A call of `handle` or `elapse` that is not refused, by the clauses `served` and `outcome`: the row of its cause answers it, or its
 -- writes are due.
-pub record IsServedBy (b : Board) (cause : Cause) (says : Says) (b' : Board) : Type 0 where
+pub record IsServedBy (b : Board) (cause : Cause) (says : BoardReply) (b' : Board) : Type 0 where
   pub idle : b.asking.work ≡ None
-  pub fits : Fits b.asking (length b.block)
+  pub fits : RoomForBlocks b.asking (length b.block)
   pub flash : b'.flash ≡ b.flash
   pub reply : Reply
-  pub outcome : IsKeptOn b.asking b.block b.held b.flash → (out out' : List ℕ)
+  pub outcome : IsDeviceOn b.asking b.block b.held b.flash → (out out' : List ℕ)
       × DeviceCalled (lent_on b) b.flash out (λ d x sent d'. Row d cause x sent d') (lent_on b') out' reply
-      × (says ≡ reply_said reply out')
+      × (says ≡ reply_of_call reply out')
 
 -- A call of `usb_reset` that is not refused, by its clauses `served`, `row`, `is` and `work`.
-pub record IsReset (b : Board) (says : Says) (b' : Board) : Type 0 where
+pub record IsReset (b : Board) (says : BoardReply) (b' : Board) : Type 0 where
   pub idle : b.asking.work ≡ None
-  pub fits : Fits b.asking (length b.block)
+  pub fits : RoomForBlocks b.asking (length b.block)
   pub flash : b'.flash ≡ b.flash
   pub row : device_on b' ≡ record (device_on b) { stage = reset_stage (device_on b).stage }
-  pub is : IsKeptOn b.asking b.block b.held b.flash → IsKeptOn b'.asking b'.block b'.held b'.flash
+  pub is : IsDeviceOn b.asking b.block b.held b.flash → IsDeviceOn b'.asking b'.block b'.held b'.flash
   pub work : b'.asking.work ≡ None
   pub says_is : says ≡ Answers answer.Ack []
 
 -- A call of `refuse_close` or `refuse` that is not refused, by its clauses: the row of its cause, with this answer.
-pub record IsObjected (b : Board) (cause : Cause) (a : Answer) (says : Says) (b' : Board) : Type 0 where
+pub record IsObjected (b : Board) (cause : Cause) (a : Answer) (says : BoardReply) (b' : Board) : Type 0 where
   pub idle : b.asking.work ≡ None
   pub flash : b'.flash ≡ b.flash
   pub row : IsDevice (lent_on b) b.flash → IsDevice (lent_on b') b'.flash × Row (device_on b) cause a [] (device_on b')
@@ -68,17 +68,17 @@ pub record FlashIsWritten (b : Board) (b' : Board) : Type 0 where
   pub held : b'.held ≡ b.held
 
 -- A call of `took` that is not refused, by its clauses `taken` and `outcome`.
-pub record IsTold (b : Board) (failed : Bool) (says : Says) (b' : Board) : Type 0 where
+pub record TookResult (b : Board) (failed : Bool) (says : BoardReply) (b' : Board) : Type 0 where
   pub work : PendingWrites
-  pub left : IsLeft (lent_on b) work
+  pub left : HasRemainingWrites (lent_on b) work
   pub flash : b'.flash ≡ b.flash
   pub reply : Reply
   pub out : List ℕ
   pub out' : List ℕ
-  pub outcome : (len : ℕ) (s : SlotsState) (was before : List ℕ) (asks : AsksWrites (lent_on b) len s was before) (p : Step)
+  pub outcome : (len : ℕ) (s : SlotsState) (was before : List ℕ) (asks : WritesPending (lent_on b) len s was before) (p : Step)
       → IsPiece (steps_in (lent_on b) asks.work) asks.work.done p → Torn before p.write.at p.write.bytes b.flash
-      → DeviceTook (device_of (lent_on b) s) len s was p.write failed b.flash out (lent_on b') out' reply
-  pub says_is : says ≡ reply_said reply out'
+      → DevicePieceReported (device_of (lent_on b) s) len s was p.write failed b.flash out (lent_on b') out' reply
+  pub says_is : says ≡ reply_of_call reply out'
 
 -- The mode of a device at power on: dfuIDLE if it begins for a host, else appIDLE.
 abbrev pub start_stage : Bool → Stage
@@ -97,19 +97,19 @@ abbrev pub BoardStarts : Bool → Board → Type 0
 BoardStarts begins b = (on : IsPoweredOn b) × (on.begins ≡ begins)
 
 -- Nothing is said and nothing changes, as if a call is refused; or else this.
-abbrev pub IsRefusedOr : Says → Board → Board → Type 0 → Type 0
+abbrev pub IsRefusedOr : BoardReply → Board → Board → Type 0 → Type 0
 IsRefusedOr Nothing b b' P = b' ≡ b
 IsRefusedOr says b b' P = P
 
 -- Result of an event. If the power goes, the flash stays as it is.
-abbrev pub Happens : Board → Event → Says → Board → Type 0
+abbrev pub Happens : Board → Event → BoardReply → Board → Type 0
 Happens b (Handle setup body) says b' = IsRefusedOr says b b' (IsServedBy b (Transfer setup body) says b')
 Happens b (Elapse ms) says b' = IsRefusedOr says b b' (IsServedBy b (Passing ms) says b')
 Happens b UsbReset says b' = IsRefusedOr says b b' (IsReset b says b')
 Happens b (RefuseClose setup why) says b' = IsRefusedOr says b b' (IsObjected b (RefusingClose setup why) answer.Stall says b')
 Happens b (Refuse why) says b' = IsRefusedOr says b b' (IsObjected b (Refusing why) answer.Ack says b')
 Happens b Write says b' = (says ≡ Nothing) × FlashIsWritten b b'
-Happens b (Took failed) says b' = IsRefusedOr says b b' (IsTold b failed says b')
+Happens b (Took failed) says b' = IsRefusedOr says b b' (TookResult b failed says b')
 Happens b (Restart begins) says b' = (says ≡ Nothing) × (b'.flash ≡ b.flash) × BoardStarts begins b'
 
 -- These steps come to a board. Each begins where the one before ended, and leaves the board set up as it was.

@@ -3,25 +3,25 @@ use Rattle.std.specs.Prelude.{◌≡◌, ◌⊎◌, ℕ, Bool, true, false, List
 use Rattle.dfu_wire.specs.declared.setups.Setup.{Setup}
 use Rattle.dfu_wire.specs.declared.requests.Request.TheVariants as request
 use Rattle.dfu_wire.specs.Setup.{IsSetup}
-use Rattle.dfu_wire.specs.Request.{Asks as AsksFor}
+use Rattle.dfu_wire.specs.Request.{SetupRequest as AsksFor}
 use Rattle.dfu_slots.specs.Medium.{Torn}
 use Rattle.dfu_slots.specs.Image.{Active, HasImage}
-use Rattle.dfu_slots.specs.Seen.{SlotsState, image_of}
+use Rattle.dfu_slots.specs.StoreView.{SlotsState, image_of}
 use Rattle.dfu_device.specs.declared.answer.Answer.{Answer}
 use Rattle.dfu_device.specs.declared.answer.Answer.TheVariants as answer
 use Rattle.dfu_device.specs.Stage.{state_of}
 use Rattle.dfu_device.specs.DeviceView.{DeviceView, situation}
 use Rattle.dfu_device.specs.Rows.{Cause, Transfer, Passing, BusReset, RefusingClose, Refusing, PowerOn, Row}
 use Rattle.dfu_device.specs.History.{IsHistory, HistoryStep as TableRow}
-use Rattle.dfu_device.specs.Taken.{taken_of}
+use Rattle.dfu_device.specs.AcceptedBytes.{accepted_of}
 use Rattle.dfu_asks.specs.Steps.{Step}
 use Rattle.dfu_asks.specs.Carried.{IsPiece}
 use Rattle.dfu_asks.specs.Due.{IsDueRow}
 use Rattle.dfu_asks.specs.Asks.{device_of, IsDevice, steps_in}
-use Rattle.dfu_asks.specs.Calls.{AsksWrites}
-use Rattle.dfu_laws.specs.board.Board.{Board, lent_on, medium_on, device_on, state_on, Event, Handle, Elapse, UsbReset, RefuseClose, Refuse, Write, Took, Restart, Says, Nothing, WritesDue, Answers, BoardStep}
+use Rattle.dfu_asks.specs.Calls.{WritesPending}
+use Rattle.dfu_laws.specs.board.Board.{Board, lent_on, medium_on, device_on, state_on, Event, Handle, Elapse, UsbReset, RefuseClose, Refuse, Write, Took, Restart, BoardReply, Nothing, WritesDue, Answers, BoardStep}
 use Rattle.dfu_laws.specs.board.Happens.{IsPoweredOn, IsRun}
-use Rattle.dfu_laws.specs.board.Keeps.{is_manifesting}
+use Rattle.dfu_laws.specs.board.ImageSurvival.{is_manifesting}
 
 -- There is one row, of this cause, with this answer.
 pub record IsOne (cause : Cause) (a : Answer) (out : List ℕ) (rows : List TableRow) : Type 0 where
@@ -65,29 +65,29 @@ pub record AreCutRows (cause : Cause) (begins : Bool) (rows : List TableRow) : T
 
 -- The rows of a call for this cause, and what is due after it: none if it is refused; none yet if writes are due, and then its own row
 -- is due; its own row if it answers.
-abbrev pub TellsCall : Cause → Option Cause → Says → List TableRow → Option Cause → Type 0
-TellsCall cause due Nothing rows due' = (rows ≡ []) × (due' ≡ due)
-TellsCall cause due WritesDue rows due' = (rows ≡ []) × (due' ≡ Some cause)
-TellsCall cause due (Answers a out) rows due' = IsOne cause a out rows × (due' ≡ None)
+abbrev pub CallRows : Cause → Option Cause → BoardReply → List TableRow → Option Cause → Type 0
+CallRows cause due Nothing rows due' = (rows ≡ []) × (due' ≡ due)
+CallRows cause due WritesDue rows due' = (rows ≡ []) × (due' ≡ Some cause)
+CallRows cause due (Answers a out) rows due' = IsOne cause a out rows × (due' ≡ None)
 
 -- The rows of an event, if the row of this cause, or none, is due before it; and what is due after it.
-abbrev pub TellsRows : Option Cause → Event → Says → List TableRow → Option Cause → Type 0
-TellsRows due (Handle setup body) says rows due' = TellsCall (Transfer setup body) due says rows due'
-TellsRows due (Elapse ms) says rows due' = TellsCall (Passing ms) due says rows due'
-TellsRows due UsbReset says rows due' = TellsCall BusReset due says rows due'
-TellsRows due (RefuseClose setup why) says rows due' = TellsCall (RefusingClose setup why) due says rows due'
-TellsRows due (Refuse why) says rows due' = TellsCall (Refusing why) due says rows due'
-TellsRows due Write says rows due' = (rows ≡ []) × (due' ≡ due)
-TellsRows (Some cause) (Took failed) says rows due' = TellsCall cause (Some cause) says rows due'
-TellsRows None (Took failed) says rows due' = (rows ≡ []) × (due' ≡ None)
-TellsRows (Some cause) (Restart begins) says rows due' = AreCutRows cause begins rows × (due' ≡ None)
-TellsRows None (Restart begins) says rows due' = IsStart begins rows × (due' ≡ None)
+abbrev pub EventRows : Option Cause → Event → BoardReply → List TableRow → Option Cause → Type 0
+EventRows due (Handle setup body) says rows due' = CallRows (Transfer setup body) due says rows due'
+EventRows due (Elapse ms) says rows due' = CallRows (Passing ms) due says rows due'
+EventRows due UsbReset says rows due' = CallRows BusReset due says rows due'
+EventRows due (RefuseClose setup why) says rows due' = CallRows (RefusingClose setup why) due says rows due'
+EventRows due (Refuse why) says rows due' = CallRows (Refusing why) due says rows due'
+EventRows due Write says rows due' = (rows ≡ []) × (due' ≡ due)
+EventRows (Some cause) (Took failed) says rows due' = CallRows cause (Some cause) says rows due'
+EventRows None (Took failed) says rows due' = (rows ≡ []) × (due' ≡ None)
+EventRows (Some cause) (Restart begins) says rows due' = AreCutRows cause begins rows × (due' ≡ None)
+EventRows None (Restart begins) says rows due' = IsStart begins rows × (due' ≡ None)
 
 -- The rows of these steps, in their order, and what is due after them.
-abbrev pub TellsAll : Option Cause → List BoardStep → List TableRow → Option Cause → Type 0
-TellsAll due [] rows due' = (rows ≡ []) × (due' ≡ due)
-TellsAll due (s ∷ rest) rows due' = (first later : List TableRow) × (mid : Option Cause) × (rows ≡ first ++ later)
-    × TellsRows due s.event s.says first mid × TellsAll mid rest later due'
+abbrev pub StepRows : Option Cause → List BoardStep → List TableRow → Option Cause → Type 0
+StepRows due [] rows due' = (rows ≡ []) × (due' ≡ due)
+StepRows due (s ∷ rest) rows due' = (first later : List TableRow) × (mid : Option Cause) × (rows ≡ first ++ later)
+    × EventRows due s.event s.says first mid × StepRows mid rest later due'
 
 -- A board carries out the writes of this device's row for this cause: some pieces are on its flash, and the range of the next one
 -- may have any bytes.
@@ -96,7 +96,7 @@ pub record IsAtWork (b : Board) (cause : Cause) (d : DeviceView) : Type 0 where
   pub s : SlotsState
   pub was : List ℕ
   pub stood : List ℕ
-  pub asks : AsksWrites (lent_on b) len s was stood
+  pub asks : WritesPending (lent_on b) len s was stood
   pub device : device_of (lent_on b) s ≡ d
   pub row : IsDueRow len d (λ x sent d'. Row d cause x sent d')
   pub torn : (p : Step) → IsPiece (steps_in (lent_on b) asks.work) asks.work.done p → Torn stood p.write.at p.write.bytes b.flash
@@ -108,9 +108,9 @@ pub record IsIdle (b : Board) (d : DeviceView) : Type 0 where
   pub device : device_on b ≡ d
 
 -- A board stands for a device: it is the device, or carries out its row that is due.
-abbrev pub StandsFor : Board → Option Cause → DeviceView → Type 0
-StandsFor b None d = IsIdle b d
-StandsFor b (Some cause) d = IsAtWork b cause d
+abbrev pub RepresentsDevice : Board → Option Cause → DeviceView → Type 0
+RepresentsDevice b None d = IsIdle b d
+RepresentsDevice b (Some cause) d = IsAtWork b cause d
 
 -- The steps of a board are rows from this device to another, which it stands for now and whose state it is in. Its flash has an active
 -- image, which is that device's, or if writes are due in dfuMANIFEST-SYNC or dfuMANIFEST it may be the bytes that the device has taken.
@@ -119,13 +119,13 @@ pub record HasRefined (w : DeviceView) (steps : List BoardStep) (b : Board) : Ty
   pub due : Option Cause
   pub device : DeviceView
   pub history : IsHistory w rows device
-  pub tells : TellsAll None steps rows due
-  pub stands : StandsFor b due device
+  pub tells : StepRows None steps rows due
+  pub stands : RepresentsDevice b due device
   pub state : state_on b ≡ state_of device.stage
   pub has_image : HasImage (medium_on b)
   pub image : (image : List ℕ) → Active (medium_on b) image
       → (image ≡ image_of device.slots)
-      ⊎ ((due ≡ None → ⊥) × (is_manifesting (state_of device.stage) ≡ true) × (image ≡ taken_of (situation device)))
+      ⊎ ((due ≡ None → ⊥) × (is_manifesting (state_of device.stage) ≡ true) × (image ≡ accepted_of (situation device)))
 
 -- All steps of a board on which no writes are due are rows of the device that it is.
 abbrev pub IdleRefines : Type 0

@@ -14,7 +14,7 @@ use Rattle.dfu_host_core.specs.ReportNumbers.{report_at}
 use Rattle.dfu_host_core.specs.Calls.{IsNextAction}
 use Rattle.dfu_host_core.specs.Runs.{CoreHost, IsCoreHost, CoreTake, HostCalled}
 use Rattle.dfu_laws.specs.link.Trials.{MayEnd}
-use Rattle.dfu_laws.specs.board.Board.{Event, Elapse, Handle, Says, Answers}
+use Rattle.dfu_laws.specs.board.Board.{Event, Elapse, Handle, BoardReply, Answers}
 
 -- The session in C that is live: none, or a record with its buffer, over a payload of these bytes.
 pub data CoreSession : Type 0 where
@@ -40,33 +40,33 @@ abbrev pub sent_body : (payload : List ℕ) → DfuAction → List ℕ
 sent_body payload a = take a.length (drop a.from payload)
 
 -- dfu_host_take returns 0 for this number of what is seen, with these bytes.
-abbrev pub HostTakes : (payload : List ℕ) → CoreHost → (seen : ℕ) → (bytes : List ℕ) → CoreHost → Type 0
-HostTakes payload x seen bytes x' = HostCalled payload x (CoreTake seen bytes) (pos 0) x'
+abbrev pub HostTakeOk : (payload : List ℕ) → CoreHost → (seen : ℕ) → (bytes : List ℕ) → CoreHost → Type 0
+HostTakeOk payload x seen bytes x' = HostCalled payload x (CoreTake seen bytes) (pos 0) x'
 
 -- The number and bytes that tell a session of what is sent back: 0 an acknowledgement, 1 an answer with its bytes, 2 a stall; or 3, that
 -- nothing came back, whatever was sent.
-abbrev pub TellsOf : Says → (seen : ℕ) → (bytes : List ℕ) → Type 0
-TellsOf (Answers answer.Ack out) seen bytes = (seen ≡ 0) ⊎ (seen ≡ 3)
-TellsOf (Answers answer.Bytes out) seen bytes = ((seen ≡ 1) × (bytes ≡ out)) ⊎ (seen ≡ 3)
-TellsOf (Answers answer.Stall out) seen bytes = (seen ≡ 2) ⊎ (seen ≡ 3)
-TellsOf says seen bytes = seen ≡ 3
+abbrev pub SeenOfReply : BoardReply → (seen : ℕ) → (bytes : List ℕ) → Type 0
+SeenOfReply (Answers answer.Ack out) seen bytes = (seen ≡ 0) ⊎ (seen ≡ 3)
+SeenOfReply (Answers answer.Bytes out) seen bytes = ((seen ≡ 1) × (bytes ≡ out)) ⊎ (seen ≡ 3)
+SeenOfReply (Answers answer.Stall out) seen bytes = (seen ≡ 2) ⊎ (seen ≡ 3)
+SeenOfReply says seen bytes = seen ≡ 3
 
 -- Bytes that are given with a report: with Uploaded the bytes that the session keeps.
-abbrev pub gave_with : Report → List ℕ → Option (List ℕ)
-gave_with Uploaded bytes = Some bytes
-gave_with report bytes = None
+abbrev pub bytes_of_report : Report → List ℕ → Option (List ℕ)
+bytes_of_report Uploaded bytes = Some bytes
+bytes_of_report report bytes = None
 
 -- The answer of dfu_host_next for a session that was told something, and the report: it goes on; or it is over, with a report.
 pub data Settles (payload : List ℕ) (x : CoreHost) : Answered → CoreSession → Type 0 where
   stays_live : (a : DfuAction) → Wants payload x a → a.what ≢ 3 → Settles payload x silent (InSession payload x)
   is_over : (a : DfuAction) (report : Report) → Wants payload x a → a.what ≡ 3 → report_at a.value a.code ≡ Some report
-      → Settles payload x (record { report = Some report; gave = gave_with report (take x.kept.kept x.buffer) }) NoSession
+      → Settles payload x (record { report = Some report; gave = bytes_of_report report (take x.kept.kept x.buffer) }) NoSession
 
 -- A live session is told that the device was restarted, by the number 6.
-pub data HearsRestart : CoreSession → Answered → CoreSession → Type 0 where
-  nobody_hears : HearsRestart NoSession silent NoSession
-  hears_it : {payload bytes : List ℕ} {x x' : CoreHost} {said : Answered} {s' : CoreSession} → HostTakes payload x 6 bytes x'
-      → Settles payload x' said s' → HearsRestart (InSession payload x) said s'
+pub data RestartReported : CoreSession → Answered → CoreSession → Type 0 where
+  nobody_hears : RestartReported NoSession silent NoSession
+  hears_it : {payload bytes : List ℕ} {x x' : CoreHost} {said : Answered} {s' : CoreSession} → HostTakeOk payload x 6 bytes x'
+      → Settles payload x' said s' → RestartReported (InSession payload x) said s'
 
 -- The calls of a board that may be under way as the bus is reset or the power goes: the program tells of time that passed, or the session's
 -- request came.

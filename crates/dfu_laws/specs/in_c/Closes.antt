@@ -4,9 +4,9 @@ use Rattle.dfu_asks.specs.declared.asking.Asking.{Asking}
 use Rattle.dfu_asks.specs.Asks.{IsDevice}
 use Rattle.dfu_core.specs.declared.config.DfuConfig.{DfuConfig}
 use Rattle.dfu_core.specs.declared.record.DfuRecord.{DfuRecord}
-use Rattle.dfu_core.specs.Closes.{ToldClose}
+use Rattle.dfu_core.specs.Closes.{CloseResult}
 use Rattle.dfu_core.specs.Idle.{IsIdleRecord}
-use Rattle.dfu_core.specs.Kept.{IsKept, with_memory}
+use Rattle.dfu_core.specs.RecordMeaning.{IsRecordOf, with_memory}
 use Rattle.dfu_core.specs.Numbers.{STALL, NO_CLOSE}
 use Rattle.dfu_core.specs.Refuse.{IsObjection, CloseRefused}
 
@@ -14,6 +14,6 @@ use Rattle.dfu_core.specs.Refuse.{IsObjection, CloseRefused}
 -- the refusal is taken, and at 0 there is nothing to refuse.
 abbrev pub ClosesIfRefused : Type 0
 ClosesIfRefused = (c : DfuConfig) (r r' : DfuRecord) (setup : List ℕ) (status : ℕ) (n refused : ℤ) → IsIdleRecord c r → IsObjection status
-    → ToldClose c r setup n → (n ≡ pos 0) ⊎ (n ≡ pos 1) → CloseRefused c r setup status refused r'
-    → (block flash : List ℕ) (a : Asking) → IsKept c r a → IsDevice (with_memory block a) flash
+    → CloseResult c r setup n → (n ≡ pos 0) ⊎ (n ≡ pos 1) → CloseRefused c r setup status refused r'
+    → (block flash : List ℕ) (a : Asking) → IsRecordOf c r a → IsDevice (with_memory block a) flash
     → ((n ≡ pos 1) ↔ (refused ≡ STALL)) × ((n ≡ pos 0) ↔ (refused ≡ NO_CLOSE))

@@ -2,11 +2,11 @@
 use Rattle.std.specs.Prelude.{◌≡◌, ◌≢◌, ℕ, ◌+◌, ◌≤◌, ◌==◌, ℤ, pos, negsuc, List, [], ◌∷◌, Some, if◌then◌else◌}
 use Rattle.dfu_asks.specs.declared.pending_writes.PendingWrites.{PendingWrites}
 use Rattle.dfu_core.specs.Config.{transfer_of}
-use Rattle.dfu_core.specs.Kept.{HasWork}
+use Rattle.dfu_core.specs.RecordMeaning.{HasWork}
 use Rattle.dfu_core.specs.Numbers.{STALL}
 use Rattle.dfu_core.specs.Board.{CoreBoard, CoreEvent, CoreWrite, CoreRestart}
 use Rattle.dfu_core.specs.Happens.{IsCoreOn}
-use Rattle.dfu_laws.specs.board.Counts.{most_asks}
+use Rattle.dfu_laws.specs.board.Counts.{operation_bound}
 use Rattle.dfu_laws.specs.in_c.Steps.{CoreStep, IsCoreRun}
 
 -- A call is not answered by this number: it is neither 0 or more, nor DFU_STALL.
@@ -24,19 +24,19 @@ AreCoreUnanswered [] = Unit {0}
 AreCoreUnanswered (s ∷ rest) = IsCoreUnanswered s.event s.number × AreCoreUnanswered rest
 
 -- 1 for DFU_ASKS, and 0 for any other number.
-abbrev pub asks_of_number : ℤ → ℕ
-asks_of_number (pos k) = 0
-asks_of_number (negsuc k) = if k == 10 then 1 else 0
+abbrev pub operations_of_number : ℤ → ℕ
+operations_of_number (pos k) = 0
+operations_of_number (negsuc k) = if k == 10 then 1 else 0
 
 -- Number of these steps that returned DFU_ASKS.
-abbrev pub core_asks_in : List CoreStep → ℕ
-core_asks_in [] = 0
-core_asks_in (s ∷ rest) = asks_of_number s.number + core_asks_in rest
+abbrev pub core_operations_in : List CoreStep → ℕ
+core_operations_in [] = 0
+core_operations_in (s ∷ rest) = operations_of_number s.number + core_operations_in rest
 
 -- No operation was due on a board in C, and none of the steps since was answered: if operations are due then, at most so many of these
 -- calls returned DFU_ASKS, as DFU_BLOCK_ERASES and DFU_BLOCK_PROGRAMS say together of the transfer size and the sector, or for an image
 -- that is put in place DFU_COMMIT_ERASES and DFU_COMMIT_PROGRAMS. So a loop that goes on while the number is DFU_ASKS ends.
-abbrev pub CoreAsksFew : Type 0
-CoreAsksFew = (b mid b' : CoreBoard) (old steps : List CoreStep) (w : PendingWrites) → IsCoreOn b → IsCoreRun b old mid
+abbrev pub CoreOperationsBounded : Type 0
+CoreOperationsBounded = (b mid b' : CoreBoard) (old steps : List CoreStep) (w : PendingWrites) → IsCoreOn b → IsCoreRun b old mid
     → mid.kept.work ≡ 0 → IsCoreRun mid steps b' → AreCoreUnanswered steps → HasWork b'.kept (Some w)
-    → core_asks_in steps ≤ most_asks w.job (transfer_of b.config) b.config.sector
+    → core_operations_in steps ≤ operation_bound w.job (transfer_of b.config) b.config.sector

@@ -15,7 +15,7 @@ pub record IsCoreMarked (b b' : CoreBoard) : Type 0 where
   pub block : b'.block ≡ b.block
 
 -- A trial ends, and dfu_core_power_on returns 0, or dfu_core_begin if the board begins for a host. The flash is as large as before.
-pub record CoreTrialEnds (b : CoreBoard) (begins : Bool) (b' : CoreBoard) : Type 0 where
+pub record CoreTrialEnd (b : CoreBoard) (begins : Bool) (b' : CoreBoard) : Type 0 where
   pub size : length b'.flash ≡ length b.flash
   pub config : b'.config ≡ b.config
   pub powers : Powers b'.config (start_mode begins) b'.flash (pos 0) b'.kept
@@ -24,7 +24,7 @@ pub record CoreTrialEnds (b : CoreBoard) (begins : Bool) (b' : CoreBoard) : Type
 pub data AreCoreMarked (b : CoreBoard) : CoreBoard → Type 0 where
   no_mark : AreCoreMarked b b
   one_mark : {mid b' : CoreBoard} → AreCoreMarked b mid → IsCoreMarked mid b' → AreCoreMarked b b'
-  one_trial : {mid b' : CoreBoard} {begins : Bool} → AreCoreMarked b mid → CoreTrialEnds mid begins b' → AreCoreMarked b b'
+  one_trial : {mid b' : CoreBoard} {begins : Bool} → AreCoreMarked b mid → CoreTrialEnd mid begins b' → AreCoreMarked b b'
 
 -- These steps come to a board in C, and before, between and after them marks may be set and trials may end.
 abbrev pub IsCoreMarkedRun : CoreBoard → List CoreStep → CoreBoard → Type 0

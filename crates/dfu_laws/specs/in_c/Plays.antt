@@ -10,15 +10,15 @@ use Rattle.dfu_sim.specs.declared.offering.Purpose.{Purpose}
 use Rattle.dfu_sim.specs.Opening.{goal_of_purpose}
 use Rattle.dfu_sim.specs.LinkView.{Session, Nobody, Hosted}
 use Rattle.dfu_sim.specs.Play.{Answered}
-use Rattle.dfu_sim.specs.Session.{IsOneOf, SaysInPlace}
+use Rattle.dfu_sim.specs.Session.{IsOneOf, IsInPlaceReport}
 use Rattle.dfu_laws.specs.board.Board.{Board, BoardStep}
-use Rattle.dfu_laws.specs.link.Comes.{BoardLink, BoardComes}
+use Rattle.dfu_laws.specs.link.LinkSteps.{BoardLink, BoardLinkStep}
 use Rattle.dfu_laws.specs.link.Trials.{MayEnd}
 use Rattle.dfu_laws.specs.link.Plays.{Plays}
 use Rattle.dfu_core.specs.Config.{setting_of}
 use Rattle.dfu_core.specs.Board.{CoreBoard, medium_of_core, IsIn}
 use Rattle.dfu_laws.specs.in_c.Steps.{CoreStep, IsCoreRun, IsBoardOf, AreStepsOf}
-use Rattle.dfu_laws.specs.in_c.Marks.{IsCoreMarked, CoreTrialEnds, IsCoreMarkedRun, IsCoreRunBetweenMarks}
+use Rattle.dfu_laws.specs.in_c.Marks.{IsCoreMarked, CoreTrialEnd, IsCoreMarkedRun, IsCoreRunBetweenMarks}
 use Rattle.dfu_core.specs.Happens.{IsCoreOn}
 
 -- A board in C, and the session that is live.
@@ -45,7 +45,7 @@ pub record CorePlays (b : CoreBoard) (steps : List CoreStep) (past : List (List 
   pub plays : Plays first calls past last link
 
 -- The next event, with the steps in C, and the report: it is likewise the next event of a board.
-pub record CoreComes (l : CoreLink) (steps : List CoreStep) (answer : Answered) (l' : CoreLink) : Type 0 where
+pub record CoreLinkStep (l : CoreLink) (steps : List CoreStep) (answer : Answered) (l' : CoreLink) : Type 0 where
   pub run : IsCoreMarkedRun l.board steps l'.board
   pub before : BoardLink
   pub is_before : IsLinkOf l before
@@ -53,7 +53,7 @@ pub record CoreComes (l : CoreLink) (steps : List CoreStep) (answer : Answered) 
   pub are : AreStepsOf steps calls
   pub after : BoardLink
   pub is_after : IsLinkOf l' after
-  pub comes : BoardComes before calls answer after
+  pub comes : BoardLinkStep before calls answer after
 
 -- The last session began with a payload. The payload is the active image of the flash, and the board is in appIDLE, as dfu_core_state
 -- returns it.
@@ -66,13 +66,13 @@ pub record IsCoreInPlace (last : Option (List ℕ)) (b : CoreBoard) : Type 0 whe
 -- If Installed or Verified is reported, it is so.
 abbrev pub CorePlaysInstall : Type 0
 CorePlaysInstall = (b : CoreBoard) (steps more : List CoreStep) (past : List (List ℕ)) (last : Option (List ℕ)) (l l' : CoreLink)
-    (answer : Answered) → IsCoreOn b → CorePlays b steps past last l → CoreComes l more answer l' → SaysInPlace answer.report
+    (answer : Answered) → IsCoreOn b → CorePlays b steps past last l → CoreLinkStep l more answer l' → IsInPlaceReport answer.report
     → IsCoreInPlace last l'.board
 
 -- The bytes that come with Uploaded are the active image of the flash.
-abbrev pub CorePlaysGive : Type 0
-CorePlaysGive = (b : CoreBoard) (steps more : List CoreStep) (past : List (List ℕ)) (last : Option (List ℕ)) (l l' : CoreLink)
-    (answer : Answered) (bytes : List ℕ) → IsCoreOn b → CorePlays b steps past last l → CoreComes l more answer l'
+abbrev pub CoreUploadsAreImages : Type 0
+CoreUploadsAreImages = (b : CoreBoard) (steps more : List CoreStep) (past : List (List ℕ)) (last : Option (List ℕ)) (l l' : CoreLink)
+    (answer : Answered) (bytes : List ℕ) → IsCoreOn b → CorePlays b steps past last l → CoreLinkStep l more answer l'
     → answer.gave ≡ Some bytes → Active (medium_of_core l'.board) bytes
 
 -- The active image of the flash is this one, or one of these.
@@ -90,7 +90,7 @@ CorePlaysKnow = (b : CoreBoard) (steps : List CoreStep) (past : List (List ℕ))
 abbrev pub CorePlaysKnowWithin : Type 0
 CorePlaysKnowWithin = (b mid : CoreBoard) (steps front rest : List CoreStep) (past : List (List ℕ)) (last : Option (List ℕ))
     (l l' : CoreLink) (answer : Answered) (image : List ℕ) → IsCoreOn b → Active (medium_of_core b) image → CorePlays b steps past last l
-    → CoreComes l (front ++ rest) answer l' → IsCoreRun l.board front mid → CoreKnownIsActive image past mid
+    → CoreLinkStep l (front ++ rest) answer l' → IsCoreRun l.board front mid → CoreKnownIsActive image past mid
 
 -- All that comes to the board in C are runs of it, between marks and ends of trials; without these one run. So what holds of runs holds.
 abbrev pub CorePlaysRun : Type 0
@@ -103,7 +103,7 @@ core_opened b goal limits = record { board = b; session = Hosted (started (setti
 
 -- So sessions go on as with a board. They begin on one that just got power. A payload is offered or an upload begins, if no session is
 -- live; or the live one is given up; or the next thing comes; or a mark of a trial is set; or a trial ends.
-pub record CorePlaysGoOn : Type 0 where
+pub record CorePlaysContinue : Type 0 where
   pub starts : (b : CoreBoard) → IsCoreOn b → CorePlays b [] [] None (record { board = b; session = Nobody })
   pub offers : (b : CoreBoard) (steps : List CoreStep) (past : List (List ℕ)) (last : Option (List ℕ)) (l : CoreLink) (purpose : Purpose)
       (payload : List ℕ) (limits : Limits) → CorePlays b steps past last l → l.session ≡ Nobody → 0 < length payload
@@ -115,10 +115,10 @@ pub record CorePlaysGoOn : Type 0 where
       → CorePlays b steps past last l → l.session ≡ Hosted h
       → CorePlays b steps past last (record { board = l.board; session = Hosted (aborted h) })
   pub goes_on : (b : CoreBoard) (steps more : List CoreStep) (past : List (List ℕ)) (last : Option (List ℕ)) (l l' : CoreLink)
-      (answer : Answered) → CorePlays b steps past last l → CoreComes l more answer l' → CorePlays b (steps ++ more) past last l'
+      (answer : Answered) → CorePlays b steps past last l → CoreLinkStep l more answer l' → CorePlays b (steps ++ more) past last l'
   pub marks : (b b' : CoreBoard) (steps : List CoreStep) (past : List (List ℕ)) (last : Option (List ℕ)) (l : CoreLink)
       → CorePlays b steps past last l → IsCoreMarked l.board b' → CorePlays b steps past last (record l { board = b' })
   pub ends : (b b' : CoreBoard) (steps : List CoreStep) (past : List (List ℕ)) (last : Option (List ℕ)) (l : CoreLink) (state : State)
       (begins : Bool) (image : List ℕ) → CorePlays b steps past last l → IsIn l.board state → MayEnd l.session state begins
-      → CoreTrialEnds l.board begins b' → Active (medium_of_core b') image
+      → CoreTrialEnd l.board begins b' → Active (medium_of_core b') image
       → CorePlays b steps (image ∷ past) last (record l { board = b' })

@@ -4,13 +4,13 @@ use Rattle.dfu_wire.specs.declared.states.State.{State}
 use Rattle.dfu_slots.specs.Image.{Active}
 use Rattle.dfu_laws.specs.board.Board.{Board, BoardStep, device_on}
 use Rattle.dfu_laws.specs.board.Happens.{IsPoweredOn, IsRun}
-use Rattle.dfu_laws.specs.board.Keeps.{HasKept, taken_by, is_manifesting, has_manifested}
+use Rattle.dfu_laws.specs.board.ImageSurvival.{ImageKeptOrClosed, accepted_by, is_manifesting, has_manifested}
 use Rattle.dfu_laws.specs.board.Refines.{HasRefined}
 use Rattle.dfu_core.specs.Power.{RefusesPower}
 use Rattle.dfu_core.specs.Board.{CoreBoard, CoreRestart, medium_of_core, IsIn}
 use Rattle.dfu_laws.specs.in_c.Steps.{CoreStep, IsCoreRun, IsBoardOf, AreStepsOf}
 use Rattle.dfu_core.specs.Happens.{IsCoreOn}
-use Rattle.dfu_laws.specs.in_c.Fits.{AreFit}
+use Rattle.dfu_laws.specs.in_c.ReplyKinds.{RepliesMatch}
 
 -- From one board in C to another, steps are this run of the boards that the two are.
 pub record IsRunOf (b b' : CoreBoard) (steps : List CoreStep) : Type 0 where
@@ -29,7 +29,7 @@ pub record HasCoreRefined (b b' : CoreBoard) (steps : List CoreStep) : Type 0 wh
   pub runs : IsRunOf b b' steps
   pub on : IsPoweredOn runs.first
   pub refined : HasRefined (device_on runs.first) runs.run runs.last
-  pub fit : AreFit runs.run
+  pub fit : RepliesMatch runs.run
 
 -- So it is whatever steps come to a board in C that just got power.
 abbrev pub CoreRefines : Type 0
@@ -37,28 +37,28 @@ CoreRefines = (b b' : CoreBoard) (steps : List CoreStep) → IsCoreOn b → IsCo
 
 -- The flash of a board in C has an active image. It is this one, or all bytes of a download that one of these steps closed, after the
 -- old steps.
-pub record HasCoreKept (image : List ℕ) (b mid b' : CoreBoard) (old steps : List CoreStep) : Type 0 where
+pub record CoreImageKeptOrClosed (image : List ℕ) (b mid b' : CoreBoard) (old steps : List CoreStep) : Type 0 where
   pub past : IsRunOf b mid old
   pub runs : IsRunOf mid b' steps
-  pub kept : HasKept image past.run runs.run runs.last
+  pub kept : ImageKeptOrClosed image past.run runs.run runs.last
   pub active : Active (medium_of_core b') kept.now
 
 -- Whatever steps come to a board in C that just got power, its image is the one that it has then, or one that is closed later.
-abbrev pub CoreKeeps : Type 0
-CoreKeeps =
+abbrev pub CoreRunsKeepImage : Type 0
+CoreRunsKeepImage =
     (b b' : CoreBoard) (steps : List CoreStep) (image : List ℕ) → IsCoreOn b → Active (medium_of_core b) image → IsCoreRun b steps b'
-    → HasCoreKept image b b b' [] steps
+    → CoreImageKeptOrClosed image b b b' [] steps
 
 -- So from any later time on, if it is in no state then in which an image may wait: no image comes back that was closed before.
 abbrev pub CoreStays : Type 0
 CoreStays = (b mid b' : CoreBoard) (old steps : List CoreStep) (image : List ℕ) (state : State) → IsCoreOn b → IsCoreRun b old mid
     → IsIn mid state → is_manifesting state ≡ false → Active (medium_of_core mid) image → IsCoreRun mid steps b'
-    → HasCoreKept image b mid b' old steps
+    → CoreImageKeptOrClosed image b mid b' old steps
 
 -- All bytes that were taken by these steps are the active image.
 pub record HasInstalled (b mid b' : CoreBoard) (steps : List CoreStep) : Type 0 where
   pub runs : IsRunOf b mid steps
-  pub active : Active (medium_of_core b') (taken_by [] runs.run)
+  pub active : Active (medium_of_core b') (accepted_by [] runs.run)
 
 -- All bytes taken are the active image if a step leads from a state in which an image may wait to one in which manifestation is over, and
 -- no fault is reported. Power that comes back with dfu_core_begin is left out.

@@ -1,11 +1,11 @@
 -- Steps of a board in C, lists of them, and which step of a board each is.
 use Rattle.std.specs.Prelude.{◌≡◌, ◌⊎◌, ◌==◌, not, ℕ, ℤ, pos, List, [], ◌∷◌, take}
 use Rattle.dfu_asks.specs.declared.asking.Asking.{Asking}
-use Rattle.dfu_laws.specs.board.Board.{Board, Event, Handle, Elapse, UsbReset, RefuseClose, Refuse, Write, Took, Restart, Says, Nothing, WritesDue, Answers, BoardStep}
+use Rattle.dfu_laws.specs.board.Board.{Board, Event, Handle, Elapse, UsbReset, RefuseClose, Refuse, Write, Took, Restart, BoardReply, Nothing, WritesDue, Answers, BoardStep}
 use Rattle.dfu_core.specs.declared.config.DfuConfig.{DfuConfig}
 use Rattle.dfu_core.specs.declared.numbers.Refusal.{Refusal}
 use Rattle.dfu_asks.specs.Addressed.{addressed}
-use Rattle.dfu_core.specs.Kept.{IsKept, block_in, held_back_in}
+use Rattle.dfu_core.specs.RecordMeaning.{IsRecordOf, block_in, tail_memory}
 use Rattle.dfu_core.specs.Numbers.{ASKS, refusal_number, answer_number, NO_ROOM, NOT_LONG, NO_CLOSE, NO_STATUS}
 use Rattle.dfu_core.specs.Refuse.{objection_in}
 use Rattle.dfu_core.specs.Happens.{CoreHappens}
@@ -26,11 +26,11 @@ IsCoreRun b (s ∷ rest) b' = (s.before ≡ b) × CoreHappens b s.event s.number
 
 -- The board that a board in C is, if its record is this device.
 abbrev pub board_of_core : CoreBoard → Asking → Board
-board_of_core b a = record { asking = a; block = block_in a b.block; held = held_back_in a b.block; flash = b.flash }
+board_of_core b a = record { asking = a; block = block_in a b.block; held = tail_memory a b.block; flash = b.flash }
 
 -- A board is what a board in C is.
 pub record IsBoardOf (b : CoreBoard) (x : Board) : Type 0 where
-  pub kept : IsKept b.config b.kept x.asking
+  pub kept : IsRecordOf b.config b.kept x.asking
   pub is : x ≡ board_of_core b x.asking
 
 -- The event that one in C is: a setup is addressed, and a number that is not 0 says that a write failed.
@@ -51,39 +51,39 @@ IsRefusal n = (n ≡ NO_ROOM) ⊎ (n ≡ NOT_LONG) ⊎ ((e : Refusal) × (n ≡ 
 
 -- The number of a call, with these bytes in its buffer then, says this: it was refused; or writes are due; or it is the answer's number,
 -- and the bytes are at the front of the buffer.
-abbrev pub NumberSays : ℤ → List ℕ → Says → Type 0
-NumberSays n out Nothing = IsRefusal n
-NumberSays n out WritesDue = n ≡ ASKS
-NumberSays n out (Answers a bytes) = (count : ℕ) × (n ≡ answer_number a count) × (bytes ≡ take count out)
+abbrev pub ReplyOfNumber : ℤ → List ℕ → BoardReply → Type 0
+ReplyOfNumber n out Nothing = IsRefusal n
+ReplyOfNumber n out WritesDue = n ≡ ASKS
+ReplyOfNumber n out (Answers a bytes) = (count : ℕ) × (n ≡ answer_number a count) × (bytes ≡ take count out)
 
 -- The number of time that passed, or of a reset of the bus, says this: an answer is 0.
-abbrev pub PassedSays : ℤ → Says → Type 0
-PassedSays n Nothing = IsRefusal n
-PassedSays n WritesDue = n ≡ ASKS
-PassedSays n (Answers a bytes) = n ≡ pos 0
+abbrev pub ReplyOfPassed : ℤ → BoardReply → Type 0
+ReplyOfPassed n Nothing = IsRefusal n
+ReplyOfPassed n WritesDue = n ≡ ASKS
+ReplyOfPassed n (Answers a bytes) = n ≡ pos 0
 
 -- The number of a call by which the program refuses an image says this.
-abbrev pub ObjectionSays : ℤ → Says → Type 0
-ObjectionSays n Nothing = IsRefusal n ⊎ (n ≡ NO_CLOSE) ⊎ (n ≡ NO_STATUS)
-ObjectionSays n WritesDue = ⊥
-ObjectionSays n (Answers a bytes) = (n ≡ answer_number a 0) × (bytes ≡ [])
+abbrev pub ReplyOfObjection : ℤ → BoardReply → Type 0
+ReplyOfObjection n Nothing = IsRefusal n ⊎ (n ≡ NO_CLOSE) ⊎ (n ≡ NO_STATUS)
+ReplyOfObjection n WritesDue = ⊥
+ReplyOfObjection n (Answers a bytes) = (n ≡ answer_number a 0) × (bytes ≡ [])
 
 -- The number of an event says this.
-abbrev pub EventSays : CoreEvent → ℤ → List ℕ → Says → Type 0
-EventSays (CoreHandle setup body out) n out' says = NumberSays n out' says
-EventSays (CoreElapse ms) n out' says = PassedSays n says
-EventSays CoreReset n out' says = PassedSays n says
-EventSays (CoreTooLong setup body) n out' says = NumberSays n [] says
-EventSays (CoreRefuseClose setup status) n out' says = ObjectionSays n says
-EventSays (CoreRefuse status) n out' says = ObjectionSays n says
-EventSays (CoreTook failed out) n out' says = NumberSays n out' says
-EventSays e n out' says = (n ≡ pos 0) × (says ≡ Nothing)
+abbrev pub ReplyOfEvent : CoreEvent → ℤ → List ℕ → BoardReply → Type 0
+ReplyOfEvent (CoreHandle setup body out) n out' says = ReplyOfNumber n out' says
+ReplyOfEvent (CoreElapse ms) n out' says = ReplyOfPassed n says
+ReplyOfEvent CoreReset n out' says = ReplyOfPassed n says
+ReplyOfEvent (CoreTooLong setup body) n out' says = ReplyOfNumber n [] says
+ReplyOfEvent (CoreRefuseClose setup status) n out' says = ReplyOfObjection n says
+ReplyOfEvent (CoreRefuse status) n out' says = ReplyOfObjection n says
+ReplyOfEvent (CoreTook failed out) n out' says = ReplyOfNumber n out' says
+ReplyOfEvent e n out' says = (n ≡ pos 0) × (says ≡ Nothing)
 
 -- A step in C is this step of a board.
 pub record IsStepOf (s : CoreStep) (t : BoardStep) : Type 0 where
   pub before : IsBoardOf s.before t.before
   pub event : t.event ≡ event_of_core s.before.config s.event
-  pub says : EventSays s.event s.number s.out t.says
+  pub says : ReplyOfEvent s.event s.number s.out t.says
   pub after : IsBoardOf s.after t.after
 
 -- The steps in C are these steps of a board, one by one.

@@ -2,12 +2,12 @@
 use Rattle.std.specs.Prelude.{◌≡◌, ℕ, Bool, List, [], ◌∷◌, ◌++◌}
 use Rattle.dfu_device.specs.declared.answer.Answer.{Answer}
 use Rattle.dfu_device.specs.declared.objection.Objection.{Objection}
-use Rattle.dfu_laws.specs.board.Board.{Board, Event, Handle, RefuseClose, Write, Took, Restart, Says, Nothing, WritesDue, Answers, BoardStep}
+use Rattle.dfu_laws.specs.board.Board.{Board, Event, Handle, RefuseClose, Write, Took, Restart, BoardReply, Nothing, WritesDue, Answers, BoardStep}
 use Rattle.dfu_laws.specs.board.Happens.{IsRun}
 
 -- Events of a board while writes are due: the flash is written, or the program says how that went and is not answered yet, or any other
 -- call is refused.
-abbrev pub CarriesOn : Event → Says → Type 0
+abbrev pub CarriesOn : Event → BoardReply → Type 0
 CarriesOn Write says = Unit {0}
 CarriesOn (Took failed) (Answers a out) = ⊥
 CarriesOn (Took failed) says = Unit {0}
@@ -40,7 +40,7 @@ pub record Serves (b : Board) (call : Event) (steps : List BoardStep) (a : Answe
   pub is : IsCall call a out steps
 
 -- A call goes to a board over a link: it gets lost on the way, or is handed in once or twice, and the last answer is sent back.
-pub data Reaches (call : Event) (b : Board) : List BoardStep → Says → Board → Type 0 where
+pub data Reaches (call : Event) (b : Board) : List BoardStep → BoardReply → Board → Type 0 where
   lost : Reaches call b [] Nothing b
   once : {steps : List BoardStep} {a : Answer} {out : List ℕ} {b' : Board} → Serves b call steps a out b'
       → Reaches call b steps (Answers a out) b'
@@ -48,7 +48,7 @@ pub data Reaches (call : Event) (b : Board) : List BoardStep → Says → Board 
       → Serves mid call second a out b' → Reaches call b (first ++ second) (Answers a out) b'
 
 -- A request that closes a download comes to a board, and its program refuses the image; the same request may come a second time then.
-pub data Objects (setup body : List ℕ) (why : Objection) (b : Board) : List BoardStep → Says → Board → Type 0 where
+pub data Objects (setup body : List ℕ) (why : Objection) (b : Board) : List BoardStep → BoardReply → Board → Type 0 where
   refused_once : {steps : List BoardStep} {a : Answer} {out : List ℕ} {b' : Board} → Serves b (RefuseClose setup why) steps a out b'
       → Objects setup body why b steps (Answers a out) b'
   refused_twice : {first second : List BoardStep} {a x : Answer} {out said : List ℕ} {mid b' : Board}
@@ -57,7 +57,7 @@ pub data Objects (setup body : List ℕ) (why : Objection) (b : Board) : List Bo
 
 -- A call goes to a board over a link, and the power goes: before it is handed in or after its answers, within it, or within the second one.
 pub data Stops (call : Event) (b : Board) : List BoardStep → Board → Type 0 where
-  behind : {steps : List BoardStep} {says : Says} {mid b' : Board} (power : BoardStep) (begins : Bool) → Reaches call b steps says mid
+  behind : {steps : List BoardStep} {says : BoardReply} {mid b' : Board} (power : BoardStep) (begins : Bool) → Reaches call b steps says mid
       → IsRun mid (power ∷ []) b' → power.event ≡ Restart begins → Stops call b (steps ++ power ∷ []) b'
   within : {steps : List BoardStep} {b' : Board} → IsRun b steps b' → IsBrokenCall call steps → Stops call b steps b'
   within_second : {first second : List BoardStep} {a : Answer} {out : List ℕ} {mid b' : Board} → Serves b call first a out mid

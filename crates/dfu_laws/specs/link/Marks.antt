@@ -15,7 +15,7 @@ pub record IsMarkedBoard (b b' : Board) : Type 0 where
 
 -- A trial ends, and the board restarts, in dfuIDLE if it begins for a host. The flash is as large as before; which image is active on it is
 -- said where this is used. By dfu_boot only the sector of the gate on trial changes, and the confirmed image is back or the trial goes on.
-pub record TrialEnds (b : Board) (begins : Bool) (b' : Board) : Type 0 where
+pub record TrialEnd (b : Board) (begins : Bool) (b' : Board) : Type 0 where
   pub size : length b'.flash ≡ length b.flash
   pub starts : BoardStarts begins b'
   pub same : IsSetUpAs b.asking b'.asking
@@ -24,7 +24,7 @@ pub record TrialEnds (b : Board) (begins : Bool) (b' : Board) : Type 0 where
 pub data AreMarked (b : Board) : Board → Type 0 where
   none_is : AreMarked b b
   one_more : {mid b' : Board} → AreMarked b mid → IsMarkedBoard mid b' → AreMarked b b'
-  one_end : {mid b' : Board} {begins : Bool} → AreMarked b mid → TrialEnds mid begins b' → AreMarked b b'
+  one_end : {mid b' : Board} {begins : Bool} → AreMarked b mid → TrialEnd mid begins b' → AreMarked b b'
 
 -- These steps come to a board, and before, between and after them marks may be set and trials may end.
 abbrev pub IsMarkedRun : Board → List BoardStep → Board → Type 0

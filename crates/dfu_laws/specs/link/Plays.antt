@@ -9,11 +9,11 @@ use Rattle.dfu_sim.specs.declared.offering.Purpose.{Purpose}
 use Rattle.dfu_sim.specs.LinkView.{Nobody, Hosted}
 use Rattle.dfu_sim.specs.Opening.{goal_of_purpose}
 use Rattle.dfu_sim.specs.Play.{Answered}
-use Rattle.dfu_sim.specs.Session.{IsOneOf, SaysInPlace}
+use Rattle.dfu_sim.specs.Session.{IsOneOf, IsInPlaceReport}
 use Rattle.dfu_laws.specs.board.Board.{Board, medium_on, state_on, BoardStep}
 use Rattle.dfu_laws.specs.board.Happens.{IsPoweredOn, IsRun}
-use Rattle.dfu_laws.specs.link.Comes.{BoardLink, BoardComes}
-use Rattle.dfu_laws.specs.link.Marks.{TrialEnds, IsRunBetweenMarks}
+use Rattle.dfu_laws.specs.link.LinkSteps.{BoardLink, BoardLinkStep}
+use Rattle.dfu_laws.specs.link.Marks.{TrialEnd, IsRunBetweenMarks}
 use Rattle.dfu_laws.specs.link.Trials.{MayEnd}
 
 -- A session with this goal begins, by the descriptor of the board's device.
@@ -38,10 +38,10 @@ pub data Plays (b : Board) : List BoardStep → List (List ℕ) → Option (List
       → Plays b steps past last (record { board = l.board; session = Hosted (aborted h) })
   -- The next thing comes.
   goes_on : {steps more : List BoardStep} {past : List (List ℕ)} {last : Option (List ℕ)} {l l' : BoardLink} {answer : Answered}
-      → Plays b steps past last l → BoardComes l more answer l' → Plays b (steps ++ more) past last l'
+      → Plays b steps past last l → BoardLinkStep l more answer l' → Plays b (steps ++ more) past last l'
   -- A trial ends, and this image is active then: the one that comes back, or that on trial as before. The host hears nothing.
   ends : {steps : List BoardStep} {past : List (List ℕ)} {last : Option (List ℕ)} {l : BoardLink} {b' : Board} {begins : Bool}
-      (image : List ℕ) → Plays b steps past last l → MayEnd l.session (state_on l.board) begins → TrialEnds l.board begins b'
+      (image : List ℕ) → Plays b steps past last l → MayEnd l.session (state_on l.board) begins → TrialEnd l.board begins b'
       → Active (medium_on b') image → Plays b steps (image ∷ past) last (record { board = b'; session = l.session })
 
 -- The last session began with a payload. The payload is the active image of the board's flash, and the board is in appIDLE.
@@ -54,14 +54,14 @@ pub record IsInPlace (last : Option (List ℕ)) (b : Board) : Type 0 where
 -- If Installed or Verified is reported, it is so.
 abbrev pub PlaysInstall : Type 0
 PlaysInstall = (b : Board) (steps more : List BoardStep) (past : List (List ℕ)) (last : Option (List ℕ)) (l l' : BoardLink)
-    (answer : Answered) → IsPoweredOn b → 0 < b.asking.config.functional.transfer → Plays b steps past last l → BoardComes l more answer l'
-    → SaysInPlace answer.report → IsInPlace last l'.board
+    (answer : Answered) → IsPoweredOn b → 0 < b.asking.config.functional.transfer → Plays b steps past last l → BoardLinkStep l more answer l'
+    → IsInPlaceReport answer.report → IsInPlace last l'.board
 
 -- The bytes that come with Uploaded are the active image.
-abbrev pub PlaysGive : Type 0
-PlaysGive = (b : Board) (steps more : List BoardStep) (past : List (List ℕ)) (last : Option (List ℕ)) (l l' : BoardLink)
+abbrev pub UploadsOfPlays : Type 0
+UploadsOfPlays = (b : Board) (steps more : List BoardStep) (past : List (List ℕ)) (last : Option (List ℕ)) (l l' : BoardLink)
     (answer : Answered) (bytes : List ℕ) → IsPoweredOn b → 0 < b.asking.config.functional.transfer → Plays b steps past last l
-    → BoardComes l more answer l' → answer.gave ≡ Some bytes → Active (medium_on l'.board) bytes
+    → BoardLinkStep l more answer l' → answer.gave ≡ Some bytes → Active (medium_on l'.board) bytes
 
 -- The active image of a board's flash is this one, or one of these.
 pub record KnownIsActive (image : List ℕ) (past : List (List ℕ)) (b : Board) : Type 0 where
@@ -79,7 +79,7 @@ PlaysKnow = (b : Board) (steps : List BoardStep) (past : List (List ℕ)) (last 
 abbrev pub PlaysKnowWithin : Type 0
 PlaysKnowWithin = (b mid : Board) (steps front rest : List BoardStep) (past : List (List ℕ)) (last : Option (List ℕ)) (l l' : BoardLink)
     (answer : Answered) (image : List ℕ) → IsPoweredOn b → 0 < b.asking.config.functional.transfer → Active (medium_on b) image
-    → Plays b steps past last l → BoardComes l (front ++ rest) answer l' → IsRun l.board front mid → KnownIsActive image past mid
+    → Plays b steps past last l → BoardLinkStep l (front ++ rest) answer l' → IsRun l.board front mid → KnownIsActive image past mid
 
 -- All that comes to the board are runs of it, between marks and ends of trials; without these one run. So what holds of runs holds.
 abbrev pub PlaysRun : Type 0

@@ -4,14 +4,14 @@ use Rattle.dfu_slots.specs.Medium.{MediumState}
 use Rattle.dfu_boot.specs.trial.Marks.{AreTries}
 use Rattle.dfu_boot.specs.trial.Trial.{image_at}
 use Rattle.dfu_boot.specs.trial.Calls.{IsStanding}
-use Rattle.dfu_boot.specs.trial.Lists.{TrialStep, CameAll, Tried, AllTrusted}
+use Rattle.dfu_boot.specs.trial.Lists.{TrialStep, TrialCourse, Tried, AllTrusted}
 use Rattle.dfu_boot.specs.declared.trial.standing.Trial.{Trial}
 use Rattle.dfu_boot.specs.declared.trial.standing.Standing.TheVariants.{OnTrial}
 use Rattle.dfu_sim.specs.Play.{Answered}
-use Rattle.dfu_sim.specs.Session.{SaysInPlace}
+use Rattle.dfu_sim.specs.Session.{IsInPlaceReport}
 use Rattle.dfu_laws.specs.board.Board.{Board, medium_on, BoardStep}
 use Rattle.dfu_laws.specs.board.Happens.{IsPoweredOn}
-use Rattle.dfu_laws.specs.link.Comes.{BoardLink, BoardComes}
+use Rattle.dfu_laws.specs.link.LinkSteps.{BoardLink, BoardLinkStep}
 use Rattle.dfu_laws.specs.link.Plays.{Plays}
 
 -- The payload of the last session is on trial on this medium, beside a confirmed image. By `AllTrusted` of dfu_boot each start runs the
@@ -27,6 +27,6 @@ pub record RunsOnTrial (tries : ℕ) (last : Option (List ℕ)) (m : MediumState
 abbrev pub PlaysStay : Type 0
 PlaysStay = (b : Board) (steps more : List BoardStep) (past : List (List ℕ)) (last : Option (List ℕ)) (l l' : BoardLink)
     (answer : Answered) (tries : ℕ) (t : Trial) (list : List TrialStep) → IsPoweredOn b → 0 < b.asking.config.functional.transfer
-    → Plays b steps past last l → BoardComes l more answer l' → SaysInPlace answer.report → AreTries (medium_on l'.board).grain tries
-    → IsStanding (medium_on l'.board) tries (OnTrial t) → CameAll tries (medium_on l'.board) list
+    → Plays b steps past last l → BoardLinkStep l more answer l' → IsInPlaceReport answer.report → AreTries (medium_on l'.board).grain tries
+    → IsStanding (medium_on l'.board) tries (OnTrial t) → TrialCourse tries (medium_on l'.board) list
     → RunsOnTrial tries last (medium_on l'.board) t list

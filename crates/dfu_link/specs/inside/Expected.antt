@@ -5,7 +5,7 @@ use Rattle.dfu_host.specs.declared.limits.Limits.{Limits}
 use Rattle.dfu_sim.specs.LinkView.{LinkView}
 use Rattle.dfu_suffix.specs.Writing.{IsOutInPart}
 use Rattle.dfu_link.specs.Expecting.{Expectation, Meets, still, FailsToPrint}
-use Rattle.dfu_link.specs.Said.{given_bytes}
+use Rattle.dfu_link.specs.LineContent.{given_bytes}
 use Rattle.dfu_link.specs.ScriptRun.{Point}
 use Rattle.dfu_link.specs.declared.scripting.expectation.Expectation.{Expectation as ExpectationHeld}
 use Rattle.dfu_link.specs.declared.scripting.expectation.ScriptContext.{ScriptContext}

@@ -4,7 +4,7 @@ use Rattle.dfu_slots.specs.Units.{Grain, IsMultiple, IsWhole}
 use Rattle.dfu_slots.specs.Medium.{AllWrites}
 use Rattle.dfu_slots.specs.Medium.Fuse.{Whole}
 use Rattle.dfu_slots.specs.Image.{Active}
-use Rattle.dfu_slots.specs.Seen.{SlotsState, image_of, format_series}
+use Rattle.dfu_slots.specs.StoreView.{SlotsState, image_of, format_series}
 use Rattle.dfu_link.specs.ScriptRun.{blank_slots}
 use Rattle.dfu_link.specs.declared.scripting.fault.ScriptFault.{ScriptFault}
 use Rattle.dfu_link.specs.declared.scripting.fault.ScriptFault.TheVariants.{BadConfig, NoMemory}

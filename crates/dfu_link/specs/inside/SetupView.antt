@@ -3,7 +3,7 @@ use Rattle.std.specs.Prelude.{ℕ, List, [], ◌∷◌, Option, Some, None, Vec}
 use Rattle.std.specs.declared.alloc.Global.{Global}
 use Rattle.dfu_device.specs.declared.config.Pace.{Pace}
 use Rattle.dfu_device.specs.Setting.{Setting}
-use Rattle.dfu_link.specs.Said.{given_bytes}
+use Rattle.dfu_link.specs.LineContent.{given_bytes}
 use Rattle.dfu_link.specs.ScriptRun.{Settings}
 use Rattle.dfu_slots.specs.declared.layout.Unit.{Unit as WriteUnit}
 use Rattle.dfu_slots.specs.Units.{Grain}

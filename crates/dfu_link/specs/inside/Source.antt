@@ -2,7 +2,7 @@
 use Rattle.std.specs.Prelude.{◌≡◌, ℕ, ◌+◌, ◌<◌, List, [], ◌∷◌, ◌++◌, length, Option, Some, None, IfSome, ⊤, Bool, true, false, if◌then◌else◌, ◌≤◌}
 use Rattle.std.specs.Io.KnownBytes.{Consumes, IsAtEnd, prepend_known}
 use Rattle.dfu_link.specs.Words.{endless, lines_of}
-use Rattle.dfu_link.specs.TextLimit.{GoesOver, IsStopped, GivesNone}
+use Rattle.dfu_link.specs.TextLimit.{ExceedsLimit, IsStopped, NoLineRead}
 use Rattle.dfu_link.specs.declared.scripting.fault.ScriptFault.{ScriptFault}
 
 -- The bytes at hand, and all that are left if the reader names them.
@@ -26,7 +26,7 @@ abbrev pub source_state : Option (List ℕ) → ℕ → ℕ → List ℕ → Sou
 source_state left room number line = record { left = left; room = room; number = number; line = line }
 
 -- So many bytes were taken, the last of them the 0Ah that ends the line, or none such: those before it went to the end of the line.
-pub record TakesPiece (left : Option (List ℕ)) (line : List ℕ) (bytes : ℕ) (ended : Bool) (left' : Option (List ℕ)) (line' : List ℕ)
+pub record PieceRead (left : Option (List ℕ)) (line : List ℕ) (bytes : ℕ) (ended : Bool) (left' : Option (List ℕ)) (line' : List ℕ)
     : Type 0 where
   pub piece : List ℕ
   pub longer : line' ≡ line ++ piece
@@ -37,34 +37,34 @@ pub record TakesPiece (left : Option (List ℕ)) (line : List ℕ) (bytes : ℕ)
   pub taken : Consumes left left' (if ended then piece ++ 10 ∷ [] else piece)
 
 -- These lines were taken from the front of a text, in as many bytes as the room is less.
-pub record TookLines (text : List ℕ) (room : ℕ) (lines : List (List ℕ)) (left : List ℕ) (room' : ℕ) : Type 0 where
+pub record LinesRead (text : List ℕ) (room : ℕ) (lines : List (List ℕ)) (left : List ℕ) (room' : ℕ) : Type 0 where
   pub front : List ℕ
   pub split : text ≡ front ++ left
   pub are : lines_of text ≡ lines ++ lines_of left
   pub rooms : room ≡ length front + room'
 
 -- The lines are taken like this if the reader names the text.
-abbrev pub TakesLines : Option (List ℕ) → ℕ → List (List ℕ) → Option (List ℕ) → ℕ → Type 0
-TakesLines None room lines left room' = ⊤
-TakesLines (Some text) room lines None room' = ⊥
-TakesLines (Some text) room lines (Some left) room' = TookLines text room lines left room'
+abbrev pub LinesReadFrom : Option (List ℕ) → ℕ → List (List ℕ) → Option (List ℕ) → ℕ → Type 0
+LinesReadFrom None room lines left room' = ⊤
+LinesReadFrom (Some text) room lines None room' = ⊥
+LinesReadFrom (Some text) room lines (Some left) room' = LinesRead text room lines left room'
 
 -- A source gave these lines one after the other.
-pub record GivesLines (s : SourceState) (lines : List (List ℕ)) (s' : SourceState) : Type 0 where
+pub record SourceLines (s : SourceState) (lines : List (List ℕ)) (s' : SourceState) : Type 0 where
   pub count : s'.number ≡ s.number + length lines
-  pub takes : TakesLines s.left s.room lines s'.left s'.room
+  pub takes : LinesReadFrom s.left s.room lines s'.left s'.room
 
 -- A source gave a line.
-pub record GivesLine (s s' : SourceState) : Type 0 where
-  pub gives : GivesLines s (s'.line ∷ []) s'
-  pub ends : IfSome s.left (λ left. ¬ GoesOver s.room left)
+pub record SourceLine (s s' : SourceState) : Type 0 where
+  pub gives : SourceLines s (s'.line ∷ []) s'
+  pub ends : IfSome s.left (λ left. ¬ ExceedsLimit s.room left)
   pub less : s'.room < s.room
 
 -- A source has given a line, or has none left.
 abbrev pub Next : SourceState → Bool → SourceState → Type 0
-Next s true s' = GivesLine s s'
+Next s true s' = SourceLine s s'
 Next s false s' = IsAtEnd s.left
 
 -- A source whose reader names the text gives no line.
 abbrev pub StopsSource : (given : Option (List ℕ)) → SourceState → ScriptFault → Type 0
-StopsSource given s fault = IfSome s.left (λ left. IsStopped s.room left fault × GivesNone given (s.number + 1) (lines_of left) fault)
+StopsSource given s fault = IfSome s.left (λ left. IsStopped s.room left fault × NoLineRead given (s.number + 1) (lines_of left) fault)

@@ -2,11 +2,11 @@
 //! an action closes.
 
 ghost use Rattle.std.specs.Prelude.{◌≡◌, IfOk, IfErr, ◌+◌, ◌≤◌, ◌<◌, ◌∷◌, [], length, get_or, drop, IfSome, IfNone};
-ghost use Rattle.dfu_link.specs.Said.{given_bytes, harm_fate};
-ghost use Rattle.dfu_link.specs.inside.Moving.{held_bytes, IsFileOf, FindsNoRoom};
+ghost use Rattle.dfu_link.specs.LineContent.{given_bytes, harm_fate};
+ghost use Rattle.dfu_link.specs.inside.Moving.{offered_file_bytes, IsFileOf, NoRoomForFile};
 ghost use Rattle.dfu_sim.specs.Happening.{fate_of, harm_in, happening, Offers, harmed};
-ghost use Rattle.dfu_link.specs.ScriptRun.{begins_with};
-ghost use Rattle.dfu_link.specs.inside.Taken.{taken_at};
+ghost use Rattle.dfu_link.specs.ScriptRun.{has_front};
+ghost use Rattle.dfu_link.specs.inside.AcceptedImage.{accepted_at};
 
 use crate::scripting::fault::ScriptFault;
 use crate::scripting::line::{EventLine, HarmKind, Line, Offered};
@@ -28,7 +28,7 @@ pub(crate) enum OfferedFile<'g> {
 impl<'g> OfferedFile<'g> {
     /// Its bytes.
     pub(crate) fn bytes(&self) -> &[u8]
-        ensures { result.now ≡ held_bytes self.now }
+        ensures { result.now ≡ offered_file_bytes self.now }
     {
         match self {
             OfferedFile::Decoded(bytes) => bytes,
@@ -43,8 +43,8 @@ pub(crate) fn file_of<'g>(
     given: Option<&'g [u8]>,
     line: &[u8],
 ) -> Result<OfferedFile<'g>, ScriptFault>
-    ensures ok { IfOk result (λ file. IsFileOf (given_bytes given.entry) line.now (held_bytes file)) }
-    ensures fault { IfErr result (λ f. FindsNoRoom (given_bytes given.entry) line.now f) }
+    ensures ok { IfOk result (λ file. IsFileOf (given_bytes given.entry) line.now (offered_file_bytes file)) }
+    ensures fault { IfErr result (λ f. NoRoomForFile (given_bytes given.entry) line.now f) }
 {
     match parse(given, line) {
         Some(Line::Do(EventLine::Offer { file, .. })) => match file {
@@ -93,8 +93,8 @@ fn stored_byte<M: Medium>(slots: &Slots<M>, at: u32, i: usize) -> u8
 /// The byte at this place of an image that was taken, or none past its end.
 fn byte_at<M: Medium>(slots: &Slots<M>, candidate: Candidate, i: usize) -> Option<u8>
     requires { candidate.at + candidate.stored ≤ length slots.now.medium.bytes }
-    ensures some { IfSome result (λ byte. (i < length (taken_at slots.now candidate)) × (byte ≡ get_or (taken_at slots.now candidate) i 0)) }
-    ensures none { IfNone result (length (taken_at slots.now candidate) ≤ i) }
+    ensures some { IfSome result (λ byte. (i < length (accepted_at slots.now candidate)) × (byte ≡ get_or (accepted_at slots.now candidate) i 0)) }
+    ensures none { IfNone result (length (accepted_at slots.now candidate) ≤ i) }
 {
     let stored = candidate.stored as usize;
     if i < stored {
@@ -110,7 +110,7 @@ fn byte_at<M: Medium>(slots: &Slots<M>, candidate: Candidate, i: usize) -> Optio
 /// Returns whether this byte is at this place of an image that was taken.
 fn has_byte<M: Medium>(slots: &Slots<M>, candidate: Candidate, i: usize, byte: u8) -> bool
     requires { candidate.at + candidate.stored ≤ length slots.now.medium.bytes }
-    ensures { result ≡ begins_with (byte ∷ []) (drop i (taken_at slots.now candidate)) }
+    ensures { result ≡ has_front (byte ∷ []) (drop i (accepted_at slots.now candidate)) }
 {
     match byte_at::<M>(slots, candidate, i) {
         None => false,
@@ -121,7 +121,7 @@ fn has_byte<M: Medium>(slots: &Slots<M>, candidate: Candidate, i: usize, byte: u
 /// Returns whether an image that was taken begins with these bytes.
 pub(crate) fn begins<M: Medium>(slots: &Slots<M>, candidate: Candidate, check: &[u8]) -> bool
     requires { candidate.at + candidate.stored ≤ length slots.now.medium.bytes }
-    ensures { result ≡ begins_with check.now (taken_at slots.now candidate) }
+    ensures { result ≡ has_front check.now (accepted_at slots.now candidate) }
 {
     for i in 0..check.len() {
         if !has_byte::<M>(slots, candidate, i, check[i]) {

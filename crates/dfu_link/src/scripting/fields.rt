@@ -5,8 +5,8 @@ ghost use Rattle.std.specs.Prelude.{◌≡◌, ◌↔◌, IsTrue, is_some};
 ghost use Rattle.std.specs.List.{AllPass};
 ghost use Rattle.hex.specs.Hex.{is_hex_digit};
 ghost use Rattle.dfu_link.specs.Words.{Reads, hex_word_bytes, pair_of, words_of};
-ghost use Rattle.dfu_link.specs.Said.{given_bytes, hex_bytes, offered_bytes};
-ghost use Rattle.dfu_link.specs.Lines.{Tells, number_field, short_at, hex_at, identifier_at};
+ghost use Rattle.dfu_link.specs.LineContent.{given_bytes, hex_bytes, offered_bytes};
+ghost use Rattle.dfu_link.specs.Lines.{ReadMatches, number_field, short_at, hex_at, identifier_at};
 ghost use Rattle.dfu_link.specs.Fields.{small_of, named_bytes, attributes_of_word, unit_named, unit_of_word, sector_of, objection_of};
 
 use crate::scripting::fault::{Field, LineFault};
@@ -158,7 +158,7 @@ pub(crate) use field;
 /// Word `n` of a line of `of` words, as a number, and the line after it.
 #[tactic(auto, unfolding(crate::specs::Lines::number_field))]
 pub(crate) fn number_at(line: &[u8], n: usize, of: usize) -> Result<(u32, &[u8]), LineFault>
-    ensures { Tells (λ x. (x.0, words_of x.1.now)) result (number_field n of (words_of line.now)) }
+    ensures { ReadMatches (λ x. (x.0, words_of x.1.now)) result (number_field n of (words_of line.now)) }
 {
     Ok(field!(line, n, of, Number, number))
 }
@@ -166,7 +166,7 @@ pub(crate) fn number_at(line: &[u8], n: usize, of: usize) -> Result<(u32, &[u8])
 /// Word `n`, as a number of at most 65,535, and the line after it.
 #[tactic(auto, unfolding(crate::specs::Lines::short_at))]
 pub(crate) fn short_at(line: &[u8], n: usize, of: usize) -> Result<(u16, &[u8]), LineFault>
-    ensures { Tells (λ x. (x.0, words_of x.1.now)) result (short_at n of (words_of line.now)) }
+    ensures { ReadMatches (λ x. (x.0, words_of x.1.now)) result (short_at n of (words_of line.now)) }
 {
     Ok(field!(line, n, of, Short, short))
 }
@@ -174,7 +174,7 @@ pub(crate) fn short_at(line: &[u8], n: usize, of: usize) -> Result<(u16, &[u8]),
 /// Word `n`, as hexadecimal text, and the line after it.
 #[tactic(auto, unfolding(crate::specs::Lines::hex_at))]
 pub(crate) fn hex_at(line: &[u8], n: usize, of: usize) -> Result<(HexText<'_>, &[u8]), LineFault>
-    ensures { Tells (λ x. (hex_bytes x.0, words_of x.1.now)) result (hex_at n of (words_of line.now)) }
+    ensures { ReadMatches (λ x. (hex_bytes x.0, words_of x.1.now)) result (hex_at n of (words_of line.now)) }
 {
     Ok(field!(line, n, of, Bytes, hex_text))
 }
@@ -182,7 +182,7 @@ pub(crate) fn hex_at(line: &[u8], n: usize, of: usize) -> Result<(HexText<'_>, &
 /// Word `n`, as four hexadecimal digits, and the line after it.
 #[tactic(auto, unfolding(crate::specs::Lines::identifier_at))]
 pub(crate) fn identifier_at(line: &[u8], n: usize, of: usize) -> Result<(u16, &[u8]), LineFault>
-    ensures { Tells (λ x. (x.0, words_of x.1.now)) result (identifier_at n of (words_of line.now)) }
+    ensures { ReadMatches (λ x. (x.0, words_of x.1.now)) result (identifier_at n of (words_of line.now)) }
 {
     Ok(field!(line, n, of, Identifier, identifier))
 }

@@ -2,8 +2,8 @@
 
 ghost use Rattle.std.specs.Prelude.{◌≡◌};
 ghost use Rattle.dfu_link.specs.Words.{words_of};
-ghost use Rattle.dfu_link.specs.Said.{given_bytes, offered_bytes, said_of};
-ghost use Rattle.dfu_link.specs.Lines.{Tells, said_ids, said_device, unit_line, erase_of, pace_line, said_capacity, said_image, check_of, said_limits, no_file, offered_file, offer_of, time_of, refuse_of, expect_of};
+ghost use Rattle.dfu_link.specs.LineContent.{given_bytes, offered_bytes, content_of_line};
+ghost use Rattle.dfu_link.specs.Lines.{ReadMatches, ids_content, device_content, unit_line, erase_of, pace_line, capacity_content, image_content, check_of, limits_content, no_file, offered_file, offer_of, time_of, refuse_of, expect_of};
 
 use crate::scripting::fault::{Field, LineFault};
 use crate::scripting::fields::{field, hex_at, identifier_at, number_at, offered, short_at};
@@ -14,9 +14,9 @@ use dfu_sim::Purpose;
 use dfu_wire::{Functional, Ids};
 
 /// `ids VVVV PPPP DDDD`.
-#[tactic(auto, unfolding(crate::specs::Lines::said_ids))]
+#[tactic(auto, unfolding(crate::specs::Lines::ids_content))]
 pub(crate) fn ids(line: &[u8]) -> Result<Line<'_, 'static>, LineFault>
-    ensures { Tells said_of result (said_ids (words_of line.now)) }
+    ensures { ReadMatches content_of_line result (ids_content (words_of line.now)) }
 {
     let (vendor, rest) = identifier_at(line, 2, 4)?;
     let (product, rest) = identifier_at(rest, 3, 4)?;
@@ -30,9 +30,9 @@ pub(crate) fn ids(line: &[u8]) -> Result<Line<'_, 'static>, LineFault>
 }
 
 /// `device FF DETACH TRANSFER LEAST BUSY MANIFEST`.
-#[tactic(auto, unfolding(crate::specs::Lines::said_device))]
+#[tactic(auto, unfolding(crate::specs::Lines::device_content))]
 pub(crate) fn device(line: &[u8]) -> Result<Line<'_, 'static>, LineFault>
-    ensures { Tells said_of result (said_device (words_of line.now)) }
+    ensures { ReadMatches content_of_line result (device_content (words_of line.now)) }
 {
     let (attributes, rest) = field!(line, 2, 7, Attributes, fields::attributes);
     let (detach_ms, rest) = short_at(rest, 3, 7)?;
@@ -53,7 +53,7 @@ pub(crate) fn device(line: &[u8]) -> Result<Line<'_, 'static>, LineFault>
 /// `unit N`.
 #[tactic(auto, unfolding(crate::specs::Lines::unit_line))]
 pub(crate) fn unit(line: &[u8]) -> Result<Line<'_, 'static>, LineFault>
-    ensures { Tells said_of result (unit_line (words_of line.now)) }
+    ensures { ReadMatches content_of_line result (unit_line (words_of line.now)) }
 {
     let (unit, rest) = field!(line, 2, 2, Unit, fields::unit);
     ended(Line::Set(ConfigLine::Unit(unit)), 2, rest)
@@ -62,7 +62,7 @@ pub(crate) fn unit(line: &[u8]) -> Result<Line<'_, 'static>, LineFault>
 /// `erase N`.
 #[tactic(auto, unfolding(crate::specs::Lines::erase_of))]
 pub(crate) fn erase(line: &[u8]) -> Result<Line<'_, 'static>, LineFault>
-    ensures { Tells said_of result (erase_of (words_of line.now)) }
+    ensures { ReadMatches content_of_line result (erase_of (words_of line.now)) }
 {
     let (sector, rest) = field!(line, 2, 2, Sector, fields::sector);
     ended(Line::Set(ConfigLine::Erase(sector)), 2, rest)
@@ -71,7 +71,7 @@ pub(crate) fn erase(line: &[u8]) -> Result<Line<'_, 'static>, LineFault>
 /// `pace ERASE PROGRAM`.
 #[tactic(auto, unfolding(crate::specs::Lines::pace_line))]
 pub(crate) fn pace(line: &[u8]) -> Result<Line<'_, 'static>, LineFault>
-    ensures { Tells said_of result (pace_line (words_of line.now)) }
+    ensures { ReadMatches content_of_line result (pace_line (words_of line.now)) }
 {
     let (erase_ms, rest) = short_at(line, 2, 3)?;
     let (program_ms, rest) = short_at(rest, 3, 3)?;
@@ -83,18 +83,18 @@ pub(crate) fn pace(line: &[u8]) -> Result<Line<'_, 'static>, LineFault>
 }
 
 /// `capacity N`.
-#[tactic(auto, unfolding(crate::specs::Lines::said_capacity))]
+#[tactic(auto, unfolding(crate::specs::Lines::capacity_content))]
 pub(crate) fn capacity(line: &[u8]) -> Result<Line<'_, 'static>, LineFault>
-    ensures { Tells said_of result (said_capacity (words_of line.now)) }
+    ensures { ReadMatches content_of_line result (capacity_content (words_of line.now)) }
 {
     let (bytes, rest) = field!(line, 2, 2, Capacity, words::count, 1_048_576);
     ended(Line::Set(ConfigLine::Capacity(Room { bytes })), 2, rest)
 }
 
 /// `image HEX`.
-#[tactic(auto, unfolding(crate::specs::Lines::said_image))]
+#[tactic(auto, unfolding(crate::specs::Lines::image_content))]
 pub(crate) fn image(line: &[u8]) -> Result<Line<'_, 'static>, LineFault>
-    ensures { Tells said_of result (said_image (words_of line.now)) }
+    ensures { ReadMatches content_of_line result (image_content (words_of line.now)) }
 {
     let (image, rest) = hex_at(line, 2, 2)?;
     ended(Line::Set(ConfigLine::Image(image)), 2, rest)
@@ -103,16 +103,16 @@ pub(crate) fn image(line: &[u8]) -> Result<Line<'_, 'static>, LineFault>
 /// `check HEX`.
 #[tactic(auto, unfolding(crate::specs::Lines::check_of))]
 pub(crate) fn check(line: &[u8]) -> Result<Line<'_, 'static>, LineFault>
-    ensures { Tells said_of result (check_of (words_of line.now)) }
+    ensures { ReadMatches content_of_line result (check_of (words_of line.now)) }
 {
     let (front, rest) = hex_at(line, 2, 2)?;
     ended(Line::Set(ConfigLine::Check(front)), 2, rest)
 }
 
 /// `limits A R`.
-#[tactic(auto, unfolding(crate::specs::Lines::said_limits))]
+#[tactic(auto, unfolding(crate::specs::Lines::limits_content))]
 pub(crate) fn limits(line: &[u8]) -> Result<Line<'_, 'static>, LineFault>
-    ensures { Tells said_of result (said_limits (words_of line.now)) }
+    ensures { ReadMatches content_of_line result (limits_content (words_of line.now)) }
 {
     let (actions, rest) = number_at(line, 2, 3)?;
     let (restarts, rest) = short_at(rest, 3, 3)?;
@@ -138,7 +138,7 @@ fn file_at<'l, 'g>(
     n: usize,
     of: usize,
 ) -> Result<(Offered<'l, 'g>, &'l [u8]), LineFault>
-    ensures { Tells (λ x. (offered_bytes x.0, words_of x.1.now)) result (offered_file (given_bytes given.entry) n of (words_of line.now)) }
+    ensures { ReadMatches (λ x. (offered_bytes x.0, words_of x.1.now)) result (offered_file (given_bytes given.entry) n of (words_of line.now)) }
 {
     let Some((word, rest)) = word_at(line) else {
         return Err(LineFault::Count(of));
@@ -156,7 +156,7 @@ pub(crate) fn offer<'l, 'g>(
     purpose: Purpose,
     line: &'l [u8],
 ) -> Result<Line<'l, 'g>, LineFault>
-    ensures { Tells said_of result (offer_of (given_bytes given.entry) purpose (words_of line.now)) }
+    ensures { ReadMatches content_of_line result (offer_of (given_bytes given.entry) purpose (words_of line.now)) }
 {
     let (file, rest) = file_at(given, line, 2, 2)?;
     ended(Line::Do(EventLine::Offer { purpose, file }), 2, rest)
@@ -165,7 +165,7 @@ pub(crate) fn offer<'l, 'g>(
 /// `time MS`.
 #[tactic(auto, unfolding(crate::specs::Lines::time_of))]
 pub(crate) fn time(line: &[u8]) -> Result<Line<'_, 'static>, LineFault>
-    ensures { Tells said_of result (time_of (words_of line.now)) }
+    ensures { ReadMatches content_of_line result (time_of (words_of line.now)) }
 {
     let (ms, rest) = number_at(line, 2, 2)?;
     ended(Line::Do(EventLine::Time(ms)), 2, rest)
@@ -174,7 +174,7 @@ pub(crate) fn time(line: &[u8]) -> Result<Line<'_, 'static>, LineFault>
 /// `refuse CODE`.
 #[tactic(auto, unfolding(crate::specs::Lines::refuse_of))]
 pub(crate) fn refuse(line: &[u8]) -> Result<Line<'_, 'static>, LineFault>
-    ensures { Tells said_of result (refuse_of (words_of line.now)) }
+    ensures { ReadMatches content_of_line result (refuse_of (words_of line.now)) }
 {
     let (objection, rest) = field!(line, 2, 2, Objection, fields::objection);
     ended(Line::Do(EventLine::Refuse(objection)), 2, rest)
@@ -183,7 +183,7 @@ pub(crate) fn refuse(line: &[u8]) -> Result<Line<'_, 'static>, LineFault>
 /// `expect TEXT`: the text is all that follows one space.
 #[tactic(auto, unfolding(crate::specs::Lines::expect_of), using(std::proofs::lemmas::Bool::Decides::nat_tests))]
 pub(crate) fn expect(line: &[u8]) -> Result<Line<'_, 'static>, LineFault>
-    ensures { Tells said_of result (expect_of line.now) }
+    ensures { ReadMatches content_of_line result (expect_of line.now) }
 {
     match text_behind(line) {
         Some(text) => {

@@ -2,14 +2,14 @@
 
 ghost use Rattle.std.specs.Prelude.{◌≡◌, ◌≢◌, ℕ, List, Option, None, Ok, true, false, [], ◌∷◌, replicate};
 ghost use Rattle.dfu_device.specs.Candidate.{candidate_in};
-ghost use Rattle.dfu_sim.specs.LinkView.{ShowsActive};
-ghost use Rattle.dfu_sim.specs.Comes.{HasCome};
+ghost use Rattle.dfu_sim.specs.LinkView.{BenchMatchesFlash};
+ghost use Rattle.dfu_sim.specs.EventResults.{WorldEventResult};
 ghost use Rattle.dfu_sim.specs.Happening.{Goes, fate_of, harm_in, happening};
 ghost use Rattle.dfu_link.specs.ScriptRun.{is_accepted, checked, checked_fate};
 ghost use Rattle.dfu_sim.specs.LinkView.{IsLive};
-ghost use Rattle.dfu_link.specs.Said.{Does, GoesOn, Offer, said_by, harmed_line};
+ghost use Rattle.dfu_link.specs.LineContent.{Does, GoesOn, Offer, content_of_event, harmed_line};
 ghost use Rattle.dfu_link.specs.inside.Expected.{expectation_of, point_at, at_point};
-ghost use Rattle.dfu_link.specs.inside.Moving.{PlaysEvents, DoesLine, file_bytes};
+ghost use Rattle.dfu_link.specs.inside.Moving.{PlaysEvents, LineOutcome, file_bytes};
 
 use crate::scripting::event_parts::{begins, harmed, offered};
 use crate::scripting::expectation::{Expectation, ScriptContext};
@@ -76,8 +76,8 @@ fn take<'f, T: Tracer<M>, M: Faulty>(
     check: &[u8],
     tracer: &mut T,
 ) -> Result<Option<Report>, LinkFault>
-    ensures play { HasCome world.old (checked check.now world.old.bench (Goes (fate_of fate.entry) (harm_in fate.entry))) world.new result }
-    ensures active { ShowsActive world.new.bench }
+    ensures play { WorldEventResult world.old (checked check.now world.old.bench (Goes (fate_of fate.entry) (harm_in fate.entry))) world.new result }
+    ensures active { BenchMatchesFlash world.new.bench }
 {
     let before = tracer.snapshot(world);
     let event = checked::<M>(world.device(), check, fate);
@@ -133,7 +133,7 @@ fn pass_on<'f, T: Tracer<M>, M: Faulty, W: Write>(
     tracer: &mut T,
 ) -> Result<(), ScriptFault>
     ensures { (given : Option (List ℕ)) (limits : Limits) →
-        DoesLine (point_at given check.now limits (expectation_of next.old) world.old.bench) GoesOn (W.contents writer.old)
+        LineOutcome (point_at given check.now limits (expectation_of next.old) world.old.bench) GoesOn (W.contents writer.old)
         (point_at given check.now limits (expectation_of next.new) world.new.bench) (W.contents writer.new) result }
 {
     'passes: loop {
@@ -157,7 +157,7 @@ fn play_harmed<'f, T: Tracer<M>, M: Faulty, W: Write>(
     tracer: &mut T,
 ) -> Result<(), ScriptFault>
     ensures { (given : Option (List ℕ)) (limits : Limits) →
-        DoesLine (point_at given check.now limits (expectation_of next.old) world.old.bench) (harmed_line harm writes tear.entry)
+        LineOutcome (point_at given check.now limits (expectation_of next.old) world.old.bench) (harmed_line harm writes tear.entry)
         (W.contents writer.old)
         (point_at given check.now limits (expectation_of next.new) world.new.bench) (W.contents writer.new) result }
 {
@@ -176,8 +176,8 @@ pub(crate) fn play_events<'f, T: Tracer<M>, M: Faulty, W: Write>(
     writer: &mut W,
     tracer: &mut T,
 ) -> Result<(), ScriptFault>
-    requires { file.now ≡ file_bytes (said_by events) }
-    ensures { DoesLine (at_point context.old world.old.bench) (said_by events.entry) (W.contents writer.old)
+    requires { file.now ≡ file_bytes (content_of_event events) }
+    ensures { LineOutcome (at_point context.old world.old.bench) (content_of_event events.entry) (W.contents writer.old)
         (at_point context.new world.new.bench)
         (W.contents writer.new) result }
 {
@@ -215,7 +215,7 @@ pub(crate) fn refuse_offer<'f, M: Faulty, W: Write>(
 ) -> Result<(), ScriptFault>
     requires { IsLive world.now.bench.session }
     ensures { (purpose : Purpose) (file : List ℕ) →
-        DoesLine (at_point context.old world.now.bench) (Does (Offer purpose file)) (W.contents writer.old)
+        LineOutcome (at_point context.old world.now.bench) (Does (Offer purpose file)) (W.contents writer.old)
         (at_point context.new world.now.bench) (W.contents writer.new) result }
 {
     // Called for its clause `active`, which a refusal's bench needs; what it answers isn't used.

@@ -2,8 +2,8 @@
 
 ghost use Rattle.dfu_link.specs.Words.{Reads, words_of};
 ghost use Rattle.dfu_sim.specs.Happening.{fate_of, harm_in};
-ghost use Rattle.dfu_link.specs.Said.{given_bytes, said_of, Go, Does, harm_fate};
-ghost use Rattle.dfu_link.specs.Lines.{Tells, ends, pass_of, slip_of, harmed_of, until_of, by_fate, go_of, by_keyword, read_line, line_of};
+ghost use Rattle.dfu_link.specs.LineContent.{given_bytes, content_of_line, Go, Does, harm_fate};
+ghost use Rattle.dfu_link.specs.Lines.{ReadMatches, ends, pass_of, slip_of, harmed_of, until_of, by_fate, go_of, by_keyword, read_line, line_of};
 
 use crate::scripting::fault::{Field, LineFault, Reason, Stopped};
 use crate::scripting::fields::{field, hex_at, number_at};
@@ -23,7 +23,7 @@ pub(crate) const MAX_LINE: usize = 65_536;
 /// `go pass N`.
 #[tactic(auto, unfolding(crate::specs::Lines::pass_of))]
 fn pass(line: &[u8]) -> Result<Line<'_, 'static>, LineFault>
-    ensures { Tells said_of result (pass_of (words_of line.now)) }
+    ensures { ReadMatches content_of_line result (pass_of (words_of line.now)) }
 {
     let (times, rest) = field!(line, 3, 3, Times, words::count, 1_000_000);
     let fate = Fate::Pass;
@@ -32,7 +32,7 @@ fn pass(line: &[u8]) -> Result<Line<'_, 'static>, LineFault>
 
 /// One action.
 fn once<'l>(fate: Fate<'l>, of: usize, rest: &[u8]) -> Result<Line<'l, 'static>, LineFault>
-    ensures { Tells said_of result (ends (Does (Go (fate_of fate.entry) (harm_in fate.entry) 1)) of (words_of rest.now)) }
+    ensures { ReadMatches content_of_line result (ends (Does (Go (fate_of fate.entry) (harm_in fate.entry) 1)) of (words_of rest.now)) }
 {
     ended(Line::Do(EventLine::Go { fate, times: 1 }), of, rest)
 }
@@ -40,7 +40,7 @@ fn once<'l>(fate: Fate<'l>, of: usize, rest: &[u8]) -> Result<Line<'l, 'static>,
 /// `go slip MS`.
 #[tactic(auto, unfolding(crate::specs::Lines::slip_of))]
 fn slip(line: &[u8]) -> Result<Line<'_, 'static>, LineFault>
-    ensures { Tells said_of result (slip_of (words_of line.now)) }
+    ensures { ReadMatches content_of_line result (slip_of (words_of line.now)) }
 {
     let (ms, rest) = number_at(line, 3, 3)?;
     once(Fate::Slip(ms), 3, rest)
@@ -49,7 +49,7 @@ fn slip(line: &[u8]) -> Result<Line<'_, 'static>, LineFault>
 /// `go cut W HEX` and `go fail W HEX`.
 #[tactic(auto, unfolding(crate::specs::Lines::harmed_of))]
 fn harmed(harm: HarmKind, line: &[u8]) -> Result<Line<'_, 'static>, LineFault>
-    ensures { Tells said_of result (harmed_of (harm_fate harm) (words_of line.now)) }
+    ensures { ReadMatches content_of_line result (harmed_of (harm_fate harm) (words_of line.now)) }
 {
     let (writes, rest) = number_at(line, 3, 4)?;
     let (tear, rest) = hex_at(rest, 4, 4)?;
@@ -60,7 +60,7 @@ fn harmed(harm: HarmKind, line: &[u8]) -> Result<Line<'_, 'static>, LineFault>
 /// `go until report`.
 #[tactic(auto, unfolding(crate::specs::Lines::until_of))]
 fn until(line: &[u8]) -> Result<Line<'_, 'static>, LineFault>
-    ensures { Tells said_of result (until_of (words_of line.now)) }
+    ensures { ReadMatches content_of_line result (until_of (words_of line.now)) }
 {
     let Some((word, rest)) = word_at(line) else {
         return Err(LineFault::Count(3));
@@ -73,7 +73,7 @@ fn until(line: &[u8]) -> Result<Line<'_, 'static>, LineFault>
 
 /// Reads the words behind `go`, by the first of them.
 fn by_fate(keyword: FateKeyword, rest: &[u8]) -> Result<Line<'_, 'static>, LineFault>
-    ensures { Tells said_of result (by_fate keyword (words_of rest.now)) }
+    ensures { ReadMatches content_of_line result (by_fate keyword (words_of rest.now)) }
 {
     match keyword {
         FateKeyword::Pass => pass(rest),
@@ -92,7 +92,7 @@ fn by_fate(keyword: FateKeyword, rest: &[u8]) -> Result<Line<'_, 'static>, LineF
 /// `go` with a fate, or `until`.
 #[tactic(auto, unfolding(crate::specs::Lines::go_of))]
 fn go(line: &[u8]) -> Result<Line<'_, 'static>, LineFault>
-    ensures { Tells said_of result (go_of (words_of line.now)) }
+    ensures { ReadMatches content_of_line result (go_of (words_of line.now)) }
 {
     let Some((word, rest)) = word_at(line) else {
         return Err(LineFault::NoFate);
@@ -110,7 +110,7 @@ fn by_keyword<'l, 'g>(
     line: &'l [u8],
     rest: &'l [u8],
 ) -> Result<Line<'l, 'g>, LineFault>
-    ensures { Tells said_of result (by_keyword (given_bytes given.entry) keyword line.now (words_of rest.now)) }
+    ensures { ReadMatches content_of_line result (by_keyword (given_bytes given.entry) keyword line.now (words_of rest.now)) }
 {
     match keyword {
         Keyword::Ids => ids(rest),
@@ -139,7 +139,7 @@ fn by_keyword<'l, 'g>(
 /// Returns the meaning of a line if these bytes are given, or the fault of the line. A line over 65,536 bytes is not one of the language.
 #[tactic(auto, unfolding(crate::specs::Lines::read_line))]
 fn read_line<'l, 'g>(given: Option<&'g [u8]>, line: &'l [u8]) -> Result<Line<'l, 'g>, LineFault>
-    ensures { Tells said_of result (read_line (given_bytes given.entry) line.now) }
+    ensures { ReadMatches content_of_line result (read_line (given_bytes given.entry) line.now) }
 {
     if line.len() > MAX_LINE {
         return Err(LineFault::Long);
@@ -161,7 +161,7 @@ fn read_line<'l, 'g>(given: Option<&'g [u8]>, line: &'l [u8]) -> Result<Line<'l,
 /// Returns the meaning of a line if these bytes are given, or nothing if it is not one of the language.
 #[tactic(auto, unfolding(crate::specs::Lines::line_of))]
 pub(crate) fn parse<'l, 'g>(given: Option<&'g [u8]>, line: &'l [u8]) -> Option<Line<'l, 'g>>
-    ensures { Reads said_of result (line_of (given_bytes given.entry) line.now) }
+    ensures { Reads content_of_line result (line_of (given_bytes given.entry) line.now) }
 {
     match read_line(given, line) {
         Ok(said) => Some(said),

@@ -5,12 +5,12 @@
 
 ghost use Rattle.std.specs.Prelude.{◌≡◌, ◌<◌, Ok, true, OnOk, IfOk, IfErr};
 ghost use Rattle.dfu_sim.specs.LinkView.{Nobody};
-ghost use Rattle.dfu_link.specs.Said.{given_bytes};
+ghost use Rattle.dfu_link.specs.LineContent.{given_bytes};
 ghost use Rattle.dfu_link.specs.Falls.{LineFalls};
 ghost use Rattle.dfu_link.specs.ScriptRun.{at_rest};
 ghost use Rattle.dfu_link.specs.inside.Expected.{at_point};
-ghost use Rattle.dfu_link.specs.inside.Source.{Next, GivesLine, SourceState};
-ghost use Rattle.dfu_link.specs.inside.Moving.{LineEnds, IsDoneOrLeft, LinkDone, IsFileOf, Ends, IsUnarmed, Plainly, PlainlyFalls, MovesAndFalls};
+ghost use Rattle.dfu_link.specs.inside.Source.{Next, SourceLine, SourceState};
+ghost use Rattle.dfu_link.specs.inside.Moving.{LineEnds, LineDoneOrDeferred, LinkOutcome, IsFileOf, SourceExhausted, IsUnarmed, Plainly, PlainlyFalls, MovesAndFalls};
 
 use crate::scripting::event_parts::file_of;
 use crate::scripting::expectation::{ScriptContext, expect};
@@ -98,7 +98,7 @@ fn later_line<'f, T: Tracer<M>, M: Faulty, W: Write>(
     writer: &mut W,
     tracer: &mut T,
 ) -> Result<bool, ScriptFault>
-    ensures ok { IfOk result (λ left. IsDoneOrLeft number (at_point context.old world.old.bench) line.now (W.contents writer.old)
+    ensures ok { IfOk result (λ left. LineDoneOrDeferred number (at_point context.old world.old.bench) line.now (W.contents writer.old)
         (at_point context.new world.new.bench) (W.contents writer.new) left) }
     ensures fault { IfErr result (λ f. LineFalls (at_point context.old world.old.bench) number line.now (W.contents writer.old)
         (W.contents writer.new) f) }
@@ -144,9 +144,9 @@ fn run_link<'f, T: Tracer<M>, R: Read + Drop, M: Faulty, W: Write>(
     requires { IsFileOf (given_bytes context.old.given) source.old.line file.now }
     ensures less { result ≡ Ok true → source.new.room < source.old.room }
     ensures rest { result ≡ Ok true → world.new.bench.session ≡ Nobody }
-    ensures ok { IfOk result (λ left. (s : SourceState) → GivesLine s source.old → LinkDone (at_point context.old world.old.bench) s
+    ensures ok { IfOk result (λ left. (s : SourceState) → SourceLine s source.old → LinkOutcome (at_point context.old world.old.bench) s
         (W.contents writer.old) (at_point context.new world.new.bench) source.new (W.contents writer.new) left) }
-    ensures fault { IfErr result (λ f. (s : SourceState) → GivesLine s source.old → MovesAndFalls (at_point context.old world.old.bench) s
+    ensures fault { IfErr result (λ f. (s : SourceState) → SourceLine s source.old → MovesAndFalls (at_point context.old world.old.bench) s
         (W.contents writer.old) (W.contents writer.new) f) }
 {
     first_line::<T, M, W>(
@@ -192,9 +192,9 @@ fn run_links<T: Tracer<M>, R: Read + Drop, M: Faulty, W: Write>(
     tracer: &mut T,
 ) -> Result<(), ScriptFault>
     requires { IsUnarmed device }
-    ensures ok { OnOk result ((s : SourceState) → GivesLine s source.old → Ends (at_point context.old (at_rest device)) s
+    ensures ok { OnOk result ((s : SourceState) → SourceLine s source.old → SourceExhausted (at_point context.old (at_rest device)) s
         (W.contents writer.old) (W.contents writer.new)) }
-    ensures fault { IfErr result (λ f. (s : SourceState) → GivesLine s source.old
+    ensures fault { IfErr result (λ f. (s : SourceState) → SourceLine s source.old
         → MovesAndFalls (at_point context.old (at_rest device)) s (W.contents writer.old) (W.contents writer.new) f) }
 {
     let mut device = device;
@@ -224,7 +224,7 @@ pub(crate) fn run_on<T: Tracer<M>, R: Read + Drop, M: Faulty, W: Write>(
     tracer: &mut T,
 ) -> Result<(), ScriptFault>
     requires { IsUnarmed device }
-    ensures ok { OnOk result ((s : SourceState) → Next s given source.old → Ends (at_point context.entry (at_rest device)) s
+    ensures ok { OnOk result ((s : SourceState) → Next s given source.old → SourceExhausted (at_point context.entry (at_rest device)) s
         (W.contents writer.old) (W.contents writer.new)) }
     ensures fault { IfErr result (λ f. (s : SourceState) → Next s given source.old
         → MovesAndFalls (at_point context.entry (at_rest device)) s

@@ -1,8 +1,8 @@
 //! Whole scripts.
 
 ghost use Rattle.std.specs.Prelude.{IfOk, IfErr, IfSome, None};
-ghost use Rattle.dfu_link.specs.Said.{given_bytes};
-ghost use Rattle.dfu_link.specs.Falls.{Ended};
+ghost use Rattle.dfu_link.specs.LineContent.{given_bytes};
+ghost use Rattle.dfu_link.specs.Falls.{ScriptEnding};
 ghost use Rattle.dfu_link.specs.Printed.{HasPrinted};
 ghost use Rattle.dfu_link.specs.inside.Moving.{LinesConfigured, CannotConfigure};
 ghost use Rattle.dfu_link.specs.inside.SetupView.{settings_of};
@@ -63,7 +63,7 @@ pub(super) fn run_lines<T: Tracer<SimMedium>, R: Read + Drop, W: Write>(
     stopped: &Stopped,
 ) -> Result<(), ScriptFault>
     ensures { IfSome (R.remaining reader)
-        (λ text. Ended (given_bytes given.entry) text (W.contents writer.old) (W.contents writer.new) result) }
+        (λ text. ScriptEnding (given_bytes given.entry) text (W.contents writer.old) (W.contents writer.new) result) }
 {
     let mut source = Source::new(alloc, reader)?;
     let mut setup = beginning(given);
@@ -107,7 +107,7 @@ pub fn script_with<R: Read + Drop, W: Write>(
 ) -> Result<(), ScriptFault>
     // With Ok what was written is a run of what was read; with a fault, which one comes when, and what is out then.
     ensures ended { IfSome (R.remaining reader)
-        (λ text. Ended (given_bytes given.entry) text (W.contents writer.old) (W.contents writer.new) result) }
+        (λ text. ScriptEnding (given_bytes given.entry) text (W.contents writer.old) (W.contents writer.new) result) }
     // The headline, of all that is printed or as far as the script goes: each image is the factory image or a payload offered so far. If
     // `report installed` or `report verified` is printed, the device is in appIDLE and exactly the payload of the last session is active.
     // Of the language only what a line brings is read.
@@ -140,7 +140,7 @@ pub fn script_traced_with<R: Read + Drop, W: Write, N: Write>(
     stopped: &Stopped,
 ) -> (Result<(), ScriptFault>, bool)
     ensures ended { IfSome (R.remaining reader)
-        (λ text. Ended (given_bytes given.entry) text (W.contents writer.old) (W.contents writer.new) result.0) }
+        (λ text. ScriptEnding (given_bytes given.entry) text (W.contents writer.old) (W.contents writer.new) result.0) }
     ensures printed { IfSome (R.remaining reader)
         (λ text. HasPrinted (given_bytes given.entry) text (W.contents writer.old) (W.contents writer.new) result.0) }
 {
@@ -170,7 +170,7 @@ pub fn script<R: Read + Drop, W: Write>(
 ) -> Result<(), ScriptFault>
     // With Ok what was written is a run of what was read; with a fault, which one comes when, and what is out then.
     ensures ended { IfSome (R.remaining reader)
-        (λ text. Ended None text (W.contents writer.old) (W.contents writer.new) result) }
+        (λ text. ScriptEnding None text (W.contents writer.old) (W.contents writer.new) result) }
     // The headline, of all that is printed or as far as the script goes: each image is the factory image or a payload offered so far. If
     // `report installed` or `report verified` is printed, the device is in appIDLE and exactly the payload of the last session is active.
     // Of the language only what a line brings is read.
@@ -192,7 +192,7 @@ pub fn script_traced<R: Read + Drop, W: Write, N: Write>(
     trace: &mut N,
 ) -> (Result<(), ScriptFault>, bool)
     ensures ended { IfSome (R.remaining reader)
-        (λ text. Ended None text (W.contents writer.old) (W.contents writer.new) result.0) }
+        (λ text. ScriptEnding None text (W.contents writer.old) (W.contents writer.new) result.0) }
     ensures printed { IfSome (R.remaining reader)
         (λ text. HasPrinted None text (W.contents writer.old) (W.contents writer.new) result.0) }
 {

@@ -2,7 +2,7 @@
 
 ghost use Rattle.std.specs.Prelude.{◌≡◌};
 ghost use Rattle.dfu_link.specs.inside.Expected.{expectation_of, Puts, PrintsNext};
-ghost use Rattle.dfu_link.specs.Texts.{offer_fault_name, uploaded_line, report_line, refusal_line, told_line};
+ghost use Rattle.dfu_link.specs.Texts.{offer_fault_name, uploaded_line, report_line, refusal_line, outcome_line};
 
 use crate::scripting::expectation::{Expectation, write_next};
 use crate::scripting::fault::ScriptFault;
@@ -66,7 +66,7 @@ pub(crate) fn say<W: Write>(
     answer: Result<Option<Report>, LinkFault>,
     uploaded: &[u8],
 ) -> Result<(), ScriptFault>
-    ensures { Puts (told_line answer uploaded.now) (W.contents writer.old) (W.contents writer.new) result }
+    ensures { Puts (outcome_line answer uploaded.now) (W.contents writer.old) (W.contents writer.new) result }
 {
     match answer {
         Ok(None) => Ok(()),
@@ -82,7 +82,7 @@ pub(crate) fn say_next<W: Write>(
     answer: Result<Option<Report>, LinkFault>,
     uploaded: &[u8],
 ) -> Result<(), ScriptFault>
-    ensures { PrintsNext (expectation_of next.old) (W.contents writer.old) (told_line answer uploaded.now) (expectation_of next.new)
+    ensures { PrintsNext (expectation_of next.old) (W.contents writer.old) (outcome_line answer uploaded.now) (expectation_of next.new)
         (W.contents writer.new) result }
 {
     let Some(expected) = next else {

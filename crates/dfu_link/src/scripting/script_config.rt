@@ -1,7 +1,7 @@
 //! Settings before the first event line or `show`.
 
 ghost use Rattle.std.specs.Prelude.{◌≡◌, OnOk, IfErr};
-ghost use Rattle.dfu_link.specs.Said.{config_line_of, given_bytes};
+ghost use Rattle.dfu_link.specs.LineContent.{config_line_of, given_bytes};
 ghost use Rattle.dfu_link.specs.ScriptRun.{set, beginning};
 ghost use Rattle.dfu_link.specs.inside.SetupView.{settings_of, check_bytes};
 

@@ -2,7 +2,7 @@
 
 ghost use Rattle.std.specs.Prelude.{◌+◌, ◌≤◌, ◌++◌, ◌∷◌, [], length, slice_range};
 ghost use Rattle.hex.specs.Hex.{encode_lower};
-ghost use Rattle.dfu_slots.specs.Seen.{image_of};
+ghost use Rattle.dfu_slots.specs.StoreView.{image_of};
 ghost use Rattle.dfu_link.specs.inside.Expected.{expectation_of, Puts, PrintsNext};
 ghost use Rattle.dfu_link.specs.Texts.{hex_text, image_line, state_text, show_line};
 

@@ -4,7 +4,7 @@ ghost use Rattle.std.specs.Prelude.{◌≡◌, ◌≤◌, ◌<◌, ◌+◌, ◌+
 ghost use Rattle.std.specs.Io.KnownBytes.{prepend_known};
 ghost use Rattle.std.specs.List.{position};
 ghost use Rattle.dfu_link.specs.Words.{is_newline};
-ghost use Rattle.dfu_link.specs.inside.Source.{Next, StopsSource, TakesPiece, source_state};
+ghost use Rattle.dfu_link.specs.inside.Source.{Next, StopsSource, PieceRead, source_state};
 
 use crate::scripting::fault::ScriptFault;
 use crate::scripting::reader::Pieces;
@@ -73,7 +73,7 @@ fn take_piece<R: Read + Drop>(pieces: &mut Pieces<R>, most: u32, line: &mut Vec<
     requires most { 0 < most }
     requires short { length line.old.items ≤ 65536 }
     requires capacity { 65537 ≤ vec_capacity line.old }
-    ensures takes { TakesPiece pieces.old.left line.old.items result.bytes result.ended pieces.new.left line.new.items }
+    ensures takes { PieceRead pieces.old.left line.old.items result.bytes result.ended pieces.new.left line.new.items }
     ensures most { result.bytes ≤ most }
     ensures capacity { vec_capacity line.old ≤ vec_capacity line.new }
 {

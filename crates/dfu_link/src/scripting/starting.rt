@@ -3,7 +3,7 @@
 ghost use Rattle.std.specs.Prelude.{◌≡◌, ◌≢◌, ◌<◌, ◌+◌, ◌*◌, ◌%◌, IfOk, IfErr, true, false};
 ghost use Rattle.dfu_slots.specs.Units.{gate_room, IsMultiple};
 ghost use Rattle.dfu_device.specs.Setting.{FirstFault, IsAllowed, of_this_version};
-ghost use Rattle.dfu_link.specs.Said.{hex_bytes};
+ghost use Rattle.dfu_link.specs.LineContent.{hex_bytes};
 ghost use Rattle.dfu_link.specs.ScriptRun.{DeviceStarts};
 ghost use Rattle.dfu_link.specs.Falls.{StartFalls};
 ghost use Rattle.dfu_link.specs.inside.Moving.{IsUnarmed};

@@ -4,8 +4,8 @@ ghost use Rattle.std.specs.Prelude.{◌≡◌, ◌≤◌, ◌+◌, ◌*◌, Some
 ghost use Rattle.std.specs.List.{position};
 ghost use Rattle.std.specs.Str.{bytes_eq};
 ghost use Rattle.dfu_link.specs.Words.{Reads, is_space, is_no_space, words_of, first_word, text_behind, number_of};
-ghost use Rattle.dfu_link.specs.Said.{said_of};
-ghost use Rattle.dfu_link.specs.Lines.{Tells, is_comment, ends};
+ghost use Rattle.dfu_link.specs.LineContent.{content_of_line};
+ghost use Rattle.dfu_link.specs.Lines.{ReadMatches, is_comment, ends};
 ghost use Rattle.dfu_link.specs.Fields.{small_of, count_of};
 ghost use Rattle.dfu_link.specs.Keywords.{keyword_of, later_keyword_of, fate_keyword_of};
 
@@ -73,7 +73,7 @@ pub(crate) fn ended<'l, 'g>(
     of: usize,
     rest: &[u8],
 ) -> Result<Line<'l, 'g>, LineFault>
-    ensures { Tells said_of result (ends (said_of said.entry) of (words_of rest.now)) }
+    ensures { ReadMatches content_of_line result (ends (content_of_line said.entry) of (words_of rest.now)) }
 {
     match word_at(rest) {
         None => Ok(said),

@@ -3,7 +3,7 @@ use Rattle.std.specs.Prelude.{◌≡◌, ◌≢◌, ℕ, ◌+◌, ◌<◌, List,
 use Rattle.dfu_conformance.specs.declared.event.LogEvent.{LogEvent}
 use Rattle.dfu_conformance.specs.declared.verdict.Departure.{Departure}
 use Rattle.dfu_conformance.specs.declared.log.Line.TheVariants.{Blank, Elsewhere, Came}
-use Rattle.dfu_conformance.specs.Line.{LineSays}
+use Rattle.dfu_conformance.specs.Line.{LineMeaning}
 use Rattle.dfu_conformance.specs.MayAnswer.{CanAnswer}
 use Rattle.dfu_conformance.specs.Verdict.{ArePlacesAfter}
 use Rattle.dfu_output.specs.judge.Texts.{departure_text, is_single}
@@ -42,9 +42,9 @@ pub data EventLeads (c : LogCourse) (e : LogEvent) : LogCourse → Type 0 where
 
 -- The end of a line leads to this: it says nothing, or something of another interface or class, or that an event came.
 pub data LineEndLeads (interface : ℕ) (c : LogCourse) : LogCourse → Type 0 where
-  says_nothing : LineSays interface c.line (Some Blank) → LineEndLeads interface c (course_line_ended c)
-  says_elsewhere : LineSays interface c.line (Some Elsewhere) → LineEndLeads interface c (course_line_ended c)
-  says_event : {d : LogCourse} (e : LogEvent) → LineSays interface c.line (Some (Came e)) → EventLeads (course_line_ended c) e d →
+  says_nothing : LineMeaning interface c.line (Some Blank) → LineEndLeads interface c (course_line_ended c)
+  says_elsewhere : LineMeaning interface c.line (Some Elsewhere) → LineEndLeads interface c (course_line_ended c)
+  says_event : {d : LogCourse} (e : LogEvent) → LineMeaning interface c.line (Some (Came e)) → EventLeads (course_line_ended c) e d →
       LineEndLeads interface c d
 
 -- A text is judged so far: each byte goes to its line, which has at most 262,158, and each 0Ah ends one.

@@ -18,17 +18,17 @@ use Rattle.dfu_output.specs.judge.Course.{LogCourse, Judges}
 use Rattle.dfu_output.specs.judge.Texts.{verdict_text}
 
 -- The next byte of a text isn't judged for this reason.
-abbrev pub CannotGo : (interface : ℕ) (front : List ℕ) → LogCourse → (rest : List ℕ) → LogFault → Type 0
-CannotGo interface front c rest (BadLine n why) = (n ≡ c.number + 1) × IsBadLine interface c.line rest why
-CannotGo interface front c rest TooLarge = length front ≡ 1099511627776
-CannotGo interface front c rest fault = ⊥
+abbrev pub CannotJudge : (interface : ℕ) (front : List ℕ) → LogCourse → (rest : List ℕ) → LogFault → Type 0
+CannotJudge interface front c rest (BadLine n why) = (n ≡ c.number + 1) × IsBadLine interface c.line rest why
+CannotJudge interface front c rest TooLarge = length front ≡ 1099511627776
+CannotJudge interface front c rest fault = ⊥
 
 -- The text is this when judging stopped: that of the text so far, or a prefix of it if the writer failed.
 abbrev pub StopsWith : (interface : ℕ) (front : List ℕ) → LogCourse → (rest : List ℕ) (old new : Option (List ℕ)) → LogFault → Type 0
 StopsWith interface front c rest old new NoMemory = Appends old new c.out
 StopsWith interface front c rest old new Read = Appends old new c.out
 StopsWith interface front c rest old new Write = IsOutInPart old new c.out
-StopsWith interface front c rest old new fault = Appends old new c.out × CannotGo interface front c rest fault
+StopsWith interface front c rest old new fault = Appends old new c.out × CannotJudge interface front c rest fault
 
 -- Judging a text stopped: it was judged so far, and here is why.
 pub record LogStops (interface : ℕ) (old new : Option (List ℕ)) (text : List ℕ) (fault : LogFault) : Type 0 where
@@ -89,7 +89,7 @@ WritesOfLog interface given old new result = (stop : Option LogFault) × WritesJ
 
 -- A departure wasn't written for this reason: there was no memory for its lines and none is out, or the writer failed and a prefix of them
 -- is.
-abbrev pub CannotTell : (text : List ℕ) (old new : Option (List ℕ)) → LogFault → Type 0
-CannotTell text old new NoMemory = new ≡ old
-CannotTell text old new Write = IsOutInPart old new text
-CannotTell text old new fault = ⊥
+abbrev pub CannotReport : (text : List ℕ) (old new : Option (List ℕ)) → LogFault → Type 0
+CannotReport text old new NoMemory = new ≡ old
+CannotReport text old new Write = IsOutInPart old new text
+CannotReport text old new fault = ⊥

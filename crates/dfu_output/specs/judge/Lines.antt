@@ -4,7 +4,7 @@ use Rattle.std.specs.List.{list_any}
 use Rattle.dfu_conformance.specs.declared.log.Line.{Line}
 use Rattle.dfu_conformance.specs.declared.log.LineFault.{LineFault}
 use Rattle.dfu_conformance.specs.declared.log.LineFault.TheVariants.{Long}
-use Rattle.dfu_conformance.specs.Line.{LineSays, why_unread}
+use Rattle.dfu_conformance.specs.Line.{LineMeaning, why_unread}
 use Rattle.dfu_output.specs.declared.judge.fault.LogFault.{LogFault}
 use Rattle.dfu_output.specs.declared.judge.fault.LogFault.TheVariants.{BadLine, TooLarge}
 
@@ -15,7 +15,7 @@ pub record LinesState : Type 0 where
   pub number : ℕ
 
 -- A byte goes to its line: it is no 0Ah, and there is room for it in the log and in the line, which has at most 262,158.
-pub record GoesToLine (s t : LinesState) (byte : ℕ) : Type 0 where
+pub record ByteInLine (s t : LinesState) (byte : ℕ) : Type 0 where
   pub room : t.room + 1 ≡ s.room
   pub inner : byte ≢ 10
   pub short : length s.line < 262158
@@ -27,7 +27,7 @@ abbrev pub is_end : ℕ → Bool
 is_end byte = byte == 10
 
 -- Bytes go to their line: none is a 0Ah, and there is room for them in the log and in the line.
-pub record GoToLine (s t : LinesState) (bytes : List ℕ) : Type 0 where
+pub record BytesInLine (s t : LinesState) (bytes : List ℕ) : Type 0 where
   pub room : t.room + length bytes ≡ s.room
   pub inner : list_any is_end bytes ≡ false
   pub short : length s.line + length bytes ≤ 262158
@@ -35,30 +35,30 @@ pub record GoToLine (s t : LinesState) (bytes : List ℕ) : Type 0 where
   pub number : t.number ≡ s.number
 
 -- A byte ends its line, which says this.
-pub record EndsLine (interface : ℕ) (s t : LinesState) (byte : ℕ) (says : Line) : Type 0 where
+pub record ByteEndsLine (interface : ℕ) (s t : LinesState) (byte : ℕ) (says : Line) : Type 0 where
   pub room : t.room + 1 ≡ s.room
   pub end : byte ≡ 10
-  pub said : LineSays interface s.line (Some says)
+  pub said : LineMeaning interface s.line (Some says)
   pub line : t.line ≡ []
   pub number : t.number ≡ s.number + 1
 
 -- A byte was taken: it went to its line, or ended it.
-abbrev pub TakesByte : (interface : ℕ) (s t : LinesState) (byte : ℕ) → Option Line → Type 0
-TakesByte interface s t byte None = GoesToLine s t byte
-TakesByte interface s t byte (Some says) = EndsLine interface s t byte says
+abbrev pub ByteAccepted : (interface : ℕ) (s t : LinesState) (byte : ℕ) → Option Line → Type 0
+ByteAccepted interface s t byte None = ByteInLine s t byte
+ByteAccepted interface s t byte (Some says) = ByteEndsLine interface s t byte says
 
 -- The next byte is a 0Ah.
-abbrev pub ends_line : List ℕ → Bool
-ends_line [] = false
-ends_line (byte ∷ bytes) = byte == 10
+abbrev pub is_line_end : List ℕ → Bool
+is_line_end [] = false
+is_line_end (byte ∷ bytes) = byte == 10
 
 -- A line is not a line of a log: it is ended and can't be read, or it has 262,158 bytes and goes on.
 abbrev pub IsBadLine : (interface : ℕ) (line rest : List ℕ) → LineFault → Type 0
-IsBadLine interface line rest Long = (length line ≡ 262158) × (ends_line rest ≡ false)
-IsBadLine interface line rest why = LineSays interface line None × (why ≡ why_unread line) × (ends_line rest ≡ true)
+IsBadLine interface line rest Long = (length line ≡ 262158) × (is_line_end rest ≡ false)
+IsBadLine interface line rest why = LineMeaning interface line None × (why ≡ why_unread line) × (is_line_end rest ≡ true)
 
 -- The first of these bytes isn't taken for this reason: there is no room for it in the log, or its line can't be one of a log.
-abbrev pub CannotTake : (interface : ℕ) → LinesState → (rest : List ℕ) → LogFault → Type 0
-CannotTake interface s rest (BadLine n why) = (n ≡ s.number + 1) × IsBadLine interface s.line rest why
-CannotTake interface s rest TooLarge = s.room ≡ 0
-CannotTake interface s rest fault = ⊥
+abbrev pub CannotRead : (interface : ℕ) → LinesState → (rest : List ℕ) → LogFault → Type 0
+CannotRead interface s rest (BadLine n why) = (n ≡ s.number + 1) × IsBadLine interface s.line rest why
+CannotRead interface s rest TooLarge = s.room ≡ 0
+CannotRead interface s rest fault = ⊥

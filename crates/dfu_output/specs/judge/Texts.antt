@@ -12,8 +12,8 @@ use Rattle.dfu_conformance.specs.declared.verdict.Departure.{Departure}
 use Rattle.dfu_conformance.specs.declared.verdict.Verdict.{Verdict}
 use Rattle.dfu_conformance.specs.declared.verdict.Verdict.TheVariants.{Kept, KeptBy, NotKept}
 use Rattle.dfu_conformance.specs.declared.standard.TheConstants.{STANDARD}
-use Rattle.dfu_conformance.specs.Fits.{place_number, asks}
-use Rattle.dfu_conformance.specs.Held.{reading_bit}
+use Rattle.dfu_conformance.specs.RowMatches.{place_number, asks}
+use Rattle.dfu_conformance.specs.Candidates.{reading_bit}
 use Rattle.dfu_output.specs.declared.judge.names.TheConstants.{STATES, READINGS}
 use Rattle.dfu_output.specs.judge.Names.{answer_name, asked_name, place_name, reading_name, source_name, when_name}
 

@@ -1,7 +1,7 @@
 //! Options that `--format` and `--fill` ask for.
 
 ghost use Rattle.std.specs.Prelude.{◌≡◌, ◌≤◌, codes, None, Some};
-ghost use Rattle.dfu_output.specs.Asked.{IsNoFormat, fill_in};
+ghost use Rattle.dfu_output.specs.FormatOptions.{IsNoFormat, fill_in};
 
 use dfu_formats::images::{Format, hex_digit};
 

@@ -3,8 +3,8 @@
 ghost use Rattle.std.specs.Prelude.{◌≡◌, ◌+◌, ◌<◌, ◌≤◌, ◌++◌, ◌∷◌, [], IfErr, IfOk, IfSome, List, None, OnOk, length, take, ℕ};
 ghost use Rattle.dfu_conformance.specs.Verdict.{IsVerdict, ArePlacesAfter};
 ghost use Rattle.dfu_output.specs.judge.Course.{LogCourse, Judges, at_first};
-ghost use Rattle.dfu_output.specs.judge.Judging.{CannotGo, readings_of};
-ghost use Rattle.dfu_output.specs.judge.inside.Going.{EventCame, IsAt, JudgedText};
+ghost use Rattle.dfu_output.specs.judge.Judging.{CannotJudge, readings_of};
+ghost use Rattle.dfu_output.specs.judge.inside.JudgeState.{LogEventResult, IsAt, JudgedText};
 
 use crate::judge::fault::LogFault;
 use crate::judge::lines::LogLines;
@@ -26,7 +26,7 @@ pub(crate) struct Judging {
 
 impl Model for Judging {
     ghost use Rattle.std.specs.Prelude.{◌≤◌, ◌+◌};
-    ghost use Rattle.dfu_output.specs.judge.inside.Going.{JudgingState};
+    ghost use Rattle.dfu_output.specs.judge.inside.JudgeState.{JudgingState};
 
     ghost Value = { JudgingState };
 
@@ -65,7 +65,7 @@ impl Judging {
     /// An event comes.
     fn come(&mut self, event: &LogEvent) -> Option<Departure>
         requires slack { self.old.events + self.old.lines.room < 1099511627776 }
-        ensures came { (text : List ℕ) (c : LogCourse) → IsAt self.old text c → EventCame text c event.now result self.new }
+        ensures came { (text : List ℕ) (c : LogCourse) → IsAt self.old text c → LogEventResult text c event.now result self.new }
         ensures lines { self.new.lines ≡ self.old.lines }
     {
         self.events += 1;
@@ -99,7 +99,7 @@ impl Judging {
         ensures ok { (text : List ℕ) (c : LogCourse) → IsAt self.old text c → Judges interface text c
             → IfOk result (λ o. JudgedText interface (text ++ byte ∷ []) c o self.new) }
         ensures err { (text : List ℕ) (c : LogCourse) → IsAt self.old text c
-            → IfErr result (λ f. (tail : List ℕ) → CannotGo interface text c (byte ∷ tail) f) }
+            → IfErr result (λ f. (tail : List ℕ) → CannotJudge interface text c (byte ∷ tail) f) }
         ensures room { OnOk result (self.new.lines.room + 1 ≡ self.old.lines.room) }
     {
         match self.lines.take(interface, byte) {

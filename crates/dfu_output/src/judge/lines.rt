@@ -2,7 +2,7 @@
 
 ghost use Rattle.std.specs.Prelude.{◌≡◌, ◌≢◌, false, ◌+◌, ◌<◌, ◌≤◌, ◌++◌, ◌∷◌, [], IfErr, IfOk, IfSome, List, OnErr, OnOk, length, take, vec_capacity, ℕ};
 ghost use Rattle.std.specs.List.{list_any};
-ghost use Rattle.dfu_output.specs.judge.Lines.{CannotTake, EndsLine, GoToLine, GoesToLine, TakesByte, is_end};
+ghost use Rattle.dfu_output.specs.judge.Lines.{CannotRead, ByteEndsLine, BytesInLine, ByteInLine, ByteAccepted, is_end};
 
 use crate::judge::fault::LogFault;
 use dfu_conformance::{Line, LineFault, read_line, why_unread};
@@ -107,8 +107,8 @@ impl LogLines {
     fn keep(&mut self, byte: u8) -> Result<(), LogFault>
         requires some { 0 < self.old.room }
         requires inner { byte ≢ 10 }
-        ensures ok { OnOk result (GoesToLine self.old self.new byte) }
-        ensures err { (interface : ℕ) → IfErr result (λ f. (tail : List ℕ) → CannotTake interface self.old (byte ∷ tail) f) }
+        ensures ok { OnOk result (ByteInLine self.old self.new byte) }
+        ensures err { (interface : ℕ) → IfErr result (λ f. (tail : List ℕ) → CannotRead interface self.old (byte ∷ tail) f) }
         ensures room { OnOk result (self.new.room + 1 ≡ self.old.room) }
         ensures stays { OnErr result (self.new ≡ self.old) }
     {
@@ -126,7 +126,7 @@ impl LogLines {
     /// The first of these bytes come, up to a 0Ah: as many as there is room for. It returns how many came.
     pub(crate) fn take_inner(&mut self, bytes: &[u8]) -> usize
         ensures within { result ≤ length bytes.now }
-        ensures goes { GoToLine self.old self.new (take result bytes.now) }
+        ensures goes { BytesInLine self.old self.new (take result bytes.now) }
         ensures room { self.new.room + result ≡ self.old.room }
     {
         let free = ((MAX_LINE - self.line.len()) as u64).min(self.room) as usize;
@@ -139,8 +139,8 @@ impl LogLines {
     /// A line is ended.
     fn end_line(&mut self, interface: u8) -> Result<Line, LogFault>
         requires some { 0 < self.old.room }
-        ensures ok { IfOk result (λ says. EndsLine interface self.old self.new 10 says) }
-        ensures err { IfErr result (λ f. (tail : List ℕ) → CannotTake interface self.old (10 ∷ tail) f) }
+        ensures ok { IfOk result (λ says. ByteEndsLine interface self.old self.new 10 says) }
+        ensures err { IfErr result (λ f. (tail : List ℕ) → CannotRead interface self.old (10 ∷ tail) f) }
         ensures room { OnOk result (self.new.room + 1 ≡ self.old.room) }
         ensures stays { OnErr result (self.new ≡ self.old) }
     {
@@ -162,8 +162,8 @@ impl LogLines {
     ///
     /// TooLarge if 1,099,511,627,776 bytes came before it; BadLine if it makes a line too long, or ends one that can't be read.
     pub fn take(&mut self, interface: u8, byte: u8) -> Result<Option<Line>, LogFault>
-        ensures ok { IfOk result (λ o. TakesByte interface self.old self.new byte o) }
-        ensures err { IfErr result (λ f. (tail : List ℕ) → CannotTake interface self.old (byte ∷ tail) f) }
+        ensures ok { IfOk result (λ o. ByteAccepted interface self.old self.new byte o) }
+        ensures err { IfErr result (λ f. (tail : List ℕ) → CannotRead interface self.old (byte ∷ tail) f) }
         ensures room { OnOk result (self.new.room + 1 ≡ self.old.room) }
         ensures stays { OnErr result (self.new ≡ self.old) }
     {

@@ -2,9 +2,9 @@
 
 ghost use Rattle.std.specs.Prelude.{◌≡◌, ◌+◌, ◌<◌, ◌≤◌, ◌++◌, ◌∷◌, [], IfErr, IfOk, IfSome, List, OnOk, Option, length, take, ℕ};
 ghost use Rattle.std.specs.Io.KnownBytes.{Appends};
-ghost use Rattle.dfu_output.specs.judge.Judging.{CannotTell, LogStops, WritesJudgment, WritesOfLog, WritesVerdict, exit_of};
+ghost use Rattle.dfu_output.specs.judge.Judging.{CannotReport, LogStops, WritesJudgment, WritesOfLog, WritesVerdict, exit_of};
 ghost use Rattle.dfu_output.specs.judge.Texts.{departure_text};
-ghost use Rattle.dfu_output.specs.judge.inside.Going.{Going};
+ghost use Rattle.dfu_output.specs.judge.inside.JudgeState.{Going};
 
 use crate::exit::{Exit, fault_text, write_out};
 use crate::judge::fault::{LogFault, stop_text};
@@ -23,7 +23,7 @@ fn tell<W: Write>(
     writer: &mut W,
 ) -> Result<(), LogFault>
     ensures ok { OnOk result (Appends (W.contents writer.old) (W.contents writer.new) (departure_text number departure.now)) }
-    ensures err { IfErr result (λ f. CannotTell (departure_text number departure.now) (W.contents writer.old) (W.contents writer.new) f) }
+    ensures err { IfErr result (λ f. CannotReport (departure_text number departure.now) (W.contents writer.old) (W.contents writer.new) f) }
 {
     match departure_text(alloc, number, departure) {
         Ok(text) => match write_whole(writer, text.as_bytes()) {

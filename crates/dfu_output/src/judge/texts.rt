@@ -2,7 +2,7 @@
 
 ghost use Rattle.std.specs.Prelude.{◌≡◌, ◌<◌, ◌≤◌, ◌++◌, ◌∷◌, IfOk, OnOk, [], codes, cond};
 ghost use Rattle.std.specs.String.{string_bytes};
-ghost use Rattle.dfu_conformance.specs.Held.{reading_bit};
+ghost use Rattle.dfu_conformance.specs.Candidates.{reading_bit};
 ghost use Rattle.dfu_output.specs.Fields.{with_fields};
 ghost use Rattle.dfu_output.specs.judge.Texts.{allowed_text, departs_text, departure_text, each, is_single, may_be_in, reading_text, readings_text, row_line, spaced_state, states_text, unchanged_text, verdict_text};
 

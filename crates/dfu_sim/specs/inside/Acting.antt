@@ -22,7 +22,7 @@ use Rattle.dfu_sim.specs.Happening.{Harm, harmed}
 use Rattle.dfu_sim.specs.LinkView.{Session, Nobody, Hosted}
 use Rattle.dfu_sim.specs.Opening.{goal_of_purpose}
 use Rattle.dfu_sim.specs.Play.{silent, Took, settled}
-use Rattle.dfu_sim.specs.Bytes.{HearsBack}
+use Rattle.dfu_sim.specs.Bytes.{HeardOfResponse}
 use Rattle.dfu_sim.specs.Refusing.{IsOffered}
 
 -- The delivery that the code goes by.
@@ -41,9 +41,9 @@ seen_over FailsWrite s = s
 seen_over LiesInWrite s = s
 
 -- A host took what it heard of what came back. It finds no memory only if its phase wants some.
-pub record HasHeardBack (h : HostState) (b : Response) (out : List ℕ) (h' : HostState) : Type 0 where
+pub record HostHeardResult (h : HostState) (b : Response) (out : List ℕ) (h' : HostState) : Type 0 where
   pub heard : Heard
-  pub hears : HearsBack (deed h.task h.phase) b out heard
+  pub hears : HeardOfResponse (deed h.task h.phase) b out heard
   pub room : heard ≡ NoRoom → IsTrue (wants_memory h.phase)
   pub same : h' ≡ after h heard
 
@@ -59,12 +59,12 @@ ended Nobody = record { session = Nobody; answer = silent }
 ended (Hosted h) = settled h h.phase
 
 -- Answer of an abort: it is refused if no session is live.
-abbrev pub abort_told : Session → Result (Option Report) LinkFault
-abort_told Nobody = Err NoHost
-abort_told (Hosted h) = Ok None
+abbrev pub abort_answer : Session → Result (Option Report) LinkFault
+abort_answer Nobody = Err NoHost
+abort_answer (Hosted h) = Ok None
 
 -- A session begins with a file that is offered for this.
-pub record HasBegun (s : Setting) (purpose : Purpose) (file : List ℕ) (limits : Limits) (h : HostState) : Type 0 where
+pub record SessionOpened (s : Setting) (purpose : Purpose) (file : List ℕ) (limits : Limits) (h : HostState) : Type 0 where
   pub content : Content
   pub offered : IsOffered s purpose file content.payload
   pub host : h ≡ started s.functional (goal_of_purpose purpose content.payload) limits

@@ -12,5 +12,5 @@ abbrev pub taps : List ℕ
 taps = 720 ∷ 848 ∷ 1184 ∷ 1280 ∷ 1920 ∷ []
 
 -- A residue represents the register from 0 over all of it, combined with those over what lies before each tap.
-unfoldable pub stands_for : List ℕ → ℕ
-stands_for residue = combined (λ n. after_bits 0 (bits_of (take n residue))) (after_bits 0 (bits_of residue)) taps
+unfoldable pub register_of_residue : List ℕ → ℕ
+register_of_residue residue = combined (λ n. after_bits 0 (bits_of (take n residue))) (after_bits 0 (bits_of residue)) taps

@@ -8,8 +8,8 @@ use Rattle.dfu_suffix.specs.declared.fault.SuffixFault.{SuffixFault}
 use Rattle.dfu_suffix.specs.declared.fault.SuffixFault.TheVariants.{TooShort, NoSignature, BadLength, DfuSe, BadCrc}
 
 -- The last 16 of so many bytes say this summary.
-abbrev pub told_by : List ℕ → ℕ → Summary
-told_by tail count = record {
+abbrev pub summary_of_tail : List ℕ → ℕ → Summary
+summary_of_tail tail count = record {
   payload = count - slice_index tail 11;
   suffix = slice_index tail 11;
   ids = tail_ids tail;
@@ -24,7 +24,7 @@ tail_summary tail count =
     else if not (is_signed tail) then Err NoSignature
     else if nat_lt (slice_index tail 11) 16 || nat_lt count (slice_index tail 11) then Err BadLength
     else if little_number 2 (drop 6 tail) == 0x011A then Err DfuSe
-    else Ok (told_by tail count)
+    else Ok (summary_of_tail tail count)
 
 -- The answer stays, unless it is not a fault and the register isn't intact: then the fault is BadCrc.
 abbrev pub sealed : {T : Type 0} → Bool → Result T SuffixFault → Result T SuffixFault

@@ -1,11 +1,11 @@
 use Rattle.std.proofs.Common.{◌≡◌, nat_lt, ℕ, List, [], length, sym, ap, ◌∙◌, subst, arith}
-use Rattle.dfu_slots.specs.Seen.{spare_of}
+use Rattle.dfu_slots.specs.StoreView.{spare_of}
 use Rattle.dfu_wire.specs.declared.functionals.Functional.{Functional}
 use Rattle.dfu_device.specs.declared.answer.Answer.TheVariants.{Stall}
 use Rattle.dfu_device.specs.declared.device_state.DeviceState.{DeviceState}
 use Rattle.dfu_device.specs.Parts.{stage_of}
 use Rattle.dfu_device.specs.Rows.{Handles, body_length}
-use Rattle.dfu_asks.specs.Lent.{LentAsking}
+use Rattle.dfu_asks.specs.Lent.{LentDevice}
 use Rattle.dfu_asks.specs.Mapped.{Unseen}
 use Rattle.dfu_asks.specs.Asks.{store_in, unseen_in, device_with, IsDevice}
 use Rattle.dfu_asks.specs.Verdict.{IsBodyOf}
@@ -14,7 +14,7 @@ use Rattle.dfu_asks.proofs.Refuses.{enters}
 use Rattle.dfu_asks.proofs.long.mode_after_long.Goals as goal
 
 -- The row leads from a device to the one in this mode.
-abbrev Leads : List ℕ → LentAsking → List ℕ → DeviceState → Type 0
+abbrev Leads : List ℕ → LentDevice → List ℕ → DeviceState → Type 0
 Leads setup a flash after = IsDevice (record a { mode = after }) flash × ((body : List ℕ) → IsBodyOf setup body → (u : Unseen)
     → Handles setup body (device_with u a flash) Stall [] (device_with u (record a { mode = after }) flash))
 

@@ -2,7 +2,7 @@ use Rattle.std.proofs.Common.{◌≡◌, ◌+◌, ◌≤◌, List, [], ◌∷◌
 use Rattle.dfu_asks.specs.declared.pending_writes.WriteInputs.{WriteInputs}
 use Rattle.dfu_asks.specs.Steps.{Step, step_writes, put_steps, close_step}
 use Rattle.dfu_asks.specs.Carried.{total, IsPiece}
-use Rattle.dfu_asks.specs.Jobs.{grain_for, held_place}
+use Rattle.dfu_asks.specs.Jobs.{grain_for, tail_place}
 use Rattle.dfu_asks.specs.Cuts.{step_of}
 use Rattle.dfu_asks.proofs.Pieces.{piece_behind}
 use Rattle.dfu_asks.proofs.JobPieces.{steps_total}
@@ -24,7 +24,7 @@ returns-clause-found c = λ yes.
     let mid = c.shut_piece.new.cut in
     let p = step_of c.sequence_piece.new.cut in
     let put =
-    λ (s : WriteInputs). put_steps (grain_for s) (held_place (grain_for s) c.args.spare s.put_end s.held.now) s.held.now s.block.now in
+    λ (s : WriteInputs). put_steps (grain_for s) (tail_place (grain_for s) c.args.spare s.put_end s.held.now) s.held.now s.block.now in
     let shut = if c.args.close then close_step (grain_for before.stock) c.args.spare ∷ [] else [] in
     piece_behind shut (put before.stock) before.rest mid.rest p (c.shut_piece.ensures.behind (ap not c.if-shut_piece.false))
     (subst (λ (s : WriteInputs). IsPiece (put s) mid.rest p) c.shut_piece.ensures.same
@@ -37,7 +37,7 @@ returns-clause-none c = λ no.
     let mid = c.shut_piece.new.cut in
     let now = c.sequence_piece.new.cut in
     let put =
-    λ (s : WriteInputs). put_steps (grain_for s) (held_place (grain_for s) c.args.spare s.put_end s.held.now) s.held.now s.block.now in
+    λ (s : WriteInputs). put_steps (grain_for s) (tail_place (grain_for s) c.args.spare s.put_end s.held.now) s.held.now s.block.now in
     let shut = if c.args.close then close_step (grain_for before.stock) c.args.spare ∷ [] else [] in
     let count : total (step_writes (put before.stock)) + now.rest ≡ mid.rest =
     subst (λ (s : WriteInputs). total (step_writes (put s)) + now.rest ≡ mid.rest) c.shut_piece.ensures.same

@@ -1,7 +1,7 @@
 use Rattle.std.specs.Prelude.{◌≡◌, ℕ, ◌<◌, ◌||◌, take}
 use Rattle.std.specs.List.{list_any}
 use Rattle.dfu_conformance.specs.declared.row.StandardState.{StandardState}
-use Rattle.dfu_conformance.specs.Held.{stands}
+use Rattle.dfu_conformance.specs.Candidates.{stands}
 use Rattle.dfu_conformance.specs.inside.Stepped.{drifts}
 use Rattle.dfu_conformance.proofs.held.drift.Given as goal
 

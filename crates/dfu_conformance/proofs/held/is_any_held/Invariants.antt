@@ -1,6 +1,6 @@
 use Rattle.std.specs.Prelude.{◌≡◌, ℕ, [], slice_index_or}
-use Rattle.dfu_conformance.specs.inside.Stepped.{some_below, some_held}
+use Rattle.dfu_conformance.specs.inside.Stepped.{some_below, has_candidate}
 use Rattle.dfu_conformance.proofs.held.is_any_held.Given as goal
 
 abbrev pub invariant-loop-n : goal.invariant-loop-n
-invariant-loop-n l = l.is_some ≡ some_below (λ (n : ℕ). some_held (slice_index_or l.places n []) l.readings) l.n
+invariant-loop-n l = l.is_some ≡ some_below (λ (n : ℕ). has_candidate (slice_index_or l.places n []) l.readings) l.n

@@ -1,6 +1,6 @@
 use Rattle.std.specs.Prelude.{◌≢◌, ℕ}
 use Rattle.std.proofs.Common.{arith, ◌∙◌, get_or-set_other, length-set}
-use Rattle.dfu_conformance.specs.Held.{meets}
+use Rattle.dfu_conformance.specs.Candidates.{meets}
 use Rattle.dfu_conformance.proofs.Joined.{joined}
 use Rattle.dfu_conformance.proofs.held.join.Goals as goal
 

@@ -1,5 +1,5 @@
 use Rattle.std.specs.Prelude.{◌≡◌, ℕ, ◌<◌, ◌≤◌, ◌||◌, ◌&&◌, length, slice_index}
-use Rattle.dfu_conformance.specs.Held.{meets, word_has_bit}
+use Rattle.dfu_conformance.specs.Candidates.{meets, word_has_bit}
 use Rattle.dfu_conformance.proofs.held.join.Given as goal
 
 abbrev pub invariant-loop-a : goal.invariant-loop-a

@@ -1,7 +1,7 @@
 use Rattle.std.specs.Prelude.{◌≡◌, ◌||◌, ℕ, Bool}
 use Rattle.std.proofs.Common.{ap, sym, ◌∙◌, arith, add-one}
-use Rattle.dfu_conformance.specs.Held.{word_has_bit}
-use Rattle.dfu_conformance.specs.inside.Stepped.{some_below, some_held}
+use Rattle.dfu_conformance.specs.Candidates.{word_has_bit}
+use Rattle.dfu_conformance.specs.inside.Stepped.{some_below, has_candidate}
 use Rattle.dfu_conformance.proofs.Joined.{word_or}
 use Rattle.dfu_conformance.proofs.Words.{none}
 use Rattle.dfu_conformance.proofs.held.readings_of.Goals as goal
@@ -16,6 +16,6 @@ loop-a-preserved c r below =
     ∙ ap (λ (k : ℕ). some_below has k) (sym (add-one c.loop-a.a))
 
 pub returns : goal.returns
-unfolding some_held
+unfolding has_candidate
 returns c r below = let e : c.loop-a.a ≡ 16 = omega arith in
     c.loop-a.invariant r below ∙ ap (λ (n : ℕ). some_below (λ (a : ℕ). word_has_bit c.args.devices.now a r) n) e

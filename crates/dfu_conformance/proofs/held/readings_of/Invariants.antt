@@ -1,6 +1,6 @@
 use Rattle.std.specs.Prelude.{◌≡◌, ◌<◌, ◌==◌, ℕ}
 use Rattle.std.specs.Int.{bit_at}
-use Rattle.dfu_conformance.specs.Held.{word_has_bit}
+use Rattle.dfu_conformance.specs.Candidates.{word_has_bit}
 use Rattle.dfu_conformance.specs.inside.Stepped.{some_below}
 use Rattle.dfu_conformance.proofs.held.readings_of.Given as goal
 

@@ -5,7 +5,7 @@ use Rattle.dfu_conformance.specs.declared.row.StandardState.{StandardState}
 use Rattle.dfu_conformance.specs.declared.standard.TheConstants.{STANDARD}
 use Rattle.dfu_conformance.specs.declared.marks.TheConstants.{MARKS}
 use Rattle.dfu_conformance.specs.declared.habits.TheConstants.{HABITS}
-use Rattle.dfu_conformance.specs.Held.{stands}
+use Rattle.dfu_conformance.specs.Candidates.{stands}
 use Rattle.dfu_conformance.specs.inside.Stepped.{leads, answered, drifted}
 use Rattle.dfu_conformance.proofs.held.step.Goals as goal
 

@@ -1,5 +1,5 @@
 use Rattle.std.specs.Prelude.{◌≡◌, ◌<◌, ℕ, [], false, length, slice_index_or}
-use Rattle.dfu_conformance.specs.Held.{word_has_bit}
+use Rattle.dfu_conformance.specs.Candidates.{word_has_bit}
 use Rattle.dfu_conformance.proofs.held.taken.Given as goal
 
 abbrev pub invariant-loop-n : goal.invariant-loop-n

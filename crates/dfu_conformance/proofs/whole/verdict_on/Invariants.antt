@@ -1,6 +1,6 @@
 use Rattle.std.specs.Prelude.{take}
-use Rattle.dfu_conformance.specs.MayAnswer.{IsHeld}
+use Rattle.dfu_conformance.specs.MayAnswer.{CandidatesExact}
 use Rattle.dfu_conformance.proofs.whole.verdict_on.Given as goal
 
 abbrev pub invariant-loop-event : goal.invariant-loop-event
-invariant-loop-event l = IsHeld l.judge.whole (take l.event-index l.events)
+invariant-loop-event l = CandidatesExact l.judge.whole (take l.event-index l.events)

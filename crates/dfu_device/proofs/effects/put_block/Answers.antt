@@ -1,5 +1,5 @@
 use Rattle.std.proofs.Common.{◌≡◌, true, ℕ, ◌+◌, ◌≤◌, ◌++◌, length, take, OnOk, refl, sym, subst, arith}
-use Rattle.dfu_slots.specs.Seen.{spare_of, room_of}
+use Rattle.dfu_slots.specs.StoreView.{spare_of, room_of}
 use Rattle.dfu_slots.specs.Changes.{fault_of, ending_of}
 use Rattle.dfu_device.specs.Parts.{is_put}
 use Rattle.dfu_device.proofs.Calls.{block_begun, block_not_begun, block_further, begun_before, fits_spare, put_on, rose_since}

@@ -6,14 +6,14 @@ use Rattle.dfu_slots.specs.Medium.{MediumState}
 use Rattle.dfu_asks.specs.Blank.{IsUnwritten}
 use Rattle.dfu_asks.specs.Mapped.{mapped}
 use Rattle.dfu_core.specs.declared.config.DfuConfig.{DfuConfig}
-use Rattle.dfu_core.specs.Blank.{ToldBlank, told_blank, told_written}
+use Rattle.dfu_core.specs.Blank.{BlankResult, told_blank, told_written}
 use Rattle.dfu_core.specs.Config.{config_grain}
 use Rattle.dfu_core.specs.Numbers.{told_number}
 use Rattle.dfu_device_c.proofs.blank.dfu_core_is_blank.Goals as goal
 
 -- The number of what is said of the medium of this flash.
 told : (c : DfuConfig) (flash : List ℕ) (m : MediumState) (said : Bool) (n : ℤ) → m ≡ mapped (config_grain c) flash → n ≡ told_number said
-    → (IsTrue said ↔ IsUnwritten m.grain m.bytes) → (IsTrue said → ¬ HasImage m) → ToldBlank c flash n
+    → (IsTrue said ↔ IsUnwritten m.grain m.bytes) → (IsTrue said → ¬ HasImage m) → BlankResult c flash n
 told c flash m true n medium is blank none = told_blank is
     (subst (λ (x : MediumState). IsUnwritten x.grain x.bytes) medium (blank.0 refl))
     (subst (λ (x : MediumState). ¬ HasImage x) medium (none refl))

@@ -6,9 +6,9 @@ use Rattle.dfu_device.specs.Rows.{Elapses}
 use Rattle.dfu_asks.specs.declared.reply.Reply.{Reply}
 use Rattle.dfu_asks.specs.Calls.{DeviceCalled}
 use Rattle.dfu_core.specs.declared.record.DfuRecord.{DfuRecord}
-use Rattle.dfu_core.specs.Kept.{IsSetUp, IsKept, with_memory}
+use Rattle.dfu_core.specs.RecordMeaning.{IsSetUp, IsRecordOf, with_memory}
 use Rattle.dfu_core.specs.Numbers.{passed_number}
-use Rattle.dfu_core.specs.Calls.{Goes, TimePassed, IsIntact}
+use Rattle.dfu_core.specs.Calls.{RecordCall, TimePassed, IsIntact}
 use Rattle.dfu_device_c.proofs.Split.{whole, in_memory, IsParted, is_parted, has_room, split_in, split_after, fits_front, unchanged, goes, refuses}
 use Rattle.dfu_device_c.proofs.calls.dfu_core_elapse.Goals.{After-elapse}
 use Rattle.dfu_device_c.proofs.calls.dfu_core_elapse.Goals as goal
@@ -33,7 +33,7 @@ passed : (c : After-elapse) (reply : Reply) (r' : DfuRecord) {n : ℤ} → c.ela
     let flash = c.args.flash.now in
     let a' = c.elapse.new.self in
     let memory = c.elapse.new.block ++ c.elapse.new.held in
-    (IsSetUp k a'.config a'.unit a'.sector → IsKept k r' a') → Goes k c.args.device.now block r' memory
+    (IsSetUp k a'.config a'.unit a'.sector → IsRecordOf k r' a') → RecordCall k c.args.device.now block r' memory
     (λ x y. TimePassed (IsIntact block flash x) (with_memory block x) flash
     (λ d z sent d'. (z ≡ answer.Ack) × (sent ≡ []) × Elapses c.args.ms d d') n (with_memory memory y))
 passed c reply r' is number_is kept =

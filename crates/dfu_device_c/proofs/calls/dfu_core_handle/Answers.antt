@@ -7,9 +7,9 @@ use Rattle.dfu_asks.specs.declared.reply.Reply.{Reply}
 use Rattle.dfu_asks.specs.Calls.{DeviceCalled}
 use Rattle.dfu_core.specs.declared.record.DfuRecord.{DfuRecord}
 use Rattle.dfu_asks.specs.Addressed.{addressed}
-use Rattle.dfu_core.specs.Kept.{IsSetUp, IsKept, with_memory}
+use Rattle.dfu_core.specs.RecordMeaning.{IsSetUp, IsRecordOf, with_memory}
 use Rattle.dfu_core.specs.Numbers.{reply_number}
-use Rattle.dfu_core.specs.Calls.{Goes, Replied, IsIntact}
+use Rattle.dfu_core.specs.Calls.{RecordCall, Replied, IsIntact}
 use Rattle.dfu_device_c.proofs.Split.{whole, in_memory, IsParted, is_parted, has_room, split_in, split_after, fits_front, unchanged, goes, refuses}
 use Rattle.dfu_device_c.proofs.calls.dfu_core_handle.Goals.{After-handle}
 use Rattle.dfu_device_c.proofs.calls.dfu_core_handle.Goals as goal
@@ -34,7 +34,7 @@ replied : (c : After-handle) (reply : Reply) (r' : DfuRecord) {n : ℤ} → c.ha
     let flash = c.args.flash.now in
     let a' = c.handle.new.self in
     let memory = c.handle.new.block ++ c.handle.new.held in
-    (IsSetUp k a'.config a'.unit a'.sector → IsKept k r' a') → Goes k c.args.device.now block r' memory
+    (IsSetUp k a'.config a'.unit a'.sector → IsRecordOf k r' a') → RecordCall k c.args.device.now block r' memory
     (λ x y. Replied (IsIntact block flash x) (with_memory block x) flash c.args.out.now
     (λ d z sent d'. Handles (addressed k.interface c.args.setup.now) c.args.body.now d z sent d')
     reply_number n (with_memory memory y) c.handle.new.out)

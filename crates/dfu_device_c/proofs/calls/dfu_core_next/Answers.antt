@@ -4,8 +4,8 @@ use Rattle.std.proofs.lemmas.Result.{IfOk-at_ok, IfErr-at_err}
 use Rattle.dfu_asks.specs.Steps.{Step}
 use Rattle.dfu_asks.specs.Carried.{IsPiece, ErasesWhole}
 use Rattle.dfu_asks.specs.Asks.{steps_in}
-use Rattle.dfu_asks.specs.Lent.{LentAsking, lent}
-use Rattle.dfu_core.specs.Writes.{IsAsking, refuses_unfound, refuses_piece}
+use Rattle.dfu_asks.specs.Lent.{LentDevice, lent}
+use Rattle.dfu_core.specs.Writes.{HasRowPending, refuses_unfound, refuses_piece}
 use Rattle.dfu_device_c.proofs.Handed.{is_kind, programs, by_number, same_step, written}
 use Rattle.dfu_device_c.proofs.Split.{joined, lent_is, IsParted, is_parted, split_in}
 use Rattle.dfu_device_c.proofs.calls.dfu_core_next.Goals.{After-split_at}
@@ -38,7 +38,7 @@ returns-in_default-clause-outcome c =
       refuses_piece c.in-Ok.asking (to_z-of_z w32 _ (omega (arith, c.number-in_default.type_inv)) ∙ c.number-in_default.ensures)
           p.config p.room p.kept
           (inl (λ at.
-          let there = subst (λ (l : LentAsking). IsAsking l c.args.flash.now) (lent_is (split_in p)) at in
+          let there = subst (λ (l : LentDevice). HasRowPending l c.args.flash.now) (lent_is (split_in p)) at in
           c.in_default.ensures.goes there.0 there.1 there.2 there.3)),
       λ i. record c.args.ask.now { bytes = c.in_default.ensures.unchanged i },
     )
@@ -75,7 +75,7 @@ returns-clause-outcome c =
       work = due.0;
       work_is = due.1.work_is;
       kind = is_kind piece.erases c.kind_of-ask.result c.kind_of-ask.ensures;
-      piece = subst (λ (x : LentAsking). IsPiece (steps_in x due.0) due.0.done
+      piece = subst (λ (x : LentDevice). IsPiece (steps_in x due.0) due.0.done
           (by_number c.kind_of-ask.result piece.at piece.len c.next.new.out))
           (sym (lent_is (split_in p)))
           (subst (λ (s : Step). IsPiece (steps_in l due.0) due.0.done s) (sym same) (says.piece due.0 due.1.work_is));

@@ -2,21 +2,21 @@ use Rattle.std.proofs.Common.{◌≡◌, ◌==◌, ◌++◌, not, ℕ, ℤ, List
 use Rattle.std.proofs.lemmas.Int.{to_z-of_z}
 use Rattle.std.proofs.lemmas.Result.{IfOk-at_ok, IfErr-at_err}
 use Rattle.dfu_slots.specs.Medium.{Torn}
-use Rattle.dfu_slots.specs.Seen.{SlotsState}
+use Rattle.dfu_slots.specs.StoreView.{SlotsState}
 use Rattle.dfu_device.specs.Setting.{Setting}
 use Rattle.dfu_asks.specs.declared.reply.Reply.{Reply}
 use Rattle.dfu_asks.specs.Steps.{Step}
 use Rattle.dfu_asks.specs.Carried.{IsPiece}
-use Rattle.dfu_asks.specs.Lent.{LentAsking}
+use Rattle.dfu_asks.specs.Lent.{LentDevice}
 use Rattle.dfu_asks.specs.Asks.{device_of, steps_in}
-use Rattle.dfu_asks.specs.Calls.{AsksWrites, DeviceTook}
-use Rattle.dfu_asks.specs.Refused.{IsLeft}
+use Rattle.dfu_asks.specs.Calls.{WritesPending, DevicePieceReported}
+use Rattle.dfu_asks.specs.Refused.{HasRemainingWrites}
 use Rattle.dfu_core.specs.declared.record.DfuRecord.{DfuRecord}
-use Rattle.dfu_core.specs.Kept.{IsSetUp, IsKept, with_memory}
+use Rattle.dfu_core.specs.RecordMeaning.{IsSetUp, IsRecordOf, with_memory}
 use Rattle.dfu_core.specs.Numbers.{reply_number}
-use Rattle.dfu_core.specs.Calls.{Goes, Went}
-use Rattle.dfu_core.specs.Further.{AsksFurther}
-use Rattle.dfu_core.specs.Writes.{AsksOnSomeFlash, refuses_unfound, refuses_piece}
+use Rattle.dfu_core.specs.Calls.{RecordCall, RecordReport}
+use Rattle.dfu_core.specs.Further.{PiecesAdvance}
+use Rattle.dfu_core.specs.Writes.{IsPendingSomewhere, refuses_unfound, refuses_piece}
 use Rattle.dfu_device_c.proofs.Found.{not_taken}
 use Rattle.dfu_device_c.proofs.Split.{lent_is, in_memory, IsParted, is_parted, has_room, split_in, split_after, unchanged, same_front, goes}
 use Rattle.dfu_device_c.proofs.calls.dfu_core_took.Goals.{After-took}
@@ -56,8 +56,8 @@ went : (c : After-took) (reply : Reply) (r' : DfuRecord) {n : ℤ} → c.took.re
     let k = c.args.config.now in
     let a' = c.took.new.self in
     let memory = c.split_at_mut-front.result.0.now ++ c.took.new.held in
-    (IsSetUp k a'.config a'.unit a'.sector → IsKept k r' a') → Goes k c.args.device.now c.args.block.now r' memory
-    (λ x y. Went (with_memory c.args.block.now x) c.args.flash.now (not (c.args.failed == 0)) c.args.out.now n
+    (IsSetUp k a'.config a'.unit a'.sector → IsRecordOf k r' a') → RecordCall k c.args.device.now c.args.block.now r' memory
+    (λ x y. RecordReport (with_memory c.args.block.now x) c.args.flash.now (not (c.args.failed == 0)) c.args.out.now n
     (with_memory memory y) c.took.new.out)
 went c reply r' is number_is kept =
     let p = parted c in
@@ -71,15 +71,15 @@ went c reply r' is number_is kept =
     })
     (record {
       work = taken.work;
-      left = subst (λ (l : LentAsking). IsLeft l taken.work) (sym (lent_is (split_in p))) taken.is_left;
+      left = subst (λ (l : LentDevice). HasRemainingWrites l taken.work) (sym (lent_is (split_in p))) taken.is_left;
       reply = reply;
       number_is = number_is;
-      took = in_memory (λ l l'. (len : ℕ) (s : SlotsState) (was mid : List ℕ) (asks : AsksWrites l len s was mid) (piece : Step)
+      took = in_memory (λ l l'. (len : ℕ) (s : SlotsState) (was mid : List ℕ) (asks : WritesPending l len s was mid) (piece : Step)
           → IsPiece (steps_in l asks.work) asks.work.done piece → Torn mid piece.write.at piece.write.bytes c.args.flash.now
-          → DeviceTook (device_of l s) len s was piece.write
+          → DevicePieceReported (device_of l s) len s was piece.write
           (not (c.args.failed == 0)) c.args.flash.now c.args.out.now l' c.took.new.out reply)
           (split_in p) after (IfOk-at_ok _ is done.outcome);
-      further = in_memory (λ l l'. AsksFurther l reply l') (split_in p) after (IfOk-at_ok _ is done.further);
+      further = in_memory (λ l l'. PiecesAdvance l reply l') (split_in p) after (IfOk-at_ok _ is done.further);
     })
 
 pub returns-in-Ok-Asks : goal.returns-in-Ok-Asks
@@ -118,7 +118,7 @@ returns-in-Err-took c =
         inr (inl (
           refuses_piece c.in-Ok.asking (to_z-of_z w32 _ (omega (arith, c.number-in-Err-took.type_inv)) ∙ c.number-in-Err-took.ensures)
               p.config p.room p.kept
-              (subst (λ (l : LentAsking). ¬ AsksOnSomeFlash l) (sym (lent_is (split_in p)))
+              (subst (λ (l : LentDevice). ¬ IsPendingSomewhere l) (sym (lent_is (split_in p)))
               (not_taken c.in-Err-took.field-0 _ _ (omega (arith, c.if-out-lt6.false)) done.refused)),
           refl,
           unchanged p _ _ refl done.unchanged.1,

@@ -1,6 +1,6 @@
 use Rattle.std.proofs.Common.{◌≡◌, ◌⊎◌, ℕ, ℤ, pos, List, inl, inr, refl, subst, sym, ◌∙◌, w32, arith}
 use Rattle.std.proofs.lemmas.Int.{to_z-of_z}
-use Rattle.dfu_core.specs.Closes.{ToldClose}
+use Rattle.dfu_core.specs.Closes.{CloseResult}
 use Rattle.dfu_asks.specs.Addressed.{addressed}
 use Rattle.dfu_core.specs.Idle.{IsIdleRecord, RefusesSetup}
 use Rattle.dfu_core.specs.Numbers.{told_number}
@@ -14,15 +14,15 @@ returns c =
     let said = c.mode_closes.result in
     let own = addressed k.interface c.args.setup.now in
     let number = to_z-of_z w32 c.told_number.result (omega (arith, c.told_number.type_inv)) ∙ c.told_number.ensures in
-    let told : ToldClose k r own (told_number said) =
-    subst (λ (x : List ℕ). ToldClose k r x (told_number said)) c.addressed-own.ensures (λ block flash a kept device. (
+    let told : CloseResult k r own (told_number said) =
+    subst (λ (x : List ℕ). CloseResult k r x (told_number said)) c.addressed-own.ensures (λ block flash a kept device. (
       said,
       refl,
       c.mode_closes.ensures _ flash
           (kept_in k r c.in-Ok.found.1 c.in-Ok.ensures.set_up c.in-Ok.ensures.only block flash a kept device),
     )) in
     record {
-      outcome = inl (subst (λ (n : ℤ). ((n ≡ pos 0) ⊎ (n ≡ pos 1)) × IsIdleRecord k r × ToldClose k r own n) (sym number)
+      outcome = inl (subst (λ (n : ℤ). ((n ≡ pos 0) ⊎ (n ≡ pos 1)) × IsIdleRecord k r × CloseResult k r own n) (sym number)
           (two said _ refl, c.in-Ok.ensures.idle, told));
     }
 

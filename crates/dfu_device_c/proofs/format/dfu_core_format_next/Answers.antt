@@ -1,7 +1,7 @@
 use Rattle.std.proofs.Common.{ℕ, length, refl, sym, subst, inl, inr}
 use Rattle.dfu_asks.specs.Steps.{Step}
 use Rattle.dfu_asks.specs.Carried.{IsPiece, ErasesWhole}
-use Rattle.dfu_asks.specs.Phases.{steps_left}
+use Rattle.dfu_asks.specs.Phases.{remaining_steps}
 use Rattle.dfu_core.specs.Formatting.{IsFormatting}
 use Rattle.dfu_device_c.proofs.Handed.{is_kind, programs, by_number, same_step}
 use Rattle.dfu_device_c.proofs.format.dfu_core_format_next.Goals.{After-next}
@@ -49,7 +49,7 @@ returns c =
         formatting = f;
         is = is;
         kind = is_kind p.erases c.kind_of-ask.result c.kind_of-ask.ensures;
-        piece = subst (λ (s : Step). IsPiece (steps_left f (length flash) image) f.done s) (sym same) says.piece;
+        piece = subst (λ (s : Step). IsPiece (remaining_steps f (length flash) image) f.done s) (sym same) says.piece;
         some = says.most.some;
         most = λ two. says.most.programs (programs p.erases c.kind_of-ask.result c.kind_of-ask.ensures two);
         sector = subst (λ (n : ℕ). ErasesWhole n (by_number c.kind_of-ask.result p.at p.len c.next.new.out)) is.sector

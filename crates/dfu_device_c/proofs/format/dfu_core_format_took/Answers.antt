@@ -6,7 +6,7 @@ use Rattle.dfu_asks.specs.declared.formatting.FormatProgress.{FormatProgress}
 use Rattle.dfu_asks.specs.declared.formatting.FormatProgress.TheVariants as format_progress
 use Rattle.dfu_core.specs.declared.record.DfuRecord.{DfuRecord}
 use Rattle.dfu_core.specs.Formatting.{IsFormatting}
-use Rattle.dfu_core.specs.Formats.{progress_number, GoesFormat}
+use Rattle.dfu_core.specs.Formats.{progress_number, FormatReport}
 use Rattle.dfu_device_c.proofs.format.dfu_core_format_took.Goals.{After-took}
 use Rattle.dfu_device_c.proofs.format.dfu_core_format_took.Goals as goal
 
@@ -30,7 +30,7 @@ is_format c = c.in-Some-formatting_of.ensures.some c.args.config.now (record {
 went : (c : After-took) (came : FormatProgress) (r' : DfuRecord) {n : ℤ} → c.took.result ≡ Some came → n ≡ progress_number came
     → (came ≡ format_progress.Asks → IsFormatting c.args.config.now r' c.took.new.self) → (came ≢ format_progress.Asks → r'.work ≡ 0)
     → r' ≡ record c.args.device.now { work = r'.work; spare = r'.spare; sum = r'.sum; done = r'.done; generation = r'.generation }
-    → GoesFormat c.args.config.now c.args.device.now c.args.flash.now c.args.image.now (not (c.args.failed == 0)) n r'
+    → FormatReport c.args.config.now c.args.device.now c.args.flash.now c.args.image.now (not (c.args.failed == 0)) n r'
 went c came r' is number_is on over rest = record {
   config = c.in-Some.ensures.allowed;
   before = c.in-Some-formatting_of.formatting;

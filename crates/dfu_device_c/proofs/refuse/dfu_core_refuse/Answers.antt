@@ -2,7 +2,7 @@ use Rattle.std.proofs.Common.{pos, inl, refl, subst}
 use Rattle.dfu_device.specs.declared.answer.Answer.TheVariants as answer
 use Rattle.dfu_device.specs.declared.objection.Objection.{Objection}
 use Rattle.dfu_device.specs.Rows.{Refusing}
-use Rattle.dfu_core.specs.Refuse.{TakesCause, WasRefused}
+use Rattle.dfu_core.specs.Refuse.{CauseResult, WasRefused}
 use Rattle.dfu_device_c.proofs.Moved.{takes_cause}
 use Rattle.dfu_device_c.proofs.Refusals.{refuse_leads}
 use Rattle.dfu_device_c.proofs.refuse.dfu_core_refuse.Goals as goal
@@ -18,7 +18,7 @@ returns c =
       refl,
       c.in-Ok.ensures.idle,
       c.in-Some.ensures.some.1,
-      subst (λ (w : Objection). TakesCause k r (Refusing w) answer.Ack r') c.in-Some.ensures.some.0
+      subst (λ (w : Objection). CauseResult k r (Refusing w) answer.Ack r') c.in-Some.ensures.some.0
           (takes_cause k r r' c.in-Ok.found.1 m' c.in-Ok.ensures.only c.in-Ok.ensures.idle.idle c.set_mode.ensures.mode
           c.set_mode.ensures.others (Refusing why) answer.Ack
           (λ l flash config mode device. refuse_leads k c.in-Ok.found.1 m' why l flash config mode device c.after_refusal.ensures.stage

@@ -4,9 +4,9 @@ use Rattle.dfu_device.specs.declared.answer.Answer.TheVariants as answer
 use Rattle.dfu_device.specs.declared.objection.Objection.{Objection}
 use Rattle.dfu_device.specs.Rows.{RefusingClose}
 use Rattle.dfu_asks.specs.Addressed.{addressed}
-use Rattle.dfu_core.specs.Kept.{with_memory}
+use Rattle.dfu_core.specs.RecordMeaning.{with_memory}
 use Rattle.dfu_core.specs.Numbers.{STALL, NO_CLOSE}
-use Rattle.dfu_core.specs.Refuse.{objection_in, TakesCause, ClosesNone, CloseRefused}
+use Rattle.dfu_core.specs.Refuse.{objection_in, CauseResult, ClosesNone, CloseRefused}
 use Rattle.dfu_device_c.proofs.Told.{kept_in}
 use Rattle.dfu_device_c.proofs.Moved.{takes_cause}
 use Rattle.dfu_device_c.proofs.Refusals.{close_leads}
@@ -43,8 +43,8 @@ returns c =
       refl,
       c.in-Ok.ensures.idle,
       c.in-Some.ensures.some.1,
-      subst (λ (x : List ℕ). TakesCause k r (RefusingClose x (objection_in c.args.status)) answer.Stall r') c.addressed-own.ensures
-          (subst (λ (w : Objection). TakesCause k r (RefusingClose own w) answer.Stall r') c.in-Some.ensures.some.0
+      subst (λ (x : List ℕ). CauseResult k r (RefusingClose x (objection_in c.args.status)) answer.Stall r') c.addressed-own.ensures
+          (subst (λ (w : Objection). CauseResult k r (RefusingClose own w) answer.Stall r') c.in-Some.ensures.some.0
           (takes_cause k r r' c.in-Ok.found.1 m' c.in-Ok.ensures.only c.in-Ok.ensures.idle.idle c.set_mode.ensures.mode
           c.set_mode.ensures.others (RefusingClose own why) answer.Stall
           (λ l flash config mode device. close_leads k c.in-Ok.found.1 m' why l flash config mode device own

@@ -3,7 +3,7 @@ use Rattle.std.proofs.lemmas.Int.{to_z-of_z}
 use Rattle.dfu_asks.specs.Addressed.{addressed}
 use Rattle.dfu_core.specs.Idle.{IsIdleRecord, RefusesSetup}
 use Rattle.dfu_core.specs.Numbers.{told_number}
-use Rattle.dfu_core.specs.Stalls.{ToldStall}
+use Rattle.dfu_core.specs.Stalls.{StallResult}
 use Rattle.dfu_device_c.proofs.Told.{two, kept_in, grain_is}
 use Rattle.dfu_device_c.proofs.stalls.dfu_core_would_stall.Goals as goal
 
@@ -14,8 +14,8 @@ returns c =
     let said = c.mode_stalls.result in
     let own = addressed k.interface c.args.setup.now in
     let number = to_z-of_z w32 c.told_number.result (omega (arith, c.told_number.type_inv)) ∙ c.told_number.ensures in
-    let told : ToldStall k r c.args.size own (told_number said) =
-    subst (λ (x : List ℕ). ToldStall k r c.args.size x (told_number said)) c.addressed-own.ensures (λ block flash a kept device size. (
+    let told : StallResult k r c.args.size own (told_number said) =
+    subst (λ (x : List ℕ). StallResult k r c.args.size x (told_number said)) c.addressed-own.ensures (λ block flash a kept device size. (
       said,
       refl,
       c.mode_stalls.ensures _ flash
@@ -23,7 +23,7 @@ returns c =
           (grain_is k r c.in-Ok.found.1 c.in-Ok.ensures.set_up c.in-Ok.ensures.only block flash a kept) size,
     )) in
     record {
-      outcome = inl (subst (λ (n : ℤ). ((n ≡ pos 0) ⊎ (n ≡ pos 1)) × IsIdleRecord k r × ToldStall k r c.args.size own n) (sym number)
+      outcome = inl (subst (λ (n : ℤ). ((n ≡ pos 0) ⊎ (n ≡ pos 1)) × IsIdleRecord k r × StallResult k r c.args.size own n) (sym number)
           (two said _ refl, c.in-Ok.ensures.idle, told));
     }
 

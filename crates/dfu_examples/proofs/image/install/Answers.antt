@@ -1,5 +1,5 @@
 use Rattle.std.proofs.Common.{◌≡◌, ◌⊎◌, inl, inr, ⊎_elim, ℕ, ◌+◌, List, ◌++◌, length, take, Result, Ok, Err, OnOk, OnErr, ◌∙◌, ap, arith}
-use Rattle.dfu_slots.specs.Seen.{SlotsState, image_of, spare_of}
+use Rattle.dfu_slots.specs.StoreView.{SlotsState, image_of, spare_of}
 use Rattle.dfu_examples.proofs.image.install.Goals as goal
 
 -- The bytes that were put at the front are read back from it.

@@ -3,7 +3,7 @@ use Rattle.dfu_slots.specs.Medium.{MediumState}
 use Rattle.dfu_boot.specs.declared.install.due.Due.TheVariants.{Refuse, Start}
 use Rattle.dfu_boot.specs.declared.install.due.Refusal.{Refusal}
 use Rattle.dfu_boot.specs.declared.install.due.Refusal.TheVariants.{NoImage}
-use Rattle.dfu_boot.specs.install.Next.{Does}
+use Rattle.dfu_boot.specs.install.Next.{IsNextDue}
 use Rattle.dfu_home.specs.Places.{last_in_data}
 use Rattle.dfu_home.specs.Next.{program_bytes}
 use Rattle.dfu_home.proofs.Units.{copies, piece_gives, head_due, no_bytes}
@@ -29,8 +29,8 @@ pub returns-in-Refuse-NoImage-clause-due : goal.returns-in-Refuse-NoImage-clause
 returns-in-Refuse-NoImage-clause-due g c =
     let m : MediumState = g.M.Medium.state c.args.medium.now in
     let found = c.in-Refuse-NoImage in
-    let does : Does c.away_image-image.result.now c.first_data-run.result.now c.sector.result c.last_in_data.result (Refuse NoImage) =
-    subst (λ (r : Refusal). Does c.away_image-image.result.now c.first_data-run.result.now c.sector.result c.last_in_data.result (Refuse r))
+    let does : IsNextDue c.away_image-image.result.now c.first_data-run.result.now c.sector.result c.last_in_data.result (Refuse NoImage) =
+    subst (λ (r : Refusal). IsNextDue c.away_image-image.result.now c.first_data-run.result.now c.sector.result c.last_in_data.result (Refuse r))
     found.field-0-is found.ensures in
     head_due m c.args.last c.head-in-Refuse-NoImage.result
     (no_bytes m (omega (arith, does.1, ap length c.away_image-image.ensures))) c.head-in-Refuse-NoImage.ensures.due

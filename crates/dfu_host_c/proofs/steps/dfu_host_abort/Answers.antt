@@ -1,10 +1,10 @@
 use Rattle.std.proofs.Common.{inl, refl}
-use Rattle.dfu_host_core.specs.Calls.{GivenUp}
+use Rattle.dfu_host_core.specs.Calls.{AbortedRecord}
 use Rattle.dfu_host_c.proofs.steps.dfu_host_abort.Goals as goal
 
 pub returns : goal.returns
 returns c =
-    let first : GivenUp c.args.session.now c.record_of.result c.args.payload = record {
+    let first : AbortedRecord c.args.session.now c.record_of.result c.args.payload = record {
       parts = c.in-Some.host;
       next = c.abort.new.self;
       before = c.in-Some.ensures.some.0;

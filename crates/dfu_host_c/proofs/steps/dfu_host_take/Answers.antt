@@ -1,15 +1,15 @@
 use Rattle.std.proofs.Common.{inl, refl, sym, ◌∙◌, arith}
-use Rattle.dfu_host_core.specs.Calls.{TookSeen}
-use Rattle.dfu_host_core.specs.Sessions.{IsHeldSession}
+use Rattle.dfu_host_core.specs.Calls.{TakeSeenResult}
+use Rattle.dfu_host_core.specs.Sessions.{IsRecordWithParts}
 use Rattle.dfu_host_c.proofs.steps.dfu_host_take.Goals as goal
 
 pub returns : goal.returns
 returns c =
-    let held : IsHeldSession c.args.session.now c.args.payload c.args.kept.now c.in-Some.host = record {
+    let held : IsRecordWithParts c.args.session.now c.args.payload c.args.kept.now c.in-Some.host = record {
       stands = c.in-Some.ensures.some.0;
       room = omega (arith, c.if-session-kept.false);
     } in
-    let took : TookSeen c.args.session.now c.step.result c.args.payload c.args.kept.now c.step.new.kept c.args.seen c.args.bytes = record {
+    let took : TakeSeenResult c.args.session.now c.step.result c.args.payload c.args.kept.now c.step.new.kept c.args.seen c.args.bytes = record {
       parts = c.in-Some.host;
       word = c.in-Some-seen_at.seen;
       next = c.step.new.host;

@@ -5,7 +5,7 @@ use Rattle.dfu_asks.specs.declared.pending_writes.PendingWrites.{PendingWrites}
 use Rattle.dfu_asks.specs.Lent.{lent}
 use Rattle.dfu_asks.specs.Carried.{IsPiece}
 use Rattle.dfu_asks.specs.Asks.{steps_in}
-use Rattle.dfu_asks.specs.Refused.{IsLeft}
+use Rattle.dfu_asks.specs.Refused.{HasRemainingWrites}
 use Rattle.dfu_asks.specs.Jobs.{asked}
 use Rattle.dfu_laws.specs.board.Board.{Write, Nothing}
 use Rattle.dfu_laws.specs.board.Happens.{Happens}
@@ -21,7 +21,7 @@ returns-clause-written c =
     let flash = c.args.flash.now in
     let out = c.next.new.out in
     on_both (λ p. (w : PendingWrites) → a.work ≡ Some w → IsPiece (steps_in l w) w.done (asked p out))
-    (λ p. (w : PendingWrites) × IsLeft l w)
+    (λ p. (w : PendingWrites) × HasRemainingWrites l w)
     (λ p. (now : List ℕ) → Torn flash (asked p out).write.at (asked p out).write.bytes now → Happens (at flash) Write Nothing (at now))
     c.next.result
     (λ p piece due now torn. (

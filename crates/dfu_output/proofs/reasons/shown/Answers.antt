@@ -1,7 +1,7 @@
 use Rattle.std.proofs.Common.{rules, arith, ap, sym, ◌∙◌, ◌++◌, ◌-◌, string_bytes, encode_utf8}
 use Rattle.std.proofs.lemmas.List.{append-nil}
 use Rattle.dfu_output.proofs.ShownLaws.{shown_none, shown_full, shown_more}
-use Rattle.dfu_output.specs.ShownText.{shown_of}
+use Rattle.dfu_output.specs.ShownText.{visible_of}
 use Rattle.dfu_output.proofs.reasons.shown.Goals as goal
 
 pub returns-in_default : goal.returns-in_default
@@ -13,7 +13,7 @@ returns-in_default c =
 pub letters-preserved : goal.letters-preserved
 letters-preserved c = (
   search rules,
-  ap (λ t. t ++ shown_of (c.letters.room - 1) c.in-Some.after.now) (c.in_ok-push.ensures.bytes
+  ap (λ t. t ++ visible_of (c.letters.room - 1) c.in-Some.after.now) (c.in_ok-push.ensures.bytes
       ∙ ap (λ x. string_bytes c.letters.line ++ encode_utf8 x) c.plain.ensures)
       ∙ (sym (shown_more (string_bytes c.letters.line) c.letters.rest.now c.in-Some.after.now c.in-Some.letter (c.letters.room - 1)
       c.letters.room c.in-Some.ensures (omega (arith, c.letters-test.true)))

@@ -1,13 +1,13 @@
 use Rattle.std.proofs.Common.{◌≡◌, ◌++◌, string_bytes}
 use denote.Text.{Utf8}
 use denote.Shadow.{shadow}
-use Rattle.dfu_output.specs.ShownText.{shown_of}
+use Rattle.dfu_output.specs.ShownText.{visible_of}
 use Rattle.dfu_output.proofs.reasons.shown.Given as goal
 
 -- What is out, and what is to come of the rest, is what is shown of the text.
 abbrev pub invariant-letters : goal.invariant-letters
 invariant-letters l =
-    shadow (Utf8 l.rest) × (string_bytes l.line ++ shown_of l.room l.rest ≡ shown_of 4096 l.text)
+    shadow (Utf8 l.rest) × (string_bytes l.line ++ visible_of l.room l.rest ≡ visible_of 4096 l.text)
 
 abbrev pub decreases-letters : goal.decreases-letters
 decreases-letters l = l.room

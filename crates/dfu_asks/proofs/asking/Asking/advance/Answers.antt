@@ -1,20 +1,20 @@
 use Rattle.std.proofs.Common.{◌≡◌, ◌<◌, ℕ, List, refl, sym, ◌∙◌, ap, subst, arith}
 use Rattle.dfu_asks.specs.declared.pending_writes.PendingWrites.{PendingWrites}
-use Rattle.dfu_asks.specs.Lent.{LentAsking, lent}
+use Rattle.dfu_asks.specs.Lent.{LentDevice, lent}
 use Rattle.dfu_asks.specs.Carried.{total, carried, IsReached}
 use Rattle.dfu_asks.specs.Asks.{IsWorking, writes_in, steps_in}
 use Rattle.dfu_device.specs.declared.answer.Answer.{Answer}
-use Rattle.dfu_asks.specs.Calls.{HasEnded, comes_asks, comes_ended}
+use Rattle.dfu_asks.specs.Calls.{CallCompleted, comes_asks, comes_ended}
 use Rattle.dfu_asks.proofs.Calling.{same_work, piece_left, gives_in}
 use Rattle.dfu_asks.proofs.Ended.{carried_ended, begun_ended}
 use Rattle.dfu_asks.proofs.asking.Asking.advance.Goals as goal
 
 -- What has ended with an answer has ended with the same one.
-answered : (flash out out' : List ℕ) (now : LentAsking) (Row : Answer → List ℕ → Type 0) (x y : Answer) (count n : ℕ) → x ≡ y → count ≡ n
-    → HasEnded flash y n out out' now Row → HasEnded flash x count out out' now Row
+answered : (flash out out' : List ℕ) (now : LentDevice) (Row : Answer → List ℕ → Type 0) (x y : Answer) (count n : ℕ) → x ≡ y → count ≡ n
+    → CallCompleted flash y n out out' now Row → CallCompleted flash x count out out' now Row
 answered flash out out' now Row x y count n same size e =
-    subst (λ (z : Answer). HasEnded flash z count out out' now Row) (sym same)
-    (subst (λ (k : ℕ). HasEnded flash y k out out' now Row) (sym size) e)
+    subst (λ (z : Answer). CallCompleted flash z count out out' now Row) (sym same)
+    (subst (λ (k : ℕ). CallCompleted flash y k out out' now Row) (sym size) e)
 
 pub returns-then-len-gt0-clause-outcome : goal.returns-then-len-gt0-clause-outcome
 returns-then-len-gt0-clause-outcome c = λ work len s was kept working is reached.

@@ -2,7 +2,7 @@ use Rattle.std.proofs.Common.{◌≡◌, ⊎_elim, ◌==◌, ◌&&◌, not, Bool
 use Rattle.std.proofs.lemmas.Bool.{ne_eqb, and_parts, eqb-true}
 use Rattle.dfu_slots.specs.Layout.{OPEN}
 use Rattle.dfu_slots.specs.Image.{gate_of, slot_of, spare_at}
-use Rattle.dfu_slots.specs.Seen.{is_begun}
+use Rattle.dfu_slots.specs.StoreView.{is_begun}
 use Rattle.dfu_asks.specs.declared.pending_writes.SlotWrite.TheVariants.{Block}
 use Rattle.dfu_asks.specs.Lent.{lent}
 use Rattle.dfu_asks.specs.Asks.{store_in}

@@ -6,7 +6,7 @@ use Rattle.dfu_device.specs.Candidate.{candidate_length}
 use Rattle.dfu_device.proofs.Candidates.{IsEnd, candidate_put, candidate_is}
 use Rattle.dfu_asks.specs.Lent.{lent}
 use Rattle.dfu_asks.specs.Asks.{store_in, device_in}
-use Rattle.dfu_asks.specs.Noted.{NotedStands, beside}
+use Rattle.dfu_asks.specs.Noted.{NotedIsOnFlash, beside}
 use Rattle.dfu_asks.proofs.Calling.{no_work}
 use Rattle.dfu_asks.proofs.Noting.{noted_spare}
 use Rattle.dfu_asks.proofs.asking.Asking.candidate.Goals as goal
@@ -21,7 +21,7 @@ returns-then-len-view-clause-refused c block held =
     let len : candidate_length a.mode ≡ Some c.in-Some-candidate_len.len = sym c.candidate_len.ensures ∙ c.in-Some-candidate_len.is in (
       no_work a.work (sym c.is_some.ensures ∙ c.if-is_some.false),
       omega arith,
-      subst (λ (x : MediumState). NotedStands a.noted x) med c.in-Some-look.ensures.stands,
+      subst (λ (x : MediumState). NotedIsOnFlash a.noted x) med c.in-Some-look.ensures.stands,
       λ kept.
           let n = c.in-Some-candidate_len.len in
           let fits : n ≤ capacity_of s.medium = subst (λ (k : ℕ). n ≤ k) (room_capacity s)

@@ -3,7 +3,7 @@ use Rattle.std.proofs.lemmas.List.{take_all, take_at, length-take, length-take-l
 use Rattle.dfu_slots.specs.Medium.{MediumState}
 use Rattle.dfu_slots.specs.Layout.{header_length}
 use Rattle.dfu_slots.specs.Image.{gate_of, slot_of, active_at}
-use Rattle.dfu_slots.specs.Seen.{image_of, spare_of, room_of}
+use Rattle.dfu_slots.specs.StoreView.{image_of, spare_of, room_of}
 use Rattle.dfu_device.specs.declared.answer.Answer.TheVariants as answer
 use Rattle.dfu_device.specs.declared.device_state.DeviceState.TheVariants as device_state
 use Rattle.dfu_device.specs.declared.decision.Decision.{Decision}
@@ -11,7 +11,7 @@ use Rattle.dfu_device.specs.declared.decision.Decision.TheVariants as decision
 use Rattle.dfu_device.specs.DeviceView.{profile}
 use Rattle.dfu_device.specs.Parts.{shows, is_filled}
 use Rattle.dfu_device.specs.Rows.{Done}
-use Rattle.dfu_device.specs.Decision.{plan_of, IsPossible, HoldsTime}
+use Rattle.dfu_device.specs.Decision.{plan_of, IsPossible, HasTimeInputs}
 use Rattle.dfu_device.proofs.Carried.{holds_time, still_sound}
 use Rattle.dfu_asks.specs.Lent.{lent}
 use Rattle.dfu_asks.specs.Due.{plan_in, wanted, IsSure, SendsWithin}
@@ -37,7 +37,7 @@ returns-in-Sure-clause-outcome c = λ kept possible due within.
     let can : IsTrue (is_filled m (length l.block) s) =
     subst (λ (d : Decision). IsPossible l.config.functional.transfer (length l.block) (length c.args.body.now) s d) c.in-Sure.is possible in
     let whole : length l.block ≡ n = omega (arith, length-take n c.args.block.now, kept.fits.block) in
-    let holds : HoldsTime m n (spare_of s) l.block = subst (λ (k : ℕ). HoldsTime m k (spare_of s) l.block) whole
+    let holds : HasTimeInputs m n (spare_of s) l.block = subst (λ (k : ℕ). HasTimeInputs m k (spare_of s) l.block) whole
     (holds_time m l.block s (still_sound l.mode m (length l.block) s kept.is.sound can)) in
     let body = c.args.body.now in
     mode_ended l m l.block flash kept.is can
@@ -49,7 +49,7 @@ returns-in-Sure-clause-outcome c = λ kept possible due within.
     subst (λ (k : Decision). Done (plan_in l.block body k d) len d c.give-answer.result.0 g.sent (shows l.config t m l.block))
     (sym c.in-Sure.is) (
       says (room_of t) (spare_of t) l.block
-          (subst (λ (x : List ℕ). HoldsTime m n x l.block) (sym (same_spare u s)) holds),
+          (subst (λ (x : List ℕ). HasTimeInputs m n x l.block) (sym (same_spare u s)) holds),
       refl,
     ))
 

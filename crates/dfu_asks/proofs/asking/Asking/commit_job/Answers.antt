@@ -2,7 +2,7 @@ use Rattle.std.proofs.Common.{◌≡◌, ℕ, ◌+◌, ◌-◌, ◌*◌, ◌%◌
 use Rattle.dfu_suffix.specs.Register.{register}
 use Rattle.dfu_slots.specs.Layout.{generation, next_generation}
 use Rattle.dfu_slots.specs.Image.{gate_of, spare_at}
-use Rattle.dfu_slots.specs.Seen.{spare_of, active_slot}
+use Rattle.dfu_slots.specs.StoreView.{spare_of, active_slot}
 use Rattle.dfu_asks.specs.Lent.{lent}
 use Rattle.dfu_asks.specs.Asks.{store_in}
 use Rattle.dfu_asks.specs.declared.pending_writes.SlotWrite.TheVariants.{Commit}

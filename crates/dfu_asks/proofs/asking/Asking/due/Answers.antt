@@ -1,5 +1,5 @@
 use Rattle.std.proofs.Common.{◌≡◌, ℕ, List, Option, Some, None, IfSome, IfNone, refl, sym, subst, length, arith}
-use Rattle.dfu_slots.specs.Seen.{spare_of}
+use Rattle.dfu_slots.specs.StoreView.{spare_of}
 use Rattle.dfu_device.specs.DeviceView.{DeviceView}
 use Rattle.dfu_device.specs.Rows.{Elapses}
 use Rattle.dfu_asks.specs.declared.asking.Asking.{Asking}
@@ -9,9 +9,9 @@ use Rattle.dfu_asks.specs.Times.{due_of, ChangesOnceDue}
 use Rattle.dfu_asks.proofs.DueTimes.{time_due}
 use Rattle.dfu_asks.proofs.asking.Asking.due.Goals as goal
 use Rattle.std.proofs.lemmas.List.{length-take}
-use Rattle.dfu_device.specs.Decision.{HoldsTime}
+use Rattle.dfu_device.specs.Decision.{HasTimeInputs}
 use Rattle.dfu_device.proofs.Carried.{holds_time}
-use Rattle.dfu_asks.specs.Refused.{IsKeptOn}
+use Rattle.dfu_asks.specs.Refused.{IsDeviceOn}
 
 -- What follows of a value follows of the one that there is, or of none.
 each_some : {X : Type 0} (P Q : X → Type 0) (o : Option X) → ((x : X) → P x → Q x) → IfSome o P → IfSome o Q
@@ -23,7 +23,7 @@ each_none (Some x) follows is = tt
 each_none None follows is = follows is
 
 -- A change is due as the mode says.
-due_in : (a : Asking) (block held flash : List ℕ) (ms : ℕ) (d' : DeviceView) → IsKeptOn a block held flash
+due_in : (a : Asking) (block held flash : List ℕ) (ms : ℕ) (d' : DeviceView) → IsDeviceOn a block held flash
     → Elapses ms (device_in (lent a block held) flash) d'
     → ChangesOnceDue (due_of a.config a.mode a.block_len) ms (device_in (lent a block held) flash) d'
 due_in a block held flash ms d' kept went =
@@ -31,7 +31,7 @@ due_in a block held flash ms d' kept went =
     let s = store_in l flash in
     let whole : length l.block ≡ a.block_len = omega (arith, length-take a.block_len block, kept.fits.block) in
     time_due ms (device_in l flash) d' a.mode a.block_len (spare_of s) l.block
-    (subst (λ (n : ℕ). HoldsTime a.mode n (spare_of s) l.block) whole (holds_time a.mode l.block s kept.is.sound)) refl went
+    (subst (λ (n : ℕ). HasTimeInputs a.mode n (spare_of s) l.block) whole (holds_time a.mode l.block s kept.is.sound)) refl went
 
 pub returns-clause-some : goal.returns-clause-some
 returns-clause-some c =

@@ -1,6 +1,6 @@
 use Rattle.std.proofs.Common.{◌≡◌, ℕ, List, [], ◌∷◌, length, None, refl, sym, ◌∙◌, ap, subst, arith}
 use Rattle.std.proofs.lemmas.List.{length-take}
-use Rattle.dfu_slots.specs.Seen.{image_of, room_of}
+use Rattle.dfu_slots.specs.StoreView.{image_of, room_of}
 use Rattle.dfu_slots.proofs.Seeing.{room_capacity}
 use Rattle.dfu_device.specs.declared.answer.Answer.{Answer}
 use Rattle.dfu_device.specs.declared.answer.Answer.TheVariants as answer
@@ -14,7 +14,7 @@ use Rattle.dfu_asks.specs.Mapped.{Unseen}
 use Rattle.dfu_asks.specs.Due.{plan_in, IsSureOrDue}
 use Rattle.dfu_asks.specs.Asks.{store_in, device_with}
 use Rattle.dfu_asks.specs.Calls.{AreSureOrDue, DeviceCalled}
-use Rattle.dfu_asks.specs.Refused.{IsKeptOn}
+use Rattle.dfu_asks.specs.Refused.{IsDeviceOn}
 use Rattle.dfu_asks.proofs.Calling.{called_by}
 use Rattle.dfu_asks.proofs.Quiet.{time_due, time_quiet, decided_time}
 use Rattle.dfu_asks.proofs.Unseen.{same_room, sound_unseen}
@@ -25,7 +25,7 @@ pub returns-clause-outcome : goal.returns-clause-outcome
 returns-clause-outcome c = λ kept.
     let flash = c.in_ok-medium.medium.bytes.now in
     let same_flash : flash ≡ c.args.flash.now = c.in_ok-medium.ensures.medium.2 in
-    let here = subst (λ (f : List ℕ). IsKeptOn c.args.self.now c.args.block.now c.args.held.now f) (sym same_flash) kept in
+    let here = subst (λ (f : List ℕ). IsDeviceOn c.args.self.now c.args.block.now c.args.held.now f) (sym same_flash) kept in
     let l = lent c.args.self.now c.args.block.now c.args.held.now in
     let now = lent c.carry_out.new.self c.carry_out.new.block c.carry_out.new.held in
     let s = store_in l flash in

@@ -2,14 +2,14 @@ use Rattle.std.proofs.Common.{List, ℕ, sym, ◌∙◌, subst, rules}
 use Rattle.dfu_device.specs.Rows.{Handles}
 use Rattle.dfu_asks.specs.Lent.{lent}
 use Rattle.dfu_asks.specs.Calls.{DeviceCalled}
-use Rattle.dfu_asks.specs.Refused.{IsKeptOn}
+use Rattle.dfu_asks.specs.Refused.{IsDeviceOn}
 use Rattle.dfu_asks.proofs.Calling.{no_work}
 use Rattle.dfu_asks.proofs.asking.Asking.handle.Goals as goal
 
 pub returns-clause-outcome : goal.returns-clause-outcome
 returns-clause-outcome c =
     let l = lent c.args.self.now c.args.block.now c.args.held.now in
-    subst (λ (flash : List ℕ). IsKeptOn c.args.self.now c.args.block.now c.args.held.now flash → DeviceCalled l flash c.args.out.now
+    subst (λ (flash : List ℕ). IsDeviceOn c.args.self.now c.args.block.now c.args.held.now flash → DeviceCalled l flash c.args.out.now
     (λ d x sent d'. Handles c.args.setup.now c.args.body.now d x sent d')
     (lent c.respond.new.self c.respond.new.block c.respond.new.held) c.respond.new.out c.respond.result)
     c.in_ok-medium.ensures.medium.2 c.respond.ensures.outcome

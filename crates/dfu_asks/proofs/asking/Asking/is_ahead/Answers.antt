@@ -1,6 +1,6 @@
 use Rattle.std.proofs.Common.{◌≡◌, ◌+◌, ◌*◌, length, sym, ◌∙◌, ap, arith}
 use Rattle.dfu_slots.specs.Image.{gate_of, spare_at}
-use Rattle.dfu_slots.specs.Seen.{data_place, held_at}
+use Rattle.dfu_slots.specs.StoreView.{data_place, tail_at}
 use Rattle.dfu_asks.specs.Lent.{lent}
 use Rattle.dfu_asks.specs.Asks.{store_in}
 use Rattle.dfu_asks.proofs.Calling.{mapped_as}
@@ -21,6 +21,6 @@ returns c = λ block held room is.
     omega (arith, c.data_at.ensures, spare, ap gate_of same) in
     let count : a.held_len ≡ length l.held =
     sym (held_size a.unit a.held_len a.put_end held room is.store.puts.part) in
-    let place : c.from.result ≡ data_place s (held_at s) = omega (arith, c.from.ensures, from, count) in
+    let place : c.from.result ≡ data_place s (tail_at s) = omega (arith, c.from.ensures, from, count) in
     c.is_clear.ensures.1 (λ some p low high inside none.
     is.store.puts.ahead some p (omega (arith, low, place)) inside (λ q lo hi. none q (omega (arith, lo, place)) hi))

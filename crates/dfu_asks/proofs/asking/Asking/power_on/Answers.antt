@@ -1,5 +1,5 @@
 use Rattle.std.proofs.Common.{refl}
-use Rattle.dfu_slots.specs.Seen.{store_on}
+use Rattle.dfu_slots.specs.StoreView.{store_on}
 use Rattle.dfu_slots.specs.Store.{IsStore}
 use Rattle.dfu_slots.proofs.Seeing.{fresh_leaves}
 use Rattle.dfu_asks.specs.Mapped.{mapped}

@@ -1,5 +1,5 @@
 use Rattle.std.proofs.Common.{◌≡◌, ℕ, length, Some, refl, sym, ◌∙◌, ap, subst, arith}
-use Rattle.dfu_slots.specs.Seen.{spare_of, room_of}
+use Rattle.dfu_slots.specs.StoreView.{spare_of, room_of}
 use Rattle.dfu_slots.proofs.Seeing.{room_capacity}
 use Rattle.dfu_device.specs.Table.{Plan}
 use Rattle.dfu_device.specs.DeviceView.{profile, profile_of}

@@ -1,7 +1,7 @@
 use Rattle.std.proofs.Common.{Some, refl, sym}
-use Rattle.dfu_slots.specs.Seen.{spare_of}
+use Rattle.dfu_slots.specs.StoreView.{spare_of}
 use Rattle.dfu_asks.specs.declared.pending_writes.PendingWrites.{PendingWrites}
-use Rattle.dfu_asks.specs.Lent.{LentAsking, lent}
+use Rattle.dfu_asks.specs.Lent.{LentDevice, lent}
 use Rattle.dfu_asks.specs.Asks.{store_in, writes_in, steps_in}
 use Rattle.dfu_asks.proofs.Carrying.{carried_none}
 use Rattle.dfu_asks.proofs.Pieces.{reached_none}
@@ -19,7 +19,7 @@ returns-clause-outcome c = λ len is due.
     let s = store_in l flash in
     let job = c.begin_job-job.result in
     let work : PendingWrites = record { job = job.0; asked = c.args.asked; done = 0 } in
-    let now : LentAsking = lent
+    let now : LentDevice = lent
     (record c.args.self.now { held_len = job.1; put_end = job.2; work = Some work; few = c.begin_job-job.ensures.few })
     c.args.block.now c.args.held.now in
     let working = begins now l.mode l.block s flash

@@ -2,17 +2,17 @@ use Rattle.std.proofs.Common.{◌≡◌, ◌&&◌, Bool, true, false, not, if◌
 use Rattle.dfu_slots.specs.declared.fault.WriteFault.{WriteFault}
 use Rattle.dfu_slots.specs.declared.fault.WriteFault.TheVariants.{Failed, NotVerified}
 use Rattle.dfu_slots.specs.Medium.{Write}
-use Rattle.dfu_slots.specs.Seen.{SlotsState}
+use Rattle.dfu_slots.specs.StoreView.{SlotsState}
 use Rattle.dfu_device.specs.declared.answer.Answer.{Answer}
 use Rattle.dfu_device.specs.DeviceView.{DeviceView}
 use Rattle.dfu_asks.specs.declared.reply.Reply.TheVariants as reply
-use Rattle.dfu_asks.specs.Lent.{LentAsking, lent}
+use Rattle.dfu_asks.specs.Lent.{LentDevice, lent}
 use Rattle.dfu_asks.specs.Due.{Fails}
 use Rattle.dfu_asks.specs.Steps.{Step}
 use Rattle.dfu_asks.specs.declared.pending_writes.PendingWrites.{PendingWrites}
 use Rattle.dfu_asks.specs.Carried.{total, carried, IsReached}
 use Rattle.dfu_asks.specs.Asks.{writes_in, steps_in, device_in, device_of, IsWorking}
-use Rattle.dfu_asks.specs.Calls.{HasEnded, DeviceTook, took_well, took_failed, took_lied}
+use Rattle.dfu_asks.specs.Calls.{CallCompleted, DevicePieceReported, took_well, took_failed, took_lied}
 use Rattle.dfu_asks.proofs.Pieces.{reached_step}
 use Rattle.dfu_asks.proofs.Calling.{same_work, is_true, is_false, one_piece, next_size, taken_from, piece_failed, piece_stands}
 use Rattle.dfu_asks.proofs.asking.Asking.took.Goals as goal
@@ -33,17 +33,17 @@ on_flash true stands e = cc
 on_flash false stands e = e
 
 -- The row ends with the fault of a piece that failed, or that is not on the flash.
-took_badly : (d : DeviceView) (len : ℕ) (s : SlotsState) (was : List ℕ) (p : Write) (failed : Bool) (flash out : List ℕ) (now : LentAsking)
+took_badly : (d : DeviceView) (len : ℕ) (s : SlotsState) (was : List ℕ) (p : Write) (failed : Bool) (flash out : List ℕ) (now : LentDevice)
     (out' : List ℕ) (x : Answer) (count : ℕ) (fault : WriteFault) → fault ≡ (if failed then Failed else NotVerified)
     → (failed ≡ false → ¬ (slice_range flash p.at (p.at + length p.bytes) ≡ p.bytes))
-    → HasEnded flash x count out out' now (λ y sent. Fails fault len d y sent (device_in now flash))
-    → DeviceTook d len s was p failed flash out now out' (reply.Answered x count)
+    → CallCompleted flash x count out out' now (λ y sent. Fails fault len d y sent (device_in now flash))
+    → DevicePieceReported d len s was p failed flash out now out' (reply.Answered x count)
 took_badly d len s was p true flash out now out' x count fault is other ended =
     took_failed x count refl refl
-    (subst (λ (f : WriteFault). HasEnded flash x count out out' now (λ y sent. Fails f len d y sent (device_in now flash))) is ended)
+    (subst (λ (f : WriteFault). CallCompleted flash x count out out' now (λ y sent. Fails f len d y sent (device_in now flash))) is ended)
 took_badly d len s was p false flash out now out' x count fault is other ended =
     took_lied x count refl (other refl) refl
-    (subst (λ (f : WriteFault). HasEnded flash x count out out' now (λ y sent. Fails f len d y sent (device_in now flash))) is ended)
+    (subst (λ (f : WriteFault). CallCompleted flash x count out out' now (λ y sent. Fails f len d y sent (device_in now flash))) is ended)
 
 pub returns-then-not-went_well-clause-outcome : goal.returns-then-not-went_well-clause-outcome
 returns-then-not-went_well-clause-outcome c = λ len s was before asks p piece torn.

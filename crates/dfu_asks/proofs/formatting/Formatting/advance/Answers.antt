@@ -1,6 +1,6 @@
 use Rattle.std.proofs.Common.{[], length, refl, sym, arith}
 use Rattle.dfu_asks.specs.Cuts.{step_of}
-use Rattle.dfu_asks.specs.Phases.{part_left}
+use Rattle.dfu_asks.specs.Phases.{steps_of_part}
 use Rattle.dfu_asks.proofs.Calling.{is_off}
 use Rattle.dfu_asks.proofs.Cutting.{part_found, part_none}
 use Rattle.dfu_asks.proofs.Pieces.{piece_end, piece_some}
@@ -12,7 +12,7 @@ returns-then-part_piece-clause-outcome c = λ was flash size way le.
     let f = c.args.self.now in
     let image = c.args.image.now in
     let p = step_of c.part_piece.new.cut in
-    let part = part_left f (length was) image in
+    let part = steps_of_part f (length was) image in
     let piece = part_found f c.args.size (length was) (sym size) image c.stock_for.result c.stock_for.ensures.block c.cut_at-cut.result
     c.cut_at-cut.ensures.stock c.cut_at-cut.ensures.rest p (c.part_piece.ensures.found c.if-part_piece.true) in
     record { way = way; left = omega (arith, piece_end part f.done p piece, piece_some part f.done p piece) }

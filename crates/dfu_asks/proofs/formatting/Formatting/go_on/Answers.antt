@@ -1,6 +1,6 @@
 use Rattle.std.proofs.Common.{◌/◌, length, refl, subst, arith}
 use Rattle.dfu_asks.specs.declared.formatting.FormatStep.{FormatStep}
-use Rattle.dfu_asks.specs.Phases.{grain_within, part_left}
+use Rattle.dfu_asks.specs.Phases.{grain_within, steps_of_part}
 use Rattle.dfu_asks.proofs.FormatParts.{IsFollowed}
 use Rattle.dfu_asks.proofs.FormatGoing.{way_next, way_done}
 use Rattle.dfu_asks.proofs.formatting.Formatting.go_on.Goals as goal
@@ -28,7 +28,7 @@ returns-in_default-clause-further c = λ size asks ended.
     let f = c.args.self.now in
     let image = c.args.image.now in
     record {
-      front = part_left f size image;
+      front = steps_of_part f size image;
       series = c.part_behind-behind.ensures.parts (grain_within f) (size / 2) f.register image refl refl;
       place = omega (arith, ended);
     }

@@ -2,7 +2,7 @@ use Rattle.std.proofs.Common.{length, drop, refl, sym, subst, arith}
 use Rattle.dfu_asks.specs.Steps.{Step}
 use Rattle.dfu_asks.specs.Carried.{IsPiece}
 use Rattle.dfu_asks.specs.Cuts.{zeroed, step_of}
-use Rattle.dfu_asks.specs.Phases.{steps_left}
+use Rattle.dfu_asks.specs.Phases.{remaining_steps}
 use Rattle.dfu_asks.proofs.Calling.{is_true, is_false, is_off}
 use Rattle.dfu_asks.proofs.Cutting.{step_size, part_found, part_none}
 use Rattle.dfu_asks.proofs.FormatGoing.{in_left, way_piece, way_size, way_small, way_sound, way_there}
@@ -14,7 +14,7 @@ returns-clause-piece c =
     let found = part_found c.args.self.now (length c.args.flash.now) (length c.args.flash.now) refl c.args.image.now c.stock_for.result
     c.stock_for.ensures.block c.cut_at-cut.result c.cut_at-cut.ensures.stock c.cut_at-cut.ensures.rest (step_of c.due.new.cut)
     (c.due.ensures.found yes) in
-    subst (λ (p : Step). IsPiece (steps_left c.args.self.now (length c.args.flash.now) c.args.image.now) c.args.self.now.done p)
+    subst (λ (p : Step). IsPiece (remaining_steps c.args.self.now (length c.args.flash.now) c.args.image.now) c.args.self.now.done p)
     (sym c.fill.ensures.step)
     (in_left c.args.self.now (length c.args.flash.now) c.args.image.now c.args.self.now.done (step_of c.due.new.cut) found)
 

@@ -2,7 +2,7 @@ use Rattle.std.proofs.Common.{◌≡◌, ◌+◌, ◌≤◌, length, slice_range
 use Rattle.dfu_slots.specs.declared.fault.WriteFault.TheVariants.{Failed, NotVerified}
 use Rattle.dfu_asks.specs.Steps.{Step}
 use Rattle.dfu_asks.specs.Cuts.{step_of}
-use Rattle.dfu_asks.specs.Phases.{steps_left, part_left}
+use Rattle.dfu_asks.specs.Phases.{remaining_steps, steps_of_part}
 use Rattle.dfu_asks.specs.Formats.{format_well, format_failed, format_lied}
 use Rattle.dfu_asks.proofs.Pieces.{piece_one, piece_end}
 use Rattle.dfu_asks.proofs.Calling.{is_true, is_false, is_off}
@@ -25,7 +25,7 @@ returns-then-not-stands-clause-outcome c = λ was before asks p piece torn.
     let size : length flash ≡ length was = torn.size ∙ way_size f image was before asks.way in
     let part = part_found f (length flash) (length was) size image c.stock_for.result c.stock_for.ensures.block c.cut_at-cut.result
     c.cut_at-cut.ensures.stock c.cut_at-cut.ensures.rest q (c.due.ensures.found yes) in
-    let one : p ≡ q = piece_one (steps_left f (length was) image) f.done p q piece (in_left f (length was) image f.done q part) in
+    let one : p ≡ q = piece_one (remaining_steps f (length was) image) f.done p q piece (in_left f (length was) image f.done q part) in
     format_lied c.if-failed.false
     (λ st. is_false c.stands.result c.if-not-stands.true
     (c.stands.ensures.stands.1
@@ -43,7 +43,7 @@ returns-clause-outcome c = λ was before asks p piece torn.
     let size : length flash ≡ length was = torn.size ∙ way_size f image was before asks.way in
     let part = part_found f (length flash) (length was) size image c.stock_for.result c.stock_for.ensures.block c.cut_at-cut.result
     c.cut_at-cut.ensures.stock c.cut_at-cut.ensures.rest q (c.due.ensures.found yes) in
-    let one : p ≡ q = piece_one (steps_left f (length was) image) f.done p q piece (in_left f (length was) image f.done q part) in
+    let one : p ≡ q = piece_one (remaining_steps f (length was) image) f.done p q piece (in_left f (length was) image f.done q part) in
     let on = is_true c.stands.result c.if-not-stands.false in
     let there : slice_range flash p.write.at (p.write.at + length p.write.bytes) ≡ p.write.bytes =
     subst (λ (y : Step). slice_range flash y.write.at (y.write.at + length y.write.bytes) ≡ y.write.bytes) (sym one)
@@ -55,7 +55,7 @@ returns-clause-outcome c = λ was before asks p piece torn.
     format_well c.advance.result c.if-failed.false there
     (c.advance.ensures.outcome was flash (sym size)
     (way_further f image was before asks.way p piece flash torn fits there (f.done + n) (omega (arith, count)))
-    (omega (arith, piece_end (part_left f (length was) image) f.done q part, (step_size _ c.due.new.cut (c.due.ensures.is yes)))))
+    (omega (arith, piece_end (steps_of_part f (length was) image) f.done q part, (step_size _ c.due.new.cut (c.due.ensures.is yes)))))
 
 pub returns-clause-further : goal.returns-clause-further
 returns-clause-further c = λ asks p piece.
@@ -65,9 +65,9 @@ returns-clause-further c = λ asks p piece.
     let q = step_of c.due.new.cut in
     let part = part_found f size size refl image c.stock_for.result c.stock_for.ensures.block c.cut_at-cut.result
     c.cut_at-cut.ensures.stock c.cut_at-cut.ensures.rest q (c.due.ensures.found (is_true c.due.result c.if-not-due.false)) in
-    let one : p ≡ q = piece_one (steps_left f size image) f.done p q piece (in_left f size image f.done q part) in
+    let one : p ≡ q = piece_one (remaining_steps f size image) f.done p q piece (in_left f size image f.done q part) in
     let count = step_size _ c.due.new.cut (c.due.ensures.is (is_true c.due.result c.if-not-due.false)) in
-    let end = piece_end (part_left f size image) f.done q part in
+    let end = piece_end (steps_of_part f size image) f.done q part in
     let on = c.advance.ensures.further asks (omega (arith, end, count)) in
     record {
       front = on.front;

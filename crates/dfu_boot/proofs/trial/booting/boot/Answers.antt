@@ -1,7 +1,7 @@
 use Rattle.std.proofs.Common.{◌≡◌, ◌⊎◌, inl, inr, ℕ, Option, Some, Result, Ok, Err, OnOk, OnErr, sym, ◌∙◌, ap, subst, IfSome}
 use Rattle.dfu_slots.specs.Medium.{MediumState}
 use Rattle.dfu_slots.specs.declared.medium.Failed.{Failed}
-use Rattle.dfu_boot.specs.trial.Calls.{MediumTakes, MarkIsWithin, trial_start, runs_in}
+use Rattle.dfu_boot.specs.trial.Calls.{MediumAccepts, MarkIsWithin, trial_start, runs_in}
 use Rattle.dfu_boot.specs.trial.Laws.{CarriedIf, Starts, HasWorked, HasFailed}
 use Rattle.dfu_boot.specs.declared.trial.operation.Operation.{Operation}
 use Rattle.dfu_boot.specs.declared.trial.starting.Starting.{Starting}
@@ -23,7 +23,7 @@ start-starting-requires-clause-stands g c =
 pub carry_out-requires-clause-taken : goal.carry_out-requires-clause-taken
 carry_out-requires-clause-taken g c =
     let m = g.M.Medium.state c.args.medium.now in
-    subst (λ (o : Option Operation). IfSome o (λ op. MediumTakes m op)) c.in-Some.is c.start-starting.ensures.taken
+    subst (λ (o : Option Operation). IfSome o (λ op. MediumAccepts m op)) c.in-Some.is c.start-starting.ensures.taken
 
 pub carry_out-requires-clause-within : goal.carry_out-requires-clause-within
 carry_out-requires-clause-within g c =

@@ -1,7 +1,7 @@
 use Rattle.std.proofs.Common.{sym, subst}
 use Rattle.dfu_slots.specs.Medium.{MediumState}
 use Rattle.dfu_asks.specs.Mapped.{grain_of as mapped_grain, mapped}
-use Rattle.dfu_boot.specs.trial.Again.{Fits}
+use Rattle.dfu_boot.specs.trial.Again.{MatchesMedium}
 use Rattle.dfu_boot.specs.declared.trial.starting.Starting.{Starting}
 use Rattle.dfu_boot_c.proofs.Within.{AreWithin, starts_within}
 use Rattle.dfu_boot_c.proofs.trial.again.start_from.Goals.{After-start-starts}
@@ -14,7 +14,7 @@ within c =
     let l = c.in-Ok.looked in
     let t = c.args.tries.now in
     let m : MediumState = mapped (mapped_grain l.medium.unit l.medium.sector) l.medium.bytes.now in
-    let fits = subst (λ (x : MediumState). Fits x t.tries l.standing) (sym c.in-Ok.ensures.state) c.in-Ok.ensures.fits in
+    let fits = subst (λ (x : MediumState). MatchesMedium x t.tries l.standing) (sym c.in-Ok.ensures.state) c.in-Ok.ensures.fits in
     subst (λ (s : Starting). AreWithin m s) (sym c.start-starts.ensures.value) (starts_within m t.tries l.standing fits)
 
 pub starting_told-requires-clause-run : goal.starting_told-requires-clause-run

@@ -3,7 +3,7 @@ use Rattle.dfu_slots.specs.Medium.{MediumState}
 use Rattle.dfu_boot.specs.trial.Again.{AreWhole}
 use Rattle.dfu_boot_c.specs.declared.trial.told.DfuStanding.{DfuStanding}
 use Rattle.dfu_boot_c.specs.trial.Tries.{flash_state}
-use Rattle.dfu_boot_c.specs.trial.Told.{standing_told}
+use Rattle.dfu_boot_c.specs.trial.TrialRecords.{standing_told}
 use Rattle.dfu_boot_c.specs.trial.Again.{base_told}
 use Rattle.dfu_boot_c.proofs.Whole.{told_whole}
 use Rattle.dfu_boot_c.proofs.trial.calls.dfu_core_trial_look.Goals as goal

@@ -6,7 +6,7 @@ use Rattle.dfu_conformance.specs.declared.standard.TheConstants.{STANDARD}
 use Rattle.dfu_conformance.specs.declared.marks.TheConstants.{MARKS}
 use Rattle.dfu_conformance.specs.declared.habits.TheConstants.{HABITS}
 use Rattle.dfu_conformance.specs.declared.dfuse.rows.TheConstants.{DFUSE}
-use Rattle.dfu_conformance.specs.dfuse.Verdicts.{may_stand}
+use Rattle.dfu_conformance.specs.dfuse.Verdicts.{is_candidate}
 use Rattle.dfu_conformance.specs.inside.DfuseStep.{leads_to, led_or_rests, then_moved}
 use Rattle.dfu_conformance.proofs.dfuse.stands.step.Goals as goal
 
@@ -14,7 +14,7 @@ pub returns : goal.returns
 returns c n =
     let before = c.args.before.now in
     let e = c.args.event.now in
-    let held : (p : StandardState) → may_stand c.pass-4.new.after p ≡ led_or_rests before e p = λ p.
+    let held : (p : StandardState) → is_candidate c.pass-4.new.after p ≡ led_or_rests before e p = λ p.
     c.pass-4.ensures p
     ∙ ap (λ (b : Bool). b || list_any (leads_to before e p) DFUSE) (c.pass-3.ensures p
     ∙ ap (λ (b : Bool). b || list_any (leads_to before e p) HABITS) (c.pass-2.ensures p

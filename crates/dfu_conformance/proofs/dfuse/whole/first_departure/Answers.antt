@@ -3,7 +3,7 @@ use Rattle.std.proofs.Common.{sym, ap, subst, arith}
 use Rattle.std.proofs.lemmas.List.{take_more, take_all}
 use Rattle.dfu_conformance.specs.declared.event.LogEvent.{LogEvent}
 use Rattle.dfu_conformance.specs.dfuse.Runs.{DfuseCanAnswer}
-use Rattle.dfu_conformance.specs.dfuse.Verdicts.{AreHeld}
+use Rattle.dfu_conformance.specs.dfuse.Verdicts.{PlacesExact}
 use Rattle.dfu_conformance.proofs.DfuseVerdicts.{can_nothing, is_first}
 use Rattle.dfu_conformance.proofs.dfuse.whole.first_departure.Goals as goal
 
@@ -18,7 +18,7 @@ loop-n-preserved c =
     let both = c.take.ensures.kept (ap is_some c.in_default.is) (take n events) c.loop-n.invariant.held in
     record {
       can = subst DfuseCanAnswer (sym (take_more events n _ below)) both.0;
-      held = subst (λ (es : List LogEvent). AreHeld c.take.new.self.at es) (sym (take_more events n _ below)) both.1;
+      held = subst (λ (es : List LogEvent). PlacesExact c.take.new.self.at es) (sym (take_more events n _ below)) both.1;
     }
 
 pub returns-in-Some-clause-departs : goal.returns-in-Some-clause-departs

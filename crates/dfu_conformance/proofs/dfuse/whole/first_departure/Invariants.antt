@@ -1,10 +1,10 @@
 use Rattle.std.specs.Prelude.{take}
 use Rattle.dfu_conformance.specs.dfuse.Runs.{DfuseCanAnswer}
-use Rattle.dfu_conformance.specs.dfuse.Verdicts.{AreHeld}
+use Rattle.dfu_conformance.specs.dfuse.Verdicts.{PlacesExact}
 use Rattle.dfu_conformance.proofs.dfuse.whole.first_departure.Given as goal
 
 abbrev pub invariant-loop-n : goal.invariant-loop-n
 invariant-loop-n l = record {
   can : DfuseCanAnswer (take l.n l.events);
-  held : AreHeld l.judge.at (take l.n l.events);
+  held : PlacesExact l.judge.at (take l.n l.events);
 }

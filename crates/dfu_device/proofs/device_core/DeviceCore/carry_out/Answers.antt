@@ -1,4 +1,4 @@
-use Rattle.dfu_slots.specs.Seen.{spare_of}
+use Rattle.dfu_slots.specs.StoreView.{spare_of}
 use Rattle.std.proofs.Common.{◌++◌, [], take}
 use Rattle.dfu_device.specs.Decision.{written_stage}
 use Rattle.dfu_device.specs.Parts.{stage_of}

@@ -1,11 +1,11 @@
 use Rattle.std.proofs.Common.{◌≡◌, List, ℕ, min, refl, sym, ◌∙◌, ap, subst, arith, length, take, drop}
-use Rattle.dfu_slots.specs.Seen.{image_of, spare_of, room_of}
+use Rattle.dfu_slots.specs.StoreView.{image_of, spare_of, room_of}
 use Rattle.dfu_device.specs.declared.answer.Answer.TheVariants as answer
 use Rattle.dfu_device.specs.Stage.{status_of}
 use Rattle.dfu_device.specs.DeviceView.{profile}
 use Rattle.dfu_device.specs.Rows.{Answers}
 use Rattle.dfu_device.specs.inside.View.{shown}
-use Rattle.dfu_device.specs.Decision.{HoldsTime}
+use Rattle.dfu_device.specs.Decision.{HasTimeInputs}
 use Rattle.dfu_device.proofs.Carried.{holds_time}
 use Rattle.dfu_device.proofs.StatusBytes.{front_fits, front_stands}
 use Rattle.dfu_device.proofs.device_core.DeviceCore.give.Goals as goal
@@ -31,5 +31,5 @@ returns-in-Status g c =
     c.status_in-bytes.ensures.size c.requires.out
     (sent.ensures.variant.1 (front_fits asked c.min.result bytes c.args.out.now.items count c.requires.out)) sent.ensures.ok))
     (c.status_in-bytes.ensures.answers (room_of w.slots) (spare_of w.slots) c.args.self.now.block.items asked
-    (subst (λ (l : List ℕ). HoldsTime d.mode (length l) (spare_of w.slots) d.block.items) (sym c.as_slice.ensures.value)
+    (subst (λ (l : List ℕ). HasTimeInputs d.mode (length l) (spare_of w.slots) d.block.items) (sym c.as_slice.ensures.value)
     (holds_time d.mode d.block.items w.slots d.sound))))

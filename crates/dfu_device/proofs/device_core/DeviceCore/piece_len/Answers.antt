@@ -1,5 +1,5 @@
 use Rattle.std.proofs.Common.{arith}
-use Rattle.dfu_slots.specs.Seen.{image_of}
+use Rattle.dfu_slots.specs.StoreView.{image_of}
 use Rattle.dfu_device.proofs.Pieces.{next_bytes, next_counted}
 use Rattle.dfu_device.proofs.device_core.DeviceCore.piece_len.Goals as goal
 

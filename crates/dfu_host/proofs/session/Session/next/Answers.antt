@@ -2,7 +2,7 @@ use Rattle.std.proofs.Common.{List, ℕ, subst}
 use Rattle.dfu_host.specs.declared.parts.Parts.{Parts}
 use Rattle.dfu_host.specs.Goals.{payload_of}
 use Rattle.dfu_host.specs.Host.{Act}
-use Rattle.dfu_host.specs.InParts.{BodyIsCut, begins_at, host_of}
+use Rattle.dfu_host.specs.InParts.{BodyIsCut, body_offset, host_of}
 use Rattle.dfu_host.proofs.Budget.{act_done}
 use Rattle.dfu_host.proofs.session.Session.next.Goals as goal
 
@@ -13,6 +13,6 @@ returns c =
     record {
       act = act;
       done = λ memory. act_done (host_of memory c.args.self.now) c.action.result (act memory);
-      cut = subst (λ (p : Parts). BodyIsCut (payload_of p.goal) (begins_at p.transfer p.phase) c.action.result)
+      cut = subst (λ (p : Parts). BodyIsCut (payload_of p.goal) (body_offset p.transfer p.phase) c.action.result)
           c.self.view_is c.action.ensures.cut;
     }

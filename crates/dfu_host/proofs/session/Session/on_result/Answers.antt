@@ -2,12 +2,12 @@ use Rattle.std.proofs.Common.{◌≡◌, sym, subst, arith}
 use Rattle.dfu_host.specs.declared.parts.Parts.{Parts}
 use Rattle.dfu_host.specs.Goals.{Carries}
 use Rattle.dfu_host.specs.InParts.{host_of}
-use Rattle.dfu_host.specs.Keeping.{Kept}
-use Rattle.dfu_host.specs.Taking.{Takes}
+use Rattle.dfu_host.specs.UploadBuffer.{PartsBuffered}
+use Rattle.dfu_host.specs.TakeCall.{TakeResult}
 use Rattle.dfu_host.specs.Host.{HostRow, after}
 use Rattle.dfu_host.proofs.Budget.{row_takes, row_over}
-use Rattle.dfu_host.specs.Rooms.{TakesPartIn}
-use Rattle.dfu_host.specs.Uploading.{TakesPart}
+use Rattle.dfu_host.specs.Rooms.{FetchResultIn}
+use Rattle.dfu_host.specs.Uploading.{FetchResult}
 use Rattle.dfu_host.specs.inside.Refusing.{RefusesIn}
 use Rattle.dfu_host.specs.inside.View.{heard_of, part_of, state_with}
 use Rattle.dfu_host.proofs.ImageParts.{takes_part, wanted}
@@ -23,8 +23,8 @@ returns-clause-takes c = λ memory memory' kept.
     let seen = c.args.seen in
     let part = part_of seen in
     let word = c.hear-heard.result in
-    let stored : Kept task.transfer p.phase seen c.args.refused memory memory' =
-    subst (λ (z : Parts). Kept z.transfer z.phase seen c.args.refused memory memory') (sym c.self.view_is) kept in
+    let stored : PartsBuffered task.transfer p.phase seen c.args.refused memory memory' =
+    subst (λ (z : Parts). PartsBuffered z.transfer z.phase seen c.args.refused memory memory') (sym c.self.view_is) kept in
     let same : now ≡ after before (heard_of part word) =
     c.after-self-inside.ensures.state memory memory' part (c.hear-heard.ensures.keeps memory memory' stored)
     c.hear-heard.ensures.compares in
@@ -35,9 +35,9 @@ returns-clause-takes c = λ memory memory' kept.
       room = wanted task p.phase part word memory c.hear-heard.ensures.room;
       same = same;
     } in
-    let taken : TakesPart before before.phase seen now =
+    let taken : FetchResult before before.phase seen now =
     takes_part memory task p seen word now (c.hear-heard.ensures.hears memory) c.hear-heard.ensures.room same in
-    subst (λ (z : Parts). Takes (host_of memory z) seen now) c.self.view_is (record {
+    subst (λ (z : Parts). TakeResult (host_of memory z) seen now) c.self.view_is (record {
       row = step;
       budget = omega (arith, row_takes before now seen step);
       over = row_over before now seen step;
@@ -53,14 +53,14 @@ returns-clause-room c = λ memory memory' room kept full.
     let task = c.self.inside.task in
     let p = c.self.inside.progress in
     let seen = c.args.seen in
-    let stored : Kept task.transfer p.phase seen c.args.refused memory memory' =
-    subst (λ (z : Parts). Kept z.transfer z.phase seen c.args.refused memory memory') (sym c.self.view_is) kept in
+    let stored : PartsBuffered task.transfer p.phase seen c.args.refused memory memory' =
+    subst (λ (z : Parts). PartsBuffered z.transfer z.phase seen c.args.refused memory memory') (sym c.self.view_is) kept in
     let refuses : RefusesIn room task.transfer p.phase memory seen c.args.refused =
     subst (λ (z : Parts). RefusesIn room z.transfer z.phase memory seen c.args.refused) (sym c.self.view_is) full in
     let now = state_with memory' c.after-self-inside.new.task c.after-self-inside.result in
     let same : now ≡ after (state_with memory task p) (heard_of (part_of seen) c.hear-heard.result) =
     c.after-self-inside.ensures.state memory memory' (part_of seen) (c.hear-heard.ensures.keeps memory memory' stored)
     c.hear-heard.ensures.compares in
-    subst (λ (z : Parts). TakesPartIn room (host_of memory z) (host_of memory z).phase seen now) c.self.view_is
+    subst (λ (z : Parts). FetchResultIn room (host_of memory z) (host_of memory z).phase seen now) c.self.view_is
     (takes_part_in room memory task p seen c.args.refused c.hear-heard.result now
     (c.hear-heard.ensures.by memory memory' stored) refuses same)

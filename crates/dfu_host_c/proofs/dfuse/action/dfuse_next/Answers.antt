@@ -1,10 +1,10 @@
 use Rattle.std.proofs.Common.{rules, inl, inr, refl, sym, ◌∙◌}
-use Rattle.dfu_host_c.specs.dfuse.Sessions.{DfuseIsHeld}
+use Rattle.dfu_host_c.specs.dfuse.Sessions.{IsDfuseRecordOf}
 use Rattle.dfu_host_c.proofs.dfuse.action.dfuse_next.Goals as goal
 
 pub returns : goal.returns
 returns c =
-    let held : DfuseIsHeld c.args.session.now c.args.map.now c.args.image c.in-Some-session_of.host = record {
+    let held : IsDfuseRecordOf c.args.session.now c.args.map.now c.args.image c.in-Some-session_of.host = record {
       map = _;
       is_map = c.in-Some.ensures.some;
       says = sym c.session_of.ensures.value ∙ c.in-Some-session_of.is;

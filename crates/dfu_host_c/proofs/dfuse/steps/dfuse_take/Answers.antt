@@ -1,18 +1,18 @@
 use Rattle.std.proofs.Common.{◌≡◌, inl, inr, refl, sym, ◌∙◌, Some}
-use Rattle.dfu_host_c.specs.dfuse.Calls.{DfuseTook}
-use Rattle.dfu_host_c.specs.dfuse.Sessions.{DfuseIsHeld, session_in}
+use Rattle.dfu_host_c.specs.dfuse.Calls.{DfuseTakeResult}
+use Rattle.dfu_host_c.specs.dfuse.Sessions.{IsDfuseRecordOf, session_in}
 use Rattle.dfu_host_c.proofs.DfuseSessions.{held_on}
 use Rattle.dfu_host_c.proofs.dfuse.steps.dfuse_take.Goals as goal
 
 pub returns : goal.returns
 returns c =
     let says : session_in c.args.session.now _ c.args.image ≡ Some c.in-Some-session_of.host = sym c.session_of.ensures.value ∙ c.in-Some-session_of.is in
-    let held : DfuseIsHeld c.args.session.now c.args.map.now c.args.image c.in-Some-session_of.host = record {
+    let held : IsDfuseRecordOf c.args.session.now c.args.map.now c.args.image c.in-Some-session_of.host = record {
       map = _;
       is_map = c.in-Some.ensures.some;
       says = says;
     } in
-    let took : DfuseTook c.args.session.now c.record_of.result c.args.map.now c.args.image c.args.seen c.args.bytes = record {
+    let took : DfuseTakeResult c.args.session.now c.record_of.result c.args.map.now c.args.image c.args.seen c.args.bytes = record {
       session = c.in-Some-session_of.host;
       next = c.take.new.self;
       word = c.in-Some-dfuse_seen_at.seen;

@@ -1,5 +1,5 @@
 use Rattle.std.proofs.Common.{◌∙◌, ap, refl, sym, List, ℕ}
-use Rattle.dfu_link.specs.ScriptRun.{begins_with}
+use Rattle.dfu_link.specs.ScriptRun.{has_front}
 use Rattle.dfu_link.proofs.Checking.{accepts_all}
 use Rattle.dfu_link.proofs.SourceLaws.{nil_of_length}
 use Rattle.dfu_link.proofs.scripting.playing.is_accepted.Goals as goal
@@ -16,4 +16,4 @@ begins-requires g c = rw c.slots.ensures.slots c.in-Some.ensures.some.within
 pub returns-in-Some : goal.returns-in-Some
 returns-in-Some g c =
     rw c.in-Some.ensures.some.is ((rw c.slots.ensures.slots at c.begins.ensures)
-    ∙ ap (λ (l : List ℕ). begins_with c.args.check.now l) c.in-Some.ensures.some.bytes)
+    ∙ ap (λ (l : List ℕ). has_front c.args.check.now l) c.in-Some.ensures.some.bytes)

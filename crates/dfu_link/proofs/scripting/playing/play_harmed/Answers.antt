@@ -1,7 +1,7 @@
 use Rattle.std.proofs.Common.{◌≡◌, ◌∙◌, ℕ, List, [], ◌∷◌, refl, ap}
 use Rattle.std.proofs.lemmas.Result.{err_from_is_err_and}
 use Rattle.dfu_sim.specs.Happening.{Fate, Harm, Goes, harmed}
-use Rattle.dfu_link.specs.Said.{HasTear, Go, hex_bytes, harm_fate}
+use Rattle.dfu_link.specs.LineContent.{HasTear, Go, hex_bytes, harm_fate}
 use Rattle.dfu_link.specs.inside.Expected.{expectation_of, point_at}
 use Rattle.dfu_link.specs.declared.scripting.line.HarmKind.{HarmKind}
 use Rattle.dfu_link.specs.declared.scripting.line.HarmKind.TheVariants as kind

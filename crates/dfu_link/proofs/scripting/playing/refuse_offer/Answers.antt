@@ -1,5 +1,5 @@
 use Rattle.std.proofs.Common.{refl}
-use Rattle.dfu_link.specs.Said.{Offer}
+use Rattle.dfu_link.specs.LineContent.{Offer}
 use Rattle.dfu_link.proofs.PlayLaws.{busy_plays}
 use Rattle.dfu_link.proofs.StepLaws.{line_acts}
 use Rattle.dfu_link.proofs.scripting.playing.refuse_offer.Goals as goal

@@ -1,6 +1,6 @@
 use Rattle.std.proofs.Common.{sym}
 use Rattle.std.proofs.lemmas.Result.{err_from_is_err_and}
-use Rattle.dfu_link.specs.Said.{said_by}
+use Rattle.dfu_link.specs.LineContent.{content_of_event}
 use Rattle.dfu_link.proofs.RestLaws.{plain_done, says_these, line_ends}
 use Rattle.dfu_link.proofs.scripting.run_events.first_line.Goals as goal
 
@@ -20,7 +20,7 @@ returns-in-None g c = record {
 
 pub play_events-requires : goal.play_events-requires
 play_events-requires g c =
-    c.requires (said_by c.in-Some.events) (says_these (rw c.in-Some.is at c.in_ok-plain_line.ensures.ok))
+    c.requires (content_of_event c.in-Some.events) (says_these (rw c.in-Some.is at c.in_ok-plain_line.ensures.ok))
 
 pub returns-in-Some : goal.returns-in-Some
 returns-in-Some g c = line_ends c.play_events.result (rw c.in-Some.is at c.in_ok-plain_line.ensures.ok) c.play_events.ensures

@@ -1,6 +1,6 @@
 use Rattle.std.proofs.Common.{sym, ap}
 use Rattle.std.proofs.lemmas.Result.{err_from_is_err_and}
-use Rattle.dfu_link.specs.Said.{said_by, offered_bytes}
+use Rattle.dfu_link.specs.LineContent.{content_of_event, offered_bytes}
 use Rattle.dfu_link.specs.inside.Moving.{is_done}
 use Rattle.dfu_link.proofs.RestLaws.{plain_done, plain_left, line_ends, said_ends}
 use Rattle.dfu_link.proofs.scripting.run_events.later_line.Goals as goal
@@ -22,13 +22,13 @@ pub returns-in_err-refuse_offer-in-Offer-clause-fault : goal.returns-in_err-refu
 returns-in_err-refuse_offer-in-Offer-clause-fault g c =
     let failed = err_from_is_err_and c.from_residual-in_err-refuse_offer-in-Offer.result
     c.from_residual-in_err-refuse_offer-in-Offer.ensures.1 in
-    let line = said_ends _ (rw c.in-Some.is at c.in_ok-plain.ensures.ok) (ap said_by c.in-Offer.is)
+    let line = said_ends _ (rw c.in-Some.is at c.in_ok-plain.ensures.ok) (ap content_of_event c.in-Offer.is)
     (c.in_err-refuse_offer-in-Offer.ensures c.in-Offer.purpose (offered_bytes c.in-Offer.file)) in
     rw (failed.1, failed.2) line.fault
 
 pub returns-in_ok-refuse_offer-in-Offer-clause-ok : goal.returns-in_ok-refuse_offer-in-Offer-clause-ok
 returns-in_ok-refuse_offer-in-Offer-clause-ok g c =
-    let line = said_ends _ (rw c.in-Some.is at c.in_ok-plain.ensures.ok) (ap said_by c.in-Offer.is)
+    let line = said_ends _ (rw c.in-Some.is at c.in_ok-plain.ensures.ok) (ap content_of_event c.in-Offer.is)
     (c.in_ok-refuse_offer-in-Offer.ensures c.in-Offer.purpose (offered_bytes c.in-Offer.file)) in
     is_done line.ok
 

@@ -1,6 +1,6 @@
 use Rattle.std.proofs.Common.{◌≡◌, arith, true, false}
 use Rattle.std.proofs.lemmas.Result.{err_from_is_err_and}
-use Rattle.dfu_link.specs.Said.{given_bytes}
+use Rattle.dfu_link.specs.LineContent.{given_bytes}
 use Rattle.dfu_link.specs.inside.Moving.{all_done, one_left}
 use Rattle.dfu_link.proofs.MoveLaws.{moves_then, ends_now}
 use Rattle.dfu_link.proofs.FallLaws.{given_falls, image_falls, source_falls}

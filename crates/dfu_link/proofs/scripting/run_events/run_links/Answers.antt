@@ -1,6 +1,6 @@
 use Rattle.std.proofs.Common.{◌≡◌, ◌∙◌, sym, ap, arith, refl, Bool, true, false, Ok}
 use Rattle.std.proofs.lemmas.Result.{err_from_is_err_and}
-use Rattle.dfu_link.specs.Said.{given_bytes}
+use Rattle.dfu_link.specs.LineContent.{given_bytes}
 use Rattle.dfu_link.specs.Lines.{line_of}
 use Rattle.dfu_link.specs.ScriptRun.{at_rest}
 use Rattle.dfu_link.specs.inside.Expected.{at_point}

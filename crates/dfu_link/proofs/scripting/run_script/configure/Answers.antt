@@ -1,5 +1,5 @@
 use Rattle.std.proofs.Common.{◌≡◌, ap, sym, refl, arith, true, Some}
-use Rattle.dfu_link.specs.Said.{config_line_of, Blank, Sets, LimitsTo}
+use Rattle.dfu_link.specs.LineContent.{config_line_of, Blank, Sets, LimitsTo}
 use Rattle.dfu_link.specs.ScriptRun.{Settings}
 use Rattle.dfu_link.specs.inside.SetupView.{settings_of}
 use Rattle.dfu_link.proofs.MoveLaws.{prepared_none, prepared_then}

@@ -1,7 +1,7 @@
 use Rattle.std.proofs.Common.{sym, subst, refl}
 use Rattle.std.proofs.lemmas.Result.{err_from_is_err_and}
 use Rattle.dfu_suffix.proofs.ReadLaws.{if_some}
-use Rattle.dfu_link.specs.Said.{given_bytes}
+use Rattle.dfu_link.specs.LineContent.{given_bytes}
 use Rattle.dfu_link.specs.Falls.{Falls, no_memory}
 use Rattle.dfu_link.specs.declared.scripting.fault.ScriptFault.{ScriptFault}
 use Rattle.dfu_link.proofs.WholeLaws.{configure_falls, start_falls, run_ended}

@@ -1,4 +1,4 @@
-use Rattle.dfu_link.specs.Said.{given_bytes}
+use Rattle.dfu_link.specs.LineContent.{given_bytes}
 use Rattle.dfu_link.proofs.EndPrints.{end_prints}
 use Rattle.dfu_link.proofs.scripting.run_script.script_traced_with.Goals as goal
 

@@ -1,6 +1,6 @@
 use Rattle.std.proofs.Common.{◌≡◌, ℕ, List, ◌∷◌, [], ◌++◌, ap, arith}
 use Rattle.hex.specs.Hex.{encode_lower}
-use Rattle.dfu_slots.specs.Seen.{image_of}
+use Rattle.dfu_slots.specs.StoreView.{image_of}
 use Rattle.dfu_link.specs.Texts.{hex_text}
 use Rattle.dfu_link.proofs.WriteLaws.{puts_then, puts_stops}
 use Rattle.dfu_link.proofs.HexLaws.{text_some}

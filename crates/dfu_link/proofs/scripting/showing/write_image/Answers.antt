@@ -1,5 +1,5 @@
 use Rattle.std.proofs.Common.{◌∷◌, [], ◌++◌, refl}
-use Rattle.dfu_slots.specs.Seen.{image_of}
+use Rattle.dfu_slots.specs.StoreView.{image_of}
 use Rattle.dfu_link.specs.Texts.{hex_text}
 use Rattle.dfu_link.proofs.WriteLaws.{puts_then, puts_stops}
 use Rattle.dfu_link.proofs.scripting.showing.write_image.Goals as goal

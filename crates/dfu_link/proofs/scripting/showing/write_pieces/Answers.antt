@@ -1,5 +1,5 @@
 use Rattle.std.proofs.Common.{arith}
-use Rattle.dfu_slots.specs.Seen.{image_of}
+use Rattle.dfu_slots.specs.StoreView.{image_of}
 use Rattle.dfu_link.proofs.HexLaws.{pieces_none, piece_goes, piece_stops}
 use Rattle.dfu_link.proofs.scripting.showing.write_pieces.Goals as goal
 

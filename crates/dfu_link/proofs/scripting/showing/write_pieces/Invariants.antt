@@ -1,6 +1,6 @@
 use Rattle.std.proofs.Common.{◌-◌, ◌≤◌, take, Ok}
 use Rattle.hex.specs.Hex.{encode_lower}
-use Rattle.dfu_slots.specs.Seen.{image_of}
+use Rattle.dfu_slots.specs.StoreView.{image_of}
 use Rattle.dfu_link.specs.inside.Expected.{Puts}
 use Rattle.dfu_link.proofs.scripting.showing.write_pieces.Given as goal
 

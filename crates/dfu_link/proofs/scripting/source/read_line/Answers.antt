@@ -1,5 +1,5 @@
 use Rattle.std.proofs.Common.{◌≡◌, ◌∙◌, sym, ap, subst, arith, not, Bool, ℕ, ◌==◌, length, vec_len}
-use Rattle.dfu_link.specs.inside.Source.{TakesPiece}
+use Rattle.dfu_link.specs.inside.Source.{PieceRead}
 use Rattle.dfu_link.proofs.SourceLaws.{so_far_filled, so_far_more, text_ended, line_given, line_too_long, nil_of_length}
 use Rattle.dfu_link.proofs.scripting.source.read_line.Goals as goal
 
@@ -17,7 +17,7 @@ pub returns-then-taken-clause-ok : goal.returns-then-taken-clause-ok
 returns-then-taken-clause-ok g c =
     let line = so_far_filled c.pieces.invariant.line c.fill.ensures.left in
     let taken = c.take_piece-taken in
-    let takes = subst (λ (t : Bool). TakesPiece c.fill.new.self.left c.pieces.line.items taken.result.bytes t taken.new.pieces.left
+    let takes = subst (λ (t : Bool). PieceRead c.fill.new.self.left c.pieces.line.items taken.result.bytes t taken.new.pieces.left
     taken.new.line.items) c.if-taken.true taken.ensures.takes in
     line_given c.args.before c.args.line.now.items line takes taken.ensures.most
 
@@ -25,7 +25,7 @@ pub returns-then-len-gt-MAX_LINE-clause-fault : goal.returns-then-len-gt-MAX_LIN
 returns-then-len-gt-MAX_LINE-clause-fault g c =
     let line = so_far_filled c.pieces.invariant.line c.fill.ensures.left in
     let taken = c.take_piece-taken in
-    let takes = subst (λ (t : Bool). TakesPiece c.fill.new.self.left c.pieces.line.items taken.result.bytes t taken.new.pieces.left
+    let takes = subst (λ (t : Bool). PieceRead c.fill.new.self.left c.pieces.line.items taken.result.bytes t taken.new.pieces.left
     taken.new.line.items) c.if-taken.false taken.ensures.takes in
     line_too_long c.args.before c.args.line.now.items line takes taken.ensures.most
     (omega (arith, c.len.ensures, c.if-len-gt-MAX_LINE.true))
@@ -34,7 +34,7 @@ pub pieces-preserved : goal.pieces-preserved
 pieces-preserved g c =
     let line = so_far_filled c.pieces.invariant.line c.fill.ensures.left in
     let taken = c.take_piece-taken in
-    let takes = subst (λ (t : Bool). TakesPiece c.fill.new.self.left c.pieces.line.items taken.result.bytes t taken.new.pieces.left
+    let takes = subst (λ (t : Bool). PieceRead c.fill.new.self.left c.pieces.line.items taken.result.bytes t taken.new.pieces.left
     taken.new.line.items) c.if-taken.false taken.ensures.takes in
     record {
       line = so_far_more line takes taken.ensures.most (omega (arith, c.len.ensures, c.if-len-gt-MAX_LINE.false));

@@ -2,7 +2,7 @@ use Rattle.std.proofs.Common.{◌≡◌, ◌∙◌, ◌%◌, ℕ, ap, subst, sym
 use Rattle.dfu_slots.specs.Medium.{MediumState, AllWrites}
 use Rattle.dfu_slots.specs.Medium.Fuse.{Whole}
 use Rattle.dfu_slots.specs.Units.{IsWhole}
-use Rattle.dfu_slots.specs.Seen.{format_series}
+use Rattle.dfu_slots.specs.StoreView.{format_series}
 use Rattle.dfu_slots.specs.Image.{IsSized}
 use Rattle.dfu_slots.specs.Changes.{CanFormat, IsFormatFault}
 use Rattle.dfu_slots.specs.Unarmed.{broken_whole, all_whole}

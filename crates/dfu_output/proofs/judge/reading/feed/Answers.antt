@@ -2,7 +2,7 @@ use Rattle.std.proofs.Common.{◌≡◌, ◌-◌, ◌++◌, ◌∙◌, List, ℕ
 use Rattle.std.proofs.lemmas.List.{take-append-drop, take_all}
 use Rattle.std.proofs.Math.Seq.{take-add}
 use Rattle.dfu_output.specs.judge.Judging.{LogStops}
-use Rattle.dfu_output.specs.judge.inside.Going.{Going}
+use Rattle.dfu_output.specs.judge.inside.JudgeState.{Going}
 use Rattle.dfu_output.proofs.judge.reading.feed.Goals as goal
 
 pub loop-at-preserved : goal.loop-at-preserved

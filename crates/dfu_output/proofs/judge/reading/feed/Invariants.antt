@@ -1,5 +1,5 @@
 use Rattle.std.specs.Prelude.{◌≡◌, ◌≤◌, ◌+◌, ◌-◌, ◌++◌, ℕ, List, Option, length, take}
-use Rattle.dfu_output.specs.judge.inside.Going.{Going}
+use Rattle.dfu_output.specs.judge.inside.JudgeState.{Going}
 use Rattle.dfu_output.proofs.judge.reading.feed.Given as goal
 
 abbrev pub invariant-loop-at : goal.invariant-loop-at

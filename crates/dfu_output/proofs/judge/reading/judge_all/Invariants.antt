@@ -1,6 +1,6 @@
 use Rattle.std.specs.Prelude.{ℕ, List, [], Option}
 use Rattle.std.specs.Io.KnownBytes.{Consumes}
-use Rattle.dfu_output.specs.judge.inside.Going.{Going}
+use Rattle.dfu_output.specs.judge.inside.JudgeState.{Going}
 use Rattle.dfu_output.proofs.judge.reading.judge_all.Given as goal
 
 abbrev pub invariant-pieces : goal.invariant-pieces

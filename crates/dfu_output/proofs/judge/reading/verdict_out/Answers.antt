@@ -7,7 +7,7 @@ use Rattle.dfu_output.specs.Output.{Wrote}
 use Rattle.dfu_output.specs.declared.exit.Exit.{Exit}
 use Rattle.dfu_output.specs.declared.exit.Exit.TheVariants.{Refused}
 use Rattle.dfu_output.specs.judge.Judging.{WritesVerdict, exit_of, readings_of}
-use Rattle.dfu_output.specs.judge.inside.Going.{Going, JudgingState}
+use Rattle.dfu_output.specs.judge.inside.JudgeState.{Going, JudgingState}
 use Rattle.dfu_output.specs.judge.Texts.{verdict_text}
 use Rattle.dfu_output.proofs.judge.reading.verdict_out.Goals as goal
 

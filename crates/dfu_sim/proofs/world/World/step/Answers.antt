@@ -1,11 +1,11 @@
 use Rattle.dfu_slots.proofs.Seeing.{image_active, image_is}
-use Rattle.dfu_sim.specs.Understood.{ImageShown}
+use Rattle.dfu_sim.specs.Understood.{BenchImageIsActive}
 use Rattle.dfu_sim.proofs.Steady.{come_steady, come_follow, come_sure, come_gives}
 use Rattle.dfu_sim.proofs.HeadlineKept.{step_keeps}
 use Rattle.dfu_sim.proofs.world.World.step.Goals as goal
 
 -- No image but the one that is shown is active.
-shown : ImageShown
+shown : BenchImageIsActive
 shown b = (image_active b.device.slots, image_is b.device.slots)
 
 pub invariant_of-self : goal.invariant_of-self

@@ -1,4 +1,4 @@
-use Rattle.dfu_slots.specs.Seen.{SlotsState, store_of}
+use Rattle.dfu_slots.specs.StoreView.{SlotsState, store_of}
 use Rattle.dfu_slots.proofs.AfterBegin.{begin_done}
 use Rattle.dfu_slots.proofs.slots.Slots.begin.Goals as goal
 

@@ -1,4 +1,4 @@
-use Rattle.dfu_slots.specs.Seen.{SlotsState, store_of}
+use Rattle.dfu_slots.specs.StoreView.{SlotsState, store_of}
 use Rattle.dfu_slots.proofs.AfterCommit.{commit_leaves}
 use Rattle.dfu_slots.proofs.slots.Slots.commit.Goals as goal
 

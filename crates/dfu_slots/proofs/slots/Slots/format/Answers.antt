@@ -1,5 +1,5 @@
 use Rattle.std.proofs.Common.{refl}
-use Rattle.dfu_slots.specs.Seen.{format_series, store_of}
+use Rattle.dfu_slots.specs.StoreView.{format_series, store_of}
 use Rattle.dfu_slots.specs.Changes.{CanFormat}
 use Rattle.dfu_slots.proofs.Formatting.{FormatLeaves, can_format, format_leaves}
 use Rattle.dfu_slots.proofs.Series.{broken_rose}

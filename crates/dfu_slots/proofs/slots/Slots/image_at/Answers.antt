@@ -1,5 +1,5 @@
 use Rattle.std.proofs.Common.{◌≡◌, ℕ, ◌+◌, length, slice_range, subst, sym, arith}
-use Rattle.dfu_slots.specs.Seen.{SlotsState, store_of, image_of}
+use Rattle.dfu_slots.specs.StoreView.{SlotsState, store_of, image_of}
 use Rattle.dfu_slots.proofs.Unique.{image_there, image_end}
 use Rattle.dfu_slots.proofs.Stays.{kept_active}
 use Rattle.dfu_slots.proofs.slots.Slots.image_at.Goals as goal

@@ -1,4 +1,4 @@
-use Rattle.dfu_slots.specs.Seen.{SlotsState, store_of}
+use Rattle.dfu_slots.specs.StoreView.{SlotsState, store_of}
 use Rattle.dfu_slots.proofs.AfterPut.{put_done}
 use Rattle.dfu_slots.proofs.slots.Slots.put.Goals as goal
 

@@ -1,5 +1,5 @@
 use Rattle.std.proofs.Common.{◌+◌, length, ◌≤◌, ◌∙◌, subst, sym, arith}
-use Rattle.dfu_slots.specs.Seen.{SlotsState, image_of}
+use Rattle.dfu_slots.specs.StoreView.{SlotsState, image_of}
 use Rattle.dfu_slots.proofs.Unique.{active_part, active_fits}
 use Rattle.dfu_slots.proofs.Stays.{kept_active}
 use Rattle.dfu_slots.proofs.slots.Slots.read_active.Goals as goal

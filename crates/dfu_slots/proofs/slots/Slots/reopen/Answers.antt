@@ -1,5 +1,5 @@
 use Rattle.std.proofs.Common.{ap, ◌∙◌}
-use Rattle.dfu_slots.specs.Seen.{image_of}
+use Rattle.dfu_slots.specs.StoreView.{image_of}
 use Rattle.dfu_slots.proofs.Refused.{no_fault}
 use Rattle.dfu_slots.proofs.Seeing.{fresh_leaves, reopened_image}
 use Rattle.dfu_slots.proofs.slots.Slots.reopen.Goals as goal

@@ -1,6 +1,6 @@
 use Rattle.std.proofs.Common.{◌≡◌, ◌-◌, ◌≤◌, sym, subst}
 use Rattle.dfuse_host.specs.declared.session.Session.{Session}
-use Rattle.dfuse_host.specs.Sessions.{dfuse_takes_left}
+use Rattle.dfuse_host.specs.Sessions.{remaining_dfuse_inputs}
 use Rattle.dfuse_host.proofs.Takes.{takes_on, over_row}
 use Rattle.dfuse_host.proofs.RunLaws.{plan_told}
 use Rattle.dfuse_host.proofs.session.Session.take.Goals as goal
@@ -8,7 +8,7 @@ use Rattle.dfuse_host.proofs.session.Session.take.Goals as goal
 pub returns-in-On-clause-budget : goal.returns-in-On-clause-budget
 returns-in-On-clause-budget c =
     let s = c.args.self.now in
-    subst (λ (t : Session). dfuse_takes_left t ≤ dfuse_takes_left s - 1) (sym c.after.ensures)
+    subst (λ (t : Session). remaining_dfuse_inputs t ≤ remaining_dfuse_inputs s - 1) (sym c.after.ensures)
     (takes_on s c.in-On.at c.hear-heard.result c.in-On.is)
 
 pub returns-in-On-clause-plan : goal.returns-in-On-clause-plan

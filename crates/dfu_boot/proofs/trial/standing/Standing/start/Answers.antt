@@ -1,6 +1,6 @@
 use Rattle.std.proofs.Common.{subst, arith}
-use Rattle.dfu_boot.specs.trial.Calls.{MediumTakes, MarkIsWithin}
-use Rattle.dfu_boot.specs.trial.Again.{Fits}
+use Rattle.dfu_boot.specs.trial.Calls.{MediumAccepts, MarkIsWithin}
+use Rattle.dfu_boot.specs.trial.Again.{MatchesMedium}
 use Rattle.dfu_boot.specs.declared.trial.standing.Standing.{Standing}
 use Rattle.dfu_boot.specs.declared.trial.operation.Operation.TheVariants.{Mark}
 use Rattle.dfu_boot.proofs.Fitting.{start_in, start_taken, erase_taken}
@@ -11,15 +11,15 @@ use Rattle.dfu_boot.proofs.trial.standing.Standing.start.Goals as goal
 pub mark_at-mark-requires : goal.mark_at-mark-requires
 mark_at-mark-requires g c =
     let m = g.M.Medium.state c.args.medium.now in
-    let stands = subst (λ (s : Standing). Fits m c.args.tries s) c.in-OnTrial.is c.requires.stands in
+    let stands = subst (λ (s : Standing). MatchesMedium m c.args.tries s) c.in-OnTrial.is c.requires.stands in
     omega (arith, start_in m c.args.tries c.in-OnTrial.trial c.requires.tries stands c.if-trial-tries.true)
 
 -- The medium takes the mark of the next start, and it lies within the medium.
 marked : (g : given.Over) (c : After-mark_size g) → let m = g.M.Medium.state c.args.medium.now in
-    let mark = Mark c.mark_at-mark.result c.mark_size.result in MediumTakes m mark × MarkIsWithin m mark
+    let mark = Mark c.mark_at-mark.result c.mark_size.result in MediumAccepts m mark × MarkIsWithin m mark
 marked g c =
     let m = g.M.Medium.state c.args.medium.now in
-    let stands = subst (λ (s : Standing). Fits m c.args.tries s) c.in-OnTrial.is c.requires.stands in
+    let stands = subst (λ (s : Standing). MatchesMedium m c.args.tries s) c.in-OnTrial.is c.requires.stands in
     start_taken m c.args.tries c.in-OnTrial.trial c.requires.tries stands c.if-trial-tries.true c.mark_at-mark.result c.mark_size.result
     c.mark_at-mark.ensures c.mark_size.ensures.value
 
@@ -32,5 +32,5 @@ returns-then-trial-tries-clause-within g c = (marked g (goal.at.returns-then-tri
 pub returns-else-trial-tries-clause-taken : goal.returns-else-trial-tries-clause-taken
 returns-else-trial-tries-clause-taken g c =
     let m = g.M.Medium.state c.args.medium.now in
-    let stands = subst (λ (s : Standing). Fits m c.args.tries s) c.in-OnTrial.is c.requires.stands in
+    let stands = subst (λ (s : Standing). MatchesMedium m c.args.tries s) c.in-OnTrial.is c.requires.stands in
     erase_taken m c.args.tries c.in-OnTrial.trial c.requires.tries stands

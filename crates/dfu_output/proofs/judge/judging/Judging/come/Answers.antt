@@ -1,5 +1,5 @@
 use Rattle.std.proofs.Common.{◌∙◌, ◌+◌, ℕ, refl, sym, ap, subst, arith, cond}
-use Rattle.dfu_output.specs.judge.inside.Going.{JudgingState, IsAt}
+use Rattle.dfu_output.specs.judge.inside.JudgeState.{JudgingState, IsAt}
 use Rattle.dfu_output.proofs.LogSteps.{come_on, come_off}
 use Rattle.dfu_output.proofs.judge.judging.Judging.come.Goals as goal
 

@@ -2,7 +2,7 @@ use Rattle.std.proofs.Common.{◌∙◌, ◌++◌, ◌∷◌, [], Some, None, ap
 use Rattle.dfu_conformance.specs.declared.log.Line.TheVariants as line
 use Rattle.dfu_output.specs.judge.Course.{course_line_ended, says_elsewhere, says_nothing}
 use Rattle.dfu_output.specs.judge.Lines.{LinesState}
-use Rattle.dfu_output.specs.judge.inside.Going.{JudgingState, IsAt}
+use Rattle.dfu_output.specs.judge.inside.JudgeState.{JudgingState, IsAt}
 use Rattle.dfu_output.proofs.LogSteps.{at_end, cannot_go, kept_byte, takes_as, took_event, took_passed}
 use Rattle.dfu_output.proofs.judge.judging.Judging.take.Goals as goal
 

@@ -1,5 +1,5 @@
 use Rattle.std.proofs.Common.{sym, subst}
-use Rattle.dfu_output.specs.judge.inside.Going.{JudgingState, IsAt}
+use Rattle.dfu_output.specs.judge.inside.JudgeState.{JudgingState, IsAt}
 use Rattle.dfu_output.proofs.LogSteps.{kept_bytes}
 use Rattle.dfu_output.proofs.judge.judging.Judging.take_inner.Goals as goal
 

@@ -2,7 +2,7 @@ use Rattle.std.proofs.Common.{sym, subst}
 use Rattle.dfu_conformance.specs.declared.verdict.Verdict.{Verdict}
 use Rattle.dfu_conformance.specs.Verdict.{ArePlacesAfter, HasBits, IsVerdict}
 use Rattle.dfu_output.specs.judge.Judging.{readings_of}
-use Rattle.dfu_output.specs.judge.inside.Going.{JudgingState, IsAt}
+use Rattle.dfu_output.specs.judge.inside.JudgeState.{JudgingState, IsAt}
 use Rattle.dfu_output.proofs.judge.judging.Judging.verdict.Goals as goal
 
 pub places-requires-in-KeptBy : goal.places-requires-in-KeptBy

@@ -1,0 +1,59 @@
+-- Facts of a trial that a program in C gets to know.
+use Rattle.std.specs.Prelude.{◌≡◌, ℕ, ℤ, pos, ◌-◌, ◌+◌, ◌==◌, Bool, nat_le, ◌&&◌, List, length, replicate, slice_range, Option, Some, None, if◌then◌else◌}
+use Rattle.dfu_slots.specs.Medium.{MediumState}
+use Rattle.dfu_slots.specs.Layout.{header_length}
+use Rattle.dfu_slots.specs.Image.{slot_of}
+use Rattle.dfu_boot.specs.trial.Marks.{is_marked}
+use Rattle.dfu_boot.specs.trial.Calls.{image_place}
+use Rattle.dfu_boot.specs.declared.trial.operation.Operation.{Operation}
+use Rattle.dfu_boot.specs.declared.trial.operation.Operation.TheVariants.{Mark, Close}
+use Rattle.dfu_boot.specs.declared.trial.standing.Standing.{Standing}
+use Rattle.dfu_boot.specs.declared.trial.standing.Standing.TheVariants.{Settled, OnTrial}
+use Rattle.dfu_boot.specs.declared.trial.starting.Starting.{Starting}
+use Rattle.dfu_core.specs.declared.records.DfuAsk.{DfuAsk}
+use Rattle.dfu_core.specs.declared.records.DfuPlace.{DfuPlace}
+use Rattle.dfu_core.specs.Numbers.{ASKS}
+use Rattle.dfu_boot_c.specs.declared.trial.told.DfuStanding.{DfuStanding}
+use Rattle.dfu_boot_c.specs.declared.trial.told.DfuStarting.{DfuStarting}
+
+-- Place of the image in the slot that begins there, and its length by its header.
+abbrev pub image_in : MediumState → ℕ → DfuPlace
+image_in m slot = record { at = image_place m.grain slot; length = header_length (slot_of m slot) }
+
+-- The record of a standing.
+abbrev pub standing_told : MediumState → ℕ → Standing → DfuStanding
+standing_told m tries (Settled s) = record {
+  active = image_in m s.slot;
+  base = image_in m s.slot;
+  on_trial = 0;
+  left = 0;
+  is_confirmed = if s.is_confirmed then 1 else 0;
+}
+standing_told m tries (OnTrial t) = record {
+  active = image_in m t.slot;
+  base = image_in m t.base;
+  on_trial = 1;
+  left = tries - t.starts;
+  is_confirmed = 0;
+}
+
+-- Image that runs, and the one that runs if the mark does not read set.
+abbrev pub starting_told : MediumState → Starting → DfuStarting
+starting_told m s = record { run = image_in m s.slot; otherwise = image_in m s.otherwise }
+
+-- An operation gives DFU_ASKS, and is written into what is asked for: zeros are programmed, or a sector of so many bytes is erased. If
+-- there is none the number is 0, and nothing changes.
+abbrev pub TrialOpInAsk : ℕ → Option Operation → ℤ → DfuAsk → DfuAsk → Type 0
+TrialOpInAsk sector None result before after = (result ≡ pos 0) × (after ≡ before)
+TrialOpInAsk sector (Some (Mark at len)) result before after =
+    (result ≡ ASKS) × (after ≡ record { kind = 2; at = at; length = len; bytes = replicate 256 0 })
+TrialOpInAsk sector (Some (Close at)) result before after =
+    (result ≡ ASKS) × (after ≡ record { kind = 1; at = at; length = sector; bytes = before.bytes })
+
+-- True if the mark that was asked for reads set: its range lies within the flash, and one of its bytes is not FFh.
+abbrev pub is_there : List ℕ → DfuAsk → Bool
+is_there flash ask = nat_le (ask.at + ask.length) (length flash) && is_marked (slice_range flash ask.at (ask.at + ask.length))
+
+-- Image that runs once an operation was carried out or failed: of a program only if it reads set.
+abbrev pub run_record : List ℕ → DfuAsk → DfuStarting → DfuPlace
+run_record flash ask s = if ask.kind == 2 then (if is_there flash ask then s.run else s.otherwise) else s.run

@@ -1,0 +1,26 @@
+-- Decision on a setup with its body: the three rules before the table, then the table.
+use Rattle.std.specs.Prelude.{◌≡◌, ℕ, List, if◌then◌else◌}
+use Rattle.dfu_wire.specs.declared.setups.Setup.{Setup}
+use Rattle.dfu_wire.specs.declared.requests.Request.{Request as Asked}
+use Rattle.dfu_wire.specs.Setup.{IsSetup}
+use Rattle.dfu_wire.specs.Request.{SetupRequest}
+use Rattle.dfu_device.specs.declared.config.Profile.{Profile as ProfileRead}
+use Rattle.dfu_device.specs.declared.decision.Decision.{Decision}
+use Rattle.dfu_device.specs.declared.device_state.DeviceState.{DeviceState}
+use Rattle.dfu_device.specs.Stage.{Stall}
+use Rattle.dfu_device.specs.Table.{Sure, plan}
+use Rattle.dfu_device.specs.Parts.{stage_of}
+use Rattle.dfu_device.specs.Rows.{meant, asked_length, is_served}
+use Rattle.dfu_device.specs.Decision.{profile_in, plan_of, HasWrittenBytes}
+
+-- The decision on a setup with its body in this mode is its row, as its eight bytes are read; and so many bytes of a status or of a state
+-- are asked for.
+pub record DecidesSetup (p : ProfileRead) (m : DeviceState) (setup body : List ℕ) (d : Decision) (asked : ℕ) : Type 0 where
+  pub read : Setup
+  pub request : Asked
+  pub fields : IsSetup read setup
+  pub asks : SetupRequest read request
+  pub asked_is : asked ≡ asked_length request
+  pub row : (image spare block : List ℕ) → HasWrittenBytes m spare → plan_of (profile_in p) image spare block body d
+      ≡ (if is_served read request body then plan (profile_in p) image (stage_of m spare block) (meant request body)
+      else Sure Stall (stage_of m spare block))

@@ -1,0 +1,105 @@
+-- A history of the device here, as a judge sees it, and that it is kept.
+use Rattle.std.specs.Prelude.{◌≡◌, ℕ, ◌+◌, ◌*◌, ◌≤◌, Bool, true, false, List, [], ◌∷◌, length, slice_index}
+use Rattle.dfu_wire.specs.declared.setups.Setup.{Setup}
+use Rattle.dfu_wire.specs.declared.requests.Request.{Request as Asked}
+use Rattle.dfu_wire.specs.declared.requests.Request.TheVariants as asked
+use Rattle.dfu_wire.specs.declared.codes.Code.TheVariants.{Ok as NoFault}
+use Rattle.dfu_wire.specs.Setup.{IsSetup}
+use Rattle.dfu_wire.specs.Request.{SetupRequest}
+use Rattle.dfu_device.specs.declared.answer.Answer.{Answer}
+use Rattle.dfu_device.specs.declared.answer.Answer.TheVariants as answer
+use Rattle.dfu_device.specs.Setting.{IsAllowed}
+use Rattle.dfu_device.specs.Stage.{Profile, Stage, InAppIdle, InAppDetach, InDfuIdle, InDownloadSync, InDownloadSyncWritten, InDownloadBusy, InDownloadIdle, InManifestSync, InManifestSyncComplete, InManifest, InManifestWaitReset, InUploadIdle, InError}
+use Rattle.dfu_device.specs.DeviceView.{DeviceView, profile}
+use Rattle.dfu_device.specs.Rows.{Cause, Transfer, Passing, BusReset, RefusingClose, Refusing, PowerOn}
+use Rattle.dfu_device.specs.History.{HistoryStep, IsHistory}
+use Rattle.dfu_conformance.specs.declared.row.StandardState.{StandardState}
+use Rattle.dfu_conformance.specs.declared.row.StandardState.TheVariants as place
+use Rattle.dfu_conformance.specs.declared.event.Response.{Response as Shows}
+use Rattle.dfu_conformance.specs.declared.event.Response.TheVariants as shows
+use Rattle.dfu_conformance.specs.declared.event.LogEvent.{LogEvent}
+use Rattle.dfu_conformance.specs.Setups.{event_of, reset, power}
+use Rattle.dfu_conformance.specs.declared.verdict.Verdict.TheVariants.{Kept}
+use Rattle.dfu_conformance.specs.MayAnswer.{Run}
+use Rattle.dfu_conformance.specs.Verdict.{IsVerdict}
+
+-- A bit as a number.
+abbrev pub bit : Bool → ℕ
+bit true = 1
+bit false = 0
+
+-- bmAttributes of these four bits.
+abbrev pub attributes : (download upload tolerant will_detach : Bool) → ℕ
+attributes d u t w = bit d + 2 * bit u + 4 * bit t + 8 * bit w
+
+-- bmAttributes of a device.
+abbrev pub attributes_of : Profile → ℕ
+attributes_of c = attributes c.can_download c.can_upload c.tolerant c.will_detach
+
+-- The place of a device in the table of the judge.
+abbrev pub place_of : Stage → StandardState
+place_of InAppIdle = place.AppIdle
+place_of (InAppDetach timer passed) = place.AppDetach
+place_of InDfuIdle = place.DfuIdle
+place_of (InDownloadSync before block number) = place.DownloadSync
+place_of (InDownloadSyncWritten taken number) = place.DownloadSync
+place_of (InDownloadBusy before block number passed) = place.DownloadBusy
+place_of (InDownloadIdle taken number) = place.DownloadIdle
+place_of (InManifestSync taken) = place.ManifestSync
+place_of InManifestSyncComplete = place.ManifestSync
+place_of (InManifest taken passed) = place.Manifest
+place_of InManifestWaitReset = place.ManifestWaitReset
+place_of (InUploadIdle at number) = place.UploadIdle
+place_of (InError code) = place.Error
+
+-- View of an answer with these bytes.
+abbrev pub seen : Answer → List ℕ → Shows
+seen answer.Ack out = shows.Bytes 0 0 0
+seen answer.Stall out = shows.Stall
+seen answer.Bytes out = shows.Bytes (length out) (slice_index out 0) (slice_index out 4)
+
+-- A transfer comes before these events; one that is no request of the class for interface 0 is passed over.
+abbrev pub AddsEvent : Setup → Asked → List ℕ → Shows → (rest events : List LogEvent) → Type 0
+AddsEvent p asked.NotDfu body a rest events = events ≡ rest
+AddsEvent p q body a rest events = events ≡ event_of p q (length body) a ∷ rest
+
+-- A step comes before these events: time that passes is not seen, nor that the program refuses an image that was closed.
+abbrev pub EventsOfStep : Cause → Answer → List ℕ → (rest events : List LogEvent) → Type 0
+EventsOfStep (Transfer setup body) a out rest events =
+    (p : Setup) × (q : Asked) × IsSetup p setup × SetupRequest p q × AddsEvent p q body (seen a out) rest events
+EventsOfStep (Passing ms) a out rest events = events ≡ rest
+EventsOfStep BusReset a out rest events = events ≡ reset ∷ rest
+EventsOfStep (RefusingClose setup why) a out rest events =
+    (p : Setup) × (q : Asked) × IsSetup p setup × SetupRequest p q × AddsEvent p q [] (seen a out) rest events
+EventsOfStep (Refusing why) a out rest events = events ≡ rest
+EventsOfStep PowerOn a out rest events = events ≡ power ∷ rest
+
+-- These events are what is seen of a history.
+abbrev pub EventsOfHistory : List HistoryStep → List LogEvent → Type 0
+EventsOfHistory [] events = events ≡ []
+EventsOfHistory (s ∷ h) events = (rest : List LogEvent) × EventsOfStep s.cause s.answer s.out rest events × EventsOfHistory h rest
+
+-- Facts of each stage that a device comes to: manifestation is complete only if it is tolerant, an upload is under way only if it can
+-- upload, and dfuERROR never has the code OK.
+abbrev pub StageInvariant : Profile → Stage → Type 0
+StageInvariant c InManifestSyncComplete = c.tolerant ≡ true
+StageInvariant c (InUploadIdle at number) = c.can_upload ≡ true
+StageInvariant c (InError NoFault) = ⊥
+StageInvariant c stage = Unit {0}
+
+-- A device that is not tolerant takes time to put an image in place.
+abbrev pub NeedsManifestTime : Profile → Type 0
+NeedsManifestTime c = c.tolerant ≡ false → 1 ≤ c.manifest
+
+-- For every history of a device that holds this, the seen events are a run with no habit, and the device holds this in the end.
+abbrev pub HistoriesConform : Type 0
+HistoriesConform = (h : List HistoryStep) (events : List LogEvent) (w w' : DeviceView) → NeedsManifestTime (profile w) → StageInvariant (profile w) w.stage →
+    IsHistory w h w'
+    → EventsOfHistory h events → Run (attributes_of (profile w)) 0 (place_of w.stage) events (place_of w'.stage) × StageInvariant (profile w') w'.stage
+
+-- So the answers of each device that begins in appIDLE, as one does that got power, are kept: a device of the standard may have
+-- answered so.
+abbrev pub StartsConform : Type 0
+StartsConform =
+    (h : List HistoryStep) (events : List LogEvent) (w w' : DeviceView) → IsAllowed w.config → w.stage ≡ InAppIdle → IsHistory w h w'
+    → EventsOfHistory h events → Run (attributes_of (profile w)) 0 place.AppIdle events (place_of w'.stage) × IsVerdict Kept events
