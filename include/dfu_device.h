@@ -110,25 +110,28 @@ enum dfu_attribute {
     DFU_WILL_DETACH = 8
 };
 
-/** @brief Negative results. DFU_STALL and DFU_ASKS are answers. All others are refusals, which change nothing, but for DFU_NOT_WRITTEN: it
- *         ends a format, after which there may be no image. */
+/** @brief Negative results. DFU_STALL and DFU_WRITE_PENDING are answers. All others are refusals, which change nothing, but for
+ *         DFU_NOT_WRITTEN: it ends a format, after which there may be no image. */
 enum dfu_result {
-    DFU_STALL = -1,       /**< stall the request; the device may be in another state now */
-    DFU_NO_CONFIG = -2,   /**< the configuration has another version, or a number outside the range that struct dfu_config gives it */
-    DFU_NO_MEDIUM = -3,   /**< the flash has no active image, or another than the record says, or 2^32 bytes or more */
-    DFU_NO_DEVICE = -4,   /**< the record does not belong to this flash and block, or another version wrote it */
-    DFU_NO_ROOM = -5,     /**< out has less room than an answer may need: 6 bytes, or the transfer size if that is more */
-    DFU_WRONG_SIZE = -6,  /**< the flash can't be divided into two slots: take DFU_MEDIUM_SIZE bytes */
-    DFU_TOO_LARGE = -7,   /**< the image is longer than a slot's data */
-    DFU_NOT_WRITTEN = -8, /**< an operation of a format failed, or other bytes were read back */
-    DFU_NOT_LONG = -9,    /**< the data stage of this setup is no longer than a block may be */
-    DFU_NO_BLOCK = -10,   /**< the block's memory has fewer bytes than the transfer size and the unit together */
-    DFU_ASKS = -11,       /**< operations of the flash are due: call next, carry it out, call took, until that answers otherwise */
-    DFU_ASKED = -12,      /**< operations are due, and have to be carried out first */
-    DFU_NO_CLOSE = -13,   /**< this setup doesn't close a download */
-    DFU_NO_STATUS = -14,  /**< the status is neither DFU_STATUS_ERR_TARGET nor DFU_STATUS_ERR_FILE */
-    DFU_NO_CANDIDATE = -20 /**< no image was taken that may be refused */
+    DFU_STALL = -1,          /**< stall the request; the device may be in another state now */
+    DFU_NO_CONFIG = -2,      /**< the configuration has another version, or a number outside the range that struct dfu_config gives it */
+    DFU_NO_MEDIUM = -3,      /**< the flash has no active image, or another than the record says, or 2^32 bytes or more */
+    DFU_NO_DEVICE = -4,      /**< the record does not belong to this flash and block, or another version wrote it */
+    DFU_NO_ROOM = -5,        /**< out has less room than an answer may need: 6 bytes, or the transfer size if that is more */
+    DFU_WRONG_SIZE = -6,     /**< the flash can't be divided into two slots: take DFU_MEDIUM_SIZE bytes */
+    DFU_TOO_LARGE = -7,      /**< the image is longer than a slot's data */
+    DFU_NOT_WRITTEN = -8,    /**< an operation of a format failed, or other bytes were read back */
+    DFU_NOT_LONG = -9,       /**< the data stage of this setup is no longer than a block may be */
+    DFU_NO_BLOCK = -10,      /**< the block's memory has fewer bytes than the transfer size and the unit together */
+    DFU_WRITE_PENDING = -11, /**< operations of the flash are due: call next, carry it out, call took, until that answers otherwise */
+    DFU_BUSY = -12,          /**< operations are due, and have to be carried out first */
+    DFU_NO_CLOSE = -13,      /**< this setup doesn't close a download */
+    DFU_NO_STATUS = -14,     /**< the status is neither DFU_STATUS_ERR_TARGET nor DFU_STATUS_ERR_FILE */
+    DFU_NO_CANDIDATE = -20   /**< no image was taken that may be refused */
 };
+/** @brief Former names of two results, for one release. */
+#define DFU_ASKS DFU_WRITE_PENDING
+#define DFU_ASKED DFU_BUSY
 
 /** @brief Kinds of operations of the flash. */
 enum dfu_operation {
@@ -264,7 +267,7 @@ struct dfu_device {
 
 /* THE CALLS, in the order in which a program meets them. A negative number is enum dfu_result: the first refusal that holds of those that a
  * call names, in their order. But while a format is due, each call that can return DFU_NO_BLOCK, and dfu_device_candidate, returns
- * DFU_ASKED before DFU_NO_CONFIG. A refusal changes nothing, but what serve, work, reset or settle carried out before it stays done. No
+ * DFU_BUSY before DFU_NO_CONFIG. A refusal changes nothing, but what serve, work, reset or settle carried out before it stays done. No
  * call writes the flash but through the driver.
  *
  * 1. Power. */
@@ -302,7 +305,7 @@ static inline int32_t dfu_device_serve(struct dfu_device *d, const uint8_t setup
  *         the time of dfuDNBUSY or dfuMANIFEST passes in it. Call it after a stall too: if nothing waits it does nothing. If an operation
  *         fails, the device is in dfuERROR afterwards, and the host is told so by its next GETSTATUS. The old image is active then, or the
  *         whole new one if it was being put in place.
- * @return 0; DFU_ASKS without a driver; the refusals of dfu_device_elapse, dfu_device_next and dfu_device_took */
+ * @return 0; DFU_WRITE_PENDING without a driver; the refusals of dfu_device_elapse, dfu_device_next and dfu_device_took */
 static inline int32_t dfu_device_work(struct dfu_device *d);
 
 /** @brief Takes a reset of the bus, the one that counts (RULES): does the work; then appDETACH leads to dfuIDLE, every other state to
@@ -312,7 +315,7 @@ static inline int32_t dfu_device_reset(struct dfu_device *d);
 
 /** @brief Lets `ms` milliseconds pass. They count in appDETACH, dfuDNBUSY and dfuMANIFEST. With a driver, call it in appDETACH alone. A
  *         call changes the state at most once, and drops the rest of its time.
- * @return 0; DFU_ASKS; DFU_NO_CONFIG, DFU_NO_BLOCK, DFU_NO_DEVICE, DFU_ASKED, DFU_NO_MEDIUM, DFU_NO_DEVICE, as dfu_device_handle */
+ * @return 0; DFU_WRITE_PENDING; DFU_NO_CONFIG, DFU_NO_BLOCK, DFU_NO_DEVICE, DFU_BUSY, DFU_NO_MEDIUM, DFU_NO_DEVICE, as dfu_device_handle */
 static inline int32_t dfu_device_elapse(struct dfu_device *d, uint32_t ms);
 
 /** @brief Tells the state.
@@ -335,11 +338,11 @@ static inline int32_t dfu_device_due(const struct dfu_device *d);
 /* 3. A stack that acknowledges the data stage while it receives it. */
 
 /** @brief Tells before the data stage if dfu_device_handle will stall this setup, whatever body of wLength bytes comes with it.
- * @return 1 or 0; DFU_NO_CONFIG, DFU_NO_DEVICE, DFU_ASKED */
+ * @return 1 or 0; DFU_NO_CONFIG, DFU_NO_DEVICE, DFU_BUSY */
 static inline int32_t dfu_device_would_stall(const struct dfu_device *d, const uint8_t setup[8]);
 
 /** @brief Handles a setup whose data stage is longer than config.transfer, without its bytes. dfu_device_handle calls it then.
- * @return DFU_STALL; DFU_NO_CONFIG, DFU_NO_DEVICE, DFU_ASKED, DFU_NOT_LONG */
+ * @return DFU_STALL; DFU_NO_CONFIG, DFU_NO_DEVICE, DFU_BUSY, DFU_NOT_LONG */
 static inline int32_t dfu_device_too_long(struct dfu_device *d, const uint8_t setup[8]);
 
 /* 4. A check of images, for a program that takes only its maker's (RULES). */
@@ -347,45 +350,46 @@ static inline int32_t dfu_device_too_long(struct dfu_device *d, const uint8_t se
 /** @brief Tells if this setup closes a download: a DNLOAD with wLength 0 to this interface in dfuDNLOAD-IDLE, once at least config.least
  *         bytes were taken. With 1 dfu_device_handle would acknowledge it, and from then on the image waits to be put in place; so a
  *         program that checks images does it now. With 1 dfu_device_refuse_close refuses the image, and with 0 it returns DFU_NO_CLOSE.
- * @return 1 or 0; DFU_NO_CONFIG, DFU_NO_DEVICE, DFU_ASKED */
+ * @return 1 or 0; DFU_NO_CONFIG, DFU_NO_DEVICE, DFU_BUSY */
 static inline int32_t dfu_device_closes(const struct dfu_device *d, const uint8_t setup[8]);
 
 /** @brief Finds the image that was taken and may still be refused: in dfuDNLOAD-IDLE, in dfuMANIFEST-SYNC before it is in place, and in
  *         dfuMANIFEST. Its bytes are those at the place, followed by record.held_length bytes more, 0 to unit - 1, at
  *         block + config.transfer.
- * @return 0, and place has it; DFU_NO_CONFIG, DFU_NO_DEVICE, DFU_ASKED, DFU_NO_MEDIUM, DFU_NO_DEVICE, as dfu_device_handle;
+ * @return 0, and place has it; DFU_NO_CONFIG, DFU_NO_DEVICE, DFU_BUSY, DFU_NO_MEDIUM, DFU_NO_DEVICE, as dfu_device_handle;
  *         DFU_NO_CANDIDATE */
 static inline int32_t dfu_device_candidate(const struct dfu_device *d, struct dfu_place *place);
 
 /** @brief Refuses the image whose download this setup closes, in place of dfu_device_handle, which would take it. The device enters
  *         dfuERROR with the status, and nothing is written.
  * @param status DFU_STATUS_ERR_TARGET if the image is not for this device, DFU_STATUS_ERR_FILE if it fails a test, such as a signature's
- * @return DFU_STALL; DFU_NO_CONFIG, DFU_NO_DEVICE, DFU_ASKED, DFU_NO_STATUS, DFU_NO_CLOSE */
+ * @return DFU_STALL; DFU_NO_CONFIG, DFU_NO_DEVICE, DFU_BUSY, DFU_NO_STATUS, DFU_NO_CLOSE */
 static inline int32_t dfu_device_refuse_close(struct dfu_device *d, const uint8_t setup[8], uint32_t status);
 
 /** @brief Refuses an image after its close, when its check takes longer than a transfer may. From dfuMANIFEST-SYNC, if the image isn't in
  *         place yet, and from dfuMANIFEST the device enters dfuERROR with the status, and nothing is put in place. Any other state stays.
  * @param status as for dfu_device_refuse_close
- * @return 0; DFU_NO_CONFIG, DFU_NO_DEVICE, DFU_ASKED, DFU_NO_STATUS */
+ * @return 0; DFU_NO_CONFIG, DFU_NO_DEVICE, DFU_BUSY, DFU_NO_STATUS */
 static inline int32_t dfu_device_refuse(struct dfu_device *d, uint32_t status);
 
 /* 5. Flash that the program writes by itself, without a driver: handle and answered in place of serve and work, and then
  *
- *     while (n == DFU_ASKS && dfu_device_next(&dfu, &ask) == 0) {
+ *     while (n == DFU_WRITE_PENDING && dfu_device_next(&dfu, &ask) == 0) {
  *         do what ask says; failed = not 0 if the flash could not;
  *         n = dfu_device_took(&dfu, failed, out, sizeof out);
  *     }
  *
- * Then n is the answer of the call that asked. Meanwhile the host gets NAK, and every other call is refused with DFU_ASKED. */
+ * Then n is the answer of the call that asked. Meanwhile the host gets NAK, and every other call is refused with DFU_BUSY. */
 
 /** @brief Answers a setup with its body, as dfu_device_serve does, without the work before it and without the operations after it.
- * @return 0 to 4,096: so many bytes of out are the answer, and 0 acknowledges too; DFU_STALL: the state may be another now; DFU_ASKS;
- *         DFU_NO_ROOM, DFU_NO_CONFIG, DFU_NO_BLOCK, DFU_NO_DEVICE (the record is no device's, whatever the flash holds), DFU_ASKED,
- *         DFU_NO_MEDIUM (the record's header is not in an open slot of the flash), DFU_NO_DEVICE (the record belongs to another flash) */
+ * @return 0 to 4,096: so many bytes of out are the answer, and 0 acknowledges too; DFU_STALL: the state may be another now;
+ *         DFU_WRITE_PENDING; DFU_NO_ROOM, DFU_NO_CONFIG, DFU_NO_BLOCK, DFU_NO_DEVICE (the record is no device's, whatever the flash holds),
+ *         DFU_BUSY, DFU_NO_MEDIUM (the record's header is not in an open slot of the flash), DFU_NO_DEVICE (the record belongs to another
+ *         flash) */
 static inline int32_t dfu_device_handle(struct dfu_device *d, const uint8_t setup[8], const uint8_t *body, uint8_t *out, size_t room);
 
 /** @brief Notes that an answer is out: the time of dfuDNBUSY or dfuMANIFEST passes at once.
- * @return 0; DFU_ASKS; the refusals of dfu_device_elapse */
+ * @return 0; DFU_WRITE_PENDING; the refusals of dfu_device_elapse */
 static inline int32_t dfu_device_answered(struct dfu_device *d);
 
 /** @brief Takes a reset of the bus as dfu_device_reset does, without the work, which has to be done before it.
@@ -401,11 +405,11 @@ static inline int32_t dfu_device_next(const struct dfu_device *d, struct dfu_ask
 /** @brief Takes what came of that operation: 0, or not 0 if it failed. The call reads it back. In the block's memory only the bytes after
  *         config.transfer may change.
  * @param out    room for the answer of the call that asked, at least 6 bytes
- * @return DFU_ASKS if the next one is due; the answer of the call that asked, its bytes in out; DFU_NO_ROOM (out has less than 6 bytes),
- *         DFU_NO_CONFIG, DFU_NO_BLOCK, DFU_NO_DEVICE */
+ * @return DFU_WRITE_PENDING if the next one is due; the answer of the call that asked, its bytes in out; DFU_NO_ROOM (out has less than 6
+ *         bytes), DFU_NO_CONFIG, DFU_NO_BLOCK, DFU_NO_DEVICE */
 static inline int32_t dfu_device_took(struct dfu_device *d, uint32_t failed, uint8_t *out, size_t room);
 
-/** @brief Has the driver carry out what is due while n is DFU_ASKS and there is a driver.
+/** @brief Has the driver carry out what is due while n is DFU_WRITE_PENDING and there is a driver.
  * @return the answer of the call that gave n; the refusals of dfu_device_next and dfu_device_took */
 static inline int32_t dfu_device_settle(struct dfu_device *d, int32_t n, uint8_t *out, size_t room);
 
@@ -422,12 +426,12 @@ static inline int32_t dfu_device_is_blank(const struct dfu_device *d);
 
 /** @brief Puts an image of 0 bytes or more into the first slot by the driver, whatever is on the flash: both images are given up. A loss of
  *         power within it may leave no image. Afterwards call dfu_device_power_on.
- * @return 0; DFU_ASKS without a driver; the refusals of the next three */
+ * @return 0; DFU_WRITE_PENDING without a driver; the refusals of the next three */
 static inline int32_t dfu_device_format(struct dfu_device *d, const uint8_t *image, size_t length);
 
-/** @brief Begins a format without a driver. Until it ends other calls are refused with DFU_ASKED. Pass the same image to all three calls,
+/** @brief Begins a format without a driver. Until it ends other calls are refused with DFU_BUSY. Pass the same image to all three calls,
  *         because the record keeps no pointer.
- * @return DFU_ASKS; DFU_NO_CONFIG, DFU_NO_MEDIUM (2^32 bytes or more), DFU_WRONG_SIZE, DFU_TOO_LARGE */
+ * @return DFU_WRITE_PENDING; DFU_NO_CONFIG, DFU_NO_MEDIUM (2^32 bytes or more), DFU_WRONG_SIZE, DFU_TOO_LARGE */
 static inline int32_t dfu_device_format_start(struct dfu_device *d, const uint8_t *image, size_t length);
 
 /** @brief Hands out the operation of the format that is due. Its range is within the flash, no matter what the record holds.
@@ -435,8 +439,8 @@ static inline int32_t dfu_device_format_start(struct dfu_device *d, const uint8_
 static inline int32_t dfu_device_format_next(const struct dfu_device *d, const uint8_t *image, size_t length, struct dfu_ask *ask);
 
 /** @brief Takes what came of that operation: 0, or not 0 if it failed. The call reads it back.
- * @return DFU_ASKS if the next one is due; 0 once the image is active; DFU_NOT_WRITTEN, and then none is due any more; DFU_NO_CONFIG,
- *         DFU_NO_DEVICE */
+ * @return DFU_WRITE_PENDING if the next one is due; 0 once the image is active; DFU_NOT_WRITTEN, and then none is due any more;
+ *         DFU_NO_CONFIG, DFU_NO_DEVICE */
 static inline int32_t dfu_device_format_took(struct dfu_device *d, const uint8_t *image, size_t length, uint32_t failed);
 
 /* RULES, for a program that uses the calls above.
@@ -483,8 +487,8 @@ static inline int32_t dfu_device_format_took(struct dfu_device *d, const uint8_t
  *   is never known to be new: there the factory puts the first image in place.
  * - DFU_NO_MEDIUM or DFU_NO_DEVICE elsewhere: flash, block or record changed. Call dfu_device_power_on or dfu_device_begin again; the host
  *   begins again.
- * - DFU_ASKED: operations are due. Carry them out, then make the call again: those of a block or an image by dfu_device_settle with
- *   DFU_ASKS, those of a format by dfu_device_format_next and dfu_device_format_took.
+ * - DFU_BUSY: operations are due. Carry them out, then make the call again: those of a block or an image by dfu_device_settle with
+ *   DFU_WRITE_PENDING, those of a format by dfu_device_format_next and dfu_device_format_took.
  * - DFU_NOT_WRITTEN: format again; if that goes on, the part or its driver is broken.
  * - DFU_NOT_LONG, DFU_NO_CLOSE: call dfu_device_handle with this request. DFU_NO_CANDIDATE: there is nothing to check.
  *
@@ -612,7 +616,7 @@ static inline int32_t dfu_device_answered(struct dfu_device *d) {
 }
 
 static inline int32_t dfu_device_settle(struct dfu_device *d, int32_t n, uint8_t *out, size_t room) {
-    while (n == DFU_ASKS && d->driver) {
+    while (n == DFU_WRITE_PENDING && d->driver) {
         struct dfu_ask ask;
         n = dfu_device_next(d, &ask);
         if (n == 0)
@@ -638,7 +642,7 @@ static inline int32_t dfu_device_reset(struct dfu_device *d) {
 
 static inline int32_t dfu_device_format(struct dfu_device *d, const uint8_t *image, size_t length) {
     int32_t n = dfu_device_format_start(d, image, length);
-    while (n == DFU_ASKS && d->driver) {
+    while (n == DFU_WRITE_PENDING && d->driver) {
         struct dfu_ask ask;
         n = dfu_device_format_next(d, image, length, &ask);
         if (n == 0)

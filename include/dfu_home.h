@@ -74,13 +74,13 @@ static inline int32_t dfu_home_took(const struct dfu_device *d, struct dfu_home_
 }
 
 /** @brief Brings the active image to the first slot by the driver. It needs no dfu_device_power_on; call that afterwards.
- * @return 0: it is there, and place says where, and how long it is; DFU_ASKS: an operation is due, and there is no driver; the refusals of
- *         dfu_core_home_next */
+ * @return 0: it is there, and place says where, and how long it is; DFU_WRITE_PENDING: an operation is due, and there is no driver; the
+ *         refusals of dfu_core_home_next */
 static inline int32_t dfu_home_settle(const struct dfu_device *d, struct dfu_place *place) {
     struct dfu_home_record record = {DFU_NOWHERE, 0};
     struct dfu_ask ask;
     int32_t n = dfu_home_next(d, &record, &ask);
-    while (n == DFU_ASKS && d->driver) {
+    while (n == DFU_WRITE_PENDING && d->driver) {
         dfu_home_took(d, &record, &ask, dfu_device_carry_out(d->driver, &ask));
         n = dfu_home_next(d, &record, &ask);
     }

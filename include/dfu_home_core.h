@@ -37,8 +37,8 @@ struct dfu_home_record {
  * @param config  the configuration of the device, of which unit and sector are read
  * @param record  as the last call left it
  * @param flash   both slots, `size` bytes
- * @param ask     an erase of a whole sector, or a program of 16 to 256 bytes; without DFU_ASKS it is as it was
- * @return 0: the active image is in the first slot, and may be started there; DFU_ASKS: ask has the operation that is due;
+ * @param ask     an erase of a whole sector, or a program of 16 to 256 bytes; without DFU_WRITE_PENDING it is as it was
+ * @return 0: the active image is in the first slot, and may be started there; DFU_WRITE_PENDING: ask has the operation that is due;
  *         DFU_NO_CONFIG (unit or sector isn't allowed), DFU_NO_MEDIUM (2^32 bytes or more), DFU_NO_SECTORS, DFU_NO_MEDIUM (no active
  *         image), DFU_NOT_WRITTEN (so many operations came, and the image is not there: the part is worn, or its driver broken) */
 int32_t dfu_core_home_next(const struct dfu_config *config, const struct dfu_home_record *record, const uint8_t *flash, size_t size,

@@ -69,13 +69,13 @@ struct dfu_install {
 
 /** @brief Has the driver carry out all that is due, at most DFU_INSTALL_OPERATIONS.
  * @return 0: the run area holds the whole image; DFU_NOT_WRITTEN: after so many it still doesn't: the part is worn, or the driver broken;
- *         DFU_ASKS: an operation is due, and there is no driver; the refusals of dfu_install_next */
+ *         DFU_WRITE_PENDING: an operation is due, and there is no driver; the refusals of dfu_install_next */
 static inline int32_t dfu_install_settle(struct dfu_install *i, const uint8_t *image, size_t length);
 
 /** @brief Hands out the operation that is due next, so that the run area comes to hold the image.
  * @param image  the image that is to be started, `length` bytes
  * @param ask    an erase of a whole sector, or a program of 256 bytes: `at` is an offset in the run area
- * @return 0: the run area holds the whole image, which may be started; DFU_ASKS: ask has the operation that is due;
+ * @return 0: the run area holds the whole image, which may be started; DFU_WRITE_PENDING: ask has the operation that is due;
  *         DFU_WRONG_SIZE (such a sector or size isn't allowed), DFU_NO_IMAGE, DFU_TOO_LARGE (the image has more than size bytes), and
  *         ask is as it was */
 static inline int32_t dfu_install_next(const struct dfu_install *i, const uint8_t *image, size_t length, struct dfu_ask *ask);
@@ -125,7 +125,7 @@ static inline int32_t dfu_install_settle(struct dfu_install *i, const uint8_t *i
     struct dfu_ask ask;
     uint32_t count = 0;
     int32_t n = dfu_install_next(i, image, length, &ask);
-    while (n == DFU_ASKS && i->driver) {
+    while (n == DFU_WRITE_PENDING && i->driver) {
         if (count == DFU_INSTALL_OPERATIONS(DFU_TO(uint32_t, length), i->area.sector))
             return DFU_NOT_WRITTEN;
         count++;

@@ -94,7 +94,7 @@ static inline int32_t dfu_trial_format_memory(const struct dfu_config *c, uint32
                                               const uint8_t *image, size_t length);
 
 /** @brief Finds the image to start now. Before that the driver marks the start, or ends the trial.
- * @return 0: place has it; DFU_ASKS: an operation is due, and there is no driver; the refusals of dfu_trial_look */
+ * @return 0: place has it; DFU_WRITE_PENDING: an operation is due, and there is no driver; the refusals of dfu_trial_look */
 static inline int32_t dfu_trial_boot(const struct dfu_trial *t, struct dfu_place *place);
 
 /** @brief Tells the state of the two images.
@@ -112,19 +112,19 @@ static inline int32_t dfu_trial_boot_from(const struct dfu_trial *t, const struc
 static inline int32_t dfu_trial_transfer(const struct dfu_trial *t, struct dfu_device *d, const uint8_t setup[8]);
 
 /** @brief Confirms the caller's own image, whose first byte is flash[at], by the driver, and reads that back.
- * @return 0: it is confirmed; DFU_NOT_WRITTEN: it is not, and the trial goes on; DFU_ELSEWHERE; DFU_ASKS: an operation is due, and there
- *         is no driver; the refusals of dfu_trial_look */
+ * @return 0: it is confirmed; DFU_NOT_WRITTEN: it is not, and the trial goes on; DFU_ELSEWHERE; DFU_WRITE_PENDING: an operation is due, and
+ *         there is no driver; the refusals of dfu_trial_look */
 static inline int32_t dfu_trial_accept(const struct dfu_trial *t, uint32_t at);
 
 /** @brief Ends a trial by the driver, and reads that back.
- * @return 0: nothing is on trial; DFU_NOT_WRITTEN: the trial goes on; DFU_ASKS: an operation is due, and there is no driver; the refusals
- *         of dfu_trial_look */
+ * @return 0: nothing is on trial; DFU_NOT_WRITTEN: the trial goes on; DFU_WRITE_PENDING: an operation is due, and there is no driver; the
+ *         refusals of dfu_trial_look */
 static inline int32_t dfu_trial_give_up(const struct dfu_trial *t);
 
 /** @brief Tells without a driver what starts, and the operation that comes before it. For an image on trial that is the mark of its next
  *         start, or if it has none left, the erase of its gate.
- * @return 0: starting.run is started; DFU_ASKS: ask has the operation, and dfu_trial_runs says what is started once it was carried out
- *         or failed; the refusals of dfu_trial_look, and nothing changed */
+ * @return 0: starting.run is started; DFU_WRITE_PENDING: ask has the operation, and dfu_trial_runs says what is started once it was carried
+ *         out or failed; the refusals of dfu_trial_look, and nothing changed */
 static inline int32_t dfu_trial_start(const struct dfu_trial *t, struct dfu_ask *ask, struct dfu_starting *starting);
 
 /** @brief Does what dfu_trial_start does, by a standing that dfu_trial_look told of this flash: it reads gates, headers and marks, and no
@@ -141,16 +141,17 @@ static inline int32_t dfu_trial_runs(const struct dfu_trial *t, const struct dfu
                                      struct dfu_place *place);
 
 /** @brief Hands out the operation that confirms the caller's own image, whose first byte is flash[at].
- * @return 0: it is confirmed; DFU_ASKS: ask has the operation; DFU_ELSEWHERE; the refusals of dfu_trial_look, and ask is as it was */
+ * @return 0: it is confirmed; DFU_WRITE_PENDING: ask has the operation; DFU_ELSEWHERE; the refusals of dfu_trial_look, and ask is as it was
+ *         */
 static inline int32_t dfu_trial_confirm(const struct dfu_trial *t, uint32_t at, struct dfu_ask *ask);
 
 /** @brief Hands out the operation that ends a trial: the gate of the image on trial is erased.
- * @return 0: nothing is on trial; DFU_ASKS: ask has the operation; the refusals of dfu_trial_look, and ask is as it was */
+ * @return 0: nothing is on trial; DFU_WRITE_PENDING: ask has the operation; the refusals of dfu_trial_look, and ask is as it was */
 static inline int32_t dfu_trial_end(const struct dfu_trial *t, struct dfu_ask *ask);
 
 /** @brief Hands out what comes before an upload: if the trial has no start left it ends, as the next start would end it. So a host reads
  *         what the next start runs.
- * @return 0: it may begin; DFU_ASKS: ask has the operation; the refusals of dfu_trial_look, and ask is as it was */
+ * @return 0: it may begin; DFU_WRITE_PENDING: ask has the operation; the refusals of dfu_trial_look, and ask is as it was */
 static inline int32_t dfu_trial_upload(const struct dfu_trial *t, struct dfu_ask *ask);
 
 /* RULES, for a program that runs images on trial.
@@ -226,7 +227,7 @@ static inline int32_t dfu_trial_boot(const struct dfu_trial *t, struct dfu_place
     const int32_t n = dfu_trial_start(t, &ask, &starting);
     if (n == 0)
         *place = starting.run;
-    if (n != DFU_ASKS || !t->driver)
+    if (n != DFU_WRITE_PENDING || !t->driver)
         return n;
     (void)dfu_device_carry_out(t->driver, &ask);
     return dfu_trial_runs(t, &ask, &starting, place);
@@ -238,7 +239,7 @@ static inline int32_t dfu_trial_boot_from(const struct dfu_trial *t, const struc
     const int32_t n = dfu_trial_start_from(t, standing, &ask, &starting);
     if (n == 0)
         *place = starting.run;
-    if (n != DFU_ASKS || !t->driver)
+    if (n != DFU_WRITE_PENDING || !t->driver)
         return n;
     (void)dfu_device_carry_out(t->driver, &ask);
     return dfu_trial_runs(t, &ask, &starting, place);
@@ -247,10 +248,10 @@ static inline int32_t dfu_trial_boot_from(const struct dfu_trial *t, const struc
 static inline int32_t dfu_trial_accept(const struct dfu_trial *t, uint32_t at) {
     struct dfu_ask ask;
     int32_t n = dfu_trial_confirm(t, at, &ask);
-    if (n == DFU_ASKS && t->driver) {
+    if (n == DFU_WRITE_PENDING && t->driver) {
         (void)dfu_device_carry_out(t->driver, &ask);
         n = dfu_trial_confirm(t, at, &ask);
-        return n == DFU_ASKS ? DFU_TO(int32_t, DFU_NOT_WRITTEN) : n;
+        return n == DFU_WRITE_PENDING ? DFU_TO(int32_t, DFU_NOT_WRITTEN) : n;
     }
     return n;
 }
@@ -258,10 +259,10 @@ static inline int32_t dfu_trial_accept(const struct dfu_trial *t, uint32_t at) {
 static inline int32_t dfu_trial_give_up(const struct dfu_trial *t) {
     struct dfu_ask ask;
     int32_t n = dfu_trial_end(t, &ask);
-    if (n == DFU_ASKS && t->driver) {
+    if (n == DFU_WRITE_PENDING && t->driver) {
         (void)dfu_device_carry_out(t->driver, &ask);
         n = dfu_trial_end(t, &ask);
-        return n == DFU_ASKS ? DFU_TO(int32_t, DFU_NOT_WRITTEN) : n;
+        return n == DFU_WRITE_PENDING ? DFU_TO(int32_t, DFU_NOT_WRITTEN) : n;
     }
     return n;
 }
@@ -307,11 +308,11 @@ static inline int32_t dfu_trial_transfer(const struct dfu_trial *t, struct dfu_d
     if (n != 0)
         return n == 1 ? 0 : n;
     n = is_upload ? dfu_trial_upload(t, &ask) : dfu_trial_end(t, &ask);
-    if (n != DFU_ASKS || !t->driver)
+    if (n != DFU_WRITE_PENDING || !t->driver)
         return n;
     (void)dfu_device_carry_out(t->driver, &ask);
     n = dfu_trial_end(t, &ask);
-    return n == 0 ? dfu_device_begin(d) : n == DFU_ASKS ? DFU_TO(int32_t, DFU_NOT_WRITTEN) : n;
+    return n == 0 ? dfu_device_begin(d) : n == DFU_WRITE_PENDING ? DFU_TO(int32_t, DFU_NOT_WRITTEN) : n;
 }
 
 #ifdef __cplusplus

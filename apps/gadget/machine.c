@@ -58,7 +58,7 @@ static void look_for_image(struct machine *machine)
 static int32_t settle(struct machine *machine, int32_t answer, uint8_t *out, size_t room)
 {
     int32_t state = dfu_device_state(&machine->device);
-    bool may_install = answer == DFU_ASKS && (state == DFU_STATE_MANIFEST_SYNC || state == DFU_STATE_MANIFEST);
+    bool may_install = answer == DFU_WRITE_PENDING && (state == DFU_STATE_MANIFEST_SYNC || state == DFU_STATE_MANIFEST);
     answer = note(machine, dfu_device_settle(&machine->device, answer, out, room));
     if (may_install)
         look_for_image(machine);

@@ -65,7 +65,7 @@ static void power_on(void) {
     }
     /* (dfu_install_settle does the same, as long as the power stays) */
     n = dfu_install_next(&install, part + place.at, place.length, &ask);
-    while (n == DFU_ASKS) {
+    while (n == DFU_WRITE_PENDING) {
         const uint32_t failed = dfu_device_carry_out(install.driver, &ask);
         if (!is_on) {
             puts("the power is lost");

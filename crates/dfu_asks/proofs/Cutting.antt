@@ -122,7 +122,8 @@ module _ (f : Formatting) (now size : ℕ) (same : now ≡ size) (image : List �
   found_for : first.stock.block.now ≡ image
   found_for = ap (λ (x : WriteInputs). x.block.now) stock ∙ block
 
-  pub part_found : (p : Step) → IsPiece (steps_of_part f now first.stock.block.now) first.rest p → IsPiece (steps_of_part f size image) f.done p
+  pub part_found : (p : Step) → IsPiece (steps_of_part f now first.stock.block.now) first.rest p
+      → IsPiece (steps_of_part f size image) f.done p
   part_found p piece =
       subst (λ (n : ℕ). IsPiece (steps_of_part f n image) f.done p) same
       (subst (λ (n : ℕ). IsPiece (steps_of_part f now image) n p) rest

@@ -22,7 +22,8 @@ enters l m flash is filled = kept_is l (record l { mode = m }) flash
 
 -- Its mode tells whether its download may be closed.
 pub may_said : (config : Setting) (m : DeviceState) (l : LentDevice) (flash : List ℕ) (least : ℕ) (result : Bool)
-    → IsDeviceIn config m l flash → least ≡ config.least → ((spare block : List ℕ) → HasWrittenBytes m spare → result ≡ may_close least (stage_of m spare block))
+    → IsDeviceIn config m l flash → least ≡ config.least → ((spare block : List ℕ) → HasWrittenBytes m spare
+    → result ≡ may_close least (stage_of m spare block))
     → result ≡ may_close l.config.least (device_in l flash).stage
 may_said config m l flash least result is same may =
     let s = store_in l flash in

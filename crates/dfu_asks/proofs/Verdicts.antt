@@ -61,7 +61,8 @@ module _ (setup : List ℕ) (p : Setup) (q : Asked) (b : Bool) (the_setup : (x :
 
   -- So it is of the answer, if it is of the row of what the setup asks.
   pub tells_stall : (d : DeviceView)
-      → ((body : List ℕ) → length body ≡ body_length p → SetupRequest p q → Some b ≡ verdict (setup_plan d p q body)) → IsStallVerdict b setup d
+      → ((body : List ℕ) → length body ≡ body_length p → SetupRequest p q → Some b ≡ verdict (setup_plan d p q body))
+      → IsStallVerdict b setup d
   tells_stall d said body body_is x sent d' (handled_as y z is asks done) =
       let p_is : p ≡ y = the_setup y is in
       let asks_p : SetupRequest p z = subst (λ k. SetupRequest k z) (sym p_is) asks in

@@ -53,7 +53,8 @@ pub data DueOutcome (d : DeviceView) (len : ℕ) (s : SlotsState) (was flash out
 
 -- A call made this row on every medium with these bytes, whatever its next writes will do. So it made no write, and no row of a write
 -- that failed: on a medium whose writes all work there is none.
-abbrev pub IsRowOnAnyMedium : LentDevice → List ℕ → (DeviceView → Answer → List ℕ → DeviceView → Type 0) → LentDevice → Answer → List ℕ → Type 0
+abbrev pub IsRowOnAnyMedium : LentDevice → List ℕ → (DeviceView → Answer → List ℕ → DeviceView → Type 0) → LentDevice → Answer → List ℕ
+    → Type 0
 IsRowOnAnyMedium a flash Row now x sent = (u : Unseen) → Row (device_with u a flash) x sent (device_with u now flash)
 
 -- The plan of the device on each of these media calls nothing of the slot store, or is that of the row that is due.

@@ -115,7 +115,8 @@ tidy_is_done image run sector begins at other (Some last) some next is apart (in
 
 -- A sector that is off after an erase of another sector was off before.
 off_was : (image run run' : List ℕ) (sector begins other : ℕ) → begins % sector ≡ 0 → other % sector ≡ 0 → ¬ (other ≡ begins)
-    → OutsideUnchanged run run' begins (begins + sector) → Differs image run' other (other + sector) → Differs image run other (other + sector)
+    → OutsideUnchanged run run' begins (begins + sector) → Differs image run' other (other + sector)
+    → Differs image run other (other + sector)
 off_was image run run' sector begins other whole whole_other apart leaves off = record {
   at = off.at;
   after = off.after;

@@ -57,7 +57,8 @@ not_blank image run run' piece d blank same blank' =
 
 -- After a program what comes after its piece still is.
 program_keeps : (image run run' : List ℕ) (sector at : ℕ) (last last' : Option ℕ) (failed : Bool) (since : List Due)
-    → KeepsFresh sector run last since → IsNextDue image run sector last (Program at) → DueReported image run' sector (Program at) failed last'
+    → KeepsFresh sector run last since → IsNextDue image run sector last (Program at)
+    → DueReported image run' sector (Program at) failed last'
     → KeepsFresh sector run' last' (Program at ∷ since)
 program_keeps image run run' sector at last None failed since keeps does took = _
 program_keeps image run run' sector at None (Some x) failed since keeps (ready, (d, e)) took = absurd e.may

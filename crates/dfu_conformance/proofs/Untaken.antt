@@ -9,7 +9,8 @@ use Rattle.dfu_conformance.proofs.Somewhere.{held_some}
 use Rattle.dfu_conformance.proofs.Words.{none}
 
 -- Words whose readings are no bits hold no device.
-pub none_held : (words : List ℕ) (all a r : ℕ) → ((r : ℕ) → r < 64 → (bit_at all r == 1) ≡ has_candidate words r) → all ≡ 0 → a < 16 → r < 64
+pub none_held : (words : List ℕ) (all a r : ℕ) → ((r : ℕ) → r < 64 → (bit_at all r == 1) ≡ has_candidate words r) → all ≡ 0 → a < 16
+    → r < 64
     → word_has_bit words a r ≡ false
 none_held words all a r is zero below within = false_from_ne_true _ (λ yes.
     true≢false (sym ((held_some words r).1 (a, below, yes)) ∙ sym (is r within) ∙ ap (λ (k : ℕ). bit_at k r == 1) zero ∙ none r within))

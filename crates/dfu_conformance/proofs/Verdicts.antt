@@ -58,7 +58,8 @@ abbrev pub IsStep : List (List ℕ) → LogEvent → List (List ℕ) → Type 0
 IsStep before e after = (n : StandardState) (a r : ℕ) → a < 16 → r < 64 → stands after n a r ≡ stepped before e n a r
 
 -- After a step the devices that may have answered one event more are held.
-pub held_next : (before after : List (List ℕ)) (events : List LogEvent) (e : LogEvent) → IsStep before e after → CandidatesExact before events
+pub held_next : (before after : List (List ℕ)) (events : List LogEvent) (e : LogEvent) → IsStep before e after
+    → CandidatesExact before events
     → CandidatesExact after (events ++ e ∷ [])
 held_next before after events e says so a r p below within =
     held_more before after events e a r (λ q. so a r q below within) (λ n. says n a r below within) p
@@ -71,7 +72,8 @@ held_next_plain before after events e says so a p below =
     held_more before after events e a 0 (λ q. so a q below) (λ n. says n a 0 below (omega arith)) p
 
 -- If a device without habits is left, it may have answered so.
-pub goes_on : (before after : List (List ℕ)) (events : List LogEvent) (e : LogEvent) → IsStep before e after → PlainCandidatesExact before events
+pub goes_on : (before after : List (List ℕ)) (events : List LogEvent) (e : LogEvent) → IsStep before e after
+    → PlainCandidatesExact before events
     → anywhere after 0 ≡ true → CanAnswer 0 (events ++ e ∷ []) × PlainCandidatesExact after (events ++ e ∷ [])
 goes_on before after events e says so left =
     let next = held_next_plain before after events e says so in ((held_can after (events ++ e ∷ []) 0 next).0 left, next)

@@ -43,11 +43,11 @@ NOT_LONG = negsuc 8
 abbrev pub NO_BLOCK : ℤ
 NO_BLOCK = negsuc 9
 
--- DFU_ASKS: an operation is due.
+-- DFU_WRITE_PENDING: an operation is due.
 abbrev pub ASKS : ℤ
 ASKS = negsuc 10
 
--- DFU_ASKED.
+-- DFU_BUSY.
 abbrev pub ASKED : ℤ
 ASKED = negsuc 11
 
@@ -83,12 +83,12 @@ answer_number answer.Ack count = pos 0
 answer_number answer.Bytes count = pos count
 answer_number answer.Stall count = STALL
 
--- The number of a reply: that of its answer, or DFU_ASKS.
+-- The number of a reply: that of its answer, or DFU_WRITE_PENDING.
 abbrev pub reply_number : Reply → ℤ
 reply_number reply.Asks = ASKS
 reply_number (reply.Answered x count) = answer_number x count
 
--- The number of a reply to time that passed: 0, or DFU_ASKS.
+-- The number of a reply to time that passed: 0, or DFU_WRITE_PENDING.
 abbrev pub passed_number : Reply → ℤ
 passed_number reply.Asks = ASKS
 passed_number (reply.Answered x count) = pos 0

@@ -22,7 +22,7 @@ pub const ERASE: u32 = 1;
 /// DFU_PROGRAM, the kind of a write.
 pub const PROGRAM: u32 = 2;
 
-/// DFU_ASKS, which a call returns if an operation is due.
+/// DFU_WRITE_PENDING, which a call returns if an operation is due.
 pub const ASKS: i32 = -11;
 
 /// Place of an image in its flash: `struct dfu_place`.

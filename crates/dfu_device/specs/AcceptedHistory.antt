@@ -20,7 +20,8 @@ pub record RowAcceptedBody (r : Request) (len : ℕ) (w : DeviceView) (a : Answe
 
 -- Each setup that goes by the table took what it acknowledged.
 abbrev pub SetupAcceptsBody : Type 0
-SetupAcceptsBody = (p : Setup) (q : Asked) (setup body : List ℕ) (w : DeviceView) (a : Answer) (out : List ℕ) (w' : DeviceView) → IsSetup p setup
+SetupAcceptsBody = (p : Setup) (q : Asked) (setup body : List ℕ) (w : DeviceView) (a : Answer) (out : List ℕ) (w' : DeviceView)
+    → IsSetup p setup
     → SetupRequest p q
     → is_served p q body ≡ true
     → Handles setup body w a out w' → RowAcceptedBody (meant q body) (asked_length q) w a out w'
@@ -46,7 +47,8 @@ HistoryAcceptsBodies = (g h : List HistoryStep) (w w' : DeviceView) → Accepted
 
 -- A device that has taken nothing at first has taken what its history says in the end.
 abbrev pub StartAcceptsBodies : Type 0
-StartAcceptsBodies = (h : List HistoryStep) (w w' : DeviceView) → accepted_of (situation w) ≡ [] → IsHistory w h w' → AcceptedBytes h (accepted_of (situation w'))
+StartAcceptsBodies = (h : List HistoryStep) (w w' : DeviceView) → accepted_of (situation w) ≡ [] → IsHistory w h w'
+    → AcceptedBytes h (accepted_of (situation w'))
 
 -- A history takes these bytes and no others.
 abbrev pub AcceptedUnique : Type 0

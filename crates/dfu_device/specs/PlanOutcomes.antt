@@ -127,7 +127,8 @@ row_of p q setup body w a out w' reads asks (handled_as p2 q2 reads2 asks2 done)
 
 -- Result of a setup that goes by the table.
 abbrev pub SetupsHaveOutcomes : Type 0
-SetupsHaveOutcomes = (p : Setup) (q : Asked) (setup body : List ℕ) (w : DeviceView) (a : Answer) (out : List ℕ) (w' : DeviceView) → IsSetup p setup
+SetupsHaveOutcomes = (p : Setup) (q : Asked) (setup body : List ℕ) (w : DeviceView) (a : Answer) (out : List ℕ) (w' : DeviceView)
+    → IsSetup p setup
     → SetupRequest p q
     → is_served p q body ≡ true
     → Handles setup body w a out w' → PlanOutcome (plan (profile w) (image_of w.slots) w.stage (meant q body)) (asked_length q) w a out w'

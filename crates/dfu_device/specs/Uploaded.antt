@@ -12,6 +12,7 @@ UploadIsImage = (s : HistoryStep) → IsRow s → LastUploadStep s → sent_of (
 -- If a device that has sent nothing at first comes to the end of an upload, the bytes that its history says were sent, with those of the
 -- last step, are the active image.
 abbrev pub UploadsAreImages : Type 0
-UploadsAreImages = (h : List HistoryStep) (s : HistoryStep) (w : DeviceView) → sent_of (situation w) ≡ [] → IsHistory w h s.before → IsRow s →
+UploadsAreImages = (h : List HistoryStep) (s : HistoryStep) (w : DeviceView) → sent_of (situation w) ≡ [] → IsHistory w h s.before
+    → IsRow s →
     LastUploadStep s
     → (sent : List ℕ) × Sent h sent × (sent ++ s.out ≡ image_of s.after.slots)

@@ -110,7 +110,8 @@ module _ {k : DfuConfig} {r : DfuRecord} {a : Asking} {memory front held : List 
       (long ∙ p.size ∙ sym (ap (λ (s : Setting). s.functional.transfer) (same.config ∙ p.kept.set_up.config_is)))
 
   -- Bytes that fit in a first part that long fit in the transfer size.
-  pub fits_front : {a' : Asking} (front' : List ℕ) → length front' ≡ length front → RoomForBlocks a' (length front') → RoomForBlocks a' (transfer_of k)
+  pub fits_front : {a' : Asking} (front' : List ℕ) → length front' ≡ length front → RoomForBlocks a' (length front')
+      → RoomForBlocks a' (transfer_of k)
   fits_front {a'} front' long fits = subst (λ (n : ℕ). RoomForBlocks a' n) (long ∙ p.size) fits
 
   -- If both parts are as they were, the memory is.

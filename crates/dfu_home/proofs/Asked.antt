@@ -16,7 +16,8 @@ found_away m home is away = away (there home is)
     there b e = grind (arith, common_steps)
 
 -- An operation that is due of a copy is due.
-pub copy_does : (m : MediumState) (p : Progress) (due : Due) → HasRoomForOperation m p → IsCopying m → IsCopyDue m p.last due → IsNextDue m p due
+pub copy_does : (m : MediumState) (p : Progress) (due : Due) → HasRoomForOperation m p → IsCopying m → IsCopyDue m p.last due
+    → IsNextDue m p due
 copy_does m p (Refuse refusal) may c due = absurd due
 copy_does m p Home may c due = absurd due
 copy_does m p (Erase at) may c due = (may, inr (c, due))

@@ -8,7 +8,8 @@ use Rattle.dfu_host.specs.BehindClose.{is_behind_close}
 use Rattle.dfu_host.specs.Host.{HostState, HostRow, budgeted, host_after_leaving, after_phase, after}
 use Rattle.dfu_host.specs.Departure.{IsBehindClose, NothingConfirmsAfterClose, CompareFollowsClose, IsRestartElsewhere}
 
-left_behind : (h : HostState) (phase : Phase) → IsTrue (is_behind_close h.task.goal phase) → after_phase h phase Left ≡ host_after_leaving h phase true
+left_behind : (h : HostState) (phase : Phase) → IsTrue (is_behind_close h.task.goal phase)
+    → after_phase h phase Left ≡ host_after_leaving h phase true
 left_behind h (Over r) is = absurd cc
 left_behind h (OverUploaded kept) is = absurd cc
 left_behind h phase is = ap (host_after_leaving h phase) is

@@ -98,7 +98,8 @@ HasPayload (ToCompare p) payload = p ≡ payload
 
 -- A session that a call has begun is the host that begins, over the bytes of the file's payload, wherever they are in memory.
 abbrev pub BeginIsInitial : Type 0
-BeginIsInitial = (payload buffer : List ℕ) (r : DfuSession) (start : HostState) → IsInitialRecord r start → HasPayload start.task.goal payload
+BeginIsInitial = (payload buffer : List ℕ) (r : DfuSession) (start : HostState) → IsInitialRecord r start
+    → HasPayload start.task.goal payload
     → IsCoreHost payload (record { kept = r; buffer = buffer }) start
 
 -- A session in C is one host.

@@ -133,10 +133,10 @@ pub fn core_boards_keep_an_image()
     boards_keep_an_image();
 }
 
-/// For any steps of a board in C that just got power: until a call is answered, at most so many calls return DFU_ASKS as
+/// For any steps of a board in C that just got power: until a call is answered, at most so many calls return DFU_WRITE_PENDING as
 /// `DFU_BLOCK_ERASES` and `DFU_BLOCK_PROGRAMS` say together of the transfer size and the sector, while a block is written, and as
-/// `DFU_COMMIT_ERASES` and `DFU_COMMIT_PROGRAMS` do while an image is put in place. So a loop that goes on while the number is DFU_ASKS
-/// ends, after at most so many operations.
+/// `DFU_COMMIT_ERASES` and `DFU_COMMIT_PROGRAMS` do while an image is put in place. So a loop that goes on while the number is
+/// DFU_WRITE_PENDING ends, after at most so many operations.
 pub fn core_boards_ask_few_times()
     ensures { CoreOperationsBounded }
 {
@@ -169,7 +169,7 @@ pub fn core_formats_make_an_image()
     ensures anew { FormatsRestart }
 {}
 
-/// Whatever becomes of the writes of a format: at most so many of its calls return DFU_ASKS as `DFU_FORMAT_ERASES` and
+/// Whatever becomes of the writes of a format: at most so many of its calls return DFU_WRITE_PENDING as `DFU_FORMAT_ERASES` and
 /// `DFU_FORMAT_PROGRAMS` say together of the image's length and the sector. So the loop that carries a format out ends.
 pub fn core_formats_ask_few_times()
     ensures { FormatsAskFew }

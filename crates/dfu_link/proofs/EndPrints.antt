@@ -179,7 +179,8 @@ lines_kept shown {p = p} keeps (then_runs line {said = said} more is acts) =
 
 -- The start.
 
-starts_hold : {settings : Settings} {first : DeviceView} → DeviceStarts settings first → HeadlineInvariant settings.image [] None (at_rest first)
+starts_hold : {settings : Settings} {first : DeviceView} → DeviceStarts settings first
+    → HeadlineInvariant settings.image [] None (at_rest first)
 starts_hold {settings = settings} {first = first} starts = holds_at_rest (at_rest first) settings.image starts.active refl
     (λ x waits. subst (λ (s : Stage). IsWaiting s x) starts.stage waits)
 

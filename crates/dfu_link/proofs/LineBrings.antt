@@ -87,7 +87,8 @@ ends_ok x n [] y h = ok_one x y h
 ends_ok x n (word ∷ words) y h = absurd cc
 
 -- A line that says this, if no word is left.
-ends_bring : (x : LineContent) (n : ℕ) (words : List (List ℕ)) (said : LineContent) → ends x n words ≡ Ok said → said_brings said ≡ said_brings x
+ends_bring : (x : LineContent) (n : ℕ) (words : List (List ℕ)) (said : LineContent) → ends x n words ≡ Ok said
+    → said_brings said ≡ said_brings x
 ends_bring x n words said h = ap said_brings (sym (ends_ok x n words said h))
 
 hex_in : (n of : ℕ) (words : List (List ℕ)) (file : List ℕ × List (List ℕ)) → hex_at n of words ≡ Ok file → file.0 ≡ first_word_bytes words
@@ -136,7 +137,8 @@ unfolding capacity_content
 capacity_brings words said h = bind_ok (field _ (count_of 1048576) 2 2 words) _ said h
     (λ n is hn. ends_bring (Sets (TheCapacity n.0)) 2 n.1 said hn)
 
-image_brings : (words : List (List ℕ)) (said : LineContent) → image_content words ≡ Ok said → said_brings said ≡ AnImage (first_word_bytes words)
+image_brings : (words : List (List ℕ)) (said : LineContent) → image_content words ≡ Ok said
+    → said_brings said ≡ AnImage (first_word_bytes words)
 unfolding image_content
 image_brings words said h = bind_ok (hex_at 2 2 words) _ said h (λ x is hx. ends_bring (Sets (TheImage x.0)) 2 x.1 said hx
     ∙ ap AnImage (hex_in 2 2 words x is))
@@ -152,7 +154,8 @@ limits_bring words said h = bind_ok (number_field 2 3 words) _ said h (λ a ia h
 
 -- Event lines.
 
-offer_brings : (given : Option (List ℕ)) (purpose : Purpose) (words : List (List ℕ)) (said : LineContent) → offer_of given purpose words ≡ Ok said
+offer_brings : (given : Option (List ℕ)) (purpose : Purpose) (words : List (List ℕ)) (said : LineContent)
+    → offer_of given purpose words ≡ Ok said
     → said_brings said ≡ Events (Some (WithOffer (file_in given words)) ∷ [])
 unfolding offer_of
 offer_brings given purpose words said h = bind_ok (offered_file given 2 2 words) _ said h
@@ -186,7 +189,8 @@ slip_brings : (words : List (List ℕ)) (said : LineContent) → slip_of words �
 unfolding slip_of
 slip_brings words said h = bind_ok (number_field 3 3 words) _ said h (λ n is hn. ends_bring _ 3 n.1 said hn)
 
-harmed_brings : (f : Fate) (words : List (List ℕ)) (said : LineContent) → harmed_of f words ≡ Ok said → said_brings said ≡ Events (None ∷ [])
+harmed_brings : (f : Fate) (words : List (List ℕ)) (said : LineContent) → harmed_of f words ≡ Ok said
+    → said_brings said ≡ Events (None ∷ [])
 unfolding harmed_of
 harmed_brings f words said h = bind_ok (number_field 3 4 words) _ said h (λ n is hn. bind_ok (hex_at 4 4 n.1) _ said hn
     (λ t it ht. ends_bring _ 4 t.1 said ht))

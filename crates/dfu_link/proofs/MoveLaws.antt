@@ -105,7 +105,8 @@ pub prepared_none : (x : Settings) (s : SourceState) → Prepared x s x s
 prepared_none x s = record { done = []; gives = gives_none s; prepares = nothing }
 
 -- One line more has set something.
-pub prepared_then : {x y z : Settings} {s t u : SourceState} {line : List ℕ} (w : LineContent) → Prepared x s y t → SourceLine t u → line ≡ u.line
+pub prepared_then : {x y z : Settings} {s t u : SourceState} {line : List ℕ} (w : LineContent) → Prepared x s y t → SourceLine t u
+    → line ≡ u.line
     → line_of y.given line ≡ Some w → prepared y w ≡ Some z → Prepared x s z u
 prepared_then {y = y} {u = u} w p given same is does = record {
   done = p.done ++ u.line ∷ [];

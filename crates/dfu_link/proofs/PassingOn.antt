@@ -113,7 +113,8 @@ passed_on {b = b} {c' = c'} g check limits r {x = x} silent come active other pr
 stopped_on : {b : LinkView} {c c' : WorldView} (g : Option (List ℕ)) (check : List ℕ) (limits : Limits)
     (r : Result (Option Report) LinkFault)
     {old mid new : Option (List ℕ)} {x y z : Option Expectation} {f : ScriptFault} → SilentPasses check b x old c.bench y mid
-    → WorldEventResult c (checked check c.bench passes) c' r → BenchMatchesFlash c'.bench → PrintsNext y mid (outcome_line r c'.up) z new (Err f)
+    → WorldEventResult c (checked check c.bench passes) c' r → BenchMatchesFlash c'.bench
+    → PrintsNext y mid (outcome_line r c'.up) z new (Err f)
     → HasStopped (point_at g check limits x b) GoesOn old new f
 stopped_on {b = b} {c' = c'} g check limits r {old = old} {mid = mid} {new = new} {x = x} {f = f} silent come active prints k line e =
     let before = silent.prints in
@@ -125,7 +126,8 @@ stopped_on {b = b} {c' = c'} g check limits r {old = old} {mid = mid} {new = new
 -- So it is done, as the writing of what is printed went.
 pub passed_by : {b : LinkView} {c c' : WorldView} (g : Option (List ℕ)) (check : List ℕ) (limits : Limits)
     (r : Result (Option Report) LinkFault) {old mid new : Option (List ℕ)} {x y z : Option Expectation} (done : Result Unit ScriptFault)
-    → SilentPasses check b x old c.bench y mid → WorldEventResult c (checked check c.bench passes) c' r → BenchMatchesFlash c'.bench → r ≢ Ok None
+    → SilentPasses check b x old c.bench y mid → WorldEventResult c (checked check c.bench passes) c' r → BenchMatchesFlash c'.bench
+    → r ≢ Ok None
     → PrintsNext y mid (outcome_line r c'.up) z new done
     → LineOutcome (point_at g check limits x b) GoesOn old (point_at g check limits z c'.bench) new done
 passed_by g check limits r (Ok u) silent come active other prints =

@@ -33,7 +33,8 @@ replicate_more n x = ap (λ (k : ℕ). replicate k x) (add-one n) ∙ suc_more n
 
 -- One event more.
 pub plays_one : (z : List ℕ) (b : LinkView) (c c' : WorldView) (events : List Happening) (e : Happening) (out : List ℕ)
-    (r : Result (Option Report) LinkFault) → EventsPlayed z b events out c.bench → WorldEventResult c (checked z c.bench e) c' r → BenchMatchesFlash c'.bench
+    (r : Result (Option Report) LinkFault) → EventsPlayed z b events out c.bench → WorldEventResult c (checked z c.bench e) c' r
+    → BenchMatchesFlash c'.bench
     → EventsPlayed z b (events ++ e ∷ []) (out ++ outcome_line r c'.up) c'.bench
 plays_one z b c c' events e out r p h active =
     subst (λ (text : List ℕ). EventsPlayed z b (events ++ e ∷ []) (out ++ text) c'.bench) (sym (told_line_is c c' r h))
@@ -87,7 +88,8 @@ plays_next e {c = c} {c' = c'} r {y = y} {z = z} {mid = mid} {new = new} {done =
 -- One more comes of which nothing is printed, and nothing is written.
 pub plays_silent : (e : Happening) {check : List ℕ} {b : LinkView} {c c' : WorldView} {events : List Happening}
     (r : Result (Option Report) LinkFault) {x y : Option Expectation} {old new : Option (List ℕ)}
-    → HasPlayed check b x events old c.bench y new → WorldEventResult c (checked check c.bench e) c' r → BenchMatchesFlash c'.bench → r ≡ Ok None
+    → HasPlayed check b x events old c.bench y new → WorldEventResult c (checked check c.bench e) c' r → BenchMatchesFlash c'.bench
+    → r ≡ Ok None
     → HasPlayed check b x (events ++ e ∷ []) old c'.bench y new
 plays_silent e {c' = c'} r {y = y} {new = new} before come active none =
     let prints : PrintsNext y new (outcome_line r c'.up) y new (Ok tt) =

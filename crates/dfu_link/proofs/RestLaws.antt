@@ -62,7 +62,8 @@ moved_on moved done = record {
 
 -- All that were left were done on a link.
 pub moved_to_the_end : {first s u : SourceState} {p q q' : Point} {old mid new : Option (List ℕ)} → HasMoved first p old q s mid
-    → ((r : SourceState) → SourceLine r s → LinkOutcome q r mid q' u new false) → (r : SourceState) → SourceLine r first → SourceExhausted p r old new
+    → ((r : SourceState) → SourceLine r s → LinkOutcome q r mid q' u new false) → (r : SourceState) → SourceLine r first
+    → SourceExhausted p r old new
 moved_to_the_end moved done r given =
     let h = moved.from r given in
     ends_after h.1 (ends_of (done h.0 h.2))
@@ -140,7 +141,8 @@ line_ends (Err f) {l = l} {k = k} {line = line} {old = old} {new = new} {events 
 -- The same by what its events say.
 pub said_ends : (done : Result Unit ScriptFault) {d : DeviceView} {l l' : ScriptContext} {k : ℕ} {line : List ℕ}
     {old mid new : Option (List ℕ)}
-    {events : EventLine} {b : LinkView} {q : Point} {said : LineContent} → Plainly d l k line old (Some events) l' mid → content_of_event events ≡ said
+    {events : EventLine} {b : LinkView} {q : Point} {said : LineContent} → Plainly d l k line old (Some events) l' mid
+    → content_of_event events ≡ said
     → LineOutcome (at_point l' b) said mid q new done → LineEnds k (at_point l b) line old q new done
 said_ends done {l' = l'} {mid = mid} {new = new} {b = b} {q = q} plain is acts =
     line_ends done plain (subst (λ (s : LineContent). LineOutcome (at_point l' b) s mid q new done) (sym is) acts)

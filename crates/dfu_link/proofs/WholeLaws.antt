@@ -125,7 +125,8 @@ done_all fresh c ends =
 
 run_ends : {g : Option (List ℕ)} {text : List ℕ} {s s' : SourceState} {x y : Settings} {more : Bool} {old new : Option (List ℕ)}
     (d : DeviceView)
-    → IsFresh text s → x ≡ beginning g → (c : LinesConfigured x s y more s') → DeviceStarts y d → SourceExhausted (point y (at_rest d)) c.at old new
+    → IsFresh text s → x ≡ beginning g → (c : LinesConfigured x s y more s') → DeviceStarts y d
+    → SourceExhausted (point y (at_rest d)) c.at old new
     → WroteRun g text old new
 run_ends {text = text} {y = y} d fresh e c starts ends =
     let t = fresh_took fresh c.prepared.gives in

@@ -187,7 +187,8 @@ pub data LineActs (k : ℕ) : Point → LineContent → List ℕ → Point → T
   plays : {p : Point} {events : EventLine} {b : LinkView} {out : List ℕ} → EventsPlayed p.check p.at (events_of p.limits events) out b
       → Meets p.next out → LineActs k p (Does events) out (printed p out b)
   goes_on : {p : Point} {mid b : LinkView} {answer : Result Answered LinkFault} (times : ℕ)
-      → EventsPlayed p.check p.at (replicate times (Goes Pass unharmed)) [] mid → EventResult mid (checked p.check mid (Goes Pass unharmed)) b answer
+      → EventsPlayed p.check p.at (replicate times (Goes Pass unharmed)) [] mid
+      → EventResult mid (checked p.check mid (Goes Pass unharmed)) b answer
       → BenchMatchesFlash b
       → answer_line answer ≢ [] → Meets p.next (answer_line answer)
       → LineActs k p GoesOn (answer_line answer) (printed p (answer_line answer) b)

@@ -55,7 +55,8 @@ broke_after old mid new xs ys told part = record {
 -- A byte came at which a departure wasn't written.
 pub falls_untold : (interface : ℕ) (old mid new : Option (List ℕ)) (text tail : List ℕ) (byte n : ℕ) (d : Departure)
     (o : Option Departure) (s s' : JudgingState) (f : LogFault) (g : Going interface old mid text s)
-    → JudgedText interface (text ++ byte ∷ []) g.course o s' → o ≡ Some d → n ≡ s'.lines.number → CannotReport (departure_text n d) mid new f
+    → JudgedText interface (text ++ byte ∷ []) g.course o s' → o ≡ Some d → n ≡ s'.lines.number
+    → CannotReport (departure_text n d) mid new f
     → LogStops interface old new (text ++ byte ∷ tail) f
 falls_untold interface old mid new text tail byte n d o s s' NoMemory g took some is same = record {
   front = text;

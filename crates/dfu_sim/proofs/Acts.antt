@@ -23,7 +23,8 @@ use Rattle.dfu_sim.specs.inside.Acting.{seen_over}
 -- A request with these rows, and with this coming back.
 pub sends_by : {setup body out : List ℕ} {w w' : DeviceView} (delivery : Delivery) {came b : Response} →
     ReachesDevice delivery.refusing setup body delivery.handling w came out w'
-    → b ≡ response_if_powered delivery.harming (response_if_delivered delivery.back came) → (q : Asked) (heard : Heard) → HeardOfResponse (Send q body) b out heard
+    → b ≡ response_if_powered delivery.harming (response_if_delivered delivery.back came) → (q : Asked) (heard : Heard)
+    → HeardOfResponse (Send q body) b out heard
     → Sends q setup body delivery w w' heard
 sends_by {body = body} {out = out} delivery {came = came} h e q heard r = record {
   came = came;
@@ -41,7 +42,8 @@ seen_heard harming d s heard x f h = f h
 -- A wait in which this time passes, and at whose end this is seen.
 pub waits_by : {time : ℕ} (ms : ℕ) (w w' : DeviceView) (delivery : Delivery) {seen_is : Seen}
     → Elapses time w w' → time ≡ waits_for delivery.handling ms
-    → seen_is ≡ seen_over delivery.harming seen.Waited → (d : Deed) (heard : Heard) → SeenMeaning d seen_is heard → Waits ms delivery w w' heard
+    → seen_is ≡ seen_over delivery.harming seen.Waited → (d : Deed) (heard : Heard) → SeenMeaning d seen_is heard
+    → Waits ms delivery w w' heard
 waits_by ms w w' delivery e t k d heard h = (
   subst (λ (n : ℕ). Elapses n w w') t e,
   seen_heard delivery.harming d seen.Waited heard Waited (λ h. h) (subst (λ (x : Seen). SeenMeaning d x heard) k h),
@@ -65,7 +67,8 @@ pub acts_send : (d : Deed) (delivery : Delivery) (setup : List ℕ) (given : Bor
     → ((q : Asked) (heard : Heard) → HeardOfResponse (Send q given.now) b out heard → Sends q setup given.now delivery w w' heard)
     → last ≡ out → HeardOfResponse d b last heard → Acts d delivery w w' heard
 acts_send (Send q body) delivery setup given heard b {out = out} {w = w} {w' = w'} e s same h =
-    let sent = subst (λ (x : List ℕ). (q : Asked) (heard : Heard) → HeardOfResponse (Send q x) b out heard → Sends q setup x delivery w w' heard)
+    let sent = subst (λ (x : List ℕ). (q : Asked) (heard : Heard) → HeardOfResponse (Send q x) b out heard
+    → Sends q setup x delivery w w' heard)
     e.1 s in
     (setup, e.0, sent q heard (subst (λ (x : List ℕ). HeardOfResponse (Send q body) b x heard) same h))
 acts_send d delivery setup given heard b e s same h = elim e [ ]

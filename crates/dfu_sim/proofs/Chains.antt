@@ -90,7 +90,8 @@ chain_follows {b = b} (one_more {mid = mid} {hs = hs} {reports = reports} s more
 
 -- Refusals.
 
-refused_of : {b b' : LinkView} {h : Happening} {answer : Result Answered LinkFault} (up : List ℕ) (why : LinkFault) → EventResult b h b' answer
+refused_of : {b b' : LinkView} {h : Happening} {answer : Result Answered LinkFault} (up : List ℕ) (why : LinkFault)
+    → EventResult b h b' answer
     → ◌≡◌ {A = Result (Option Report) LinkFault} (Err why) (report_of_result answer)
     → (linked b' (given (upload_of_result answer) up) ≡ linked b up) × IsRefused b h why
 refused_of {b = b} {h = h} up why (refuses {fault = f} x) e = let same : f ≡ why = cc in
@@ -98,7 +99,8 @@ refused_of {b = b} {h = h} up why (refuses {fault = f} x) e = let same : f ≡ w
 refused_of up why (happens means play) e = absurd cc
 
 -- An event that is refused changes nothing, and its fault is the one whose condition holds.
-pub refused_by : {b b' : WorldView} {h : Happening} {why : LinkFault} → WorldEventResult b h b' (Err why) → (b' ≡ b) × IsRefused b.bench h why
+pub refused_by : {b b' : WorldView} {h : Happening} {why : LinkFault} → WorldEventResult b h b' (Err why)
+    → (b' ≡ b) × IsRefused b.bench h why
 refused_by {b = b} {b' = b'} {why = why} x =
     let r = refused_of b.up why x.comes x.told in
     (ap (λ (up : List ℕ). linked b'.bench up) x.up_is ∙ r.0, r.1)

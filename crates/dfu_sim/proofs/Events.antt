@@ -174,7 +174,8 @@ idle_refused h why w (Some k) e is = absurd cc
 -- An event with which a session begins.
 pub begins_comes : (h event : Happening) (w : DeviceView) (host : Option HostState) (k : HostState) → is_some host ≡ false
     → w.slots.medium.fuse ≡ Whole → Means w.config h event → MayHappen Nobody event
-    → HappensOnBench event (bench_of w None) (bench_of w (Some k)) silent → WorldEventAlone (bench_of w host) h (bench_of w (Some k)) (Ok None)
+    → HappensOnBench event (bench_of w None) (bench_of w (Some k)) silent
+    → WorldEventAlone (bench_of w host) h (bench_of w (Some k)) (Ok None)
 begins_comes h event w None k n e means allowed row up =
     event_comes event silent means (record { allowed = allowed; unarmed = e; happens = row }) tt refl refl
 begins_comes h event w (Some j) k n e means allowed row up = absurd cc

@@ -45,7 +45,8 @@ module _ (c : Profile) (offers : List (List ℕ)) (p : List ℕ) (some : 0 < len
   reset_in_place s InDfuIdle h = h
   reset_in_place s stage h = elim h.1 [ ]
 
-  reset_ends : (s : Situation) (stage : Stage) (report : Report) → ReportMeaning c p (record { image = s.image; stage = stage }) IsDfuIdle report
+  reset_ends : (s : Situation) (stage : Stage) (report : Report)
+      → ReportMeaning c p (record { image = s.image; stage = stage }) IsDfuIdle report
       → ReportMeaning c p (record { image = s.image; stage = reset_stage stage }) IsInApp report
   reset_ends s stage Installed h = let x = reset_in_place s stage (h.1, h.2) in (h.0, x.0, x.1)
   reset_ends s stage Verified h = reset_in_place s stage h

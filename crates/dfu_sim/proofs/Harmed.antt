@@ -116,7 +116,8 @@ fuse_known : (harming : MediumFault) (harm : Harm) → HarmsAWrite harming → I
 fuse_known NoWrite harm harms = elim harms [ ]
 fuse_known harming harm harms = tt
 
-left_same : (harming : MediumFault) {w v : DeviceView} → SameDevice w v → SameDevice (device_after_action harming w) (device_after_action harming v)
+left_same : (harming : MediumFault) {w v : DeviceView} → SameDevice w v
+    → SameDevice (device_after_action harming w) (device_after_action harming v)
 left_same CutsPower same = powered_same same
 left_same harming same = disarmed_same same
 

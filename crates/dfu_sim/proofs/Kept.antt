@@ -69,7 +69,8 @@ module _ (c : Profile) (i : List ℕ) where
   last_time p ms (InDownloadIdle taken number) h luck = h
   last_time p ms stage h luck = search
 
-  whole_time : (p : List ℕ) (ms : ℕ) (stage : Stage) → WholePayloadAccepted p stage → Then (λ s. WholePayloadAccepted p s.stage) (time_plan c stage ms)
+  whole_time : (p : List ℕ) (ms : ℕ) (stage : Stage) → WholePayloadAccepted p stage
+      → Then (λ s. WholePayloadAccepted p s.stage) (time_plan c stage ms)
   whole_time p ms (InDownloadIdle taken number) h luck = h
   whole_time p ms stage h luck = elim h [ ]
 
@@ -79,7 +80,8 @@ module _ (c : Profile) (i : List ℕ) where
   idle_time p ms stage h luck = elim h.1 [ ]
 
   last_report_time : (p : List ℕ) (ms : ℕ) (report : Report) (stage : Stage)
-      → ReportMeaning c p (record { image = i; stage = stage }) IsDfuIdle report → Then (λ s. ReportMeaning c p s IsDfuIdle report) (time_plan c stage ms)
+      → ReportMeaning c p (record { image = i; stage = stage }) IsDfuIdle report
+      → Then (λ s. ReportMeaning c p s IsDfuIdle report) (time_plan c stage ms)
   last_report_time p ms Installed stage h luck = let x = idle_time p ms stage (h.1, h.2) luck in (h.0, x.0, x.1)
   last_report_time p ms Verified stage h luck = idle_time p ms stage h luck
   last_report_time p ms report stage h luck = h
@@ -89,7 +91,8 @@ module _ (c : Profile) (i : List ℕ) where
   app_time p ms InAppIdle h luck = h
   app_time p ms stage h luck = elim h.1 [ ]
 
-  over_time : (p : List ℕ) (ms : ℕ) (report : Report) (stage : Stage) → ReportMeaning c p (record { image = i; stage = stage }) IsInApp report
+  over_time : (p : List ℕ) (ms : ℕ) (report : Report) (stage : Stage)
+      → ReportMeaning c p (record { image = i; stage = stage }) IsInApp report
       → Then (λ s. ReportMeaning c p s IsInApp report) (time_plan c stage ms)
   over_time p ms Installed stage h luck = let x = app_time p ms stage (h.1, h.2) luck in (h.0, x.0, x.1)
   over_time p ms Verified stage h luck = app_time p ms stage h luck

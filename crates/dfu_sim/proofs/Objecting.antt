@@ -48,7 +48,8 @@ module _ (c : Profile) (why : Objection) (i : List ℕ) where
   ends_sync p Verified taken h = elim h.1 [ ]
   ends_sync p report taken h = h
 
-  ends_busy : (p : List ℕ) (report : Report) (taken : List ℕ) (passed : ℕ) → ReportMeaning c p (At (InManifest taken passed)) IsDfuIdle report
+  ends_busy : (p : List ℕ) (report : Report) (taken : List ℕ) (passed : ℕ)
+      → ReportMeaning c p (At (InManifest taken passed)) IsDfuIdle report
       → ReportMeaning c p (At (InError (objection_code why))) IsDfuIdle report
   ends_busy p Installed taken passed h = elim h.2 [ ]
   ends_busy p Verified taken passed h = elim h.1 [ ]

@@ -53,7 +53,8 @@ still_offered h past x was = was
 
 -- Each offer of the machine after an event was offered: by this event, or before it.
 offers_on : (h : Happening) (kind : Kind) (past : List Begun) (offers : List (List ℕ)) (x : List ℕ) → IsOfKind h kind
-    → ((y : List ℕ) → IsOneOf y offers → WasOffered past y) → IsOneOf x (offers_after (kind ∷ []) offers) → WasOffered (sessions_by h past) x
+    → ((y : List ℕ) → IsOneOf y offers → WasOffered past y) → IsOneOf x (offers_after (kind ∷ []) offers)
+    → WasOffered (sessions_by h past) x
 offers_on (Offers purpose file limits) kind past offers x is all one =
     let new : IsOneOf x (is.0 ∷ offers) = subst (λ (k : Kind). IsOneOf x (offers_after (k ∷ []) offers)) is.5 one in
     elim new [

@@ -124,7 +124,8 @@ comes_steady {b = b} {h = h} steady (happens {event = event} means play) =
     play_steady steady (begins_sized b.device.config h event means) play
 
 -- Facts of a link between events hold after each event that comes.
-pub come_steady : {w w' : WorldView} {h : Happening} {result : Result (Option Report) LinkFault} → IsSteady w.bench → WorldEventResult w h w' result
+pub come_steady : {w w' : WorldView} {h : Happening} {result : Result (Option Report) LinkFault} → IsSteady w.bench
+    → WorldEventResult w h w' result
     → IsSteady w'.bench
 come_steady steady x = comes_steady steady x.comes
 
@@ -171,7 +172,8 @@ comes_give {b = b} {b' = b'} {h = h} up steady (happens {event = event} {answer 
     (subst (λ (n : ℕ). FitsIn n answer.report answer.gave) same (play_fits steady begins play)) (image_given steady begins play up)
 
 -- Each event that comes gives what it should.
-pub come_gives : {w w' : WorldView} {h : Happening} {result : Result (Option Report) LinkFault} → IsSteady w.bench → WorldEventResult w h w' result
+pub come_gives : {w w' : WorldView} {h : Happening} {result : Result (Option Report) LinkFault} → IsSteady w.bench
+    → WorldEventResult w h w' result
     → UploadOrUnchanged w w' result
 come_gives {w = w} steady x = told_so (λ v r. UploadOrUnchanged w v r) x (comes_give w.up steady x.comes)
 
@@ -184,7 +186,8 @@ abbrev GivesThen : LinkView → Result Answered LinkFault → Type 0
 GivesThen b (Ok answer) = answer.report ≡ Some Uploaded → answer.gave ≡ Some (link_of b).device.image
 GivesThen b (Err fault) = Unit {0}
 
-gives_then : {b b' : LinkView} {h : Happening} {result : Result Answered LinkFault} → IsSteady b → EventResult b h b' result → GivesThen b' result
+gives_then : {b b' : LinkView} {h : Happening} {result : Result Answered LinkFault} → IsSteady b → EventResult b h b' result
+    → GivesThen b' result
 gives_then steady (refuses why) = tt
 gives_then {b = b} {b' = b'} {h = h} steady (happens {event = event} {answer = answer} means play) = λ e.
     let begins = begins_sized b.device.config h event means in

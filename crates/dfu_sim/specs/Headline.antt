@@ -91,7 +91,8 @@ pub data HeadlineAfterEach (factory : List ℕ) : (past : List Begun) → WorldV
   no_event : {past : List Begun} {w : WorldView} → HeadlineAfterEach factory past w [] [] w
   one_event : {past : List Begun} {w mid w' : WorldView} {event : Event} {events : List Event} {report : Option Report}
       {reports : List Report}
-      → HeadlineInvariant factory (sessions_now event past) report mid.bench → HeadlineAfterEach factory (sessions_now event past) mid events reports w'
+      → HeadlineInvariant factory (sessions_now event past) report mid.bench
+      → HeadlineAfterEach factory (sessions_now event past) mid events reports w'
       → HeadlineAfterEach factory past w (event ∷ events) (said report ++ reports) w'
 
 -- If the headline holds before these events, it holds after each of them.

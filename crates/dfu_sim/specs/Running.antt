@@ -19,7 +19,8 @@ use Rattle.dfu_sim.specs.UploadResults.{UploadOrUnchanged}
 pub data Runs : WorldView → List Happening → List Report → WorldView → Type 0 where
   rests : {w : WorldView} → Runs w [] [] w
   comes : {w mid w' : WorldView} {h : Happening} {hs : List Happening} {report : Option Report} {reports : List Report}
-      → WorldEventResult w h mid (Ok report) → UploadOrUnchanged w mid (Ok report) → Runs mid hs reports w' → Runs w (h ∷ hs) (said report ++ reports) w'
+      → WorldEventResult w h mid (Ok report) → UploadOrUnchanged w mid (Ok report) → Runs mid hs reports w'
+      → Runs w (h ∷ hs) (said report ++ reports) w'
 
 -- Meaning of the events that a caller names.
 abbrev pub happenings : List GivenEvent → List Happening

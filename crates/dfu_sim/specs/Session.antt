@@ -105,7 +105,8 @@ pub data MachineStep (tolerant : Bool) (t : ℕ) : Kind → Machine → Option R
   passes : {m : Machine} → MachineStep tolerant t ATime m None m
   passes_installed : {m : Machine} {x : List ℕ} → m.pending ≡ Some x → IsOneOf x m.offers
       → MachineStep tolerant t ATime m None (record m { cur = x; pending = None })
-  restarts : {m m' : Machine} {report : Option Report} → ReportStep tolerant (record m { pending = None }) report m' → ReportsNoPromise report
+  restarts : {m m' : Machine} {report : Option Report} → ReportStep tolerant (record m { pending = None }) report m'
+      → ReportsNoPromise report
       → MachineStep tolerant t ARestart m report m'
   refuses : {m m' : Machine} → MayDrop m m' → MachineStep tolerant t ARefusal m None m'
   goes : {m m1 m2 m' : Machine} {report : Option Report} → Begins t m m1 → MayDrop m1 m2 → ReportStep tolerant m2 report m'

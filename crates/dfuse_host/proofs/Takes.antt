@@ -46,7 +46,8 @@ takes_restart : (s : Session) (w : Work) (p : Place) (at : Step) → remaining_d
 takes_restart s work.Leave p at = takes_leaving s p at
 takes_restart s w p at = takes_restarted s (resumed s.plan w p at) s.restarts
 
-takes_told : (s : Session) (w : Work) (p : Place) (at : Step) (h : Heard) → remaining_dfuse_inputs (dfuse_step_after s w p at h) ≤ pred s.actions
+takes_told : (s : Session) (w : Work) (p : Place) (at : Step) (h : Heard)
+    → remaining_dfuse_inputs (dfuse_step_after s w p at h) ≤ pred s.actions
 takes_told s w p at heard.Restarted = takes_restart s w p at
 takes_told s w p at h = takes_spent s (row s.plan w p at h) s.restarts
 
@@ -87,7 +88,8 @@ stays_over s s' (seen ∷ more) (sees {mid = mid} step rows) over =
 
 -- ---- a session ends
 
-takes_after : (s : Session) (p : Phase) (h : Heard) → s.phase ≡ p → remaining_dfuse_inputs (dfuse_after_phase s p h) ≤ remaining_dfuse_inputs s - 1
+takes_after : (s : Session) (p : Phase) (h : Heard) → s.phase ≡ p
+    → remaining_dfuse_inputs (dfuse_after_phase s p h) ≤ remaining_dfuse_inputs s - 1
 takes_after s (Over r) h e = omega (arith, ap (λ (p : Phase). most_dfuse_inputs_in p s.actions) e)
 takes_after s (On at) h e = takes_on s at h e
 
@@ -95,7 +97,8 @@ row_takes : (s s' : Session) (seen : Seen) → SessionRow s seen s' → remainin
 row_takes s s' seen step =
     subst (λ (z : Session). remaining_dfuse_inputs z ≤ remaining_dfuse_inputs s - 1) (sym step.same) (takes_after s s.phase step.heard refl)
 
-rows_take : (s s' : Session) (seens : List Seen) → SessionRows s seens s' → remaining_dfuse_inputs s ≤ length seens → remaining_dfuse_inputs s' ≡ 0
+rows_take : (s s' : Session) (seens : List Seen) → SessionRows s seens s' → remaining_dfuse_inputs s ≤ length seens
+    → remaining_dfuse_inputs s' ≡ 0
 rows_take s s' [] seen_all l = omega (arith, l)
 rows_take s s' (seen ∷ more) (sees {mid = mid} step rows) l = rows_take mid s' more rows (omega (arith, l, row_takes s mid seen step))
 

@@ -55,7 +55,8 @@ module _ (s : Session) (some : is_empty s.plan.image.now ≡ false) where
   at_restart work.Leave p at h = at_restarted_leaving p at
   at_restart w p at h = at_restarted (resumed s.plan w p at) s.restarts (at_resumed w p at h)
 
-  at_told : (w : Work) (p : Place) (at : Step) (x : Heard) → Closes w at → Touches s.plan w → TouchesIn s.plan (dfuse_step_after s w p at x).phase
+  at_told : (w : Work) (p : Place) (at : Step) (x : Heard) → Closes w at → Touches s.plan w
+      → TouchesIn s.plan (dfuse_step_after s w p at x).phase
   at_told w p at heard.Restarted c h = at_restart w p at h
   at_told w p at x c h =
       at_budgeted s.plan (pred s.actions) (row s.plan w p at x) (by_form s.plan some w p at x (row s.plan w p at x) (row_form s.plan w p at x c) h)

@@ -42,7 +42,8 @@ off_keeps P sets (Pending order) h = sets order h
 off_keeps P sets (Busy order) h = h
 
 -- A fact of every state of a device at rest stays so once it reports its status.
-pub told_keeps : (P : Doing → Type 0) → ((s t : State) → P (Rests s) → P (Rests t)) → (doing : Doing) → P doing → P (doing_after_status doing)
+pub told_keeps : (P : Doing → Type 0) → ((s t : State) → P (Rests s) → P (Rests t)) → (doing : Doing) → P doing
+    → P (doing_after_status doing)
 told_keeps P rests (Rests state.DownloadSync) h = rests _ _ h
 told_keeps P rests (Rests state.DownloadBusy) h = rests _ _ h
 told_keeps P rests (Rests state.ManifestSync) h = rests _ _ h

@@ -118,7 +118,8 @@ module _ (plan : Plan) (w : Work) (p : Place) where
       (λ t r. absurd r) (λ b r. absurd r) (λ r. absurd r) (λ r. absurd (r is.status is.told)) (λ r. absurd r) (λ r. absurd r) h hears
   leaves_on n u l x h is hears = absurd is.told
 
-  read_on_by : (n u : ℕ) → Lasts plan (settle plan (read_on plan w) p) n u → (x : Seen) (h : AnyHeard) → BytesAnswered (read_bytes plan w) x →
+  read_on_by : (n u : ℕ) → Lasts plan (settle plan (read_on plan w) p) n u → (x : Seen) (h : AnyHeard)
+      → BytesAnswered (read_bytes plan w) x →
       DfuseSeenMeaning plan w step.Read x h → Onward plan w p step.Read h n u
   read_on_by n u l (seen.Bytes bytes) h is hears =
       let same : h ≡ compared_as true =

@@ -138,7 +138,8 @@ module _ (chip : Chip) where
     set_off_has (Pending order) pointer memory h = h
     set_off_has (Busy order) pointer memory h = h
 
-    told_has : (doing : Doing) (pointer : ℕ) (memory : ℕ → ℕ) → Has chip c doing pointer memory → Has chip c (doing_after_status doing) pointer memory
+    told_has : (doing : Doing) (pointer : ℕ) (memory : ℕ → ℕ) → Has chip c doing pointer memory
+        → Has chip c (doing_after_status doing) pointer memory
     told_has (Rests state.DownloadSync) pointer memory h = h
     told_has (Rests state.DownloadBusy) pointer memory h = h
     told_has (Rests state.ManifestSync) pointer memory h = h

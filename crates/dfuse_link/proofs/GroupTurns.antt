@@ -65,7 +65,8 @@ module _ (chip : Chip) (s : Session) (G : Work → Type 0) (B : Device → Type 
   sent_asks w p at d h n x g k comes is hears = tt
 
   sent_goes : (p : Phase) (d : Device) (h : AnyHeard) (n : Option Reaction) (x : Seen) → InPhase G p → StandsIn chip s.plan p d →
-      ArrivesBy chip (dfuse_deed s.plan p) d n d' → SeenOfReaction n x → DfuseSeenMeaningIn s.plan p x h → GoesIn G (B d') (dfuse_after_phase s p h).phase
+      ArrivesBy chip (dfuse_deed s.plan p) d n d' → SeenOfReaction n x → DfuseSeenMeaningIn s.plan p x h
+      → GoesIn G (B d') (dfuse_after_phase s p h).phase
   sent_goes (On at) d h n x g k comes is hears =
       told_goes s G (B d') r at.work at.place at.step h g
       (row_goes s.plan G (B d') r at.work at.place g at.step h

@@ -147,7 +147,8 @@ module _ (chip : Chip) (a : ℕ) where
 
   pub stall_heard : (plan : Plan) (w : Work) (h : AnyHeard) (d : Device) (body : List ℕ) (r : Option Reaction) (d' : Device) (x : Seen) →
       SeenOfReaction r x →
-      Arrives chip (request.GetState 1) body d r d' → DfuseSeenMeaning plan w step.AskState x h → IsNow chip a d.doing → StallSafe h d'.doing
+      Arrives chip (request.GetState 1) body d r d' → DfuseSeenMeaning plan w step.AskState x h → IsNow chip a d.doing
+      → StallSafe h d'.doing
   stall_heard plan w h d body (Some Stalls) d' seen.Stall is comes e now =
       subst (λ y. StallSafe y d'.doing) (sym e) (stalled_now d 1 body d' comes now)
   stall_heard plan w h d body (Some Acks) d' seen.Stall is comes e now = absurd is

@@ -226,7 +226,8 @@ module _ (chip : Chip) (plan : Plan) (w : Work) (a : ℕ) (transfer : plan.trans
 
   -- A byte that a session has just read back is the image's, and safe.
   pub read_right : (p : Place) (d d' : Device) (h : AnyHeard) (r : Option Reaction) (x : Seen) → Stands chip plan w p step.Read d →
-      ArrivesBy chip (deed_of plan w p step.Read) d r d' → SeenOfReaction r x → DfuseSeenMeaning plan w step.Read x h → ReadsBack plan w step.Read h a →
+      ArrivesBy chip (deed_of plan w p step.Read) d r d' → SeenOfReaction r x → DfuseSeenMeaning plan w step.Read x h
+      → ReadsBack plan w step.Read h a →
       (d'.memory a ≡ byte_at a plan.image.now) × SafeAt chip a d'.doing
   read_right p d d' h (Some (Data bytes)) (seen.Bytes given) k comes is e reads =
       read_by p d d' h (Some (Data bytes)) given.now bytes k comes is e reads

@@ -68,7 +68,8 @@ module _ (chip : Chip) (plan : Plan) (w : Work) (p : Place) (d d' : Device) wher
       c
 
   -- Meaning of a command that was sent.
-  pub ack_heard : (h : AnyHeard) (r : Option Reaction) (x : Seen) (c : AnyCommand) → SeenOfReaction r x → ArrivesBy chip (sends plan w c) d r d' →
+  pub ack_heard : (h : AnyHeard) (r : Option Reaction) (x : Seen) (c : AnyCommand) → SeenOfReaction r x
+      → ArrivesBy chip (sends plan w c) d r d' →
       MayHave c d.doing × Knows p d.pointer → DfuseSeenMeaning plan w step.Send x h → AckHas chip c d' h
   ack_heard h (Some Acks) seen.Ack c is comes k e = subst (λ x. AckHas chip c d' x) (sym e) (acked_may c comes k)
   ack_heard h (Some Stalls) seen.Ack c is comes k e = absurd is

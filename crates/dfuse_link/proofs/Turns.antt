@@ -83,7 +83,8 @@ before_right chip plan a p d r d' comes k was h = by_deed chip a (dfuse_deed pla
 
 step_right : (chip : Chip) (plan : Plan) (for : IsFor chip plan) (a : ℕ) → HasByte a plan.image.now →
     (w : Work) (p : Place) (s : Step) (d d' : Device)
-    (h : AnyHeard) (r : Option Reaction) (x : Seen) → Stands chip plan w p s d → ArrivesBy chip (deed_of plan w p s) d r d' → SeenOfReaction r x →
+    (h : AnyHeard) (r : Option Reaction) (x : Seen) → Stands chip plan w p s d → ArrivesBy chip (deed_of plan w p s) d r d'
+    → SeenOfReaction r x →
     DfuseSeenMeaning plan w s x h → ReadsBack plan w s h a → IsRight chip plan d' a
 step_right chip plan for a b w p step.Read d d' h r x k comes is hears reads =
     read_right chip plan w a for.transfer (some_transfer chip plan for) (is_apart chip plan for)
@@ -109,7 +110,8 @@ phase_waits : (plan : Plan) (p : Phase) (h : AnyHeard) (ms a : ℕ) → dfuse_de
 phase_waits plan (On at) h ms a e reads = waited_none plan at.work at.place at.step h ms a e reads
 phase_waits plan (Over r) h ms a e reads = reads
 
-no_read : (plan : Plan) (w : Work) (s : Step) (h : AnyHeard) (a : ℕ) → DfuseSeenMeaning plan w s seen.Restarted h → ReadsBack plan w s h a → ⊥
+no_read : (plan : Plan) (w : Work) (s : Step) (h : AnyHeard) (a : ℕ) → DfuseSeenMeaning plan w s seen.Restarted h
+    → ReadsBack plan w s h a → ⊥
 no_read plan w step.Read h a e reads = subst (λ y. ReadsBack plan w step.Read y a) e reads
 no_read plan w s h a e reads = reads
 
@@ -137,7 +139,8 @@ waited_stands chip s (On at) d h ms e k is =
     told_claims chip s d at.work at.place at.step h (waited_claims chip s.plan at.work at.place d h at.step ms k is)
 waited_stands chip s (Over rep) d h ms e k is = over_stands chip s (Over rep) d e tt
 
-restarted_stands : (chip : Chip) (s : Session) (p : Phase) (d : Device) (h : AnyHeard) → s.phase ≡ p → DfuseSeenMeaningIn s.plan p seen.Restarted h →
+restarted_stands : (chip : Chip) (s : Session) (p : Phase) (d : Device) (h : AnyHeard) → s.phase ≡ p
+    → DfuseSeenMeaningIn s.plan p seen.Restarted h →
     StandsIn chip s.plan (dfuse_after_phase s p h).phase d
 restarted_stands chip s (On at) d h e hears =
     restarted_claims chip s d at.work at.place at.step h _ hears (at_restart chip s d at.work at.place at.step)

@@ -33,7 +33,7 @@ static int format(struct board *board)
 {
     struct room *room = board->room;
     int32_t answer = dfu_core_format_start(&config, &board->record, room->flash, sizeof room->flash, none, 0);
-    while (answer == DFU_ASKS) {
+    while (answer == DFU_WRITE_PENDING) {
         struct dfu_ask ask;
         if (dfu_core_format_next(&config, &board->record, room->flash, sizeof room->flash, none, 0, &ask) != 0)
             return 0;
@@ -50,7 +50,7 @@ static int32_t serve(struct board *board, uint8_t kind, uint8_t request, uint32_
     const uint8_t setup[8] = {kind, request, (uint8_t)value, (uint8_t)(value >> 8), 0, 0, (uint8_t)size, (uint8_t)(size >> 8)};
     int32_t answer = dfu_core_handle(&config, &board->record, room->block, TRANSFER + 1, room->flash, sizeof room->flash, setup, body,
                                      length, room->out, TRANSFER);
-    while (answer == DFU_ASKS) {
+    while (answer == DFU_WRITE_PENDING) {
         struct dfu_ask ask;
         if (dfu_core_next(&config, &board->record, room->block, TRANSFER + 1, room->flash, sizeof room->flash, &ask) != 0)
             return DFU_NO_DEVICE;

@@ -126,7 +126,7 @@ static void in_each_mode(uint8_t attributes, uint32_t unit, uint32_t sector) {
             }
         board.record.work = 1;
         keep();
-        expect("writes are due", refuse(2) == DFU_ASKED && refuse_close(2) == DFU_ASKED && refuse(5) == DFU_ASKED && is_same());
+        expect("writes are due", refuse(2) == DFU_BUSY && refuse_close(2) == DFU_BUSY && refuse(5) == DFU_BUSY && is_same());
         board.record.mode = 13;
         keep();
         expect("no mode", refuse(2) == DFU_NO_DEVICE && refuse_close(2) == DFU_NO_DEVICE && is_same());

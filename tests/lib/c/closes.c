@@ -53,8 +53,8 @@ static void due(void)
     const uint8_t setup[8] = {0xa1, 3, 0, 0, 0, 0, 6, 0}, close[8] = {0x21, 1, 0, 0, 0, 0, 0, 0};
     const int32_t n = dfu_core_handle(&config, &board.record, board.pending, sizeof board.pending, board.flash, board.size, setup, setup, 0,
                                       board.out, sizeof board.out);
-    if (n == DFU_ASKS) {
-        expect("while writes are due", closes(close) == DFU_ASKED);
+    if (n == DFU_WRITE_PENDING) {
+        expect("while writes are due", closes(close) == DFU_BUSY);
         asked++;
     }
     settle(&board, n, &well);

@@ -84,7 +84,7 @@ static inline int program(struct board *board, const struct dfu_ask *ask, const 
 
 /* The loop: what was asked for is carried out, until the answer is there. */
 static inline int32_t settle(struct board *board, int32_t answer, const struct fate *fate) {
-    while (answer == DFU_ASKS && !is_off) {
+    while (answer == DFU_WRITE_PENDING && !is_off) {
         struct dfu_ask ask;
         int32_t refused = dfu_core_next(&config, &board->record, board->pending, sizeof board->pending, board->flash, board->size, &ask);
         if (refused != 0)

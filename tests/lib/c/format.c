@@ -60,12 +60,12 @@ static void others(uint32_t length) {
     const struct fate none = {WELL, 0, 0, 0};
     struct dfu_record kept = record;
     struct dfu_ask ask = {7, 7, 7, {7}};
-    expect("asked", dfu_core_handle(&config, &record, block, sizeof block, flash, size, setup, block, 0, out, 64) == DFU_ASKED
-                        && dfu_core_elapse(&config, &record, block, sizeof block, flash, size, 9) == DFU_ASKED
-                        && dfu_core_usb_reset(&config, &record, block, sizeof block, flash, size) == DFU_ASKED
-                        && dfu_core_next(&config, &record, block, sizeof block, flash, size, &ask) == DFU_ASKED
-                        && dfu_core_took(&config, &record, block, sizeof block, flash, size, 0, out, 64) == DFU_ASKED
-                        && dfu_core_would_stall(&config, &record, size, setup) == DFU_ASKED && ask.kind == 7
+    expect("asked", dfu_core_handle(&config, &record, block, sizeof block, flash, size, setup, block, 0, out, 64) == DFU_BUSY
+                        && dfu_core_elapse(&config, &record, block, sizeof block, flash, size, 9) == DFU_BUSY
+                        && dfu_core_usb_reset(&config, &record, block, sizeof block, flash, size) == DFU_BUSY
+                        && dfu_core_next(&config, &record, block, sizeof block, flash, size, &ask) == DFU_BUSY
+                        && dfu_core_took(&config, &record, block, sizeof block, flash, size, 0, out, 64) == DFU_BUSY
+                        && dfu_core_would_stall(&config, &record, size, setup) == DFU_BUSY && ask.kind == 7
                         && memcmp(&kept, &record, sizeof kept) == 0, length, &none);
 }
 
@@ -74,7 +74,7 @@ static int32_t format(uint32_t length, const struct fate *fate) {
     writes = 0;
     is_off = 0;
     int32_t answer = dfu_core_format_start(&config, &record, flash, size, image, length);
-    while (answer == DFU_ASKS) {
+    while (answer == DFU_WRITE_PENDING) {
         struct dfu_ask ask;
         if (writes == 1)
             others(length);
@@ -83,7 +83,7 @@ static int32_t format(uint32_t length, const struct fate *fate) {
             return refused;
         uint32_t failed = carry(&ask, fate);
         if (is_off)
-            return DFU_ASKS;
+            return DFU_WRITE_PENDING;
         answer = dfu_core_format_took(&config, &record, flash, size, image, length, failed);
     }
     return answer;
@@ -113,7 +113,7 @@ static void each_trouble(uint32_t length, uint32_t all) {
             step = last_length > 64 ? last_length / 8 + 1 : last_length / 4 + 1;
             cuts++;
             restart();
-            expect("off", format(length, &cut) == DFU_ASKS && is_off, length, &cut);
+            expect("off", format(length, &cut) == DFU_WRITE_PENDING && is_off, length, &cut);
             struct dfu_place place;
             int is_any = dfu_core_image(&config, flash, size, &place) == 0;
             expect("the new image or none", write < 2 || !is_any || (has(length) && write + (sector != 0 ? 2 : 1) >= all), length, &cut);
@@ -190,7 +190,7 @@ static void garbled(void) {
         expect("it changed something", memcmp(&kept, &record, sizeof kept) == 0, length, &well);
         int32_t result = dfu_core_format_took(&config, &record, flash, size, image, length, roll(4) == 0);
         expect("it wrote", memcmp(was, flash, sizeof was) == 0, length, &well);
-        expect("a number that is none", result == 0 || result == DFU_ASKS || result == DFU_NOT_WRITTEN || result == DFU_NO_DEVICE, length,
+        expect("a number that is none", result == 0 || result == DFU_WRITE_PENDING || result == DFU_NOT_WRITTEN || result == DFU_NO_DEVICE, length,
                &well);
     }
 }

@@ -30,19 +30,19 @@ static int is_newest(const uint8_t *mine, const uint8_t *other) {
     return mine[16] == (uint8_t)(other[16] + 1);
 }
 
-/* Carries out what is asked for: the answer, or DFU_ASKS if next or took refuses with this record, medium and room. */
+/* Carries out what is asked for: the answer, or DFU_WRITE_PENDING if next or took refuses with this record, medium and room. */
 static int32_t settle(const struct dfu_config *used, struct dfu_record *record, uint8_t *block, size_t most, uint8_t *medium,
                       uint8_t *out, size_t room) {
-    int32_t result = DFU_ASKS;
-    while (result == DFU_ASKS) {
+    int32_t result = DFU_WRITE_PENDING;
+    while (result == DFU_WRITE_PENDING) {
         struct dfu_ask ask;
         if (dfu_core_next(used, record, block, most, medium, 192, &ask) != 0)
-            return DFU_ASKS;
+            return DFU_WRITE_PENDING;
         dfu_memory_program(medium, ask.at, ask.bytes, ask.length);
         result = dfu_core_took(used, record, block, most, medium, 192, 0, out, room);
         operations++;
         if (result < -1)
-            return DFU_ASKS;
+            return DFU_WRITE_PENDING;
     }
     return result;
 }
@@ -107,24 +107,24 @@ int main(int count, char **words) {
             result = dfu_core_power_on(&used, record, medium, 192);
         else
             result = dfu_core_handle(&used, record, block, most, medium, 192, setup, body, setup[0] == 0x21 ? setup[6] : 0, out, room);
-        if (result == DFU_ASKS)
+        if (result == DFU_WRITE_PENDING)
             result = settle(&used, record, block, most, medium, out, room);
         *(result >= -1 ? &answered : &refused) += 1;
         if (room < 8 && what > 2 && result != DFU_NO_ROOM)
             return printf("garbled: call %ld has no room and answered %d\n", call, (int)result), 1;
         if (most < least && what < 2 && result >= -1)
             return printf("garbled: call %ld has no block and answered %d\n", call, (int)result), 1;
-        if (result < -1 && result != DFU_ASKS && (memcmp(field_before, field, sizeof field) != 0
+        if (result < -1 && result != DFU_WRITE_PENDING && (memcmp(field_before, field, sizeof field) != 0
             || memcmp(given_before, given, sizeof given) != 0
             || memcmp(tail_before, held, sizeof held) != 0 || memcmp(&record_before, record, sizeof *record) != 0))
             return printf("garbled: call %ld was refused with %d and changed something\n", call, (int)result), 1;
         /* The slot that the record notes is not written, where it stands there as the active one. */
         size_t slot = record_before.slot ? 96 : 0, spare = 96 - slot;
-        if ((result >= -1 || result == DFU_ASKS) && is_newest(field_before + 64 + slot, field_before + 64 + spare)
+        if ((result >= -1 || result == DFU_WRITE_PENDING) && is_newest(field_before + 64 + slot, field_before + 64 + spare)
             && memcmp(record_before.header, field_before + 64 + slot + 16, 16) == 0
             && memcmp(field_before + 64 + slot, medium + slot, 96) != 0)
             return printf("garbled: call %ld wrote in the active slot\n", call), 1;
-        if ((result < DFU_NO_ROOM && result != DFU_NO_BLOCK && result != DFU_ASKS && result != DFU_ASKED) || result > 8)
+        if ((result < DFU_NO_ROOM && result != DFU_NO_BLOCK && result != DFU_WRITE_PENDING && result != DFU_BUSY) || result > 8)
             return printf("garbled: call %ld answered %d\n", call, (int)result), 1;
         for (size_t i = 0; i < 64; i++)
             if (field[i] != 0x5a || field[256 + i] != 0x5a || given[i] != 0x5a || given[72 + i] != 0x5a || held[i] != 0x5a

@@ -81,7 +81,7 @@ static int32_t one_call(const uint8_t setup[8], const uint8_t *body, uint32_t wh
 static void carry_on(int32_t answer) {
     struct dfu_ask ask;
     struct board *b = &board;
-    for (int i = 0; answer == DFU_ASKS && i < 100; i++) {
+    for (int i = 0; answer == DFU_WRITE_PENDING && i < 100; i++) {
         if (dfu_core_next(&config, &b->record, b->pending, sizeof b->pending, b->flash, b->size, &ask) != 0)
             return;
         uint32_t failed = ask.at + (size_t)ask.length > b->size;
@@ -122,7 +122,7 @@ int main(int count, char **words) {
             stop("it wrote", call);
         if (result >= -1)
             answers++;
-        else if (result == DFU_ASKS)
+        else if (result == DFU_WRITE_PENDING)
             asks++;
         else if (result < -12 || memcmp(&kept, &board, sizeof kept) != 0 || ask.kind != 7)
             stop("a refusal that is none", call);

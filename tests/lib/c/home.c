@@ -172,9 +172,9 @@ static void is_due(int32_t n, struct dfu_home_record *record, uint32_t kind, uin
     struct dfu_ask ask = {9, 9, 9, {9}};
     const int32_t result = dfu_home_next(&dfu, record, &ask);
     lives++;
-    expect("a row", result == n && (n == DFU_ASKS ? ask.kind == kind && ask.at == at && ask.length == length
+    expect("a row", result == n && (n == DFU_WRITE_PENDING ? ask.kind == kind && ask.at == at && ask.length == length
                                               : ask.kind == 9 && ask.at == 9 && ask.length == 9 && ask.bytes[0] == 9));
-    if (result == DFU_ASKS)
+    if (result == DFU_WRITE_PENDING)
         dfu_home_took(&dfu, record, &ask, dfu_device_carry_out(&driver, &ask));
 }
 static int never(void *own, uint32_t at, uint32_t length) {
@@ -197,12 +197,12 @@ static void rows(void) {
     is_due(0, &record, 0, 0, 0);
     download(1, 1);
     memset(programmed, 1, sizeof programmed);
-    is_due(DFU_ASKS, &record, DFU_ERASE, 0, 512); /* the gate is closed */
-    is_due(DFU_ASKS, &record, DFU_ERASE, 1024, 512), is_due(DFU_ASKS, &record, DFU_PROGRAM, 1024, 256);
-    is_due(DFU_ASKS, &record, DFU_PROGRAM, 1280, 256), is_due(DFU_ASKS, &record, DFU_ERASE, 1536, 512);
-    is_due(DFU_ASKS, &record, DFU_PROGRAM, 1536, 256);
-    is_due(DFU_ASKS, &record, DFU_ERASE, 512, 512), is_due(DFU_ASKS, &record, DFU_PROGRAM, 512, 16);
-    is_due(DFU_ASKS, &record, DFU_ERASE, 0, 512), is_due(DFU_ASKS, &record, DFU_PROGRAM, 0, 16);
+    is_due(DFU_WRITE_PENDING, &record, DFU_ERASE, 0, 512); /* the gate is closed */
+    is_due(DFU_WRITE_PENDING, &record, DFU_ERASE, 1024, 512), is_due(DFU_WRITE_PENDING, &record, DFU_PROGRAM, 1024, 256);
+    is_due(DFU_WRITE_PENDING, &record, DFU_PROGRAM, 1280, 256), is_due(DFU_WRITE_PENDING, &record, DFU_ERASE, 1536, 512);
+    is_due(DFU_WRITE_PENDING, &record, DFU_PROGRAM, 1536, 256);
+    is_due(DFU_WRITE_PENDING, &record, DFU_ERASE, 512, 512), is_due(DFU_WRITE_PENDING, &record, DFU_PROGRAM, 512, 16);
+    is_due(DFU_WRITE_PENDING, &record, DFU_ERASE, 0, 512), is_due(DFU_WRITE_PENDING, &record, DFU_PROGRAM, 0, 16);
     is_due(0, &record, 0, 0, 0);
     expect("generation 2, version 2, length 600", flash[512] == 2 && flash[513] == 2 && flash[516] == 88 && flash[517] == 2);
     expect("the header but for its generation", memcmp(flash + 513, flash + size / 2 + 513, 15) == 0 && flash[size / 2 + 512] == 1);
@@ -210,17 +210,17 @@ static void rows(void) {
 
     /* A byte of the image fades: only its sector is copied, and the header stays. */
     flash[1600] ^= 1, record.last = DFU_NOWHERE, record.count = 0, memset(programmed, 1, sizeof programmed);
-    is_due(DFU_ASKS, &record, DFU_ERASE, 0, 512), is_due(DFU_ASKS, &record, DFU_ERASE, 1536, 512);
-    is_due(DFU_ASKS, &record, DFU_PROGRAM, 1536, 256), is_due(DFU_ASKS, &record, DFU_ERASE, 0, 512);
-    record.last = DFU_NOWHERE, record.count = 0, is_due(DFU_ASKS, &record, DFU_ERASE, 0, 512); /* (after a loss of power) */
-    is_due(DFU_ASKS, &record, DFU_PROGRAM, 0, 16), is_due(0, &record, 0, 0, 0);
+    is_due(DFU_WRITE_PENDING, &record, DFU_ERASE, 0, 512), is_due(DFU_WRITE_PENDING, &record, DFU_ERASE, 1536, 512);
+    is_due(DFU_WRITE_PENDING, &record, DFU_PROGRAM, 1536, 256), is_due(DFU_WRITE_PENDING, &record, DFU_ERASE, 0, 512);
+    record.last = DFU_NOWHERE, record.count = 0, is_due(DFU_WRITE_PENDING, &record, DFU_ERASE, 0, 512); /* (after a loss of power) */
+    is_due(DFU_WRITE_PENDING, &record, DFU_PROGRAM, 0, 16), is_due(0, &record, 0, 0, 0);
 
     /* A part that never erases comes to the bound, and the image stays. */
     download(2, 1);
     dfu.driver = &worn, operations = 0;
     expect("worn", dfu_home_settle(&dfu, &place) == DFU_NOT_WRITTEN && (uint32_t)operations == size / 128 && place.at == 7);
     dfu.driver = NULL;
-    expect("no driver", dfu_home_settle(&dfu, &place) == DFU_ASKS);
+    expect("no driver", dfu_home_settle(&dfu, &place) == DFU_WRITE_PENDING);
     dfu.driver = &driver;
     expect("the image stays", start() == 2);
 

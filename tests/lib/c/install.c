@@ -66,7 +66,7 @@ static void bring(uint32_t at, int harm, int often) {
     runs++;
     memcpy(before, area, sizeof area);
     power_comes();
-    while ((n = dfu_install_next(&install, slots, length, &ask)) == DFU_ASKS && since <= most) {
+    while ((n = dfu_install_next(&install, slots, length, &ask)) == DFU_WRITE_PENDING && since <= most) {
         int now = count == at ? harm : often && draw(often) == 0 && count < 4 * most ? FAILS + (int)draw(3) : WELL;
         look(&ask);
         carry_out(&ask, now);
@@ -117,8 +117,8 @@ static void is_due(int32_t n, uint32_t kind, uint32_t at) {
     struct dfu_ask ask = {9, 9, 9, {9}};
     const int32_t result = dfu_install_next(&install, slots, length, &ask);
     runs++;
-    expect("a row", result == n && (n == DFU_ASKS ? ask.kind == kind && ask.at == at : ask.kind == 9 && ask.bytes[0] == 9));
-    if (result == DFU_ASKS) {
+    expect("a row", result == n && (n == DFU_WRITE_PENDING ? ask.kind == kind && ask.at == at : ask.kind == 9 && ask.bytes[0] == 9));
+    if (result == DFU_WRITE_PENDING) {
         carry_out(&ask, WELL);
         expect("took", dfu_install_took(&install, slots, length, &ask, 0) == 0);
     }
@@ -131,11 +131,11 @@ static void rows(void) {
         slots[i] = (uint8_t)(i % 251);
     memset(area, 0xff, sizeof area);
     length = 600;
-    is_due(DFU_ASKS, DFU_ERASE, 0), is_due(DFU_ASKS, DFU_PROGRAM, 0), is_due(DFU_ASKS, DFU_PROGRAM, 256);
-    is_due(DFU_ASKS, DFU_ERASE, 512), is_due(DFU_ASKS, DFU_PROGRAM, 512), is_due(0, 0, 0);
+    is_due(DFU_WRITE_PENDING, DFU_ERASE, 0), is_due(DFU_WRITE_PENDING, DFU_PROGRAM, 0), is_due(DFU_WRITE_PENDING, DFU_PROGRAM, 256);
+    is_due(DFU_WRITE_PENDING, DFU_ERASE, 512), is_due(DFU_WRITE_PENDING, DFU_PROGRAM, 512), is_due(0, 0, 0);
     install.area.last = DFU_NOWHERE, is_due(0, 0, 0);
     area[600] = 0, is_due(0, 0, 0);
-    area[599] = 0, is_due(DFU_ASKS, DFU_ERASE, 512), is_due(DFU_ASKS, DFU_PROGRAM, 512), is_due(0, 0, 0);
+    area[599] = 0, is_due(DFU_WRITE_PENDING, DFU_ERASE, 512), is_due(DFU_WRITE_PENDING, DFU_PROGRAM, 512), is_due(0, 0, 0);
     length = 0, is_due(DFU_NO_IMAGE, 0, 0);
     length = 1025, is_due(DFU_TOO_LARGE, 0, 0);
     install.area.sector = 500, length = 0, is_due(DFU_WRONG_SIZE, 0, 0);
@@ -144,7 +144,7 @@ static void rows(void) {
     install.size = 1024;
 
     memset(area, 0, 1024);
-    expect("no driver", dfu_install_settle(&install, slots, length) == DFU_ASKS && fed == 0);
+    expect("no driver", dfu_install_settle(&install, slots, length) == DFU_WRITE_PENDING && fed == 0);
     install.driver = &driver;
     expect("settled", dfu_install_settle(&install, slots, length) == 0 && memcmp(area, slots, 600) == 0 && fed == 5);
     expect("nothing more is due", dfu_install_settle(&install, slots, length) == 0 && fed == 5);

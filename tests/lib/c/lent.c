@@ -49,7 +49,7 @@ static int32_t request(uint8_t kind, uint8_t what, uint16_t value, uint16_t leng
     const uint8_t setup[8] = {kind, what, (uint8_t)value, (uint8_t)(value >> 8), 0, 0, (uint8_t)length, 0};
     is_refused();
     int32_t n = dfu_device_handle(&dfu, setup, data, data, sizeof data);
-    while (n == DFU_ASKS) {
+    while (n == DFU_WRITE_PENDING) {
         struct dfu_ask ask;
         is_refused();
         n = dfu_device_next(&dfu, &ask);

@@ -53,18 +53,18 @@ static void a_download(void) {
     expect("not long", dfu_core_too_long(&config, &board.record, setup) == DFU_NOT_LONG);
     expect("too early", pass(&board, 4, &well) == 0 && dfu_core_state(&board.record) == 4);
     expect("the end of busy asks", dfu_core_elapse(&config, &board.record, board.pending, sizeof board.pending, board.flash, board.size,
-                                                     1) == DFU_ASKS);
-    expect("asked", handle(0xa1, 3, 0, 6, "") == DFU_ASKED && reset(&board) == DFU_ASKED && pass(&board, 1, &well) == DFU_ASKED
-                        && dfu_core_would_stall(&config, &board.record, board.size, setup) == DFU_ASKED
-                        && dfu_core_too_long(&config, &board.record, long_one) == DFU_ASKED);
+                                                     1) == DFU_WRITE_PENDING);
+    expect("asked", handle(0xa1, 3, 0, 6, "") == DFU_BUSY && reset(&board) == DFU_BUSY && pass(&board, 1, &well) == DFU_BUSY
+                        && dfu_core_would_stall(&config, &board.record, board.size, setup) == DFU_BUSY
+                        && dfu_core_too_long(&config, &board.record, long_one) == DFU_BUSY);
     expect("it closes the gate only where it is open", board.flash[96] != 0xa5);
     write_is("the whole unit", 128, 16, 'a', 0);
     expect("written", dfu_core_state(&board.record) == 3 && board.record.held_length == 4);
     expect("GETSTATUS", handle(0xa1, 3, 0, 6, "") == 6 && board.out[4] == 5);
     expect("no more", handle(0x21, 1, 1, 0, "") == 0 && dfu_core_state(&board.record) == 6);
-    expect("GETSTATUS asks", handle(0xa1, 3, 0, 6, "") == DFU_ASKS);
-    write_is("what was held back", 144, 16, 'q', DFU_ASKS);
-    write_is("the header", 112, 16, 1, DFU_ASKS);
+    expect("GETSTATUS asks", handle(0xa1, 3, 0, 6, "") == DFU_WRITE_PENDING);
+    write_is("what was held back", 144, 16, 'q', DFU_WRITE_PENDING);
+    write_is("the header", 112, 16, 1, DFU_WRITE_PENDING);
     expect("asked once more", next(&ask) == 0 && ask.at == 96 && next(&ask) == 0 && ask.at == 96);
     write_is("the gate", 96, 16, 0xa5, 6);
     expect("installed", board.out[0] == 0 && board.out[4] == 2 && board.record.work == 0);
@@ -118,13 +118,13 @@ static void refusals(void) {
     device = board.record, device.work = 4;
     expect("work", HANDLE(&config, &device, 36, none, 20) == DFU_NO_DEVICE);
     device.work = 3;
-    expect("a format is due", HANDLE(&other, &device, 0, none, 20) == DFU_ASKED);
+    expect("a format is due", HANDLE(&other, &device, 0, none, 20) == DFU_BUSY);
     device = board.record, device.work = 1, device.close = 2;
     expect("close", HANDLE(&config, &device, 36, none, 20) == DFU_NO_DEVICE);
     device = board.record, device.work = 2, device.asked = 65537;
     expect("asked", HANDLE(&config, &device, 36, none, 20) == DFU_NO_DEVICE);
     device.asked = 65536;
-    expect("work is due", HANDLE(&config, &device, 36, none, 20) == DFU_ASKED);
+    expect("work is due", HANDLE(&config, &device, 36, none, 20) == DFU_BUSY);
     device = board.record, device.version++;
     expect("version", HANDLE(&config, &device, 36, none, 20) == DFU_NO_DEVICE);
     device = board.record, device.mode = 6, device.first = 4;

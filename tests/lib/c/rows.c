@@ -103,7 +103,7 @@ static void refusals(void) {
     expect("WRONG_SIZE", dfu_device_format(&other, none, 1) == DFU_WRONG_SIZE);
     expect("TOO_LARGE", dfu_device_format(&device, none, 65) == DFU_TOO_LARGE);
     other = device, other.driver = NULL;
-    expect("no driver", dfu_device_format(&other, none, 1) == DFU_ASKS && dfu_device_settle(&other, DFU_ASKS, out, 6) == DFU_ASKS);
+    expect("no driver", dfu_device_format(&other, none, 1) == DFU_WRITE_PENDING && dfu_device_settle(&other, DFU_WRITE_PENDING, out, 6) == DFU_WRITE_PENDING);
     expect("medium unchanged", memcmp(before, medium, sizeof medium) == 0);
 }
 

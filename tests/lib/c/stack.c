@@ -39,7 +39,7 @@ static void *run(void *word) {
     case 7: took(); break;
     case 8: ask(0x21, 1, 1, 0), ask(0xa1, 3, 0, 6); break;
     case 9: answer = dfu_device_elapse(&device, 10); break;
-    case 10: while (answer == DFU_ASKS && next() == 0) took(); break;
+    case 10: while (answer == DFU_WRITE_PENDING && next() == 0) took(); break;
     case 11: ask(0xa1, 3, 0, 6), ask(0xa1, 2, 0, 4096); break;
     case 12: dfu_device_image(&device, &place); break;
     case 13: dfu_device_work(&device); break;
@@ -72,7 +72,7 @@ int main(int count, char **words) {
             printf("%-26s %6zu bytes of stack\n", names[call], deep - empty);
         most = deep - empty > most ? deep - empty : most;
         if (call == 7)
-            while (answer == DFU_ASKS && next() == 0)
+            while (answer == DFU_WRITE_PENDING && next() == 0)
                 took();
     }
     printf("the record has %zu bytes\n", sizeof device.record);

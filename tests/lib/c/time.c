@@ -82,8 +82,8 @@ static void first_comes(void) {
 /* A lazy clock: what it says late or never changes nothing, since the work is all that counts. */
 static void lazy_clock(void) {
     download();
-    expect("answered", dfu_device_answered(&dfu) == DFU_ASKS && dfu_device_answered(&dfu) == DFU_ASKED);
-    expect("settled", dfu_device_settle(&dfu, DFU_ASKS, out, sizeof out) == 0 && has(image, 4));
+    expect("answered", dfu_device_answered(&dfu) == DFU_WRITE_PENDING && dfu_device_answered(&dfu) == DFU_BUSY);
+    expect("settled", dfu_device_settle(&dfu, DFU_WRITE_PENDING, out, sizeof out) == 0 && has(image, 4));
     int32_t state = dfu_device_state(&dfu);
     expect("a clock that comes late", dfu_device_elapse(&dfu, 499) == 0 && dfu_device_state(&dfu) == state
         && dfu_device_answered(&dfu) == 0);
@@ -98,21 +98,21 @@ static void lazy_clock(void) {
 /* A program that carries out what is asked by itself: nothing is done before it has. */
 static void no_driver(void) {
     struct dfu_ask ask;
-    int32_t n = DFU_ASKS;
+    int32_t n = DFU_WRITE_PENDING;
     download();
     dfu.driver = NULL;
-    expect("a reset asks", dfu_device_reset(&dfu) == DFU_ASKS && dfu_device_state(&dfu) == DFU_STATE_MANIFEST);
-    expect("then each call is refused", dfu_device_reset(&dfu) == DFU_ASKED
-        && serve(0xa1, DFU_GETSTATUS, 0, config.interface_number, 6) == DFU_ASKED);
-    while (n == DFU_ASKS && dfu_device_next(&dfu, &ask) == 0)
+    expect("a reset asks", dfu_device_reset(&dfu) == DFU_WRITE_PENDING && dfu_device_state(&dfu) == DFU_STATE_MANIFEST);
+    expect("then each call is refused", dfu_device_reset(&dfu) == DFU_BUSY
+        && serve(0xa1, DFU_GETSTATUS, 0, config.interface_number, 6) == DFU_BUSY);
+    while (n == DFU_WRITE_PENDING && dfu_device_next(&dfu, &ask) == 0)
         n = dfu_device_took(&dfu, dfu_device_carry_out(&driver, &ask), out, sizeof out);
     expect("carried out", n == 0 && has(image, 4) && dfu_device_reset(&dfu) == 0 && dfu_device_state(&dfu) == DFU_STATE_APP_IDLE);
     dfu.driver = &driver;
     download();
     dfu.driver = NULL;
-    expect("a request asks", serve(0xa1, DFU_GETSTATUS, 0, config.interface_number, 6) == DFU_ASKS);
+    expect("a request asks", serve(0xa1, DFU_GETSTATUS, 0, config.interface_number, 6) == DFU_WRITE_PENDING);
     dfu.driver = &driver;
-    expect("settled", dfu_device_settle(&dfu, DFU_ASKS, out, sizeof out) == 0 && has(image, 4));
+    expect("settled", dfu_device_settle(&dfu, DFU_WRITE_PENDING, out, sizeof out) == 0 && has(image, 4));
 }
 
 /* Resets. */

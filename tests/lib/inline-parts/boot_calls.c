@@ -27,7 +27,7 @@ static void with_ask(const struct dfu_ask *ask)
 static int32_t say_or_ask(enum call call, struct dfu_ask *ask)
 {
     const int32_t n = say(call);
-    if (n == DFU_ASKS)
+    if (n == DFU_WRITE_PENDING)
         hand_out(ask);
     return n;
 }
@@ -49,7 +49,7 @@ int32_t dfu_core_trial_look(const struct dfu_tries *tries, const uint8_t *flash,
 static int32_t starts(enum call call, struct dfu_ask *ask, struct dfu_starting *starting)
 {
     const int32_t n = say_or_ask(call, ask);
-    if (n == 0 || n == DFU_ASKS) {
+    if (n == 0 || n == DFU_WRITE_PENDING) {
         starting->run = given.run;
         starting->otherwise = given.otherwise;
     }

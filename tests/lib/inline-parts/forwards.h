@@ -66,7 +66,7 @@ static void is_written(enum call call, int32_t n)
         holds(place.at == wanted->at && place.length == wanted->length, "the place is not the one that the call gave");
     if (call == TRIAL_LOOK && n == 0)
         holds(standing.active.at == given.at, "the standing is not the one that the call gave");
-    if ((n == 0 && (call == NEXT || call == FORMAT_NEXT)) || n == DFU_ASKS)
+    if ((n == 0 && (call == NEXT || call == FORMAT_NEXT)) || n == DFU_WRITE_PENDING)
         holds(call == TOOK || call == ELAPSE || call == FORMAT_START || call == FORMAT_TOOK || memcmp(&ask, &handed, sizeof ask) == 0,
               "the operation is not the one that the call gave");
 }

@@ -151,7 +151,7 @@ static void ask(enum call call)
     asking = call;
     owed = loop[call].next;
     if (!carries)
-        over(DFU_ASKS);
+        over(DFU_WRITE_PENDING);
     else if (stage->end == OR_NOT_WRITTEN || (call == INSTALL_NEXT && operations == most_operations))
         over(DFU_NOT_WRITTEN);
 }
@@ -164,7 +164,7 @@ int32_t answers(enum call call, int32_t n)
     owed = NO_CALL;
     if (is_plain)
         over(n);
-    else if (n == DFU_ASKS)
+    else if (n == DFU_WRITE_PENDING)
         ask(call);
     else if (n == 0 && (call == NEXT || call == FORMAT_NEXT))
         owed = OPERATION;

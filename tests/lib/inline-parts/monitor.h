@@ -66,7 +66,7 @@ enum when {
 /* Results of the inline call if its plan ends with a stage: the stage's answer, or an exception. */
 enum end {
     AS_ANSWERED,
-    OR_NOT_WRITTEN,  /* DFU_NOT_WRITTEN for DFU_ASKS, which is no more carried out */
+    OR_NOT_WRITTEN,  /* DFU_NOT_WRITTEN for DFU_WRITE_PENDING, which is no more carried out */
     OR_SERVED,       /* 0 for 1: the request may be served, and is stalled then */
     IF_HOME,         /* 0 for 1: the request may be served; DFU_NOT_HOME for 0 */
     ALWAYS_NO_MEDIUM /* DFU_NO_MEDIUM whatever it is */

@@ -95,12 +95,12 @@ static void try_plan(const struct inline_call *it)
 /* dfu_device_settle: it carries out what is due, and gives any other number back. */
 static void try_settle(void)
 {
-    static const int32_t numbers[] = {DFU_ASKS, 0, 6, DFU_STALL, DFU_ASKED, DFU_NO_DEVICE};
+    static const int32_t numbers[] = {DFU_WRITE_PENDING, 0, 6, DFU_STALL, DFU_BUSY, DFU_NO_DEVICE};
     while (next_path("dfu_device_settle")) {
         hand_in(pick(2) == 0);
         const int32_t n = numbers[pick(6)];
         follow_due();
-        if (n != DFU_ASKS || device.driver == NULL)
+        if (n != DFU_WRITE_PENDING || device.driver == NULL)
             over(n);
         returned(dfu_device_settle(&device, n, out, sizeof out));
     }

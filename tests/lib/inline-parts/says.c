@@ -5,40 +5,40 @@
 #include "dfu_device.h"
 #include "monitor.h"
 
-/* DFU_ASKS stands last: a path that has its operations does without. */
+/* DFU_WRITE_PENDING stands last: a path that has its operations does without. */
 static const struct {
     unsigned count;
     int32_t numbers[6];
 } may_say[CALLS] = {[POWER_ON] = {3, {0, DFU_NO_CONFIG, DFU_NO_MEDIUM}},
                     [BEGIN] = {3, {0, DFU_NO_CONFIG, DFU_NO_MEDIUM}},
-                    [HANDLE] = {6, {0, 6, DFU_STALL, DFU_NO_MEDIUM, DFU_ASKED, DFU_ASKS}},
-                    [ELAPSE] = {4, {0, DFU_NO_DEVICE, DFU_ASKED, DFU_ASKS}},
-                    [USB_RESET] = {3, {0, DFU_NO_BLOCK, DFU_ASKED}},
+                    [HANDLE] = {6, {0, 6, DFU_STALL, DFU_NO_MEDIUM, DFU_BUSY, DFU_WRITE_PENDING}},
+                    [ELAPSE] = {4, {0, DFU_NO_DEVICE, DFU_BUSY, DFU_WRITE_PENDING}},
+                    [USB_RESET] = {3, {0, DFU_NO_BLOCK, DFU_BUSY}},
                     [NEXT] = {3, {0, DFU_NO_BLOCK, DFU_NO_DEVICE}},
-                    [TOOK] = {5, {0, 6, DFU_STALL, DFU_NO_DEVICE, DFU_ASKS}},
-                    [WOULD_STALL] = {4, {0, 1, DFU_NO_DEVICE, DFU_ASKED}},
-                    [CLOSES] = {4, {0, 1, DFU_NO_DEVICE, DFU_ASKED}},
-                    [TOO_LONG] = {4, {DFU_STALL, DFU_NO_DEVICE, DFU_ASKED, DFU_NOT_LONG}},
-                    [REFUSE_CLOSE] = {5, {DFU_STALL, DFU_NO_DEVICE, DFU_ASKED, DFU_NO_STATUS, DFU_NO_CLOSE}},
-                    [REFUSE] = {4, {0, DFU_NO_DEVICE, DFU_ASKED, DFU_NO_STATUS}},
-                    [CANDIDATE] = {4, {0, DFU_ASKED, DFU_NO_MEDIUM, DFU_NO_CANDIDATE}},
+                    [TOOK] = {5, {0, 6, DFU_STALL, DFU_NO_DEVICE, DFU_WRITE_PENDING}},
+                    [WOULD_STALL] = {4, {0, 1, DFU_NO_DEVICE, DFU_BUSY}},
+                    [CLOSES] = {4, {0, 1, DFU_NO_DEVICE, DFU_BUSY}},
+                    [TOO_LONG] = {4, {DFU_STALL, DFU_NO_DEVICE, DFU_BUSY, DFU_NOT_LONG}},
+                    [REFUSE_CLOSE] = {5, {DFU_STALL, DFU_NO_DEVICE, DFU_BUSY, DFU_NO_STATUS, DFU_NO_CLOSE}},
+                    [REFUSE] = {4, {0, DFU_NO_DEVICE, DFU_BUSY, DFU_NO_STATUS}},
+                    [CANDIDATE] = {4, {0, DFU_BUSY, DFU_NO_MEDIUM, DFU_NO_CANDIDATE}},
                     [CODE] = {3, {0, 15, DFU_NO_DEVICE}},
                     [IMAGE] = {3, {0, DFU_NO_CONFIG, DFU_NO_MEDIUM}},
                     [IS_BLANK] = {4, {0, 1, DFU_NO_CONFIG, DFU_WRONG_SIZE}},
                     [FUNCTIONAL] = {2, {9, DFU_NO_CONFIG}},
-                    [FORMAT_START] = {3, {DFU_NO_CONFIG, DFU_TOO_LARGE, DFU_ASKS}},
+                    [FORMAT_START] = {3, {DFU_NO_CONFIG, DFU_TOO_LARGE, DFU_WRITE_PENDING}},
                     [FORMAT_NEXT] = {3, {0, DFU_NO_CONFIG, DFU_NO_DEVICE}},
-                    [FORMAT_TOOK] = {4, {0, DFU_NOT_WRITTEN, DFU_NO_DEVICE, DFU_ASKS}},
+                    [FORMAT_TOOK] = {4, {0, DFU_NOT_WRITTEN, DFU_NO_DEVICE, DFU_WRITE_PENDING}},
                     [TRIAL_LOOK] = {4, {0, DFU_NO_MEDIUM, DFU_NO_CONFIG, DFU_NO_SECTORS}},
-                    [TRIAL_START] = {4, {0, DFU_NO_MEDIUM, DFU_FEW_TRIES, DFU_ASKS}},
-                    [TRIAL_START_FROM] = {4, {0, DFU_NO_MEDIUM, DFU_FEW_TRIES, DFU_ASKS}},
+                    [TRIAL_START] = {4, {0, DFU_NO_MEDIUM, DFU_FEW_TRIES, DFU_WRITE_PENDING}},
+                    [TRIAL_START_FROM] = {4, {0, DFU_NO_MEDIUM, DFU_FEW_TRIES, DFU_WRITE_PENDING}},
                     [TRIAL_RUNS] = {2, {0, DFU_NO_MEDIUM}},
-                    [TRIAL_CONFIRM] = {4, {0, DFU_ELSEWHERE, DFU_NO_MEDIUM, DFU_ASKS}},
-                    [TRIAL_END] = {4, {0, DFU_NO_MEDIUM, DFU_MANY_TRIES, DFU_ASKS}},
-                    [TRIAL_UPLOAD] = {4, {0, DFU_NO_MEDIUM, DFU_MANY_TRIES, DFU_ASKS}},
-                    [INSTALL_NEXT] = {5, {0, DFU_WRONG_SIZE, DFU_NO_IMAGE, DFU_TOO_LARGE, DFU_ASKS}},
+                    [TRIAL_CONFIRM] = {4, {0, DFU_ELSEWHERE, DFU_NO_MEDIUM, DFU_WRITE_PENDING}},
+                    [TRIAL_END] = {4, {0, DFU_NO_MEDIUM, DFU_MANY_TRIES, DFU_WRITE_PENDING}},
+                    [TRIAL_UPLOAD] = {4, {0, DFU_NO_MEDIUM, DFU_MANY_TRIES, DFU_WRITE_PENDING}},
+                    [INSTALL_NEXT] = {5, {0, DFU_WRONG_SIZE, DFU_NO_IMAGE, DFU_TOO_LARGE, DFU_WRITE_PENDING}},
                     [INSTALL_TOOK] = {1, {0}},
-                    [HOME_NEXT] = {6, {0, DFU_NO_CONFIG, DFU_NO_MEDIUM, DFU_NO_SECTORS, DFU_NOT_WRITTEN, DFU_ASKS}},
+                    [HOME_NEXT] = {6, {0, DFU_NO_CONFIG, DFU_NO_MEDIUM, DFU_NO_SECTORS, DFU_NOT_WRITTEN, DFU_WRITE_PENDING}},
                     [HOME_TOOK] = {1, {0}},
                     [HOME_MAY_DOWNLOAD] = {4, {0, 1, DFU_NO_CONFIG, DFU_NO_MEDIUM}}};
 /* The driver: 0 is done, any other number is a failure. A path's first operation has all of them, the others the first three. */
@@ -50,7 +50,7 @@ static uint8_t memory_before[1024];
 int32_t say(enum call call)
 {
     unsigned count = may_say[call].count;
-    if (may_say[call].numbers[count - 1] == DFU_ASKS && asks >= operation_bound)
+    if (may_say[call].numbers[count - 1] == DFU_WRITE_PENDING && asks >= operation_bound)
         count--;
     return answers(call, may_say[call].numbers[count == 1 ? 0 : pick(count)]);
 }

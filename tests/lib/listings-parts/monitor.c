@@ -62,7 +62,7 @@ static int32_t leaves(const struct dfu_record *record, const uint8_t *block, siz
         memory_size = most;
     }
     flash_is_kept();
-    is_due = n == DFU_ASKS;
+    is_due = n == DFU_WRITE_PENDING;
     is_handed = is_carried = 0;
     return n;
 }
@@ -136,7 +136,7 @@ int32_t WRAP(dfu_core_format_start)(const struct dfu_config *c, struct dfu_recor
     flash_is_kept();
     const int32_t n = REAL(dfu_core_format_start)(c, r, flash, size, image, length);
     has_power = 0;
-    is_format = n == DFU_ASKS;
+    is_format = n == DFU_WRITE_PENDING;
     kept = *r;
     return n;
 }
@@ -157,7 +157,7 @@ int32_t WRAP(dfu_core_format_took)(const struct dfu_config *c, struct dfu_record
 {
     holds(is_format && is_handed && is_carried, "a report of a format's operation that was not carried out");
     const int32_t n = REAL(dfu_core_format_took)(c, r, flash, size, image, length, failed);
-    is_format = n == DFU_ASKS;
+    is_format = n == DFU_WRITE_PENDING;
     is_handed = 0;
     kept = *r;
     return n;
@@ -168,7 +168,7 @@ static int32_t asks(int32_t n, const struct dfu_ask *ask)
 {
     flash_is_kept();
     holds(!is_due, "a call of a trial while an operation is due");
-    is_asked = n == DFU_ASKS;
+    is_asked = n == DFU_WRITE_PENDING;
     if (is_asked)
         asked = *ask;
     return n;

@@ -125,7 +125,7 @@ static void at_requests(void)
     check("a block is taken", ask(DFU_DNLOAD, 0, BLOCK) == 0 && status() == DFU_STATE_DNBUSY && status() == DFU_STATE_DNLOAD_IDLE);
     device.record.work = 1; /* as if operations were due; the state is there still */
     check("it is stalled, and nothing taken", ask(DFU_DNLOAD, 1, BLOCK) == BUS_STALL);
-    check_again(DFU_ASKED, DFU_STATE_IDLE);
+    check_again(DFU_BUSY, DFU_STATE_IDLE);
     download();
 
     make("another image on the flash", true);

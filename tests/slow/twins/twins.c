@@ -79,18 +79,18 @@ static void power_on_both(void);
 
 /* The operations that are due, on both. */
 static int32_t settle_both(int32_t answer) {
-    for (int i = 0; answer == DFU_ASKS && i < 200; i++) {
+    for (int i = 0; answer == DFU_WRITE_PENDING && i < 200; i++) {
         struct dfu_ask a = {7, 7, 7, {7}}, b = a;
         int32_t next = same("next", dfu_core_next(&garbled, &one.record, one.pending, sizeof one.pending, one.flash, one.size, &a),
                             landed_next(&garbled, &two.record, two.pending, sizeof two.pending, two.flash, two.size, &b));
         if (memcmp(&a, &b, sizeof a) != 0)
             stop("the operation");
         if (next != 0)
-            return DFU_ASKS;
+            return DFU_WRITE_PENDING;
         uint32_t failed = carry_out(&a);
         if (failed == 2) {
             power_on_both();
-            return DFU_ASKS;
+            return DFU_WRITE_PENDING;
         }
         size_t room = roll(200) ? sizeof one.out : roll(9);
         room = is_plain ? sizeof one.out : room;
@@ -118,7 +118,7 @@ static void format_both(void) {
     size_t length = roll(8) ? roll(600) : roll(sizeof image);
     int32_t answer = same("format", dfu_core_format_start(&garbled, &one.record, one.flash, one.size, image, length),
                           landed_format_start(&garbled, &two.record, two.flash, two.size, image, length));
-    while (answer == DFU_ASKS && roll(100) != 0) {
+    while (answer == DFU_WRITE_PENDING && roll(100) != 0) {
         struct dfu_ask a = {7, 7, 7, {7}}, b = a;
         int32_t next = same("format next", dfu_core_format_next(&garbled, &one.record, one.flash, one.size, image, length, &a),
                             landed_format_next(&garbled, &two.record, two.flash, two.size, image, length, &b));

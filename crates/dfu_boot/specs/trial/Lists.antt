@@ -72,7 +72,8 @@ TrialStepResult tries m (Starts ran) now = (s : Standing) × IsStanding m tries 
     × RanBy (trial_start m.grain tries s) now ran
 TrialStepResult tries m (Confirms at) now = (s : Standing) × IsStanding m tries s × ConfirmedBy m (confirm_of m.grain s at) now
 TrialStepResult tries m Ends now = (s : Standing) × IsStanding m tries s × CarriedIf m (end_of_trial s) now
-TrialStepResult tries m (Uploads given) now = (s : Standing) × IsStanding m tries s × CarriedIf m (upload_of tries s) now × UploadResult now tries given
+TrialStepResult tries m (Uploads given) now = (s : Standing) × IsStanding m tries s × CarriedIf m (upload_of tries s) now
+    × UploadResult now tries given
 TrialStepResult tries m (Downloads image) now = IsDownload m tries image now
 
 -- Such things came one after another, in any order.

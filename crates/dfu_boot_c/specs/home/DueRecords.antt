@@ -19,8 +19,8 @@ home_refusal_number NoSectors = negsuc 15
 home_refusal_number NoImage = negsuc 2
 home_refusal_number NotWritten = negsuc 7
 
--- An operation gives DFU_ASKS, and is written into what is asked for. An image that is home gives 0, a refusal its number, and nothing
--- changes.
+-- An operation gives DFU_WRITE_PENDING, and is written into what is asked for. An image that is home gives 0, a refusal its number, and
+-- nothing changes.
 abbrev pub HomeDueInAsk : MediumState → Due → ℤ → DfuAsk → DfuAsk → Type 0
 HomeDueInAsk m (Refuse refusal) result before after = (result ≡ home_refusal_number refusal) × (after ≡ before)
 HomeDueInAsk m Home result before after = (result ≡ pos 0) × (after ≡ before)

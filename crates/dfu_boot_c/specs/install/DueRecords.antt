@@ -7,7 +7,8 @@ use Rattle.dfu_core.specs.declared.records.DfuAsk.{DfuAsk}
 use Rattle.dfu_core.specs.Numbers.{ASKS}
 use Rattle.dfu_boot_c.specs.install.Calls.{install_refusal_number}
 
--- An operation gives DFU_ASKS, and is written into what is asked for. The start gives 0, a refusal its number, and nothing changes.
+-- An operation gives DFU_WRITE_PENDING, and is written into what is asked for. The start gives 0, a refusal its number, and nothing
+-- changes.
 abbrev pub DueInAsk : List ℕ → ℕ → Due → ℤ → DfuAsk → DfuAsk → Type 0
 DueInAsk image sector (Refuse refusal) result before after = (result ≡ install_refusal_number refusal) × (after ≡ before)
 DueInAsk image sector Start result before after = (result ≡ pos 0) × (after ≡ before)

@@ -41,8 +41,8 @@ standing_told m tries (OnTrial t) = record {
 abbrev pub starting_told : MediumState → Starting → DfuStarting
 starting_told m s = record { run = image_in m s.slot; otherwise = image_in m s.otherwise }
 
--- An operation gives DFU_ASKS, and is written into what is asked for: zeros are programmed, or a sector of so many bytes is erased. If
--- there is none the number is 0, and nothing changes.
+-- An operation gives DFU_WRITE_PENDING, and is written into what is asked for: zeros are programmed, or a sector of so many bytes is
+-- erased. If there is none the number is 0, and nothing changes.
 abbrev pub TrialOpInAsk : ℕ → Option Operation → ℤ → DfuAsk → DfuAsk → Type 0
 TrialOpInAsk sector None result before after = (result ≡ pos 0) × (after ≡ before)
 TrialOpInAsk sector (Some (Mark at len)) result before after =

@@ -137,7 +137,8 @@ empty_dnload asked.Abort body number e = absurd (cc)
 empty_dnload asked.OtherClass body number e = absurd (cc)
 empty_dnload asked.NotDfu body number e = absurd (cc)
 
-dnload_bytes : (p : Setup) (block len : ℕ) (setup : List ℕ) → IsSetup p setup → SetupRequest p (asked.Dnload block len) → is_dnload setup ≡ true
+dnload_bytes : (p : Setup) (block len : ℕ) (setup : List ℕ) → IsSetup p setup → SetupRequest p (asked.Dnload block len)
+    → is_dnload setup ≡ true
 dnload_bytes p block len setup reads asks =
     let first : slice_index setup 0 ≡ 0x21 = sym reads.kind ∙ asks.0.kind in
     let second : slice_index setup 1 ≡ 1 = sym reads.request ∙ asks.0.request in

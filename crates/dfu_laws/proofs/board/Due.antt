@@ -24,7 +24,8 @@ pub record DueLeads (d d' : DeviceView) : Type 0 where
 
 -- The device entered this stage, and that is true of it.
 abbrev EndsIn : DeviceView → DeviceView → Stage → Type 0
-EndsIn d d' st = (accepted_in (image_of d'.slots) st ≡ held_in (state_of st) (accepted_of (situation d))) × ((t : List ℕ) → IsPending st t → ⊥)
+EndsIn d d' st = (accepted_in (image_of d'.slots) st ≡ held_in (state_of st) (accepted_of (situation d))) × ((t : List ℕ)
+    → IsPending st t → ⊥)
 
 ends_in : (d d' : DeviceView) (st : Stage) → d'.stage ≡ st → EndsIn d d' st
     → (image_of d'.slots ≡ image_of d.slots) ⊎ IsPending d.stage (image_of d'.slots)

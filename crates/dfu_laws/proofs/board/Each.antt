@@ -17,7 +17,8 @@ use Rattle.dfu_laws.proofs.board.Works.{writes_on, told}
 use Rattle.dfu_laws.proofs.board.Powers.{restarts, cuts}
 
 -- Nothing came of a step that leaves a board as it was.
-left_alone : (b b' : Board) (due : Option Cause) (d : DeviceView) (e : Event) → RepresentsDevice b due d → b' ≡ b → EventRows due e Nothing [] due
+left_alone : (b b' : Board) (due : Option Cause) (d : DeviceView) (e : Event) → RepresentsDevice b due d → b' ≡ b
+    → EventRows due e Nothing [] due
     → acknowledged_body e Nothing ≡ [] → Turned b' due d e Nothing
 left_alone b b' due d e k same tells none = stays b' due due d e Nothing tells (subst (λ (x : Board). RepresentsDevice x due d) (sym same) k) none
 
@@ -26,7 +27,8 @@ at_work : (b : Board) (cause : Cause) (d : DeviceView) → IsAtWork b cause d �
 at_work b cause d k idle = none_or_some k.asks.work b.asking.work idle k.asks.work_is
 
 module _ (laws : WriteLaws) (takes : RowAcceptsBody) where
-  turn_idle : (b b' : Board) (d : DeviceView) (e : Event) (says : BoardReply) → IsIdle b d → Happens b e says b' → IsSetUpAs b.asking b'.asking
+  turn_idle : (b b' : Board) (d : DeviceView) (e : Event) (says : BoardReply) → IsIdle b d → Happens b e says b'
+      → IsSetUpAs b.asking b'.asking
       → Turned b' None d e says
   turn_idle b b' d (Handle setup body) Nothing k h same = left_alone b b' None d (Handle setup body) k h (refl, refl) refl
   turn_idle b b' d (Handle setup body) says k h same =
@@ -65,7 +67,8 @@ module _ (laws : WriteLaws) (takes : RowAcceptsBody) where
   turn_work b b' cause d (Restart begins) says k h same = cuts laws b b' cause d begins says k same h.1 h.2
 
   -- Each step makes rows of the device that the board stands for.
-  pub turn : (b b' : Board) (due : Option Cause) (d : DeviceView) (e : Event) (says : BoardReply) → RepresentsDevice b due d → Happens b e says b'
+  pub turn : (b b' : Board) (due : Option Cause) (d : DeviceView) (e : Event) (says : BoardReply) → RepresentsDevice b due d
+      → Happens b e says b'
       → IsSetUpAs b.asking b'.asking → Turned b' due d e says
   turn b b' None d e says k h same = turn_idle b b' d e says k h same
   turn b b' (Some cause) d e says k h same = turn_work b b' cause d e says k h same

@@ -107,7 +107,8 @@ objection_asks n Nothing told = objected_asks n told
 objection_asks n WritesDue told = elim told [ ]
 objection_asks n (Answers a bytes) told = ap operations_of_number told.0 ∙ answer_asks a 0
 
-event_asks : (e : CoreEvent) (n : ℤ) (out : List ℕ) (says : BoardReply) → ReplyOfEvent e n out says → operations_of_number n ≡ operations_of says
+event_asks : (e : CoreEvent) (n : ℤ) (out : List ℕ) (says : BoardReply) → ReplyOfEvent e n out says
+    → operations_of_number n ≡ operations_of says
 event_asks (CoreHandle setup body buffer) n out says told = number_asks n out says told
 event_asks (CoreElapse ms) n out says told = passed_asks n says told
 event_asks CoreReset n out says told = passed_asks n says told
@@ -144,7 +145,8 @@ further_of b b' x x' a a' r is is' was now asks further w p work piece =
     ∙ further asks w p (ap (λ (y : Board). y.asking.work) (sym first) ∙ work)
     (subst (λ (y : Board). IsPiece (steps_in (lent_on y) w) w.done p) first piece)
 
-goes_further : (b b' : CoreBoard) (x x' : Board) (e : CoreEvent) (n : ℤ) (out' : List ℕ) (says : BoardReply) → IsBoardOf b x → IsBoardOf b' x'
+goes_further : (b b' : CoreBoard) (x x' : Board) (e : CoreEvent) (n : ℤ) (out' : List ℕ) (says : BoardReply) → IsBoardOf b x
+    → IsBoardOf b' x'
     → CoreHappens b e n out' b' → ReplyOfEvent e n out' says → PieceAdvances x (event_of_core b.config e) says x'
 goes_further b b' x x' (CoreTook failed out) n out' WritesDue is is' (called, inl g) told =
     let now = subst (λ (c : DfuConfig). IsRecordOf c b'.kept g.after) (sym called.config) g.is in

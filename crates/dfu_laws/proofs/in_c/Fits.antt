@@ -27,7 +27,8 @@ stall_fits (request.GetState len) out = tt
 stall_fits (request.Upload block len) out = tt
 stall_fits q out = tt
 
-ack_fits : (most : ℕ) (q : Request) (body out : List ℕ) → ReplyMatches most Ack (meant q body) → ReplyOfRequest q (SaysAnswer answer.Ack out)
+ack_fits : (most : ℕ) (q : Request) (body out : List ℕ) → ReplyMatches most Ack (meant q body)
+    → ReplyOfRequest q (SaysAnswer answer.Ack out)
 ack_fits most (request.GetStatus len) body out f = f
 ack_fits most (request.GetState len) body out f = f
 ack_fits most (request.Upload block len) body out f = f
@@ -72,7 +73,8 @@ writes_fit q = tt
 
 -- Each of a run.
 
-step_fit : (e : Event) (says : BoardReply) (due due' : Option Cause) (rows : List TableRow) (d d' : DeviceView) → EventRows due e says rows due'
+step_fit : (e : Event) (says : BoardReply) (due due' : Option Cause) (rows : List TableRow) (d d' : DeviceView)
+    → EventRows due e says rows due'
     → IsHistory d rows d' → ReplyOfSetup e says
 step_fit (Handle setup body) (SaysAnswer a out) due due' rows d d' tells h =
     let one = tells.0 in

@@ -50,7 +50,8 @@ active_too b x image is active = subst (λ (m : MediumState). Active m image) (s
 
 -- The next event comes to the board of the sessions before.
 pub comes_on : (b : CoreBoard) (steps more : List CoreStep) (past : List (List ℕ)) (last : Option (List ℕ)) (l l' : CoreLink)
-    (answer : Answered) → (p : CorePlays b steps past last l) → (c : CoreLinkStep l more answer l') → BoardLinkStep p.link c.calls answer c.after
+    (answer : Answered) → (p : CorePlays b steps past last l) → (c : CoreLinkStep l more answer l')
+    → BoardLinkStep p.link c.calls answer c.after
 comes_on b steps more past last l l' answer p c =
     subst (λ (x : BoardLink). BoardLinkStep x c.calls answer c.after) (one_link l c.before p.link c.is_before p.is_link) c.comes
 

@@ -51,7 +51,8 @@ fits_in b a sound = record {
 }
 
 -- So has the memory of the block, if it has for the transfer size.
-pub fits_of : (b : CoreBoard) (a : Asking) → IsSound b a → transfer_of b.config ≤ length b.block → RoomForBlocks a (length (block_in a b.block))
+pub fits_of : (b : CoreBoard) (a : Asking) → IsSound b a → transfer_of b.config ≤ length b.block
+    → RoomForBlocks a (length (block_in a b.block))
 fits_of b a sound room =
     let size = transfer_in b a sound in
     let count : length (block_in a b.block) ≡ a.config.functional.transfer =

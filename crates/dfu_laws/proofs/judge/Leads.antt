@@ -44,7 +44,8 @@ Leads c p q body st reply next = (a : Answer) (out : List ℕ) → Answers (aske
 abbrev pub PlanKept : Profile → Setup → Asked → List ℕ → Stage → Plan → Type 0
 PlanKept c p q body st (Sure reply next) = Leads c p q body st reply next × StageInvariant c next
 PlanKept c p q body st (Writes before block reply next bad) =
-    (Leads c p q body st reply next × StageInvariant c next) × ((fault : WriteFault) → Leads c p q body st (bad fault) (InError (write_code fault)))
+    (Leads c p q body st reply next × StageInvariant c next) × ((fault : WriteFault)
+    → Leads c p q body st (bad fault) (InError (write_code fault)))
 PlanKept c p q body st (Commits taken reply next bad) =
     (Leads c p q body st reply next × StageInvariant c next) × ((fault : WriteFault)
     → Leads c p q body st (bad fault) (InError (commit_code fault)))
@@ -99,7 +100,8 @@ stalls c p q body st next asks v some = λ a out h.
     refl (about p q body (seen a out) asks v) (stalled (place_of st) (place_of next) p.length (asked_length q) a out h)
 
 -- A request that is acknowledged.
-pub acks : (c : Profile) (p : Setup) (q : Asked) (body : List ℕ) (st next : Stage) (when : When) → SetupRequest p q → is_served p q body ≡ true
+pub acks : (c : Profile) (p : Setup) (q : Asked) (body : List ℕ) (st next : Stage) (when : When) → SetupRequest p q
+    → is_served p q body ≡ true
     → list_any (is_row (place_of st) (came_by q body) when gives.Ack (place_of next)) STANDARD ≡ true
     → meets when (attributes_of c) 0 ≡ true → Leads c p q body st Ack next
 acks c p q body st next when asks v some of_it = λ a out h.
@@ -118,7 +120,8 @@ reports c p len body st next when stands is some of_it = λ a out h.
     (state_is next) is h)
 
 -- GETSTATUS is answered with the code of a fault: the device came to dfuERROR by itself.
-pub fails : (c : Profile) (p : Setup) (len : ℕ) (body : List ℕ) (st : Stage) (code : Code) → StageInvariant c (InError code) → len ≡ p.length
+pub fails : (c : Profile) (p : Setup) (len : ℕ) (body : List ℕ) (st : Stage) (code : Code) → StageInvariant c (InError code)
+    → len ≡ p.length
     → list_any (is_move (place_of st) Always place.Error) DRIFTS ≡ true
     → Leads c p (asked.GetStatus len) body st (status_of c (InError code)) (InError code)
 fails c p len body st code stands is move = λ a out h.

@@ -32,9 +32,11 @@ use Rattle.dfu_laws.proofs.judge.Leads.{write_stands, commit_stands, which}
 abbrev pub TimeKept : Profile → Stage → Plan → Type 0
 TimeKept c st (Sure reply next) = MayMove (attributes_of c) 0 (place_of st) (place_of next) × StageInvariant c next
 TimeKept c st (Writes before block reply next bad) =
-    (MayMove (attributes_of c) 0 (place_of st) (place_of next) × StageInvariant c next) × MayMove (attributes_of c) 0 (place_of st) place.Error
+    (MayMove (attributes_of c) 0 (place_of st) (place_of next) × StageInvariant c next)
+    × MayMove (attributes_of c) 0 (place_of st) place.Error
 TimeKept c st (Commits taken reply next bad) =
-    (MayMove (attributes_of c) 0 (place_of st) (place_of next) × StageInvariant c next) × MayMove (attributes_of c) 0 (place_of st) place.Error
+    (MayMove (attributes_of c) 0 (place_of st) (place_of next) × StageInvariant c next)
+    × MayMove (attributes_of c) 0 (place_of st) place.Error
 
 -- It moves by itself.
 pub moves : (c : Profile) (from : StandardState) (when : When) (next : StandardState) → list_any (is_move from when next) DRIFTS ≡ true

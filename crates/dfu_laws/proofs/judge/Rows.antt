@@ -20,7 +20,8 @@ use Rattle.dfu_laws.proofs.judge.Leads.{PlanKept, stalls, acks, reports, fails, 
 
 -- Whatever is asked of a device in this stage, what comes of it is kept.
 abbrev pub KeepsAll : Profile → (image : List ℕ) → Stage → Type 0
-KeepsAll c i st = (p : Setup) (q : Asked) (body : List ℕ) → NeedsManifestTime c → StageInvariant c st → SetupRequest p q → is_served p q body ≡ true
+KeepsAll c i st = (p : Setup) (q : Asked) (body : List ℕ) → NeedsManifestTime c → StageInvariant c st → SetupRequest p q
+    → is_served p q body ≡ true
     → PlanKept c p q body st (plan c i st (meant q body))
 
 -- In appIDLE.

@@ -95,7 +95,8 @@ way_cause session call way = elim way [ ]
 module _ (refines : IdleRefines) (simulation : Simulation) (only : OnlyOffered) (c : Profile) (sized : 0 < c.transfer)
     (past : List (List ℕ)) where
   -- A call that was under way came to its end.
-  pub way_well : (session : Session) (call : Event) (b b' : Board) (d : DeviceView) (steps : List BoardStep) (says : BoardReply) → IsIdle b d
+  pub way_well : (session : Session) (call : Event) (b b' : Board) (d : DeviceView) (steps : List BoardStep) (says : BoardReply)
+      → IsIdle b d
       → profile d ≡ c → IsSound past d.stage → IsLiveOffer past (live_of session) → SessionFact c (situation d) session
       → IsUnderWay session call → Reaches call b steps says b' → Became c past (situation d) b'
   way_well session (Elapse ms) b b' d steps says k e sound offered f way reaches = reaches_well refines c past ms b b' d steps says k e sound reaches

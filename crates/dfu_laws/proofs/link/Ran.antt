@@ -34,7 +34,8 @@ one_run b [] x y h k = h ∙ sym k
 one_run b (s ∷ rest) x y h k = one_run s.after rest x y h.3 k.3
 
 -- A call that reaches a board is a run of it.
-pub reaches_run : (call : Event) (b b' : Board) (steps : List BoardStep) (says : BoardReply) → Reaches call b steps says b' → IsRun b steps b'
+pub reaches_run : (call : Event) (b b' : Board) (steps : List BoardStep) (says : BoardReply) → Reaches call b steps says b'
+    → IsRun b steps b'
 reaches_run call b _ _ _ lost = refl
 reaches_run call b _ steps _ (once serves) = serves.run
 reaches_run call b b' _ _ (twice {first = first} {second = second} {mid = mid} serves more) =

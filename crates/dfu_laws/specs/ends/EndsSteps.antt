@@ -37,10 +37,12 @@ pub data EndsAdvance (s : CoreSession) (b : Board) : List BoardStep → Answered
   -- The session resets the bus.
   resets_bus : {payload bytes : List ℕ} {x x' : CoreHost} {a : DfuAction} {steps : List BoardStep} {answer : Answer} {out : List ℕ}
       {b' : Board} {said : Answered} {s' : CoreSession} → s ≡ InSession payload x → Wants payload x a → a.what ≡ 2
-      → Serves b UsbReset steps answer out b' → HostTakeOk payload x 5 bytes x' → Settles payload x' said s' → EndsAdvance s b steps said s' b'
+      → Serves b UsbReset steps answer out b' → HostTakeOk payload x 5 bytes x' → Settles payload x' said s'
+      → EndsAdvance s b steps said s' b'
   -- The bus is reset by another cause, with this call under way, to which the board comes to an end first.
   bus_is_reset : {call : Event} {steps more : List BoardStep} {says : BoardReply} {a : Answer} {out : List ℕ} {mid b' : Board} {said : Answered}
-      {s' : CoreSession} → MayBeUnderWay s call → Reaches call b steps says mid → Serves mid UsbReset more a out b' → RestartReported s said s'
+      {s' : CoreSession} → MayBeUnderWay s call → Reaches call b steps says mid → Serves mid UsbReset more a out b'
+      → RestartReported s said s'
       → EndsAdvance s b (steps ++ more) said s' b'
   -- The power of the board goes and comes back, with this call under way.
   board_restarts : {call : Event} {steps : List BoardStep} {b' : Board} {said : Answered} {s' : CoreSession} → MayBeUnderWay s call

@@ -140,7 +140,8 @@ pub record EndsContinue : Type 0 where
       → HostCalled payload x CoreAbort (pos 0) x'
       → CoreEndsPlay b steps past last (record { board = on; session = InSession payload x' })
   pub goes_on : (b : CoreBoard) (steps more : List CoreStep) (past : List (List ℕ)) (last : Option (List ℕ)) (l l' : CoreEnds)
-      (answer : Answered) → CoreEndsPlay b steps past last l → CoreEndsAdvance l more answer l' → CoreEndsPlay b (steps ++ more) past last l'
+      (answer : Answered) → CoreEndsPlay b steps past last l → CoreEndsAdvance l more answer l'
+      → CoreEndsPlay b (steps ++ more) past last l'
   pub marks : (b b' on : CoreBoard) (steps : List CoreStep) (past : List (List ℕ)) (last : Option (List ℕ)) (s : CoreSession)
       → CoreEndsPlay b steps past last (record { board = on; session = s }) → IsCoreMarked on b'
       → CoreEndsPlay b steps past last (record { board = b'; session = s })

@@ -23,19 +23,19 @@ abbrev pub AreCoreUnanswered : List CoreStep → Type 0
 AreCoreUnanswered [] = Unit {0}
 AreCoreUnanswered (s ∷ rest) = IsCoreUnanswered s.event s.number × AreCoreUnanswered rest
 
--- 1 for DFU_ASKS, and 0 for any other number.
+-- 1 for DFU_WRITE_PENDING, and 0 for any other number.
 abbrev pub operations_of_number : ℤ → ℕ
 operations_of_number (pos k) = 0
 operations_of_number (negsuc k) = if k == 10 then 1 else 0
 
--- Number of these steps that returned DFU_ASKS.
+-- Number of these steps that returned DFU_WRITE_PENDING.
 abbrev pub core_operations_in : List CoreStep → ℕ
 core_operations_in [] = 0
 core_operations_in (s ∷ rest) = operations_of_number s.number + core_operations_in rest
 
 -- No operation was due on a board in C, and none of the steps since was answered: if operations are due then, at most so many of these
--- calls returned DFU_ASKS, as DFU_BLOCK_ERASES and DFU_BLOCK_PROGRAMS say together of the transfer size and the sector, or for an image
--- that is put in place DFU_COMMIT_ERASES and DFU_COMMIT_PROGRAMS. So a loop that goes on while the number is DFU_ASKS ends.
+-- calls returned DFU_WRITE_PENDING, as DFU_BLOCK_ERASES and DFU_BLOCK_PROGRAMS say together of the transfer size and the sector, or for an
+-- image that is put in place DFU_COMMIT_ERASES and DFU_COMMIT_PROGRAMS. So a loop that goes on while the number is DFU_WRITE_PENDING ends.
 abbrev pub CoreOperationsBounded : Type 0
 CoreOperationsBounded = (b mid b' : CoreBoard) (old steps : List CoreStep) (w : PendingWrites) → IsCoreOn b → IsCoreRun b old mid
     → mid.kept.work ≡ 0 → IsCoreRun mid steps b' → AreCoreUnanswered steps → HasWork b'.kept (Some w)

@@ -24,9 +24,9 @@ pub record FormatPieceResult (c : DfuConfig) (image flash : List ℕ) (r : DfuRe
 
 -- A format of this image is under way, with this flash and this record.
 pub data IsBeingFormatted (c : DfuConfig) (image : List ℕ) : (flash : List ℕ) → (r : DfuRecord) → Type 0 where
-  -- dfu_core_format_start returned DFU_ASKS, whatever was on the flash: so also after a format during which the power failed.
+  -- dfu_core_format_start returned DFU_WRITE_PENDING, whatever was on the flash: so also after a format during which the power failed.
   begins : {flash : List ℕ} {n : ℤ} {r : DfuRecord} → StartsFormat c flash image n r → IsBeingFormatted c image flash r
-  -- A piece was carried out, and the number returned was DFU_ASKS.
+  -- A piece was carried out, and the number returned was DFU_WRITE_PENDING.
   goes_on : {flash flash' : List ℕ} {n : ℤ} {r r' : DfuRecord} → IsBeingFormatted c image flash r →
       FormatPieceResult c image flash r flash' n r'
       → n ≡ ASKS → IsBeingFormatted c image flash' r'

@@ -93,9 +93,11 @@ NeedsManifestTime c = c.tolerant ≡ false → 1 ≤ c.manifest
 
 -- For every history of a device that holds this, the seen events are a run with no habit, and the device holds this in the end.
 abbrev pub HistoriesConform : Type 0
-HistoriesConform = (h : List HistoryStep) (events : List LogEvent) (w w' : DeviceView) → NeedsManifestTime (profile w) → StageInvariant (profile w) w.stage →
+HistoriesConform = (h : List HistoryStep) (events : List LogEvent) (w w' : DeviceView) → NeedsManifestTime (profile w)
+    → StageInvariant (profile w) w.stage →
     IsHistory w h w'
-    → EventsOfHistory h events → Run (attributes_of (profile w)) 0 (place_of w.stage) events (place_of w'.stage) × StageInvariant (profile w') w'.stage
+    → EventsOfHistory h events → Run (attributes_of (profile w)) 0 (place_of w.stage) events (place_of w'.stage)
+    × StageInvariant (profile w') w'.stage
 
 -- So the answers of each device that begins in appIDLE, as one does that got power, are kept: a device of the standard may have
 -- answered so.

@@ -54,7 +54,8 @@ pub record IsInPlace (last : Option (List ℕ)) (b : Board) : Type 0 where
 -- If Installed or Verified is reported, it is so.
 abbrev pub PlaysInstall : Type 0
 PlaysInstall = (b : Board) (steps more : List BoardStep) (past : List (List ℕ)) (last : Option (List ℕ)) (l l' : BoardLink)
-    (answer : Answered) → IsPoweredOn b → 0 < b.asking.config.functional.transfer → Plays b steps past last l → BoardLinkStep l more answer l'
+    (answer : Answered) → IsPoweredOn b → 0 < b.asking.config.functional.transfer → Plays b steps past last l
+    → BoardLinkStep l more answer l'
     → IsInPlaceReport answer.report → IsInPlace last l'.board
 
 -- The bytes that come with Uploaded are the active image.

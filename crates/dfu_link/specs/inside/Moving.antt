@@ -122,7 +122,8 @@ abbrev pub IsUnarmed : DeviceView → Type 0
 IsUnarmed d = d.slots.medium.fuse ≡ Whole
 
 -- A line was done on a link; or it is left, since it offers a file and no session is live.
-pub data LineDoneOrDeferred (k : ℕ) (p : Point) (line : List ℕ) (old : Option (List ℕ)) (p' : Point) (new : Option (List ℕ)) : Bool → Type 0 where
+pub data LineDoneOrDeferred (k : ℕ) (p : Point) (line : List ℕ) (old : Option (List ℕ)) (p' : Point) (new : Option (List ℕ)) : Bool
+    → Type 0 where
   is_done : Steps k p line old p' new → LineDoneOrDeferred k p line old p' new false
   is_left : p.at.session ≡ Nobody → p' ≡ p → new ≡ old → LineDoneOrDeferred k p line old p' new true
 
