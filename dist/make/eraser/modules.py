@@ -52,8 +52,13 @@ def is_first(tokens, at):
     return after < len(tokens) and tokens[after].text in ("::", "as")
 
 
+# Exported macros that only a module of a feature calls, with the feature.
+FEATURES = {"variant_name": "host"}
+
+
 def with_shared_macros(path, tokens):
-    """The tokens in which a macro that is exported is one of the crate: the attribute goes, and a use behind the macro takes its place."""
+    """The tokens in which a macro that is exported is one of the crate: the attribute goes, and a use behind the macro takes its place.
+    Both have the feature of the one module that calls it, if FEATURES has the macro."""
     made, at, is_shared = [], 0, False
     while at < len(tokens):
         if [it.text for it in tokens[at:at + 4]] == ["#", "[", "macro_export", "]"]:
@@ -61,7 +66,9 @@ def with_shared_macros(path, tokens):
         if is_shared and tokens[at].text == "macro_rules":
             name = tokens[next_code(tokens, at + 2)].text
             end = end_of_group(path, tokens, next_code(tokens, next_code(tokens, at + 2) + 1))
-            made += [*tokens[at:end + 1], Token("word", f"\n\npub(crate) use {name};", tokens[end].line)]
+            feature = f'#[cfg(feature = "{FEATURES[name]}")]\n' if name in FEATURES else ""
+            made.append(Token("word", feature, tokens[at].line))
+            made += [*tokens[at:end + 1], Token("word", f"\n\n{feature}pub(crate) use {name};", tokens[end].line)]
             at, is_shared = end + 1, False
         made.append(tokens[at])
         at += 1
