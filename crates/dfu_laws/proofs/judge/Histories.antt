@@ -75,8 +75,7 @@ unserved p q body ours off = and_left _ _ off
 -- A transfer that goes by the table led the device on, and so did one that does not, which was stalled and changed nothing.
 transfer_kept : (w : DeviceView) (setup body : List ℕ) (a : Answer) (out : List ℕ) (w' : DeviceView) (p : Setup) (q : Asked) (b : Bool)
     → NeedsManifestTime (profile w) → StageInvariant (profile w) w.stage → IsSetup p setup → SetupRequest p q → IsOurs q
-    → is_served p q body ≡ b
-    → Handles setup body w a out w'
+    → is_served p q body ≡ b → Handles setup body w a out w'
     → LedOn (attributes_of (profile w)) (place_of w.stage) (event_of p q (length body) (seen a out)) (place_of w'.stage)
     × StageInvariant (profile w) w'.stage × (w'.config ≡ w.config)
 transfer_kept w setup body a out w' p q true takes stands reads asks ours on h =
@@ -103,8 +102,7 @@ StepKept w w' rest events =
 -- An event that led a device on, and is seen, is the head of a run.
 led_step : (w w' : DeviceView) (e : LogEvent) (rest events : List LogEvent) → events ≡ e ∷ rest
     → LedOn (attributes_of (profile w)) (place_of w.stage) e (place_of w'.stage) × StageInvariant (profile w) w'.stage
-    × (w'.config ≡ w.config)
-    → StepKept w w' rest events
+    × (w'.config ≡ w.config) → StepKept w w' rest events
 led_step w w' e rest events adds ((here, moved, may), stands, config) = (
   λ last run. subst (λ (es : List LogEvent). Run (attributes_of (profile w)) 0 (place_of w.stage) es last) (sym adds)
       (here, place_of w'.stage, moved, may, run),
@@ -115,8 +113,7 @@ led_step w w' e rest events adds ((here, moved, may), stands, config) = (
 by_request : (w : DeviceView) (setup body : List ℕ) (a : Answer) (out : List ℕ) (w' : DeviceView) (rest events : List LogEvent) (p : Setup)
     (q : Asked)
     → NeedsManifestTime (profile w) → StageInvariant (profile w) w.stage → IsSetup p setup → SetupRequest p q
-    → Handles setup body w a out w'
-    → AddsEvent p q body (seen a out) rest events → StepKept w w' rest events
+    → Handles setup body w a out w' → AddsEvent p q body (seen a out) rest events → StepKept w w' rest events
 by_request w setup body a out w' rest events p asked.NotDfu takes stands reads asks h adds =
     let (stall, same) = not_served p asked.NotDfu setup body w a out w' reads asks refl h in
     subst (λ (z : DeviceView). StepKept w z rest events) (sym same)
