@@ -1,7 +1,6 @@
 //! Numbers and labels of a line. Functions that are called often aren't inlined, which keeps the program small.
 
 ghost use Rattle.std.specs.Prelude.{◌≡◌, ◌++◌, IfOk, OnOk};
-ghost use Rattle.std.specs.Fmt.{decimal};
 ghost use Rattle.std.specs.String.{string_bytes};
 ghost use Rattle.dfu_output.specs.AnswerLines.{hex};
 
@@ -51,17 +50,4 @@ pub fn made_field(line: &mut String, label: &str, value: String) -> Result<(), A
     ensures { OnOk result (string_bytes line.new ≡ string_bytes line.old ++ (label.now ++ string_bytes value)) }
 {
     field(line, label, &value)
-}
-
-/// Adds a label and a number to a line.
-#[inline(never)]
-pub(crate) fn number_field(
-    alloc: Global,
-    line: &mut String,
-    label: &str,
-    number: u64,
-) -> Result<(), AllocError>
-    ensures { OnOk result (string_bytes line.new ≡ string_bytes line.old ++ (label.now ++ decimal number)) }
-{
-    made_field(line, label, number.to_string(alloc)?)
 }
